@@ -1,0 +1,40 @@
+use Rattle.std.proofs.Common.{◌∙◌, ap, set}
+use Rattle.std.proofs.lemmas.Int.{to_z-of_z}
+use mir.Syntax.{w64}
+use Rattle.doc_words.specs.declared.role.Role.TheVariants.{Counter}
+use Rattle.doc_tree.specs.Nodes.{node_of}
+use Rattle.doc_tree.specs.Writes.{with_number}
+use Rattle.doc_tree.proofs.Putting.{ready-way, within-marked, counter_room-marked, facts-added, role-added, tree-added}
+use Rattle.doc_tree.proofs.commit.add_at.Goals as goal
+
+pub mark_way-requires : goal.mark_way-requires
+mark_way-requires c =
+    ready-way c.args.nodes.now c.requires.tree c.args.path.now c.args.key.now c.known_node-end.result c.known_node-end.ensures c.requires.ready.along
+
+pub count-requires-clause-known : goal.count-requires-clause-known
+count-requires-clause-known c =
+    within-marked c.args.id.now Counter c.args.nodes.now c.mark_way.new.nodes c.requires.tree c.args.path.now c.args.key.now c.known_node-end.result c.known_node-end.ensures
+    c.mark_way.ensures c.mark_way.auto.nodes
+
+pub count-requires-clause-room : goal.count-requires-clause-room
+count-requires-clause-room c =
+    counter_room-marked c.args.id.now Counter c.args.nodes.now c.mark_way.new.nodes c.requires.tree c.args.path.now c.args.key.now c.known_node-end.result c.known_node-end.ensures
+    c.mark_way.ensures c.mark_way.auto.nodes (c.requires.ready.counter c.known_node-end.result c.known_node-end.ensures)
+
+pub returns-clause-facts : goal.returns-clause-facts
+returns-clause-facts c =
+    facts-added c.args.id.now Counter c.args.nodes.now c.mark_way.new.nodes c.requires.tree c.args.path.now c.args.key.now c.known_node-end.result c.known_node-end.ensures
+    c.mark_way.ensures c.mark_way.auto.nodes c.args.n c.count.new.nodes
+    (c.count.ensures ∙ ap (λ z. set c.mark_way.new.nodes c.known_node-end.result.0 (with_number c.args.id.now z (node_of c.mark_way.new.nodes c.known_node-end.result))) (to_z-of_z w64 c.args.n c.ranges.n))
+
+pub returns-clause-roles : goal.returns-clause-roles
+returns-clause-roles c =
+    role-added c.args.id.now Counter c.args.nodes.now c.mark_way.new.nodes c.requires.tree c.args.path.now c.args.key.now c.known_node-end.result c.known_node-end.ensures
+    c.mark_way.ensures c.mark_way.auto.nodes c.args.n c.count.new.nodes
+    (c.count.ensures ∙ ap (λ z. set c.mark_way.new.nodes c.known_node-end.result.0 (with_number c.args.id.now z (node_of c.mark_way.new.nodes c.known_node-end.result))) (to_z-of_z w64 c.args.n c.ranges.n))
+
+pub returns-clause-tree : goal.returns-clause-tree
+returns-clause-tree c =
+    tree-added c.args.id.now Counter c.args.nodes.now c.mark_way.new.nodes c.requires.tree c.args.path.now c.args.key.now c.known_node-end.result c.known_node-end.ensures
+    c.mark_way.ensures c.mark_way.auto.nodes c.args.n c.count.new.nodes
+    (c.count.ensures ∙ ap (λ z. set c.mark_way.new.nodes c.known_node-end.result.0 (with_number c.args.id.now z (node_of c.mark_way.new.nodes c.known_node-end.result))) (to_z-of_z w64 c.args.n c.ranges.n))

@@ -1,0 +1,195 @@
+//! What an operation does to the nodes.
+ghost use Rattle.std.specs.Prelude.{◌≡◌, ◌<◌, length, List, ◌&&◌, None, IsSome, slice_set, Contains, if◌then◌else◌};
+ghost use Rattle.std.specs.Option.{ForSome};
+ghost use Rattle.lamport_id.specs.declared.id.Id.{Id};
+ghost use Rattle.op_core.specs.declared.cursor.Key.{Key};
+ghost use Rattle.op_core.specs.declared.cursor.Tagged.{Tagged};
+ghost use Rattle.op_core.specs.Front.{covers};
+ghost use Rattle.lamport_id.specs.Order.{id_cmp};
+ghost use Rattle.op_core.specs.declared.cursor.Key.TheVariants.{Element};
+ghost use Rattle.list_laws.specs.Order.{insert_after};
+ghost use Rattle.crdt_rules.specs.Place.{is_within};
+ghost use Rattle.crdt_rules.specs.Effect.{scalar_put};
+ghost use Rattle.crdt_rules.specs.Context.{reference};
+ghost use Rattle.crdt_rules.specs.Facts.{step_facts};
+ghost use Rattle.doc_words.specs.declared.role.Role.TheVariants.{Counter};
+ghost use Rattle.doc_tree.specs.Nodes.{AreTree, node_of, node_at, facts_of, role_at, clear_facts_at};
+ghost use Rattle.doc_tree.specs.Writes.{with_scalar, with_number, add_facts, add_role, with_ids, put_facts, put_role, order_facts, IsReadyFor};
+ghost use Rattle.doc_tree.specs.Prepared.{AreReady, IsReadyList, KnowsReference, role_of, step_role};
+
+use crate::clear::clear_under;
+use crate::find::{keys, known_list, known_node};
+use crate::mark::mark_way;
+use crate::node::{Node, NodeNumber};
+use json_scalar::{Scalar, Val};
+use lamport_id::Id;
+use op_core::{Front, Key, Mutation, Operation, Tagged};
+use presence_set::Role;
+
+/// Applies an operation for which the nodes are ready.
+pub fn apply(nodes: &mut [Node], aside: Option<Scalar>, op: &Operation)
+    requires tree { AreTree nodes.old }
+    requires ready { AreReady nodes.old op.now }
+    requires scalar { aside ≡ scalar_put op.now.mutation }
+    requires reference { KnowsReference (facts_of nodes.old) op.now }
+    ensures facts { facts_of nodes.new ≡ step_facts (facts_of nodes.old) op.now (covers op.now.front) }
+    ensures roles { (q : List Tagged) (j : Key) (i : Id) → role_at nodes.new q j i ≡ step_role (role_at nodes.old) op.now (covers op.now.front) q j i }
+    ensures tree { AreTree nodes.new }
+{
+    let cursor = op.cursor();
+    let id = op.id();
+    match op.mutation() {
+        Mutation::Assign(val) => put_at(
+            nodes,
+            keys(&cursor.path),
+            &cursor.key,
+            op.front(),
+            &id,
+            role_for(val),
+            aside,
+        ),
+        Mutation::Insert(val) => insert_at(
+            nodes,
+            keys(&cursor.path),
+            &cursor.key,
+            op.front(),
+            &id,
+            role_for(val),
+            aside,
+        ),
+        Mutation::Delete => clear_at(nodes, keys(&cursor.path), &cursor.key, op.front()),
+        Mutation::Add(n) => add_at(nodes, keys(&cursor.path), &cursor.key, &id, *n),
+    }
+}
+
+/// The role of an operation where it puts a value.
+pub fn role_for(val: &Val) -> Role
+    ensures { result ≡ role_of val.now }
+{
+    match val {
+        Val::Scalar(_) => Role::Scalar,
+        Val::EmptyMap => Role::Map,
+        Val::EmptyList => Role::List,
+    }
+}
+
+/// The element that an insertion comes after.
+fn reference_in(key: &Key) -> Option<Id>
+    ensures { result ≡ reference key.now }
+{
+    match key {
+        Key::Element(id) => Some(*id),
+        _ => None,
+    }
+}
+
+/// The key of an element.
+pub fn element_key(id: &Id) -> Key
+    ensures { result ≡ Element id.now }
+{
+    Key::Element(*id)
+}
+
+/// Clears a place and what is below it.
+pub fn clear_at(nodes: &mut [Node], path: &[Tagged], key: &Key, front: &Front)
+    requires tree { AreTree nodes.old }
+    requires found { IsSome (node_at nodes.old path.now key.now) }
+    ensures facts { facts_of nodes.new ≡ clear_facts_at (facts_of nodes.old) path.now key.now (covers front.now) }
+    ensures roles { (q : List Tagged) (j : Key) (i : Id) → role_at nodes.new q j i ≡ (if is_within q j path.now key.now && covers front.now i then None else role_at nodes.old q j i) }
+    ensures tree { AreTree nodes.new }
+{
+    let end = known_node(nodes, path, key);
+    clear_under(nodes, end, front);
+}
+
+/// Inserts an element into a list, and assigns at it.
+pub fn insert_at(
+    nodes: &mut [Node],
+    path: &[Tagged],
+    after: &Key,
+    front: &Front,
+    id: &Id,
+    role: Role,
+    scalar: Option<Scalar>,
+)
+    requires tree { AreTree nodes.old }
+    requires list { IsReadyList nodes.old path.now }
+    requires reference { ForSome (reference after.now) (Contains ((facts_of nodes.old).order path.now)) }
+    requires ready { IsReadyFor nodes.old path.now (Element id.now) }
+    ensures facts { facts_of nodes.new ≡ put_facts (order_facts (facts_of nodes.old) path.now (λ ids. insert_after id_cmp ids (reference after.now) id.now)) path.now (Element id.now) (covers front.now) id.now scalar }
+    ensures roles { (q : List Tagged) (j : Key) (i : Id) → role_at nodes.new q j i ≡ put_role (role_at nodes.old) path.now (Element id.now) (covers front.now) id.now role q j i }
+    ensures tree { AreTree nodes.new }
+{
+    let at = known_list(nodes, path);
+    link(nodes, at, reference_in(after), id);
+    let key = element_key(id);
+    put_at(nodes, path, &key, front, id, role, scalar);
+}
+
+/// Assigns at a place: clears there, makes it and those above it present, and enters a scalar.
+pub fn put_at(
+    nodes: &mut [Node],
+    path: &[Tagged],
+    key: &Key,
+    front: &Front,
+    id: &Id,
+    role: Role,
+    scalar: Option<Scalar>,
+)
+    requires tree { AreTree nodes.old }
+    requires ready { IsReadyFor nodes.old path.now key.now }
+    ensures facts { facts_of nodes.new ≡ put_facts (facts_of nodes.old) path.now key.now (covers front.now) id.now scalar }
+    ensures roles { (q : List Tagged) (j : Key) (i : Id) → role_at nodes.new q j i ≡ put_role (role_at nodes.old) path.now key.now (covers front.now) id.now role q j i }
+    ensures tree { AreTree nodes.new }
+{
+    let end = known_node(nodes, path, key);
+    clear_under(nodes, end, front);
+    mark_way(nodes, path, key, id, role);
+    if let Some(scalar) = scalar {
+        enter(nodes, end, id, scalar);
+    }
+}
+
+/// Adds at a place: makes it and those above it present, and enters a number.
+pub fn add_at(nodes: &mut [Node], path: &[Tagged], key: &Key, id: &Id, n: i64)
+    requires tree { AreTree nodes.old }
+    requires ready { IsReadyFor nodes.old path.now key.now }
+    ensures facts { facts_of nodes.new ≡ add_facts (facts_of nodes.old) path.now key.now id.now n }
+    ensures roles { (q : List Tagged) (j : Key) (i : Id) → role_at nodes.new q j i ≡ add_role (role_at nodes.old) path.now key.now id.now Counter q j i }
+    ensures tree { AreTree nodes.new }
+{
+    let end = known_node(nodes, path, key);
+    mark_way(nodes, path, key, id, Role::Counter);
+    count(nodes, end, id, n);
+}
+
+/// Enters a number into the counter of a node.
+pub fn count(nodes: &mut [Node], at: NodeNumber, id: &Id, n: i64)
+    requires known { at.0 < length nodes.old }
+    requires room { length (node_of nodes.old at).counter.0 < (node_of nodes.old at).counter.1 }
+    ensures { nodes.new ≡ slice_set nodes.old at.0 (with_number id.now n (node_of nodes.old at)) }
+{
+    let node = &mut nodes[at.0];
+    node.counter.put(*id, n);
+}
+
+/// Enters a scalar into the register of a node.
+pub fn enter(nodes: &mut [Node], at: NodeNumber, id: &Id, scalar: Scalar)
+    requires known { at.0 < length nodes.old }
+    requires room { length (node_of nodes.old at).register.0 < (node_of nodes.old at).register.1 }
+    ensures { nodes.new ≡ slice_set nodes.old at.0 (with_scalar id.now scalar (node_of nodes.old at)) }
+{
+    let node = &mut nodes[at.0];
+    node.register.put(*id, scalar);
+}
+
+/// Inserts an id into the list of a node.
+pub fn link(nodes: &mut [Node], at: NodeNumber, after: Option<Id>, id: &Id)
+    requires known { at.0 < length nodes.old }
+    requires room { length (node_of nodes.old at).order.0 < (node_of nodes.old at).order.1 }
+    requires reference { ForSome after (Contains (node_of nodes.old at).order.0) }
+    ensures { nodes.new ≡ slice_set nodes.old at.0 (with_ids (λ ids. insert_after id_cmp ids after id.now) (node_of nodes.old at)) }
+{
+    let node = &mut nodes[at.0];
+    node.order.insert_by_rule(after, *id);
+}

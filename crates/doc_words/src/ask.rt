@@ -1,0 +1,42 @@
+//! Commands and queries.
+use crate::place::Place;
+use lamport_id::Id;
+use op_core::{Front, Mutation, Operation};
+
+/// What changes a document.
+#[derive(Debug, Drop)]
+pub enum Command {
+    /// A change of one's own at a place.
+    Change(Place, Mutation),
+    /// An operation that was made elsewhere is handed in.
+    Deliver(Operation),
+    /// A held operation is given up.
+    Forget(Id),
+}
+
+/// What is read at a place.
+#[derive(Clone, Copy, Debug, PartialEq, Eq)]
+pub enum Look {
+    Keys,
+    Values,
+    Items,
+    Conflicts,
+    Show,
+    Sum,
+}
+
+/// What a document is asked, with nothing changed.
+#[derive(Debug, Drop)]
+pub enum Query {
+    /// Where the steps lead.
+    Resolve(Place),
+    Look(Look, Place),
+    /// The first so many of the logged operations that the front does not cover.
+    Operations(Front, u64),
+    /// The front of the whole log.
+    Front,
+    /// The held operations, and what each waits for.
+    Held,
+    /// How many of the logged operations are the asking seat's.
+    Account,
+}

@@ -1,0 +1,14 @@
+//! What can be asked of a document, and what it answers.
+#![tactic(auto)]
+
+mod ask;
+mod lists;
+mod place;
+mod reply;
+mod role;
+
+pub use ask::{Command, Look, Query};
+pub use lists::{Conflicts, Ids, Items, Operations, Scalars, Texts, Waiting};
+pub use place::{Place, Step, Steps};
+pub use reply::{Reply, ShownText};
+pub use role::Role;

@@ -1,0 +1,102 @@
+//! What a document answers.
+ghost use Rattle.std.specs.Prelude.{◌≡◌};
+ghost use Rattle.doc_words.specs.Resolved.{resolved_or};
+
+use crate::lists::{Conflicts, Ids, Items, Operations, Scalars, Texts, Waiting};
+use json_scalar::Refusal;
+use lamport_id::Id;
+use op_core::{Cursor, Front};
+use std::marker::Model;
+
+/// The compact JSON text of a shown element. A contract sees it as its bytes.
+#[derive(Debug, Drop)]
+pub struct ShownText {
+    text: String,
+}
+
+impl Model for ShownText {
+    ghost use Rattle.std.specs.Prelude.{ℕ, List, string_bytes};
+
+    ghost Value = { List ℕ };
+
+    ghost view = { λ s. string_bytes s.text };
+}
+
+impl ShownText {
+    /// The text.
+    pub fn as_str(&self) -> &str
+        ensures { result.now ≡ self.now }
+    {
+        self.text.as_str()
+    }
+}
+
+impl From<String> for ShownText {
+    ghost use Rattle.std.specs.Prelude.{string_bytes};
+
+    ghost from_gives = { λ text shown. shown ≡ string_bytes text };
+
+    fn from(text: String) -> ShownText {
+        ShownText { text }
+    }
+}
+
+/// What a document answers.
+#[derive(Debug)]
+pub enum Reply {
+    /// How many operations were logged, how many were dropped, and the first id.
+    Applied { count: u64, dropped: u64, id: Id },
+    /// The operation is logged already.
+    Known,
+    /// The operation is held; with the ids that it waits for.
+    Held(Ids),
+    Forgotten,
+    Resolved(Cursor),
+    Keys(Texts),
+    Values(Scalars),
+    Items(Items),
+    Conflicts(Conflicts),
+    Show(ShownText),
+    Sum(i128),
+    Operations(Operations),
+    Front(Front),
+    Waiting(Waiting),
+    Account(u64),
+    Refused(Refusal),
+}
+
+// One function for all the places where a reply is let go: a derived `drop` is written out at each.
+impl Drop for Reply {
+    fn drop(self) {
+        match self {
+            Reply::Applied { count: _, dropped: _, id: _ } => {}
+            Reply::Known => {}
+            Reply::Held(_) => {}
+            Reply::Forgotten => {}
+            Reply::Resolved(_) => {}
+            Reply::Keys(_) => {}
+            Reply::Values(_) => {}
+            Reply::Items(_) => {}
+            Reply::Conflicts(_) => {}
+            Reply::Show(_) => {}
+            Reply::Sum(_) => {}
+            Reply::Operations(_) => {}
+            Reply::Front(_) => {}
+            Reply::Waiting(_) => {}
+            Reply::Account(_) => {}
+            Reply::Refused(_) => {}
+        }
+    }
+}
+
+impl Reply {
+    /// The cursor to which the steps led, or the reply as it is.
+    pub fn into_cursor(self) -> Result<Cursor, Reply>
+        ensures { result ≡ resolved_or self }
+    {
+        match self {
+            Reply::Resolved(cursor) => Ok(cursor),
+            other => Err(other),
+        }
+    }
+}
