@@ -1,0 +1,64 @@
+-- What a replica answers where it is only read.
+use Rattle.std.specs.Prelude.{◌≡◌, ◌⊎◌, ℕ, List, map, filter, take, not, Result, Ok, Err, MatchResult}
+use Rattle.json_scalar.specs.declared.refusal.Refusal.{Refusal}
+use Rattle.json_scalar.specs.declared.refusal.Refusal.TheVariants.{NoMemory}
+use Rattle.op_core.specs.declared.cursor.Cursor.{Cursor}
+use Rattle.op_core.specs.declared.cursor.Key.{Key}
+use Rattle.op_core.specs.declared.cursor.Tagged.{Tagged}
+use Rattle.op_core.specs.Front.{covers}
+use Rattle.op_core.specs.Op.{Op}
+use Rattle.doc_words.specs.declared.ask.Look.{Look}
+use Rattle.doc_words.specs.declared.ask.Look.TheVariants as look
+use Rattle.doc_words.specs.declared.ask.Query.{Query}
+use Rattle.doc_words.specs.declared.ask.Query.TheVariants as query
+use Rattle.doc_words.specs.declared.place.Place.{Place}
+use Rattle.doc_words.specs.declared.reply.Reply.{Reply}
+use Rattle.doc_words.specs.declared.reply.Reply.TheVariants as reply
+use Rattle.crdt_rules.specs.Dependencies.{missing}
+use Rattle.crdt_rules.specs.Facts.{Facts}
+use Rattle.crdt_rules.specs.Pull.{front_of}
+use Rattle.doc_rules.specs.Reads.{Values, AreKeys, AreValues, AreItems, AreConflicts, IsSum, ReadsPlace}
+use Rattle.doc_rules.specs.Replica.{Replica, facts_of}
+use Rattle.doc_rules.specs.Resolve.{Resolves}
+use Rattle.doc_rules.specs.Role.{value_at}
+use Rattle.doc_rules.specs.Shown.{ShowsText}
+
+-- what a reading is told as, or the cause against it
+abbrev pub told_as : {X : Type 0} → (X → Reply) → Result X Refusal → Reply
+told_as tell (Ok x) = tell x
+told_as tell (Err cause) = reply.Refused cause
+
+-- a reading of this kind at a cursor, told so
+abbrev pub ReadsHere : {X : Type 0} → (List Tagged → Key → X → Type 0) → (X → Reply) → Cursor → Reply → Type 0
+ReadsHere {X} reads tell c answer = (result : Result X Refusal) × ReadsPlace reads c result × (answer ≡ told_as tell result)
+
+-- what a look at a cursor is told
+abbrev pub LooksHere : Facts → Values → Look → Cursor → Reply → Type 0
+LooksHere f values look.Keys = ReadsHere (AreKeys f) reply.Keys
+LooksHere f values look.Values = ReadsHere (AreValues f) reply.Values
+LooksHere f values look.Items = ReadsHere (AreItems f) reply.Items
+LooksHere f values look.Conflicts = ReadsHere (AreConflicts f values) reply.Conflicts
+LooksHere f values look.Show = ReadsHere (ShowsText f values) reply.Show
+LooksHere f values look.Sum = ReadsHere (IsSum f) reply.Sum
+
+-- a reading at the place where the steps lead, or the cause against them
+abbrev pub ReadsAt : Replica → Place → (Cursor → Reply → Type 0) → Reply → Type 0
+ReadsAt r place reads answer =
+    (c : Result Cursor Refusal) × Resolves (facts_of r) place.start place.steps c × MatchResult c (λ c. reads c answer) (λ e. answer ≡ reply.Refused e)
+
+-- the operations that a front does not cover, in log order
+abbrev pub since : List (List ℕ × ℕ) → List Op → List Op
+since front log = filter (λ o. not (covers front o.id)) log
+
+-- how many of the entries are the seat's, the replica does not know
+abbrev pub Reads : Replica → ℕ → Query → Reply → Type 0
+Reads r mine (query.Resolve place) answer = ReadsAt r place (λ c a. a ≡ reply.Resolved c) answer
+Reads r mine (query.Look look place) answer = ReadsAt r place (LooksHere (facts_of r) (value_at r.log) look) answer
+Reads r mine (query.Operations front limit) answer = answer ≡ reply.Operations (take limit (since front r.log))
+Reads r mine query.Front answer = answer ≡ reply.Front (front_of r.log)
+Reads r mine query.Held answer = answer ≡ reply.Waiting (map (λ o. (o.id, missing o r.log)) r.held)
+Reads r mine query.Account answer = answer ≡ reply.Account mine
+
+-- what may be answered
+abbrev pub Answers : Replica → ℕ → Query → Reply → Type 0
+Answers r mine q answer = Reads r mine q answer ⊎ (answer ≡ reply.Refused NoMemory)

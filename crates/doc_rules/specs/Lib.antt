@@ -1,0 +1,11 @@
+pub mod Sorted
+pub mod Role
+pub mod Reads
+pub mod Shown
+pub mod Resolve
+pub mod Cause
+pub mod Replica
+pub mod Events
+pub mod Answers
+pub mod Document
+pub mod Seats

@@ -1,0 +1,53 @@
+-- What the operation of an id did at a place.
+use Rattle.std.specs.Prelude.{List, [], ◌∷◌, Option, Some, None, option_map, if◌then◌else◌}
+use Rattle.lamport_id.specs.declared.id.Id.{Id}
+use Rattle.json_scalar.specs.declared.scalar.Scalar.{Scalar}
+use Rattle.json_scalar.specs.declared.scalar.Val.{Val}
+use Rattle.json_scalar.specs.declared.scalar.Val.TheVariants.{Scalar as Plain, EmptyMap, EmptyList}
+use Rattle.op_core.specs.declared.cursor.Key.{Key}
+use Rattle.op_core.specs.declared.cursor.Tagged.{Tagged}
+use Rattle.op_core.specs.declared.mutation.Mutation.{Mutation}
+use Rattle.op_core.specs.declared.mutation.Mutation.TheVariants.{Assign, Insert, Delete, Add}
+use Rattle.op_core.specs.Op.{Op}
+use Rattle.doc_words.specs.declared.role.Role.{Role}
+use Rattle.doc_words.specs.declared.role.Role.TheVariants as role
+use Rattle.crdt_rules.specs.Effect.{value_put}
+use Rattle.crdt_rules.specs.Facts.{Facts, ends_here}
+
+-- the value that the operation of this id put at this very place
+abbrev pub value_at : List Op → List Tagged → Key → Id → Option Val
+value_at [] p k i = None
+value_at (o ∷ log) p k i = if ends_here o p k i then value_put o.mutation else value_at log p k i
+
+abbrev pub role_of : Val → Role
+role_of (Plain s) = role.Scalar
+role_of EmptyMap = role.Map
+role_of EmptyList = role.List
+
+-- what a mutation does where it ends
+abbrev pub role_put : Mutation → Role
+role_put (Assign v) = role_of v
+role_put (Insert v) = role_of v
+role_put Delete = role.Through
+role_put (Add n) = role.Counter
+
+-- what the operation of this id did at this very place
+abbrev pub role_at : List Op → List Tagged → Key → Id → Role
+role_at [] p k i = role.Through
+role_at (o ∷ log) p k i = if ends_here o p k i then role_put o.mutation else role_at log p k i
+
+-- what an operation does at a place
+abbrev pub role_here : Op → List Tagged → Key → Role
+role_here op p k = if ends_here op p k op.id then role_put op.mutation else role.Through
+
+-- the value that a role and a register's entry tell
+abbrev pub value_in : Role → Option Scalar → Option Val
+value_in role.Through entry = None
+value_in role.Map entry = Some EmptyMap
+value_in role.List entry = Some EmptyList
+value_in role.Scalar entry = option_map Plain entry
+value_in role.Counter entry = None
+
+-- each present id with its role
+abbrev pub roles_of : Facts → List Op → List Tagged → Key → Id → Option Role
+roles_of f log p k i = if f.present p k i then Some (role_at log p k i) else None
