@@ -1,0 +1,237 @@
+//! Lines of a source.
+ghost use Rattle.std.specs.Prelude.{◌≡◌, ℕ, Bool, true, false, List, [], ◌++◌, ◌+◌, ◌<◌, ◌≤◌, ◌↔◌, length, take, IsTrue, IfOk, MatchResult, is_err, position, slice_range};
+ghost use Rattle.std.specs.Io.KnownBytes.{Consumes, IsAtEnd, Keeps};
+ghost use Rattle.line_feed.specs.Lines.{is_newline, HasNoNewline};
+ghost use Rattle.line_feed.specs.Feed.{Advances, Gives, Stops};
+
+use crate::DeviceFault;
+use crate::reading::Source;
+use std::alloc::{AllocError, Global};
+use std::marker::Model;
+
+/// The most bytes of a line, without its newline.
+pub const MAX_LINE_BYTES: usize = 65_536;
+
+/// Room for a line of the most bytes and its newline.
+const ROOM: usize = 65_537;
+
+/// What the next line is.
+#[derive(Clone, Copy, Debug, PartialEq, Eq)]
+pub enum Outcome {
+    /// A line, which `line` gives.
+    Line,
+    /// There is none.
+    End,
+    /// It has more than `MAX_LINE_BYTES` bytes.
+    TooLong,
+    /// The source failed before the line's end.
+    Fault,
+}
+
+/// Why reading stopped.
+enum Stop {
+    /// A newline came, at this place.
+    Newline(usize),
+    Full,
+    End,
+    Fault,
+}
+
+/// What reading filled.
+struct Filled {
+    len: usize,
+    stop: Stop,
+}
+
+/// The place of the first newline byte.
+fn newline_at(bytes: &[u8]) -> Option<usize>
+    ensures { result ≡ position is_newline bytes.now }
+{
+    bytes.iter().position(|b| *b == b'\n')
+}
+
+/// One read behind the first `len` bytes.
+fn read_behind<R: Source>(
+    source: &mut R,
+    buffer: &mut [u8],
+    len: usize,
+) -> Result<usize, DeviceFault>
+    requires works { R.has_failed source.old ≡ false }
+    requires room { len < length buffer.old }
+    ensures bound { IfOk result (λ n. len + n ≤ length buffer.new) }
+    ensures front { take len buffer.new ≡ take len buffer.old }
+    ensures bytes { MatchResult result
+        (λ n. Consumes (R.remaining source.old) (R.remaining source.new) (slice_range buffer.new len (len + n)))
+        (λ _. Keeps (R.remaining source.old) (R.remaining source.new)) }
+    ensures at_end { result ≡ Ok 0 → IsAtEnd (R.remaining source.new) }
+    ensures failed { R.has_failed source.new ≡ is_err result }
+    ensures once { R.reads source.new ≤ R.reads source.old + 1 }
+{
+    source.read_some(&mut buffer[len..])
+}
+
+/// Reads behind the first `held` bytes until a newline comes, the buffer is full, or nothing more comes.
+fn fill<R: Source>(source: &mut R, buffer: &mut [u8], held: usize) -> Filled
+    requires works { R.has_failed source.old ≡ false }
+    requires within { held ≤ length buffer.old }
+    requires unended { HasNoNewline (take held buffer.old) }
+
+    ensures within { result.len ≤ length buffer.new }
+    ensures bytes { (read : List ℕ) × Consumes (R.remaining source.old) (R.remaining source.new) read
+        × (take result.len buffer.new ≡ take held buffer.old ++ read) }
+    ensures stop { Stops (take result.len buffer.new) (length buffer.new) result.stop }
+    ensures at_end { result.stop ≡ Stop.End → IsAtEnd (R.remaining source.new) }
+    ensures failed { IsTrue (R.has_failed source.new) ↔ (result.stop ≡ Stop.Fault) }
+    ensures reads { R.reads source.new ≤ R.reads source.old + length buffer.new }
+{
+    let mut len = held;
+    while len < buffer.len() {
+        match read_behind(source, buffer, len) {
+            Err(_) => {
+                return Filled {
+                    len,
+                    stop: Stop::Fault,
+                };
+            }
+            Ok(0) => {
+                return Filled {
+                    len,
+                    stop: Stop::End,
+                };
+            }
+            Ok(n) => {
+                let found = newline_at(&buffer[len..len + n]);
+                if let Some(at) = found {
+                    return Filled {
+                        len: len + n,
+                        stop: Stop::Newline(len + at),
+                    };
+                }
+                len += n;
+            }
+        }
+    }
+    Filled {
+        len,
+        stop: Stop::Full,
+    }
+}
+
+/// Gives the lines of one source.
+#[derive(Drop)]
+pub struct LineFeed {
+    buffer: Vec<u8>,
+    // where the line that was given last lies
+    line_start: usize,
+    line_end: usize,
+    // where what was read behind it lies
+    start: usize,
+    end: usize,
+    ended: bool,
+}
+
+impl Model for LineFeed {
+    ghost use Rattle.std.specs.Prelude.{◌≡◌, ◌≤◌, true, slice_range, vec_len};
+    ghost use Rattle.line_feed.specs.Feed.{Feed, IsSpan};
+
+    ghost Value = { Feed };
+
+    ghost view = { λ f. record {
+      line = slice_range f.buffer.items f.line_start f.line_end;
+      held = slice_range f.buffer.items f.start f.end;
+      ended = f.ended;
+    } };
+
+    ghost invariant = { λ f. (vec_len f.buffer ≡ 65537)
+        × IsSpan f.line_start f.line_end × IsSpan f.start f.end × (f.ended ≡ true → f.start ≡ f.end) };
+}
+
+impl LineFeed {
+    /// Takes its buffer of 65,537 bytes, and no more memory from then on. `AllocError` where that is wanting.
+    pub fn new(alloc: Global) -> Result<Self, AllocError>
+        ensures { IfOk result (λ feed. (feed.held ≡ []) × (feed.ended ≡ false)) }
+    {
+        Ok(LineFeed {
+            buffer: vec![in alloc; 0; ROOM]?,
+            line_start: 0,
+            line_end: 0,
+            start: 0,
+            end: 0,
+            ended: false,
+        })
+    }
+
+    /// The line that was given last, without its newline: at most 65,536 bytes. It is empty before the first, and says
+    /// nothing after an outcome other than `Line`.
+    pub fn line(&self) -> &[u8]
+        ensures { result.now ≡ self.now.line }
+    {
+        &self.buffer[self.line_start..self.line_end]
+    }
+
+    /// Looks for the next line, with at most 65,537 reads, each of as much as the source gives. Once the source has
+    /// come to its end, it isn't read again. A last piece that no newline ends is a line too, if it isn't empty.
+    ///
+    /// `Line` where there is one, which `line` gives; `End` where the source came to its end with nothing behind the
+    /// last line; `TooLong` where the line has more than 65,536 bytes, which stay held; `Fault` where the source failed
+    /// before the line's end, with what it gave before held.
+    pub fn next<R: Source>(&mut self, source: &mut R) -> Outcome
+        requires works { R.has_failed source.old ≡ false }
+        ensures gives { (read : List ℕ) × Consumes (R.remaining source.old) (R.remaining source.new) read
+            × Gives self.old read result self.new }
+        ensures stays_ended { self.old.ended ≡ true → result ≡ Outcome.End }
+        ensures at_end { (self.old.ended ≡ true → IsAtEnd (R.remaining source.old))
+            → self.new.ended ≡ true → IsAtEnd (R.remaining source.new) }
+        ensures failed { IsTrue (R.has_failed source.new) ↔ (result ≡ Outcome.Fault) }
+        ensures reads { R.reads source.new ≤ R.reads source.old + 65537 }
+    {
+        self.advance(source)
+    }
+
+    /// `next`, by its contract on bytes.
+    fn advance<R: Source>(&mut self, source: &mut R) -> Outcome
+        requires works { R.has_failed source.old ≡ false }
+        ensures advances { (read : List ℕ) × Consumes (R.remaining source.old) (R.remaining source.new) read
+            × Advances self.old read result self.new }
+        ensures stays_ended { self.old.ended ≡ true → result ≡ Outcome.End }
+        ensures at_end { (self.old.ended ≡ true → IsAtEnd (R.remaining source.old))
+            → self.new.ended ≡ true → IsAtEnd (R.remaining source.new) }
+        ensures failed { IsTrue (R.has_failed source.new) ↔ (result ≡ Outcome.Fault) }
+        ensures reads { R.reads source.new ≤ R.reads source.old + 65537 }
+    {
+        if self.ended {
+            return Outcome::End;
+        }
+        if let Some(at) = newline_at(&self.buffer[self.start..self.end]) {
+            self.line_start = self.start;
+            self.line_end = self.start + at;
+            self.start = self.line_end + 1;
+            return Outcome::Line;
+        }
+        self.buffer.rotate_left(self.start);
+        let Filled { len, stop } = fill(source, &mut self.buffer, self.end - self.start);
+        self.start = 0;
+        self.end = len;
+        match stop {
+            Stop::Newline(at) => {
+                self.line_start = 0;
+                self.line_end = at;
+                self.start = at + 1;
+                Outcome::Line
+            }
+            Stop::Full => Outcome::TooLong,
+            Stop::End => {
+                self.ended = true;
+                self.line_start = 0;
+                self.line_end = len;
+                self.start = len;
+                if len == 0 {
+                    Outcome::End
+                } else {
+                    Outcome::Line
+                }
+            }
+            Stop::Fault => Outcome::Fault,
+        }
+    }
+}

@@ -1,0 +1,74 @@
+//! Where bytes come from.
+ghost use Rattle.std.specs.Prelude.{◌≡◌, ℕ, Bool, false, List, Option, ◌+◌, ◌<◌, ◌≤◌, length, is_err};
+ghost use Rattle.std.specs.Io.{ReadsAtMost};
+ghost use Rattle.std.specs.Io.KnownBytes.{ReadConsumes};
+
+use crate::DeviceFault;
+use std::io::Read;
+
+/// A device that gives bytes.
+pub trait Source {
+    /// The bytes that it has left, where it tells them.
+    ghost remaining: { Self → Option (List ℕ) };
+
+    /// Whether it has failed. It isn't read from then on.
+    ghost has_failed: { Self → Bool };
+
+    /// How often it was read, for a source that counts.
+    ghost reads: { Self → ℕ } = { λ _. 0 };
+
+    /// Puts some bytes at the front of `buf`, and says how many: 0 only at the end. One call of the device, which
+    /// isn't made again. `DeviceFault` where that call fails; then no byte is taken from the device, and the source
+    /// has failed.
+    fn read_some(&mut self, buf: &mut [u8]) -> Result<usize, DeviceFault>
+        requires works { has_failed self.old ≡ false }
+        requires room { 0 < length buf.old }
+        ensures bound { ReadsAtMost result buf.new }
+        ensures bytes { ReadConsumes (remaining self.old) (remaining self.new) result buf.new }
+        ensures failed { has_failed self.new ≡ is_err result }
+        ensures once { reads self.new ≤ reads self.old + 1 };
+
+    /// Whether a call has failed, after which the device isn't read again.
+    fn failed(&self) -> bool
+        ensures { result ≡ has_failed self.now };
+}
+
+/// A source over any reader of std. An interrupted read is a failure.
+#[derive(Debug, Drop)]
+pub struct Reader<R> {
+    reader: R,
+    failed: bool,
+}
+
+impl<R: Read> Reader<R> {
+    /// A source of what the reader gives, which hasn't failed.
+    pub fn new(reader: R) -> Self
+        ensures reader { result.reader ≡ reader }
+        ensures works { result.failed ≡ false }
+    {
+        Reader {
+            reader,
+            failed: false,
+        }
+    }
+}
+
+impl<R: Read> Source for Reader<R> {
+    ghost remaining = { λ s. R.remaining s.reader };
+
+    ghost has_failed = { λ s. s.failed };
+
+    fn read_some(&mut self, buf: &mut [u8]) -> Result<usize, DeviceFault> {
+        match self.reader.read(buf) {
+            Ok(n) => Ok(n),
+            Err(_) => {
+                self.failed = true;
+                Err(DeviceFault)
+            }
+        }
+    }
+
+    fn failed(&self) -> bool {
+        self.failed
+    }
+}

@@ -1,0 +1,94 @@
+use crate::doubles::{FailAfter, InPieces};
+use crate::feed::{LineFeed, Outcome};
+use crate::reading::{Reader, Source};
+use crate::writing::{Sink, Writer, write_line};
+use std::io;
+use std::io::{ErrorKind, Read, Write};
+use std::test::Fail;
+
+/// A reader and writer that a signal interrupts at the first call.
+#[derive(Drop)]
+struct Interrupted {
+    calls: u8,
+}
+
+impl Read for Interrupted {
+    fn read(&mut self, _buf: &mut [u8]) -> io::Result<usize> {
+        self.calls = self.calls.saturating_add(1);
+        if self.calls == 1 {
+            Err(io::Error::from(ErrorKind::Interrupted))
+        } else {
+            Ok(0)
+        }
+    }
+}
+
+impl Write for Interrupted {
+    fn write(&mut self, _buf: &[u8]) -> io::Result<usize> {
+        self.calls = self.calls.saturating_add(1);
+        if self.calls == 1 {
+            Err(io::Error::from(ErrorKind::Interrupted))
+        } else {
+            Ok(0)
+        }
+    }
+
+    fn flush(&mut self) -> io::Result<()> {
+        Ok(())
+    }
+}
+
+#[test]
+fn an_interrupted_call_is_a_failure(rt: HostRuntime) {
+    let mut source = Reader::new(Interrupted { calls: 0 });
+    assert!(rt; source.read_some(&mut [0; 4]).is_err());
+    assert!(rt; source.failed());
+
+    let mut sink = Writer::new(Interrupted { calls: 0 });
+    assert!(rt; sink.write_some(b"a").is_err());
+    assert!(rt; sink.failed());
+}
+
+#[test]
+fn a_write_of_no_bytes_is_a_failure(rt: HostRuntime) {
+    let mut sink = Writer::new(Interrupted { calls: 1 });
+    assert!(rt; write_line(&mut sink, b"a").is_err());
+    assert!(rt; sink.failed());
+}
+
+#[test]
+fn reads_as_much_as_there_is(rt: HostRuntime) -> Result<(), Fail> {
+    let mut source = InPieces::new(Reader::new(b"a\nb\nc".as_slice()), 64);
+    let mut feed = LineFeed::new(rt.alloc())?;
+    for line in [b"a".as_slice(), b"b".as_slice(), b"c".as_slice()] {
+        assert!(rt; !source.failed());
+        assert_eq!(rt; feed.next(&mut source), Outcome::Line);
+        assert_eq!(rt; feed.line(), line);
+    }
+    assert!(rt; !source.failed());
+    assert_eq!(rt; feed.next(&mut source), Outcome::End);
+    assert_eq!(rt; source.reads, 2);
+    Ok(())
+}
+
+#[test]
+fn a_source_that_fails_within_a_line_gives_a_fault(rt: HostRuntime) -> Result<(), Fail> {
+    let mut source = FailAfter::new(Reader::new(b"ab\ncd\n".as_slice()), 4);
+    let mut feed = LineFeed::new(rt.alloc())?;
+    assert!(rt; !source.failed());
+    assert_eq!(rt; feed.next(&mut source), Outcome::Line);
+    assert_eq!(rt; feed.line(), b"ab".as_slice());
+    assert!(rt; !source.failed());
+    assert_eq!(rt; feed.next(&mut source), Outcome::Fault);
+    assert!(rt; source.failed());
+    Ok(())
+}
+
+#[test]
+fn a_sink_that_fails_within_a_line_has_its_front(rt: HostRuntime) {
+    let mut sink = FailAfter::new(Writer::new(Vec::<u8>::new(rt.alloc())), 3);
+    assert!(rt; write_line(&mut sink, b"abcd").is_err());
+    assert!(rt; sink.failed());
+    let FailAfter { device, .. } = sink;
+    assert!(rt; device.into_inner().as_slice() == b"abc".as_slice());
+}

@@ -1,0 +1,107 @@
+//! Where bytes go.
+ghost use Rattle.std.specs.Prelude.{◌≡◌, ℕ, Bool, false, List, Option, ◌<◌, length, is_err, IfOk, OnOk, OnErr};
+ghost use Rattle.std.specs.Io.{WritesAtMost};
+ghost use Rattle.std.specs.Io.KnownBytes.{Appends, WriteAppends};
+ghost use Rattle.line_feed.specs.Cut.{AppendsCut, line_of};
+
+use crate::DeviceFault;
+use std::io::Write;
+
+/// A device that takes bytes.
+pub trait Sink {
+    /// The bytes that it has taken, where it tells them.
+    ghost contents: { Self → Option (List ℕ) };
+
+    /// Whether it has failed. It isn't written to from then on.
+    ghost has_failed: { Self → Bool };
+
+    /// Takes bytes from the front of `bytes`, at least one, and says how many. One call of the device, which isn't
+    /// made again. `DeviceFault` where that call fails; then the device has taken none, and the sink has failed.
+    fn write_some(&mut self, bytes: &[u8]) -> Result<usize, DeviceFault>
+        requires works { has_failed self.old ≡ false }
+        requires some { 0 < length bytes.now }
+        ensures at_least { IfOk result (λ n. 0 < n) }
+        ensures bound { WritesAtMost result bytes.now }
+        ensures bytes { WriteAppends (contents self.old) (contents self.new) result bytes.now }
+        ensures failed { has_failed self.new ≡ is_err result };
+
+    /// Whether a call has failed, after which the device isn't written to again.
+    fn failed(&self) -> bool
+        ensures { result ≡ has_failed self.now };
+}
+
+/// A sink over any writer of std. A write of 0 bytes and an interrupted write are failures.
+#[derive(Debug, Drop)]
+pub struct Writer<W> {
+    writer: W,
+    failed: bool,
+}
+
+impl<W: Write> Writer<W> {
+    /// A sink that writes to the writer, and hasn't failed.
+    pub fn new(writer: W) -> Self
+        ensures writer { result.writer ≡ writer }
+        ensures works { result.failed ≡ false }
+    {
+        Writer {
+            writer,
+            failed: false,
+        }
+    }
+
+    /// The writer, with what it has taken.
+    pub fn into_inner(self) -> W
+        ensures { result ≡ self.writer }
+    {
+        let Writer { writer, failed: _ } = self;
+        writer
+    }
+}
+
+impl<W: Write> Sink for Writer<W> {
+    ghost contents = { λ s. W.contents s.writer };
+
+    ghost has_failed = { λ s. s.failed };
+
+    fn write_some(&mut self, bytes: &[u8]) -> Result<usize, DeviceFault> {
+        match self.writer.write(bytes) {
+            Ok(n) if n > 0 => Ok(n),
+            _ => {
+                self.failed = true;
+                Err(DeviceFault)
+            }
+        }
+    }
+
+    fn failed(&self) -> bool {
+        self.failed
+    }
+}
+
+/// Writes all the bytes, in as many calls of the device as it wants. `DeviceFault` where the sink fails before it has
+/// taken them all; then it has taken a part that is less than all, from their beginning on.
+pub fn write_all<W: Sink>(sink: &mut W, bytes: &[u8]) -> Result<(), DeviceFault>
+    requires { W.has_failed sink.old ≡ false }
+    ensures ok { OnOk result (Appends (W.contents sink.old) (W.contents sink.new) bytes.now) }
+    ensures cut { OnErr result (AppendsCut (W.contents sink.old) (W.contents sink.new) bytes.now) }
+    ensures failed { W.has_failed sink.new ≡ is_err result }
+{
+    let mut rest = bytes;
+    while !rest.is_empty() {
+        let taken = sink.write_some(rest)?;
+        rest = &rest[taken..];
+    }
+    Ok(())
+}
+
+/// Writes the bytes and a newline. `DeviceFault` where the sink fails before it has taken the newline; then it has
+/// taken a part that is less than the line, from its beginning on.
+pub fn write_line<W: Sink>(sink: &mut W, bytes: &[u8]) -> Result<(), DeviceFault>
+    requires { W.has_failed sink.old ≡ false }
+    ensures ok { OnOk result (Appends (W.contents sink.old) (W.contents sink.new) (line_of bytes.now)) }
+    ensures cut { OnErr result (AppendsCut (W.contents sink.old) (W.contents sink.new) (line_of bytes.now)) }
+    ensures failed { W.has_failed sink.new ≡ is_err result }
+{
+    write_all(sink, bytes)?;
+    write_all(sink, b"\n")
+}
