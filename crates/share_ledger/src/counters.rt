@@ -1,0 +1,216 @@
+ghost use Rattle.std.specs.Prelude.{◌≡◌, ℕ, ◌+◌, ◌^◌, ◌<◌, ◌≤◌};
+ghost use Rattle.share_ledger.specs.Counters.{counter, place_of, IsSamePlace};
+
+use crate::halves::{Half, Rest};
+use std::marker::{Brand, Model, PhantomData};
+
+/// Which table a counter is of. A type that is a marker ties the books of a program to its shares: `Book<M>` and `Share<M>` are of
+/// the one table that `M` names. It has no member at run time, and a caller that makes a table picks the name by `Brand`.
+pub trait Marker {
+    ghost name: { ℕ };
+}
+
+impl Marker for Brand {
+    ghost name = { 0 };
+}
+
+/// A new table, which no marker names yet. Contracts see it as its name. It takes no bytes.
+#[derive(Drop)]
+pub struct Blank {
+    rest: Rest,
+}
+
+impl Model for Blank {
+    ghost use Rattle.std.specs.Prelude.{◌≡◌, ℕ};
+
+    ghost Value = { ℕ };
+
+    ghost view = { λ b. b.rest.table };
+
+    ghost invariant = { λ b. b.rest.next ≡ 0 };
+}
+
+/// The places that are not opened yet, in the order of `place_of`: by document number, then by seat. Contracts see it as the first
+/// place of which that is known. It takes no bytes.
+#[derive(Drop)]
+pub struct Table<M: Marker> {
+    rest: Rest,
+    of: PhantomData<M>,
+}
+
+impl<M: Marker> Model for Table<M> {
+    ghost use Rattle.std.specs.Prelude.{◌≡◌, ℕ};
+
+    ghost Value = { ℕ };
+
+    ghost view = { λ t. t.rest.next };
+
+    ghost invariant = { λ t. t.rest.table ≡ M.name };
+}
+
+/// The half of a counter that a document keeps. It can't be copied, and its count changes by `credit` alone.
+#[derive(Drop)]
+pub struct Book<M: Marker> {
+    number: u16,
+    seat: u16,
+    count: u64,
+    half: Half,
+    of: PhantomData<M>,
+}
+
+impl<M: Marker> Model for Book<M> {
+    ghost use Rattle.std.specs.Prelude.{◌≡◌};
+    ghost use Rattle.share_ledger.specs.Counters.{Counter, counter, place_of};
+
+    ghost Value = { Counter };
+
+    ghost view = { λ b. counter b.number b.seat b.count };
+
+    ghost invariant = { λ b. (b.half.table ≡ M.name) × (b.half.place ≡ place_of b.number b.seat) × (b.half.count ≡ b.count) };
+}
+
+/// The half of a counter that a seat keeps. It can't be copied, and its count changes by `Book::credit` alone.
+#[derive(Drop)]
+pub struct Share<M: Marker> {
+    number: u16,
+    seat: u16,
+    count: u64,
+    half: Half,
+    of: PhantomData<M>,
+}
+
+impl<M: Marker> Model for Share<M> {
+    ghost use Rattle.std.specs.Prelude.{◌≡◌};
+    ghost use Rattle.share_ledger.specs.Counters.{Counter, counter, place_of};
+
+    ghost Value = { Counter };
+
+    ghost view = { λ s. counter s.number s.seat s.count };
+
+    ghost invariant = { λ s. (s.half.table ≡ M.name) × (s.half.place ≡ place_of s.number s.seat) × (s.half.count ≡ s.count) };
+}
+
+impl Blank {
+    /// A table with no counter opened. It takes no memory.
+    pub fn new() -> Blank {
+        Blank { rest: Rest::new() }
+    }
+
+    /// The table under its marker, with every place still to be opened.
+    pub fn named<M: Marker>(self) -> Table<M>
+        requires { self ≡ M.name }
+        ensures { result ≡ 0 }
+    {
+        let Blank { rest } = self;
+        Table {
+            rest,
+            of: PhantomData,
+        }
+    }
+}
+
+impl<M: Marker> Table<M> {
+    /// Two halves of one counter at 0, at the place of a document number and a seat, which comes after every opened place. So no
+    /// third half of a place is ever made. It takes no memory.
+    pub fn open(&mut self, number: u16, seat: u16) -> (Book<M>, Share<M>)
+        requires { self.old ≤ place_of number seat }
+        ensures table { self.new ≡ place_of number seat + 1 }
+        ensures book { result.0 ≡ counter number seat 0 }
+        ensures share { result.1 ≡ counter number seat 0 }
+    {
+        let (one, other) = self.rest.open(u64::from(number) * 65536 + u64::from(seat));
+        (
+            Book {
+                number,
+                seat,
+                count: 0,
+                half: one,
+                of: PhantomData,
+            },
+            Share {
+                number,
+                seat,
+                count: 0,
+                half: other,
+                of: PhantomData,
+            },
+        )
+    }
+}
+
+impl<M: Marker> Book<M> {
+    /// The number of the document whose counter it is.
+    pub fn number(&self) -> u16
+        ensures { result ≡ self.now.number }
+    {
+        self.number
+    }
+
+    /// The seat of the document whose counter it is.
+    pub fn seat(&self) -> u16
+        ensures { result ≡ self.now.seat }
+    {
+        self.seat
+    }
+
+    /// How much was credited.
+    pub fn count(&self) -> u64
+        ensures { result ≡ self.now.count }
+    {
+        self.count
+    }
+
+    /// Raises both halves of one counter by the amount; their sum stays below 2^64. It tells that they had one count before.
+    pub fn credit(&mut self, share: &mut Share<M>, amount: u64)
+        requires place { IsSamePlace self.old share.old }
+        requires fits { self.old.count + amount < 2 ^ 64 }
+        ensures book { self.new ≡ counter self.old.number self.old.seat (self.old.count + amount) }
+        ensures share { share.new ≡ counter share.old.number share.old.seat (share.old.count + amount) }
+        ensures agree { self.old.count ≡ share.old.count }
+    {
+        self.half.credit(&mut share.half, amount);
+        self.count += amount;
+        share.count += amount;
+    }
+
+    /// Tells that both halves of one counter have one count. At run time it does nothing.
+    pub fn agree(&self, share: &Share<M>)
+        requires { IsSamePlace self.now share.now }
+        ensures { self.now ≡ share.now }
+    {
+        self.half.agree(&share.half);
+    }
+
+    /// The count for good, which both halves had.
+    pub fn close(self, share: Share<M>) -> u64
+        requires { IsSamePlace self share }
+        ensures count { result ≡ self.count }
+        ensures agree { self.count ≡ share.count }
+    {
+        self.agree(&share);
+        self.count
+    }
+}
+
+impl<M: Marker> Share<M> {
+    /// The number of the document whose counter it is.
+    pub fn number(&self) -> u16
+        ensures { result ≡ self.now.number }
+    {
+        self.number
+    }
+
+    /// The seat of the document whose counter it is.
+    pub fn seat(&self) -> u16
+        ensures { result ≡ self.now.seat }
+    {
+        self.seat
+    }
+
+    /// How much was credited.
+    pub fn count(&self) -> u64
+        ensures { result ≡ self.now.count }
+    {
+        self.count
+    }
+}

@@ -1,0 +1,16 @@
+//! Counters in two halves that agree for ever, one pair for each place of a table, and counts of calls that take no bytes.
+//!
+//! A document keeps the one half of a counter and a seat the other. Only `Book::credit` changes them, both at once, so what a seat
+//! was told stays what the document counted, whatever other seats do between. What is proved by hand is small and stands apart: the
+//! tokens of `halves`, five empty functions over one ghost name. All else is safe code over them.
+#![tactic(auto)]
+
+mod calls;
+mod counters;
+mod halves;
+
+pub use calls::{Calls, Stamp};
+pub use counters::{Blank, Book, Marker, Share, Table};
+
+#[cfg(test)]
+mod tests;
