@@ -1,3 +1,104 @@
 //! What a document answers: readings of its facts, the events of one replica, and the events of a document that many seats
-//! share.
+//! share. The functions here are laws, and do nothing.
 #![tactic(auto)]
+
+ghost use Rattle.std.specs.Prelude.{◌≡◌, ◌≢◌, ◌⊎◌, ℕ, ◌+◌, ◌≤◌, true, false, List, [], ◌∷◌, ◌++◌, length, sum, Contains, Result, Ok};
+ghost use Rattle.lamport_id.specs.Name.{is_name};
+ghost use Rattle.lamport_id.specs.declared.id.Id.{Id};
+ghost use Rattle.json_scalar.specs.declared.refusal.Refusal.{Refusal};
+ghost use Rattle.json_scalar.specs.declared.scalar.Val.{Val};
+ghost use Rattle.op_core.specs.declared.cursor.Cursor.{Cursor};
+ghost use Rattle.op_core.specs.declared.cursor.Key.{Key};
+ghost use Rattle.op_core.specs.declared.cursor.Tagged.{Tagged};
+ghost use Rattle.op_core.specs.declared.mutation.Mutation.{Mutation};
+ghost use Rattle.op_core.specs.Op.{Op};
+ghost use Rattle.op_core.specs.Shape.{is_mutation, is_shaped};
+ghost use Rattle.doc_words.specs.declared.ask.Command.{Command};
+ghost use Rattle.doc_words.specs.declared.ask.Query.{Query};
+ghost use Rattle.doc_words.specs.declared.place.Step.{Step};
+ghost use Rattle.doc_words.specs.declared.reply.Reply.{Reply};
+ghost use Rattle.crdt_rules.specs.Dependencies.{is_ready, missing};
+ghost use Rattle.crdt_rules.specs.Facts.{Facts, facts};
+ghost use Rattle.crdt_rules.specs.Fits.{Fits};
+ghost use Rattle.crdt_rules.specs.Log.{IsGood, replay};
+ghost use Rattle.doc_rules.specs.Answers.{Reads};
+ghost use Rattle.doc_rules.specs.Cause.{IsFirstMisfit, cause_of, room_cause};
+ghost use Rattle.doc_rules.specs.Document.{Document, Acts, GivesTo, IsSound, copied_to, count_in, count_of, logged_by, opens, total_of};
+ghost use Rattle.doc_rules.specs.Events.{Event, IsWellMade, cause_at};
+ghost use Rattle.doc_rules.specs.Reads.{AgreeOnPresent, AreConflicts, Values};
+ghost use Rattle.doc_rules.specs.Replica.{Replica, GoesOn, IsKept, facts_of, own_op};
+ghost use Rattle.doc_rules.specs.Resolve.{Resolves};
+ghost use Rattle.doc_rules.specs.Role.{role_at, role_here, value_at, value_in};
+ghost use Rattle.doc_rules.specs.Seats.{Seat, AreEndsOf, told_counts};
+ghost use Rattle.doc_rules.specs.Shown.{Shown, Shows};
+
+/// Steps lead to one cursor, or are refused for one cause; and a query has one answer.
+pub fn one_answer()
+    ensures steps { (f : Facts) (start : Cursor) (steps : List Step) (x y : Result Cursor Refusal)
+        → Resolves f start steps x → Resolves f start steps y → x ≡ y }
+    ensures queries { (r : Replica) (mine : ℕ) (q : Query) (x y : Reply) → Reads r mine q x → Reads r mine q y → x ≡ y }
+{}
+
+/// An operation of right shape fits a log just where no cause stands against it; and where none stands against a change of
+/// one's own, its operation fits.
+pub fn causes_decide()
+    ensures fits { (op : Op) (log : List Op) → is_shaped op ≡ true → cause_of op log ≡ Ok tt → Fits op log }
+    ensures no_cause { (op : Op) (log : List Op) → Fits op log → cause_of op log ≡ Ok tt }
+    ensures own { (r : Replica) (start : Cursor) (steps : List Step) (c : Cursor) (m : Mutation) → is_name r.name ≡ true
+        → is_mutation m ≡ true → IsGood r.log → Resolves (facts_of r) start steps (Ok c) → cause_at m c ≡ Ok tt
+        → room_cause (own_op r c m) r.log ≡ Ok tt → Fits (own_op r c m) r.log }
+{}
+
+/// Roles after one more operation: its own is what it does at the place, and the others stay.
+pub fn roles_step()
+    ensures own { (log : List Op) (op : Op) (p : List Tagged) (k : Key) → Fits op log
+        → role_at (log ++ op ∷ []) p k op.id ≡ role_here op p k }
+    ensures others { (log : List Op) (op : Op) (p : List Tagged) (k : Key) (i : Id) → op.id ≢ i
+        → role_at (log ++ op ∷ []) p k i ≡ role_at log p k i }
+{}
+
+/// Of a present id, its role and its register's entry tell the value that it put; and readings ask for the values of present
+/// ids alone.
+pub fn roles_tell()
+    ensures shows { (f : Facts) (v w : Values) → AgreeOnPresent f v w → (p : List Tagged) (k : Key) (x : Shown) → Shows f v p k x → Shows f w p k x }
+    ensures conflicts { (f : Facts) (v w : Values) → AgreeOnPresent f v w → (p : List Tagged) (k : Key) (xs : List (Id × Val))
+        → AreConflicts f v p k xs → AreConflicts f w p k xs }
+    ensures values { (log : List Op) (p : List Tagged) (k : Key) (i : Id) → IsGood log → (facts (replay log)).present p k i ≡ true
+        → value_at log p k i ≡ value_in (role_at log p k i) ((facts (replay log)).register p k i) }
+{}
+
+/// A list of operations is a good log, or has a first that doesn't fit those before it; not both.
+pub fn first_misfit()
+    ensures one { (log : List Op) → ((op : Op) → Contains log op → is_shaped op ≡ true)
+        → IsGood log ⊎ ((place : ℕ) × (cause : Refusal) × IsFirstMisfit log place cause) }
+    ensures not_both { (log : List Op) (place : ℕ) (cause : Refusal) → IsGood log → ¬ IsFirstMisfit log place cause }
+{}
+
+/// An event of a replica keeps its log good and its held operations waiting for something, and the log goes on by what the
+/// answer tells.
+pub fn events_keep()
+    ensures kept { (r s : Replica) (command : Command) (reply : Reply) → is_name r.name ≡ true → IsWellMade command → IsKept r
+        → Event r command reply s → IsKept s }
+    ensures lacks { (op : Op) (log : List Op) → is_ready op log ≡ false → missing op log ≢ [] }
+    ensures goes_on { (r s : Replica) (command : Command) (reply : Reply) → Event r command reply s → GoesOn r (count_in reply) s }
+{}
+
+/// Each event of a document keeps it sound, and a command gives its seat just what the answer tells, and the others nothing.
+pub fn documents_stay_sound()
+    ensures acts { (d e : Document) (seat : ℕ) (command : Command) (reply : Reply) → is_name d.replica.name ≡ true → IsWellMade command
+        → seat ≤ d.opened → IsSound d → Acts d seat command reply e → IsSound e }
+    ensures gives { (d e : Document) (seat : ℕ) (command : Command) (reply : Reply) → length d.seats_of ≡ length d.replica.log
+        → Acts d seat command reply e → GivesTo d seat reply e }
+    ensures shares { (d e : Document) (seat : ℕ) (reply : Reply) → IsSound d → IsSound e → GivesTo d seat reply e
+        → (count_of seat e.seats_of ≡ count_of seat d.seats_of + count_in reply) × ((t : ℕ) → seat ≢ t → count_of t e.seats_of ≡ count_of t d.seats_of) }
+    ensures opens { (d : Document) → IsSound d → IsSound (opens d).1 }
+    ensures copied { (n : ℕ) (d : Document) → IsSound d → IsSound (copied_to n d) }
+{}
+
+/// The shares of all opened seats, and what stood there at the start, are the whole log.
+pub fn shares_add_up()
+    ensures total { (d : Document) → IsSound d → total_of d.opened d.seats_of + count_of 0 d.seats_of ≡ length d.replica.log }
+    ensures ends { (number : ℕ) (d : Document) (ends : List Seat) → IsSound d → AreEndsOf number d ends
+        → sum (told_counts ends) + count_of 0 d.seats_of ≡ length d.replica.log }
+    ensures share { (d : Document) (seat : ℕ) → IsSound d → length (logged_by seat d) ≡ count_of seat d.seats_of }
+{}

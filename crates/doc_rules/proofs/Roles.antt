@@ -1,0 +1,76 @@
+-- Roles after one more operation: its own is what it does there, and the others stay. And the values that roles tell.
+use Rattle.std.proofs.Common.{◌≡◌, ◌≢◌, List, [], ◌∷◌, ◌++◌, Bool, true, false, not, ◌&&◌, Option, None, if◌then◌else◌, Contains, refl, sym, ap, ◌∙◌}
+use Rattle.std.specs.List.{list_any}
+use Rattle.std.proofs.lemmas.Bool.{and_parts, false_from_ne_true, not-true}
+use Rattle.lamport_id.specs.declared.id.Id.{Id}
+use Rattle.json_scalar.specs.declared.scalar.Scalar.{Scalar}
+use Rattle.json_scalar.specs.declared.scalar.Val.TheVariants.{Scalar as Plain, EmptyMap, EmptyList}
+use Rattle.op_core.specs.Op.{Op}
+use Rattle.op_core.specs.declared.cursor.Key.{Key}
+use Rattle.op_core.specs.declared.cursor.Tagged.{Tagged}
+use Rattle.op_core.specs.declared.mutation.Mutation.{Mutation}
+use Rattle.op_core.specs.declared.mutation.Mutation.TheVariants.{Assign, Insert, Delete, Add}
+use Rattle.list_laws.proofs.Members.{Contains-here, Contains-there}
+use Rattle.crdt_rules.specs.Same.{id_eq}
+use Rattle.crdt_rules.specs.Effect.{marks, scalar_put, value_put}
+use Rattle.crdt_rules.specs.Context.{entered}
+use Rattle.crdt_rules.specs.Facts.{facts, ends_here}
+use Rattle.crdt_rules.specs.Fits.{Fits}
+use Rattle.crdt_rules.specs.Free.{is_cleared}
+use Rattle.crdt_rules.specs.Free as free
+use Rattle.crdt_rules.specs.Log.{IsGood, replay}
+use Rattle.crdt_rules.proofs.Chain.{fits_new}
+use Rattle.crdt_rules.proofs.Readings.{here_from}
+use Rattle.crdt_rules.proofs.ReplayFacts.{replay_present, replay_register}
+use Rattle.crdt_rules.proofs.StepFacts.{entered-false}
+use Rattle.doc_rules.specs.Role.{value_at, value_in, role_put, role_at, role_here}
+
+module _ (p : List Tagged) (k : Key) (i : Id) where
+  -- behind operations of which none ends here
+  role-behind : (log later : List Op) → ((o : Op) → Contains log o → ends_here o p k i ≡ false) → role_at (log ++ later) p k i ≡ role_at later p k i
+  role-behind [] later none = refl
+  role-behind (o ∷ log) later none = rw (none o (Contains-here log refl)) (role-behind log later (λ z c. none z (Contains-there o log c)))
+
+  -- before one that doesn't end here
+  role-before : (log : List Op) (op : Op) → ends_here op p k i ≡ false → role_at (log ++ op ∷ []) p k i ≡ role_at log p k i
+  role-before [] op not_here = rw not_here refl
+  role-before (o ∷ log) op not_here = ap (λ r. if ends_here o p k i then role_put o.mutation else r) (role-before log op not_here)
+
+  -- what was put here is what the role and the scalar tell
+  put_value : (m : Mutation) (before : Option Scalar) → value_put m ≡ value_in (role_put m) (entered true (scalar_put m) before)
+  put_value (Assign (Plain s)) before = refl
+  put_value (Assign EmptyMap) before = refl
+  put_value (Assign EmptyList) before = refl
+  put_value (Insert (Plain s)) before = refl
+  put_value (Insert EmptyMap) before = refl
+  put_value (Insert EmptyList) before = refl
+  put_value Delete before = refl
+  put_value (Add n) before = refl
+
+  value_told : (log : List Op) → value_at log p k i ≡ value_in (role_at log p k i) (free.value_at scalar_put log p k i)
+  value_told [] = refl
+  value_told (o ∷ log) = by (ends_here o p k i) (value_told log)
+    where
+      by : (b : Bool) → value_at log p k i ≡ value_in (role_at log p k i) (free.value_at scalar_put log p k i)
+          → (if b then value_put o.mutation else value_at log p k i)
+          ≡ value_in (if b then role_put o.mutation else role_at log p k i) (entered b (scalar_put o.mutation) (free.value_at scalar_put log p k i))
+      by true ih = put_value o.mutation (free.value_at scalar_put log p k i)
+      by false ih = ih ∙ ap (value_in (role_at log p k i)) (sym (entered-false (scalar_put o.mutation) (free.value_at scalar_put log p k i)))
+
+pub role_new : (log : List Op) (op : Op) (p : List Tagged) (k : Key) → Fits op log → role_at (log ++ op ∷ []) p k op.id ≡ role_here op p k
+role_new log op p k fits =
+    role-behind p k op.id log (op ∷ [])
+    (λ o c. false_from_ne_true (ends_here o p k op.id) (λ h. fits_new fits o c ((here_from o p k op.id h).id)))
+
+pub role_old : (log : List Op) (op : Op) (p : List Tagged) (k : Key) (i : Id) → op.id ≢ i → role_at (log ++ op ∷ []) p k i ≡ role_at log p k i
+role_old log op p k i other = role-before p k i log op (false_from_ne_true (ends_here op p k i) (λ h. other ((here_from op p k i h).id)))
+
+-- of a present id, the role and the register's entry tell the value that was put
+pub present_value : (log : List Op) (p : List Tagged) (k : Key) (i : Id) → IsGood log → (facts (replay log)).present p k i ≡ true
+    → value_at log p k i ≡ value_in (role_at log p k i) ((facts (replay log)).register p k i)
+present_value log p k i good here =
+    let kept = not-true (is_cleared log p k i)
+    (and_parts (list_any (λ o. id_eq o.id i && marks o p k) log) (not (is_cleared log p k i)) (ap (λ f. f p k i) (sym (replay_present log good)) ∙ here)).1 in
+    let entry : (facts (replay log)).register p k i ≡ free.value_at scalar_put log p k i =
+    ap (λ f. f p k i) (replay_register log good) ∙ ap (λ b. if◌then◌else◌ {A = Option Scalar} b None (free.value_at scalar_put log p k i)) kept in
+    value_told p k i log ∙ ap (value_in (role_at log p k i)) (sym entry)

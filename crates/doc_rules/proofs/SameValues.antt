@@ -1,0 +1,52 @@
+-- What is shown depends on the values of present ids alone.
+use Rattle.std.proofs.Common.{inl, inr, List, sym, ◌∙◌}
+use Rattle.lamport_id.specs.declared.id.Id.{Id}
+use Rattle.json_scalar.specs.declared.scalar.Val.{Val}
+use Rattle.op_core.specs.declared.cursor.Key.{Key}
+use Rattle.op_core.specs.declared.cursor.Key.TheVariants.{Text, Element}
+use Rattle.op_core.specs.declared.cursor.Tagged.{Tagged}
+use Rattle.crdt_rules.specs.Facts.{Facts}
+use Rattle.doc_rules.specs.Reads.{Values, AgreeOnPresent, into_map, into_list, AreConflicts}
+use Rattle.doc_rules.specs.Shown.{IsPut, HasMap, HasList, Shown, MapShown, ListShown, Fields, Elements, shown, no_map, a_map, no_list, a_list, no_fields, field, no_elements, element, Shows, ShowsMap, ShowsList, ShowsFields, ShowsElements}
+
+put_moved : (f : Facts) (v w : Values) → AgreeOnPresent f v w → (p : List Tagged) (k : Key) (x : Val) → IsPut f v p k x → IsPut f w p k x
+put_moved f v w same p k x h = (h.0, h.1, sym (same p k h.0 h.1) ∙ h.2)
+
+map_moved : (f : Facts) (v w : Values) → AgreeOnPresent f v w → (p : List Tagged) (k : Key) → HasMap f v p k → HasMap f w p k
+map_moved f v w same p k (inl key) = inl key
+map_moved f v w same p k (inr put) = inr (put_moved f v w same p k Val.EmptyMap put)
+
+list_moved : (f : Facts) (v w : Values) → AgreeOnPresent f v w → (p : List Tagged) (k : Key) (ids : List Id) → HasList f v p k ids → HasList f w p k ids
+list_moved f v w same p k ids (inl some) = inl some
+list_moved f v w same p k ids (inr put) = inr (put_moved f v w same p k Val.EmptyList put)
+
+pub conflicts_same : (f : Facts) (v w : Values) → AgreeOnPresent f v w → (p : List Tagged) (k : Key) (xs : List (Id × Val)) → AreConflicts f v p k xs → AreConflicts f w p k xs
+conflicts_same f v w same p k xs h = record {
+  rising = h.rising;
+  each = λ x c. let r = h.each x c in (r.0, sym (same p k x.0 r.0) ∙ r.1);
+  all = λ x r. h.all x (r.0, same p k x.0 r.0 ∙ r.1);
+}
+
+module _ (f : Facts) (v w : Values) (same : AgreeOnPresent f v w) (back : AgreeOnPresent f w v) where
+  mutual
+    pub shown_moved : (p : List Tagged) (k : Key) (x : Shown) → Shows f v p k x → Shows f w p k x
+    shown_moved p k (shown m l entries count) h = (map_shown p k m h.0, list_shown p k l h.1, h.2, h.3)
+
+    map_shown : (p : List Tagged) (k : Key) (x : MapShown) → ShowsMap f v p k x → ShowsMap f w p k x
+    map_shown p k no_map h = λ has. h (map_moved f w v back p k has)
+    map_shown p k (a_map fields) h = (map_moved f v w same p k h.0, h.1, fields_shown (into_map p k) fields h.2)
+
+    list_shown : (p : List Tagged) (k : Key) (x : ListShown) → ShowsList f v p k x → ShowsList f w p k x
+    list_shown p k no_list h = (h.0, h.1, λ has. h.2 (list_moved f w v back p k h.0 has))
+    list_shown p k (a_list es) h = (h.0, h.1, list_moved f v w same p k h.0 h.2, elements_shown (into_list p k) h.0 es h.3)
+
+    fields_shown : (p : List Tagged) (x : Fields) → ShowsFields f v p x → ShowsFields f w p x
+    fields_shown p no_fields h = tt
+    fields_shown p (field name e fields) h = (shown_moved p (Text name) e h.0, fields_shown p fields h.1)
+
+    elements_shown : (p : List Tagged) (ids : List Id) (x : Elements) → ShowsElements f v p ids x → ShowsElements f w p ids x
+    elements_shown p ids no_elements h = h
+    elements_shown p ids (element e es) h = (h.0, h.1, h.2, shown_moved p (Element h.0) e h.3, elements_shown p h.1 es h.4)
+
+pub shows_same : (f : Facts) (v w : Values) → AgreeOnPresent f v w → (p : List Tagged) (k : Key) (x : Shown) → Shows f v p k x → Shows f w p k x
+shows_same f v w same = shown_moved f v w same (λ p k i h. sym (same p k i h))

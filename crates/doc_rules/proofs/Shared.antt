@@ -1,0 +1,187 @@
+-- Each event of a document keeps it sound, and gives to its seat just what it tells.
+use Rattle.std.proofs.Common.{◌≡◌, ◌≢◌, inl, inr, ℕ, suc, ◌+◌, ◌-◌, ◌≤◌, [], ◌∷◌, ◌++◌, length, replicate, length-append, append_assoc, append-nil, bytes_eq, nat_le, nat_lt, ◌&&◌, Bool, true, false, Option, Some, None, Result, Ok, Err, if◌then◌else◌, refl, sym, ap, subst, ◌∙◌, arith, leb-true}
+use Rattle.std.specs.Prelude.{⊤}
+use Rattle.std.proofs.lemmas.List.{length-replicate}
+use Rattle.std.proofs.lemmas.List.Elements.{All-replicate, All-append}
+use Rattle.std.proofs.lemmas.Bool.{and_parts}
+use Rattle.lamport_id.specs.Name.{is_name}
+use Rattle.lamport_id.specs.declared.id.Id.{Id}
+use Rattle.json_scalar.specs.declared.refusal.Refusal.{Refusal}
+use Rattle.op_core.specs.Equality.{operation_eq}
+use Rattle.op_core.specs.Op.{Op}
+use Rattle.crdt_rules.specs.Dependencies.{is_ready, missing}
+use Rattle.doc_rules.specs.Cause.{cause_of}
+use Rattle.doc_rules.specs.Document.{Document, by, logged_by, count_of, total_of, count_in, for_seat, Acts, opens, copied_to, GivesTo, IsSound}
+use Rattle.doc_rules.specs.Events.{Due, told, held, logged, Settles, own_change, due_own, known_or_not, due_waiting, due_ready, due_new, due_unlogged, due_handed, Forgets, Does, Event, IsWellMade}
+use Rattle.doc_rules.specs.Replica.{Replica, find_id, GoesOn}
+use Rattle.doc_words.specs.declared.ask.Command.{Command}
+use Rattle.doc_words.specs.declared.ask.Command.TheVariants.{Change, Deliver, Forget}
+use Rattle.doc_words.specs.declared.reply.Reply.{Reply}
+use Rattle.doc_words.specs.declared.reply.Reply.TheVariants.{Known, Held, Refused}
+use Rattle.doc_rules.proofs.Drained.{drain_goes_on}
+use Rattle.doc_rules.proofs.Kept.{event_keeps}
+use Rattle.doc_rules.proofs.Shares.{length-by, by-append, by-replicate_same, by-replicate_other, total_of-all}
+
+-- ---- the log goes on by what is told
+
+-- an answer that changes nothing tells of nothing
+abbrev TellsNone : Due → Type 0
+TellsNone (told answer) = count_in answer ≡ 0
+TellsNone _ = Unit {0}
+
+known_tells : (b : Bool) (answer : Reply) → count_in answer ≡ 0 → TellsNone (known_or_not b answer)
+known_tells true answer h = h
+known_tells false answer h = refl
+
+ready_tells : (cause : Result ⊤ Refusal) (op : Op) → TellsNone (due_ready cause op)
+ready_tells (Ok x) op = tt
+ready_tells (Err cause) op = refl
+
+waiting_tells : (full : Bool) (op : Op) → TellsNone (due_waiting full op)
+waiting_tells true op = refl
+waiting_tells false op = tt
+
+new_tells : (r : Replica) (op : Op) → TellsNone (due_new r op)
+new_tells r op = by (bytes_eq op.id.replica r.name) (is_ready op r.log)
+  where
+    by : (own ready : Bool)
+        → TellsNone (if own then told (Refused Refusal.OwnName) else (if ready then due_ready (cause_of op r.log) op else due_waiting (nat_le 256 (length r.held)) op))
+    by true ready = refl
+    by false true = ready_tells (cause_of op r.log) op
+    by false false = waiting_tells (nat_le 256 (length r.held)) op
+
+unlogged_tells : (r : Replica) (op : Op) (found : Option Op) → TellsNone (due_unlogged r op found)
+unlogged_tells r op (Some o) = known_tells (operation_eq o op) (Held (missing op r.log)) refl
+unlogged_tells r op None = new_tells r op
+
+handed_tells : (r : Replica) (op : Op) (found : Option Op) → TellsNone (due_handed r op found)
+handed_tells r op (Some o) = known_tells (operation_eq o op) Known refl
+handed_tells r op None = unlogged_tells r op (find_id r.held op.id)
+
+own_tells : (op : Result Op Refusal) → TellsNone (due_own op)
+own_tells (Ok op) = tt
+own_tells (Err cause) = refl
+
+-- the log stays
+stays : {r s : Replica} (n : ℕ) → n ≡ 0 → s.name ≡ r.name → s.log ≡ r.log → GoesOn r n s
+stays {r} n none name log = record { name = name; new = []; log = log ∙ sym (append-nil r.log); count = sym none }
+
+settles_on : (r s : Replica) (due : Due) (reply : Reply) → TellsNone due → Settles r due reply s → GoesOn r (count_in reply) s
+settles_on r s (told answer) reply none h = stays (count_in reply) (ap count_in h.0 ∙ none) (ap (λ x. x.name) h.1) (ap (λ x. x.log) h.1)
+settles_on r s (held op) reply none h = stays (count_in reply) (ap count_in h.0) (ap (λ x. x.name) h.1) (ap (λ x. x.log) h.1)
+settles_on r s (logged op) reply none h =
+    let g = drain_goes_on h.drains in
+    record {
+      name = g.name;
+      new = op ∷ g.new;
+      log = g.log ∙ append_assoc r.log (op ∷ []) g.new;
+      count = ap suc g.count ∙ sym (ap count_in h.reply_is);
+    }
+
+forgets_on : (r s : Replica) (i : Id) (found : Option Op) (reply : Reply) → Forgets r i found reply s → GoesOn r (count_in reply) s
+forgets_on r s i None reply h = stays (count_in reply) (ap count_in h.0) (ap (λ x. x.name) h.1) (ap (λ x. x.log) h.1)
+forgets_on r s i (Some o) reply h = stays (count_in reply) (ap count_in h.0) (ap (λ x. x.name) h.1) (ap (λ x. x.log) h.1)
+
+does_on : (r s : Replica) (command : Command) (reply : Reply) → Does r command reply s → GoesOn r (count_in reply) s
+does_on r s (Change place m) reply h = settles_on r s (due_own (own_change r m h.0)) reply (own_tells (own_change r m h.0)) h.2
+does_on r s (Deliver op) reply h = settles_on r s (due_handed r op (find_id r.log op.id)) reply (handed_tells r op (find_id r.log op.id)) h
+does_on r s (Forget i) reply h = forgets_on r s i (find_id r.held i) reply h
+
+pub event_on : (r s : Replica) (command : Command) (reply : Reply) → Event r command reply s → GoesOn r (count_in reply) s
+event_on r s command reply (inl does) = does_on r s command reply does
+event_on r s command reply (inr lacks) = stays (count_in reply) (ap count_in lacks.0) (ap (λ x. x.name) lacks.1) (ap (λ x. x.log) lacks.1)
+
+-- ---- documents
+
+pub acts_gives : (d e : Document) (seat : ℕ) (command : Command) (reply : Reply) → length d.seats_of ≡ length d.replica.log → Acts d seat command reply e
+    → GivesTo d seat reply e
+acts_gives d e seat command reply same h =
+    let g = event_on d.replica h.0 command reply h.1 in
+    let seats : e.seats_of ≡ d.seats_of ++ replicate (length g.new) seat =
+    ap (λ x. x.seats_of) h.2
+    ∙ ap (λ n. d.seats_of ++ replicate n seat) (more (length h.0.log) (length d.replica.log) (length g.new) (ap length g.log ∙ length-append d.replica.log g.new)) in
+    let log : e.replica.log ≡ d.replica.log ++ g.new = ap (λ x. x.replica.log) h.2 ∙ g.log in
+    let parts : (t : ℕ) → logged_by t e ≡ logged_by t d ++ by t g.new (replicate (length g.new) seat) =
+    (λ t. (λ i. by t (log i) (seats i)) ∙ by-append t d.replica.log g.new d.seats_of (replicate (length g.new) seat) same) in
+    record {
+      new = g.new;
+      count = g.count;
+      log = log;
+      mine = parts seat ∙ ap (λ l. logged_by seat d ++ l) (by-replicate_same seat g.new);
+      others = λ t other. parts t ∙ ap (λ l. logged_by t d ++ l) (by-replicate_other t seat g.new other) ∙ append-nil (logged_by t d);
+    }
+  where
+    more : (s r n : ℕ) → s ≡ r + n → s - r ≡ n
+    more s r n e = omega arith
+
+pub acts_sound : (d e : Document) (seat : ℕ) (command : Command) (reply : Reply) → is_name d.replica.name ≡ true → IsWellMade command → seat ≤ d.opened → IsSound d
+    → Acts d seat command reply e → IsSound e
+acts_sound d e seat command reply named made opened sound h = subst IsSound (sym h.2) (after h.0 h.1)
+  where
+    after : (s : Replica) → Event d.replica command reply s → IsSound (for_seat seat s d)
+    after s event =
+        let g = event_on d.replica s command reply event in
+        let longer : length s.log ≡ length d.replica.log + length g.new = ap length g.log ∙ length-append d.replica.log g.new in
+        let each = sound.each_has_a_seat in
+        let within = sound.within in
+        record {
+          kept = event_keeps d.replica s command reply named made sound.kept event;
+          each_has_a_seat =
+              omega (arith, longer, each, length-append d.seats_of (replicate (length s.log - length d.replica.log) seat), length-replicate (length s.log - length d.replica.log) seat);
+          opened_alone =
+              All-append (λ t. t ≤ d.opened) d.seats_of (replicate (length s.log - length d.replica.log) seat) sound.opened_alone
+              (All-replicate (λ t. t ≤ d.opened) (length s.log - length d.replica.log) seat opened);
+          few = sound.few;
+          within = omega (arith, longer, within);
+        }
+
+pub copied_sound : (n : ℕ) (d : Document) → IsSound d → IsSound (copied_to n d)
+copied_sound n d sound = by (nat_le d.copied n && nat_le n (length d.replica.log)) refl
+  where
+    by : (b : Bool) → (nat_le d.copied n && nat_le n (length d.replica.log)) ≡ b → IsSound (if b then record d { copied = n } else d)
+    by true e =
+        record {
+          kept = sound.kept;
+          each_has_a_seat = sound.each_has_a_seat;
+          opened_alone = sound.opened_alone;
+          few = sound.few;
+          within = leb-true n (length d.replica.log) (and_parts (nat_le d.copied n) (nat_le n (length d.replica.log)) e).1;
+        }
+    by false e = sound
+
+-- one more seat is opened
+opened_sound : (d : Document) → IsSound d → d.opened + 1 ≤ d.seats → IsSound (record d { opened = d.opened + 1 })
+opened_sound d sound more =
+    record {
+      kept = sound.kept;
+      each_has_a_seat = sound.each_has_a_seat;
+      opened_alone = λ k x less. let before = sound.opened_alone k x less in omega (arith, before);
+      few = more;
+      within = sound.within;
+    }
+
+pub opens_sound : (d : Document) → IsSound d → IsSound (opens d).1
+opens_sound d sound = by (nat_lt d.opened d.seats) refl
+  where
+    by : (b : Bool) → nat_lt d.opened d.seats ≡ b
+        → IsSound (if◌then◌else◌ {A = Result ℕ Refusal × Document} b (Ok (d.opened + 1), record d { opened = d.opened + 1 }) (Err Refusal.SeatsFull, d)).1
+    by true e = opened_sound d sound (leb-true (d.opened + 1) d.seats (more e))
+      where
+        more : nat_lt d.opened d.seats ≡ true → nat_le (d.opened + 1) d.seats ≡ true
+        more h = grind arith
+    by false e = sound
+
+-- the shares of all opened seats, and what stood there at the start, are the whole log
+pub shares_add_up : (d : Document) → IsSound d → total_of d.opened d.seats_of + count_of 0 d.seats_of ≡ length d.replica.log
+shares_add_up d sound = total_of-all d.opened d.seats_of sound.opened_alone ∙ sound.each_has_a_seat
+
+pub share_is : (d : Document) (seat : ℕ) → IsSound d → length (logged_by seat d) ≡ count_of seat d.seats_of
+share_is d seat sound = length-by seat d.replica.log d.seats_of sound.each_has_a_seat
+
+-- the share of the seat rises by what the answer tells, and the others stay
+pub shares_rise : (d e : Document) (seat : ℕ) (reply : Reply) → IsSound d → IsSound e → GivesTo d seat reply e
+    → (count_of seat e.seats_of ≡ count_of seat d.seats_of + count_in reply) × ((t : ℕ) → seat ≢ t → count_of t e.seats_of ≡ count_of t d.seats_of)
+shares_rise d e seat reply sound sound' given = (
+  omega (arith, share_is d seat sound, share_is e seat sound', ap length given.mine, length-append (logged_by seat d) given.new, given.count),
+  λ t other. sym (share_is e t sound') ∙ ap length (given.others t other) ∙ share_is d t sound,
+)
