@@ -1,0 +1,196 @@
+-- How requests are read from JSON: each the one that has this JSON, or the first cause against it.
+use Rattle.std.specs.Prelude.{ℕ, ℤ, zero, suc, ◌&&◌, nat_le, List, [], ◌∷◌, codes, length, Option, Some, None, option_map, Result, Ok, Err, ok_or, if◌then◌else◌}
+use Rattle.std.specs.Str.{bytes_eq, is_utf8}
+use Rattle.serde_json.specs.Data.{Data, null, boolean, number, string, array, object, Items, no_items, item}
+use Rattle.serde_json.specs.Find.{as_u64, as_number, as_str, as_array}
+use Rattle.serde_json.specs.Read.{read}
+use Rattle.json_scalar.specs.Refusal.{and_then}
+use Rattle.json_scalar.specs.Scalar.{val_of, int_of}
+use Rattle.json_scalar.specs.declared.refusal.Refusal.{Refusal}
+use Rattle.json_scalar.specs.declared.refusal.Refusal.TheVariants.{NotJson, BadRequest, BadValue, BadFront}
+use Rattle.op_core.specs.Front.{is_ascending}
+use Rattle.op_core.specs.Reading.{◌>>=◌, some_if, u64_of, id_from, front_of, op_from}
+use Rattle.op_core.specs.declared.mutation.Mutation.TheVariants.{Assign, Insert, Delete, Add}
+use Rattle.doc_words.specs.declared.place.Step.{Step}
+use Rattle.doc_words.specs.declared.place.Step.TheVariants.{Get, Index}
+use Rattle.doc_words.specs.declared.ask.Look.{Look}
+use Rattle.doc_words.specs.declared.ask.Look.TheVariants.{Keys, Values, Items as Elements, Conflicts, Show, Sum}
+use Rattle.line_proto.specs.declared.request.Start.{Start}
+use Rattle.line_proto.specs.declared.request.Start.TheVariants.{Document, Variable}
+use Rattle.line_proto.specs.declared.request.CursorExpr.{CursorExpr}
+use Rattle.line_proto.specs.declared.request.Ask.{Ask}
+use Rattle.line_proto.specs.declared.request.Ask.TheVariants as ask
+use Rattle.line_proto.specs.declared.request.Request.{Request}
+use Rattle.line_proto.specs.declared.request.Request.TheVariants.{Quit, Version, Of}
+
+-- ---- cursor expressions
+
+abbrev pub step_from : Data → Option Step
+step_from null = None
+step_from (boolean b) = None
+step_from (number n) = option_map Index (as_u64 n)
+step_from (string s) = Some (Get s)
+step_from (array ds) = None
+step_from (object ms) = None
+
+abbrev pub steps_from : Items → Option (List Step)
+steps_from no_items = Some []
+steps_from (item d ds) = do
+  first ← step_from d
+  rest ← steps_from ds
+  Some (first ∷ rest)
+
+-- the name of a variable has at most 128 bytes
+abbrev pub variable_of : List ℕ → Option (List ℕ)
+variable_of s = some_if (nat_le (length s) 128) s
+
+abbrev pub variable_from : Data → Option (List ℕ)
+variable_from d = as_str d >>= variable_of
+
+abbrev pub start_of_number : Option ℕ → Option Start
+start_of_number None = None
+start_of_number (Some zero) = Some Document
+start_of_number (Some (suc n)) = None
+
+abbrev pub start_from : Data → Option Start
+start_from null = None
+start_from (boolean b) = None
+start_from (number n) = start_of_number (as_u64 n)
+start_from (string s) = option_map Variable (variable_of s)
+start_from (array ds) = None
+start_from (object ms) = None
+
+abbrev pub expr_items : Items → Option CursorExpr
+expr_items no_items = None
+expr_items (item d ds) = do
+  start ← start_from d
+  steps ← steps_from ds
+  Some (record { start = start; steps = steps })
+
+abbrev pub expr_from : Data → Option CursorExpr
+expr_from d = as_array d >>= expr_items
+
+-- ---- requests, by how many items they have
+
+abbrev pub bare_request : List ℕ → Option Request
+bare_request verb = if bytes_eq verb (codes "quit") then Some Quit else some_if (bytes_eq verb (codes "version")) Version
+
+abbrev pub plain_ask : List ℕ → Option Ask
+plain_ask verb =
+    if bytes_eq verb (codes "open") then Some ask.Open
+    else (if bytes_eq verb (codes "front") then Some ask.Front
+    else (if bytes_eq verb (codes "held") then Some ask.Held
+    else some_if (bytes_eq verb (codes "account")) ask.Account))
+
+abbrev pub look_of : List ℕ → Option Look
+look_of verb =
+    if bytes_eq verb (codes "keys") then Some Keys
+    else (if bytes_eq verb (codes "values") then Some Values
+    else (if bytes_eq verb (codes "items") then Some Elements
+    else (if bytes_eq verb (codes "conflicts") then Some Conflicts
+    else (if bytes_eq verb (codes "show") then Some Show
+    else some_if (bytes_eq verb (codes "sum")) Sum))))
+
+abbrev pub look_from : List ℕ → Data → Result Ask Refusal
+look_from verb d =
+    and_then (ok_or (look_of verb) BadRequest) (λ look. and_then (ok_or (expr_from d) BadRequest) (λ expr. Ok (ask.Look expr look)))
+
+abbrev pub deletion_from : Data → Result Ask Refusal
+deletion_from d = and_then (ok_or (expr_from d) BadRequest) (λ expr. Ok (ask.Change expr Delete))
+
+abbrev pub delivery_from : Data → Result Ask Refusal
+delivery_from d = and_then (op_from d) (λ op. Ok (ask.Deliver op))
+
+abbrev pub forgetting_from : Data → Result Ask Refusal
+forgetting_from d = ok_or (option_map ask.Forget (id_from d)) BadRequest
+
+abbrev pub short_ask : List ℕ → Data → Result Ask Refusal
+short_ask verb d =
+    if bytes_eq verb (codes "delete") then deletion_from d
+    else (if bytes_eq verb (codes "deliver") then delivery_from d
+    else (if bytes_eq verb (codes "forget") then forgetting_from d
+    else look_from verb d))
+
+abbrev pub naming_from : Data → Data → Result Ask Refusal
+naming_from n d =
+    and_then (ok_or (variable_from n) BadRequest) (λ name. and_then (ok_or (expr_from d) BadRequest) (λ expr. Ok (ask.Let name expr)))
+
+-- 1 to 64
+abbrev pub limit_of : ℕ → Option ℕ
+limit_of n = some_if (nat_le 1 n && nat_le n 64) n
+
+abbrev pub limit_from : Data → Option ℕ
+limit_from d = u64_of d >>= limit_of
+
+-- a front that ascends
+abbrev pub in_order : List (List ℕ × ℕ) → Result (List (List ℕ × ℕ)) Refusal
+in_order front = if is_ascending front then Ok front else Err BadFront
+
+abbrev pub ops_from : Data → Data → Result Ask Refusal
+ops_from f n =
+    and_then (ok_or (limit_from n) BadRequest) (λ limit. and_then (and_then (ok_or (front_of f) BadRequest) in_order) (λ front. Ok (ask.Operations front limit)))
+
+abbrev pub assignment_from : Data → Data → Result Ask Refusal
+assignment_from c d =
+    and_then (ok_or (expr_from c) BadRequest) (λ expr. and_then (val_of d) (λ val. Ok (ask.Change expr (Assign val))))
+
+abbrev pub insertion_from : Data → Data → Result Ask Refusal
+insertion_from c d =
+    and_then (ok_or (expr_from c) BadRequest) (λ expr. and_then (val_of d) (λ val. Ok (ask.Change expr (Insert val))))
+
+-- an integer of 64 bits
+abbrev pub amount_of : Data → Option ℤ
+amount_of d = as_number d >>= int_of
+
+abbrev pub addition_from : Data → Data → Result Ask Refusal
+addition_from c d =
+    and_then (ok_or (expr_from c) BadRequest) (λ expr. and_then (ok_or (amount_of d) BadValue) (λ n. Ok (ask.Change expr (Add n))))
+
+abbrev pub change_from : List ℕ → Data → Data → Result Ask Refusal
+change_from verb c d =
+    if bytes_eq verb (codes "assign") then assignment_from c d
+    else (if bytes_eq verb (codes "insert") then insertion_from c d
+    else (if bytes_eq verb (codes "add") then addition_from c d
+    else Err BadRequest))
+
+abbrev pub long_ask : List ℕ → Data → Data → Result Ask Refusal
+long_ask verb a b =
+    if bytes_eq verb (codes "let") then naming_from a b
+    else (if bytes_eq verb (codes "ops") then ops_from a b
+    else change_from verb a b)
+
+abbrev pub bare_from : Data → Result Request Refusal
+bare_from verb = and_then (ok_or (as_str verb) BadRequest) (λ verb. ok_or (bare_request verb) BadRequest)
+
+abbrev pub plain_from : Data → Data → Result Request Refusal
+plain_from verb document =
+    and_then (ok_or (as_str verb) BadRequest) (λ verb. and_then (ok_or (as_str document) BadRequest) (λ name. and_then (ok_or (plain_ask verb) BadRequest) (λ asked. Ok (Of name asked))))
+
+abbrev pub short_from : Data → Data → Data → Result Request Refusal
+short_from verb document a =
+    and_then (ok_or (as_str verb) BadRequest) (λ verb. and_then (ok_or (as_str document) BadRequest) (λ name. and_then (short_ask verb a) (λ asked. Ok (Of name asked))))
+
+abbrev pub long_from : Data → Data → Data → Data → Result Request Refusal
+long_from verb document a b =
+    and_then (ok_or (as_str verb) BadRequest) (λ verb. and_then (ok_or (as_str document) BadRequest) (λ name. and_then (long_ask verb a b) (λ asked. Ok (Of name asked))))
+
+abbrev pub request_items : Items → Result Request Refusal
+request_items no_items = Err BadRequest
+request_items (item verb no_items) = bare_from verb
+request_items (item verb (item document no_items)) = plain_from verb document
+request_items (item verb (item document (item a no_items))) = short_from verb document a
+request_items (item verb (item document (item a (item b no_items)))) = long_from verb document a b
+request_items (item verb (item document (item a (item b (item c ds))))) = Err BadRequest
+
+abbrev pub request_from : Data → Result Request Refusal
+request_from d = and_then (ok_or (as_array d) BadRequest) request_items
+
+-- ---- lines
+
+-- the JSON that these bytes are
+abbrev pub line_data : List ℕ → Option Data
+line_data line = if is_utf8 line then read line else None
+
+-- the request that these bytes are, or the first cause against them
+abbrev pub request_of : List ℕ → Result Request Refusal
+request_of line = and_then (ok_or (line_data line) NotJson) request_from

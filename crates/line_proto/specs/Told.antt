@@ -1,0 +1,95 @@
+-- What is told, as JSON and as lines.
+use Rattle.std.specs.Prelude.{ℕ, List, [], ◌∷◌, ◌++◌, map, codes}
+use Rattle.std.specs.Fmt.{signed_decimal}
+use Rattle.serde_json.specs.Data.{Data, null, number, unsigned, string}
+use Rattle.serde_json.specs.Written.{compact_text}
+use Rattle.lamport_id.specs.declared.id.Id.{Id}
+use Rattle.json_scalar.specs.Refusal.{number_of, name_of}
+use Rattle.json_scalar.specs.Scalar.{scalar_data, val_data}
+use Rattle.json_scalar.specs.declared.scalar.Scalar.{Scalar}
+use Rattle.json_scalar.specs.declared.scalar.Val.{Val}
+use Rattle.json_scalar.specs.declared.refusal.Refusal.{Refusal}
+use Rattle.json_scalar.specs.declared.refusal.Refusal.TheVariants as refusal
+use Rattle.op_core.specs.Wire.{list_data, id_data, front_data, cursor_data, wire}
+use Rattle.doc_words.specs.declared.reply.Reply.{Reply}
+use Rattle.doc_words.specs.declared.reply.Reply.TheVariants.{Applied, Known, Held, Forgotten, Resolved, Keys, Values, Items, Conflicts, Show, Sum, Operations, Front, Waiting, Account, Refused}
+use Rattle.line_feed.specs.Cut.{line_of}
+use Rattle.line_proto.specs.declared.told.Told.{Told}
+use Rattle.line_proto.specs.declared.told.Told.TheVariants.{Opened, Bound, Version, Bye, Answered}
+
+abbrev pub count_data : ℕ → Data
+count_data n = number (unsigned n)
+
+-- an array that begins with a word
+abbrev pub worded : List ℕ → List Data → Data
+worded word ds = list_data (string word ∷ ds)
+
+abbrev pub pair_data : Id → Data → Data
+pair_data id d = list_data (id_data id ∷ d ∷ [])
+
+abbrev pub ids_data : List Id → Data
+ids_data ids = list_data (map id_data ids)
+
+abbrev pub scalars_data : List Scalar → Data
+scalars_data scalars = list_data (map scalar_data scalars)
+
+abbrev pub item_data : Id × List Scalar → Data
+item_data e = pair_data e.0 (scalars_data e.1)
+
+abbrev pub conflict_data : Id × Val → Data
+conflict_data e = pair_data e.0 (val_data e.1)
+
+abbrev pub waiting_data : Id × List Id → Data
+waiting_data e = pair_data e.0 (ids_data e.1)
+
+-- the number and the name; for a fork of a replica its last counter too
+abbrev pub refusal_items : Refusal → List Data
+refusal_items (refusal.Forked last) = count_data 14 ∷ string (codes "forked") ∷ count_data last ∷ []
+refusal_items r = count_data (number_of r) ∷ string (name_of r) ∷ []
+
+-- A document's reply. A shown element is kept as text: `told_text` tells it, and it has no JSON here.
+abbrev pub reply_data : Reply → Data
+reply_data (Applied count dropped id) = worded (codes "applied") (count_data count ∷ count_data dropped ∷ id_data id ∷ [])
+reply_data Known = worded (codes "known") []
+reply_data (Held missing) = worded (codes "held") (ids_data missing ∷ [])
+reply_data Forgotten = worded (codes "forgotten") []
+reply_data (Resolved cursor) = worded (codes "cursor") (cursor_data cursor ∷ [])
+reply_data (Keys texts) = worded (codes "keys") (list_data (map string texts) ∷ [])
+reply_data (Values scalars) = worded (codes "values") (scalars_data scalars ∷ [])
+reply_data (Items items) = worded (codes "items") (list_data (map item_data items) ∷ [])
+reply_data (Conflicts vals) = worded (codes "conflicts") (list_data (map conflict_data vals) ∷ [])
+reply_data (Show text) = null
+reply_data (Sum total) = worded (codes "sum") (string (signed_decimal total) ∷ [])
+reply_data (Operations ops) = worded (codes "ops") (list_data (map wire ops) ∷ [])
+reply_data (Front front) = worded (codes "front") (front_data front ∷ [])
+reply_data (Waiting held) = worded (codes "waiting") (list_data (map waiting_data held) ∷ [])
+reply_data (Account n) = worded (codes "account") (count_data n ∷ [])
+reply_data (Refused r) = worded (codes "no") (refusal_items r)
+
+abbrev pub told_data : Told → Data
+told_data (Opened seat) = worded (codes "opened") (count_data seat ∷ [])
+told_data Bound = worded (codes "bound") []
+told_data Version = worded (codes "version") (count_data 2 ∷ [])
+told_data Bye = worded (codes "bye") []
+told_data (Answered reply) = reply_data reply
+
+-- `["show",ELEMENT]`, for the text of the element
+abbrev pub shown_text : List ℕ → List ℕ
+shown_text text = codes "[\"show\"," ++ (text ++ 93 ∷ [])
+
+abbrev pub reply_text : Reply → List ℕ
+reply_text (Show text) = shown_text text
+reply_text reply = compact_text (reply_data reply)
+
+-- the compact text of what is told
+abbrev pub told_text : Told → List ℕ
+told_text (Answered reply) = reply_text reply
+told_text told = compact_text (told_data told)
+
+-- the line of JSON: its compact text, and a newline
+abbrev pub line_text : Data → List ℕ
+line_text d = line_of (compact_text d)
+
+-- the line that is told
+abbrev pub line_told : Told → List ℕ
+line_told told = line_of (told_text told)

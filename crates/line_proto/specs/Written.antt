@@ -1,0 +1,104 @@
+-- The written form of requests.
+use Rattle.std.specs.Prelude.{ℕ, ◌&&◌, nat_le, Bool, true, List, [], ◌∷◌, map, codes, length}
+use Rattle.serde_json.specs.Data.{Data, number, unsigned, string}
+use Rattle.serde_json.specs.Find.{of_integer}
+use Rattle.json_scalar.specs.Scalar.{is_val, val_data}
+use Rattle.json_scalar.specs.declared.scalar.Val.TheVariants.{Scalar}
+use Rattle.json_scalar.specs.declared.scalar.Scalar.TheVariants.{Int}
+use Rattle.op_core.specs.Front.{is_ascending}
+use Rattle.op_core.specs.Shape.{is_id, is_entry, is_shaped}
+use Rattle.op_core.specs.Wire.{list_data, id_data, front_data, wire}
+use Rattle.std.specs.List.{list_all}
+use Rattle.op_core.specs.declared.mutation.Mutation.{Mutation}
+use Rattle.op_core.specs.declared.mutation.Mutation.TheVariants.{Assign, Insert, Delete, Add}
+use Rattle.doc_words.specs.declared.place.Step.{Step}
+use Rattle.doc_words.specs.declared.place.Step.TheVariants.{Get, Index}
+use Rattle.doc_words.specs.declared.ask.Look.{Look}
+use Rattle.doc_words.specs.declared.ask.Look.TheVariants.{Keys, Values, Items, Conflicts, Show, Sum}
+use Rattle.line_proto.specs.declared.request.Start.{Start}
+use Rattle.line_proto.specs.declared.request.Start.TheVariants.{Document, Variable}
+use Rattle.line_proto.specs.declared.request.CursorExpr.{CursorExpr}
+use Rattle.line_proto.specs.declared.request.Ask.{Ask}
+use Rattle.line_proto.specs.declared.request.Ask.TheVariants as ask
+use Rattle.line_proto.specs.declared.request.Request.{Request}
+use Rattle.line_proto.specs.declared.request.Request.TheVariants.{Quit, Version, Of}
+
+abbrev pub start_data : Start → Data
+start_data Document = number (unsigned 0)
+start_data (Variable name) = string name
+
+abbrev pub step_data : Step → Data
+step_data (Get text) = string text
+step_data (Index n) = number (unsigned n)
+
+abbrev pub expr_data : CursorExpr → Data
+expr_data expr = list_data (start_data expr.start ∷ map step_data expr.steps)
+
+-- a request on a document: its word, the document's name, and more
+abbrev pub asks : List ℕ → List ℕ → List Data → Data
+asks word document ds = list_data (string word ∷ string document ∷ ds)
+
+abbrev pub look_word : Look → List ℕ
+look_word Keys = codes "keys"
+look_word Values = codes "values"
+look_word Items = codes "items"
+look_word Conflicts = codes "conflicts"
+look_word Show = codes "show"
+look_word Sum = codes "sum"
+
+abbrev pub change_data : List ℕ → Data → Mutation → Data
+change_data document expr (Assign val) = asks (codes "assign") document (expr ∷ val_data val ∷ [])
+change_data document expr (Insert val) = asks (codes "insert") document (expr ∷ val_data val ∷ [])
+change_data document expr Delete = asks (codes "delete") document (expr ∷ [])
+change_data document expr (Add n) = asks (codes "add") document (expr ∷ number (of_integer n) ∷ [])
+
+abbrev pub ask_data : List ℕ → Ask → Data
+ask_data document ask.Open = asks (codes "open") document []
+ask_data document ask.Front = asks (codes "front") document []
+ask_data document ask.Held = asks (codes "held") document []
+ask_data document ask.Account = asks (codes "account") document []
+ask_data document (ask.Change expr change) = change_data document (expr_data expr) change
+ask_data document (ask.Look expr look) = asks (look_word look) document (expr_data expr ∷ [])
+ask_data document (ask.Let name expr) = asks (codes "let") document (string name ∷ expr_data expr ∷ [])
+ask_data document (ask.Deliver op) = asks (codes "deliver") document (wire op ∷ [])
+ask_data document (ask.Operations front limit) = asks (codes "ops") document (front_data front ∷ number (unsigned limit) ∷ [])
+ask_data document (ask.Forget id) = asks (codes "forget") document (id_data id ∷ [])
+
+-- a request's JSON
+abbrev pub request_data : Request → Data
+request_data Quit = list_data (string (codes "quit") ∷ [])
+request_data Version = list_data (string (codes "version") ∷ [])
+request_data (Of document ask) = ask_data document ask
+
+-- ---- within the limits
+
+-- the name of a variable has at most 128 bytes
+abbrev pub is_variable : List ℕ → Bool
+is_variable name = nat_le (length name) 128
+
+abbrev pub is_start : Start → Bool
+is_start Document = true
+is_start (Variable name) = is_variable name
+
+abbrev pub is_change : Mutation → Bool
+is_change (Assign val) = is_val val
+is_change (Insert val) = is_val val
+is_change Delete = true
+is_change (Add n) = is_val (Scalar (Int n))
+
+abbrev pub is_ask : Ask → Bool
+is_ask ask.Open = true
+is_ask ask.Front = true
+is_ask ask.Held = true
+is_ask ask.Account = true
+is_ask (ask.Change expr change) = is_start expr.start && is_change change
+is_ask (ask.Look expr look) = is_start expr.start
+is_ask (ask.Let name expr) = is_variable name && is_start expr.start
+is_ask (ask.Deliver op) = is_shaped op
+is_ask (ask.Operations front limit) = (list_all is_entry front && is_ascending front) && (nat_le 1 limit && nat_le limit 64)
+is_ask (ask.Forget id) = is_id id
+
+abbrev pub is_request : Request → Bool
+is_request Quit = true
+is_request Version = true
+is_request (Of document ask) = is_ask ask
