@@ -1,7 +1,7 @@
 -- Roles after one more operation: its own is what it does there, and the others stay. And the values that roles tell.
-use Rattle.std.proofs.Common.{◌≡◌, ◌≢◌, List, [], ◌∷◌, ◌++◌, Bool, true, false, not, ◌&&◌, Option, None, if◌then◌else◌, Contains, refl, sym, ap, ◌∙◌}
+use Rattle.std.proofs.Common.{◌≡◌, ◌≢◌, List, [], ◌∷◌, ◌++◌, Bool, true, false, not, ◌&&◌, ◌||◌, Option, Some, None, if◌then◌else◌, Contains, refl, sym, ap, ◌∙◌}
 use Rattle.std.specs.List.{list_any}
-use Rattle.std.proofs.lemmas.Bool.{and_parts, false_from_ne_true, not-true}
+use Rattle.std.proofs.lemmas.Bool.{and_parts, both_ways, false_from_ne_true, not-true}
 use Rattle.lamport_id.specs.declared.id.Id.{Id}
 use Rattle.json_scalar.specs.declared.scalar.Scalar.{Scalar}
 use Rattle.json_scalar.specs.declared.scalar.Val.TheVariants.{Scalar as Plain, EmptyMap, EmptyList}
@@ -12,9 +12,9 @@ use Rattle.op_core.specs.declared.mutation.Mutation.{Mutation}
 use Rattle.op_core.specs.declared.mutation.Mutation.TheVariants.{Assign, Insert, Delete, Add}
 use Rattle.list_laws.proofs.Members.{Contains-here, Contains-there}
 use Rattle.crdt_rules.specs.Same.{id_eq}
-use Rattle.crdt_rules.specs.Effect.{marks, scalar_put, value_put}
+use Rattle.crdt_rules.specs.Effect.{clears, marks, scalar_put, value_put}
 use Rattle.crdt_rules.specs.Context.{entered}
-use Rattle.crdt_rules.specs.Facts.{facts, ends_here}
+use Rattle.crdt_rules.specs.Facts.{facts, step_facts, ends_here}
 use Rattle.crdt_rules.specs.Fits.{Fits}
 use Rattle.crdt_rules.specs.Free.{is_cleared}
 use Rattle.crdt_rules.specs.Free as free
@@ -22,8 +22,14 @@ use Rattle.crdt_rules.specs.Log.{IsGood, replay}
 use Rattle.crdt_rules.proofs.Chain.{fits_new}
 use Rattle.crdt_rules.proofs.Readings.{here_from}
 use Rattle.crdt_rules.proofs.ReplayFacts.{replay_present, replay_register}
+use Rattle.crdt_rules.proofs.SameLaws.{id_decides, eq_from}
 use Rattle.crdt_rules.proofs.StepFacts.{entered-false}
-use Rattle.doc_rules.specs.Role.{value_at, value_in, role_put, role_at, role_here}
+use Rattle.crdt_rules.proofs.Tests.{any_none}
+use Rattle.op_core.specs.Front.{covers}
+use Rattle.doc_words.specs.declared.role.Role.{Role}
+use Rattle.std.specs.Prelude.{option_and_then}
+use Rattle.doc_rules.specs.Reads.{AgreeOnPresent}
+use Rattle.doc_rules.specs.Role.{value_at, value_in, role_put, role_at, role_here, roles_of, values_in, step_roles}
 
 module _ (p : List Tagged) (k : Key) (i : Id) where
   -- behind operations of which none ends here
@@ -74,3 +80,48 @@ present_value log p k i good here =
     let entry : (facts (replay log)).register p k i ≡ free.value_at scalar_put log p k i =
     ap (λ f. f p k i) (replay_register log good) ∙ ap (λ b. if◌then◌else◌ {A = Option Scalar} b None (free.value_at scalar_put log p k i)) kept in
     value_told p k i log ∙ ap (value_in (role_at log p k i)) (sym entry)
+
+-- the roles of a good log and its registers tell what was put
+pub values_told : (log : List Op) → IsGood log → AgreeOnPresent (facts (replay log)) (values_in (facts (replay log)) (roles_of (facts (replay log)) log)) (value_at log)
+values_told log good p k i here =
+    ap (λ b. option_and_then (λ r. value_in r ((facts (replay log)).register p k i)) (if◌then◌else◌ {A = Option Role} b (Some (role_at log p k i)) None)) here
+    ∙ sym (present_value log p k i good here)
+
+-- ---- all roles after one more operation
+
+-- a new id makes no place present
+absent_new : (log : List Op) (op : Op) (p : List Tagged) (k : Key) → IsGood log → Fits op log → (facts (replay log)).present p k op.id ≡ false
+absent_new log op p k good fits =
+    ap (λ f. f p k op.id) (replay_present log good)
+    ∙ ap (λ b. b && not (is_cleared log p k op.id))
+    (any_none (λ o. id_eq o.id op.id && marks o p k) log
+    (λ o c. ap (λ b. b && marks o p k) (false_from_ne_true (id_eq o.id op.id) (λ e. fits_new fits o c (id_decides.same o.id op.id e)))))
+
+-- of an operation that marks the place
+told_new : (kept : Bool) (r h : Role) → r ≡ h → ◌≡◌ {A = Option Role} (if kept || true then Some r else None) (Some h)
+told_new true r h e = ap Some e
+told_new false r h e = ap Some e
+
+-- and of the others
+told_old : (here cleared : Bool) (r s : Role) → (here ≡ true → r ≡ s)
+    → ◌≡◌ {A = Option Role} (if (here && not cleared) || false then Some r else None) (if cleared then None else (if here then Some s else None))
+told_old true true r s e = refl
+told_old true false r s e = ap Some (e refl)
+told_old false true r s e = refl
+told_old false false r s e = refl
+
+pub roles_after : (log : List Op) (op : Op) (p : List Tagged) (k : Key) (i : Id) → IsGood log → Fits op log
+    → roles_of (step_facts (facts (replay log)) op (covers op.front)) (log ++ op ∷ []) p k i
+    ≡ step_roles (roles_of (facts (replay log)) log) op (covers op.front) p k i
+roles_after log op p k i good fits = by (marks op p k) refl (id_eq op.id i) refl
+  where
+    by : (a : Bool) → marks op p k ≡ a → (b : Bool) → id_eq op.id i ≡ b
+        → ◌≡◌ {A = Option Role} (if ((facts (replay log)).present p k i && not (clears op p k && covers op.front i)) || (a && b) then Some (role_at (log ++ op ∷ []) p k i) else None)
+        (if a && b then Some (role_here op p k) else (if clears op p k && covers op.front i then None else (if (facts (replay log)).present p k i then Some (role_at log p k i) else None)))
+    by true m true e =
+        told_new ((facts (replay log)).present p k i && not (clears op p k && covers op.front i)) (role_at (log ++ op ∷ []) p k i) (role_here op p k)
+        (ap (role_at (log ++ op ∷ []) p k) (sym (id_decides.same op.id i e)) ∙ role_new log op p k fits)
+    by true m false e = told_old ((facts (replay log)).present p k i) (clears op p k && covers op.front i) (role_at (log ++ op ∷ []) p k i) (role_at log p k i) (λ h. role_old log op p k i (λ same. both_ways (id_eq op.id i) e (eq_from id_decides op.id i same)))
+    by false m b e =
+        told_old ((facts (replay log)).present p k i) (clears op p k && covers op.front i) (role_at (log ++ op ∷ []) p k i) (role_at log p k i)
+        (λ h. role_old log op p k i (λ same. both_ways ((facts (replay log)).present p k i) (ap ((facts (replay log)).present p k) (sym same) ∙ absent_new log op p k good fits) h))

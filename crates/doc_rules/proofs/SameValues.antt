@@ -1,13 +1,24 @@
 -- What is shown depends on the values of present ids alone.
-use Rattle.std.proofs.Common.{inl, inr, List, sym, ◌∙◌}
+use Rattle.std.proofs.Common.{◌≡◌, ◌≢◌, inl, inr, List, Bool, true, false, Result, Ok, Err, refl, sym, ap, ◌∙◌}
+use Rattle.std.specs.Prelude.{MatchBool, MatchResult}
 use Rattle.lamport_id.specs.declared.id.Id.{Id}
+use Rattle.json_scalar.specs.declared.refusal.Refusal.{Refusal}
+use Rattle.json_scalar.specs.declared.refusal.Refusal.TheVariants.{AtHead, NoMemory}
 use Rattle.json_scalar.specs.declared.scalar.Val.{Val}
+use Rattle.op_core.specs.Shape.{is_head}
+use Rattle.op_core.specs.declared.cursor.Cursor.{Cursor}
+use Rattle.doc_words.specs.declared.ask.Look.{Look}
+use Rattle.doc_words.specs.declared.ask.Look.TheVariants as look
+use Rattle.doc_words.specs.declared.reply.Reply.{Reply}
+use Rattle.doc_words.specs.declared.reply.Reply.TheVariants as reply
 use Rattle.op_core.specs.declared.cursor.Key.{Key}
 use Rattle.op_core.specs.declared.cursor.Key.TheVariants.{Text, Element}
 use Rattle.op_core.specs.declared.cursor.Tagged.{Tagged}
 use Rattle.crdt_rules.specs.Facts.{Facts}
-use Rattle.doc_rules.specs.Reads.{Values, AgreeOnPresent, into_map, into_list, AreConflicts}
-use Rattle.doc_rules.specs.Shown.{IsPut, HasMap, HasList, Shown, MapShown, ListShown, Fields, Elements, shown, no_map, a_map, no_list, a_list, no_fields, field, no_elements, element, Shows, ShowsMap, ShowsList, ShowsFields, ShowsElements}
+use Rattle.doc_rules.specs.Reads.{Values, AgreeOnPresent, into_map, into_list, AreConflicts, ReadsPlace}
+use Rattle.doc_rules.specs.Answers.{ReadsHere, LooksHere}
+use Rattle.doc_rules.proofs.Resolved.{ok≢err}
+use Rattle.doc_rules.specs.Shown.{ShowsText, IsPut, HasMap, HasList, Shown, MapShown, ListShown, Fields, Elements, shown, no_map, a_map, no_list, a_list, no_fields, field, no_elements, element, Shows, ShowsMap, ShowsList, ShowsFields, ShowsElements}
 
 put_moved : (f : Facts) (v w : Values) → AgreeOnPresent f v w → (p : List Tagged) (k : Key) (x : Val) → IsPut f v p k x → IsPut f w p k x
 put_moved f v w same p k x h = (h.0, h.1, sym (same p k h.0 h.1) ∙ h.2)
@@ -50,3 +61,30 @@ module _ (f : Facts) (v w : Values) (same : AgreeOnPresent f v w) (back : AgreeO
 
 pub shows_same : (f : Facts) (v w : Values) → AgreeOnPresent f v w → (p : List Tagged) (k : Key) (x : Shown) → Shows f v p k x → Shows f w p k x
 shows_same f v w same = shown_moved f v w same (λ p k i h. sym (same p k i h))
+
+-- so does each look
+here_moved : {X : Type 0} (reads reads' : List Tagged → Key → X → Type 0) (tell : X → Reply) → ((p : List Tagged) (k : Key) (x : X) → reads p k x → reads' p k x)
+    → (c : Cursor) (answer : Reply) → ReadsHere reads tell c answer → ReadsHere reads' tell c answer
+here_moved reads reads' tell move c answer (Ok x, h, is) = (Ok x, (h.0, move c.path c.key x h.1), is)
+here_moved reads reads' tell move c answer (Err e, h, is) = (Err e, h, is)
+
+pub looks_same : (f : Facts) (v w : Values) → AgreeOnPresent f v w → (l : Look) (c : Cursor) (answer : Reply) → LooksHere f v l c answer → LooksHere f w l c answer
+looks_same f v w same look.Keys c answer h = h
+looks_same f v w same look.Values c answer h = h
+looks_same f v w same look.Items c answer h = h
+looks_same f v w same look.Conflicts c answer h = here_moved (AreConflicts f v) (AreConflicts f w) reply.Conflicts (conflicts_same f v w same) c answer h
+looks_same f v w same look.Show c answer h =
+    here_moved (ShowsText f v) (ShowsText f w) reply.Show (λ p k text h. (h.0, shows_same f v w same p k h.0 h.1, h.2)) c answer h
+looks_same f v w same look.Sum c answer h = h
+
+-- a reading that is told by cases, or that memory is wanting, is one at the place where memory is at hand
+pub place_from : {X : Type 0} (reads : List Tagged → Key → X → Type 0) (c : Cursor) (r : Result X Refusal)
+    → MatchBool (is_head c.key) (r ≡ Err AtHead) (MatchResult r (reads c.path c.key) (λ e. e ≡ NoMemory)) → r ≢ Err NoMemory → ReadsPlace reads c r
+place_from {X} reads c r h memory = by (is_head c.key) refl r h memory
+  where
+    by : (b : Bool) → is_head c.key ≡ b → (r : Result X Refusal) → MatchBool b (r ≡ Err AtHead) (MatchResult r (reads c.path c.key) (λ e. e ≡ NoMemory))
+        → r ≢ Err NoMemory → ReadsPlace reads c r
+    by true e (Ok x) h memory = absurd (ok≢err (sym h))
+    by true e (Err cause) h memory = (e, let same = h in cc)
+    by false e (Ok x) h memory = (e, h)
+    by false e (Err cause) h memory = absurd (memory (ap Err h))

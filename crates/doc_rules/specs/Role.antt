@@ -1,5 +1,5 @@
 -- What the operation of an id did at a place.
-use Rattle.std.specs.Prelude.{List, [], ◌∷◌, Option, Some, None, option_map, if◌then◌else◌}
+use Rattle.std.specs.Prelude.{List, [], ◌∷◌, Bool, ◌&&◌, Option, Some, None, option_map, option_and_then, if◌then◌else◌}
 use Rattle.lamport_id.specs.declared.id.Id.{Id}
 use Rattle.json_scalar.specs.declared.scalar.Scalar.{Scalar}
 use Rattle.json_scalar.specs.declared.scalar.Val.{Val}
@@ -11,7 +11,8 @@ use Rattle.op_core.specs.declared.mutation.Mutation.TheVariants.{Assign, Insert,
 use Rattle.op_core.specs.Op.{Op}
 use Rattle.doc_words.specs.declared.role.Role.{Role}
 use Rattle.doc_words.specs.declared.role.Role.TheVariants as role
-use Rattle.crdt_rules.specs.Effect.{value_put}
+use Rattle.crdt_rules.specs.Same.{id_eq}
+use Rattle.crdt_rules.specs.Effect.{value_put, clears, marks}
 use Rattle.crdt_rules.specs.Facts.{Facts, ends_here}
 
 -- the value that the operation of this id put at this very place
@@ -51,3 +52,12 @@ value_in role.Counter entry = None
 -- each present id with its role
 abbrev pub roles_of : Facts → List Op → List Tagged → Key → Id → Option Role
 roles_of f log p k i = if f.present p k i then Some (role_at log p k i) else None
+
+-- the values that roles tell, with the entries of the registers
+abbrev pub values_in : Facts → (List Tagged → Key → Id → Option Role) → List Tagged → Key → Id → Option Val
+values_in f roles p k i = option_and_then (λ role. value_in role (f.register p k i)) (roles p k i)
+
+-- the roles after one more operation, which clears what deps tells
+abbrev pub step_roles : (List Tagged → Key → Id → Option Role) → Op → (Id → Bool) → List Tagged → Key → Id → Option Role
+step_roles roles op deps p k i =
+    if marks op p k && id_eq op.id i then Some (role_here op p k) else (if clears op p k && deps i then None else roles p k i)

@@ -11,24 +11,26 @@ ghost use Rattle.op_core.specs.declared.cursor.Cursor.{Cursor};
 ghost use Rattle.op_core.specs.declared.cursor.Key.{Key};
 ghost use Rattle.op_core.specs.declared.cursor.Tagged.{Tagged};
 ghost use Rattle.op_core.specs.declared.mutation.Mutation.{Mutation};
+ghost use Rattle.op_core.specs.Front.{covers};
 ghost use Rattle.op_core.specs.Op.{Op};
 ghost use Rattle.op_core.specs.Shape.{is_mutation, is_shaped};
 ghost use Rattle.doc_words.specs.declared.ask.Command.{Command};
+ghost use Rattle.doc_words.specs.declared.ask.Look.{Look};
 ghost use Rattle.doc_words.specs.declared.ask.Query.{Query};
 ghost use Rattle.doc_words.specs.declared.place.Step.{Step};
 ghost use Rattle.doc_words.specs.declared.reply.Reply.{Reply};
 ghost use Rattle.crdt_rules.specs.Dependencies.{is_ready, missing};
-ghost use Rattle.crdt_rules.specs.Facts.{Facts, facts};
+ghost use Rattle.crdt_rules.specs.Facts.{Facts, facts, step_facts};
 ghost use Rattle.crdt_rules.specs.Fits.{Fits};
 ghost use Rattle.crdt_rules.specs.Log.{IsGood, replay};
-ghost use Rattle.doc_rules.specs.Answers.{Reads};
+ghost use Rattle.doc_rules.specs.Answers.{LooksHere, Reads};
 ghost use Rattle.doc_rules.specs.Cause.{IsFirstMisfit, cause_of, room_cause};
 ghost use Rattle.doc_rules.specs.Document.{Document, Acts, GivesTo, IsSound, copied_to, count_in, count_of, logged_by, opens, total_of};
 ghost use Rattle.doc_rules.specs.Events.{Event, IsWellMade, cause_at};
 ghost use Rattle.doc_rules.specs.Reads.{AgreeOnPresent, AreConflicts, Values};
 ghost use Rattle.doc_rules.specs.Replica.{Replica, GoesOn, IsKept, facts_of, own_op};
 ghost use Rattle.doc_rules.specs.Resolve.{Resolves};
-ghost use Rattle.doc_rules.specs.Role.{role_at, role_here, value_at, value_in};
+ghost use Rattle.doc_rules.specs.Role.{role_at, role_here, roles_of, step_roles, value_at, value_in, values_in};
 ghost use Rattle.doc_rules.specs.Seats.{Seat, AreEndsOf, told_counts};
 ghost use Rattle.doc_rules.specs.Shown.{Shown, Shows};
 
@@ -49,12 +51,16 @@ pub fn causes_decide()
         → room_cause (own_op r c m) r.log ≡ Ok tt → Fits (own_op r c m) r.log }
 {}
 
-/// Roles after one more operation: its own is what it does at the place, and the others stay.
+/// Roles after one more operation: its own is what it does at the place, and the others stay; so each present id has its role
+/// after a step on the roles.
 pub fn roles_step()
     ensures own { (log : List Op) (op : Op) (p : List Tagged) (k : Key) → Fits op log
         → role_at (log ++ op ∷ []) p k op.id ≡ role_here op p k }
     ensures others { (log : List Op) (op : Op) (p : List Tagged) (k : Key) (i : Id) → op.id ≢ i
         → role_at (log ++ op ∷ []) p k i ≡ role_at log p k i }
+    ensures all { (log : List Op) (op : Op) (p : List Tagged) (k : Key) (i : Id) → IsGood log → Fits op log
+        → roles_of (step_facts (facts (replay log)) op (covers op.front)) (log ++ op ∷ []) p k i
+        ≡ step_roles (roles_of (facts (replay log)) log) op (covers op.front) p k i }
 {}
 
 /// Of a present id, its role and its register's entry tell the value that it put; and readings ask for the values of present
@@ -65,6 +71,10 @@ pub fn roles_tell()
         → AreConflicts f v p k xs → AreConflicts f w p k xs }
     ensures values { (log : List Op) (p : List Tagged) (k : Key) (i : Id) → IsGood log → (facts (replay log)).present p k i ≡ true
         → value_at log p k i ≡ value_in (role_at log p k i) ((facts (replay log)).register p k i) }
+    ensures told { (log : List Op) → IsGood log
+        → AgreeOnPresent (facts (replay log)) (values_in (facts (replay log)) (roles_of (facts (replay log)) log)) (value_at log) }
+    ensures looks { (f : Facts) (v w : Values) → AgreeOnPresent f v w → (look : Look) (c : Cursor) (answer : Reply)
+        → LooksHere f v look c answer → LooksHere f w look c answer }
 {}
 
 /// A list of operations is a good log, or has a first that doesn't fit those before it; not both.
