@@ -1,3 +1,4 @@
 pub mod Reading
 pub mod Written
 pub mod Told
+pub mod Loading

@@ -1,7 +1,9 @@
 //! The lines of a session: what a client asks, and what the server tells, as JSON.
 #![tactic(auto)]
 
+mod cursor;
 mod name;
+mod read;
 mod request;
 mod told;
 

@@ -1,0 +1,335 @@
+//! How requests are read from lines.
+ghost use Rattle.std.specs.Prelude.{◌≡◌, ok_or};
+ghost use Rattle.serde_json.specs.Read.{read};
+ghost use Rattle.serde_json.specs.View.{view, items_view};
+ghost use Rattle.json_scalar.specs.Refusal.{UnlessMemory, and_then};
+ghost use Rattle.json_scalar.specs.declared.refusal.Refusal.TheVariants.{BadRequest, BadValue, NotJson, NoMemory};
+ghost use Rattle.op_core.specs.Reading.{front_of};
+ghost use Rattle.line_proto.specs.Reading.{bare_request, plain_ask, look_of, look_from, deletion_from, delivery_from, forgetting_from, short_ask, naming_from, limit_of, limit_from, in_order, ops_from, assignment_from, insertion_from, amount_of, addition_from, change_from, long_ask, bare_from, plain_from, short_from, long_from, request_items, request_from, line_data, request_of};
+ghost use Rattle.line_proto.specs.Loading.{Loads};
+
+use crate::cursor::{read_expr, read_variable};
+use crate::name::Name;
+use crate::request::{Ask, Request};
+use doc_words::Look;
+use json_scalar::{Refusal, Val};
+use op_core::{Front, Mutation, read_front, read_id, read_wire};
+use serde_json::Value;
+use std::alloc::Global;
+use std::str;
+
+/// The most operations that one request asks for.
+const MAX_LIMIT: u64 = 64;
+
+impl Request {
+    ghost use Rattle.std.specs.Prelude.{Some, Ok, IsTrue};
+    ghost use Rattle.line_proto.specs.Written.{request_data, is_request};
+    ghost use Rattle.line_proto.specs.declared.request.Request.{Request};
+
+    /// The request that these bytes are, or the first cause against them.
+    pub fn read(alloc: Global, line: &[u8]) -> Result<Request, Refusal>
+        ensures complete { (r : Request) → IsTrue (is_request r) → line_data line.now ≡ Some (request_data r) → UnlessMemory result (Ok r) }
+        ensures answer { UnlessMemory result (request_of line.now) }
+    {
+        read_line(alloc, line)
+    }
+
+    /// The law that no two requests have the same written form.
+    pub fn one_form_each()
+        ensures { (r other : Request) → IsTrue (is_request r) → IsTrue (is_request other) → request_data r ≡ request_data other → r ≡ other }
+    {}
+}
+
+fn read_line(alloc: Global, line: &[u8]) -> Result<Request, Refusal>
+    ensures { UnlessMemory result (request_of line.now) }
+{
+    let value = read_json(alloc, line)?;
+    read_request(alloc, &value)
+}
+
+fn read_json(alloc: Global, line: &[u8]) -> Result<Value, Refusal>
+    ensures { Loads (line_data line.now) result }
+{
+    match str::from_utf8(line) {
+        Ok(text) => read_text(alloc, text),
+        Err(_) => Err(Refusal::NotJson),
+    }
+}
+
+fn read_text(alloc: Global, text: &str) -> Result<Value, Refusal>
+    ensures { Loads (read text.now) result }
+{
+    match Value::from_str(alloc, text) {
+        Ok(value) => Ok(value),
+        Err(error) => {
+            if error.is_memory() {
+                Err(Refusal::NoMemory)
+            } else {
+                Err(Refusal::NotJson)
+            }
+        }
+    }
+}
+
+fn read_request(alloc: Global, value: &Value) -> Result<Request, Refusal>
+    ensures { UnlessMemory result (request_from (view value.now)) }
+{
+    let items = value.as_array().ok_or(Refusal::BadRequest)?;
+    read_items(alloc, items.as_slice())
+}
+
+#[tactic(auto, using(crate::proofs::Lines::item_counts))]
+fn read_items(alloc: Global, items: &[Value]) -> Result<Request, Refusal>
+    ensures { UnlessMemory result (request_items (items_view items.now)) }
+{
+    match items {
+        [] => Err(Refusal::BadRequest),
+        [verb] => read_bare(verb),
+        [verb, document] => read_plain(alloc, verb, document),
+        [verb, document, a] => read_short(alloc, verb, document, a),
+        [verb, document, a, b] => read_long(alloc, verb, document, a, b),
+        [_, _, _, _, _, ..] => Err(Refusal::BadRequest),
+    }
+}
+
+fn read_bare(verb: &Value) -> Result<Request, Refusal>
+    ensures { result ≡ bare_from (view verb.now) }
+{
+    let verb = verb.as_str().ok_or(Refusal::BadRequest)?;
+    bare_request(verb).ok_or(Refusal::BadRequest)
+}
+
+fn bare_request(verb: &str) -> Option<Request>
+    ensures { result ≡ bare_request verb.now }
+{
+    if verb == "quit" {
+        Some(Request::Quit)
+    } else if verb == "version" {
+        Some(Request::Version)
+    } else {
+        None
+    }
+}
+
+fn read_plain(alloc: Global, verb: &Value, document: &Value) -> Result<Request, Refusal>
+    ensures { UnlessMemory result (plain_from (view verb.now) (view document.now)) }
+{
+    let verb = verb.as_str().ok_or(Refusal::BadRequest)?;
+    let document = document.as_str().ok_or(Refusal::BadRequest)?;
+    let ask = plain_ask(verb).ok_or(Refusal::BadRequest)?;
+    Ok(Request::Of(Name::new(alloc, document)?, ask))
+}
+
+fn plain_ask(verb: &str) -> Option<Ask>
+    ensures { result ≡ plain_ask verb.now }
+{
+    if verb == "open" {
+        Some(Ask::Open)
+    } else if verb == "front" {
+        Some(Ask::Front)
+    } else if verb == "held" {
+        Some(Ask::Held)
+    } else if verb == "account" {
+        Some(Ask::Account)
+    } else {
+        None
+    }
+}
+
+fn read_short(alloc: Global, verb: &Value, document: &Value, a: &Value) -> Result<Request, Refusal>
+    ensures { UnlessMemory result (short_from (view verb.now) (view document.now) (view a.now)) }
+{
+    let verb = verb.as_str().ok_or(Refusal::BadRequest)?;
+    let document = document.as_str().ok_or(Refusal::BadRequest)?;
+    let ask = short_ask(alloc, verb, a)?;
+    Ok(Request::Of(Name::new(alloc, document)?, ask))
+}
+
+fn short_ask(alloc: Global, verb: &str, a: &Value) -> Result<Ask, Refusal>
+    ensures { UnlessMemory result (short_ask verb.now (view a.now)) }
+{
+    if verb == "delete" {
+        read_deletion(alloc, a)
+    } else if verb == "deliver" {
+        read_delivery(alloc, a)
+    } else if verb == "forget" {
+        read_forgetting(a)
+    } else {
+        read_look(alloc, verb, a)
+    }
+}
+
+fn read_deletion(alloc: Global, cursor: &Value) -> Result<Ask, Refusal>
+    ensures { UnlessMemory result (deletion_from (view cursor.now)) }
+{
+    Ok(Ask::Change(read_expr(alloc, cursor)?, Mutation::Delete))
+}
+
+fn read_delivery(alloc: Global, op: &Value) -> Result<Ask, Refusal>
+    ensures { UnlessMemory result (delivery_from (view op.now)) }
+{
+    Ok(Ask::Deliver(read_wire(alloc, op)?))
+}
+
+fn read_forgetting(id: &Value) -> Result<Ask, Refusal>
+    ensures { result ≡ forgetting_from (view id.now) }
+{
+    Ok(Ask::Forget(read_id(id).ok_or(Refusal::BadRequest)?))
+}
+
+fn read_look(alloc: Global, verb: &str, cursor: &Value) -> Result<Ask, Refusal>
+    ensures { UnlessMemory result (look_from verb.now (view cursor.now)) }
+{
+    let look = look_of(verb).ok_or(Refusal::BadRequest)?;
+    Ok(Ask::Look(read_expr(alloc, cursor)?, look))
+}
+
+fn look_of(verb: &str) -> Option<Look>
+    ensures { result ≡ look_of verb.now }
+{
+    if verb == "keys" {
+        Some(Look::Keys)
+    } else if verb == "values" {
+        Some(Look::Values)
+    } else if verb == "items" {
+        Some(Look::Items)
+    } else if verb == "conflicts" {
+        Some(Look::Conflicts)
+    } else if verb == "show" {
+        Some(Look::Show)
+    } else if verb == "sum" {
+        Some(Look::Sum)
+    } else {
+        None
+    }
+}
+
+fn read_long(
+    alloc: Global,
+    verb: &Value,
+    document: &Value,
+    a: &Value,
+    b: &Value,
+) -> Result<Request, Refusal>
+    ensures { UnlessMemory result (long_from (view verb.now) (view document.now) (view a.now) (view b.now)) }
+{
+    let verb = verb.as_str().ok_or(Refusal::BadRequest)?;
+    let document = document.as_str().ok_or(Refusal::BadRequest)?;
+    let ask = long_ask(alloc, verb, a, b)?;
+    Ok(Request::Of(Name::new(alloc, document)?, ask))
+}
+
+fn long_ask(alloc: Global, verb: &str, a: &Value, b: &Value) -> Result<Ask, Refusal>
+    ensures { UnlessMemory result (long_ask verb.now (view a.now) (view b.now)) }
+{
+    if verb == "let" {
+        read_naming(alloc, a, b)
+    } else if verb == "ops" {
+        read_ops(alloc, a, b)
+    } else {
+        read_change(alloc, verb, a, b)
+    }
+}
+
+fn read_naming(alloc: Global, name: &Value, cursor: &Value) -> Result<Ask, Refusal>
+    ensures { UnlessMemory result (naming_from (view name.now) (view cursor.now)) }
+{
+    let name = read_variable(alloc, name)?;
+    Ok(Ask::Let(name, read_expr(alloc, cursor)?))
+}
+
+fn read_ops(alloc: Global, front: &Value, limit: &Value) -> Result<Ask, Refusal>
+    ensures { UnlessMemory result (ops_from (view front.now) (view limit.now)) }
+{
+    let limit = read_limit(limit).ok_or(Refusal::BadRequest)?;
+    Ok(Ask::Operations(read_ascending(alloc, front)?, limit))
+}
+
+fn read_limit(limit: &Value) -> Option<u64>
+    ensures { result ≡ limit_from (view limit.now) }
+{
+    limit_of(limit.as_u64()?)
+}
+
+fn limit_of(limit: u64) -> Option<u64>
+    ensures { result ≡ limit_of limit }
+{
+    if 1 <= limit && limit <= MAX_LIMIT {
+        Some(limit)
+    } else {
+        None
+    }
+}
+
+fn read_ascending(alloc: Global, value: &Value) -> Result<Front, Refusal>
+    ensures { UnlessMemory result (and_then (ok_or (front_of (view value.now)) BadRequest) in_order) }
+{
+    in_order(read_any_front(alloc, value)?)
+}
+
+fn in_order(front: Front) -> Result<Front, Refusal>
+    ensures { result ≡ in_order front }
+{
+    if front.is_ascending() {
+        Ok(front)
+    } else {
+        Err(Refusal::BadFront)
+    }
+}
+
+fn read_any_front(alloc: Global, value: &Value) -> Result<Front, Refusal>
+    ensures { UnlessMemory result (ok_or (front_of (view value.now)) BadRequest) }
+{
+    match read_front(alloc, value) {
+        Ok(front) => Ok(front),
+        Err(Refusal::NoMemory) => Err(Refusal::NoMemory),
+        Err(_) => Err(Refusal::BadRequest),
+    }
+}
+
+fn read_change(alloc: Global, verb: &str, cursor: &Value, value: &Value) -> Result<Ask, Refusal>
+    ensures { UnlessMemory result (change_from verb.now (view cursor.now) (view value.now)) }
+{
+    if verb == "assign" {
+        read_assignment(alloc, cursor, value)
+    } else if verb == "insert" {
+        read_insertion(alloc, cursor, value)
+    } else if verb == "add" {
+        read_addition(alloc, cursor, value)
+    } else {
+        Err(Refusal::BadRequest)
+    }
+}
+
+fn read_assignment(alloc: Global, cursor: &Value, value: &Value) -> Result<Ask, Refusal>
+    ensures { UnlessMemory result (assignment_from (view cursor.now) (view value.now)) }
+{
+    let cursor = read_expr(alloc, cursor)?;
+    Ok(Ask::Change(cursor, Mutation::Assign(Val::from_json(alloc, value)?)))
+}
+
+fn read_insertion(alloc: Global, cursor: &Value, value: &Value) -> Result<Ask, Refusal>
+    ensures { UnlessMemory result (insertion_from (view cursor.now) (view value.now)) }
+{
+    let cursor = read_expr(alloc, cursor)?;
+    Ok(Ask::Change(cursor, Mutation::Insert(Val::from_json(alloc, value)?)))
+}
+
+fn read_addition(alloc: Global, cursor: &Value, value: &Value) -> Result<Ask, Refusal>
+    ensures { UnlessMemory result (addition_from (view cursor.now) (view value.now)) }
+{
+    let cursor = read_expr(alloc, cursor)?;
+    let amount = amount_of(value).ok_or(Refusal::BadValue)?;
+    Ok(Ask::Change(cursor, Mutation::Add(amount)))
+}
+
+fn amount_of(value: &Value) -> Option<i64>
+    ensures { result ≡ amount_of (view value.now) }
+{
+    match value {
+        Value::Number(number) => number.as_i64(),
+        Value::Null | Value::Bool(_) | Value::String(_) | Value::Array(_) | Value::Object(_) => {
+            None
+        }
+    }
+}
