@@ -60,6 +60,10 @@ pub record IsPrepared (tree : List Node × Option Scalar) (op : Op) : Type 0 whe
 abbrev pub KnowsReference : Facts → Op → Type 0
 KnowsReference f op = is_insertion op.mutation ≡ true → ForSome (reference op.cursor.key) (Contains (f.order (path_of op)))
 
+-- the id of an insertion is new in its list
+abbrev pub IsNewElement : Facts → Op → Type 0
+IsNewElement f op = is_insertion op.mutation ≡ true → ¬ (Contains (f.order (path_of op)) op.id)
+
 -- an operation ends at a place, and an insertion in a list
 pub record HasPlace (op : Op) : Type 0 where
   pub place : IsSome (trail (path_of op) (end_key op))

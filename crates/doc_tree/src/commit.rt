@@ -15,7 +15,7 @@ ghost use Rattle.crdt_rules.specs.Facts.{step_facts};
 ghost use Rattle.doc_words.specs.declared.role.Role.TheVariants.{Counter};
 ghost use Rattle.doc_tree.specs.Nodes.{AreTree, node_of, node_at, facts_of, role_at, clear_facts_at};
 ghost use Rattle.doc_tree.specs.Writes.{with_scalar, with_number, add_facts, add_role, with_ids, put_facts, put_role, order_facts, IsReadyFor};
-ghost use Rattle.doc_tree.specs.Prepared.{AreReady, IsReadyList, KnowsReference, role_of, step_role};
+ghost use Rattle.doc_tree.specs.Prepared.{AreReady, IsNewElement, IsReadyList, KnowsReference, role_of, step_role};
 
 use crate::clear::clear_under;
 use crate::find::{keys, known_list, known_node};
@@ -32,6 +32,7 @@ pub fn apply(nodes: &mut [Node], aside: Option<Scalar>, op: &Operation)
     requires ready { AreReady nodes.old op.now }
     requires scalar { aside ≡ scalar_put op.now.mutation }
     requires reference { KnowsReference (facts_of nodes.old) op.now }
+    requires new { IsNewElement (facts_of nodes.old) op.now }
     ensures facts { facts_of nodes.new ≡ step_facts (facts_of nodes.old) op.now (covers op.now.front) }
     ensures roles { (q : List Tagged) (j : Key) (i : Id) → role_at nodes.new q j i ≡ step_role (role_at nodes.old) op.now (covers op.now.front) q j i }
     ensures tree { AreTree nodes.new }
@@ -115,6 +116,7 @@ pub fn insert_at(
     requires tree { AreTree nodes.old }
     requires list { IsReadyList nodes.old path.now }
     requires reference { ForSome (reference after.now) (Contains ((facts_of nodes.old).order path.now)) }
+    requires new { ¬ (Contains ((facts_of nodes.old).order path.now) id.now) }
     requires ready { IsReadyFor nodes.old path.now (Element id.now) }
     ensures facts { facts_of nodes.new ≡ put_facts (order_facts (facts_of nodes.old) path.now (λ ids. insert_after id_cmp ids (reference after.now) id.now)) path.now (Element id.now) (covers front.now) id.now scalar }
     ensures roles { (q : List Tagged) (j : Key) (i : Id) → role_at nodes.new q j i ≡ put_role (role_at nodes.old) path.now (Element id.now) (covers front.now) id.now role q j i }
@@ -188,6 +190,7 @@ pub fn link(nodes: &mut [Node], at: NodeNumber, after: Option<Id>, id: &Id)
     requires known { at.0 < length nodes.old }
     requires room { length (node_of nodes.old at).order.0 < (node_of nodes.old at).order.1 }
     requires reference { ForSome after (Contains (node_of nodes.old at).order.0) }
+    requires new { ¬ (Contains (node_of nodes.old at).order.0 id.now) }
     ensures { nodes.new ≡ slice_set nodes.old at.0 (with_ids (λ ids. insert_after id_cmp ids after id.now) (node_of nodes.old at)) }
 {
     let node = &mut nodes[at.0];

@@ -1,0 +1,84 @@
+-- The children of a place, and the places below it.
+use Rattle.std.proofs.Common.{◌≡◌, ℕ, List, [], ◌∷◌, ◌++◌, Bool, true, false, Option, Some, None, if◌then◌else◌, refl, sym, ap, ◌∙◌, arith}
+use Rattle.std.specs.Prelude.{option_and_then, is_some, Contains}
+use Rattle.std.specs.Option.{option_map}
+use Rattle.lamport_id.specs.declared.id.Id.{Id}
+use Rattle.op_core.specs.declared.cursor.Key.{Key}
+use Rattle.op_core.specs.declared.cursor.Key.TheVariants.{Doc, Text}
+use Rattle.op_core.specs.declared.cursor.Tagged.{Tagged}
+use Rattle.op_core.specs.declared.cursor.Tagged.TheVariants.{Map as MapAt}
+use Rattle.op_core.specs.Shape.{key_of, may_follow}
+use Rattle.crdt_rules.specs.Same.{key_eq}
+use Rattle.crdt_rules.proofs.SameLaws.{key_decides}
+use Rattle.list_laws.proofs.Members.{Contains-there}
+use Rattle.doc_tree.specs.declared.node.NodeNumber.{NodeNumber}
+use Rattle.doc_tree.specs.declared.node.Node.{Node}
+use Rattle.doc_tree.specs.Children.{number_at}
+use Rattle.doc_tree.specs.Walk.{trail, trail_below, walk, root}
+use Rattle.doc_tree.specs.Nodes.{child_of, node_at, role_in, role_at, facts_of}
+use Rattle.doc_tree.proofs.Walks.{parts_of, walk_split}
+use Rattle.doc_tree.proofs.Places.{node_by}
+
+-- the way into the map at a place goes by the place
+trail_below-into : (t : Tagged) (p : List Tagged) (k : Key) (x : List ℕ)
+    → trail_below t (p ++ MapAt k ∷ []) (Text x) ≡ option_map (λ keys. keys ++ Text x ∷ []) (trail_below t p k)
+trail_below-into t [] k x = go (may_follow t k)
+  where
+    go : (b : Bool) → ◌≡◌ {A = Option (List Key)} (if b then Some (k ∷ Text x ∷ []) else None) (option_map (λ keys. keys ++ Text x ∷ []) (if◌then◌else◌ {A = Option (List Key)} b (Some (k ∷ [])) None))
+    go true = refl
+    go false = refl
+trail_below-into t (s ∷ p) k x = go (may_follow t (key_of s)) (trail_below s p k) (trail_below s (p ++ MapAt k ∷ []) (Text x)) (trail_below-into s p k x)
+  where
+    go : (b : Bool) (o q : Option (List Key)) → q ≡ option_map (λ keys. keys ++ Text x ∷ []) o
+        → ◌≡◌ {A = Option (List Key)} (if b then option_map (λ keys. key_of s ∷ keys) q else None) (option_map (λ keys. keys ++ Text x ∷ []) (if◌then◌else◌ {A = Option (List Key)} b (option_map (λ keys. key_of s ∷ keys) o) None))
+    go false o q e = refl
+    go true None q e = ap (option_map (λ keys. key_of s ∷ keys)) e
+    go true (Some l) q e = ap (option_map (λ keys. key_of s ∷ keys)) e
+
+trail-into : (p : List Tagged) (k : Key) (x : List ℕ) → trail (p ++ MapAt k ∷ []) (Text x) ≡ option_map (λ keys. keys ++ Text x ∷ []) (trail p k)
+trail-into [] k x = go (key_eq k Doc)
+  where
+    go : (b : Bool) → ◌≡◌ {A = Option (List Key)} (if b then Some (Text x ∷ []) else None) (option_map (λ keys. keys ++ Text x ∷ []) (if◌then◌else◌ {A = Option (List Key)} b (Some []) None))
+    go true = refl
+    go false = refl
+trail-into (t ∷ p) k x = go (key_eq (key_of t) Doc) (trail_below-into t p k x)
+  where
+    go : (b : Bool) → trail_below t (p ++ MapAt k ∷ []) (Text x) ≡ option_map (λ keys. keys ++ Text x ∷ []) (trail_below t p k)
+        → ◌≡◌ {A = Option (List Key)} (if b then trail_below t (p ++ MapAt k ∷ []) (Text x) else None) (option_map (λ keys. keys ++ Text x ∷ []) (if◌then◌else◌ {A = Option (List Key)} b (trail_below t p k) None))
+    go true e = e
+    go false e = refl
+
+-- what is found by a key is an entry
+pub entry_in : (entries : List (Key × NodeNumber)) (k : Key) (c : NodeNumber) → number_at entries k ≡ Some c → Contains entries (k, c)
+entry_in [] k c e = cc
+entry_in (x ∷ entries) k c e = go (key_eq x.0 k) refl e (entry_in entries k c)
+  where
+    go : (b : Bool) → key_eq x.0 k ≡ b → ◌≡◌ {A = Option NodeNumber} (if b then Some x.1 else number_at entries k) (Some c)
+        → (number_at entries k ≡ Some c → Contains entries (k, c)) → Contains (x ∷ entries) (k, c)
+    go true is f ih = let same : x.1 ≡ c = cc in (0, omega arith, λ i. (key_decides.same x.0 k is i, same i))
+    go false is f ih = Contains-there x entries (ih f)
+
+module _ (nodes : List Node) (p : List Tagged) (k : Key) (x : List ℕ) where
+  -- a key of the map at a place that has a node is a child of the place's node
+  child_at : (c : NodeNumber) → node_at nodes (p ++ MapAt k ∷ []) (Text x) ≡ Some c
+      → (n : NodeNumber) × (node_at nodes p k ≡ Some n) × (child_of nodes n (Text x) ≡ Some c)
+  child_at c e = go (trail p k) refl (sym (ap (option_and_then (walk (child_of nodes) root)) (trail-into p k x)) ∙ e)
+    where
+      go : (o : Option (List Key)) → trail p k ≡ o → option_and_then (walk (child_of nodes) root) (option_map (λ keys. keys ++ Text x ∷ []) o) ≡ Some c
+          → (n : NodeNumber) × (node_at nodes p k ≡ Some n) × (child_of nodes n (Text x) ≡ Some c)
+      go None is f = let none : ◌≡◌ {A = Option NodeNumber} None (Some c) = f in absurd (cc)
+      go (Some keys) is f =
+          let parts = walk_split (child_of nodes) root c keys (Text x ∷ []) f in
+          let down = parts_of (child_of nodes) (λ m. walk (child_of nodes) m []) (child_of nodes parts.0 (Text x)) c parts.2 in
+          (parts.0, node_by nodes p k keys parts.0 is parts.1, down.1 ∙ down.2)
+
+  -- so is one that is present
+  pub present_child : (i : Id) → (facts_of nodes).present (p ++ MapAt k ∷ []) (Text x) i ≡ true
+      → (n : NodeNumber) × (c : NodeNumber) × (node_at nodes p k ≡ Some n) × (child_of nodes n (Text x) ≡ Some c)
+  unfolding facts_of role_at
+  present_child i h = go (node_at nodes (p ++ MapAt k ∷ []) (Text x)) refl h
+    where
+      go : (o : Option NodeNumber) → node_at nodes (p ++ MapAt k ∷ []) (Text x) ≡ o → is_some (role_in nodes o i) ≡ true
+          → (n : NodeNumber) × (c : NodeNumber) × (node_at nodes p k ≡ Some n) × (child_of nodes n (Text x) ≡ Some c)
+      go None is f = absurd (cc)
+      go (Some c) is f = let at = child_at c is in (at.0, c, at.1, at.2)

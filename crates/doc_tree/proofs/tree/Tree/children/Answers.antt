@@ -1,0 +1,49 @@
+use Rattle.std.proofs.Common.{◌≡◌, ◌<◌, ◌∙◌, sym, ap, subst, Option, Some, None, ◌++◌, ◌∷◌, [], true}
+use Rattle.std.specs.Prelude.{Contains}
+use Rattle.std.proofs.lemmas.List.{get_or_default}
+use Rattle.op_core.specs.declared.cursor.Key.TheVariants.{Text}
+use Rattle.op_core.specs.declared.cursor.Tagged.TheVariants.{Map}
+use Rattle.doc_tree.specs.declared.node.NodeNumber.{NodeNumber}
+use Rattle.doc_tree.specs.Nodes.{blank, node_of, node_at, child_of, tree_facts}
+use Rattle.doc_tree.proofs.Places.{node_within, same_node}
+use Rattle.doc_tree.proofs.Below.{present_child, entry_in}
+use Rattle.doc_tree.proofs.tree.Tree.children.Goals as goal
+
+pub index-requires : goal.index-requires
+index-requires c =
+    let nodes = c.self.inside.nodes.items in
+    let found : node_at nodes c.args.path.now c.args.key.now ≡ Some c.in-Some.at =
+    ap (λ p. node_at nodes p c.args.key.now) (sym c.keys.ensures)
+    ∙ ap (λ l. node_at l c.keys.result.now c.args.key.now) (sym c.as_slice.ensures.value) ∙ sym c.find.ensures ∙ c.in-Some.is in
+    subst (λ n. c.in-Some.at.0 < n) (sym c.self.inside.nodes.ok.0) (node_within nodes c.self.invariant c.args.path.now c.args.key.now c.in-Some.at found)
+
+pub returns-in-None-clause-map : goal.returns-in-None-clause-map
+returns-in-None-clause-map c = λ text i there.
+    let nodes = c.self.inside.nodes.items in
+    let p = c.args.path.now in
+    let k = c.args.key.now in
+    let absent : node_at nodes p k ≡ None =
+    ap (λ p. node_at nodes p c.args.key.now) (sym c.keys.ensures)
+    ∙ ap (λ l. node_at l c.keys.result.now c.args.key.now) (sym c.as_slice.ensures.value) ∙ sym c.find.ensures ∙ c.in-None.is in
+    let child = present_child nodes p k text i (subst (λ t. (tree_facts t).present (p ++ Map k ∷ []) (Text text) i ≡ true) (sym c.self.view_is) there) in
+    let none : ◌≡◌ {A = Option NodeNumber} None (Some child.0) = sym absent ∙ child.2 in
+    absurd (cc)
+
+pub returns-in-Some-clause-map : goal.returns-in-Some-clause-map
+returns-in-Some-clause-map c = λ text i there.
+    let nodes = c.self.inside.nodes.items in
+    let p = c.args.path.now in
+    let k = c.args.key.now in
+    let found : node_at nodes p k ≡ Some c.in-Some.at =
+    ap (λ p. node_at nodes p c.args.key.now) (sym c.keys.ensures)
+    ∙ ap (λ l. node_at l c.keys.result.now c.args.key.now) (sym c.as_slice.ensures.value) ∙ sym c.find.ensures ∙ c.in-Some.is in
+    let read : c.index.result.now ≡ node_of nodes c.in-Some.at =
+    c.index.ensures
+    ∙ get_or_default nodes c.in-Some.at.0 c.index.result.now blank (node_within nodes c.self.invariant p k c.in-Some.at found) in
+    let child = present_child nodes p k text i (subst (λ t. (tree_facts t).present (p ++ Map k ∷ []) (Text text) i ≡ true) (sym c.self.view_is) there) in
+    let same = same_node nodes (node_at nodes p k) child.0 c.in-Some.at child.2 found in
+    let at : child_of nodes c.in-Some.at (Text text) ≡ Some child.1 = subst (λ n. child_of nodes n (Text text) ≡ Some child.1) same child.3 in (
+      child.1,
+      subst (λ l. Contains l (Text text, child.1)) (sym (c.entries.ensures.value ∙ ap (λ z. z.children) read))
+          (entry_in (node_of nodes c.in-Some.at).children (Text text) child.1 at),
+    )

@@ -1,0 +1,133 @@
+-- What an insertion makes of linked slots and their index.
+use Rattle.std.proofs.Common.{◌≡◌, ◌<◌, ◌≤◌, ◌+◌, ℕ, zero, suc, List, [], ◌∷◌, ◌++◌, length, length-append, get_or, Bool, true, false, if◌then◌else◌, Option, Some, None, Contains, refl, sym, ap, ◌∙◌, subst, arith}
+use Rattle.std.specs.Option.{ForSome}
+use Rattle.lamport_id.specs.declared.id.Id.{Id}
+use Rattle.crdt_rules.specs.Same.{id_eq}
+use Rattle.lamport_id.specs.Order.{id_cmp}
+use Rattle.list_laws.specs.Order.{insert_after}
+use Rattle.crdt_rules.proofs.SameLaws.{id_decides, eq_from}
+use Rattle.presence_set.specs.ById.{get, put, IsAscending}
+use Rattle.presence_set.proofs.ByIdLaws.{get-put}
+use Rattle.presence_set.proofs.Ascending.{put_ascending}
+use Rattle.list_order.specs.declared.slots.Slot.{Slot}
+use Rattle.list_order.specs.declared.slots.SlotNumber.{SlotNumber}
+use Rattle.list_order.specs.Slots.{slot_at, behind, IsPath, path_from, ids_along, number_along, number_for, passed, linked, linked_first, IsOrder, IsWalk}
+use Rattle.list_order.proofs.Paths.{path_from-path, walk_from_path, walk-None, path-append}
+use Rattle.list_order.proofs.Placing.{IsCut, IsReference, found, insertion_cuts}
+use Rattle.list_order.proofs.Linking.{IsInserted, inserted, fresh_of, ids_linked, number_linked}
+
+module _ (slots : List Slot) where
+  or_later : (id : Id) (here : Bool) (n : SlotNumber) (path : List SlotNumber) → (p : SlotNumber) × (number_along slots path id ≡ Some p)
+      → (p : SlotNumber) × ((if here then Some n else number_along slots path id) ≡ Some p)
+  or_later id true n path rest = (n, refl)
+  or_later id false n path rest = rest
+
+  -- an id of the list has a slot
+  pub number_from_contains : (path : List SlotNumber) (id : Id) → Contains (ids_along slots path) id → (p : SlotNumber) × (number_along slots path id ≡ Some p)
+  number_from_contains path id c = at path c.0 c.1 c.2
+    where
+      at : (path : List SlotNumber) (k : ℕ) → k < length (ids_along slots path) → get_or (ids_along slots path) k id ≡ id → (p : SlotNumber) × (number_along slots path id ≡ Some p)
+      at [] k within is = absurd (omega arith)
+      at (n ∷ path) zero within is = let here : id_eq (slot_at slots n).id id ≡ true = eq_from id_decides (slot_at slots n).id id is in (n, rw here refl)
+      at (n ∷ path) (suc k) within is = or_later id (id_eq (slot_at slots n).id id) n path (at path k (omega arith) is)
+
+  -- an id that has a slot is in the list
+  pub contains_from_number : (path : List SlotNumber) (id : Id) (p : SlotNumber) → number_along slots path id ≡ Some p → Contains (ids_along slots path) id
+  contains_from_number [] id p h = absurd (cc)
+  contains_from_number (n ∷ path) id p h = by (id_eq (slot_at slots n).id id) refl h (λ e. contains_from_number path id p e)
+    where
+      by : (here : Bool) → id_eq (slot_at slots n).id id ≡ here → ◌≡◌ {A = Option SlotNumber} (if here then Some n else number_along slots path id) (Some p)
+          → (number_along slots path id ≡ Some p → Contains (ids_along slots path) id) → Contains (ids_along slots (n ∷ path)) id
+      by true is e ih = (0, omega arith, id_decides.same (slot_at slots n).id id is)
+      by false is e ih = let c = ih e in (suc c.0, omega (arith, c.1), c.2)
+
+  pub number_from_absent : (path : List SlotNumber) (id : Id) → ¬ (Contains (ids_along slots path) id) → number_along slots path id ≡ None
+  number_from_absent path id absent = go (number_along slots path id) refl
+    where
+      go : (o : Option SlotNumber) → number_along slots path id ≡ o → number_along slots path id ≡ None
+      go None e = e
+      go (Some p) e = absurd (absent (contains_from_number path id p e))
+
+  pub length-ids_along : (path : List SlotNumber) → length (ids_along slots path) ≡ length path
+  length-ids_along [] = refl
+  length-ids_along (n ∷ path) = ap suc (length-ids_along path)
+
+module _ {slots : List Slot} {first : Option SlotNumber} {index : List (Id × SlotNumber)} (o : IsOrder slots first index) where
+  pub first_walk : IsWalk slots first
+  first_walk = record { path = o.path }
+
+  -- as many ids as slots
+  pub length-ids : length (ids_along slots (path_from slots first)) ≡ length slots
+  length-ids = length-ids_along slots (path_from slots first) ∙ o.every
+
+  -- a slot that the index gives is one
+  pub number_within : (id : Id) (p : SlotNumber) → get index id ≡ Some p → (p.0 < length slots) × IsWalk slots (slot_at slots p).next
+  number_within id p e =
+      let f = found slots (path_from slots first) id p (sym (o.exact id) ∙ e) in
+      let on = path-append slots f.front p f.rest first (subst (λ l. IsPath slots first l) f.parts o.path) in
+      let short : length f.rest ≤ length slots = omega (arith, o.every, ap length f.parts, length-append f.front (p ∷ f.rest)) in
+      (on.0, walk_from_path slots (slot_at slots p).next f.rest on.1 short)
+
+  -- the slot that the index gives for a reference is the reference's
+  pub is_reference : (after : Option Id) → ForSome after (Contains (ids_along slots (path_from slots first)))
+      → IsReference slots (path_from slots first) after (number_for index after)
+  is_reference None known = refl
+  is_reference (Some id) known =
+      let there = number_from_contains slots (path_from slots first) id (known id refl) in
+      (there.0, o.exact id ∙ there.1, there.1)
+
+  pub reference_within : (after : Option Id) → ForSome (number_for index after) (λ p. p.0 < length slots)
+  reference_within None = λ p e. absurd (cc)
+  reference_within (Some id) = λ p e. (number_within id p e).0
+
+  pub reference_walk : (after : Option Id) (reference : Option SlotNumber) → number_for index after ≡ reference → IsWalk slots (behind slots first reference)
+  reference_walk None reference e = subst (λ r. IsWalk slots (behind slots first r)) e first_walk
+  reference_walk (Some id) None e = first_walk
+  reference_walk (Some id) (Some p) e = (number_within id p e).1
+
+  module _ (after : Option Id) (known : ForSome after (Contains (ids_along slots (path_from slots first)))) (id : Id)
+      (new : number_along slots (path_from slots first) id ≡ None) where
+    abbrev pub prev : Option SlotNumber
+    prev = passed slots id (number_for index after) (path_from slots (behind slots first (number_for index after)))
+
+    cut : IsCut slots (path_from slots first) None prev (insert_after id_cmp (ids_along slots (path_from slots first)) after id) id
+    cut = insertion_cuts slots first (path_from slots first) o.path (omega (arith, o.every)) after (number_for index after) id (is_reference after known)
+
+    made : IsInserted slots first id cut.front cut.rest prev
+    made = inserted slots first id cut.front cut.rest prev cut.ends (subst (λ l. IsPath slots first l) cut.parts o.path)
+
+    new_path : path_from (linked slots first prev id) (linked_first slots first prev) ≡ cut.front ++ fresh_of slots ∷ cut.rest
+    new_path =
+        path_from-path (linked slots first prev id) (linked_first slots first prev) (cut.front ++ fresh_of slots ∷ cut.rest) made.path
+        (omega (arith, o.every, ap length cut.parts, length-append cut.front cut.rest, length-append cut.front (fresh_of slots ∷ cut.rest), made.slots_are.longer))
+
+    pub ids_inserted : ids_along (linked slots first prev id) (path_from (linked slots first prev id) (linked_first slots first prev))
+        ≡ insert_after id_cmp (ids_along slots (path_from slots first)) after id
+    ids_inserted =
+        ap (ids_along (linked slots first prev id)) new_path
+        ∙ ids_linked made.slots_are first cut.front cut.rest (subst (λ l. IsPath slots first l) cut.parts o.path)
+        ∙ sym cut.placed
+
+    pub order_inserted : (entries : List (Id × SlotNumber)) → entries ≡ put index id (fresh_of slots) → length entries ≡ length index + 1
+        → IsOrder (linked slots first prev id) (linked_first slots first prev) entries
+    order_inserted entries are longer = record {
+      path = subst (λ l. IsPath (linked slots first prev id) (linked_first slots first prev) l) (sym new_path) made.path;
+      every = omega (arith, ap length new_path, o.every, ap length cut.parts, length-append cut.front cut.rest, length-append cut.front (fresh_of slots ∷ cut.rest), made.slots_are.longer);
+      ascending = subst IsAscending (sym are) (put_ascending index id (fresh_of slots) o.ascending);
+      exact = λ i.
+          ap (λ l. get l i) are ∙ get-put index id (fresh_of slots) i
+          ∙ ap (λ n. if id_eq id i then Some (fresh_of slots) else n) (o.exact i ∙ ap (λ l. number_along slots l i) cut.parts)
+          ∙ sym (number_linked made.slots_are first cut.front cut.rest (subst (λ l. IsPath slots first l) cut.parts o.path) (subst (λ l. number_along slots l id ≡ None) cut.parts new) i)
+          ∙ sym (ap (λ l. number_along (linked slots first prev id) l i) new_path);
+      indexed = omega (arith, longer, o.indexed, made.slots_are.longer);
+    }
+
+-- no slots
+pub none_ordered : IsOrder [] None []
+none_ordered = record {
+  path = (walk_from_path [] None [] refl (omega arith)).path;
+  every = ap length (walk-None []);
+  ascending = tt;
+  exact = λ id. sym (ap (λ l. number_along [] l id) (walk-None []));
+  indexed = refl;
+}

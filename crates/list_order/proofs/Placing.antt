@@ -1,0 +1,141 @@
+-- Where an insertion comes to stand along the links.
+use Rattle.std.proofs.Common.{◌≡◌, ◌≤◌, List, [], ◌∷◌, ◌++◌, append_assoc, length, length-append, Bool, true, false, ◌||◌, if◌then◌else◌, Option, Some, None, refl, sym, ap, ◌∙◌, subst, arith}
+use Rattle.std.specs.Prelude.{is_some}
+use Rattle.std.specs.List.{list_any}
+use Rattle.std.specs.Ordering.{is_lt}
+use Rattle.lamport_id.specs.declared.id.Id.{Id}
+use Rattle.crdt_rules.specs.Same.{id_eq}
+use Rattle.lamport_id.specs.Order.{id_cmp}
+use Rattle.list_laws.specs.Order.{place, place_behind, insert_after}
+use Rattle.presence_set.proofs.Ascending.{is_eq-id_cmp}
+use Rattle.list_order.specs.declared.slots.Slot.{Slot}
+use Rattle.list_order.specs.declared.slots.SlotNumber.{SlotNumber}
+use Rattle.list_order.specs.Slots.{slot_at, behind, IsPath, path_from, ids_along, number_along, passed}
+use Rattle.list_order.proofs.Paths.{path_from-path, path-append}
+
+-- the last of these, or prev
+abbrev pub last_of : Option SlotNumber → List SlotNumber → Option SlotNumber
+last_of prev [] = prev
+last_of prev (n ∷ path) = last_of (Some n) path
+
+last_of-append : (prev : Option SlotNumber) (front : List SlotNumber) (n : SlotNumber) (more : List SlotNumber)
+    → last_of prev (front ++ n ∷ more) ≡ last_of (Some n) more
+last_of-append prev [] n more = refl
+last_of-append prev (m ∷ front) n more = last_of-append (Some m) front n more
+
+-- a list that is not empty has a last element
+pub ends : (prev : Option SlotNumber) (n : SlotNumber) (path : List SlotNumber)
+    → (front : List SlotNumber) × (p : SlotNumber) × (n ∷ path ≡ front ++ p ∷ []) × (last_of prev (n ∷ path) ≡ Some p)
+ends prev n [] = ([], n, refl, refl)
+ends prev n (m ∷ path) =
+    let rest = ends (Some n) m path in
+    (n ∷ rest.0, rest.1, ap (λ l. n ∷ l) rest.2, rest.3)
+
+module _ (slots : List Slot) where
+  ids-append : (xs ys : List SlotNumber) → ids_along slots (xs ++ ys) ≡ ids_along slots xs ++ ids_along slots ys
+  ids-append [] ys = refl
+  ids-append (x ∷ xs) ys = ap (λ l. (slot_at slots x).id ∷ l) (ids-append xs ys)
+
+  -- the scan cuts the path where `place` puts the id
+  pub record IsCut (path : List SlotNumber) (prev last : Option SlotNumber) (ids : List Id) (id : Id) : Type 0 where
+    pub front : List SlotNumber
+    pub rest : List SlotNumber
+    pub parts : path ≡ front ++ rest
+    pub ends : last_of prev front ≡ last
+    pub placed : ids ≡ ids_along slots front ++ id ∷ ids_along slots rest
+
+  passed-place : (path : List SlotNumber) (prev : Option SlotNumber) (id : Id)
+      → IsCut path prev (passed slots id prev path) (place id_cmp (ids_along slots path) id) id
+  passed-place [] prev id = record { front = []; rest = []; parts = refl; ends = refl; placed = refl }
+  passed-place (n ∷ path) prev id = by (is_lt (id_cmp (slot_at slots n).id id)) (passed-place path (Some n) id)
+    where
+      by : (less : Bool) → IsCut path (Some n) (passed slots id (Some n) path) (place id_cmp (ids_along slots path) id) id
+          → IsCut (n ∷ path) prev (if less then prev else passed slots id (Some n) path)
+          (if less then id ∷ ids_along slots (n ∷ path) else (slot_at slots n).id ∷ place id_cmp (ids_along slots path) id) id
+      by true cut = record { front = []; rest = n ∷ path; parts = refl; ends = refl; placed = refl }
+      by false cut = record {
+        front = n ∷ cut.front;
+        rest = cut.rest;
+        parts = ap (λ l. n ∷ l) cut.parts;
+        ends = cut.ends;
+        placed = ap (λ l. (slot_at slots n).id ∷ l) cut.placed;
+      }
+
+  -- the slot of an id stands on the path, and `place_behind` places behind it
+  pub record IsFound (path : List SlotNumber) (id : Id) (p : SlotNumber) : Type 0 where
+    pub front : List SlotNumber
+    pub rest : List SlotNumber
+    pub parts : path ≡ front ++ p ∷ rest
+    pub placed : (new : Id) → place_behind id_cmp (ids_along slots path) id new ≡ ids_along slots front ++ (slot_at slots p).id ∷ place id_cmp (ids_along slots rest) new
+
+  pub found : (path : List SlotNumber) (id : Id) (p : SlotNumber) → number_along slots path id ≡ Some p → IsFound path id p
+  found [] id p h = absurd (cc)
+  found (n ∷ path) id p h = by (id_eq (slot_at slots n).id id) refl h (λ e. found path id p e)
+    where
+      by : (here : Bool) → id_eq (slot_at slots n).id id ≡ here → ◌≡◌ {A = Option SlotNumber} (if here then Some n else number_along slots path id) (Some p)
+          → (number_along slots path id ≡ Some p → IsFound path id p) → IsFound (n ∷ path) id p
+      by true is e ih =
+          let same : n ≡ p = cc in
+          record {
+            front = [];
+            rest = path;
+            parts = ap (λ m. m ∷ path) same;
+            placed = λ new. rw (is_eq-id_cmp (slot_at slots n).id id, is) (ap (λ m. (slot_at slots m).id ∷ place id_cmp (ids_along slots path) new) same);
+          }
+      by false is e ih =
+          let f = ih e in
+          record {
+            front = n ∷ f.front;
+            rest = f.rest;
+            parts = ap (λ l. n ∷ l) f.parts;
+            placed = λ new. rw (is_eq-id_cmp (slot_at slots n).id id, is) (ap (λ l. (slot_at slots n).id ∷ l) (f.placed new));
+          }
+
+  -- the slot of the id that an insertion refers to
+  abbrev pub IsReference : List SlotNumber → Option Id → Option SlotNumber → Type 0
+  IsReference path None reference = reference ≡ None
+  IsReference path (Some id) reference = (p : SlotNumber) × (reference ≡ Some p) × (number_along slots path id ≡ Some p)
+
+  -- where an insertion cuts the path
+  pub insertion_cuts : (first : Option SlotNumber) (path : List SlotNumber) → IsPath slots first path → length path ≤ length slots
+      → (after : Option Id) (reference : Option SlotNumber) (id : Id) → IsReference path after reference
+      → IsCut path None (passed slots id reference (path_from slots (behind slots first reference))) (insert_after id_cmp (ids_along slots path) after id) id
+  insertion_cuts first path p short None reference id h =
+      let all : path_from slots (behind slots first reference) ≡ path = ap (λ r. path_from slots (behind slots first r)) h ∙ path_from-path slots first path p short in
+      let cut = passed-place path None id in
+      record {
+        front = cut.front;
+        rest = cut.rest;
+        parts = cut.parts;
+        ends = cut.ends ∙ (λ i. passed slots id (sym h i) (sym all i));
+        placed = cut.placed;
+      }
+  insertion_cuts first path p short (Some after) reference id h =
+      let prev : SlotNumber = h.0 in
+      let f = found path after prev h.2 in
+      let on = path-append slots f.front prev f.rest first (subst (λ l. IsPath slots first l) f.parts p) in
+      let fewer : length f.rest ≤ length slots = omega (arith, ap length f.parts, length-append f.front (prev ∷ f.rest)) in
+      let all : path_from slots (behind slots first reference) ≡ f.rest =
+      ap (λ r. path_from slots (behind slots first r)) h.1 ∙ path_from-path slots (slot_at slots prev).next f.rest on.1 fewer in
+      let cut = passed-place f.rest (Some prev) id in
+      record {
+        front = f.front ++ prev ∷ cut.front;
+        rest = cut.rest;
+        parts = f.parts ∙ ap (λ l. f.front ++ prev ∷ l) cut.parts ∙ sym (append_assoc f.front (prev ∷ cut.front) cut.rest);
+        ends = last_of-append None f.front prev cut.front ∙ cut.ends ∙ (λ i. passed slots id (sym h.1 i) (sym all i));
+        placed =
+            f.placed id
+            ∙ ap (λ l. ids_along slots f.front ++ (slot_at slots prev).id ∷ l) cut.placed
+            ∙ sym (append_assoc (ids_along slots f.front) (ids_along slots (prev ∷ cut.front)) (id ∷ ids_along slots cut.rest))
+            ∙ ap (λ l. l ++ id ∷ ids_along slots cut.rest) (sym (ids-append f.front (prev ∷ cut.front)));
+      }
+
+  -- an id has a slot where it is on the path
+  pub is_some-number_along : (path : List SlotNumber) (id : Id) → is_some (number_along slots path id) ≡ list_any (λ x. id_eq x id) (ids_along slots path)
+  is_some-number_along [] id = refl
+  is_some-number_along (n ∷ path) id = by (id_eq (slot_at slots n).id id) (is_some-number_along path id)
+    where
+      by : (here : Bool) → is_some (number_along slots path id) ≡ list_any (λ x. id_eq x id) (ids_along slots path)
+          → is_some (if here then Some n else number_along slots path id) ≡ (here || list_any (λ x. id_eq x id) (ids_along slots path))
+      by true ih = refl
+      by false ih = ih

@@ -1,0 +1,43 @@
+use Rattle.std.proofs.Common.{false, true, ◌≡◌, ◌<◌, ◌∙◌, sym, ap, subst, length, Some}
+use Rattle.std.specs.Ordering.{is_lt}
+use Rattle.lamport_id.specs.Order.{id_cmp}
+use Rattle.list_order.specs.Slots.{IsWalk, path_from, passed}
+use Rattle.list_order.proofs.Paths.{walk-None}
+use Rattle.list_order.proofs.Scanning.{step, passed_on, passed_stop}
+use Rattle.list_order.proofs.slots.last_passed.Goals as goal
+
+pub slot_at-slot-requires : goal.slot_at-slot-requires
+slot_at-slot-requires c = (step c.args.slots.now c.loop-at.at c.in-Some.n c.in-Some.is c.loop-at.invariant.walk).within
+
+pub loop-at-smaller : goal.loop-at-smaller
+loop-at-smaller c =
+    let slots = c.args.slots.now in
+    subst (λ s. length (path_from slots s.next) < length (path_from slots c.loop-at.at)) (sym c.slot_at-slot.ensures)
+    (step slots c.loop-at.at c.in-Some.n c.in-Some.is c.loop-at.invariant.walk).shorter
+
+pub loop-at-preserved : goal.loop-at-preserved
+loop-at-preserved c =
+    let slots = c.args.slots.now in
+    let id = c.args.id.now in
+    let s = step slots c.loop-at.at c.in-Some.n c.in-Some.is c.loop-at.invariant.walk in
+    record {
+      walk = subst (λ s. IsWalk slots s.next) (sym c.slot_at-slot.ensures) s.walk;
+      same =
+          ap (λ s. passed slots id (Some c.in-Some.n) (path_from slots s.next)) c.slot_at-slot.ensures
+          ∙ passed_on slots id c.loop-at.prev c.loop-at.at c.in-Some.n s (subst (λ s. is_lt (id_cmp s.id id) ≡ false) c.slot_at-slot.ensures (sym c.is_less.ensures ∙ c.if-is_less.false))
+          ∙ c.loop-at.invariant.same;
+    }
+
+pub returns-then-is_less : goal.returns-then-is_less
+returns-then-is_less c =
+    let slots = c.args.slots.now in
+    let id = c.args.id.now in
+    passed_stop slots id c.loop-at.prev c.loop-at.at c.in-Some.n (step slots c.loop-at.at c.in-Some.n c.in-Some.is c.loop-at.invariant.walk)
+    (subst (λ s. is_lt (id_cmp s.id id) ≡ true) c.slot_at-slot.ensures (sym c.is_less.ensures ∙ c.if-is_less.true))
+    ∙ c.loop-at.invariant.same
+
+pub returns-in_default : goal.returns-in_default
+returns-in_default c =
+    let slots = c.args.slots.now in
+    ap (λ l. passed slots c.args.id.now c.loop-at.prev l) (sym (ap (path_from slots) c.in_default.is ∙ walk-None slots))
+    ∙ c.loop-at.invariant.same
