@@ -1,0 +1,4 @@
+pub mod Session
+pub mod Transcript
+pub mod Alone
+pub mod Shelf

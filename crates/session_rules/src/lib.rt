@@ -1,0 +1,34 @@
+//! What a session writes for the bytes that it reads, as definitions. The function here is a law, and does nothing.
+#![tactic(auto)]
+
+ghost use Rattle.std.specs.Prelude.{◌≡◌, ℕ, ◌+◌, true};
+ghost use Rattle.lamport_id.specs.Name.{is_name};
+ghost use Rattle.doc_words.specs.declared.ask.Command.{Command};
+ghost use Rattle.doc_words.specs.declared.reply.Reply.{Reply};
+ghost use Rattle.doc_rules.specs.Document.{Document, Acts, count_in};
+ghost use Rattle.doc_rules.specs.Events.{IsWellMade};
+ghost use Rattle.session_rules.specs.Shelf.{IsSomewhere};
+
+/// Why a session ended.
+#[derive(Clone, Copy, Debug, PartialEq, Eq)]
+pub enum Ending {
+    /// A request said so, and was answered.
+    Quit,
+    /// The source had no line any more.
+    End,
+    /// A line had more than 65,536 bytes, and was refused.
+    TooLong,
+    /// 1,000,000 lines were answered.
+    LinesUsedUp,
+    /// The source failed; a line that it did not finish is none.
+    ReadFault,
+    /// The sink failed; what is written is a front of the replies.
+    WriteFault,
+}
+
+/// Where a seat of a shared document has as many operations as its session was told, it has so after each command of the
+/// session, too.
+pub fn told_is_logged()
+    ensures { (d e : Document) (seat told : ℕ) (command : Command) (reply : Reply) → is_name d.replica.name ≡ true → IsWellMade command
+        → IsSomewhere d seat told → Acts d seat command reply e → IsSomewhere e seat (told + count_in reply) }
+{}
