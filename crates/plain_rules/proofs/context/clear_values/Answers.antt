@@ -1,0 +1,7 @@
+use Rattle.std.proofs.Common.{rules, not}
+use Rattle.std.proofs.lemmas.Fn.{filter_same}
+use Rattle.plain_rules.specs.Plain.{is_in}
+use Rattle.plain_rules.proofs.context.clear_values.Goals as goal
+
+pub returns : goal.returns
+returns g c = filter_same _ (λ e. not (is_in c.args.deps.now e.1)) _ (λ x b f' h. search rules) _ _ c.retain.ensures.filtered

@@ -1,0 +1,341 @@
+//! Plain contexts.
+ghost use Rattle.std.specs.Prelude.{◌≡◌, filter, not, ◌&&◌, true, false, Bool, Some, ◌∷◌, IfOk, OnOk, IfErr, ◌≤◌, length};
+ghost use Rattle.json_scalar.specs.declared.refusal.Refusal.TheVariants.{NoMemory};
+ghost use Rattle.op_core.specs.declared.cursor.Tagged.{Tagged};
+ghost use Rattle.op_core.specs.declared.mutation.Mutation.TheVariants.{Insert};
+ghost use Rattle.crdt_rules.specs.Same.{key_eq, tagged_eq};
+ghost use Rattle.crdt_rules.specs.Effect.{scalar_in};
+ghost use Rattle.crdt_rules.specs.Context.{clear_all, clear_elem, mark, enter, count, put, place_id, mutate, descend, step};
+ghost use Rattle.plain_rules.specs.Plain.{is_in, context_of, contexts_of, seen, clear_child, clear_each, child_in, place_of_child, blank, made, passed};
+
+use crate::copy::{key_copy, scalar_copy, tagged_copy};
+use crate::order::insert_by_rule;
+use json_scalar::{Refusal, Scalar, Val};
+use lamport_id::Id;
+use op_core::{Key, Mutation, Operation, Tagged};
+use std::alloc::Global;
+
+/// A context: the contexts below it, the ids that make its keys present, the scalars of its registers, the numbers of
+/// its counters, and its list. It has no limits of its own: it is as large as the operations that made it.
+#[derive(Drop)]
+pub struct PlainContext {
+    pub(crate) children: Vec<(Tagged, PlainContext)>,
+    pub(crate) marks: Vec<(Key, Id)>,
+    pub(crate) scalars: Vec<(Key, Id, Scalar)>,
+    pub(crate) numbers: Vec<(Key, Id, i64)>,
+    pub(crate) order: Vec<Id>,
+}
+
+impl PlainContext {
+    /// A context with nothing in it. It takes no memory.
+    pub fn new(alloc: Global) -> PlainContext
+        ensures { context_of result ≡ blank }
+    {
+        PlainContext {
+            children: Vec::new(alloc),
+            marks: Vec::new(alloc),
+            scalars: Vec::new(alloc),
+            numbers: Vec::new(alloc),
+            order: Vec::new(alloc),
+        }
+    }
+}
+
+/// Whether a set has an id.
+fn is_in(ids: &[Id], id: &Id) -> bool
+    ensures { result ≡ is_in ids.now id.now }
+{
+    ids.iter().any(|other| *other == *id)
+}
+
+fn clear_marks(marks: &mut Vec<(Key, Id)>, deps: &[Id])
+    ensures { marks.new.items ≡ filter (λ m. not (is_in deps.now m.1)) marks.old.items }
+{
+    marks.retain(
+        |mark: &(Key, Id)| -> bool
+            ensures { result ≡ not (is_in deps.entry.now mark.now.1) }
+        { !is_in(deps, &mark.1) },
+    );
+}
+
+fn clear_values<T: Drop>(values: &mut Vec<(Key, Id, T)>, deps: &[Id])
+    ensures { values.new.items ≡ filter (λ e. not (is_in deps.now e.1)) values.old.items }
+{
+    values.retain(
+        |entry: &(Key, Id, T)| -> bool
+            ensures { result ≡ not (is_in deps.entry.now entry.now.1) }
+        { !is_in(deps, &entry.1) },
+    );
+}
+
+fn clear_marks_at(marks: &mut Vec<(Key, Id)>, key: &Key, deps: &[Id])
+    ensures { marks.new.items ≡ filter (λ m. not (key_eq m.0 key.now && is_in deps.now m.1)) marks.old.items }
+{
+    marks.retain(
+        |mark: &(Key, Id)| -> bool
+            ensures { result ≡ not (key_eq mark.now.0 key.entry.now && is_in deps.entry.now mark.now.1) }
+        { !(mark.0 == *key && is_in(deps, &mark.1)) },
+    );
+}
+
+fn clear_values_at<T: Drop>(values: &mut Vec<(Key, Id, T)>, key: &Key, deps: &[Id])
+    ensures { values.new.items ≡ filter (λ e. not (key_eq e.0 key.now && is_in deps.now e.1)) values.old.items }
+{
+    values.retain(
+        |entry: &(Key, Id, T)| -> bool
+            ensures { result ≡ not (key_eq entry.now.0 key.entry.now && is_in deps.entry.now entry.now.1) }
+        { !(entry.0 == *key && is_in(deps, &entry.1)) },
+    );
+}
+
+/// Takes the ids of a set out of a whole context.
+#[cycle(clearing)]
+fn clear_all(ctx: &mut PlainContext, deps: &[Id])
+    ensures { context_of ctx.new ≡ clear_all (is_in deps.now) (context_of ctx.old) }
+{
+    clear_marks(&mut ctx.marks, deps);
+    clear_values(&mut ctx.scalars, deps);
+    clear_values(&mut ctx.numbers, deps);
+    clear_children(&mut ctx.children, deps);
+}
+
+#[cycle(clearing)]
+fn clear_children(children: &mut [(Tagged, PlainContext)], deps: &[Id])
+    ensures { contexts_of children.new ≡ clear_each (λ _. true) (is_in deps.now) (contexts_of children.old) }
+{
+    for i in 0..children.len() {
+        clear_all(&mut children[i].1, deps);
+    }
+}
+
+fn clear_child_at(child: &mut (Tagged, PlainContext), key: &Key, deps: &[Id])
+    ensures { seen child.new ≡ clear_child (λ k. key_eq k key.now) (is_in deps.now) (seen child.old) }
+{
+    if child.0.key() == key {
+        clear_all(&mut child.1, deps);
+    }
+}
+
+fn clear_children_at(children: &mut [(Tagged, PlainContext)], key: &Key, deps: &[Id])
+    ensures { contexts_of children.new ≡ clear_each (λ k. key_eq k key.now) (is_in deps.now) (contexts_of children.old) }
+{
+    for i in 0..children.len() {
+        clear_child_at(&mut children[i], key, deps);
+    }
+}
+
+/// Takes the ids of a set out at a key, and of the map and the list there.
+fn clear_elem(ctx: &mut PlainContext, key: &Key, deps: &[Id])
+    ensures { context_of ctx.new ≡ clear_elem (is_in deps.now) key.now (context_of ctx.old) }
+{
+    clear_marks_at(&mut ctx.marks, key, deps);
+    clear_values_at(&mut ctx.scalars, key, deps);
+    clear_values_at(&mut ctx.numbers, key, deps);
+    clear_children_at(&mut ctx.children, key, deps);
+}
+
+/// Adds an id to the presence set of a key.
+fn mark(ctx: &mut PlainContext, key: &Key, id: &Id) -> Result<(), Refusal>
+    ensures done { OnOk result (context_of ctx.new ≡ mark id.now key.now (context_of ctx.old)) }
+    ensures memory { IfErr result (λ e. e ≡ NoMemory) }
+{
+    let entry = (key_copy(key)?, *id);
+    ctx.marks.insert(0, entry)?;
+    Ok(())
+}
+
+/// Enters a value, if it is a scalar, into the register of a key.
+fn enter(ctx: &mut PlainContext, key: &Key, id: &Id, val: &Val) -> Result<(), Refusal>
+    ensures done { OnOk result (context_of ctx.new ≡ enter id.now key.now (scalar_in val.now) (context_of ctx.old)) }
+    ensures memory { IfErr result (λ e. e ≡ NoMemory) }
+{
+    match val {
+        Val::Scalar(scalar) => {
+            let entry = (key_copy(key)?, *id, scalar_copy(scalar)?);
+            ctx.scalars.insert(0, entry)?;
+            Ok(())
+        }
+        Val::EmptyMap | Val::EmptyList => Ok(()),
+    }
+}
+
+/// Enters a number into the counter of a key.
+fn count(ctx: &mut PlainContext, key: &Key, id: &Id, number: &i64) -> Result<(), Refusal>
+    ensures done { OnOk result (context_of ctx.new ≡ count id.now key.now number.now (context_of ctx.old)) }
+    ensures memory { IfErr result (λ e. e ≡ NoMemory) }
+{
+    let entry = (key_copy(key)?, *id, *number);
+    ctx.numbers.insert(0, entry)?;
+    Ok(())
+}
+
+/// Adds a number at a key.
+fn add(ctx: &mut PlainContext, key: &Key, id: &Id, number: &i64) -> Result<(), Refusal>
+    ensures done { OnOk result (context_of ctx.new ≡ count id.now key.now number.now (mark id.now key.now (context_of ctx.old))) }
+    ensures memory { IfErr result (λ e. e ≡ NoMemory) }
+{
+    mark(ctx, key, id)?;
+    count(ctx, key, id, number)
+}
+
+/// Where the first child at a key stands, or the length.
+pub fn child_place(children: &[(Tagged, PlainContext)], key: &Tagged) -> usize
+    ensures value { result ≡ place_of_child children.now key.now }
+    ensures within { result ≤ length children.now }
+{
+    children.iter().take_while(|child| child.0 != *key).count()
+}
+
+/// Takes the child at a key out; one that is missing is a new one.
+fn take_child(
+    alloc: Global,
+    children: &mut Vec<(Tagged, PlainContext)>,
+    key: &Tagged,
+) -> PlainContext
+    ensures child { context_of result ≡ made (child_in (contexts_of children.old.items) key.now) }
+    ensures others { (t : Tagged) → tagged_eq key.now t ≡ false
+        → child_in (contexts_of children.new.items) t ≡ child_in (contexts_of children.old.items) t }
+{
+    let at = child_place(children.as_slice(), key);
+    if at < children.len() {
+        children.remove(at).1
+    } else {
+        PlainContext::new(alloc)
+    }
+}
+
+/// Puts a child in front of the others.
+fn put_child(
+    children: &mut Vec<(Tagged, PlainContext)>,
+    key: &Tagged,
+    child: PlainContext,
+) -> Result<(), Refusal>
+    ensures done { OnOk result (contexts_of children.new.items ≡ seen (key.now, child) ∷ contexts_of children.old.items) }
+    ensures memory { IfErr result (λ e. e ≡ NoMemory) }
+{
+    let entry = (tagged_copy(key)?, child);
+    children.insert(0, entry)?;
+    Ok(())
+}
+
+/// Assigns a value at a key.
+fn put(ctx: &mut PlainContext, key: &Key, id: &Id, val: &Val, deps: &[Id]) -> Result<(), Refusal>
+    ensures done { OnOk result (context_of ctx.new ≡ put (is_in deps.now) id.now key.now val.now (context_of ctx.old)) }
+    ensures memory { IfErr result (λ e. e ≡ NoMemory) }
+{
+    clear_elem(ctx, key, deps);
+    mark(ctx, key, id)?;
+    enter(ctx, key, id, val)
+}
+
+/// Takes an id into the order of the list.
+fn place(ctx: &mut PlainContext, after: &Key, id: &Id) -> Result<(), Refusal>
+    ensures done { OnOk result (context_of ctx.new ≡ place_id id.now after.now (context_of ctx.old)) }
+    ensures memory { IfErr result (λ e. e ≡ NoMemory) }
+{
+    insert_by_rule(&mut ctx.order, after, id)
+}
+
+/// Inserts a value into the list.
+fn insert(
+    ctx: &mut PlainContext,
+    after: &Key,
+    id: &Id,
+    val: &Val,
+    deps: &[Id],
+) -> Result<(), Refusal>
+    ensures done { OnOk result (context_of ctx.new ≡ mutate (is_in deps.now) id.now after.now (Insert val.now) (context_of ctx.old)) }
+    ensures memory { IfErr result (λ e. e ≡ NoMemory) }
+{
+    place(ctx, after, id)?;
+    put(ctx, &Key::Element(*id), id, val, deps)
+}
+
+/// What a mutation does at a key.
+fn mutate(
+    ctx: &mut PlainContext,
+    key: &Key,
+    id: &Id,
+    mutation: &Mutation,
+    deps: &[Id],
+) -> Result<(), Refusal>
+    ensures done { OnOk result (context_of ctx.new ≡ mutate (is_in deps.now) id.now key.now mutation.now (context_of ctx.old)) }
+    ensures memory { IfErr result (λ e. e ≡ NoMemory) }
+{
+    match mutation {
+        Mutation::Assign(val) => put(ctx, key, id, val, deps),
+        Mutation::Insert(val) => insert(ctx, key, id, val, deps),
+        Mutation::Delete => {
+            clear_elem(ctx, key, deps);
+            Ok(())
+        }
+        Mutation::Add(number) => add(ctx, key, id, number),
+    }
+}
+
+/// Marks a key on the way of an operation, unless it is a delete.
+fn pass(ctx: &mut PlainContext, key: &Key, id: &Id, mutation: &Mutation) -> Result<(), Refusal>
+    ensures done { OnOk result (context_of ctx.new ≡ passed id.now key.now mutation.now (context_of ctx.old)) }
+    ensures memory { IfErr result (λ e. e ≡ NoMemory) }
+{
+    match mutation {
+        Mutation::Assign(_) | Mutation::Insert(_) | Mutation::Add(_) => mark(ctx, key, id),
+        Mutation::Delete => Ok(()),
+    }
+}
+
+/// An operation on its way down.
+#[cycle(descending)]
+fn descend(
+    alloc: Global,
+    ctx: &mut PlainContext,
+    op: &Operation,
+    path: &[Tagged],
+    deps: &[Id],
+) -> Result<(), Refusal>
+    ensures done { OnOk result (context_of ctx.new ≡ descend (is_in deps.now) op.now path.now (context_of ctx.old)) }
+    ensures memory { IfErr result (λ e. e ≡ NoMemory) }
+{
+    match path {
+        [] => mutate(ctx, &op.cursor().key, &op.id(), op.mutation(), deps),
+        [first, rest @ ..] => follow(alloc, ctx, op, first, rest, deps),
+    }
+}
+
+/// One key of its way: it passes the key, and goes on in the child there.
+#[cycle(descending)]
+fn follow(
+    alloc: Global,
+    ctx: &mut PlainContext,
+    op: &Operation,
+    first: &Tagged,
+    rest: &[Tagged],
+    deps: &[Id],
+) -> Result<(), Refusal>
+    ensures done { OnOk result (context_of ctx.new ≡ descend (is_in deps.now) op.now (first.now ∷ rest.now) (context_of ctx.old)) }
+    ensures memory { IfErr result (λ e. e ≡ NoMemory) }
+{
+    pass(ctx, first.key(), &op.id(), op.mutation())?;
+    let mut below = take_child(alloc, &mut ctx.children, first);
+    descend(alloc, &mut below, op, rest, deps)?;
+    put_child(&mut ctx.children, first, below)?;
+    Ok(())
+}
+
+/// The context after the step of an operation whose dependencies are the ids of a set, by the rules as they are
+/// defined. The step asks nothing of the operation: one that doesn't fit takes its step too.
+///
+/// Refused for want of memory alone (22); the context is let go then.
+pub fn plain_step(
+    alloc: Global,
+    ctx: PlainContext,
+    op: &Operation,
+    deps: &[Id],
+) -> Result<PlainContext, Refusal>
+    ensures done { IfOk result (λ new. context_of new ≡ step (context_of ctx) op.now (is_in deps.now)) }
+    ensures memory { IfErr result (λ e. e ≡ NoMemory) }
+{
+    let mut changed = ctx;
+    descend(alloc, &mut changed, op, op.cursor().path.as_slice(), deps)?;
+    Ok(changed)
+}

@@ -1,0 +1,27 @@
+//! Copies of parts of operations, told by what they are, or that memory is wanting.
+ghost use Rattle.std.specs.Prelude.{◌≡◌, IfOk, IfErr};
+ghost use Rattle.json_scalar.specs.declared.refusal.Refusal.TheVariants.{NoMemory};
+
+use json_scalar::{Refusal, Scalar};
+use op_core::{Key, Tagged};
+
+pub fn key_copy(key: &Key) -> Result<Key, Refusal>
+    ensures done { IfOk result (λ copy. copy ≡ key.now) }
+    ensures memory { IfErr result (λ e. e ≡ NoMemory) }
+{
+    key.try_clone()
+}
+
+pub fn tagged_copy(key: &Tagged) -> Result<Tagged, Refusal>
+    ensures done { IfOk result (λ copy. copy ≡ key.now) }
+    ensures memory { IfErr result (λ e. e ≡ NoMemory) }
+{
+    key.try_clone()
+}
+
+pub fn scalar_copy(scalar: &Scalar) -> Result<Scalar, Refusal>
+    ensures done { IfOk result (λ copy. copy ≡ scalar.now) }
+    ensures memory { IfErr result (λ e. e ≡ NoMemory) }
+{
+    scalar.try_clone()
+}

@@ -1,0 +1,87 @@
+use crate::plain_replay;
+use json_scalar::{Refusal, Scalar};
+use lamport_id::{Id, ReplicaName};
+use op_core::{Operation, read_wire};
+use serde_json::Value;
+use std::alloc::Global;
+use std::test::Fail;
+
+fn operation(alloc: Global, text: &str) -> Result<Operation, Refusal> {
+    match Value::from_str(alloc, text) {
+        Ok(value) => read_wire(alloc, &value),
+        Err(_) => Err(Refusal::NotJson),
+    }
+}
+
+fn operations(alloc: Global, texts: &[&str]) -> Result<Vec<Operation>, Refusal> {
+    let mut ops = Vec::new(alloc);
+    for text in texts {
+        ops.push(operation(alloc, text)?)?;
+    }
+    Ok(ops)
+}
+
+fn id(counter: u64, replica: &[u8]) -> Option<Id> {
+    Some(Id {
+        counter,
+        replica: ReplicaName::read(replica)?,
+    })
+}
+
+#[test]
+fn concurrent_deletes(rt: HostRuntime) -> Result<(), Fail> {
+    let texts = [
+        r#"["op",[1,"p"],[],[[["m",0],["m","a"]],"b"],["assign","v"]]"#,
+        r#"["op",[2,"p"],[["p",1]],[[["m",0],["m","a"]],"b"],["delete"]]"#,
+        r#"["op",[2,"q"],[["p",1]],[[["m",0]],"a"],["delete"]]"#,
+    ];
+    let ops = operations(rt.alloc(), &texts)?;
+    let cursor = ops[0].cursor();
+    for (count, want) in [(1, true), (2, false), (3, false)] {
+        let ctx = plain_replay(rt.alloc(), &ops[..count])?;
+        let here = ctx.is_present(cursor.path.as_slice(), &cursor.key);
+        assert_eq!(rt; here, want, "after {count}");
+        assert_eq!(rt; ctx.has_mark(cursor.path.as_slice(), &cursor.key, &ops[0].id()), want);
+    }
+    Ok(())
+}
+
+#[test]
+fn counter_and_scalar(rt: HostRuntime) -> Result<(), Fail> {
+    let texts = [
+        r#"["op",[1,"p"],[],[[["m",0]],"n"],["add",5]]"#,
+        r#"["op",[1,"q"],[],[[["m",0]],"n"],["add",-7]]"#,
+        r#"["op",[2,"p"],[["p",1]],[[["m",0]],"n"],["assign",12]]"#,
+    ];
+    let ops = operations(rt.alloc(), &texts)?;
+    let ctx = plain_replay(rt.alloc(), ops.as_slice())?;
+    let path = ops[0].cursor().path.as_slice();
+    let key = &ops[0].cursor().key;
+    assert_eq!(rt; ctx.number(path, key, &ops[0].id()), None);
+    assert_eq!(rt; ctx.number(path, key, &ops[1].id()), Some(&-7));
+    assert_eq!(rt; ctx.scalar(path, key, &ops[2].id()), Some(&Scalar::Int(12)));
+    assert_eq!(rt; ctx.scalar(path, key, &ops[1].id()), None);
+    Ok(())
+}
+
+#[test]
+fn concurrent_list_edits(rt: HostRuntime) -> Result<(), Fail> {
+    let texts = [
+        r#"["op",[3,"o"],[["q",2]],[[["m",0],["l","l"]],1],["insert","a"]]"#,
+        r#"["op",[4,"o"],[["o",3]],[[["m",0],["l","l"]],[3,"o"]],["insert","b"]]"#,
+        r#"["op",[5,"o"],[["o",4]],[[["m",0],["l","l"]],[4,"o"]],["insert","c"]]"#,
+        r#"["op",[6,"q"],[["o",5]],[[["m",0],["l","l"]],[3,"o"]],["insert","y"]]"#,
+        r#"["op",[6,"p"],[["o",5]],[[["m",0],["l","l"]],[4,"o"]],["delete"]]"#,
+        r#"["op",[7,"p"],[["o",5],["p",6]],[[["m",0],["l","l"]],[3,"o"]],["insert","x"]]"#,
+        r#"["op",[7,"q"],[["o",5],["q",6]],[[["m",0],["l","l"]],[5,"o"]],["insert","z"]]"#,
+    ];
+    let ops = operations(rt.alloc(), &texts)?;
+    let ctx = plain_replay(rt.alloc(), ops.as_slice())?;
+    let order = ctx.elements(ops[0].cursor().path.as_slice());
+    let want = [(3, "o"), (7, "p"), (6, "q"), (4, "o"), (5, "o"), (7, "q")];
+    assert_eq!(rt; order.len(), want.len());
+    for (i, (counter, replica)) in want.iter().enumerate() {
+        assert_eq!(rt; Some(order[i]), id(*counter, replica.as_bytes()), "at {i}");
+    }
+    Ok(())
+}
