@@ -2,9 +2,10 @@
 use Rattle.std.proofs.Common.{◌≡◌, ℕ, ◌&&◌, ℤ, pos, negsuc, nat_le, true, List, [], ◌∷◌, map, Some, Ok, refl, sym, ap, ◌∙◌}
 use Rattle.serde_json.specs.Find.{of_integer}
 use Rattle.serde_json.specs.View.{items_of}
-use Rattle.json_scalar.specs.Scalar.{is_val, int_of}
-use Rattle.json_scalar.specs.declared.scalar.Val.TheVariants.{Scalar}
-use Rattle.json_scalar.specs.declared.scalar.Scalar.TheVariants.{Int}
+use Rattle.json_scalar.specs.Scalar.{val_data, val_of, int_of}
+use Rattle.json_scalar.specs.declared.scalar.Val.{Val}
+use Rattle.json_scalar.specs.declared.scalar.Val.TheVariants.{Scalar, EmptyMap, EmptyList}
+use Rattle.json_scalar.specs.declared.scalar.Scalar.TheVariants.{Int, Text, Bool as Truth, Null}
 use Rattle.json_scalar.proofs.Readings.{val_of-val_data}
 use Rattle.op_core.specs.Front.{is_ascending}
 use Rattle.op_core.specs.Shape.{is_entry}
@@ -12,7 +13,7 @@ use Rattle.op_core.proofs.Wires.{both, id_from-id_data, front_of-front_data}
 use Rattle.op_core.proofs.Operations.{op_from-wire}
 use Rattle.std.specs.List.{list_all}
 use Rattle.line_proto.specs.Reading.{steps_from, expr_from, request_from}
-use Rattle.line_proto.specs.Written.{step_data, expr_data, is_start, is_variable, is_change, is_ask, is_request, request_data}
+use Rattle.line_proto.specs.Written.{step_data, expr_data, is_start, is_variable, is_put, is_amount, is_change, is_ask, is_request, request_data}
 use Rattle.op_core.specs.declared.mutation.Mutation.{Mutation}
 use Rattle.op_core.specs.declared.mutation.Mutation.TheVariants.{Assign, Insert, Delete, Add}
 use Rattle.doc_words.specs.declared.place.Step.{Step}
@@ -39,14 +40,23 @@ expr_from-parts (Variable name) steps h = rw (h, steps_from-step_data steps) ref
 expr_from-expr_data : (expr : CursorExpr) → is_start expr.start ≡ true → expr_from (expr_data expr) ≡ Some expr
 expr_from-expr_data expr h = expr_from-parts expr.start expr.steps h
 
-int_of-of_integer : (n : ℤ) → is_val (Scalar (Int n)) ≡ true → int_of (of_integer n) ≡ Some n
+val_of-put : (val : Val) → is_put val ≡ true → val_of (val_data val) ≡ Ok val
+val_of-put (Scalar (Int (pos n))) h = val_of-val_data (Scalar (Int (pos n))) h
+val_of-put (Scalar (Int (negsuc n))) h = refl
+val_of-put (Scalar (Text text)) h = val_of-val_data (Scalar (Text text)) h
+val_of-put (Scalar (Truth b)) h = refl
+val_of-put (Scalar Null) h = refl
+val_of-put EmptyMap h = refl
+val_of-put EmptyList h = refl
+
+int_of-of_integer : (n : ℤ) → is_amount n ≡ true → int_of (of_integer n) ≡ Some n
 int_of-of_integer (pos n) h = rw h
 int_of-of_integer (negsuc n) h = refl
 
 reads_change : (document : List ℕ) (expr : CursorExpr) (change : Mutation) → is_start expr.start ≡ true → is_change change ≡ true
     → request_from (request_data (Of document (ask.Change expr change))) ≡ Ok (Of document (ask.Change expr change))
-reads_change document expr (Assign val) h k = rw (expr_from-expr_data expr h, val_of-val_data val k) refl
-reads_change document expr (Insert val) h k = rw (expr_from-expr_data expr h, val_of-val_data val k) refl
+reads_change document expr (Assign val) h k = rw (expr_from-expr_data expr h, val_of-put val k) refl
+reads_change document expr (Insert val) h k = rw (expr_from-expr_data expr h, val_of-put val k) refl
 reads_change document expr Delete h k = rw (expr_from-expr_data expr h) refl
 reads_change document expr (Add n) h k = rw (expr_from-expr_data expr h, int_of-of_integer n k) refl
 

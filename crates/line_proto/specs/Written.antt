@@ -1,8 +1,9 @@
 -- The written form of requests.
-use Rattle.std.specs.Prelude.{ℕ, ◌&&◌, nat_le, Bool, true, List, [], ◌∷◌, map, codes, length}
+use Rattle.std.specs.Prelude.{ℕ, ℤ, pos, negsuc, ◌^◌, ◌&&◌, nat_le, nat_lt, Bool, true, List, [], ◌∷◌, map, codes, length}
 use Rattle.serde_json.specs.Data.{Data, number, unsigned, string}
 use Rattle.serde_json.specs.Find.{of_integer}
 use Rattle.json_scalar.specs.Scalar.{is_val, val_data}
+use Rattle.json_scalar.specs.declared.scalar.Val.{Val}
 use Rattle.json_scalar.specs.declared.scalar.Val.TheVariants.{Scalar}
 use Rattle.json_scalar.specs.declared.scalar.Scalar.TheVariants.{Int}
 use Rattle.op_core.specs.Front.{is_ascending}
@@ -80,11 +81,20 @@ abbrev pub is_start : Start → Bool
 is_start Document = true
 is_start (Variable name) = is_variable name
 
+-- An integer of at most 63 bits and a sign. That none is less than the least is kept by its type.
+abbrev pub is_amount : ℤ → Bool
+is_amount (pos n) = nat_lt n (2 ^ 63)
+is_amount (negsuc n) = true
+
+abbrev pub is_put : Val → Bool
+is_put (Scalar (Int n)) = is_amount n
+is_put val = is_val val
+
 abbrev pub is_change : Mutation → Bool
-is_change (Assign val) = is_val val
-is_change (Insert val) = is_val val
+is_change (Assign val) = is_put val
+is_change (Insert val) = is_put val
 is_change Delete = true
-is_change (Add n) = is_val (Scalar (Int n))
+is_change (Add n) = is_amount n
 
 abbrev pub is_ask : Ask → Bool
 is_ask ask.Open = true

@@ -22,12 +22,21 @@ use std::str;
 const MAX_LIMIT: u64 = 64;
 
 impl Request {
-    ghost use Rattle.std.specs.Prelude.{Some, Ok, IsTrue};
+    ghost use Rattle.std.specs.Prelude.{Some, Ok, IfOk, IsTrue};
     ghost use Rattle.line_proto.specs.Written.{request_data, is_request};
     ghost use Rattle.line_proto.specs.declared.request.Request.{Request};
 
-    /// The request that these bytes are, or the first cause against them.
+    /// The request that this line is, without its newline, or the first cause against it. The line's length is the
+    /// line feed's matter; whether the document is there and open, and what it answers, is the session's.
+    ///
+    /// `NotJson` where the bytes aren't JSON text, are nested more than 127 deep or have a number that is neither a
+    /// finite float nor an integer; then `BadRequest` where no request has this form: not an array, an unknown word, a
+    /// wrong number of items, an item of a wrong kind, a name of a variable of more than 128 bytes, a limit outside 1
+    /// to 64; then `BadValue` for what is assigned, inserted or added; `TooDeep`, `BadOperation` or `BadFront` for an
+    /// operation that is handed in; `BadFront` for a front that doesn't ascend. `NoMemory` may come in place of any
+    /// answer.
     pub fn read(alloc: Global, line: &[u8]) -> Result<Request, Refusal>
+        ensures reads { IfOk result (λ r. (line_data line.now ≡ Some (request_data r)) × IsTrue (is_request r)) }
         ensures complete { (r : Request) → IsTrue (is_request r) → line_data line.now ≡ Some (request_data r) → UnlessMemory result (Ok r) }
         ensures answer { UnlessMemory result (request_of line.now) }
     {

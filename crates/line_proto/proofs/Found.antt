@@ -1,0 +1,416 @@
+-- What is read has the JSON that it was read from, and is within the limits.
+use Rattle.std.proofs.Common.{◌≡◌, ℕ, ℤ, pos, negsuc, zero, suc, ◌^◌, ◌&&◌, nat_le, nat_lt, Bool, true, false, cond, List, [], ◌∷◌, map, codes, length, Option, Some, None, option_map, Result, Ok, Err, ok_or, IfOk, IsTrue, refl, sym, ap, ◌∙◌}
+use Rattle.std.specs.Str.{bytes_eq}
+use Rattle.std.proofs.lemmas.Slice.Eq.{bytes_eq-Decides}
+use Rattle.std.specs.List.{list_all}
+use Rattle.serde_json.specs.Data.{Num, unsigned, negative, float, Data, null, boolean, number, string, array, object, Items, no_items, item, no_members, member}
+use Rattle.serde_json.specs.Find.{as_u64, as_number, as_str, as_array}
+use Rattle.serde_json.specs.View.{items_of}
+use Rattle.json_scalar.specs.Refusal.{UnlessMemory, and_then}
+use Rattle.json_scalar.specs.Scalar.{val_data, val_of, text_of, int_of}
+use Rattle.json_scalar.specs.declared.refusal.Refusal.{Refusal}
+use Rattle.json_scalar.specs.declared.refusal.Refusal.TheVariants.{NotJson, BadRequest, BadOperation, BadValue, BadFront}
+use Rattle.json_scalar.specs.declared.scalar.Val.{Val}
+use Rattle.json_scalar.specs.declared.scalar.Val.TheVariants.{Scalar, EmptyMap, EmptyList}
+use Rattle.json_scalar.specs.declared.scalar.Scalar.TheVariants.{Int, Text, Bool as Truth, Null}
+use Rattle.json_scalar.proofs.Readings.{val_of-Ok}
+use Rattle.op_core.specs.Front.{is_ascending}
+use Rattle.op_core.specs.Op.{Op}
+use Rattle.op_core.specs.Reading.{some_if, id_from, front_of, op_from}
+use Rattle.op_core.specs.Shape.{is_entry, is_shaped, is_id}
+use Rattle.op_core.specs.Wire.{list_data, front_data, id_data, wire}
+use Rattle.op_core.specs.declared.mutation.Mutation.{Mutation}
+use Rattle.op_core.specs.declared.mutation.Mutation.TheVariants.{Assign, Insert, Delete, Add}
+use Rattle.op_core.proofs.Wires.{some_step, some_if-Some, as_array-Some, as_str-Some, both_items, ReadsId-from_answer, ReadsFront-from_answer}
+use Rattle.op_core.proofs.Operations.{ReadsOp-from_answer}
+use Rattle.doc_words.specs.declared.place.Step.{Step}
+use Rattle.doc_words.specs.declared.place.Step.TheVariants.{Get, Index}
+use Rattle.doc_words.specs.declared.ask.Look.{Look}
+use Rattle.doc_words.specs.declared.ask.Look.TheVariants.{Keys, Values, Items as Elements, Conflicts, Show, Sum}
+use Rattle.line_proto.specs.Reading.{step_from, steps_from, variable_of, variable_from, start_of_number, start_from, expr_items, expr_from, bare_request, plain_ask, look_of, look_from, deletion_from, delivery_from, forgetting_from, short_ask, naming_from, limit_of, limit_from, in_order, ops_from, assignment_from, insertion_from, amount_of, addition_from, change_from, long_ask, bare_from, plain_from, short_from, long_from, request_items, request_from, line_data, request_of}
+use Rattle.line_proto.specs.Written.{start_data, step_data, expr_data, asks, look_word, ask_data, request_data, is_variable, is_start, is_amount, is_put, is_ask, is_request}
+use Rattle.line_proto.specs.declared.request.Start.{Start}
+use Rattle.line_proto.specs.declared.request.Start.TheVariants.{Document, Variable}
+use Rattle.line_proto.specs.declared.request.CursorExpr.{CursorExpr}
+use Rattle.line_proto.specs.declared.request.Ask.{Ask}
+use Rattle.line_proto.specs.declared.request.Ask.TheVariants as ask
+use Rattle.line_proto.specs.declared.request.Request.{Request}
+use Rattle.line_proto.specs.declared.request.Request.TheVariants.{Quit, Version, Of}
+
+-- ---- steps
+
+ok_step : {A B : Type 0} (o : Result A Refusal) (f : A → Result B Refusal) (y : B) → and_then o f ≡ Ok y → (x : A) × (o ≡ Ok x) × (f x ≡ Ok y)
+ok_step (Ok x) f y h = (x, refl, h)
+ok_step (Err e) f y h = cc
+
+-- a step that is refused where there is none
+found_step : {A B : Type 0} (o : Option A) (e : Refusal) (f : A → Result B Refusal) (y : B) → and_then (ok_or o e) f ≡ Ok y → (x : A) × (o ≡ Some x) × (f x ≡ Ok y)
+found_step (Some x) e f y h = (x, refl, h)
+found_step None e f y h = cc
+
+option_map-Some : {A B : Type 0} (f : A → B) (o : Option A) (y : B) → option_map f o ≡ Some y → (x : A) × (o ≡ Some x) × (f x ≡ y)
+option_map-Some f None y h = cc
+option_map-Some f (Some x) y h = (x, refl, cc)
+
+ok_or-Ok : {A : Type 0} (o : Option A) (e : Refusal) (y : A) → ok_or o e ≡ Ok y → o ≡ Some y
+ok_or-Ok (Some x) e y h = let same : x ≡ y = cc in ap Some same
+ok_or-Ok None e y h = cc
+
+if_Ok : {A : Type 0} (b : Bool) (e : Refusal) (x y : A) → cond b (Ok x) (Err e) ≡ Ok y → (b ≡ true) × (x ≡ y)
+if_Ok true e x y h = (refl, cc)
+if_Ok false e x y h = cc
+
+if_Some : {A : Type 0} (b : Bool) (x y : A) → cond b (Some x) None ≡ Some y → (b ≡ true) × (x ≡ y)
+if_Some true x y h = (refl, cc)
+if_Some false x y h = cc
+
+-- what holds where the verb is this word, and else of what comes behind it
+by_word : {A : Type 0} (P : A → Type 0) (verb word : List ℕ) (x y : A) → (verb ≡ word → P x) → P y → P (cond (bytes_eq verb word) x y)
+by_word P verb word x y here behind = go (bytes_eq verb word) (bytes_eq-Decides verb word).0
+  where
+    go : (b : Bool) → (b ≡ true → verb ≡ word) → P (cond b x y)
+    go true h = here (h refl)
+    go false h = behind
+
+-- ---- cursor expressions
+
+as_u64-Some : (m : Num) (n : ℕ) → as_u64 m ≡ Some n → m ≡ unsigned n
+as_u64-Some (unsigned m) n h = let same : m ≡ n = cc in ap unsigned same
+as_u64-Some (negative z) n h = cc
+as_u64-Some (float x) n h = cc
+
+step_from-Some : (d : Data) (step : Step) → step_from d ≡ Some step → step_data step ≡ d
+step_from-Some null step h = cc
+step_from-Some (boolean b) step h = cc
+step_from-Some (number n) step h =
+    let index = option_map-Some Index (as_u64 n) step h in
+    ap step_data (sym index.2) ∙ ap number (sym (as_u64-Some n index.0 index.1))
+step_from-Some (string s) step h = let get : step ≡ Get s = cc in ap step_data get
+step_from-Some (array ds) step h = cc
+step_from-Some (object ms) step h = cc
+
+steps_from-Some : (ds : Items) (steps : List Step) → steps_from ds ≡ Some steps → items_of (map step_data steps) ≡ ds
+steps_from-Some no_items steps h = let none : steps ≡ [] = cc in rw none refl
+steps_from-Some (item d ds) steps h =
+    let first = some_step (step_from d) _ steps h in
+    let rest = some_step (steps_from ds) _ steps first.2 in
+    let whole : steps ≡ first.0 ∷ rest.0 = cc in
+    ap (λ s. items_of (map step_data s)) whole ∙ both_items (step_from-Some d first.0 first.1) (steps_from-Some ds rest.0 rest.1)
+
+variable_of-Some : (s name : List ℕ) → variable_of s ≡ Some name → (name ≡ s) × (is_variable name ≡ true)
+variable_of-Some s name h = let made = some_if-Some _ s name h in (sym made.1, ap is_variable (sym made.1) ∙ made.0)
+
+variable_from-Some : (d : Data) (name : List ℕ) → variable_from d ≡ Some name → (string name ≡ d) × (is_variable name ≡ true)
+variable_from-Some d name h =
+    let s = some_step (as_str d) variable_of name h in
+    let made = variable_of-Some s.0 name s.2 in
+    (ap string made.0 ∙ sym (as_str-Some d s.0 s.1), made.1)
+
+start_of_number-Some : (n : Num) (o : Option ℕ) (start : Start) → as_u64 n ≡ o → start_of_number o ≡ Some start → (start_data start ≡ number n) × (is_start start ≡ true)
+start_of_number-Some n None start is h = cc
+start_of_number-Some n (Some zero) start is h =
+    let document : start ≡ Document = cc in
+    (ap start_data document ∙ ap number (sym (as_u64-Some n 0 is)), ap is_start document)
+start_of_number-Some n (Some (suc m)) start is h = cc
+
+start_from-Some : (d : Data) (start : Start) → start_from d ≡ Some start → (start_data start ≡ d) × (is_start start ≡ true)
+start_from-Some null start h = cc
+start_from-Some (boolean b) start h = cc
+start_from-Some (number n) start h = start_of_number-Some n (as_u64 n) start refl h
+start_from-Some (string s) start h =
+    let name = option_map-Some Variable (variable_of s) start h in
+    let made = variable_of-Some s name.0 name.1 in
+    (ap start_data (sym name.2) ∙ ap string made.0, ap is_start (sym name.2) ∙ made.1)
+start_from-Some (array ds) start h = cc
+start_from-Some (object ms) start h = cc
+
+expr_items-Some : (ds : Items) (expr : CursorExpr) → expr_items ds ≡ Some expr → (expr_data expr ≡ array ds) × (is_start expr.start ≡ true)
+expr_items-Some no_items expr h = cc
+expr_items-Some (item d ds) expr h =
+    let start = some_step (start_from d) _ expr h in
+    let steps = some_step (steps_from ds) _ expr start.2 in
+    let whole : expr ≡ record { start = start.0; steps = steps.0 } = cc in
+    let made = start_from-Some d start.0 start.1 in
+    (ap expr_data whole ∙ ap array (both_items made.0 (steps_from-Some ds steps.0 steps.1)), ap (λ e. is_start e.start) whole ∙ made.1)
+
+expr_from-Some : (d : Data) (expr : CursorExpr) → expr_from d ≡ Some expr → (expr_data expr ≡ d) × (is_start expr.start ≡ true)
+expr_from-Some d expr h =
+    let items = some_step (as_array d) expr_items expr h in
+    let made = expr_items-Some items.0 expr items.2 in
+    (made.0 ∙ sym (as_array-Some d items.0 items.1), made.1)
+
+-- ---- values
+
+int_of-within : (n : Num) (z : ℤ) → int_of n ≡ Some z → is_amount z ≡ true
+int_of-within (unsigned n) z h = let made = if_Some (nat_lt n (2 ^ 63)) (pos n) z h in ap is_amount (sym made.1) ∙ made.0
+int_of-within (negative (pos n)) z h = cc
+int_of-within (negative (negsuc n)) z h = let same : z ≡ negsuc n = cc in ap is_amount same
+int_of-within (float x) z h = cc
+
+val_of-within : (d : Data) (val : Val) → val_of d ≡ Ok val → is_put val ≡ true
+val_of-within null val h = let same : val ≡ Scalar Null = cc in ap is_put same
+val_of-within (boolean b) val h = let same : val ≡ Scalar (Truth b) = cc in ap is_put same
+val_of-within (number n) val h =
+    let z = found_step (int_of n) BadValue _ val h in
+    let same : val ≡ Scalar (Int z.0) = cc in
+    ap is_put same ∙ int_of-within n z.0 z.1
+val_of-within (string s) val h =
+    let t = ok_step (text_of s) _ val h in
+    let made = if_Ok (nat_le (length s) 4096) BadValue s t.0 t.1 in
+    let same : val ≡ Scalar (Text t.0) = cc in
+    ap is_put same ∙ ap (λ t. is_put (Scalar (Text t))) (sym made.1) ∙ made.0
+val_of-within (array no_items) val h = let same : val ≡ EmptyList = cc in ap is_put same
+val_of-within (array (item d ds)) val h = cc
+val_of-within (object no_members) val h = let same : val ≡ EmptyMap = cc in ap is_put same
+val_of-within (object (member k d ms)) val h = cc
+
+amount_of-val : (d : Data) (n : ℤ) → amount_of d ≡ Some n → val_of d ≡ Ok (Scalar (Int n))
+amount_of-val null n h = cc
+amount_of-val (boolean b) n h = cc
+amount_of-val (number m) n h = ap (λ o. and_then (ok_or o BadValue) (λ z. Ok (Scalar (Int z)))) h
+amount_of-val (string s) n h = cc
+amount_of-val (array ds) n h = cc
+amount_of-val (object ms) n h = cc
+
+-- ---- what is asked
+
+-- what is asked is written with this word and these further items, and is within the limits
+abbrev Writes : List ℕ → List ℕ → List Data → Ask → Type 0
+Writes verb document ds asked = (ask_data document asked ≡ asks verb document ds) × (is_ask asked ≡ true)
+
+abbrev OkWrites : List ℕ → List ℕ → List Data → Result Ask Refusal → Type 0
+OkWrites verb document ds r = (asked : Ask) → r ≡ Ok asked → Writes verb document ds asked
+
+abbrev SomeWrites : List ℕ → List ℕ → List Data → Option Ask → Type 0
+SomeWrites verb document ds o = (asked : Ask) → o ≡ Some asked → Writes verb document ds asked
+
+-- with one further item, and with two
+writes_one : (verb word document : List ℕ) (a d : Data) (asked found : Ask) → verb ≡ word → d ≡ a → asked ≡ found
+    → ask_data document found ≡ asks word document (d ∷ []) → is_ask found ≡ true → Writes verb document (a ∷ []) asked
+writes_one verb word document a d asked found is at_a same form within =
+    (ap (ask_data document) same ∙ form ∙ (λ i. asks (sym is i) document (at_a i ∷ [])), ap is_ask same ∙ within)
+
+writes_two : (verb word document : List ℕ) (a b d e : Data) (asked found : Ask) → verb ≡ word → d ≡ a → e ≡ b → asked ≡ found
+    → ask_data document found ≡ asks word document (d ∷ e ∷ []) → is_ask found ≡ true → Writes verb document (a ∷ b ∷ []) asked
+writes_two verb word document a b d e asked found is at_a at_b same form within =
+    (ap (ask_data document) same ∙ form ∙ (λ i. asks (sym is i) document (at_a i ∷ at_b i ∷ [])), ap is_ask same ∙ within)
+
+both_hold : (a b : Bool) → a ≡ true → b ≡ true → (a && b) ≡ true
+both_hold a b h k = rw (h, k) refl
+
+deletion-Ok : (verb document : List ℕ) (a : Data) → verb ≡ codes "delete" → OkWrites verb document (a ∷ []) (deletion_from a)
+deletion-Ok verb document a is asked h =
+    let expr = found_step (expr_from a) BadRequest _ asked h in
+    let same : asked ≡ ask.Change expr.0 Delete = cc in
+    let made = expr_from-Some a expr.0 expr.1 in
+    writes_one verb _ document a _ asked _ is made.0 same refl (both_hold _ _ made.1 refl)
+
+delivery-Ok : (verb document : List ℕ) (a : Data) → verb ≡ codes "deliver" → OkWrites verb document (a ∷ []) (delivery_from a)
+delivery-Ok verb document a is asked h =
+    let op = ok_step (op_from a) _ asked h in
+    let same : asked ≡ ask.Deliver op.0 = cc in
+    let made = ReadsOp-from_answer a (Ok op.0) (λ _. sym op.1) in
+    writes_one verb _ document a _ asked _ is made.0 same refl made.1
+
+forgetting-Ok : (verb document : List ℕ) (a : Data) → verb ≡ codes "forget" → OkWrites verb document (a ∷ []) (forgetting_from a)
+forgetting-Ok verb document a is asked h =
+    let id = option_map-Some ask.Forget (id_from a) asked (ok_or-Ok _ BadRequest asked h) in
+    let made = ReadsId-from_answer a (Some id.0) id.1 in
+    writes_one verb _ document a _ asked _ is made.0 (sym id.2) refl made.1
+
+abbrev IsLookOf : List ℕ → Option Look → Type 0
+IsLookOf verb o = (look : Look) → o ≡ Some look → verb ≡ look_word look
+
+look_is : (verb : List ℕ) (one : Look) → verb ≡ look_word one → IsLookOf verb (Some one)
+look_is verb one is look h = let same : one ≡ look = cc in is ∙ ap look_word same
+
+sum_is : (verb : List ℕ) → IsLookOf verb (some_if (bytes_eq verb (codes "sum")) Sum)
+sum_is verb look h =
+    let made = some_if-Some (bytes_eq verb (codes "sum")) Sum look h in
+    (bytes_eq-Decides verb (codes "sum")).0 made.0 ∙ ap look_word made.1
+
+look_of-Some : (verb : List ℕ) → IsLookOf verb (look_of verb)
+look_of-Some verb =
+    by_word (IsLookOf verb) verb (codes "keys") _ _ (look_is verb Keys)
+    (by_word (IsLookOf verb) verb (codes "values") _ _ (look_is verb Values)
+    (by_word (IsLookOf verb) verb (codes "items") _ _ (look_is verb Elements)
+    (by_word (IsLookOf verb) verb (codes "conflicts") _ _ (look_is verb Conflicts)
+    (by_word (IsLookOf verb) verb (codes "show") _ _ (look_is verb Show) (sum_is verb)))))
+
+look-Ok : (verb document : List ℕ) (a : Data) → OkWrites verb document (a ∷ []) (look_from verb a)
+look-Ok verb document a asked h =
+    let look = found_step (look_of verb) BadRequest _ asked h in
+    let expr = found_step (expr_from a) BadRequest _ asked look.2 in
+    let same : asked ≡ ask.Look expr.0 look.0 = cc in
+    let made = expr_from-Some a expr.0 expr.1 in
+    writes_one verb _ document a _ asked _ (look_of-Some verb look.0 look.1) made.0 same refl made.1
+
+short_ask-Ok : (verb document : List ℕ) (a : Data) → OkWrites verb document (a ∷ []) (short_ask verb a)
+short_ask-Ok verb document a =
+    by_word (OkWrites verb document (a ∷ [])) verb (codes "delete") _ _ (deletion-Ok verb document a)
+    (by_word (OkWrites verb document (a ∷ [])) verb (codes "deliver") _ _ (delivery-Ok verb document a)
+    (by_word (OkWrites verb document (a ∷ [])) verb (codes "forget") _ _ (forgetting-Ok verb document a) (look-Ok verb document a)))
+
+naming-Ok : (verb document : List ℕ) (a b : Data) → verb ≡ codes "let" → OkWrites verb document (a ∷ b ∷ []) (naming_from a b)
+naming-Ok verb document a b is asked h =
+    let name = found_step (variable_from a) BadRequest _ asked h in
+    let expr = found_step (expr_from b) BadRequest _ asked name.2 in
+    let same : asked ≡ ask.Let name.0 expr.0 = cc in
+    let named = variable_from-Some a name.0 name.1 in
+    let made = expr_from-Some b expr.0 expr.1 in
+    writes_two verb _ document a b _ _ asked _ is named.0 made.0 same refl (both_hold _ _ named.1 made.1)
+
+limit_from-Some : (d : Data) (limit : ℕ) → limit_from d ≡ Some limit → (number (unsigned limit) ≡ d) × ((nat_le 1 limit && nat_le limit 64) ≡ true)
+limit_from-Some null limit h = cc
+limit_from-Some (boolean b) limit h = cc
+limit_from-Some (number m) limit h =
+    let n = some_step (as_u64 m) limit_of limit h in
+    let made = some_if-Some _ n.0 limit n.2 in
+    (ap (λ k. number (unsigned k)) (sym made.1) ∙ ap number (sym (as_u64-Some m n.0 n.1)), ap (λ k. nat_le 1 k && nat_le k 64) (sym made.1) ∙ made.0)
+limit_from-Some (string s) limit h = cc
+limit_from-Some (array ds) limit h = cc
+limit_from-Some (object ms) limit h = cc
+
+ops-Ok : (verb document : List ℕ) (a b : Data) → verb ≡ codes "ops" → OkWrites verb document (a ∷ b ∷ []) (ops_from a b)
+ops-Ok verb document a b is asked h =
+    let limit = found_step (limit_from b) BadRequest _ asked h in
+    let front = ok_step (and_then (ok_or (front_of a) BadRequest) in_order) _ asked limit.2 in
+    let entries = found_step (front_of a) BadRequest in_order front.0 front.1 in
+    let order = if_Ok (is_ascending entries.0) BadFront entries.0 front.0 entries.2 in
+    let same : asked ≡ ask.Operations front.0 limit.0 = cc in
+    let read = ReadsFront-from_answer a (Ok entries.0) (λ _. sym (ap (λ o. ok_or o BadOperation) entries.1)) in
+    let bound = limit_from-Some b limit.0 limit.1 in
+    let within = both_hold _ _ (both_hold _ _ read.1 order.0) bound.1 in
+    writes_two verb _ document a b _ _ asked (ask.Operations entries.0 limit.0) is read.0 bound.0 (same ∙ ap (λ f. ask.Operations f limit.0) (sym order.1)) refl within
+
+assignment-Ok : (verb document : List ℕ) (a b : Data) → verb ≡ codes "assign" → OkWrites verb document (a ∷ b ∷ []) (assignment_from a b)
+assignment-Ok verb document a b is asked h =
+    let expr = found_step (expr_from a) BadRequest _ asked h in
+    let val = ok_step (val_of b) _ asked expr.2 in
+    let same : asked ≡ ask.Change expr.0 (Assign val.0) = cc in
+    let made = expr_from-Some a expr.0 expr.1 in
+    writes_two verb _ document a b _ _ asked _ is made.0 (val_of-Ok b val.0 val.1) same refl (both_hold _ _ made.1 (val_of-within b val.0 val.1))
+
+insertion-Ok : (verb document : List ℕ) (a b : Data) → verb ≡ codes "insert" → OkWrites verb document (a ∷ b ∷ []) (insertion_from a b)
+insertion-Ok verb document a b is asked h =
+    let expr = found_step (expr_from a) BadRequest _ asked h in
+    let val = ok_step (val_of b) _ asked expr.2 in
+    let same : asked ≡ ask.Change expr.0 (Insert val.0) = cc in
+    let made = expr_from-Some a expr.0 expr.1 in
+    writes_two verb _ document a b _ _ asked _ is made.0 (val_of-Ok b val.0 val.1) same refl (both_hold _ _ made.1 (val_of-within b val.0 val.1))
+
+addition-Ok : (verb document : List ℕ) (a b : Data) → verb ≡ codes "add" → OkWrites verb document (a ∷ b ∷ []) (addition_from a b)
+addition-Ok verb document a b is asked h =
+    let expr = found_step (expr_from a) BadRequest _ asked h in
+    let n = found_step (amount_of b) BadValue _ asked expr.2 in
+    let same : asked ≡ ask.Change expr.0 (Add n.0) = cc in
+    let made = expr_from-Some a expr.0 expr.1 in
+    let val = amount_of-val b n.0 n.1 in
+    writes_two verb _ document a b _ _ asked _ is made.0 (val_of-Ok b _ val) same refl (both_hold _ _ made.1 (val_of-within b _ val))
+
+none_asked : (verb document : List ℕ) (ds : List Data) → OkWrites verb document ds (Err BadRequest)
+none_asked verb document ds asked h = cc
+
+long_ask-Ok : (verb document : List ℕ) (a b : Data) → OkWrites verb document (a ∷ b ∷ []) (long_ask verb a b)
+long_ask-Ok verb document a b =
+    by_word (OkWrites verb document (a ∷ b ∷ [])) verb (codes "let") _ _ (naming-Ok verb document a b)
+    (by_word (OkWrites verb document (a ∷ b ∷ [])) verb (codes "ops") _ _ (ops-Ok verb document a b)
+    (by_word (OkWrites verb document (a ∷ b ∷ [])) verb (codes "assign") _ _ (assignment-Ok verb document a b)
+    (by_word (OkWrites verb document (a ∷ b ∷ [])) verb (codes "insert") _ _ (insertion-Ok verb document a b)
+    (by_word (OkWrites verb document (a ∷ b ∷ [])) verb (codes "add") _ _ (addition-Ok verb document a b) (none_asked verb document (a ∷ b ∷ []))))))
+
+plain_is : (verb word document : List ℕ) (one : Ask) → verb ≡ word → ask_data document one ≡ asks word document [] → is_ask one ≡ true → SomeWrites verb document [] (Some one)
+plain_is verb word document one is form within asked h =
+    let same : asked ≡ one = cc in
+    (ap (ask_data document) same ∙ form ∙ ap (λ w. asks w document []) (sym is), ap is_ask same ∙ within)
+
+account_is : (verb document : List ℕ) → SomeWrites verb document [] (some_if (bytes_eq verb (codes "account")) ask.Account)
+account_is verb document asked h =
+    let made = some_if-Some (bytes_eq verb (codes "account")) ask.Account asked h in
+    plain_is verb (codes "account") document ask.Account ((bytes_eq-Decides verb (codes "account")).0 made.0) refl refl asked (ap Some made.1)
+
+plain_ask-Some : (verb document : List ℕ) → SomeWrites verb document [] (plain_ask verb)
+plain_ask-Some verb document =
+    by_word (SomeWrites verb document []) verb (codes "open") _ _ (λ is. plain_is verb _ document ask.Open is refl refl)
+    (by_word (SomeWrites verb document []) verb (codes "front") _ _ (λ is. plain_is verb _ document ask.Front is refl refl)
+    (by_word (SomeWrites verb document []) verb (codes "held") _ _ (λ is. plain_is verb _ document ask.Held is refl refl) (account_is verb document)))
+
+-- ---- requests
+
+abbrev IsOf : Data → Request → Type 0
+IsOf d r = (request_data r ≡ d) × (is_request r ≡ true)
+
+-- the word and the document's name, and what is asked
+is_of : (verb document : Data) (v n : List ℕ) (ds : List Data) (asked : Ask) (r : Request) → as_str verb ≡ Some v → as_str document ≡ Some n
+    → Writes v n ds asked → Of n asked ≡ r → IsOf (list_data (verb ∷ document ∷ ds)) r
+is_of verb document v n ds asked r at_verb at_document writes same =
+    (ap request_data (sym same) ∙ writes.0 ∙ (λ i. list_data (sym (as_str-Some verb v at_verb) i ∷ sym (as_str-Some document n at_document) i ∷ ds)), ap is_request (sym same) ∙ writes.1)
+
+bare_is : (verb : List ℕ) (one r : Request) (word : List ℕ) → verb ≡ word → request_data one ≡ list_data (string word ∷ []) → is_request one ≡ true → one ≡ r → IsOf (list_data (string verb ∷ [])) r
+bare_is verb one r word is form within same =
+    (ap request_data (sym same) ∙ form ∙ ap (λ w. list_data (string w ∷ [])) (sym is), ap is_request (sym same) ∙ within)
+
+abbrev SomeIsOf : Data → Option Request → Type 0
+SomeIsOf d o = (r : Request) → o ≡ Some r → IsOf d r
+
+bare_request-Some : (verb : List ℕ) → SomeIsOf (list_data (string verb ∷ [])) (bare_request verb)
+bare_request-Some verb =
+    by_word (SomeIsOf (list_data (string verb ∷ []))) verb (codes "quit") _ _ quits asks_version
+  where
+    quits : verb ≡ codes "quit" → SomeIsOf (list_data (string verb ∷ [])) (Some Quit)
+    quits is r h = bare_is verb Quit r (codes "quit") is refl refl cc
+
+    asks_version : SomeIsOf (list_data (string verb ∷ [])) (some_if (bytes_eq verb (codes "version")) Version)
+    asks_version r h =
+        let made = some_if-Some (bytes_eq verb (codes "version")) Version r h in
+        bare_is verb Version r (codes "version") ((bytes_eq-Decides verb (codes "version")).0 made.0) refl refl made.1
+
+bare_from-Ok : (verb : Data) (r : Request) → bare_from verb ≡ Ok r → IsOf (list_data (verb ∷ [])) r
+bare_from-Ok verb r h =
+    let v = found_step (as_str verb) BadRequest _ r h in
+    let made = bare_request-Some v.0 r (ok_or-Ok _ BadRequest r v.2) in
+    (made.0 ∙ ap (λ w. list_data (w ∷ [])) (sym (as_str-Some verb v.0 v.1)), made.1)
+
+plain_from-Ok : (verb document : Data) (r : Request) → plain_from verb document ≡ Ok r → IsOf (list_data (verb ∷ document ∷ [])) r
+plain_from-Ok verb document r h =
+    let v = found_step (as_str verb) BadRequest _ r h in
+    let n = found_step (as_str document) BadRequest _ r v.2 in
+    let asked = found_step (plain_ask v.0) BadRequest _ r n.2 in
+    is_of verb document v.0 n.0 [] asked.0 r v.1 n.1 (plain_ask-Some v.0 n.0 asked.0 asked.1) cc
+
+short_from-Ok : (verb document a : Data) (r : Request) → short_from verb document a ≡ Ok r → IsOf (list_data (verb ∷ document ∷ a ∷ [])) r
+short_from-Ok verb document a r h =
+    let v = found_step (as_str verb) BadRequest _ r h in
+    let n = found_step (as_str document) BadRequest _ r v.2 in
+    let asked = ok_step (short_ask v.0 a) _ r n.2 in
+    is_of verb document v.0 n.0 (a ∷ []) asked.0 r v.1 n.1 (short_ask-Ok v.0 n.0 a asked.0 asked.1) cc
+
+long_from-Ok : (verb document a b : Data) (r : Request) → long_from verb document a b ≡ Ok r → IsOf (list_data (verb ∷ document ∷ a ∷ b ∷ [])) r
+long_from-Ok verb document a b r h =
+    let v = found_step (as_str verb) BadRequest _ r h in
+    let n = found_step (as_str document) BadRequest _ r v.2 in
+    let asked = ok_step (long_ask v.0 a b) _ r n.2 in
+    is_of verb document v.0 n.0 (a ∷ b ∷ []) asked.0 r v.1 n.1 (long_ask-Ok v.0 n.0 a b asked.0 asked.1) cc
+
+request_items-Ok : (ds : Items) (r : Request) → request_items ds ≡ Ok r → IsOf (array ds) r
+request_items-Ok no_items r h = cc
+request_items-Ok (item verb no_items) r h = bare_from-Ok verb r h
+request_items-Ok (item verb (item document no_items)) r h = plain_from-Ok verb document r h
+request_items-Ok (item verb (item document (item a no_items))) r h = short_from-Ok verb document a r h
+request_items-Ok (item verb (item document (item a (item b no_items)))) r h = long_from-Ok verb document a b r h
+request_items-Ok (item verb (item document (item a (item b (item c ds))))) r h = cc
+
+request_from-Ok : (d : Data) (r : Request) → request_from d ≡ Ok r → IsOf d r
+request_from-Ok d r h =
+    let items = found_step (as_array d) BadRequest request_items r h in
+    let made = request_items-Ok items.0 r items.2 in
+    (made.0 ∙ sym (as_array-Some d items.0 items.1), made.1)
+
+-- a request that is read has the JSON of the line
+pub reads_line : (line : List ℕ) (answer : Result Request Refusal) → UnlessMemory answer (request_of line)
+    → IfOk answer (λ r. (line_data line ≡ Some (request_data r)) × IsTrue (is_request r))
+reads_line line (Ok r) h =
+    let d = found_step (line_data line) NotJson request_from r (sym (h (λ e. cc))) in
+    let made = request_from-Ok d.0 r d.2 in
+    (d.1 ∙ ap Some (sym made.0), made.1)
+reads_line line (Err e) h = tt
