@@ -1,0 +1,101 @@
+-- Fronts that ascend, compared entry by entry.
+use Rattle.std.proofs.Common.{◌≡◌, ◌≢◌, ℕ, ◌≤◌, inl, inr, List, [], ◌∷◌, Bool, true, false, ◌&&◌, ◌||◌, ◌==◌, ◌+◌, nat_le, bytes_eq, Contains, length, arith, refl, sym, ap, subst, ◌∙◌, Ordering, Less, Equal, Greater}
+use Rattle.std.proofs.lemmas.Bool.{and_parts, false_from_ne_true}
+use Rattle.op_core.specs.Front.{max_counter}
+use Rattle.op_log.specs.Front.{compare, compare_first}
+use lib.Pointwise.{bytes_decides}
+use Rattle.lamport_id.specs.Order.{name_cmp}
+use Rattle.op_core.specs.Front.{covers, id_of, is_ascending, is_le, reaches}
+use Rattle.op_core.specs.Op.{Op}
+use Rattle.op_core.specs.Shape.{is_shaped, is_shallow, has_form, has_front}
+use Rattle.list_laws.proofs.Members.{Contains-here, Contains-there, Contains-cases}
+use Rattle.crdt_rules.proofs.Tests.{any_none}
+use Rattle.op_log.proofs.Fronts.{NamesRise, rising_from_ascending}
+use Rattle.op_log.proofs.KeyOrders.{name_order}
+use Rattle.op_log.proofs.Sorted.{less≢equal, less_back}
+
+other_name : (a b : List ℕ) → a ≢ b → bytes_eq a b ≡ false
+other_name a b other = false_from_ne_true (bytes_eq a b) (λ h. other ((bytes_decides a b).0 h))
+
+-- an entry whose name is less than all of a front
+pub below_all : (e : List ℕ × ℕ) (n : List ℕ × ℕ) (others : List (List ℕ × ℕ)) → NamesRise (n ∷ others) → name_cmp e.0 n.0 ≡ Less
+    → (m : List ℕ × ℕ) → Contains (n ∷ others) m → name_cmp e.0 m.0 ≡ Less
+below_all e n others rise less m c =
+    elim (Contains-cases n others c) [
+      | inl is ↦ subst (λ (z : List ℕ × ℕ). name_cmp e.0 z.0 ≡ Less) is less
+      | inr behind ↦ (name_order.total).trans e.0 n.0 m.0 less (rise.0 m behind)
+    ]
+
+-- is not covered by it
+below_uncovered : (e : List ℕ × ℕ) (front : List (List ℕ × ℕ)) → ((m : List ℕ × ℕ) → Contains front m → name_cmp e.0 m.0 ≡ Less) → covers front (id_of e) ≡ false
+below_uncovered e front below =
+    any_none (reaches (id_of e)) front
+    (λ m c. (λ i. (other_name m.0 e.0 (λ same. less≢equal name_order e.0 m.0 (below m c) (sym same)) i && nat_le e.1 m.1)))
+
+-- entries of other names do not need the first of a front
+skip : (front : List (List ℕ × ℕ)) (n : List ℕ × ℕ) (others : List (List ℕ × ℕ)) → ((e : List ℕ × ℕ) → Contains front e → n.0 ≢ e.0)
+    → is_le front (n ∷ others) ≡ is_le front others
+skip [] n others other = refl
+skip (e ∷ front) n others other =
+    (λ i. (((other_name n.0 e.0 (other e (Contains-here front refl)) i && nat_le e.1 n.1) || covers others (id_of e)) && is_le front (n ∷ others)))
+    ∙ ap (λ b. covers others (id_of e) && b) (skip front n others (λ f c. other f (Contains-there e front c)))
+
+pub le_none : (e : List ℕ × ℕ) (rest : List (List ℕ × ℕ)) → is_le (e ∷ rest) [] ≡ false
+le_none e rest = refl
+
+pub le_less : (e : List ℕ × ℕ) (rest : List (List ℕ × ℕ)) (n : List ℕ × ℕ) (others : List (List ℕ × ℕ)) → is_ascending (n ∷ others) ≡ true → name_cmp e.0 n.0 ≡ Less
+    → is_le (e ∷ rest) (n ∷ others) ≡ false
+le_less e rest n others ascends less =
+    ap (λ b. b && is_le rest (n ∷ others)) (below_uncovered e (n ∷ others) (below_all e n others (rising_from_ascending (n ∷ others) ascends) less))
+
+pub le_equal : (e : List ℕ × ℕ) (rest : List (List ℕ × ℕ)) (n : List ℕ × ℕ) (others : List (List ℕ × ℕ)) → is_ascending (e ∷ rest) ≡ true → is_ascending (n ∷ others) ≡ true
+    → name_cmp e.0 n.0 ≡ Equal → is_le (e ∷ rest) (n ∷ others) ≡ (nat_le e.1 n.1 && is_le rest others)
+le_equal e rest n others ascends other_ascends equal =
+    let same : e.0 ≡ n.0 = name_order.tied e.0 n.0 equal in
+    let rise = rising_from_ascending (e ∷ rest) ascends in
+    let other_rise = rising_from_ascending (n ∷ others) other_ascends in
+    let apart : covers others (id_of e) ≡ false =
+    below_uncovered e others (λ m c. subst (λ (z : List ℕ). name_cmp z m.0 ≡ Less) (sym same) (other_rise.0 m c)) in
+    (λ i. (((bytes_decides n.0 e.0).1 (sym same) i && nat_le e.1 n.1) || apart i) && skip rest n others
+    (λ f c. subst (λ (z : List ℕ). z ≢ f.0) same (less≢equal name_order e.0 f.0 (rise.0 f c))) i)
+    ∙ ap (λ b. b && is_le rest others) (or_false (nat_le e.1 n.1))
+  where
+    or_false : (b : Bool) → (b || false) ≡ b
+    or_false true = refl
+    or_false false = refl
+
+pub le_greater : (e : List ℕ × ℕ) (rest : List (List ℕ × ℕ)) (n : List ℕ × ℕ) (others : List (List ℕ × ℕ)) → is_ascending (e ∷ rest) ≡ true → name_cmp e.0 n.0 ≡ Greater
+    → is_le (e ∷ rest) (n ∷ others) ≡ is_le (e ∷ rest) others
+le_greater e rest n others ascends greater =
+    let less : name_cmp n.0 e.0 ≡ Less = less_back name_order e.0 n.0 greater in
+    let rise = rising_from_ascending (e ∷ rest) ascends in
+    skip (e ∷ rest) n others (λ f c. less≢equal name_order n.0 f.0 (below_all n e rest rise less f c))
+
+-- the rest of a front that ascends
+pub ascending-rest : (e : List ℕ × ℕ) (rest : List (List ℕ × ℕ)) → is_ascending (e ∷ rest) ≡ true → is_ascending rest ≡ true
+ascending-rest e [] h = refl
+ascending-rest e (f ∷ rest) h = (and_parts _ (is_ascending (f ∷ rest)) h).1
+
+-- so the comparison is the test
+pub compare_is : (front other : List (List ℕ × ℕ)) → is_ascending front ≡ true → is_ascending other ≡ true → compare front other ≡ is_le front other
+compare_is [] other a b = refl
+compare_is (e ∷ rest) [] a b = refl
+compare_is (e ∷ rest) (n ∷ others) a b =
+    by (name_cmp e.0 n.0) refl (compare_is rest others (ascending-rest e rest a) (ascending-rest n others b)) (compare_is (e ∷ rest) others a (ascending-rest n others b))
+  where
+    by : (o : Ordering) → name_cmp e.0 n.0 ≡ o → compare rest others ≡ is_le rest others → compare (e ∷ rest) others ≡ is_le (e ∷ rest) others
+        → compare_first o (nat_le e.1 n.1 && compare rest others) (compare (e ∷ rest) others) ≡ is_le (e ∷ rest) (n ∷ others)
+    by Less h both later = sym (le_less e rest n others b h)
+    by Equal h both later = ap (λ t. nat_le e.1 n.1 && t) both ∙ sym (le_equal e rest n others a b h)
+    by Greater h both later = later ∙ sym (le_greater e rest n others a h)
+
+-- the front of an operation ascends
+pub shaped_ascending : (op : Op) → is_shaped op ≡ true → is_ascending op.front ≡ true
+shaped_ascending op h =
+    let front = (and_parts (is_shallow op.cursor.path && has_form op) (has_front op) h).1 in
+    (and_parts (is_ascending op.front) (op.id.counter == max_counter op.front + 1) front).0
+
+pub compare_empty : (front other : List (List ℕ × ℕ)) → 1 ≤ length front → length other ≤ 0 → false ≡ compare front other
+compare_empty [] other some none = absurd (omega arith)
+compare_empty (e ∷ rest) [] some none = refl
+compare_empty (e ∷ rest) (n ∷ others) some none = absurd (omega arith)

@@ -1,0 +1,24 @@
+-- A cursor, one key after another.
+use Rattle.std.proofs.Common.{◌≡◌, ℕ, ◌<◌, zero, suc, List, [], ◌∷◌, ◌++◌, length, take, drop, get_or, ◌&&◌, sym, ap, ◌∙◌, arith}
+use Rattle.op_core.specs.Op.{Op}
+use Rattle.op_core.specs.Shape.{key_of}
+use Rattle.op_core.specs.declared.cursor.Key.{Key}
+use Rattle.op_core.specs.declared.cursor.Tagged.{Tagged}
+use Rattle.crdt_rules.specs.Fits.{knows_cursor, knows_key}
+
+drop_at : {X : Type 0} (xs : List X) (i : ℕ) (x : X) → i < length xs → x ≡ get_or xs i x → drop i xs ≡ x ∷ drop (suc i) xs
+drop_at [] i x within read = absurd (omega arith)
+drop_at (y ∷ xs) zero x within read = ap (λ z. z ∷ xs) (sym read)
+drop_at (y ∷ xs) (suc i) x within read = drop_at xs i x (omega arith) read
+
+take_at : {X : Type 0} (xs : List X) (i : ℕ) (x : X) → i < length xs → x ≡ get_or xs i x → take (suc i) xs ≡ take i xs ++ x ∷ []
+take_at [] i x within read = absurd (omega arith)
+take_at (y ∷ xs) zero x within read = ap (λ z. z ∷ []) (sym read)
+take_at (y ∷ xs) (suc i) x within read = ap (λ l. y ∷ l) (take_at xs i x (omega arith) read)
+
+pub cursor_turn : (front : List (List ℕ × ℕ)) (log : List Op) (path : List Tagged) (k : Key) (i : ℕ) (t : Tagged) → i < length path → t ≡ get_or path i t
+    → knows_cursor front log (take i path) (drop i path) k
+    ≡ (knows_key front log (take i path) (key_of t) && knows_cursor front log (take (suc i) path) (drop (suc i) path) k)
+cursor_turn front log path k i t within read =
+    ap (λ rest. knows_cursor front log (take i path) rest k) (drop_at path i t within read)
+    ∙ ap (λ way. knows_key front log (take i path) (key_of t) && knows_cursor front log way (drop (suc i) path) k) (sym (take_at path i t within read))

@@ -1,0 +1,141 @@
+-- Fronts: their order, and what one says of a replica after a change.
+use Rattle.std.proofs.Common.{◌≡◌, ◌≢◌, ℕ, ◌<◌, ◌⊎◌, inl, inr, zero, suc, List, [], ◌∷◌, ◌++◌, length, take, drop, get_or, set, Bool, true, false, bytes_eq, Some, None, if◌then◌else◌, Contains, refl, sym, ap, subst, ◌∙◌, arith, Ordering, Less}
+use Rattle.std.specs.Prelude.{insert}
+use Rattle.std.specs.Ordering.{is_lt}
+use Rattle.std.proofs.lemmas.Bool.{and_parts, and_from, false_from_ne_true}
+use Rattle.std.proofs.lemmas.List.{take-append-drop}
+use Rattle.std.proofs.lemmas.List.Elements.{Contains-get_or}
+use lib.Pointwise.{bytes_decides}
+use Rattle.lamport_id.specs.Order.{name_cmp}
+use Rattle.op_core.specs.Front.{is_ascending}
+use Rattle.crdt_rules.specs.Dependencies.{entry_of}
+use Rattle.op_log.specs.Front.{PutsEntry}
+use Rattle.doc_rules.specs.Sorted.{IsRising}
+use Rattle.op_log.specs.Sorted.{IsPlace, IsGap}
+use Rattle.list_laws.proofs.Members.{Contains-nil, Contains-here, Contains-there, Contains-cases}
+use Rattle.op_log.proofs.Sorted.{less≢equal, gap_none, Contains-take, IsRising-insert}
+use Rattle.op_log.proofs.KeyOrders.{name_order}
+
+abbrev pub NamesRise : List (List ℕ × ℕ) → Type 0
+NamesRise = IsRising name_cmp (λ e. e.0)
+
+is_lt-Less : (r : Ordering) → is_lt r ≡ true → r ≡ Less
+is_lt-Less Less h = refl
+is_lt-Less _ h = absurd (cc)
+
+-- the test of neighbours says it of all
+pub rising_from_ascending : (front : List (List ℕ × ℕ)) → is_ascending front ≡ true → NamesRise front
+rising_from_ascending [] h = tt
+rising_from_ascending (e ∷ []) h = ((λ y c. absurd (Contains-nil c)), tt)
+rising_from_ascending (e ∷ f ∷ rest) h =
+    let p = and_parts (is_lt (name_cmp e.0 f.0)) (is_ascending (f ∷ rest)) h in
+    let later = rising_from_ascending (f ∷ rest) p.1 in
+    let next : name_cmp e.0 f.0 ≡ Less = is_lt-Less (name_cmp e.0 f.0) p.0 in (
+      (λ y c.
+          elim (Contains-cases f rest c) [
+            | inl here ↦ subst (λ z. name_cmp e.0 z.0 ≡ Less) here next
+            | inr behind ↦ (name_order.total).trans e.0 f.0 y.0 next (later.0 y behind)
+          ]),
+      later,
+    )
+
+pub ascending_from_rising : (front : List (List ℕ × ℕ)) → NamesRise front → is_ascending front ≡ true
+ascending_from_rising [] r = refl
+ascending_from_rising (e ∷ []) r = refl
+ascending_from_rising (e ∷ f ∷ rest) r =
+    and_from (is_lt (name_cmp e.0 f.0)) (is_ascending (f ∷ rest)) (ap is_lt (r.0 f (Contains-here rest refl))) (ascending_from_rising (f ∷ rest) r.1)
+
+names_differ : (a b : List ℕ) → a ≢ b → bytes_eq a b ≡ false
+names_differ a b other = false_from_ne_true (bytes_eq a b) (λ h. other ((bytes_decides a b).0 h))
+
+-- an entry of a front is found by its name
+pub entry_of-at : (front : List (List ℕ × ℕ)) (e : List ℕ × ℕ) → NamesRise front → Contains front e → entry_of front e.0 ≡ Some e.1
+entry_of-at [] e r c = absurd (Contains-nil c)
+entry_of-at (f ∷ front) e r c =
+    elim (Contains-cases f front c) [
+      | inl here ↦ rw ((bytes_decides f.0 e.0).1 (ap (λ z. z.0) here)) (ap (λ (z : List ℕ × ℕ). Some z.1) here)
+      | inr behind ↦ rw (names_differ f.0 e.0 (less≢equal name_order f.0 e.0 (r.0 e behind))) (entry_of-at front e r.1 behind)
+    ]
+
+pub entry_of-none : (front : List (List ℕ × ℕ)) (name : List ℕ) → ((e : List ℕ × ℕ) → Contains front e → e.0 ≢ name) → entry_of front name ≡ None
+entry_of-none [] name none = refl
+entry_of-none (e ∷ front) name none =
+    rw (names_differ e.0 name (none e (Contains-here front refl))) (entry_of-none front name (λ f c. none f (Contains-there e front c)))
+
+pub entry_of-place : (front : List (List ℕ × ℕ)) (name : List ℕ) (i : ℕ) (d : List ℕ × ℕ) → NamesRise front → IsPlace name_cmp (λ e. e.0) front name i
+    → entry_of front name ≡ Some (get_or front i d).1
+entry_of-place front name i d r place =
+    subst (λ n. entry_of front n ≡ Some (get_or front i d).1) (place.has_key d)
+    (entry_of-at front (get_or front i d) r (Contains-get_or front i d place.within))
+
+pub entry_of-gap : (front : List (List ℕ × ℕ)) (name : List ℕ) (i : ℕ) → IsGap name_cmp (λ e. e.0) front name i → entry_of front name ≡ None
+entry_of-gap front name i gap = entry_of-none front name (gap_none name_order (λ e. e.0) front name i gap)
+
+-- of two names of which at most one is looked for, either may be looked at first
+swap_tests : {X : Type 0} (a b : Bool) (x y z : X) → ¬ ((a ≡ true) × (b ≡ true)) → (if a then x else if b then y else z) ≡ (if b then y else if a then x else z)
+swap_tests true true x y z not_both = absurd (not_both (refl, refl))
+swap_tests true false x y z not_both = refl
+swap_tests false b x y z not_both = refl
+
+behind_other : (e : List ℕ × ℕ) (name n : List ℕ) → e.0 ≢ name → ¬ ((bytes_eq e.0 n ≡ true) × (bytes_eq name n ≡ true))
+behind_other e name n other both = other ((bytes_decides e.0 n).0 both.0 ∙ sym ((bytes_decides name n).0 both.1))
+
+put_between : (us vs : List (List ℕ × ℕ)) (name : List ℕ) (c : ℕ) → ((e : List ℕ × ℕ) → Contains us e → e.0 ≢ name) → PutsEntry (us ++ vs) (us ++ (name, c) ∷ vs) name c
+put_between [] vs name c other n = refl
+put_between (e ∷ us) vs name c other n =
+    ap (λ l. if bytes_eq e.0 n then Some e.1 else l) (put_between us vs name c (λ f h. other f (Contains-there e us h)) n)
+    ∙ swap_tests (bytes_eq e.0 n) (bytes_eq name n) (Some e.1) (Some c) (entry_of (us ++ vs) n) (behind_other e name n (other e (Contains-here us refl)))
+
+pub put_in_gap : (front : List (List ℕ × ℕ)) (name : List ℕ) (c i : ℕ) → IsGap name_cmp (λ e. e.0) front name i → PutsEntry front (insert front i (name, c)) name c
+put_in_gap front name c i gap =
+    subst (λ l. PutsEntry l (insert front i (name, c)) name c) (take-append-drop i front)
+    (put_between (take i front) (drop i front) name c (λ e h. gap_none name_order (λ f. f.0) front name i gap e (Contains-take i front h)))
+
+pub put_at_place : (front : List (List ℕ × ℕ)) (name : List ℕ) (c i : ℕ) → NamesRise front → IsPlace name_cmp (λ e. e.0) front name i
+    → PutsEntry front (set front i (name, c)) name c
+put_at_place [] name c i r place n = let none : i < 0 = place.within in absurd (omega arith)
+put_at_place (e ∷ front) name c zero r place n = same (bytes_eq name n) refl
+  where
+    same : (b : Bool) → bytes_eq name n ≡ b → (if b then Some c else entry_of front n) ≡ (if b then Some c else if bytes_eq e.0 n then Some e.1 else entry_of front n)
+    same true is = refl
+    same false is = rw (ap (λ m. bytes_eq m n) (place.has_key e) ∙ is) refl
+put_at_place (e ∷ front) name c (suc i) r place n =
+    let rest : IsPlace name_cmp (λ f. f.0) front name i = record { within = le-pred place.within; has_key = place.has_key } in
+    ap (λ l. if bytes_eq e.0 n then Some e.1 else l) (put_at_place front name c i r.1 rest n)
+    ∙ swap_tests (bytes_eq e.0 n) (bytes_eq name n) (Some e.1) (Some c) (entry_of front n) (behind_other e name n other)
+  where
+    le-pred : suc i < suc (length front) → i < length front
+    le-pred h = omega arith
+
+    other : e.0 ≢ name
+    other same =
+        less≢equal name_order e.0 name
+        (subst (λ m. name_cmp e.0 m ≡ Less) (place.has_key e) (r.0 (get_or front i e) (Contains-get_or front i e (le-pred place.within)))) same
+
+pub NamesRise-set : (front : List (List ℕ × ℕ)) (name : List ℕ) (c i : ℕ) → NamesRise front → IsPlace name_cmp (λ e. e.0) front name i → NamesRise (set front i (name, c))
+NamesRise-set [] name c i r place = r
+NamesRise-set (e ∷ front) name c zero r place =
+    ((λ y h. subst (λ m. name_cmp m y.0 ≡ Less) (place.has_key e) (r.0 y h)), r.1)
+NamesRise-set (e ∷ front) name c (suc i) r place =
+    let rest : IsPlace name_cmp (λ f. f.0) front name i = record { within = le-pred place.within; has_key = place.has_key } in
+    ((λ y h. first y (set_cases front i rest.within y h) rest), NamesRise-set front name c i r.1 rest)
+  where
+    le-pred : suc i < suc (length front) → i < length front
+    le-pred h = omega arith
+
+    first : (y : List ℕ × ℕ) → ((name, c) ≡ y) ⊎ Contains front y → IsPlace name_cmp (λ f. f.0) front name i → name_cmp e.0 y.0 ≡ Less
+    first y (inl here) rest =
+        subst (λ m. name_cmp e.0 m ≡ Less) (rest.has_key e ∙ ap (λ z. z.0) here) (r.0 (get_or front i e) (Contains-get_or front i e rest.within))
+    first y (inr there) rest = r.0 y there
+
+    set_cases : (xs : List (List ℕ × ℕ)) (k : ℕ) → k < length xs → (y : List ℕ × ℕ) → Contains (set xs k (name, c)) y → ((name, c) ≡ y) ⊎ Contains xs y
+    set_cases [] k below y h = absurd (omega arith)
+    set_cases (x ∷ xs) zero below y h = elim (Contains-cases (name, c) xs h) [ inl here ↦ inl here | inr there ↦ inr (Contains-there x xs there) ]
+    set_cases (x ∷ xs) (suc k) below y h =
+        elim (Contains-cases x (set xs k (name, c)) h) [
+          | inl here ↦ inr (Contains-here xs here)
+          | inr there ↦ elim (set_cases xs k (omega arith) y there) [ inl here ↦ inl here | inr old ↦ inr (Contains-there x xs old) ]
+        ]
+
+pub NamesRise-insert : (front : List (List ℕ × ℕ)) (name : List ℕ) (c i : ℕ) → NamesRise front → IsGap name_cmp (λ e. e.0) front name i → NamesRise (insert front i (name, c))
+NamesRise-insert front name c i r gap = IsRising-insert name_order (λ e. e.0) front i (name, c) r gap

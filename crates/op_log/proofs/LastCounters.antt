@@ -1,0 +1,169 @@
+-- The last counters of the replicas of a log, and the front that has them.
+use Rattle.std.proofs.Common.{◌≡◌, ℕ, ◌+◌, ◌≤◌, max, inl, inr, List, [], ◌∷◌, ◌++◌, length, map, Bool, true, false, bytes_eq, Option, Some, None, unwrap_or, if◌then◌else◌, ◌||◌, nat_lt, nat_le, le-leb, Contains, refl, sym, ap, subst, ◌∙◌, arith}
+use Rattle.std.specs.Prelude.{is_some}
+use Rattle.std.specs.List.{list_any}
+use Rattle.std.proofs.lemmas.List.{length-map}
+use Rattle.std.proofs.lemmas.Bool.{both_ways}
+use lib.Pointwise.{bytes_decides}
+use Rattle.op_core.specs.Front.{max_counter}
+use Rattle.op_core.specs.Op.{Op}
+use Rattle.list_laws.specs.Order.{EachOnce}
+use Rattle.crdt_rules.specs.Dependencies.{entry_of}
+use Rattle.op_log.specs.Front.{PutsEntry, IsFrontOf}
+use Rattle.crdt_rules.specs.Fits.{last_counter}
+use Rattle.crdt_rules.specs.Fits.{Fits, replicas}
+use Rattle.list_laws.proofs.Members.{Contains-nil, Contains-here, Contains-there, Contains-cases}
+use Rattle.crdt_rules.proofs.Tests.{any_at, any_none}
+use Rattle.crdt_rules.proofs.Fronts.{shaped_counter, entry_of-Contains}
+use Rattle.crdt_rules.proofs.LastCounter.{below_last}
+use Rattle.crdt_rules.proofs.Tests.{some≢none}
+use Rattle.op_log.proofs.Fronts.{NamesRise, rising_from_ascending, entry_of-at}
+use Rattle.op_log.proofs.KeyOrders.{name_order}
+use Rattle.op_log.proofs.Sorted.{less≢equal}
+use Rattle.crdt_rules.proofs.Room.{length-among, replicas-at, replicas-from}
+
+-- an entry is at most the greatest counter
+entry-max_counter : (front : List (List ℕ × ℕ)) {e : List ℕ × ℕ} → Contains front e → e.1 ≤ max_counter front
+entry-max_counter [] c = absurd (Contains-nil c)
+entry-max_counter (f ∷ front) {e} c =
+    elim (Contains-cases f front c) [
+      | inl here ↦ subst (λ z. z.1 ≤ max f.1 (max_counter front)) here (omega arith)
+      | inr there ↦ let ih : e.1 ≤ max_counter front = entry-max_counter front there in omega arith
+    ]
+
+-- a name stands once among those of a log
+replicas-once : (log : List Op) → EachOnce (replicas log)
+replicas-once [] = tt
+replicas-once (z ∷ log) = by (list_any (bytes_eq z.id.replica) (replicas log)) refl (replicas-once log)
+  where
+    by : (b : Bool) → list_any (bytes_eq z.id.replica) (replicas log) ≡ b → EachOnce (replicas log) → EachOnce (if b then replicas log else z.id.replica ∷ replicas log)
+    by true e once = once
+    by false e once = ((λ c. both_ways _ e (any_at (bytes_eq z.id.replica) (replicas log) c ((bytes_decides z.id.replica z.id.replica).1 refl))), once)
+
+-- after one more operation
+pub last_counter-push : (log : List Op) (op : Op) (name : List ℕ)
+    → last_counter (log ++ op ∷ []) name
+    ≡ (if bytes_eq op.id.replica name then Some (max op.id.counter (unwrap_or (last_counter log name) 0)) else last_counter log name)
+last_counter-push [] op name = refl
+last_counter-push (o ∷ log) op name =
+    ap (λ l. if bytes_eq o.id.replica name then Some (max o.id.counter (unwrap_or l 0)) else l) (last_counter-push log op name)
+    ∙ swapped (bytes_eq o.id.replica name) (bytes_eq op.id.replica name) o.id.counter op.id.counter (last_counter log name)
+  where
+    swapped : (a b : Bool) (x y : ℕ) (l : Option ℕ)
+        → (if a then Some (max x (unwrap_or (if b then Some (max y (unwrap_or l 0)) else l) 0)) else (if b then Some (max y (unwrap_or l 0)) else l))
+        ≡ (if b then Some (max y (unwrap_or (if a then Some (max x (unwrap_or l 0)) else l) 0)) else (if a then Some (max x (unwrap_or l 0)) else l))
+    swapped true true x y l = ap (λ (n : ℕ). Some n) (omega arith)
+    swapped true false x y l = refl
+    swapped false true x y l = refl
+    swapped false false x y l = refl
+
+-- a counter that a replica has is that of an operation of it
+pub last_counter-Some : (log : List Op) (name : List ℕ) (c : ℕ) → last_counter log name ≡ Some c → (o : Op) × Contains log o × (o.id.replica ≡ name)
+last_counter-Some [] name c h = absurd (some≢none (sym h))
+last_counter-Some (o ∷ log) name c h = by (bytes_eq o.id.replica name) refl h (last_counter-Some log name c)
+  where
+    by : (b : Bool) → bytes_eq o.id.replica name ≡ b → (if b then Some (max o.id.counter (unwrap_or (last_counter log name) 0)) else last_counter log name) ≡ Some c
+        → (last_counter log name ≡ Some c → (z : Op) × Contains log z × (z.id.replica ≡ name)) → (z : Op) × Contains (o ∷ log) z × (z.id.replica ≡ name)
+    by true same h ih = (o, Contains-here log refl, (bytes_decides o.id.replica name).0 same)
+    by false other h ih = let r = ih h in (r.0, Contains-there o log r.1, r.2)
+
+-- an operation that fits is the last of its replica
+last_below : (op : Op) (log : List Op) → Fits op log → unwrap_or (last_counter log op.id.replica) 0 ≤ max_counter op.front
+last_below op log fits = by (last_counter log op.id.replica) fits.chain
+  where
+    by : (l : Option ℕ) → entry_of op.front op.id.replica ≡ l → unwrap_or l 0 ≤ max_counter op.front
+    by None h = omega arith
+    by (Some c) h = entry-max_counter op.front (entry_of-Contains op.front op.id.replica c h)
+
+pub last_counter-fits : (op : Op) (log : List Op) (name : List ℕ) → Fits op log
+    → last_counter (log ++ op ∷ []) name ≡ (if bytes_eq op.id.replica name then Some op.id.counter else last_counter log name)
+last_counter-fits op log name fits = last_counter-push log op name ∙ by (bytes_eq op.id.replica name) refl
+  where
+    by : (b : Bool) → bytes_eq op.id.replica name ≡ b
+        → (if b then Some (max op.id.counter (unwrap_or (last_counter log name) 0)) else last_counter log name) ≡ (if b then Some op.id.counter else last_counter log name)
+    by true same =
+        let below : unwrap_or (last_counter log name) 0 ≤ max_counter op.front =
+        subst (λ n. unwrap_or (last_counter log n) 0 ≤ max_counter op.front) ((bytes_decides op.id.replica name).0 same) (last_below op log fits) in
+        let next : op.id.counter ≡ max_counter op.front + 1 = shaped_counter op fits.shape in
+        ap (λ (n : ℕ). Some n) (omega arith)
+    by false other = refl
+
+-- the front with the new counter is that of the log with the operation
+pub IsFrontOf-push : (op : Op) (log : List Op) (old new : List (List ℕ × ℕ)) → Fits op log → IsFrontOf log old → NamesRise new → PutsEntry old new op.id.replica op.id.counter
+    → ((name : List ℕ) → entry_of new name ≡ last_counter (log ++ op ∷ []) name)
+IsFrontOf-push op log old new fits front rise puts name =
+    puts name ∙ ap (λ l. if bytes_eq op.id.replica name then Some op.id.counter else l) (front.last name) ∙ sym (last_counter-fits op log name fits)
+
+names-from : (xs : List (List ℕ × ℕ)) {n : List ℕ} → Contains (map (λ z. z.0) xs) n → (f : List ℕ × ℕ) × Contains xs f × (f.0 ≡ n)
+names-from [] c = absurd (Contains-nil c)
+names-from (f ∷ xs) c =
+    elim (Contains-cases f.0 (map (λ z. z.0) xs) c) [
+      | inl here ↦ (f, Contains-here xs refl, here)
+      | inr there ↦ let r = names-from xs there in (r.0, Contains-there f xs r.1, r.2)
+    ]
+
+-- a front has one entry for each replica of its log
+names_once : (front : List (List ℕ × ℕ)) → NamesRise front → EachOnce (map (λ e. e.0) front)
+names_once [] r = tt
+names_once (e ∷ front) r = ((λ c. let f = names-from front c in less≢equal name_order e.0 (f.0).0 (r.0 f.0 f.1) (sym f.2)), names_once front r.1)
+
+names-at : (xs : List (List ℕ × ℕ)) {f : List ℕ × ℕ} → Contains xs f → Contains (map (λ z. z.0) xs) f.0
+names-at [] c = absurd (Contains-nil c)
+names-at (g ∷ xs) c =
+    elim (Contains-cases g xs c) [
+      | inl here ↦ Contains-here (map (λ z. z.0) xs) (ap (λ z. z.0) here)
+      | inr there ↦ Contains-there g.0 (map (λ z. z.0) xs) (names-at xs there)
+    ]
+
+pub length-front : (log : List Op) (front : List (List ℕ × ℕ)) → IsFrontOf log front → length front ≡ length (replicas log)
+length-front log front is =
+    let rise = rising_from_ascending front is.ascending in
+    let names = map (λ (e : List ℕ × ℕ). e.0) front in
+    let few : length names ≤ length (replicas log) = length-among names (replicas log) (names_once front rise) (λ n c. in_log rise n c) in
+    let many : length (replicas log) ≤ length names = length-among (replicas log) names (replicas-once log) (λ n c. in_front n c) in
+    let same : length names ≡ length front = length-map front (λ e. e.0) in
+    omega arith
+  where
+    in_log : NamesRise front → (n : List ℕ) → Contains (map (λ e. e.0) front) n → Contains (replicas log) n
+    in_log rise n c =
+        let f = names-from front c in
+        let found : last_counter log n ≡ Some (f.0).1 = sym (is.last n) ∙ subst (λ m. entry_of front m ≡ Some (f.0).1) f.2 (entry_of-at front f.0 rise f.1) in
+        let o = last_counter-Some log n (f.0).1 found in
+        subst (Contains (replicas log)) o.2 (replicas-at log o.1)
+
+    in_front : (n : List ℕ) → Contains (replicas log) n → Contains (map (λ e. e.0) front) n
+    in_front n c =
+        let o = replicas-from log c in
+        let l = below_last log o.0 n o.1 o.2 in
+        names-at front (entry_of-Contains front n l.0 (is.last n ∙ l.1))
+
+-- a replica has a last counter where it is one of the log's
+pub is_replica : (log : List Op) (name : List ℕ) → list_any (bytes_eq name) (replicas log) ≡ is_some (last_counter log name)
+is_replica log name = by (last_counter log name) refl
+  where
+    by : (l : Option ℕ) → last_counter log name ≡ l → list_any (bytes_eq name) (replicas log) ≡ is_some l
+    by None h =
+        any_none (bytes_eq name) (replicas log)
+        (λ n c. other n c (bytes_eq name n) refl)
+      where
+        other : (n : List ℕ) → Contains (replicas log) n → (b : Bool) → bytes_eq name n ≡ b → b ≡ false
+        other n c false e = refl
+        other n c true e =
+            let o = replicas-from log c in
+            let l = below_last log o.0 name o.1 (o.2 ∙ sym ((bytes_decides name n).0 e)) in
+            absurd (some≢none (sym l.1 ∙ h))
+    by (Some c) h =
+        let o = last_counter-Some log name c h in
+        any_at (bytes_eq name) (replicas log) (replicas-at log o.1) ((bytes_decides name (o.0).id.replica).1 (sym o.2))
+
+-- whether a log takes one more operation of a replica
+pub length-replicas-next : (op : Op) (log : List Op) (n : ℕ) → n ≡ length (replicas log) → n ≤ 256
+    → (is_some (last_counter log op.id.replica) || nat_lt n 256) ≡ nat_le (length (replicas (op ∷ log))) 256
+length-replicas-next op log n is few = by (list_any (bytes_eq op.id.replica) (replicas log)) (is_replica log op.id.replica)
+  where
+    by : (b : Bool) → b ≡ is_some (last_counter log op.id.replica)
+        → (is_some (last_counter log op.id.replica) || nat_lt n 256) ≡ nat_le (length (if b then replicas log else op.id.replica ∷ replicas log)) 256
+    by true known =
+        subst (λ k. (k || nat_lt n 256) ≡ nat_le (length (replicas log)) 256) known (sym (le-leb (length (replicas log)) 256 (subst (λ m. m ≤ 256) is few)))
+    by false unknown =
+        subst (λ k. (k || nat_lt n 256) ≡ nat_le (length (op.id.replica ∷ replicas log)) 256) unknown (ap (λ m. nat_lt m 256) is)

@@ -1,0 +1,12 @@
+pub mod Sorted
+pub mod KeyOrders
+pub mod Chains
+pub mod Ids
+pub mod Fronts
+pub mod LastCounters
+pub mod Indexes
+pub mod Firsts
+pub mod Comparing
+pub mod Cursors
+pub mod WholeFronts
+pub mod Deciding

@@ -1,0 +1,5 @@
+pub mod Sorted
+pub mod Chain
+pub mod Front
+pub mod Log
+pub mod Index

@@ -1,0 +1,153 @@
+//! Whether an operation fits a log.
+ghost use Rattle.std.specs.Prelude.{◌≡◌, ◌↔◌, ◌&&◌, [], ◌∷◌, length, true, nat_le, IsOk};
+ghost use Rattle.std.specs.List.{list_any, list_all};
+ghost use Rattle.op_core.specs.Front.{id_of, is_ascending, is_le};
+ghost use Rattle.op_core.specs.Op.{Op};
+ghost use Rattle.op_core.specs.Shape.{is_shaped};
+ghost use Rattle.crdt_rules.specs.Facts.{inserts};
+ghost use Rattle.crdt_rules.specs.Fits.{Fits, is_element, knows_key, knows_cursor, knows_front, replicas};
+ghost use Rattle.crdt_rules.specs.Same.{id_eq};
+ghost use Rattle.doc_rules.specs.Cause.{cause_of, room_cause};
+
+use crate::front::{self, Entry};
+use crate::log::{OpLog, id_of};
+use json_scalar::Refusal;
+use lamport_id::{Id, ReplicaName};
+use op_core::{Cursor, Front, Key, Mutation, Operation, Tagged};
+
+/// The most operations of a log.
+pub const MAX_OPERATIONS: usize = 100_000;
+
+/// The most replicas of a log.
+pub const MAX_REPLICAS: usize = 256;
+
+impl OpLog {
+    /// The first cause against an operation: bad-front, forked (with the last counter of its replica), bad-cursor, log-full,
+    /// too-many-replicas. It is `Ok` if the operation fits. Of an operation that is not ready it says that its front is
+    /// bad. It takes no memory.
+    pub fn check(&self, op: &Operation) -> Result<(), Refusal>
+        ensures cause { result ≡ cause_of op.now self.now.operations }
+        ensures fits { IsOk result ↔ Fits op.now self.now.operations }
+    {
+        self.first_cause(op)
+    }
+
+    /// Whether the log takes one more operation of this replica: log-full from 100,000 operations on, too-many-replicas for
+    /// the 257th replica. It takes no memory.
+    pub fn check_room(&self, name: ReplicaName) -> Result<(), Refusal>
+        ensures { (op : Op) → op.id.replica ≡ name → result ≡ room_cause op self.now.operations }
+    {
+        if self.len() >= MAX_OPERATIONS {
+            return Err(Refusal::LogFull);
+        }
+        if !self.admits(name) {
+            return Err(Refusal::TooManyReplicas);
+        }
+        Ok(())
+    }
+
+    #[tactic(auto, using(crate::proofs::Comparing::shaped_ascending))]
+    fn first_cause(&self, op: &Operation) -> Result<(), Refusal>
+        ensures cause { result ≡ cause_of op.now self.now.operations }
+        ensures shaped { is_shaped op.now ≡ true }
+    {
+        let replica = op.id().replica;
+        let last = self.last_counter(replica);
+        if !self.knows_front(op.front()) {
+            return Err(Refusal::BadFront);
+        }
+        if front::last_of(op.front().as_slice(), op.id().replica) != last {
+            return Err(Refusal::Forked {
+                last: last.unwrap_or(0),
+            });
+        }
+        if !self.knows_cursor(op.front(), op.cursor()) {
+            return Err(Refusal::BadCursor);
+        }
+        self.check_room(op.id().replica)
+    }
+
+    // Whether the replicas are few enough with this one.
+    fn admits(&self, name: ReplicaName) -> bool
+        ensures { (op : Op) → op.id.replica ≡ name → result ≡ nat_le (length (replicas (op ∷ self.now.operations))) 256 }
+    {
+        let count = self.replica_count();
+        self.last_counter(name).is_some() || count < MAX_REPLICAS
+    }
+
+    fn knows_front(&self, front: &Front) -> bool
+        requires { is_ascending front.now ≡ true }
+        ensures { result ≡ knows_front front.now self.now.operations }
+    {
+        self.knows_entries(front.as_slice(), front.as_slice())
+    }
+
+    // Whether each of these entries is a logged operation, whose own front is at most this one.
+    fn knows_entries(&self, front: &[Entry], entries: &[Entry]) -> bool
+        requires { is_ascending front.now ≡ true }
+        ensures { result ≡ list_all (λ e. list_any (λ o. id_eq o.id (id_of e) && is_le o.front front.now) self.now.operations) entries.now }
+    {
+        match entries {
+            [] => true,
+            [entry, rest @ ..] => self.knows_entry(front, entry) && self.knows_entries(front, rest),
+        }
+    }
+
+    // Whether the entry is a logged operation, whose own front is at most this one.
+    fn knows_entry(&self, front: &[Entry], entry: &Entry) -> bool
+        requires { is_ascending front.now ≡ true }
+        ensures { result ≡ list_any (λ o. id_eq o.id (id_of entry.now) && is_le o.front front.now) self.now.operations }
+    {
+        match self.get(id_of(entry)) {
+            Some(op) => is_front_at_most(op, front),
+            None => false,
+        }
+    }
+
+    fn knows_cursor(&self, front: &Front, cursor: &Cursor) -> bool
+        ensures { result ≡ knows_cursor front.now self.now.operations [] cursor.now.path cursor.now.key }
+    {
+        let path = cursor.path.as_slice();
+        for i in 0..path.len() {
+            if !self.knows_key(front, &path[..i], path[i].key()) {
+                return false;
+            }
+        }
+        self.knows_key(front, path, &cursor.key)
+    }
+
+    fn knows_key(&self, front: &Front, path: &[Tagged], key: &Key) -> bool
+        ensures { result ≡ knows_key front.now self.now.operations path.now key.now }
+    {
+        match key {
+            Key::Element(id) => front.covers(*id) && self.is_element(path, *id),
+            Key::Doc | Key::Text(_) | Key::Head => true,
+        }
+    }
+
+    // Whether an insertion into the list at the path has this id.
+    fn is_element(&self, path: &[Tagged], id: Id) -> bool
+        ensures { result ≡ is_element self.now.operations path.now id }
+    {
+        match self.get(id) {
+            Some(op) => inserts_at(path, op),
+            None => false,
+        }
+    }
+}
+
+fn inserts_at(path: &[Tagged], op: &Operation) -> bool
+    ensures { result ≡ inserts op.now path.now }
+{
+    matches!(op.mutation(), Mutation::Insert(_)) && op.cursor().path.as_slice() == path
+}
+
+// Whether the front of an operation is at most another.
+#[tactic(auto, using(crate::proofs::Comparing::shaped_ascending))]
+fn is_front_at_most(op: &Operation, front: &[Entry]) -> bool
+    requires { is_ascending front.now ≡ true }
+    ensures { result ≡ is_le op.now.front front.now }
+{
+    let _id = op.id();
+    front::is_at_most(op.front().as_slice(), front)
+}

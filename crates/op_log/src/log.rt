@@ -1,0 +1,224 @@
+//! The log.
+ghost use Rattle.std.specs.Prelude.{◌≡◌, ◌+◌, ◌≤◌, [], ◌∷◌, ◌++◌, length, take, drop, map, filter, not, ◌==◌, OnOk, IfOk, IfErr, Ok};
+ghost use Rattle.std.specs.Option.{option_copied};
+ghost use Rattle.json_scalar.specs.Refusal.{UnlessMemory};
+ghost use Rattle.op_core.specs.Front.{id_of};
+ghost use Rattle.crdt_rules.specs.Dependencies.{is_logged, is_ready, missing};
+ghost use Rattle.crdt_rules.specs.Fits.{last_counter, Fits, replicas};
+ghost use Rattle.crdt_rules.specs.Log.{IsGood};
+ghost use Rattle.crdt_rules.specs.Pull.{front_of};
+ghost use Rattle.doc_rules.specs.Answers.{since};
+ghost use Rattle.doc_rules.specs.Replica.{find_id};
+
+use crate::copies::{copies, entries, first_uncovered};
+use crate::front::{self, Entry};
+use crate::index::Place;
+use crate::places;
+use doc_words::{Ids, Operations};
+use json_scalar::Refusal;
+use lamport_id::{Id, ReplicaName};
+use op_core::{Front, Operation};
+use std::alloc::Global;
+use std::marker::Model;
+
+/// A log of operations, which only grows, and each of which fits those before it. A contract sees it as the list of its
+/// operations, and for how many more it has room.
+#[derive(Debug)]
+pub struct OpLog {
+    entries: Vec<Operation>,
+    places: Vec<Place>,
+    front: Vec<Entry>,
+}
+
+impl Model for OpLog {
+    ghost use Rattle.op_log.specs.Log.{Log, room_of};
+    ghost use Rattle.op_log.specs.Index.{IsIndexed};
+
+    ghost Value = { Log };
+
+    ghost view = { λ l. record { operations = l.entries.items; room = room_of l.entries l.places l.front } };
+
+    ghost invariant = { λ l. IsIndexed l.entries.items l.places.items l.front.items };
+}
+
+impl OpLog {
+    /// The log with no operation. It keeps the allocator.
+    pub fn new(alloc: Global) -> OpLog
+        ensures { result.operations ≡ [] }
+    {
+        OpLog {
+            entries: Vec::new(alloc),
+            places: Vec::new(alloc),
+            front: Vec::new(alloc),
+        }
+    }
+
+    /// How many operations there are.
+    pub fn len(&self) -> usize
+        ensures len { result ≡ length self.now.operations }
+        ensures good { IsGood self.now.operations }
+    {
+        self.entries.len()
+    }
+
+    /// Whether there is none.
+    pub fn is_empty(&self) -> bool
+        ensures { result ≡ (length self.now.operations == 0) }
+    {
+        self.entries.is_empty()
+    }
+
+    /// The operations, in the order in which they were logged.
+    pub fn as_slice(&self) -> &[Operation]
+        ensures { result.now ≡ self.now.operations }
+    {
+        self.entries.as_slice()
+    }
+
+    /// The operation of this id, by one search.
+    pub fn get(&self, id: Id) -> Option<&Operation>
+        ensures good { IsGood self.now.operations }
+        ensures found { option_copied result ≡ find_id self.now.operations id }
+    {
+        match places::search(&self.places, (id.replica, id.counter)) {
+            Ok(at) => Some(&self.entries[self.places[at].index]),
+            Err(_) => None,
+        }
+    }
+
+    /// Whether the operation of this id is logged, by one search.
+    pub fn contains(&self, id: Id) -> bool
+        ensures { result ≡ is_logged self.now.operations id }
+    {
+        places::search(&self.places, (id.replica, id.counter)).is_ok()
+    }
+
+    /// The counter of the replica's last operation, if it has one.
+    pub fn last_counter(&self, name: ReplicaName) -> Option<u64>
+        ensures { result ≡ last_counter self.now.operations name }
+    {
+        front::last_of(&self.front, name)
+    }
+
+    /// How many replicas have operations: at most 256.
+    pub fn replica_count(&self) -> usize
+        ensures count { result ≡ length (replicas self.now.operations) }
+        ensures within { result ≤ 256 }
+    {
+        self.front.len()
+    }
+
+    /// Makes room for n more operations, whatever their replicas. It is refused for want of memory alone, and the
+    /// operations are then as they were.
+    pub fn reserve(&mut self, n: usize) -> Result<(), Refusal>
+        ensures operations { self.new.operations ≡ self.old.operations }
+        ensures kept { self.old.room ≤ self.new.room }
+        ensures ok { OnOk result (n ≤ self.new.room) }
+        ensures err { IfErr result (λ e. e ≡ Refusal.NoMemory) }
+    {
+        self.entries.reserve(n)?;
+        self.places.reserve(n)?;
+        self.front.reserve(n)?;
+        Ok(())
+    }
+
+    /// Adds an operation that fits, in room that was reserved. It takes no memory.
+    pub fn append(&mut self, op: Operation)
+        requires fits { Fits op self.old.operations }
+        requires room { 1 ≤ self.old.room }
+        ensures operations { self.new.operations ≡ self.old.operations ++ op ∷ [] }
+        ensures room { self.old.room ≤ self.new.room + 1 }
+    {
+        let Id { counter, replica } = op.id();
+        let index = self.entries.len();
+        let place = Place {
+            replica,
+            counter,
+            index,
+        };
+        places::add(&mut self.places, place);
+        front::put_last(&mut self.front, replica, counter);
+        self.entries.push(op).unwrap();
+    }
+
+    /// The front of the log: each replica with the counter of its last operation. It is refused for want of memory alone.
+    pub fn front(&self) -> Result<Front, Refusal>
+        ensures { UnlessMemory result (Ok (front_of self.now.operations)) }
+    {
+        let alloc = *self.front.allocator();
+        Ok(Front::from(entries(alloc, &self.front)?))
+    }
+
+    /// The first operations that the front does not cover, at most `limit` of them, in their order. It is refused for want
+    /// of memory alone.
+    pub fn since(&self, front: &Front, limit: usize) -> Result<Operations, Refusal>
+        ensures { UnlessMemory result (Ok (take limit (since front.now self.now.operations))) }
+    {
+        let alloc = *self.entries.allocator();
+        Ok(Operations::from(first_uncovered(alloc, &self.entries, front, limit)?))
+    }
+
+    /// The operations after the first `from`, at most `max` of them. It is refused for want of memory alone.
+    pub fn tail(&self, from: usize, max: usize) -> Result<Operations, Refusal>
+        ensures { UnlessMemory result (Ok (take max (drop from self.now.operations))) }
+    {
+        let start = from.min(self.entries.len());
+        let len = max.min(self.entries.len() - start);
+        let alloc = *self.entries.allocator();
+        Ok(Operations::from(copies(alloc, &self.entries[start..start + len])?))
+    }
+
+    /// Whether each id of the front of an operation is logged.
+    pub fn is_ready(&self, op: &Operation) -> bool
+        ensures { result ≡ is_ready op.now self.now.operations }
+    {
+        op.front()
+            .as_slice()
+            .iter()
+            .all(|entry| self.contains(id_of(entry)))
+    }
+
+    /// The ids of the front of an operation that are not logged, in the order of the front. It is refused for want of
+    /// memory alone.
+    pub fn missing(&self, op: &Operation) -> Result<Ids, Refusal>
+        ensures { UnlessMemory result (Ok (missing op.now self.now.operations)) }
+    {
+        let alloc = *self.entries.allocator();
+        Ok(Ids::from(self.unlogged(alloc, op.front().as_slice())?))
+    }
+
+    // The ids of these entries that are not logged.
+    fn unlogged(&self, alloc: Global, front: &[Entry]) -> Result<Vec<Id>, Refusal>
+        ensures ok { IfOk result (λ ids. ids.items ≡ filter (λ i. not (is_logged self.now.operations i)) (map id_of front.now)) }
+        ensures err { IfErr result (λ e. e ≡ Refusal.NoMemory) }
+    {
+        let mut ids = Vec::new(alloc);
+        for entry in front {
+            if !self.contains(id_of(entry)) {
+                ids.push(id_of(entry))?;
+            }
+        }
+        Ok(ids)
+    }
+}
+
+// By hand, so that it is called and not written out where a log is let go.
+impl Drop for OpLog {
+    fn drop(self) {
+        let OpLog {
+            entries: _,
+            places: _,
+            front: _,
+        } = self;
+    }
+}
+
+/// The id that an entry of a front is.
+pub fn id_of(entry: &Entry) -> Id
+    ensures { result ≡ id_of entry.now }
+{
+    Id {
+        counter: entry.1,
+        replica: entry.0,
+    }
+}
