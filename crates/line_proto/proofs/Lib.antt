@@ -1,3 +1,6 @@
 pub mod Lines
 pub mod Requests
 pub mod Found
+pub mod Texts
+pub mod Held
+pub mod Floats

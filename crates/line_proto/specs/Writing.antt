@@ -1,0 +1,28 @@
+-- What writing answers.
+use Rattle.std.specs.Prelude.{Bool, true, false, Result, Ok, Err, ⊤}
+use Rattle.doc_words.specs.declared.reply.Reply.{Reply}
+use Rattle.doc_words.specs.declared.reply.Reply.TheVariants.{Applied, Known, Held, Forgotten, Account, Refused}
+use Rattle.line_proto.specs.declared.told.Told.{Told}
+use Rattle.line_proto.specs.declared.told.Told.TheVariants.{Answered}
+use Rattle.line_proto.specs.declared.write.WriteFault.{WriteFault}
+use Rattle.line_proto.specs.declared.write.WriteFault.TheVariants.{NoMemory, Device}
+
+-- whether the reply's line is made whole before it is written, and may lack memory
+abbrev pub is_lengthy : Reply → Bool
+is_lengthy (Applied count dropped id) = false
+is_lengthy Known = false
+is_lengthy (Held missing) = false
+is_lengthy Forgotten = false
+is_lengthy (Account n) = false
+is_lengthy (Refused r) = false
+is_lengthy _ = true
+
+abbrev pub may_lack : Told → Bool
+may_lack (Answered reply) = is_lengthy reply
+may_lack _ = false
+
+-- whether the sink failed
+abbrev pub is_device : Result ⊤ WriteFault → Bool
+is_device (Ok _) = false
+is_device (Err NoMemory) = false
+is_device (Err Device) = true

@@ -1,0 +1,139 @@
+//! How lines are written.
+ghost use Rattle.std.specs.Prelude.{◌≡◌, ◌≢◌, ◌++◌, [], ◌∷◌, true, false, codes, is_err, OnOk, OnErr};
+ghost use Rattle.std.specs.Io.KnownBytes.{Appends};
+ghost use Rattle.serde_json.specs.Data.{Data};
+ghost use Rattle.serde_json.specs.Written.{comma_if, compact_text};
+ghost use Rattle.op_core.specs.Wire.{id_data};
+ghost use Rattle.doc_words.specs.declared.reply.Reply.TheVariants.{Held, Show};
+ghost use Rattle.line_feed.specs.Cut.{AppendsCut, line_of};
+ghost use Rattle.line_proto.specs.Told.{line_text, reply_data, reply_text, told_text, line_told, worded};
+ghost use Rattle.line_proto.specs.Writing.{is_lengthy, may_lack, is_device};
+ghost use Rattle.line_proto.specs.declared.told.Told.TheVariants.{Answered};
+
+use crate::lengthy::lengthy_line;
+use crate::text::{Line, account, applied, fixed, no, opened, put_id, version};
+use crate::told::{Told, VERSION};
+use doc_words::Reply;
+use lamport_id::Id;
+use line_feed::{DeviceFault, Sink, write_all};
+use std::alloc::Global;
+
+/// Why a line wasn't written whole.
+#[derive(Clone, Copy, Debug, PartialEq, Eq)]
+pub enum WriteFault {
+    /// Memory was wanting, and nothing was written.
+    NoMemory,
+    /// The sink failed, with a part of the line taken that is less than all.
+    Device,
+}
+
+impl From<DeviceFault> for WriteFault {
+    ghost use Rattle.std.specs.Prelude.{◌≡◌};
+    ghost use Rattle.line_proto.specs.declared.write.WriteFault.TheVariants.{Device};
+
+    ghost from_gives = { λ _ fault. fault ≡ Device };
+
+    fn from(_fault: DeviceFault) -> WriteFault {
+        WriteFault::Device
+    }
+}
+
+impl Told {
+    /// Writes the line that is told, with its newline.
+    ///
+    /// `Device` where the sink fails; then it has taken a part of the line that is less than all. `NoMemory` where
+    /// memory is wanting; then nothing was written. That can come only for what is read of a document, for its
+    /// operations, its front and what waits: each of these lines is made whole before its first byte is written, and
+    /// every other one is written without taking memory.
+    #[tactic(auto, unfolding(json::specs::Print::escape_byte))]
+    pub fn write<W: Sink>(&self, alloc: Global, sink: &mut W) -> Result<(), WriteFault>
+        requires works { W.has_failed sink.old ≡ false }
+        ensures ok { OnOk result (Appends (W.contents sink.old) (W.contents sink.new) (line_told self.now)) }
+        ensures device { result ≡ Err WriteFault.Device → AppendsCut (W.contents sink.old) (W.contents sink.new) (line_told self.now) }
+        ensures memory { result ≡ Err WriteFault.NoMemory → (sink.new ≡ sink.old) × (may_lack self.now ≡ true) }
+        ensures failed { W.has_failed sink.new ≡ is_device result }
+    {
+        match self {
+            Told::Opened(seat) => write_short(sink, &opened(*seat)),
+            Told::Bound => write_short(sink, &fixed("[\"bound\"]\n")),
+            Told::Version => write_short(sink, &version(VERSION)),
+            Told::Bye => write_short(sink, &fixed("[\"bye\"]\n")),
+            Told::Answered(reply) => write_reply(alloc, reply, sink),
+        }
+    }
+
+    /// The law that a shown element is told as JSON: for the compact text of an element, `["show",ELEMENT]`.
+    pub fn shown_as_json()
+        ensures { (d : Data) → told_text (Answered (Show (compact_text d))) ≡ compact_text (worded (codes "show") (d ∷ [])) }
+    {}
+}
+
+#[tactic(auto, unfolding(json::specs::Print::escape_byte))]
+fn write_reply<W: Sink>(alloc: Global, reply: &Reply, sink: &mut W) -> Result<(), WriteFault>
+    requires works { W.has_failed sink.old ≡ false }
+    ensures ok { OnOk result (Appends (W.contents sink.old) (W.contents sink.new) (line_of (reply_text reply.now))) }
+    ensures device { result ≡ Err WriteFault.Device → AppendsCut (W.contents sink.old) (W.contents sink.new) (line_of (reply_text reply.now)) }
+    ensures memory { result ≡ Err WriteFault.NoMemory → (sink.new ≡ sink.old) × (is_lengthy reply.now ≡ true) }
+    ensures failed { W.has_failed sink.new ≡ is_device result }
+{
+    match reply {
+        Reply::Applied { count, dropped, id } => write_short(sink, &applied(*count, *dropped, id)),
+        Reply::Known => write_short(sink, &fixed("[\"known\"]\n")),
+        Reply::Held(missing) => Ok(write_held(missing.as_slice(), sink)?),
+        Reply::Forgotten => write_short(sink, &fixed("[\"forgotten\"]\n")),
+        Reply::Account(n) => write_short(sink, &account(*n)),
+        Reply::Refused(refusal) => write_short(sink, &no(*refusal)),
+        lengthy => write_lengthy(alloc, lengthy, sink),
+    }
+}
+
+fn write_short<W: Sink>(sink: &mut W, line: &Line) -> Result<(), WriteFault>
+    requires { W.has_failed sink.old ≡ false }
+    ensures ok { OnOk result (Appends (W.contents sink.old) (W.contents sink.new) line.now.bytes) }
+    ensures device { result ≡ Err WriteFault.Device → AppendsCut (W.contents sink.old) (W.contents sink.new) line.now.bytes }
+    ensures memory { result ≢ Err WriteFault.NoMemory }
+    ensures failed { W.has_failed sink.new ≡ is_device result }
+{
+    Ok(write_all(sink, line.as_str().as_bytes())?)
+}
+
+/// Makes the whole line, and then writes it.
+fn write_lengthy<W: Sink>(alloc: Global, reply: &Reply, sink: &mut W) -> Result<(), WriteFault>
+    requires works { W.has_failed sink.old ≡ false }
+    requires lengthy { is_lengthy reply.now ≡ true }
+    ensures ok { OnOk result (Appends (W.contents sink.old) (W.contents sink.new) (line_of (reply_text reply.now))) }
+    ensures device { result ≡ Err WriteFault.Device → AppendsCut (W.contents sink.old) (W.contents sink.new) (line_of (reply_text reply.now)) }
+    ensures memory { result ≡ Err WriteFault.NoMemory → sink.new ≡ sink.old }
+    ensures failed { W.has_failed sink.new ≡ is_device result }
+{
+    let Ok(line) = lengthy_line(alloc, reply) else {
+        return Err(WriteFault::NoMemory);
+    };
+    Ok(write_all(sink, line.as_str().as_bytes())?)
+}
+
+/// Writes the ids one by one, since there may be many and no memory is taken.
+fn write_held<W: Sink>(missing: &[Id], sink: &mut W) -> Result<(), DeviceFault>
+    requires { W.has_failed sink.old ≡ false }
+    ensures ok { OnOk result (Appends (W.contents sink.old) (W.contents sink.new) (line_text (reply_data (Held missing.now)))) }
+    ensures cut { OnErr result (AppendsCut (W.contents sink.old) (W.contents sink.new) (line_text (reply_data (Held missing.now)))) }
+    ensures failed { W.has_failed sink.new ≡ is_err result }
+{
+    write_all(sink, b"[\"held\",[")?;
+    for i in 0..missing.len() {
+        write_all(sink, id_item(0 < i, &missing[i]).as_str().as_bytes())?;
+    }
+    write_all(sink, b"]]\n")
+}
+
+/// An id of an array, behind a comma if it isn't the first.
+fn id_item(later: bool, id: &Id) -> Line
+    ensures { result.bytes ≡ comma_if later ++ compact_text (id_data id.now) }
+{
+    let mut line = Line::new();
+    if later {
+        line.push_str(",");
+    }
+    put_id(&mut line, id);
+    line
+}
