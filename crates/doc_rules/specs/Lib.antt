@@ -6,6 +6,7 @@ pub mod Resolve
 pub mod Cause
 pub mod Replica
 pub mod Events
+pub mod Memory
 pub mod Answers
 pub mod Document
 pub mod Seats

@@ -27,6 +27,7 @@ ghost use Rattle.doc_rules.specs.Answers.{LooksHere, Reads};
 ghost use Rattle.doc_rules.specs.Cause.{IsFirstMisfit, cause_of, room_cause};
 ghost use Rattle.doc_rules.specs.Document.{Document, Acts, GivesTo, IsSound, copied_to, count_in, count_of, logged_by, opens, total_of};
 ghost use Rattle.doc_rules.specs.Events.{Event, IsWellMade, cause_at};
+ghost use Rattle.doc_rules.specs.Memory.{DoesFully};
 ghost use Rattle.doc_rules.specs.Reads.{AgreeOnPresent, AreConflicts, Values};
 ghost use Rattle.doc_rules.specs.Replica.{Replica, GoesOn, IsKept, facts_of, own_op};
 ghost use Rattle.doc_rules.specs.Resolve.{Resolves};
@@ -39,6 +40,11 @@ pub fn one_answer()
     ensures steps { (f : Facts) (start : Cursor) (steps : List Step) (x y : Result Cursor Refusal)
         → Resolves f start steps x → Resolves f start steps y → x ≡ y }
     ensures queries { (r : Replica) (mine : ℕ) (q : Query) (x y : Reply) → Reads r mine q x → Reads r mine q y → x ≡ y }
+{}
+
+/// Where memory is at hand throughout, a command has one answer, and one replica then.
+pub fn one_outcome()
+    ensures { (r s t : Replica) (command : Command) (x y : Reply) → DoesFully r command x s → DoesFully r command y t → (x ≡ y) × (s ≡ t) }
 {}
 
 /// An operation of right shape fits a log just where no cause stands against it; and where none stands against a change of

@@ -1,1 +1,3 @@
 pub mod Sharing
+pub mod OneAnswer
+pub mod AtHand

@@ -1,4 +1,5 @@
 pub mod Session
 pub mod Transcript
 pub mod Alone
+pub mod AtHand
 pub mod Shelf

@@ -1,12 +1,17 @@
-//! What a session writes for the bytes that it reads, as definitions. The function here is a law, and does nothing.
+//! What a session writes for the bytes that it reads, as definitions. The functions here are laws, and do
+//! nothing.
 #![tactic(auto)]
 
-ghost use Rattle.std.specs.Prelude.{◌≡◌, ℕ, ◌+◌, true};
+ghost use Rattle.std.specs.Prelude.{◌≡◌, ℕ, ◌+◌, Bool, true, List};
 ghost use Rattle.lamport_id.specs.Name.{is_name};
 ghost use Rattle.doc_words.specs.declared.ask.Command.{Command};
 ghost use Rattle.doc_words.specs.declared.reply.Reply.{Reply};
 ghost use Rattle.doc_rules.specs.Document.{Document, Acts, count_in};
 ghost use Rattle.doc_rules.specs.Events.{IsWellMade};
+ghost use Rattle.line_proto.specs.declared.told.Told.{Told};
+ghost use Rattle.session_rules.specs.Alone.{alone};
+ghost use Rattle.session_rules.specs.AtHand.{at_hand};
+ghost use Rattle.session_rules.specs.Session.{Session, Answers, AnswersLine};
 ghost use Rattle.session_rules.specs.Shelf.{IsSomewhere};
 
 /// Why a session ended.
@@ -31,4 +36,13 @@ pub enum Ending {
 pub fn told_is_logged()
     ensures { (d e : Document) (seat told : ℕ) (command : Command) (reply : Reply) → is_name d.replica.name ≡ true → IsWellMade command
         → IsSomewhere d seat told → Acts d seat command reply e → IsSomewhere e seat (told + count_in reply) }
+{}
+
+/// Where memory is at hand throughout, a session alone has one answer to a line, and one state then; and it is an answer that
+/// the session may give.
+pub fn one_answer()
+    ensures one { (names : List (List ℕ)) (s t u : Session (List Document)) (line : List ℕ) (x y : Told) (p q : Bool)
+        → AnswersLine (at_hand names) s line x p t → AnswersLine (at_hand names) s line y q u → (x ≡ y) × (p ≡ q) × (t ≡ u) }
+    ensures may { (names : List (List ℕ)) (s t : Session (List Document)) (line : List ℕ) (told : Told) (goes_on : Bool)
+        → AnswersLine (at_hand names) s line told goes_on t → Answers (alone names) s line told goes_on t }
 {}
