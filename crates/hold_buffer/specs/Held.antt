@@ -1,0 +1,24 @@
+-- What a buffer shows of itself.
+use Rattle.std.specs.Prelude.{List, length, Bool, true, false, nat_lt, Result, Ok, Err, ⊤}
+use Rattle.lamport_id.specs.declared.id.Id.{Id}
+use Rattle.json_scalar.specs.declared.refusal.Refusal.{Refusal}
+use Rattle.json_scalar.specs.declared.refusal.Refusal.TheVariants.{IdConflict, HeldFull}
+use Rattle.op_core.specs.Op.{Op}
+use Rattle.crdt_rules.specs.Dependencies.{is_logged}
+
+pub record Buffer : Type 0 where
+  -- the held operations, by rising id
+  pub held : List Op
+
+-- What the buffer keeps of the log is right. It keeps nothing of it: it asks the log again each time.
+unfoldable pub IsCurrent : Buffer → List Op → Type 0
+IsCurrent buffer log = Unit {0}
+
+-- the first cause against holding an operation: another one is held under its id, or there is no room
+abbrev pub first_cause : Bool → Bool → Result ⊤ Refusal
+first_cause true room = Err IdConflict
+first_cause false false = Err HeldFull
+first_cause false true = Ok tt
+
+abbrev pub cause_of : Id → List Op → Result ⊤ Refusal
+cause_of id held = first_cause (is_logged held id) (nat_lt (length held) 256)

@@ -1,0 +1,183 @@
+//! The buffer.
+ghost use Rattle.std.specs.Prelude.{◌≡◌, ◌↔◌, List, [], ◌∷◌, ◌++◌, ◌+◌, length, ◌==◌, map, filter, find, not, true, false, IsTrue, OnOk, OnErr, OnSome, Some, IfSome, Ok, Contains};
+ghost use Rattle.std.specs.Option.{option_map, option_copied};
+ghost use Rattle.lamport_id.specs.Order.{id_cmp};
+ghost use Rattle.json_scalar.specs.Refusal.{UnlessMemory};
+ghost use Rattle.op_core.specs.Op.{Op};
+ghost use Rattle.crdt_rules.specs.Same.{id_eq};
+ghost use Rattle.doc_rules.specs.Sorted.{IsRising};
+ghost use Rattle.doc_rules.specs.Replica.{find_id};
+ghost use Rattle.crdt_rules.specs.Dependencies.{is_logged, is_ready, missing};
+ghost use Rattle.hold_buffer.specs.Held.{IsCurrent, cause_of};
+ghost use Rattle.doc_rules.specs.Replica.{put_among};
+
+use crate::order::{ids_of, prepare, search, store, take, waiting_of};
+use crate::ticket::Ticket;
+use doc_words::{Ids, Waiting};
+use json_scalar::Refusal;
+use lamport_id::Id;
+use op_core::Operation;
+use op_log::OpLog;
+use slab::Slab;
+use std::alloc::Global;
+use std::marker::Model;
+
+/// Operations that wait for others to be logged. A contract sees the list of the held operations, by rising id.
+#[derive(Debug)]
+pub struct HoldBuffer {
+    slots: Slab<Operation>,
+    order: Vec<Ticket>,
+}
+
+impl Model for HoldBuffer {
+    ghost use Rattle.hold_buffer.specs.Held.{Buffer};
+    ghost use Rattle.hold_buffer.specs.Order.{operations_of, IsOrdered};
+
+    ghost Value = { Buffer };
+
+    ghost view = { λ b. record { held = operations_of b.slots b.order.items } };
+
+    ghost invariant = { λ b. IsOrdered b.slots b.order.items };
+}
+
+impl HoldBuffer {
+    /// The buffer that holds nothing.
+    pub fn new(alloc: Global) -> HoldBuffer
+        ensures held { result.held ≡ [] }
+        ensures current { (log : List Op) → IsCurrent result log }
+    {
+        HoldBuffer {
+            slots: Slab::new(alloc),
+            order: Vec::new(alloc),
+        }
+    }
+
+    /// How many operations are held.
+    pub fn len(&self) -> usize
+        ensures len { result ≡ length self.now.held }
+        ensures rising { IsRising id_cmp (λ o. o.id) self.now.held }
+    {
+        self.order.len()
+    }
+
+    /// Whether none is held.
+    pub fn is_empty(&self) -> bool
+        ensures { result ≡ (length self.now.held == 0) }
+    {
+        self.len() == 0
+    }
+
+    /// The ids of the held operations, in their order. It is refused for want of memory alone.
+    pub fn ids(&self) -> Result<Ids, Refusal>
+        ensures { UnlessMemory result (Ok (map (λ o. o.id) self.now.held)) }
+    {
+        Ok(Ids::from(ids_of(*self.order.allocator(), &self.order)?))
+    }
+
+    /// The ids of the held operations, in their order, each with those that it waits for, in the order of its front. It is
+    /// refused for want of memory alone.
+    pub fn waiting(&self, log: &OpLog) -> Result<Waiting, Refusal>
+        requires { IsCurrent self.now log.now.operations }
+        ensures { UnlessMemory result (Ok (map (λ o. (o.id, missing o log.now.operations)) self.now.held)) }
+    {
+        let alloc = *self.order.allocator();
+        waiting_of(alloc, log, &self.slots, &self.order)
+    }
+
+    /// The held operation of this id.
+    pub fn get(&self, id: Id) -> Option<&Operation>
+        ensures found { option_copied result ≡ find_id self.now.held id }
+        ensures rising { IsRising id_cmp (λ o. o.id) self.now.held }
+    {
+        match search(&self.order, id) {
+            Ok(at) => self.slots.get(self.order[at].key),
+            Err(_) => None,
+        }
+    }
+
+    /// Whether an operation is held under this id.
+    pub fn contains(&self, id: Id) -> bool
+        ensures { result ≡ is_logged self.now.held id }
+    {
+        self.get(id).is_some()
+    }
+
+    /// Whether an equal operation is held.
+    pub fn same(&self, op: &Operation) -> bool
+        ensures { IsTrue result ↔ Contains self.now.held op.now }
+    {
+        match self.get(op.id()) {
+            Some(held) => *held == *op,
+            None => false,
+        }
+    }
+
+    /// Holds an operation that is not ready, unless another one is held under its id, or too many are held.
+    pub fn hold(&mut self, log: &OpLog, op: Operation) -> Result<(), Refusal>
+        requires waits { is_ready op log.now.operations ≡ false }
+        requires new_id { is_logged log.now.operations op.id ≡ false }
+        requires other { ¬ (Contains self.old.held op) }
+        requires current { IsCurrent self.old log.now.operations }
+        ensures cause { UnlessMemory result (cause_of op.id self.old.held) }
+        ensures ok { OnOk result (self.new.held ≡ put_among op self.old.held) }
+        ensures err { OnErr result (self.new ≡ self.old) }
+        ensures current { IsCurrent self.new log.now.operations }
+    {
+        match prepare(&mut self.slots, &mut self.order, op.id()) {
+            Ok(at) => {
+                store(&mut self.slots, &mut self.order, at, op);
+                Ok(())
+            }
+            Err(refusal) => {
+                drop(op);
+                Err(refusal)
+            }
+        }
+    }
+
+    /// Takes notice that an operation was logged.
+    pub fn logged(&mut self, id: Id)
+        ensures held { self.new.held ≡ self.old.held }
+        ensures current { (log : List Op) (op : Op) → op.id ≡ id → IsCurrent self.old log → IsCurrent self.new (log ++ op ∷ []) }
+    {}
+
+    /// The least id of the ready operations.
+    pub fn next_ready(&self, log: &OpLog) -> Option<Id>
+        requires { IsCurrent self.now log.now.operations }
+        ensures least { result ≡ option_map (λ o. o.id) (find (λ o. is_ready o log.now.operations) self.now.held) }
+        ensures operation { IfSome result (λ id. find_id self.now.held id ≡ find (λ o. is_ready o log.now.operations) self.now.held) }
+    {
+        for ticket in self.order.as_slice() {
+            if log.is_ready(&self.slots[ticket.key]) {
+                return Some(ticket.id);
+            }
+        }
+        None
+    }
+
+    /// The ids that a held operation waits for, in the order of its front. It is refused for want of memory alone.
+    pub fn missing(&self, log: &OpLog, id: Id) -> Result<Ids, Refusal>
+        requires held { is_logged self.now.held id ≡ true }
+        requires current { IsCurrent self.now log.now.operations }
+        ensures { (op : Op) → find_id self.now.held id ≡ Some op → UnlessMemory result (Ok (missing op log.now.operations)) }
+    {
+        log.missing(self.get(id).unwrap())
+    }
+
+    /// Takes the operation of this id out.
+    pub fn remove(&mut self, id: Id) -> Option<Operation>
+        ensures value { result ≡ find_id self.old.held id }
+        ensures len { OnSome result (length self.new.held + 1 ≡ length self.old.held) }
+        ensures held { self.new.held ≡ filter (λ o. not (id_eq o.id id)) self.old.held }
+        ensures current { (log : List Op) → IsCurrent self.old log → IsCurrent self.new log }
+    {
+        take(&mut self.slots, &mut self.order, id)
+    }
+}
+
+// By hand, so that it is called and not written out where a buffer is let go.
+impl Drop for HoldBuffer {
+    fn drop(self) {
+        let HoldBuffer { slots: _, order: _ } = self;
+    }
+}

@@ -1,0 +1,125 @@
+//! The order of the held operations.
+ghost use Rattle.std.specs.Prelude.{◌≡◌, ◌≢◌, ◌<◌, ◌+◌, not, length, filter, map, vec_len, OnOk, OnSome, IfOk, Ok, Err, MatchResult};
+ghost use Rattle.std.specs.Vec.{vec_capacity};
+ghost use Rattle.slab.specs.Slab.{HasRoomFor};
+ghost use Rattle.lamport_id.specs.Order.{id_cmp};
+ghost use Rattle.json_scalar.specs.Refusal.{UnlessMemory};
+ghost use Rattle.crdt_rules.specs.Same.{id_eq};
+ghost use Rattle.doc_rules.specs.Sorted.{IsRising};
+ghost use Rattle.op_log.specs.Sorted.{IsPlace, IsGap};
+ghost use Rattle.crdt_rules.specs.Dependencies.{missing};
+ghost use Rattle.doc_rules.specs.Replica.{find_id, put_among};
+ghost use Rattle.hold_buffer.specs.Held.{cause_of};
+ghost use Rattle.hold_buffer.specs.Order.{operations_of, IsOrdered};
+
+use crate::ticket::Ticket;
+use doc_words::{Ids, Waiting};
+use json_scalar::Refusal;
+use lamport_id::Id;
+use op_core::Operation;
+use op_log::OpLog;
+use slab::Slab;
+use std::alloc::{AllocError, Global};
+
+/// The most operations that are held.
+pub const MAX_HELD: usize = 256;
+
+/// Where the id stands in the order, or where it would go.
+pub fn search(order: &[Ticket], id: Id) -> Result<usize, usize>
+    requires { IsRising id_cmp (λ t. t.id) order.now }
+    ensures { MatchResult result (IsPlace id_cmp (λ t. t.id) order.now id) (IsGap id_cmp (λ t. t.id) order.now id) }
+{
+    order.binary_search_by_key(&id, |ticket| ticket.id)
+}
+
+/// The ids of the tickets.
+pub fn ids_of(alloc: Global, order: &[Ticket]) -> Result<Vec<Id>, AllocError>
+    ensures { IfOk result (λ ids. ids.items ≡ map (λ t. t.id) order.now) }
+{
+    order.iter().map(|ticket| ticket.id).collect(alloc)
+}
+
+/// Where an operation of this id is to be stored, with room for it; or the first cause against it.
+pub fn prepare(
+    slots: &mut Slab<Operation>,
+    order: &mut Vec<Ticket>,
+    id: Id,
+) -> Result<usize, Refusal>
+    requires { IsOrdered slots.old order.old.items }
+    ensures order { order.new.items ≡ order.old.items }
+    ensures slots { slots.new ≡ record slots.old { capacity = slots.new.capacity } }
+    ensures gap { IfOk result (IsGap id_cmp (λ t. t.id) order.old.items id) }
+    ensures slot { OnOk result (HasRoomFor slots.new 1) }
+    ensures ticket { OnOk result (vec_len order.new < vec_capacity order.new) }
+    ensures cause { MatchResult result (λ _. cause_of id (operations_of slots.old order.old.items) ≡ Ok tt)
+        (λ e. e ≢ Refusal.NoMemory → cause_of id (operations_of slots.old order.old.items) ≡ Err e) }
+{
+    match search(order, id) {
+        Ok(_) => Err(Refusal::IdConflict),
+        Err(at) => {
+            if order.len() >= MAX_HELD {
+                return Err(Refusal::HeldFull);
+            }
+            slots.reserve(1)?;
+            order.reserve(1)?;
+            Ok(at)
+        }
+    }
+}
+
+/// Stores an operation where it is to be.
+pub fn store(slots: &mut Slab<Operation>, order: &mut Vec<Ticket>, at: usize, op: Operation)
+    requires ordered { IsOrdered slots.old order.old.items }
+    requires gap { IsGap id_cmp (λ t. t.id) order.old.items op.id at }
+    requires slot { HasRoomFor slots.old 1 }
+    requires ticket { vec_len order.old < vec_capacity order.old }
+    ensures ordered { IsOrdered slots.new order.new.items }
+    ensures operations { operations_of slots.new order.new.items ≡ put_among op (operations_of slots.old order.old.items) }
+{
+    let id = op.id();
+    let key = slots.insert_reserved(op);
+    let ticket = Ticket { id, key };
+    order.insert(at, ticket).unwrap();
+}
+
+/// Takes the operation of this id out.
+pub fn take(slots: &mut Slab<Operation>, order: &mut Vec<Ticket>, id: Id) -> Option<Operation>
+    requires { IsOrdered slots.old order.old.items }
+    ensures ordered { IsOrdered slots.new order.new.items }
+    ensures value { result ≡ find_id (operations_of slots.old order.old.items) id }
+    ensures len { OnSome result (length (operations_of slots.new order.new.items) + 1 ≡ length (operations_of slots.old order.old.items)) }
+    ensures operations { operations_of slots.new order.new.items ≡ filter (λ o. not (id_eq o.id id)) (operations_of slots.old order.old.items) }
+{
+    match search(order, id) {
+        Ok(at) => {
+            let ticket = order.remove(at);
+            slots.try_remove(ticket.key)
+        }
+        Err(_) => None,
+    }
+}
+
+/// The ids of the tickets, each with the ids that its operation waits for. It is refused for want of memory alone.
+pub fn waiting_of(
+    alloc: Global,
+    log: &OpLog,
+    slots: &Slab<Operation>,
+    order: &[Ticket],
+) -> Result<Waiting, Refusal>
+    requires { IsOrdered slots.now order.now }
+    ensures { UnlessMemory result (Ok (map (λ o. (o.id, missing o log.now.operations)) (operations_of slots.now order.now))) }
+{
+    let mut waiting = Vec::new(alloc);
+    for ticket in order {
+        let entry = waits_for(log, &slots[ticket.key])?;
+        waiting.push(entry)?;
+    }
+    Ok(Waiting::from(waiting))
+}
+
+fn waits_for(log: &OpLog, op: &Operation) -> Result<(Id, Ids), Refusal>
+    ensures { UnlessMemory result (Ok (op.now.id, missing op.now log.now.operations)) }
+{
+    let missing = log.missing(op)?;
+    Ok((op.id(), missing))
+}
