@@ -1,3 +1,4 @@
 pub mod Sharing
 pub mod OneAnswer
 pub mod AtHand
+pub mod FirstRun
