@@ -1,0 +1,5 @@
+pub mod Entries
+pub mod Presence
+pub mod Lists
+pub mod TellingRoles
+pub mod Leading

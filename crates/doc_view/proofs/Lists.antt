@@ -1,0 +1,53 @@
+-- Elements of a list, one more at the end.
+use Rattle.std.proofs.Common.{◌≡◌, ℕ, ◌+◌, ◌<◌, List, [], ◌∷◌, ◌++◌, length, get_or, take, Bool, true, false, true≢false, Decides, if◌then◌else◌, refl, sym, ap, append-nil, subst, ◌∙◌}
+use Rattle.std.proofs.lemmas.List.{take_more}
+use Rattle.lamport_id.specs.declared.id.Id.{Id}
+use Rattle.json_scalar.specs.declared.scalar.Scalar.{Scalar}
+use Rattle.op_core.specs.declared.cursor.Key.TheVariants.{Element}
+use Rattle.op_core.specs.declared.cursor.Tagged.{Tagged}
+use Rattle.crdt_rules.specs.Facts.{Facts}
+use Rattle.doc_rules.specs.Reads.{AreValues, HaveValues}
+use Rattle.doc_rules.specs.Sorted.{AreThose}
+use Rattle.doc_rules.specs.Sorted.AreThose.{none, keep, skip}
+
+module _ {X : Type 0} {holds : X → Type 0} where
+  those_kept : {xs kept : List X} (x : X) → AreThose holds xs kept → holds x → AreThose holds (xs ++ x ∷ []) (kept ++ x ∷ [])
+  those_kept x none h = keep h none
+  those_kept x (keep g rest) h = keep g (those_kept x rest h)
+  those_kept x (skip g rest) h = skip g (those_kept x rest h)
+
+  those_left : {xs kept : List X} (x : X) → AreThose holds xs kept → ¬ (holds x) → AreThose holds (xs ++ x ∷ []) kept
+  those_left x none h = skip h none
+  those_left x (keep g rest) h = keep g (those_left x rest h)
+  those_left x (skip g rest) h = skip g (those_left x rest h)
+
+  pub those_more : {xs kept : List X} (x : X) (b : Bool) → Decides b (holds x) → AreThose holds xs kept
+      → AreThose holds (xs ++ x ∷ []) (kept ++ (if b then x ∷ [] else []))
+  those_more x true d those = those_kept x those (d.0 refl)
+  those_more {xs} {kept} x false d those =
+      subst (λ l. AreThose holds (xs ++ x ∷ []) l) (sym (append-nil kept)) (those_left x those (λ h. absurd (true≢false (sym (d.1 h)))))
+
+-- one element more of those taken so far
+pub take_read : {X : Type 0} (xs : List X) (i : ℕ) (x : X) → i < length xs → x ≡ get_or xs i x → take (i + 1) xs ≡ take i xs ++ x ∷ []
+take_read xs i x within is = take_more xs i x within ∙ ap (λ y. take i xs ++ y ∷ []) (sym is)
+
+pub those_step : {X : Type 0} {holds : X → Type 0} (xs kept new : List X) (i : ℕ) (x : X) (b : Bool) → i < length xs → x ≡ get_or xs i x
+    → AreThose holds (take i xs) kept → Decides b (holds x) → new ≡ kept ++ (if b then x ∷ [] else []) → AreThose holds (take (i + 1) xs) new
+those_step {X} {holds} xs kept new i x b within is those d e =
+    subst (λ (l : List X). AreThose holds (take (i + 1) xs) l) (sym e)
+    (subst (λ (l : List X). AreThose holds l (kept ++ (if b then x ∷ [] else []))) (sym (take_read xs i x within is)) (those_more x b d those))
+
+pub values-push : (f : Facts) (p : List Tagged) (ids : List Id) (items : List (Id × List Scalar)) (i : Id) (scalars : List Scalar)
+    → HaveValues f p ids items → AreValues f p (Element i) scalars → HaveValues f p (ids ++ i ∷ []) (items ++ (i, scalars) ∷ [])
+values-push f p [] [] i scalars h here = (refl, here, tt)
+values-push f p (j ∷ ids) (item ∷ items) i scalars h here = (h.0, h.1, values-push f p ids items i scalars h.2 here)
+values-push f p [] (item ∷ items) i scalars h here = absurd h
+values-push f p (j ∷ ids) [] i scalars h here = absurd h
+
+pub values_step : (f : Facts) (p : List Tagged) (ids : List Id) (items new : List (Id × List Scalar)) (i : ℕ) (id : Id) (scalars : List Scalar)
+    → i < length ids → id ≡ get_or ids i id → HaveValues f p (take i ids) items → AreValues f p (Element id) scalars
+    → new ≡ items ++ (id, scalars) ∷ [] → HaveValues f p (take (i + 1) ids) new
+values_step f p ids items new i id scalars within is have here e =
+    subst (λ (l : List (Id × List Scalar)). HaveValues f p (take (i + 1) ids) l) (sym e)
+    (subst (λ (l : List Id). HaveValues f p l (items ++ (id, scalars) ∷ [])) (sym (take_read ids i id within is))
+    (values-push f p (take i ids) items id scalars have here))

@@ -1,0 +1,49 @@
+-- Which ids make a place present, read from what stands there.
+use Rattle.std.proofs.Common.{◌≡◌, ◌==◌, ℕ, suc, arith, List, [], ◌∷◌, length, true, false, true≢false, not, Bool, Decides, Option, Some, None, refl, sym, ap, ◌∙◌, Contains, is_some}
+use Rattle.std.proofs.lemmas.Bool.Decides.{nat_tests}
+use Rattle.list_laws.proofs.Members.{Contains-nil, Contains-here}
+use Rattle.lamport_id.specs.declared.id.Id.{Id}
+use Rattle.json_scalar.specs.declared.scalar.Scalar.{Scalar}
+use Rattle.op_core.specs.declared.cursor.Key.{Key}
+use Rattle.op_core.specs.declared.cursor.Tagged.{Tagged}
+use Rattle.doc_words.specs.declared.role.Role.{Role}
+use Rattle.presence_set.specs.ById.{get, IsAscending}
+use Rattle.doc_tree.specs.declared.node.Node.{Node}
+use Rattle.doc_tree.specs.Nodes.{facts_of, tree_facts, tree_role}
+use Rattle.doc_rules.specs.Reads.{IsPresent}
+use Rattle.doc_view.proofs.Entries.{get-Contains, Contains-get}
+
+pub present_role : (tree : List Node × Option Scalar) (p : List Tagged) (k : Key) (i : Id)
+    → (tree_facts tree).present p k i ≡ is_some (tree_role tree p k i)
+unfolding facts_of
+present_role tree p k i = refl
+
+-- the ids and roles at a place
+pub record AreRoles (tree : List Node × Option Scalar) (p : List Tagged) (k : Key) (roles : List (Id × Role)) : Type 0 where
+  pub value : (i : Id) → get roles i ≡ tree_role tree p k i
+  pub ascending : IsAscending roles
+
+module _ {tree : List Node × Option Scalar} {p : List Tagged} {k : Key} {roles : List (Id × Role)} (are : AreRoles tree p k roles) where
+  pub role_of : (e : Id × Role) → Contains roles e → tree_role tree p k e.0 ≡ Some e.1
+  role_of e c = sym (are.value e.0) ∙ Contains-get roles are.ascending e c
+
+  pub present_from : (e : Id × Role) → Contains roles e → (tree_facts tree).present p k e.0 ≡ true
+  present_from e c = present_role tree p k e.0 ∙ ap is_some (role_of e c)
+
+  pub entry_from : (i : Id) → (tree_facts tree).present p k i ≡ true → (role : Role) × Contains roles (i, role)
+  entry_from i here = go (get roles i) refl (ap is_some (are.value i) ∙ sym (present_role tree p k i) ∙ here)
+    where
+      go : (o : Option Role) → get roles i ≡ o → is_some o ≡ true → (role : Role) × Contains roles (i, role)
+      go None is some = absurd (cc)
+      go (Some role) is some = (role, get-Contains roles i role is)
+
+-- a place is present just if some id stands there
+pub present_decides : (tree : List Node × Option Scalar) (p : List Tagged) (k : Key) (roles : List (Id × Role)) (none : Bool)
+    → AreRoles tree p k roles → none ≡ (length roles == 0) → Decides (not none) (IsPresent (tree_facts tree) p k)
+present_decides tree p k [] true are is = (λ h. absurd (true≢false (sym h)), λ w. absurd (Contains-nil (entry_from are w.0 w.1).1))
+present_decides tree p k [] false are is = let e : false ≡ true = is in absurd (true≢false (sym e))
+present_decides tree p k (e ∷ roles) true are is = absurd (true≢false (is ∙ some (length roles)))
+  where
+    some : (n : ℕ) → (suc n == 0) ≡ false
+    some n = grind (arith, nat_tests)
+present_decides tree p k (e ∷ roles) false are is = (λ h. (e.0, present_from are e (Contains-here roles refl)), λ w. refl)

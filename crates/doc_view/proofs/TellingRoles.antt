@@ -1,0 +1,97 @@
+-- The values that roles tell, in id order.
+use Rattle.std.proofs.Common.{◌≡◌, List, [], ◌∷◌, ◌++◌, Option, Some, None, option_and_then, ◌⊎◌, inl, inr, refl, sym, ap, subst, ◌∙◌, Contains}
+use Rattle.lamport_id.specs.declared.id.Id.{Id}
+use Rattle.lamport_id.specs.Order.{id_cmp}
+use Rattle.json_scalar.specs.declared.scalar.Scalar.{Scalar}
+use Rattle.json_scalar.specs.declared.scalar.Val.{Val}
+use Rattle.op_core.specs.declared.cursor.Key.{Key}
+use Rattle.op_core.specs.declared.cursor.Tagged.{Tagged}
+use Rattle.list_laws.proofs.Members.{Contains-nil, Contains-here, Contains-there, Contains-cases}
+use Rattle.crdt_rules.proofs.Tests.{some_same}
+use Rattle.doc_words.specs.declared.role.Role.{Role}
+use Rattle.presence_set.specs.ById.{get}
+use Rattle.doc_tree.specs.declared.node.Node.{Node}
+use Rattle.doc_tree.specs.Nodes.{tree_facts, tree_role}
+use Rattle.doc_rules.specs.Reads.{AreConflicts}
+use Rattle.doc_rules.specs.Role.{value_in}
+use Rattle.doc_rules.specs.Sorted.{IsRising}
+use Rattle.doc_view.specs.Told.{tree_values, with_value, values_told}
+use Rattle.doc_view.proofs.Entries.{rising}
+use Rattle.doc_view.proofs.Presence.{AreRoles, role_of, present_from, entry_from}
+
+pub values_told-push : (scalars : List (Id × Scalar)) (roles : List (Id × Role)) (e : Id × Role)
+    → values_told scalars (roles ++ e ∷ []) ≡ values_told scalars roles ++ with_value e.0 (value_in e.1 (get scalars e.0)) []
+values_told-push scalars [] e = refl
+values_told-push scalars (r ∷ roles) e = go (value_in r.1 (get scalars r.0)) (values_told-push scalars roles e)
+  where
+    go : (v : Option Val) → values_told scalars (roles ++ e ∷ []) ≡ values_told scalars roles ++ with_value e.0 (value_in e.1 (get scalars e.0)) []
+        → with_value r.0 v (values_told scalars (roles ++ e ∷ [])) ≡ with_value r.0 v (values_told scalars roles) ++ with_value e.0 (value_in e.1 (get scalars e.0)) []
+    go None ih = ih
+    go (Some v) ih = ap (λ values. (r.0, v) ∷ values) ih
+
+-- the role of an id whose value is told
+record WasTold (scalars : List (Id × Scalar)) (roles : List (Id × Role)) (x : Id × Val) : Type 0 where
+  role : Role
+  stands : Contains roles (x.0, role)
+  tells : value_in role (get scalars x.0) ≡ Some x.1
+
+none_some : {X : Type 0} {x : X} → ◌≡◌ {A = Option X} None (Some x) → ⊥
+none_some e = cc
+
+module _ (scalars : List (Id × Scalar)) where
+  told_from : (roles : List (Id × Role)) (x : Id × Val) → Contains (values_told scalars roles) x → WasTold scalars roles x
+  told_from [] x c = absurd (Contains-nil c)
+  told_from (e ∷ roles) x c = go (value_in e.1 (get scalars e.0)) refl (told_from roles x) c
+    where
+      go : (v : Option Val) → value_in e.1 (get scalars e.0) ≡ v → (Contains (values_told scalars roles) x → WasTold scalars roles x)
+          → Contains (with_value e.0 v (values_told scalars roles)) x → WasTold scalars (e ∷ roles) x
+      go None is ih c = record { role = (ih c).role; stands = Contains-there e roles (ih c).stands; tells = (ih c).tells }
+      go (Some v) is ih c = elim (Contains-cases (e.0, v) (values_told scalars roles) c) [
+        | inl same ↦ record {
+          role = e.1;
+          stands = Contains-here roles (λ j. ((same j).0, e.1));
+          tells = subst (λ (z : Id × Val). value_in e.1 (get scalars z.0) ≡ Some z.1) same is;
+        }
+        | inr there ↦ record { role = (ih there).role; stands = Contains-there e roles (ih there).stands; tells = (ih there).tells }
+      ]
+
+  told_at : (roles : List (Id × Role)) (i : Id) (role : Role) (v : Val) → Contains roles (i, role) → value_in role (get scalars i) ≡ Some v
+      → Contains (values_told scalars roles) (i, v)
+  told_at [] i role v c is = absurd (Contains-nil c)
+  told_at (e ∷ roles) i role v c is = go (value_in e.1 (get scalars e.0)) refl (Contains-cases e roles c) (λ there. told_at roles i role v there is)
+    where
+      go : (o : Option Val) → value_in e.1 (get scalars e.0) ≡ o → ((e ≡ (i, role)) ⊎ Contains roles (i, role))
+          → (Contains roles (i, role) → Contains (values_told scalars roles) (i, v)) → Contains (with_value e.0 o (values_told scalars roles)) (i, v)
+      go None at (inr there) ih = ih there
+      go (Some w) at (inr there) ih = Contains-there (e.0, w) (values_told scalars roles) (ih there)
+      go None at (inl same) ih = absurd (none_some (sym at ∙ subst (λ (z : Id × Role). value_in z.1 (get scalars z.0) ≡ Some v) (sym same) is))
+      go (Some w) at (inl same) ih =
+          Contains-here (values_told scalars roles)
+          (λ j. ((same j).0, some_same (sym at ∙ subst (λ (z : Id × Role). value_in z.1 (get scalars z.0) ≡ Some v) (sym same) is) j))
+
+  told_rising : (roles : List (Id × Role)) → IsRising id_cmp (λ (e : Id × Role). e.0) roles
+      → IsRising id_cmp (λ (e : Id × Val). e.0) (values_told scalars roles)
+  told_rising [] h = tt
+  told_rising (e ∷ roles) h = go (value_in e.1 (get scalars e.0)) (told_rising roles h.1)
+    where
+      go : (o : Option Val) → IsRising id_cmp (λ (e : Id × Val). e.0) (values_told scalars roles)
+          → IsRising id_cmp (λ (e : Id × Val). e.0) (with_value e.0 o (values_told scalars roles))
+      go None ih = ih
+      go (Some v) ih = (λ y c. h.0 (y.0, (told_from roles y c).role) ((told_from roles y c).stands), ih)
+
+-- roles and register of a place tell its values
+pub are_conflicts : (tree : List Node × Option Scalar) (p : List Tagged) (k : Key) (roles : List (Id × Role)) (scalars : List (Id × Scalar))
+    → AreRoles tree p k roles → ((i : Id) → get scalars i ≡ (tree_facts tree).register p k i)
+    → AreConflicts (tree_facts tree) (tree_values tree) p k (values_told scalars roles)
+are_conflicts tree p k roles scalars are register = record {
+  rising = told_rising scalars roles (rising roles are.ascending);
+  each = λ x c. let t = told_from scalars roles x c in (
+    present_from are (x.0, t.role) t.stands,
+    ap (λ s. option_and_then (λ role. value_in role s) (tree_role tree p k x.0)) (sym (register x.0))
+        ∙ ap (λ o. option_and_then (λ role. value_in role (get scalars x.0)) o) (role_of are (x.0, t.role) t.stands) ∙ t.tells,
+  );
+  all = λ x h. let e = entry_from are x.0 h.0 in
+      told_at scalars roles x.0 e.0 x.1 e.1
+      (sym (ap (λ o. option_and_then (λ role. value_in role (get scalars x.0)) o) (role_of are (x.0, e.0) e.1))
+      ∙ ap (λ s. option_and_then (λ role. value_in role s) (tree_role tree p k x.0)) (register x.0) ∙ h.1);
+}

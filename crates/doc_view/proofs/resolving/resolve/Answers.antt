@@ -1,0 +1,16 @@
+use Rattle.std.proofs.Common.{Result, Err, subst}
+use Rattle.std.proofs.lemmas.Result.{err_from_is_err_and}
+use Rattle.json_scalar.specs.declared.refusal.Refusal.{Refusal}
+use Rattle.op_core.specs.declared.cursor.Cursor.{Cursor}
+use Rattle.doc_tree.specs.Nodes.{tree_facts}
+use Rattle.doc_rules.specs.Resolve.{Leads}
+use Rattle.doc_view.proofs.Leading.{leads_err}
+use Rattle.doc_view.proofs.resolving.resolve.Goals as goal
+
+pub returns-in_err-from : goal.returns-in_err-from
+returns-in_err-from c =
+    let exit = err_from_is_err_and c.from_residual.result c.from_residual.ensures.1 in
+    let f = tree_facts c.args.tree.now in
+    let e = c.in_err-from.field-0.0 in
+    rw (exit.1, exit.2)
+    (λ other. subst (λ (from : Result Cursor Refusal). Leads f c.args.steps.now from (Err e)) (c.in_err-from.ensures other) (leads_err f c.args.steps.now e))

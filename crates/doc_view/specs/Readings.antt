@@ -1,0 +1,16 @@
+-- What a reader of a tree answers.
+use Rattle.std.specs.Prelude.{◌≡◌, List, Result, Err, MatchBool, MatchResult}
+use Rattle.json_scalar.specs.declared.refusal.Refusal.{Refusal}
+use Rattle.json_scalar.specs.declared.refusal.Refusal.TheVariants.{AtHead, NoMemory}
+use Rattle.op_core.specs.declared.cursor.Cursor.{Cursor}
+use Rattle.op_core.specs.declared.cursor.Key.{Key}
+use Rattle.op_core.specs.declared.cursor.Tagged.{Tagged}
+use Rattle.op_core.specs.Shape.{is_head}
+
+-- something of which this holds, or memory is wanting
+abbrev pub Gives : {X : Type 0} → (X → Type 0) → Result X Refusal → Type 0
+Gives holds r = MatchResult r holds (λ e. e ≡ NoMemory)
+
+-- a reading of this kind at a cursor; there is none at a head
+abbrev pub ReadsHere : {X : Type 0} → (List Tagged → Key → X → Type 0) → Cursor → Result X Refusal → Type 0
+ReadsHere reads c r = MatchBool (is_head c.key) (r ≡ Err AtHead) (Gives (reads c.path c.key) r)

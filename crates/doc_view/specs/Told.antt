@@ -1,0 +1,25 @@
+-- The values that the roles and registers of a tree tell.
+use Rattle.std.specs.Prelude.{List, [], ◌∷◌, Option, Some, None, option_and_then}
+use Rattle.lamport_id.specs.declared.id.Id.{Id}
+use Rattle.json_scalar.specs.declared.scalar.Scalar.{Scalar}
+use Rattle.json_scalar.specs.declared.scalar.Val.{Val}
+use Rattle.doc_words.specs.declared.role.Role.{Role}
+use Rattle.presence_set.specs.ById.{get}
+use Rattle.doc_tree.specs.declared.node.Node.{Node}
+use Rattle.doc_tree.specs.Nodes.{tree_facts, tree_role}
+use Rattle.doc_rules.specs.Reads.{Values}
+use Rattle.doc_rules.specs.Role.{value_in}
+
+-- what the operation of each id put at each place
+abbrev pub tree_values : List Node × Option Scalar → Values
+tree_values tree p k i = option_and_then (λ role. value_in role ((tree_facts tree).register p k i)) (tree_role tree p k i)
+
+-- the pair of an id and its value, if it has one
+abbrev pub with_value : Id → Option Val → List (Id × Val) → List (Id × Val)
+with_value i None values = values
+with_value i (Some value) values = (i, value) ∷ values
+
+-- the ids of these roles that put a value, each with that value
+abbrev pub values_told : List (Id × Scalar) → List (Id × Role) → List (Id × Val)
+values_told scalars [] = []
+values_told scalars (e ∷ roles) = with_value e.0 (value_in e.1 (get scalars e.0)) (values_told scalars roles)

@@ -1,0 +1,13 @@
+//! Reads of a document's tree: where cursors lead, and what stands there.
+#![tactic(auto)]
+
+mod elements;
+mod place;
+mod registers;
+mod resolving;
+mod roles;
+
+pub use elements::items;
+pub use registers::{sum, values};
+pub use resolving::resolve;
+pub use roles::conflicts;

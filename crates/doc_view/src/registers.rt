@@ -1,0 +1,69 @@
+//! What stands in a register and in a counter.
+ghost use Rattle.std.specs.Prelude.{◌≡◌, map};
+ghost use Rattle.doc_tree.specs.Nodes.{tree_facts};
+ghost use Rattle.doc_rules.specs.Reads.{AreValues, IsSum, total};
+ghost use Rattle.doc_view.specs.Readings.{Gives, ReadsHere};
+
+use crate::place::is_head;
+use doc_tree::Tree;
+use doc_words::Scalars;
+use json_scalar::{Refusal, Scalar};
+use lamport_id::Id;
+use op_core::{Cursor, Key, Path};
+use std::alloc::Global;
+
+/// The scalars of the register at a cursor, in the order of their ids. `AtHead` where the cursor stands at a head.
+pub fn values(alloc: Global, tree: &Tree, cursor: &Cursor) -> Result<Scalars, Refusal>
+    ensures { ReadsHere (AreValues (tree_facts tree.now)) cursor.now result }
+{
+    if is_head(&cursor.key) {
+        return Err(Refusal::AtHead);
+    }
+    values_at(alloc, tree, &cursor.path, &cursor.key)
+}
+
+/// The scalars of the register of a place.
+pub fn values_at(alloc: Global, tree: &Tree, path: &Path, key: &Key) -> Result<Scalars, Refusal>
+    ensures { Gives (AreValues (tree_facts tree.now) path.now key.now) result }
+{
+    let scalars = scalars_of(alloc, tree.register(path, key))?;
+    Ok(Scalars::from(scalars))
+}
+
+fn scalars_of(alloc: Global, entries: &[(Id, Scalar)]) -> Result<Vec<Scalar>, Refusal>
+    ensures { Gives (λ scalars. scalars.items ≡ map (λ e. e.1) entries.now) result }
+{
+    let mut scalars = Vec::new(alloc);
+    for entry in entries {
+        scalars.push(entry.1.try_clone()?)?;
+    }
+    Ok(scalars)
+}
+
+/// The total of the numbers of the counter at a cursor. `AtHead` where the cursor stands at a head.
+pub fn sum(tree: &Tree, cursor: &Cursor) -> Result<i128, Refusal>
+    ensures { ReadsHere (IsSum (tree_facts tree.now)) cursor.now result }
+{
+    if is_head(&cursor.key) {
+        return Err(Refusal::AtHead);
+    }
+    Ok(sum_at(tree, &cursor.path, &cursor.key))
+}
+
+/// The total of the numbers of the counter of a place.
+pub fn sum_at(tree: &Tree, path: &Path, key: &Key) -> i128
+    ensures { IsSum (tree_facts tree.now) path.now key.now result }
+{
+    total_of(tree.counter(path, key))
+}
+
+// A slice has fewer than 2^64 entries, so the total of 64-bit numbers is within 128 bits.
+fn total_of(entries: &[(Id, i64)]) -> i128
+    ensures { result ≡ total entries.now }
+{
+    let mut total: i128 = 0;
+    for entry in entries {
+        total += i128::from(entry.1);
+    }
+    total
+}

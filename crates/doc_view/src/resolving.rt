@@ -1,0 +1,193 @@
+//! Where cursors lead.
+ghost use Rattle.std.specs.Prelude.{◌≡◌, ◌≢◌, ◌&&◌, [], Ok, Err};
+ghost use Rattle.std.specs.List.{list_any};
+ghost use Rattle.json_scalar.specs.declared.refusal.Refusal.TheVariants.{NoMemory};
+ghost use Rattle.json_scalar.specs.Refusal.{UnlessMemory, and_then};
+ghost use Rattle.op_core.specs.Shape.{is_placed};
+ghost use Rattle.op_core.specs.declared.cursor.Cursor.{Cursor};
+ghost use Rattle.op_core.specs.declared.cursor.Key.TheVariants.{Text};
+ghost use Rattle.doc_words.specs.declared.place.Step.TheVariants.{Index};
+ghost use Rattle.doc_rules.specs.Reads.{into_map, into_list};
+ghost use Rattle.crdt_rules.specs.Same.{id_eq};
+ghost use Rattle.doc_tree.specs.Nodes.{tree_facts};
+ghost use Rattle.doc_rules.specs.Resolve as rules;
+ghost use Rattle.doc_view.specs.Readings.{Gives};
+
+use crate::elements::{elements_in, order_of};
+use crate::place::{into_list, is_head, is_placed};
+use doc_tree::Tree;
+use doc_words::Step;
+use json_scalar::Refusal;
+use lamport_id::Id;
+use op_core::{Cursor, Key, KeyText, Path, Tagged};
+use std::alloc::Global;
+
+/// The most keys of a path.
+const MAX_PATH_LEN: usize = 30;
+
+/// The most bytes of a text that is a key.
+const MAX_KEY_LEN: usize = 128;
+
+/// The cursor to which steps lead from a start.
+///
+/// Of the start: `TooDeep` if its path has more than 30 keys, and `BadCursor` if it isn't placed, a text has more than
+/// 128 bytes, or an element doesn't stand in the list at its path. Of each step in turn: `AtHead` if the cursor stands at a
+/// head, `TooDeep` if its path has 30 keys, `BadCursor` for a text of more than 128 bytes, and `IndexPastEnd`.
+pub fn resolve(alloc: Global, tree: &Tree, start: Cursor, steps: &[Step]) -> Result<Cursor, Refusal>
+    ensures { result ≢ Err NoMemory → rules.Resolves (tree_facts tree.now) start steps.now result }
+{
+    let from = checked(alloc, tree, start)?;
+    follow(alloc, tree, from, steps)
+}
+
+fn follow(alloc: Global, tree: &Tree, start: Cursor, steps: &[Step]) -> Result<Cursor, Refusal>
+    ensures { result ≢ Err NoMemory → rules.Leads (tree_facts tree.now) steps.now (Ok start) result }
+{
+    let mut cursor = start;
+    for step in steps {
+        cursor = go(alloc, tree, cursor, step)?;
+    }
+    Ok(cursor)
+}
+
+fn go(alloc: Global, tree: &Tree, from: Cursor, step: &Step) -> Result<Cursor, Refusal>
+    ensures { result ≢ Err NoMemory → rules.Goes (tree_facts tree.now) from step.now result }
+{
+    match step {
+        Step::Get(text) => to_text(from, text),
+        Step::Index(index) => to_index(alloc, tree, from, *index),
+    }
+}
+
+fn may_go_on(from: &Cursor) -> Result<(), Refusal>
+    ensures { result ≡ rules.may_go_on from.now }
+{
+    if is_head(&from.key) {
+        return Err(Refusal::AtHead);
+    }
+    if from.path.as_slice().len() >= MAX_PATH_LEN {
+        return Err(Refusal::TooDeep);
+    }
+    Ok(())
+}
+
+fn to_text(from: Cursor, text: &KeyText) -> Result<Cursor, Refusal>
+    ensures { UnlessMemory result (and_then (rules.may_go_on from) (λ _. rules.at_text from text.now)) }
+{
+    may_go_on(&from)?;
+    if !is_short(text) {
+        return Err(Refusal::BadCursor);
+    }
+    below_map(from, Key::Text(text.try_clone()?))
+}
+
+fn below_map(from: Cursor, key: Key) -> Result<Cursor, Refusal>
+    ensures { UnlessMemory result (Ok (record { path = into_map from.path from.key; key = key })) }
+{
+    let mut path = from.path;
+    path.push(Tagged::Map(from.key))?;
+    Ok(Cursor { path, key })
+}
+
+fn below_list(from: Cursor, key: Key) -> Result<Cursor, Refusal>
+    ensures { UnlessMemory result (Ok (record { path = into_list from.path from.key; key = key })) }
+{
+    let mut path = from.path;
+    path.push(Tagged::List(from.key))?;
+    Ok(Cursor { path, key })
+}
+
+// The elements are read first, so that the clause can name them also where the step is refused.
+fn to_index(alloc: Global, tree: &Tree, from: Cursor, index: u64) -> Result<Cursor, Refusal>
+    ensures { result ≢ Err NoMemory → rules.Goes (tree_facts tree.now) from (Index index) result }
+{
+    let list = into_list(&from.path, &from.key)?;
+    let ids = elements_in(alloc, tree, &list)?;
+    at_index(from, ids.as_slice(), index)
+}
+
+fn at_index(from: Cursor, ids: &[Id], index: u64) -> Result<Cursor, Refusal>
+    ensures { UnlessMemory result (and_then (rules.may_go_on from) (λ _. rules.at_index from ids.now index)) }
+{
+    may_go_on(&from)?;
+    let key = key_at(ids, index).ok_or(Refusal::IndexPastEnd)?;
+    below_list(from, key)
+}
+
+fn key_at(ids: &[Id], index: u64) -> Option<Key>
+    ensures { result ≡ rules.key_at ids.now index }
+{
+    if index == 0 {
+        return Some(Key::Head);
+    }
+    match ids.get((index - 1) as usize) {
+        None => None,
+        Some(id) => Some(Key::Element(*id)),
+    }
+}
+
+/// The start, unless there is a cause against it.
+fn checked(alloc: Global, tree: &Tree, start: Cursor) -> Result<Cursor, Refusal>
+    ensures { UnlessMemory result (rules.start_of (tree_facts tree.now) start) }
+{
+    if start.path.as_slice().len() > MAX_PATH_LEN {
+        return Err(Refusal::TooDeep);
+    }
+    if !stands(alloc, tree, &start)? {
+        return Err(Refusal::BadCursor);
+    }
+    Ok(start)
+}
+
+fn stands(alloc: Global, tree: &Tree, cursor: &Cursor) -> Result<bool, Refusal>
+    ensures { Gives (λ b. b ≡ (is_placed cursor.now.path cursor.now.key && rules.stands (tree_facts tree.now) [] cursor.now.path cursor.now.key)) result }
+{
+    if !is_placed(cursor.path.as_slice(), &cursor.key) {
+        return Ok(false);
+    }
+    all_stand(alloc, tree, cursor.path.as_slice(), &cursor.key)
+}
+
+/// Each key is within its limit and stands where it is named.
+fn all_stand(alloc: Global, tree: &Tree, path: &[Tagged], key: &Key) -> Result<bool, Refusal>
+    ensures { Gives (λ b. b ≡ rules.stands (tree_facts tree.now) [] path.now key.now) result }
+{
+    let mut before = Path::new(alloc);
+    for tag in path {
+        if !stands_in(alloc, tree, &before, tag.key())? {
+            return Ok(false);
+        }
+        before.push(tag.try_clone()?)?;
+    }
+    stands_in(alloc, tree, &before, key)
+}
+
+fn stands_in(alloc: Global, tree: &Tree, before: &Path, key: &Key) -> Result<bool, Refusal>
+    ensures { Gives (λ b. b ≡ (rules.is_short key.now && rules.stands_in (tree_facts tree.now) before.now key.now)) result }
+{
+    match key {
+        Key::Doc => Ok(true),
+        Key::Text(text) => Ok(is_short(text)),
+        Key::Element(id) => is_listed(alloc, tree, before, id),
+        Key::Head => Ok(true),
+    }
+}
+
+fn is_listed(alloc: Global, tree: &Tree, list: &Path, id: &Id) -> Result<bool, Refusal>
+    ensures { Gives (λ b. b ≡ list_any (id_eq id.now) ((tree_facts tree.now).order list.now)) result }
+{
+    let order = order_of(alloc, tree, list)?;
+    Ok(is_among(order.as_slice(), id))
+}
+
+fn is_among(ids: &[Id], id: &Id) -> bool
+    ensures { result ≡ list_any (id_eq id.now) ids.now }
+{
+    ids.iter().any(|other| *id == *other)
+}
+
+fn is_short(text: &KeyText) -> bool
+    ensures { result ≡ rules.is_short (Text text.now) }
+{
+    text.as_str().len() <= MAX_KEY_LEN
+}

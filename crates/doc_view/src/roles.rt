@@ -1,0 +1,83 @@
+//! What operations did at a place.
+ghost use Rattle.std.specs.Prelude.{◌≡◌, ◌++◌, [], option_map};
+ghost use Rattle.json_scalar.specs.declared.scalar.Val.TheVariants.{Scalar as Plain};
+ghost use Rattle.presence_set.specs.ById.{get};
+ghost use Rattle.doc_tree.specs.Nodes.{tree_facts};
+ghost use Rattle.doc_rules.specs.Reads.{AreConflicts};
+ghost use Rattle.doc_rules.specs.Role.{value_in};
+ghost use Rattle.doc_view.specs.Readings.{Gives, ReadsHere};
+ghost use Rattle.doc_view.specs.Told.{tree_values, values_told, with_value};
+
+use crate::place::is_head;
+use doc_tree::Tree;
+use doc_words::{Conflicts, Role};
+use json_scalar::{Refusal, Scalar, Val};
+use lamport_id::Id;
+use op_core::{Cursor, Key, Path};
+use std::alloc::Global;
+
+/// The ids whose operations put a value at the very place of a cursor and are not covered since, in id order, each with
+/// that value. `AtHead` where the cursor stands at a head.
+pub fn conflicts(alloc: Global, tree: &Tree, cursor: &Cursor) -> Result<Conflicts, Refusal>
+    ensures { ReadsHere (AreConflicts (tree_facts tree.now) (tree_values tree.now)) cursor.now result }
+{
+    if is_head(&cursor.key) {
+        return Err(Refusal::AtHead);
+    }
+    conflicts_at(alloc, tree, &cursor.path, &cursor.key)
+}
+
+fn conflicts_at(alloc: Global, tree: &Tree, path: &Path, key: &Key) -> Result<Conflicts, Refusal>
+    ensures { Gives (AreConflicts (tree_facts tree.now) (tree_values tree.now) path.now key.now) result }
+{
+    let values = values_told(alloc, tree.present(path, key), tree.register(path, key))?;
+    Ok(Conflicts::from(values))
+}
+
+fn values_told(
+    alloc: Global,
+    roles: &[(Id, Role)],
+    scalars: &[(Id, Scalar)],
+) -> Result<Vec<(Id, Val)>, Refusal>
+    ensures { Gives (λ values. values.items ≡ values_told scalars.now roles.now) result }
+{
+    let mut values = Vec::new(alloc);
+    for entry in roles {
+        let value = value_told(&entry.1, &entry.0, scalars)?;
+        push_value(&mut values, &entry.0, value)?;
+    }
+    Ok(values)
+}
+
+fn push_value(values: &mut Vec<(Id, Val)>, id: &Id, value: Option<Val>) -> Result<(), Refusal>
+    ensures { Gives (λ _. values.new.items ≡ values.old.items ++ with_value id.now value []) result }
+{
+    if let Some(value) = value {
+        values.push((*id, value))?;
+    }
+    Ok(())
+}
+
+/// The value that the operation of an id put where it has this role.
+fn value_told(role: &Role, id: &Id, scalars: &[(Id, Scalar)]) -> Result<Option<Val>, Refusal>
+    ensures { Gives (λ value. value ≡ value_in role.now (get scalars.now id.now)) result }
+{
+    match role {
+        Role::Through => Ok(None),
+        Role::Map => Ok(Some(Val::EmptyMap)),
+        Role::List => Ok(Some(Val::EmptyList)),
+        Role::Scalar => scalar_told(id, scalars),
+        Role::Counter => Ok(None),
+    }
+}
+
+fn scalar_told(id: &Id, scalars: &[(Id, Scalar)]) -> Result<Option<Val>, Refusal>
+    ensures { Gives (λ value. value ≡ option_map Plain (get scalars.now id.now)) result }
+{
+    for entry in scalars {
+        if entry.0 == *id {
+            return Ok(Some(Val::Scalar(entry.1.try_clone()?)));
+        }
+    }
+    Ok(None)
+}
