@@ -2,12 +2,11 @@
 use Rattle.std.proofs.Common.{◌≡◌, ℕ, ℤ, pos, negsuc, zero, suc, ◌^◌, ◌&&◌, nat_le, nat_lt, Bool, true, false, cond, List, [], ◌∷◌, map, codes, length, Option, Some, None, option_map, Result, Ok, Err, ok_or, IfOk, IsTrue, refl, sym, ap, ◌∙◌}
 use Rattle.std.specs.Str.{bytes_eq}
 use Rattle.std.proofs.lemmas.Slice.Eq.{bytes_eq-Decides}
-use Rattle.std.specs.List.{list_all}
 use Rattle.serde_json.specs.Data.{Num, unsigned, negative, float, Data, null, boolean, number, string, array, object, Items, no_items, item, no_members, member}
-use Rattle.serde_json.specs.Find.{as_u64, as_number, as_str, as_array}
+use Rattle.serde_json.specs.Find.{as_u64, as_str, as_array}
 use Rattle.serde_json.specs.View.{items_of}
 use Rattle.json_scalar.specs.Refusal.{UnlessMemory, and_then}
-use Rattle.json_scalar.specs.Scalar.{val_data, val_of, text_of, int_of}
+use Rattle.json_scalar.specs.Scalar.{val_of, text_of, int_of}
 use Rattle.json_scalar.specs.declared.refusal.Refusal.{Refusal}
 use Rattle.json_scalar.specs.declared.refusal.Refusal.TheVariants.{NotJson, BadRequest, BadOperation, BadValue, BadFront}
 use Rattle.json_scalar.specs.declared.scalar.Val.{Val}
@@ -15,11 +14,8 @@ use Rattle.json_scalar.specs.declared.scalar.Val.TheVariants.{Scalar, EmptyMap, 
 use Rattle.json_scalar.specs.declared.scalar.Scalar.TheVariants.{Int, Text, Bool as Truth, Null}
 use Rattle.json_scalar.proofs.Readings.{val_of-Ok}
 use Rattle.op_core.specs.Front.{is_ascending}
-use Rattle.op_core.specs.Op.{Op}
 use Rattle.op_core.specs.Reading.{some_if, id_from, front_of, op_from}
-use Rattle.op_core.specs.Shape.{is_entry, is_shaped, is_id}
-use Rattle.op_core.specs.Wire.{list_data, front_data, id_data, wire}
-use Rattle.op_core.specs.declared.mutation.Mutation.{Mutation}
+use Rattle.op_core.specs.Wire.{list_data}
 use Rattle.op_core.specs.declared.mutation.Mutation.TheVariants.{Assign, Insert, Delete, Add}
 use Rattle.op_core.proofs.Wires.{some_step, some_if-Some, as_array-Some, as_str-Some, both_items, ReadsId-from_answer, ReadsFront-from_answer}
 use Rattle.op_core.proofs.Operations.{ReadsOp-from_answer}
@@ -27,7 +23,7 @@ use Rattle.doc_words.specs.declared.place.Step.{Step}
 use Rattle.doc_words.specs.declared.place.Step.TheVariants.{Get, Index}
 use Rattle.doc_words.specs.declared.ask.Look.{Look}
 use Rattle.doc_words.specs.declared.ask.Look.TheVariants.{Keys, Values, Items as Elements, Conflicts, Show, Sum}
-use Rattle.line_proto.specs.Reading.{step_from, steps_from, variable_of, variable_from, start_of_number, start_from, expr_items, expr_from, bare_request, plain_ask, look_of, look_from, deletion_from, delivery_from, forgetting_from, short_ask, naming_from, limit_of, limit_from, in_order, ops_from, assignment_from, insertion_from, amount_of, addition_from, change_from, long_ask, bare_from, plain_from, short_from, long_from, request_items, request_from, line_data, request_of}
+use Rattle.line_proto.specs.Reading.{step_from, steps_from, variable_of, variable_from, start_of_number, start_from, expr_items, expr_from, bare_request, plain_ask, look_of, look_from, deletion_from, delivery_from, forgetting_from, short_ask, naming_from, limit_of, limit_from, in_order, ops_from, assignment_from, insertion_from, amount_of, addition_from, long_ask, bare_from, plain_from, short_from, long_from, request_items, request_from, line_data, request_of}
 use Rattle.line_proto.specs.Written.{start_data, step_data, expr_data, asks, look_word, ask_data, request_data, is_variable, is_start, is_amount, is_put, is_ask, is_request}
 use Rattle.line_proto.specs.declared.request.Start.{Start}
 use Rattle.line_proto.specs.declared.request.Start.TheVariants.{Document, Variable}

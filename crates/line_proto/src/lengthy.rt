@@ -6,7 +6,7 @@ ghost use Rattle.line_feed.specs.Cut.{line_of};
 ghost use Rattle.line_proto.specs.Told.{line_text, worded, shown_text, reply_text};
 ghost use Rattle.line_proto.specs.Writing.{is_lengthy};
 
-use crate::json::{
+use crate::told_json::{
     conflicts_json, cursor_json, items_json, operations_json, scalars_json, sum_json, texts_json,
     waiting_json, worded,
 };

@@ -2,13 +2,15 @@
 #![tactic(auto)]
 
 mod cursor;
-mod json;
 mod lengthy;
 mod name;
 mod read;
 mod request;
+#[cfg(test)]
+mod tests;
 mod text;
 mod told;
+mod told_json;
 mod write;
 
 pub use name::Name;

@@ -1,0 +1,432 @@
+use crate::{Ask, Request, Told};
+use doc_words::{
+    Conflicts, Ids, Items, Look, Operations, Reply, Scalars, ShownText, Texts, Waiting,
+};
+use json_scalar::{Refusal, Scalar, Val};
+use lamport_id::{Id, ReplicaName};
+use line_feed::Writer;
+use line_feed::doubles::FailAfter;
+use op_core::{Front, KeyText, Mutation, read_wire};
+use serde_json::Value;
+use std::alloc::Global;
+use std::test::Fail;
+
+/// What kind of request it is.
+fn kind(request: &Request) -> &'static str {
+    match request {
+        Request::Quit => "quit",
+        Request::Version => "version",
+        Request::Of(_, ask) => asked(ask),
+    }
+}
+
+fn asked(ask: &Ask) -> &'static str {
+    match ask {
+        Ask::Open => "open",
+        Ask::Front => "front",
+        Ask::Held => "held",
+        Ask::Account => "account",
+        Ask::Change(_, mutation) => changed(mutation),
+        Ask::Look(_, look) => looked(*look),
+        Ask::Let(_, _) => "let",
+        Ask::Deliver(_) => "deliver",
+        Ask::Operations(_, _) => "operations",
+        Ask::Forget(_) => "forget",
+    }
+}
+
+fn changed(mutation: &Mutation) -> &'static str {
+    match mutation {
+        Mutation::Assign(_) => "assign",
+        Mutation::Insert(_) => "insert",
+        Mutation::Delete => "delete",
+        Mutation::Add(_) => "add",
+    }
+}
+
+fn looked(look: Look) -> &'static str {
+    match look {
+        Look::Keys => "keys",
+        Look::Values => "values",
+        Look::Items => "items",
+        Look::Conflicts => "conflicts",
+        Look::Show => "show",
+        Look::Sum => "sum",
+    }
+}
+
+/// The number of the cause against the line, or 0 where it is a request.
+fn cause(alloc: Global, line: &[u8]) -> u64 {
+    match Request::read(alloc, line) {
+        Ok(_) => 0,
+        Err(refusal) => refusal.number(),
+    }
+}
+
+#[test]
+fn reads_each_request(rt: HostRuntime) -> Result<(), Fail> {
+    let rows = [
+        ("[\"quit\"]", "quit"),
+        ("[\"version\"]", "version"),
+        (" [\"open\" , \"d\"]\r", "open"),
+        ("[\"front\",\"d\"]", "front"),
+        ("[\"held\",\"d\"]", "held"),
+        ("[\"account\",\"d\"]", "account"),
+        ("[\"assign\",\"d\",[0,\"k\"],{}]", "assign"),
+        (
+            "[\"insert\",\"d\",[\"x\",0],-9223372036854775808]",
+            "insert",
+        ),
+        ("[\"add\",\"d\",[0],9223372036854775807]", "add"),
+        ("[\"delete\",\"d\",[0,\"k\",1]]", "delete"),
+        ("[\"let\",\"d\",\"x\",[\"y\"]]", "let"),
+        ("[\"keys\",\"d\",[0]]", "keys"),
+        ("[\"values\",\"d\",[0]]", "values"),
+        ("[\"items\",\"d\",[\"\",18446744073709551615]]", "items"),
+        ("[\"conflicts\",\"d\",[0]]", "conflicts"),
+        ("[\"show\",\"d\",[0]]", "show"),
+        ("[\"sum\",\"d\",[0]]", "sum"),
+        (
+            "[\"deliver\",\"d\",[\"op\",[1,\"p\"],[],[[],0],[\"assign\",{}]]]",
+            "deliver",
+        ),
+        ("[\"ops\",\"d\",[[\"o\",1],[\"q\",2]],64]", "operations"),
+        ("[\"forget\",\"d\",[1,\"p\"]]", "forget"),
+    ];
+    for (line, wanted) in rows {
+        let request = Request::read(rt.alloc(), line.as_bytes())?;
+        assert!(rt; kind(&request) == wanted, "{line}");
+    }
+    Ok(())
+}
+
+#[test]
+fn tells_the_first_cause(rt: HostRuntime) {
+    let rows = [
+        // no JSON, before all else
+        ("", 1u64),
+        ("[\"quit\"", 1),
+        ("[\"nothing\",1e999]", 1),
+        ("[\"assign\",\"d\",[1],1.5] 0", 1),
+        // no request, before a wrong value
+        ("{}", 2),
+        ("[]", 2),
+        ("[\"nothing\"]", 2),
+        ("[\"open\"]", 2),
+        ("[\"quit\",0]", 2),
+        ("[\"open\",4]", 2),
+        ("[\"keys\",\"d\",[1]]", 2),
+        ("[\"keys\",\"d\",[]]", 2),
+        ("[\"keys\",\"d\",[0,-1]]", 2),
+        ("[\"keys\",\"d\",[0,1.0]]", 2),
+        ("[\"assign\",\"d\",[],1.5]", 2),
+        ("[\"assign\",7,[0],1.5]", 2),
+        ("[\"assign\",\"d\",[0],1.5,0]", 2),
+        ("[\"let\",\"d\",0,[0]]", 2),
+        ("[\"forget\",\"d\",[0,\"p\"]]", 2),
+        ("[\"ops\",\"d\",[[\"q\",1],[\"o\",2]],65]", 2),
+        ("[\"ops\",\"d\",[[\"q\",1],[\"o\",2]],0]", 2),
+        ("[\"ops\",\"d\",[[\"q\",1],[\"o\",0]],1]", 2),
+        // a wrong value, an order of a front
+        ("[\"assign\",\"d\",[0],1.5]", 6),
+        ("[\"insert\",\"nowhere\",[\"unbound\"],[0]]", 6),
+        ("[\"add\",\"d\",[0],9223372036854775808]", 6),
+        ("[\"add\",\"d\",[0],\"1\"]", 6),
+        ("[\"ops\",\"d\",[[\"q\",1],[\"o\",2]],64]", 13),
+        ("[\"ops\",\"d\",[[\"q\",1],[\"q\",2]],1]", 13),
+    ];
+    for (line, number) in rows {
+        assert_eq!(rt; cause(rt.alloc(), line.as_bytes()), number, "{line}");
+    }
+    assert_eq!(rt; cause(rt.alloc(), b"[\"\xff\"]"), 1);
+}
+
+#[test]
+fn tells_the_first_cause_against_an_operation(rt: HostRuntime) {
+    let rows = [
+        ("0", 12u64),
+        ("[\"op\",[1,\"P\"],[],[[[\"m\",0]],\"k\"],[\"delete\"]]", 12),
+        ("[\"op\",[1,\"p\"],[],[[],\"k\"],[\"delete\"]]", 12),
+        ("[\"op\",[1,\"p\"],[],[[[\"l\",0]],1],[\"delete\"]]", 12),
+        (
+            "[\"op\",[1,\"p\"],[],[[[\"m\",0]],\"k\"],[\"assign\",1.5]]",
+            12,
+        ),
+        // a value that is none, with an order that isn't kept
+        (
+            "[\"op\",[9,\"p\"],[[\"q\",1],[\"o\",2]],[[],0],[\"assign\",[0]]]",
+            12,
+        ),
+        (
+            "[\"op\",[3,\"p\"],[[\"q\",1],[\"o\",2]],[[[\"m\",0]],\"k\"],[\"delete\"]]",
+            13,
+        ),
+        ("[\"op\",[2,\"p\"],[],[[[\"m\",0]],\"k\"],[\"delete\"]]", 13),
+    ];
+    for (operation, number) in rows {
+        match delivery(rt.alloc(), operation) {
+            Ok(line) => assert_eq!(rt; cause(rt.alloc(), line.as_bytes()), number, "{operation}"),
+            Err(_) => assert!(rt; false),
+        }
+    }
+}
+
+/// The line by which an operation is handed in.
+fn delivery(alloc: Global, operation: &str) -> Result<String, Refusal> {
+    let mut line = String::from_str(alloc, "[\"deliver\",\"d\",")?;
+    line.push_str(operation)?;
+    line.push_str("]")?;
+    Ok(line)
+}
+
+/// The parts with so many of the same between them.
+fn around(
+    alloc: Global,
+    before: &str,
+    many: usize,
+    piece: &str,
+    after: &str,
+) -> Result<String, Refusal> {
+    let mut line = String::from_str(alloc, before)?;
+    for _ in 0..many {
+        line.push_str(piece)?;
+    }
+    line.push_str(after)?;
+    Ok(line)
+}
+
+#[test]
+fn reads_up_to_the_limits(rt: HostRuntime) -> Result<(), Fail> {
+    let rows = [
+        ("[\"assign\",\"d\",[0],\"", 4096, "a", "\"]", 0u64),
+        ("[\"assign\",\"d\",[0],\"", 4097, "a", "\"]", 6),
+        ("[\"let\",\"d\",\"", 128, "a", "\",[0]]", 0),
+        ("[\"let\",\"d\",\"", 129, "a", "\",[0]]", 2),
+        ("[\"keys\",\"d\",[\"", 129, "a", "\"]]", 2),
+        // a longer text further on is the step's matter
+        ("[\"keys\",\"d\",[0,\"", 129, "a", "\"]]", 0),
+        ("[\"keys\",\"d\",[0", 2000, ",1", "]]", 0),
+    ];
+    for (before, many, piece, after, number) in rows {
+        let line = around(rt.alloc(), before, many, piece, after)?;
+        assert_eq!(rt; cause(rt.alloc(), line.as_bytes()), number, "{before}");
+    }
+    Ok(())
+}
+
+#[test]
+fn reads_down_to_the_deepest_array(rt: HostRuntime) -> Result<(), Fail> {
+    for (depth, number) in [(127, 2u64), (128, 1)] {
+        let opening = around(rt.alloc(), "", depth, "[", "")?;
+        let line = around(rt.alloc(), opening.as_str(), depth, "]", "")?;
+        assert_eq!(rt; cause(rt.alloc(), line.as_bytes()), number, "{depth}");
+    }
+    Ok(())
+}
+
+/// Whether this is told by that line.
+fn tells(alloc: Global, told: Told, line: &str) -> bool {
+    let mut sink = Writer::new(Vec::<u8>::new(alloc));
+    told.write(alloc, &mut sink) == Ok(()) && sink.into_inner().as_slice() == line.as_bytes()
+}
+
+fn own_id() -> Result<Id, Refusal> {
+    let replica = ReplicaName::read(b"srv-1").ok_or(Refusal::BadRequest)?;
+    Ok(Id {
+        counter: 3,
+        replica,
+    })
+}
+
+#[test]
+fn tells_what_takes_no_memory(rt: HostRuntime) -> Result<(), Fail> {
+    assert!(rt; tells(rt.alloc(), Told::Opened(1), "[\"opened\",1]\n"));
+    assert!(rt; tells(rt.alloc(), Told::Bound, "[\"bound\"]\n"));
+    assert!(rt; tells(rt.alloc(), Told::Version, "[\"version\",2]\n"));
+    assert!(rt; tells(rt.alloc(), Told::Bye, "[\"bye\"]\n"));
+    let applied = Reply::Applied {
+        count: 1,
+        dropped: 0,
+        id: own_id()?,
+    };
+    assert!(rt;
+        tells(
+            rt.alloc(),
+            Told::Answered(applied),
+            "[\"applied\",1,0,[3,\"srv-1\"]]\n"
+        )
+    );
+    Ok(())
+}
+
+#[test]
+fn tells_replies_of_one_part(rt: HostRuntime) {
+    assert!(rt; tells(rt.alloc(), Told::Answered(Reply::Known), "[\"known\"]\n"));
+    assert!(rt;
+        tells(
+            rt.alloc(),
+            Told::Answered(Reply::Forgotten),
+            "[\"forgotten\"]\n"
+        )
+    );
+    assert!(rt;
+        tells(
+            rt.alloc(),
+            Told::Answered(Reply::Account(18_446_744_073_709_551_615)),
+            "[\"account\",18446744073709551615]\n"
+        )
+    );
+}
+
+#[test]
+fn tells_refusals(rt: HostRuntime) {
+    let rows = [
+        (Refusal::BadRequest, "[\"no\",2,\"bad-request\"]\n"),
+        (Refusal::Forked { last: 7 }, "[\"no\",14,\"forked\",7]\n"),
+        (Refusal::CopyRefused, "[\"no\",26,\"copy-refused\"]\n"),
+    ];
+    for (refusal, line) in rows {
+        assert!(rt;
+            tells(rt.alloc(), Told::Answered(Reply::Refused(refusal)), line),
+            "{line}"
+        );
+    }
+}
+
+#[test]
+fn tells_what_is_missing(rt: HostRuntime) -> Result<(), Fail> {
+    let none = Ids::from(Vec::new(rt.alloc()));
+    assert!(rt;
+        tells(
+            rt.alloc(),
+            Told::Answered(Reply::Held(none)),
+            "[\"held\",[]]\n"
+        )
+    );
+    let two = Ids::from(vec![in rt.alloc(); own_id()?, own_id()?]?);
+    assert!(rt;
+        tells(
+            rt.alloc(),
+            Told::Answered(Reply::Held(two)),
+            "[\"held\",[[3,\"srv-1\"],[3,\"srv-1\"]]]\n"
+        )
+    );
+    Ok(())
+}
+
+#[test]
+fn tells_readings(rt: HostRuntime) -> Result<(), Fail> {
+    let texts = vec![in rt.alloc();
+        KeyText::new(rt.alloc(), "")?,
+        KeyText::new(rt.alloc(), "a\"b")?,
+    ]?;
+    assert!(rt;
+        tells(
+            rt.alloc(),
+            Told::Answered(Reply::Keys(Texts::from(texts))),
+            "[\"keys\",[\"\",\"a\\\"b\"]]\n"
+        )
+    );
+    let scalars = vec![in rt.alloc(); Scalar::Int(-1), Scalar::Bool(true), Scalar::Null]?;
+    assert!(rt;
+        tells(
+            rt.alloc(),
+            Told::Answered(Reply::Values(Scalars::from(scalars))),
+            "[\"values\",[-1,true,null]]\n"
+        )
+    );
+    assert!(rt;
+        tells(
+            rt.alloc(),
+            Told::Answered(Reply::Sum(-18_446_744_073_709_551_614)),
+            "[\"sum\",\"-18446744073709551614\"]\n"
+        )
+    );
+    Ok(())
+}
+
+#[test]
+fn tells_elements(rt: HostRuntime) -> Result<(), Fail> {
+    let scalars = Scalars::from(vec![in rt.alloc(); Scalar::Int(1)]?);
+    let items = vec![in rt.alloc(); (own_id()?, scalars)]?;
+    assert!(rt;
+        tells(
+            rt.alloc(),
+            Told::Answered(Reply::Items(Items::from(items))),
+            "[\"items\",[[[3,\"srv-1\"],[1]]]]\n"
+        )
+    );
+    let shown = String::from_str(rt.alloc(), "[[\"val\",[2,\"p\"],\"x\"]]")?;
+    assert!(rt;
+        tells(
+            rt.alloc(),
+            Told::Answered(Reply::Show(ShownText::from(shown))),
+            "[\"show\",[[\"val\",[2,\"p\"],\"x\"]]]\n"
+        )
+    );
+    Ok(())
+}
+
+#[test]
+fn tells_conflicts(rt: HostRuntime) -> Result<(), Fail> {
+    let vals = vec![in rt.alloc(); (own_id()?, Val::EmptyMap), (own_id()?, Val::EmptyList)]?;
+    assert!(rt;
+        tells(
+            rt.alloc(),
+            Told::Answered(Reply::Conflicts(Conflicts::from(vals))),
+            "[\"conflicts\",[[[3,\"srv-1\"],{}],[[3,\"srv-1\"],[]]]]\n"
+        )
+    );
+    Ok(())
+}
+
+#[test]
+fn tells_the_log(rt: HostRuntime) -> Result<(), Fail> {
+    let wire = "[\"op\",[1,\"p\"],[],[[[\"m\",0]],\"n\"],[\"add\",-7]]";
+    let operation = read_wire(
+        rt.alloc(),
+        &Value::from_str(rt.alloc(), wire).or(Err(Refusal::NotJson))?,
+    )?;
+    let operations = Operations::from(vec![in rt.alloc(); operation]?);
+    assert!(rt;
+        tells(
+            rt.alloc(),
+            Told::Answered(Reply::Operations(operations)),
+            "[\"ops\",[[\"op\",[1,\"p\"],[],[[[\"m\",0]],\"n\"],[\"add\",-7]]]]\n"
+        )
+    );
+    Ok(())
+}
+
+#[test]
+fn tells_fronts_and_what_waits(rt: HostRuntime) -> Result<(), Fail> {
+    let front = Front::from(vec![in rt.alloc(); (own_id()?.replica, 3u64)]?);
+    assert!(rt;
+        tells(
+            rt.alloc(),
+            Told::Answered(Reply::Front(front)),
+            "[\"front\",[[\"srv-1\",3]]]\n"
+        )
+    );
+    let missing = Ids::from(vec![in rt.alloc(); own_id()?]?);
+    let waiting = Waiting::from(vec![in rt.alloc(); (own_id()?, missing)]?);
+    assert!(rt;
+        tells(
+            rt.alloc(),
+            Told::Answered(Reply::Waiting(waiting)),
+            "[\"waiting\",[[[3,\"srv-1\"],[[3,\"srv-1\"]]]]]\n"
+        )
+    );
+    Ok(())
+}
+
+#[test]
+fn a_sink_that_fails_has_a_front_of_the_line(rt: HostRuntime) -> Result<(), Fail> {
+    let missing = Ids::from(vec![in rt.alloc(); own_id()?, own_id()?]?);
+    let mut sink = FailAfter::new(Writer::new(Vec::<u8>::new(rt.alloc())), 20);
+    let told = Told::Answered(Reply::Held(missing));
+    assert!(rt; told.write(rt.alloc(), &mut sink) == Err(crate::WriteFault::Device));
+    let FailAfter { device, .. } = sink;
+    assert!(rt; device.into_inner().as_slice() == b"[\"held\",[[3,\"srv-1\"]".as_slice());
+    Ok(())
+}
