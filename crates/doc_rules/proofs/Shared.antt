@@ -1,5 +1,5 @@
 -- Each event of a document keeps it sound, and gives to its seat just what it tells.
-use Rattle.std.proofs.Common.{◌≡◌, ◌≢◌, inl, inr, ℕ, suc, ◌+◌, ◌-◌, ◌≤◌, [], ◌∷◌, ◌++◌, length, replicate, length-append, append_assoc, append-nil, bytes_eq, nat_le, nat_lt, ◌&&◌, Bool, true, false, Option, Some, None, Result, Ok, Err, if◌then◌else◌, refl, sym, ap, subst, ◌∙◌, arith, leb-true}
+use Rattle.std.proofs.Common.{◌≡◌, ◌≢◌, inl, inr, ℕ, suc, ◌+◌, ◌-◌, ◌≤◌, List, [], ◌∷◌, ◌++◌, length, replicate, length-append, append_assoc, append-nil, bytes_eq, nat_le, nat_lt, ◌&&◌, Bool, true, false, Option, Some, None, Result, Ok, Err, if◌then◌else◌, refl, sym, ap, subst, ◌∙◌, arith, leb-true}
 use Rattle.std.specs.Prelude.{⊤}
 use Rattle.std.proofs.lemmas.List.{length-replicate}
 use Rattle.std.proofs.lemmas.List.Elements.{All-replicate, All-append}
@@ -9,9 +9,11 @@ use Rattle.lamport_id.specs.declared.id.Id.{Id}
 use Rattle.json_scalar.specs.declared.refusal.Refusal.{Refusal}
 use Rattle.op_core.specs.Equality.{operation_eq}
 use Rattle.op_core.specs.Op.{Op}
+use Rattle.list_laws.proofs.Members.{Contains-nil}
 use Rattle.crdt_rules.specs.Dependencies.{is_ready, missing}
+use Rattle.crdt_rules.specs.Log.{IsGood}
 use Rattle.doc_rules.specs.Cause.{cause_of}
-use Rattle.doc_rules.specs.Document.{Document, by, logged_by, count_of, total_of, count_in, for_seat, Acts, opens, copied_to, GivesTo, IsSound}
+use Rattle.doc_rules.specs.Document.{Document, by, logged_by, count_of, total_of, count_in, for_seat, Acts, opens, copied_to, new_document, GivesTo, IsSound}
 use Rattle.doc_rules.specs.Events.{Due, told, held, logged, Settles, own_change, due_own, known_or_not, due_waiting, due_ready, due_new, due_unlogged, due_handed, Forgets, Does, Event, IsWellMade}
 use Rattle.doc_rules.specs.Replica.{Replica, find_id, GoesOn}
 use Rattle.doc_words.specs.declared.ask.Command.{Command}
@@ -148,6 +150,23 @@ copied_sound n d sound = by (nat_le d.copied n && nat_le n (length d.replica.log
           within = leb-true n (length d.replica.log) (and_parts (nat_le d.copied n) (nat_le n (length d.replica.log)) e).1;
         }
     by false e = sound
+
+-- a new document is sound, where what it begins with is a good log
+pub new_sound : (name : List ℕ) (log : List Op) (seats : ℕ) → IsGood log → IsSound (new_document name log seats)
+new_sound name log seats good = record {
+  kept = record {
+    good = good;
+    in_order = tt;
+    few = omega arith;
+    unlogged = λ op c. absurd (Contains-nil c);
+    foreign = λ op c. absurd (Contains-nil c);
+    waits = λ op c. absurd (Contains-nil c);
+  };
+  each_has_a_seat = length-replicate (length log) 0;
+  opened_alone = All-replicate (λ t. t ≤ 0) (length log) 0 (omega arith);
+  few = omega arith;
+  within = omega arith;
+}
 
 -- one more seat is opened
 opened_sound : (d : Document) → IsSound d → d.opened + 1 ≤ d.seats → IsSound (record d { opened = d.opened + 1 })

@@ -25,7 +25,7 @@ ghost use Rattle.crdt_rules.specs.Fits.{Fits};
 ghost use Rattle.crdt_rules.specs.Log.{IsGood, replay};
 ghost use Rattle.doc_rules.specs.Answers.{LooksHere, Reads};
 ghost use Rattle.doc_rules.specs.Cause.{IsFirstMisfit, cause_of, room_cause};
-ghost use Rattle.doc_rules.specs.Document.{Document, Acts, GivesTo, IsSound, copied_to, count_in, count_of, logged_by, opens, total_of};
+ghost use Rattle.doc_rules.specs.Document.{Document, Acts, GivesTo, IsSound, copied_to, count_in, count_of, logged_by, new_document, opens, total_of};
 ghost use Rattle.doc_rules.specs.Events.{Event, IsWellMade, cause_at};
 ghost use Rattle.doc_rules.specs.Memory.{DoesFully};
 ghost use Rattle.doc_rules.specs.Reads.{AgreeOnPresent, AreConflicts, Values};
@@ -99,8 +99,9 @@ pub fn events_keep()
     ensures goes_on { (r s : Replica) (command : Command) (reply : Reply) → Event r command reply s → GoesOn r (count_in reply) s }
 {}
 
-/// Each event of a document keeps it sound, and a command gives its seat just what the answer tells, and the others nothing.
+/// A new document is sound over a good log, each event keeps it sound, and a command gives its seat just what the answer tells, and the others nothing.
 pub fn documents_stay_sound()
+    ensures begins { (name : List ℕ) (log : List Op) (seats : ℕ) → IsGood log → IsSound (new_document name log seats) }
     ensures acts { (d e : Document) (seat : ℕ) (command : Command) (reply : Reply) → is_name d.replica.name ≡ true → IsWellMade command
         → seat ≤ d.opened → IsSound d → Acts d seat command reply e → IsSound e }
     ensures gives { (d e : Document) (seat : ℕ) (command : Command) (reply : Reply) → length d.seats_of ≡ length d.replica.log
