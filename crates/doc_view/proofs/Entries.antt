@@ -14,7 +14,7 @@ use Rattle.presence_set.specs.ById.{get, IsBelow, IsAscending}
 use Rattle.presence_set.proofs.ByIdLaws.{not_less_itself}
 use Rattle.doc_rules.specs.Sorted.{IsRising, AreAll}
 
-less_is : (o : Ordering) → is_lt o ≡ true → o ≡ Less
+pub less_is : (o : Ordering) → is_lt o ≡ true → o ≡ Less
 less_is Less e = refl
 less_is Equal e = absurd (true≢false (sym e))
 less_is Greater e = absurd (true≢false (sym e))

@@ -3,3 +3,4 @@ pub mod Presence
 pub mod Lists
 pub mod TellingRoles
 pub mod Leading
+pub mod MapLaws

@@ -2,12 +2,14 @@
 #![tactic(auto)]
 
 mod elements;
+mod maps;
 mod place;
 mod registers;
 mod resolving;
 mod roles;
 
 pub use elements::items;
+pub use maps::keys;
 pub use registers::{sum, values};
 pub use resolving::resolve;
 pub use roles::conflicts;

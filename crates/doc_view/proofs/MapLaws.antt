@@ -1,0 +1,114 @@
+-- The present texts among children are the keys of a map.
+use Rattle.std.proofs.Common.{◌≡◌, ℕ, ◌+◌, ◌<◌, List, [], ◌∷◌, ◌++◌, length, get_or, take, append-nil, append_assoc, inl, inr, true, refl, sym, ap, ◌∙◌, subst, Contains}
+use Rattle.std.specs.Ordering.{is_lt}
+use Rattle.std.specs.declared.cmp.Ordering.TheVariants.{Less}
+use Rattle.std.proofs.lemmas.List.Elements.{Contains-append_left, Contains-append_right}
+use Rattle.lamport_id.specs.declared.id.Id.{Id}
+use Rattle.lamport_id.specs.Order.{name_cmp}
+use Rattle.op_core.specs.declared.cursor.Key.{Key}
+use Rattle.op_core.specs.declared.cursor.Key.TheVariants.{Doc, Text, Element, Head}
+use Rattle.list_laws.proofs.Members.{Contains-nil, Contains-here, Contains-there, Contains-cases}
+use Rattle.crdt_rules.specs.Facts.{Facts}
+use Rattle.doc_tree.specs.declared.node.NodeNumber.{NodeNumber}
+use Rattle.doc_tree.specs.KeyOrder as key_order
+use Rattle.doc_tree.proofs.KeyOrder.{text_lt}
+use Rattle.op_core.specs.declared.cursor.Tagged.{Tagged}
+use Rattle.doc_rules.specs.Reads.{AreKeys, IsPresent, into_map}
+use Rattle.doc_rules.specs.Sorted.{IsRising, AreThose}
+use Rattle.doc_rules.specs.Sorted.AreThose.{none, keep, skip}
+use Rattle.doc_view.specs.Members.{texts_at, texts_in}
+use Rattle.doc_view.proofs.Entries.{less_is}
+use Rattle.doc_view.proofs.Lists.{take_read}
+
+-- ---- those of a list for which something holds
+
+module _ {X : Type 0} {holds : X → Type 0} where
+  pub those_append : {xs ys kept more : List X} → AreThose holds xs kept → AreThose holds ys more → AreThose holds (xs ++ ys) (kept ++ more)
+  those_append none those = those
+  those_append (keep h rest) those = keep h (those_append rest those)
+  those_append (skip h rest) those = skip h (those_append rest those)
+
+  pub those_among : {xs kept : List X} → AreThose holds xs kept → (x : X) → Contains kept x → Contains xs x
+  those_among none x c = c
+  those_among (keep {x = y} {xs} {kept} h rest) x c =
+      elim (Contains-cases y kept c) [ inl is ↦ Contains-here xs is | inr there ↦ Contains-there y xs (those_among rest x there) ]
+  those_among (skip {x = y} {xs} h rest) x c = Contains-there y xs (those_among rest x c)
+
+  pub those_hold : {xs kept : List X} → AreThose holds xs kept → (x : X) → Contains kept x → holds x
+  those_hold none x c = absurd (Contains-nil c)
+  those_hold (keep {x = y} {xs} {kept} h rest) x c =
+      elim (Contains-cases y kept c) [ inl is ↦ subst holds is h | inr there ↦ those_hold rest x there ]
+  those_hold (skip h rest) x c = those_hold rest x c
+
+  pub those_all : {xs kept : List X} → AreThose holds xs kept → (x : X) → Contains xs x → holds x → Contains kept x
+  those_all none x c here = c
+  those_all (keep {x = y} {xs} {kept} h rest) x c here =
+      elim (Contains-cases y xs c) [ inl is ↦ Contains-here kept is | inr there ↦ Contains-there y kept (those_all rest x there here) ]
+  those_all (skip {x = y} {xs} h rest) x c here =
+      elim (Contains-cases y xs c) [ inl is ↦ absurd (h (subst holds (sym is) here)) | inr there ↦ those_all rest x there here ]
+
+those_rising : {holds : List ℕ → Type 0} {xs kept : List (List ℕ)} → AreThose holds xs kept
+    → IsRising name_cmp (λ (t : List ℕ). t) xs → IsRising name_cmp (λ (t : List ℕ). t) kept
+those_rising none rising = tt
+those_rising (keep h rest) rising = (λ y c. rising.0 y (those_among rest y c), those_rising rest rising.1)
+those_rising (skip h rest) rising = those_rising rest rising.1
+
+-- ---- texts among children
+
+pub texts_in-push : (children : List (Key × NodeNumber)) (child : Key × NodeNumber) → texts_in (children ++ child ∷ []) ≡ texts_in children ++ texts_at child.0
+texts_in-push [] child = append-nil (texts_at child.0)
+texts_in-push (c ∷ children) child =
+    ap (λ texts. texts_at c.0 ++ texts) (texts_in-push children child) ∙ sym (append_assoc (texts_at c.0) (texts_in children) (texts_at child.0))
+
+pub texts_step : {holds : List ℕ → Type 0} (children : List (Key × NodeNumber)) (i : ℕ) (child : Key × NodeNumber) → {kept more new : List (List ℕ)}
+    → i < length children → child ≡ get_or children i child → AreThose holds (texts_in (take i children)) kept → AreThose holds (texts_at child.0) more
+    → new ≡ kept ++ more → AreThose holds (texts_in (take (i + 1) children)) new
+texts_step {holds} children i child {kept} {more} {new} within is those one e =
+    subst (λ (ts : List (List ℕ)). AreThose holds ts new) (sym (ap texts_in (take_read children i child within is) ∙ texts_in-push (take i children) child))
+    (subst (λ (ts : List (List ℕ)). AreThose holds (texts_in (take i children) ++ texts_at child.0) ts) (sym e) (those_append those one))
+
+text_from : (children : List (Key × NodeNumber)) (t : List ℕ) → Contains (texts_in children) t → (n : NodeNumber) × Contains children (Text t, n)
+text_from [] t c = absurd (Contains-nil c)
+text_from ((Text s, n) ∷ children) t c =
+    elim (Contains-cases s (texts_in children) c) [
+      | inl is ↦ (n, Contains-here children (λ j. (Text (is j), n)))
+      | inr there ↦ let rest = text_from children t there in (rest.0, Contains-there (Text s, n) children rest.1)
+    ]
+text_from ((Doc, n) ∷ children) t c = let rest = text_from children t c in (rest.0, Contains-there (Doc, n) children rest.1)
+text_from ((Element i, n) ∷ children) t c = let rest = text_from children t c in (rest.0, Contains-there (Element i, n) children rest.1)
+text_from ((Head, n) ∷ children) t c = let rest = text_from children t c in (rest.0, Contains-there (Head, n) children rest.1)
+
+text_within : (children : List (Key × NodeNumber)) (t : List ℕ) (n : NodeNumber) → Contains children (Text t, n) → Contains (texts_in children) t
+text_within [] t n c = absurd (Contains-nil c)
+text_within (child ∷ children) t n c =
+    elim (Contains-cases child children c) [
+      | inl is ↦ Contains-append_left (texts_at child.0) (texts_in children) t
+          (subst (λ (x : Key × NodeNumber). Contains (texts_at x.0) t) (sym is) (Contains-here [] refl))
+      | inr there ↦ Contains-append_right (texts_at child.0) (texts_in children) t (text_within children t n there)
+    ]
+
+below_text : (s t : List ℕ) (n : NodeNumber) (children : List (Key × NodeNumber)) → key_order.IsBelow (Text s) children → Contains children (Text t, n)
+    → name_cmp s t ≡ Less
+below_text s t n [] below c = absurd (Contains-nil c)
+below_text s t n (child ∷ children) below c =
+    elim (Contains-cases child children c) [
+      | inl is ↦ less_is (name_cmp s t) (text_lt s t ∙ subst (λ (x : Key × NodeNumber). is_lt (key_order.key_cmp (Text s) x.0) ≡ true) is below.0)
+      | inr there ↦ below_text s t n children below.1 there
+    ]
+
+texts_rising : (children : List (Key × NodeNumber)) → key_order.IsRising children → IsRising name_cmp (λ (t : List ℕ). t) (texts_in children)
+texts_rising [] rising = tt
+texts_rising ((Text s, n) ∷ children) rising =
+    (λ t c. let at = text_from children t c in below_text s t at.0 children rising.0 at.1, texts_rising children rising.1)
+texts_rising ((Doc, n) ∷ children) rising = texts_rising children rising.1
+texts_rising ((Element i, n) ∷ children) rising = texts_rising children rising.1
+texts_rising ((Head, n) ∷ children) rising = texts_rising children rising.1
+
+pub are_keys : (f : Facts) (p : List Tagged) (k : Key) (children : List (Key × NodeNumber)) (texts : List (List ℕ)) → key_order.IsRising children
+    → ((t : List ℕ) (i : Id) → f.present (into_map p k) (Text t) i ≡ true → (n : NodeNumber) × Contains children (Text t, n))
+    → AreThose (λ t. IsPresent f (into_map p k) (Text t)) (texts_in children) texts → AreKeys f p k texts
+are_keys f p k children texts rising has those = record {
+  rising = those_rising those (texts_rising children rising);
+  each = those_hold those;
+  all = λ t here. let at = has t here.0 here.1 in those_all those t (text_within children t at.0 at.1) here;
+}

@@ -1,0 +1,20 @@
+-- Texts among the children of a place.
+use Rattle.std.specs.Prelude.{ℕ, List, [], ◌∷◌, ◌++◌, Option, Some, None}
+use Rattle.op_core.specs.declared.cursor.Key.{Key}
+use Rattle.op_core.specs.declared.cursor.Key.TheVariants.{Text}
+use Rattle.doc_tree.specs.declared.node.NodeNumber.{NodeNumber}
+
+-- what there is, as a list
+abbrev pub listed : {X : Type 0} → Option X → List X
+listed None = []
+listed (Some x) = x ∷ []
+
+-- the text of a key, if it is one
+abbrev pub texts_at : Key → List (List ℕ)
+texts_at (Text text) = text ∷ []
+texts_at _ = []
+
+-- the texts among these children
+abbrev pub texts_in : List (Key × NodeNumber) → List (List ℕ)
+texts_in [] = []
+texts_in (child ∷ children) = texts_at child.0 ++ texts_in children
