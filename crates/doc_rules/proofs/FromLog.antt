@@ -1,5 +1,5 @@
--- What stands in a register, and what was put at a place, is from an operation that ends there.
-use Rattle.std.proofs.Common.{◌≡◌, ℕ, List, [], ◌∷◌, Bool, true, false, not, Option, Some, None, if◌then◌else◌, Contains, refl, sym, ap, ◌∙◌, map, filter}
+-- What stands in a register or a counter, and what was put at a place, is from an operation that ends there.
+use Rattle.std.proofs.Common.{◌≡◌, ℕ, ℤ, List, [], ◌∷◌, Bool, true, false, not, Option, Some, None, if◌then◌else◌, Contains, refl, sym, ap, ◌∙◌, map, filter}
 use Rattle.std.specs.List.{list_all}
 use Rattle.std.proofs.lemmas.Bool.{and_from, both_ways}
 use Rattle.lamport_id.specs.declared.id.Id.{Id}
@@ -11,12 +11,12 @@ use Rattle.op_core.specs.declared.cursor.Key.{Key}
 use Rattle.op_core.specs.declared.cursor.Tagged.{Tagged}
 use Rattle.list_laws.proofs.Members.{Contains-here, Contains-there}
 use Rattle.crdt_rules.specs.Dependencies.{is_logged, is_ready, missing}
-use Rattle.crdt_rules.specs.Effect.{scalar_put, value_put}
+use Rattle.crdt_rules.specs.Effect.{number_added, scalar_put, value_put}
 use Rattle.crdt_rules.specs.Facts.{facts, ends_here}
 use Rattle.crdt_rules.specs.Free.{is_cleared}
 use Rattle.crdt_rules.specs.Free as free
 use Rattle.crdt_rules.specs.Log.{IsGood, replay}
-use Rattle.crdt_rules.proofs.ReplayFacts.{value_at-from, replay_register}
+use Rattle.crdt_rules.proofs.ReplayFacts.{value_at-from, replay_register, replay_counter}
 use Rattle.crdt_rules.proofs.Tests.{some≢none}
 use Rattle.doc_rules.specs.Role.{value_at}
 
@@ -32,6 +32,15 @@ register_from log p k i s good h = by (is_cleared log p k i) (ap (λ f. f p k i)
     by : (b : Bool) → ◌≡◌ {A = Option Scalar} (if b then None else free.value_at scalar_put log p k i) (Some s) → (o : Op) × IsFrom log p k i o × (scalar_put o.mutation ≡ Some s)
     by true h = absurd (some≢none (sym h))
     by false h = let r = value_at-from scalar_put log p k i s h in (r.0, record { logged = r.1; here = r.2 }, r.3)
+
+pub counter_from : (log : List Op) (p : List Tagged) (k : Key) (i : Id) (n : ℤ) → IsGood log → (facts (replay log)).counter p k i ≡ Some n
+    → (o : Op) × IsFrom log p k i o × (number_added o.mutation ≡ Some n)
+counter_from log p k i n good h = by (is_cleared log p k i) (ap (λ f. f p k i) (sym (replay_counter log good)) ∙ h)
+  where
+    by : (b : Bool) → ◌≡◌ {A = Option ℤ} (if b then None else free.value_at number_added log p k i) (Some n)
+        → (o : Op) × IsFrom log p k i o × (number_added o.mutation ≡ Some n)
+    by true h = absurd (some≢none (sym h))
+    by false h = let r = value_at-from number_added log p k i n h in (r.0, record { logged = r.1; here = r.2 }, r.3)
 
 pub value_from : (log : List Op) (p : List Tagged) (k : Key) (i : Id) (v : Val) → value_at log p k i ≡ Some v
     → (o : Op) × IsFrom log p k i o × (value_put o.mutation ≡ Some v)

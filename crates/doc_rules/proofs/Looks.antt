@@ -1,0 +1,53 @@
+-- A look at a tree that has the facts and the roles of a log is a look at what the log makes.
+use Rattle.std.proofs.Common.{◌≡◌, ℕ, List, Option, Result, Ok, Err, sym, ap, subst, ◌∙◌}
+use Rattle.std.specs.Prelude.{MatchResult, option_and_then}
+use Rattle.lamport_id.specs.declared.id.Id.{Id}
+use Rattle.json_scalar.specs.declared.refusal.Refusal.{Refusal}
+use Rattle.op_core.specs.Op.{Op}
+use Rattle.op_core.specs.declared.cursor.Cursor.{Cursor}
+use Rattle.op_core.specs.declared.cursor.Key.{Key}
+use Rattle.op_core.specs.declared.cursor.Tagged.{Tagged}
+use Rattle.doc_words.specs.declared.ask.Look.{Look}
+use Rattle.doc_words.specs.declared.ask.Query.TheVariants as query
+use Rattle.doc_words.specs.declared.place.Place.{Place}
+use Rattle.doc_words.specs.declared.reply.Reply.{Reply}
+use Rattle.doc_words.specs.declared.reply.Reply.TheVariants.{Refused}
+use Rattle.doc_words.specs.declared.role.Role.{Role}
+use Rattle.crdt_rules.specs.Facts.{Facts, facts}
+use Rattle.crdt_rules.specs.Log.{IsGood, replay}
+use Rattle.doc_rules.specs.Answers.{LooksHere, Reads}
+use Rattle.doc_rules.specs.Replica.{Replica, facts_of}
+use Rattle.doc_rules.specs.Resolve.{Resolves}
+use Rattle.doc_rules.specs.Role.{value_at, value_in, values_in, roles_of}
+use Rattle.doc_rules.proofs.Roles.{values_told}
+use Rattle.doc_rules.proofs.SameValues.{looks_same}
+
+-- the facts and the roles are those of the log
+pub record AreOf (log : List Op) (f : Facts) (roles : List Tagged → Key → Id → Option Role) : Type 0 where
+  pub facts_are : f ≡ facts (replay log)
+  pub roles_are : (p : List Tagged) (k : Key) (i : Id) → roles p k i ≡ roles_of f log p k i
+
+pub looks_tell : (log : List Op) (f : Facts) (roles : List Tagged → Key → Id → Option Role) → IsGood log → AreOf log f roles → (l : Look) (c : Cursor) (answer : Reply)
+    → LooksHere f (values_in f roles) l c answer → LooksHere (facts (replay log)) (value_at log) l c answer
+looks_tell log f roles good are l c answer = subst IsTold (sym are.facts_are) told are.roles_are
+  where
+    IsTold : Facts → Type 0
+    IsTold g =
+        ((p : List Tagged) (k : Key) (i : Id) → roles p k i ≡ roles_of g log p k i) → LooksHere g (values_in g roles) l c answer → LooksHere (facts (replay log)) (value_at log) l c answer
+
+    told : IsTold (facts (replay log))
+    told same =
+        looks_same (facts (replay log)) (values_in (facts (replay log)) roles) (value_at log)
+        (λ p k i here. ap (option_and_then (λ r. value_in r ((facts (replay log)).register p k i))) (same p k i) ∙ values_told log good p k i here) l c answer
+
+-- so a look where the steps lead is the replica's answer
+pub look_answers : (r : Replica) (mine : ℕ) (f : Facts) (roles : List Tagged → Key → Id → Option Role) → IsGood r.log → AreOf r.log f roles → (l : Look) (place : Place)
+    (c : Result Cursor Refusal) (answer : Reply) → Resolves f place.start place.steps c
+    → MatchResult c (λ c. LooksHere f (values_in f roles) l c answer) (λ e. answer ≡ Refused e) → Reads r mine (query.Look l place) answer
+look_answers r mine f roles good are l place c answer leads h =
+    (c, subst (λ g. Resolves g place.start place.steps c) are.facts_are leads, by c h)
+  where
+    by : (c : Result Cursor Refusal) → MatchResult c (λ c. LooksHere f (values_in f roles) l c answer) (λ e. answer ≡ Refused e)
+        → MatchResult c (λ c. LooksHere (facts_of r) (value_at r.log) l c answer) (λ e. answer ≡ Refused e)
+    by (Ok c) h = looks_tell r.log f roles good are l c answer h
+    by (Err e) h = h
