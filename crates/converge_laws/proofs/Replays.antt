@@ -1,0 +1,63 @@
+-- Trees that grow with a log.
+use Rattle.std.proofs.Common.{◌≡◌, ℕ, zero, suc, ◌+◌, ◌<◌, List, [], ◌∷◌, ◌++◌, length, take, drop, get_or, Result, Ok, Err, sym, ap, subst, ◌∙◌, refl, arith}
+use Rattle.std.specs.Prelude.{IfOk}
+use Rattle.std.proofs.Math.Seq.{drop-cons}
+use Rattle.std.proofs.lemmas.List.{take-append-drop}
+use Rattle.json_scalar.specs.declared.refusal.Refusal.{Refusal}
+use Rattle.op_core.specs.Op.{Op}
+use Rattle.crdt_rules.specs.Facts.{Facts, facts}
+use Rattle.crdt_rules.specs.Fits.{Fits}
+use Rattle.crdt_rules.specs.Free.{AreFactsOf}
+use Rattle.crdt_rules.specs.Log.{IsGoodAfter, IsGood, replay}
+use Rattle.crdt_rules.proofs.Logs.{good_split}
+use Rattle.crdt_rules.proofs.Orders.{all_orders}
+use Rattle.crdt_rules.proofs.SameSet.{replay_free}
+use Rattle.doc_rules.specs.Cause.{misfit_of, IsFirstMisfit}
+use Rattle.converge_laws.specs.Replayed.{AreFactsOfEach}
+
+pub facts_of_each : (ops : List Op) (f : Facts) → IsGood ops → f ≡ facts (replay ops) → AreFactsOfEach ops f
+facts_of_each ops f good is =
+    record {
+      good = good;
+      set = subst (λ g. AreFactsOf ops g) (sym is) (replay_free ops good);
+      orders = λ order causal. is ∙ sym (all_orders ops good order causal).1;
+    }
+
+take_suc : {X : Type 0} (xs : List X) (i : ℕ) (d : X) → i < length xs → take (suc i) xs ≡ take i xs ++ get_or xs i d ∷ []
+take_suc [] i d h = absurd (omega arith)
+take_suc (x ∷ xs) zero d h = refl
+take_suc (x ∷ xs) (suc i) d h = ap (λ ys. x ∷ ys) (take_suc xs i d (omega arith))
+
+pub take_next : {X : Type 0} (xs : List X) (i : ℕ) (d : X) → i < length xs → take (i + 1) xs ≡ take i xs ++ get_or xs i d ∷ []
+take_next xs i d h = let one : i + 1 ≡ suc i = omega arith in rw one (take_suc xs i d h)
+
+-- each operation of a good list fits those before it, which are good
+pub fits_at : (ops : List Op) (i : ℕ) (d : Op) → IsGood ops → i < length ops → IsGood (take i ops) × Fits (get_or ops i d) (take i ops)
+fits_at ops i d good h =
+    let split = good_split [] (take i ops) (drop i ops) (subst IsGood (sym (take-append-drop i ops)) good) in
+    (split.0, (subst (IsGoodAfter (take i ops)) (drop-cons ops i d h) split.1).0)
+
+-- a list goes on behind its first operations
+pub split_at : (ops : List Op) (i : ℕ) (d : Op) → i < length ops → ops ≡ take i ops ++ get_or ops i d ∷ drop (suc i) ops
+split_at ops i d h = sym (take-append-drop i ops) ∙ ap (λ l. take i ops ++ l) (drop-cons ops i d h)
+
+-- the first misfit of a list whose first operations are good
+pub first_misfit_at : (ops : List Op) (i : ℕ) (op : Op) (cause : Refusal) → i < length ops → op ≡ get_or ops i op → IsGood (take i ops)
+    → misfit_of op (take i ops) ≡ Err cause → (place : ℕ) × IsFirstMisfit ops place cause
+first_misfit_at ops i op cause h is good e = (
+  length (take i ops),
+  record {
+    before = take i ops;
+    op = op;
+    later = drop (suc i) ops;
+    is = split_at ops i op h ∙ ap (λ o. take i ops ++ o ∷ drop (suc i) ops) (sym is);
+    good = good;
+    place_is = refl;
+    cause_is = e;
+  },
+)
+
+pub each_from : {A : Type 0} (f : A → Facts) (ops : List Op) → IsGood ops → (r : Result A Refusal) → IfOk r (λ t. f t ≡ facts (replay ops))
+    → IfOk r (λ t. AreFactsOfEach ops (f t))
+each_from f ops good (Ok t) h = facts_of_each ops (f t) good h
+each_from f ops good (Err e) h = tt

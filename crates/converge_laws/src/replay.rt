@@ -1,0 +1,117 @@
+//! Lists of operations, replayed.
+ghost use Rattle.std.specs.Prelude.{◌≡◌, ◌≢◌, ℕ, [], ◌∷◌, ◌++◌, IsOk, OnOk, IfOk, IfErr};
+ghost use Rattle.json_scalar.specs.declared.refusal.Refusal.TheVariants.{NoMemory};
+ghost use Rattle.crdt_rules.specs.Context.{empty};
+ghost use Rattle.crdt_rules.specs.Facts.{facts};
+ghost use Rattle.crdt_rules.specs.Fits.{Fits};
+ghost use Rattle.crdt_rules.specs.Log.{IsGood, replay};
+ghost use Rattle.doc_rules.specs.Cause.{misfit_of, IsFirstMisfit};
+ghost use Rattle.doc_tree.specs.Nodes.{tree_facts};
+ghost use Rattle.doc_tree.specs.Prepared.{HasPlace, IsPrepared};
+ghost use Rattle.converge_laws.specs.Replayed.{AreFactsOfEach};
+
+use doc_tree::Tree;
+use json_scalar::Refusal;
+use op_core::Operation;
+use op_log::OpLog;
+use std::alloc::Global;
+
+/// The tree of a list each of whose operations fits those before it. Its facts are those of every causal order of the
+/// operations, and those that the set of them has without any order.
+///
+/// Of another list it is refused for the cause against the first operation that doesn't fit: its id stands twice (15), a
+/// front id isn't logged before or that operation's front isn't at most this one (13), its replica's chain forks (14), its
+/// cursor names an element that it doesn't know (7), or the list has passed 100,000 operations (18) or 256 replicas (19).
+/// Whose name the operations bear isn't looked at. 22 for want of memory.
+pub fn replay_all(alloc: Global, ops: &[Operation]) -> Result<Tree, Refusal>
+    ensures replayed { IfOk result (λ tree. AreFactsOfEach ops.now (tree_facts tree)) }
+    ensures misfit { IfErr result (λ cause. cause ≢ NoMemory → (place : ℕ) × IsFirstMisfit ops.now place cause) }
+{
+    drop(log_of(alloc, ops)?);
+    grown(alloc, ops)
+}
+
+/// The log of a list each of whose operations fits those before it, or the cause against the first that doesn't.
+pub fn log_of(alloc: Global, ops: &[Operation]) -> Result<OpLog, Refusal>
+    ensures ok { IfOk result (λ log. log.operations ≡ ops.now) }
+    ensures good { IsOk result → IsGood ops.now }
+    ensures misfit { IfErr result (λ cause. cause ≢ NoMemory → (place : ℕ) × IsFirstMisfit ops.now place cause) }
+{
+    let mut log = OpLog::new(alloc);
+    for i in 0..ops.len() {
+        log_next(&mut log, &ops[i])?;
+    }
+    Ok(log)
+}
+
+/// Logs an operation if it fits.
+fn log_next(log: &mut OpLog, op: &Operation) -> Result<(), Refusal>
+    ensures ok { OnOk result (log.new.operations ≡ log.old.operations ++ op.now ∷ []) }
+    ensures fits { IsOk result → Fits op.now log.old.operations }
+    ensures misfit { IfErr result (λ cause. cause ≢ NoMemory → misfit_of op.now log.old.operations ≡ Err cause) }
+{
+    misfit(log, op)?;
+    let copy = op.try_clone()?;
+    log.reserve(1)?;
+    log.append(copy);
+    Ok(())
+}
+
+/// The first cause against an operation as the next of a log.
+fn misfit(log: &OpLog, op: &Operation) -> Result<(), Refusal>
+    ensures cause { result ≡ misfit_of op.now log.now.operations }
+    ensures fits { IsOk result → Fits op.now log.now.operations }
+{
+    if log.contains(op.id()) {
+        return Err(Refusal::IdConflict);
+    }
+    log.check(op)
+}
+
+/// The tree that a good list makes.
+fn grown(alloc: Global, ops: &[Operation]) -> Result<Tree, Refusal>
+    requires { IsGood ops.now }
+    ensures ok { IfOk result (λ tree. tree_facts tree ≡ facts (replay ops.now)) }
+    ensures memory { IfErr result (λ cause. cause ≡ NoMemory) }
+{
+    let mut tree = new_tree(alloc)?;
+    for i in 0..ops.len() {
+        grow(&mut tree, &ops[..i], &ops[i])?;
+    }
+    Ok(tree)
+}
+
+fn new_tree(alloc: Global) -> Result<Tree, Refusal>
+    ensures ok { IfOk result (λ tree. tree_facts tree ≡ facts empty) }
+    ensures memory { IfErr result (λ cause. cause ≡ NoMemory) }
+{
+    match Tree::new(alloc) {
+        Ok(tree) => Ok(tree),
+        Err(_) => Err(Refusal::NoMemory),
+    }
+}
+
+/// Takes an operation into the tree that those before it made.
+fn grow(tree: &mut Tree, before: &[Operation], op: &Operation) -> Result<(), Refusal>
+    requires good { IsGood before.now }
+    requires fits { Fits op.now before.now }
+    requires same { tree_facts tree.old ≡ facts (replay before.now) }
+    ensures ok { OnOk result (tree_facts tree.new ≡ facts (replay (before.now ++ op.now ∷ []))) }
+    ensures memory { IfErr result (λ cause. cause ≡ NoMemory) }
+{
+    prepare(tree, op)?;
+    tree.commit(op);
+    Ok(())
+}
+
+fn prepare(tree: &mut Tree, op: &Operation) -> Result<(), Refusal>
+    requires { HasPlace op.now }
+    ensures facts { tree_facts tree.new ≡ tree_facts tree.old }
+    ensures ok { OnOk result (IsPrepared tree.new op.now) }
+    ensures memory { IfErr result (λ cause. cause ≡ NoMemory) }
+{
+    match tree.prepare(op) {
+        Ok(()) => Ok(()),
+        Err(_) => Err(Refusal::NoMemory),
+    }
+}
