@@ -11,13 +11,13 @@ use Rattle.op_core.specs.Shape.{key_of, may_follow}
 use Rattle.crdt_rules.specs.Same.{key_eq}
 use Rattle.crdt_rules.proofs.SameLaws.{key_decides}
 use Rattle.list_laws.proofs.Members.{Contains-there}
-use Rattle.doc_tree.specs.declared.node.NodeNumber.{NodeNumber}
-use Rattle.doc_tree.specs.declared.node.Node.{Node}
-use Rattle.doc_tree.specs.Children.{number_at}
-use Rattle.doc_tree.specs.Walk.{trail, trail_below, walk, root}
-use Rattle.doc_tree.specs.Nodes.{child_of, node_at, role_in, role_at, facts_of}
-use Rattle.doc_tree.proofs.Walks.{parts_of, walk_split}
-use Rattle.doc_tree.proofs.Places.{node_by}
+use Rattle.doc_nodes.specs.declared.node.NodeNumber.{NodeNumber}
+use Rattle.doc_nodes.specs.declared.node.Node.{Node}
+use Rattle.doc_nodes.specs.Children.{number_at}
+use Rattle.doc_nodes.specs.Walk.{trail, trail_below, walk, root}
+use Rattle.doc_nodes.specs.Nodes.{child_of, node_at, role_in, role_at, facts_of}
+use Rattle.doc_nodes.proofs.Walks.{parts_of, walk_split}
+use Rattle.doc_nodes.proofs.Places.{node_by}
 
 -- the way into the map at a place goes by the place
 trail_below-into : (t : Tagged) (p : List Tagged) (k : Key) (x : List ℕ)

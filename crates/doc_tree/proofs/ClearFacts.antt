@@ -9,12 +9,12 @@ use Rattle.crdt_rules.specs.Place.{is_within}
 use Rattle.doc_words.specs.declared.role.Role.{Role}
 use Rattle.presence_set.specs.ById.{get, uncovered}
 use Rattle.presence_set.proofs.ByIdLaws.{get-uncovered}
-use Rattle.doc_tree.specs.declared.node.NodeNumber.{NodeNumber}
-use Rattle.doc_tree.specs.declared.node.Node.{Node}
-use Rattle.doc_tree.specs.Walk.{walk, root, trail, list_trail}
-use Rattle.doc_tree.specs.Nodes.{node_of, child_of, node_at, list_node_at, role_in, value_in, ids_in, role_at, facts_of, AreTree, ClearsUnder, cleared, clear_facts_at}
-use Rattle.doc_tree.proofs.Clearing.{same_children}
-use Rattle.doc_tree.proofs.Places.{node_above, same_node, within_from_walk}
+use Rattle.doc_nodes.specs.declared.node.NodeNumber.{NodeNumber}
+use Rattle.doc_nodes.specs.declared.node.Node.{Node}
+use Rattle.doc_nodes.specs.Walk.{walk, root, trail, list_trail}
+use Rattle.doc_nodes.specs.Nodes.{node_of, child_of, node_at, list_node_at, role_in, value_in, ids_in, role_at, facts_of, AreTree, ClearsUnder, cleared, clear_facts_at}
+use Rattle.doc_nodes.proofs.Clearing.{same_children}
+use Rattle.doc_nodes.proofs.Places.{node_above, same_node, within_from_walk}
 
 module _ (front : List (List ℕ × ℕ)) (old new : List Node) (tree : AreTree old) (p : List Tagged) (k : Key) (m : NodeNumber)
     (at : node_at old p k ≡ Some m) (clears : ClearsUnder front old new m) where

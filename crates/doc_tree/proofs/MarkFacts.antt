@@ -12,14 +12,14 @@ use Rattle.doc_words.specs.declared.role.Role.{Role}
 use Rattle.doc_words.specs.declared.role.Role.TheVariants.{Through}
 use Rattle.presence_set.specs.ById.{get}
 use Rattle.presence_set.proofs.ByIdLaws.{get-put}
-use Rattle.doc_tree.specs.declared.node.NodeNumber.{NodeNumber}
-use Rattle.doc_tree.specs.declared.node.Node.{Node}
-use Rattle.doc_tree.specs.Walk.{walk, root, trail, list_trail}
-use Rattle.doc_tree.specs.Nodes.{node_of, child_of, node_at, list_node_at, role_in, value_in, ids_in, role_at, facts_of, AreTree}
-use Rattle.doc_tree.specs.Marks.{marked, role_before, MarksAlong, mark_facts}
-use Rattle.doc_tree.proofs.Walks.{one_way}
-use Rattle.doc_tree.proofs.Trails.{above, within, one_place}
-use Rattle.doc_tree.proofs.Places.{way_to, node_above}
+use Rattle.doc_nodes.specs.declared.node.NodeNumber.{NodeNumber}
+use Rattle.doc_nodes.specs.declared.node.Node.{Node}
+use Rattle.doc_nodes.specs.Walk.{walk, root, trail, list_trail}
+use Rattle.doc_nodes.specs.Nodes.{node_of, child_of, node_at, list_node_at, role_in, value_in, ids_in, role_at, facts_of, AreTree}
+use Rattle.doc_nodes.specs.Marks.{marked, role_before, MarksAlong, mark_facts}
+use Rattle.doc_nodes.proofs.Walks.{one_way}
+use Rattle.doc_nodes.proofs.Trails.{above, within, one_place}
+use Rattle.doc_nodes.proofs.Places.{way_to, node_above}
 
 module _ (id : Id) (role : Role) (old new : List Node) (tree : AreTree old) (p : List Tagged) (k : Key) (keys : List Key) (m : NodeNumber)
     (way : trail p k ≡ Some keys) (at : walk (child_of old) root keys ≡ Some m) (marks : MarksAlong id role old new root keys) where

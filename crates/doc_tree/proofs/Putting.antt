@@ -11,21 +11,21 @@ use Rattle.op_core.specs.Shape.{key_of, may_follow}
 use Rattle.crdt_rules.specs.Same.{key_eq, id_eq, path_eq}
 use Rattle.doc_words.specs.declared.role.Role.{Role}
 use Rattle.presence_set.specs.ById.{uncovered}
-use Rattle.doc_tree.specs.declared.node.NodeNumber.{NodeNumber}
-use Rattle.doc_tree.specs.declared.node.Node.{Node}
-use Rattle.doc_tree.specs.Walk.{walk, root, trail, trail_below, IsTree}
-use Rattle.doc_tree.specs.Nodes.{node_of, child_of, node_at, AreTree, ClearsUnder, facts_of, role_at, clear_facts_at}
-use Rattle.doc_tree.specs.Marks.{keys_below, keys_to, HasRoomAlong, IsReady, MarksAlong, mark_facts}
-use Rattle.doc_tree.proofs.Clearing.{IsPartCleared, same_children, tree-cleared}
-use Rattle.doc_tree.specs.Writes.{put_facts, put_role, enter_facts, with_scalar, with_number, add_facts, add_role, count_facts}
+use Rattle.doc_nodes.specs.declared.node.NodeNumber.{NodeNumber}
+use Rattle.doc_nodes.specs.declared.node.Node.{Node}
+use Rattle.doc_nodes.specs.Walk.{walk, root, trail, trail_below, IsTree}
+use Rattle.doc_nodes.specs.Nodes.{node_of, child_of, node_at, AreTree, ClearsUnder, facts_of, role_at, clear_facts_at}
+use Rattle.doc_nodes.specs.Marks.{keys_below, keys_to, HasRoomAlong, IsReady, MarksAlong, mark_facts}
+use Rattle.doc_nodes.proofs.Clearing.{IsPartCleared, same_children, tree-cleared}
+use Rattle.doc_nodes.specs.Writes.{put_facts, put_role, enter_facts, with_scalar, with_number, add_facts, add_role, count_facts}
 use Rattle.crdt_rules.specs.Place.{is_within}
 use Rattle.json_scalar.specs.declared.scalar.Scalar.{Scalar}
 use Rattle.doc_words.specs.declared.role.Role.TheVariants.{Through}
-use Rattle.doc_tree.proofs.Places.{way_to, node_within}
+use Rattle.doc_nodes.proofs.Places.{way_to, node_within}
 use Rattle.doc_tree.proofs.ClearFacts.{facts-cleared, role-cleared}
 use Rattle.doc_tree.proofs.MarkFacts.{facts-marked, role-marked}
-use Rattle.doc_tree.proofs.WriteFacts.{facts-entered, facts-counted, role-set}
-use Rattle.doc_tree.proofs.Marking.{tree-set}
+use Rattle.doc_nodes.proofs.WriteFacts.{facts-entered, facts-counted, role-set}
+use Rattle.doc_nodes.proofs.Marking.{tree-set}
 
 -- the keys of a trail
 keys_of_trail_below : (t : Tagged) (p : List Tagged) (k : Key) (keys : List Key) → trail_below t p k ≡ Some keys → keys ≡ keys_below p k

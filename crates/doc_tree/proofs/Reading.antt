@@ -6,9 +6,9 @@ use Rattle.op_core.specs.declared.cursor.Key.{Key}
 use Rattle.op_core.specs.declared.cursor.Tagged.{Tagged}
 use Rattle.doc_words.specs.declared.role.Role.{Role}
 use Rattle.presence_set.specs.ById.{get}
-use Rattle.doc_tree.specs.declared.node.NodeNumber.{NodeNumber}
-use Rattle.doc_tree.specs.declared.node.Node.{Node}
-use Rattle.doc_tree.specs.Nodes.{node_of, node_at, list_node_at, role_in, scalar_in, number_in, ids_in, role_at, facts_of}
+use Rattle.doc_nodes.specs.declared.node.NodeNumber.{NodeNumber}
+use Rattle.doc_nodes.specs.declared.node.Node.{Node}
+use Rattle.doc_nodes.specs.Nodes.{node_of, node_at, list_node_at, role_in, scalar_in, number_in, ids_in, role_at, facts_of}
 
 module _ (nodes : List Node) (p : List Tagged) (k : Key) where
   pub role_read : (n : NodeNumber) → node_at nodes p k ≡ Some n → (i : Id) → get (node_of nodes n).presence.0 i ≡ role_at nodes p k i

@@ -19,14 +19,14 @@ use Rattle.crdt_rules.specs.Context.{reference, entered}
 use Rattle.crdt_rules.specs.Facts.{Facts, step_facts}
 use Rattle.doc_words.specs.declared.role.Role.{Role}
 use Rattle.doc_words.specs.declared.role.Role.TheVariants.{Counter}
-use Rattle.doc_tree.specs.declared.node.NodeNumber.{NodeNumber}
-use Rattle.doc_tree.specs.declared.node.Node.{Node}
-use Rattle.doc_tree.specs.Walk.{root, walk, trail}
-use Rattle.doc_tree.specs.Nodes.{node_of, child_of, node_at, list_node_at, ids_in, facts_of, clear_facts_at}
-use Rattle.doc_tree.specs.Writes.{put_facts, put_role, add_facts, add_role, order_facts, with_ids, IsReadyFor}
+use Rattle.doc_nodes.specs.declared.node.NodeNumber.{NodeNumber}
+use Rattle.doc_nodes.specs.declared.node.Node.{Node}
+use Rattle.doc_nodes.specs.Walk.{root, walk, trail}
+use Rattle.doc_nodes.specs.Nodes.{node_of, child_of, node_at, list_node_at, ids_in, facts_of, clear_facts_at}
+use Rattle.doc_nodes.specs.Writes.{put_facts, put_role, add_facts, add_role, order_facts, with_ids, IsReadyFor}
 use Rattle.doc_tree.specs.Prepared.{step_role, role_of}
-use Rattle.doc_tree.proofs.Marking.{shape-set}
-use Rattle.doc_tree.proofs.WriteFacts.{unwritten}
+use Rattle.doc_nodes.proofs.Marking.{shape-set}
+use Rattle.doc_nodes.proofs.WriteFacts.{unwritten}
 
 -- an operation with a known mutation
 abbrev with_mutation : Op → Mutation → Op

@@ -16,11 +16,11 @@ use Rattle.crdt_rules.specs.Context.{reference}
 use Rattle.crdt_rules.specs.Facts.{Facts}
 use Rattle.doc_words.specs.declared.role.Role.{Role}
 use Rattle.doc_words.specs.declared.role.Role.TheVariants.{Through, Map as MapRole, List as ListRole, Scalar as ScalarRole, Counter as CounterRole}
-use Rattle.doc_tree.specs.declared.node.NodeNumber.{NodeNumber}
-use Rattle.doc_tree.specs.declared.node.Node.{Node}
-use Rattle.doc_tree.specs.Walk.{trail, list_trail}
-use Rattle.doc_tree.specs.Nodes.{node_of, list_node_at}
-use Rattle.doc_tree.specs.Writes.{IsReadyFor}
+use Rattle.doc_nodes.specs.declared.node.NodeNumber.{NodeNumber}
+use Rattle.doc_nodes.specs.declared.node.Node.{Node}
+use Rattle.doc_nodes.specs.Walk.{trail, list_trail}
+use Rattle.doc_nodes.specs.Nodes.{node_of, list_node_at}
+use Rattle.doc_nodes.specs.Writes.{IsReadyFor}
 
 -- the role of an operation where it puts a value
 abbrev pub role_of : Val → Role

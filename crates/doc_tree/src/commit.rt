@@ -13,14 +13,11 @@ ghost use Rattle.crdt_rules.specs.Effect.{scalar_put};
 ghost use Rattle.crdt_rules.specs.Context.{reference};
 ghost use Rattle.crdt_rules.specs.Facts.{step_facts};
 ghost use Rattle.doc_words.specs.declared.role.Role.TheVariants.{Counter};
-ghost use Rattle.doc_tree.specs.Nodes.{AreTree, node_of, node_at, facts_of, role_at, clear_facts_at};
-ghost use Rattle.doc_tree.specs.Writes.{with_scalar, with_number, add_facts, add_role, with_ids, put_facts, put_role, order_facts, IsReadyFor};
+ghost use Rattle.doc_nodes.specs.Nodes.{AreTree, node_of, node_at, facts_of, role_at, clear_facts_at};
+ghost use Rattle.doc_nodes.specs.Writes.{with_scalar, with_number, add_facts, add_role, with_ids, put_facts, put_role, order_facts, IsReadyFor};
 ghost use Rattle.doc_tree.specs.Prepared.{AreReady, IsNewElement, IsReadyList, KnowsReference, role_of, step_role};
 
-use crate::clear::clear_under;
-use crate::find::{keys, known_list, known_node};
-use crate::mark::mark_way;
-use crate::node::{Node, NodeNumber};
+use doc_nodes::{Node, clear_under, count, enter, keys, known_list, known_node, link, mark_way};
 use json_scalar::{Scalar, Val};
 use lamport_id::Id;
 use op_core::{Front, Key, Mutation, Operation, Tagged};
@@ -163,36 +160,4 @@ pub fn add_at(nodes: &mut [Node], path: &[Tagged], key: &Key, id: &Id, n: i64)
     let end = known_node(nodes, path, key);
     mark_way(nodes, path, key, id, Role::Counter);
     count(nodes, end, id, n);
-}
-
-/// Enters a number into the counter of a node.
-pub fn count(nodes: &mut [Node], at: NodeNumber, id: &Id, n: i64)
-    requires known { at.0 < length nodes.old }
-    requires room { length (node_of nodes.old at).counter.0 < (node_of nodes.old at).counter.1 }
-    ensures { nodes.new ≡ slice_set nodes.old at.0 (with_number id.now n (node_of nodes.old at)) }
-{
-    let node = &mut nodes[at.0];
-    node.counter.put(*id, n);
-}
-
-/// Enters a scalar into the register of a node.
-pub fn enter(nodes: &mut [Node], at: NodeNumber, id: &Id, scalar: Scalar)
-    requires known { at.0 < length nodes.old }
-    requires room { length (node_of nodes.old at).register.0 < (node_of nodes.old at).register.1 }
-    ensures { nodes.new ≡ slice_set nodes.old at.0 (with_scalar id.now scalar (node_of nodes.old at)) }
-{
-    let node = &mut nodes[at.0];
-    node.register.put(*id, scalar);
-}
-
-/// Inserts an id into the list of a node.
-pub fn link(nodes: &mut [Node], at: NodeNumber, after: Option<Id>, id: &Id)
-    requires known { at.0 < length nodes.old }
-    requires room { length (node_of nodes.old at).order.0 < (node_of nodes.old at).order.1 }
-    requires reference { ForSome after (Contains (node_of nodes.old at).order.0) }
-    requires new { ¬ (Contains (node_of nodes.old at).order.0 id.now) }
-    ensures { nodes.new ≡ slice_set nodes.old at.0 (with_ids (λ ids. insert_after id_cmp ids after id.now) (node_of nodes.old at)) }
-{
-    let node = &mut nodes[at.0];
-    node.order.insert_by_rule(after, *id);
 }

@@ -3,11 +3,12 @@ ghost use Rattle.std.specs.Prelude.{◌≡◌, ◌+◌, ◌<◌, ◌≤◌, leng
 ghost use Rattle.std.specs.Option.{ForSome};
 ghost use Rattle.std.specs.Ordering.{is_lt};
 ghost use Rattle.lamport_id.specs.Order.{id_cmp};
-ghost use Rattle.presence_set.specs.ById.{get, put, rank, IsAscending};
+ghost use Rattle.presence_set.specs.ById.{get, put, IsAscending};
 ghost use Rattle.list_order.specs.Slots.{ids_along, linked, linked_first, passed, path_from, IsWalk};
 ghost use Rattle.list_order.specs.Slots as Spec;
 
 use lamport_id::Id;
+use presence_set::rank_of;
 use std::alloc::{AllocError, Global};
 
 /// The number of a slot.
@@ -158,13 +159,4 @@ pub fn add_entry(index: &mut Vec<(Id, SlotNumber)>, id: &Id, number: SlotNumber)
         Ok(()) => {}
         Err(_) => unreachable!(),
     }
-}
-
-/// How many entries have a lesser id.
-fn rank_of(index: &[(Id, SlotNumber)], id: &Id) -> usize
-    requires { IsAscending index.now }
-    ensures value { result ≡ rank index.now id.now }
-    ensures within { result ≤ length index.now }
-{
-    index.partition_point(|entry| entry.0 < *id)
 }

@@ -1,4 +1,4 @@
-//! Which operations make a place present, and in which role each does.
+//! What stands at the ids of operations at a place: the roles in which they make it present, their scalars, their numbers.
 #![tactic(auto)]
 
 ghost use Rattle.std.specs.Prelude.{◌≡◌, ◌+◌, ◌<◌, ◌≤◌, ◌↔◌, [], length, not, IsTrue, OnOk};
@@ -13,36 +13,44 @@ use op_core::Front;
 use std::alloc::{AllocError, Global};
 use std::marker::Model;
 
-/// The operations that make a place present. Clauses see a pair: the ids with their roles, in id order, and how many
-/// of them the memory at hand can hold.
-#[derive(Drop)]
-pub struct Presence {
-    entries: Vec<(Id, Role)>,
+/// At most one value for each id, in id order. Clauses see a pair: the ids with their values, and how many of them the
+/// memory at hand can hold.
+pub struct ById<X> {
+    entries: Vec<(Id, X)>,
 }
 
-impl Model for Presence {
+/// The operations that make a place present, each with its role.
+pub type Presence = ById<Role>;
+
+impl<X> Model for ById<X> {
     ghost use Rattle.std.specs.Prelude.{List, ℕ, vec_capacity};
     ghost use Rattle.lamport_id.specs.declared.id.Id.{Id};
-    ghost use Rattle.doc_words.specs.declared.role.Role.{Role};
     ghost use Rattle.presence_set.specs.ById.{IsAscending};
 
-    ghost Value = { List (Id × Role) × ℕ };
+    ghost Value = { List (Id × X) × ℕ };
 
     ghost view = { λ p. (p.entries.items, vec_capacity p.entries) };
 
     ghost invariant = { λ p. IsAscending p.entries.items };
 }
 
-impl Presence {
-    pub fn new(alloc: Global) -> Presence
+impl<X: Drop> Drop for ById<X> {
+    fn drop(self) {
+        let ById { entries: _ } = self;
+    }
+}
+
+impl<X: Drop> ById<X> {
+    /// No id. It takes no memory yet.
+    pub fn new(alloc: Global) -> ById<X>
         ensures { result.0 ≡ [] }
     {
-        Presence {
+        ById {
             entries: Vec::new(alloc),
         }
     }
 
-    /// Makes room for one more id.
+    /// Makes room for one more id. Where memory is wanting, what stands there stays.
     pub fn reserve_one(&mut self) -> Result<(), AllocError>
         ensures same { self.new.0 ≡ self.old.0 }
         ensures grows { self.old.1 ≤ self.new.1 }
@@ -51,16 +59,17 @@ impl Presence {
         self.entries.reserve(1)
     }
 
-    /// Gives the id this role, in place of any other.
-    pub fn put(&mut self, id: Id, role: Role)
+    /// Gives the id this value, in place of any other.
+    pub fn put(&mut self, id: Id, value: X)
         requires { length self.old.0 < self.old.1 }
-        ensures { self.new ≡ (put self.old.0 id role, self.old.1) }
+        ensures { self.new ≡ (put self.old.0 id value, self.old.1) }
     {
-        let at = rank_of(self.entries.as_slice(), id);
+        let id = id;
+        let at = rank_of(self.entries.as_slice(), &id);
         if at < self.entries.len() && self.entries[at].0 == id {
-            self.entries[at] = (id, role);
+            self.entries[at] = (id, value);
         } else {
-            match self.entries.insert(at, (id, role)) {
+            match self.entries.insert(at, (id, value)) {
                 Ok(()) => {}
                 Err(_) => unreachable!(),
             }
@@ -72,25 +81,28 @@ impl Presence {
         ensures { self.new ≡ (uncovered front.now self.old.0, self.old.1) }
     {
         self.entries.retain(
-            |entry: &(Id, Role)| -> bool
+            |entry: &(Id, X)| -> bool
                 ensures { result ≡ not (covers front.entry.now entry.now.0) }
             { !front.covers(entry.0) },
         );
     }
 
+    /// Whether there is no id.
     pub fn is_empty(&self) -> bool
         ensures { IsTrue result ↔ (self.now.0 ≡ []) }
     {
         self.entries.is_empty()
     }
 
-    pub fn entries(&self) -> &[(Id, Role)]
+    /// The ids with their values, in id order.
+    pub fn entries(&self) -> &[(Id, X)]
         ensures value { result.now ≡ self.now.0 }
         ensures ascending { IsAscending result.now }
     {
         self.entries.as_slice()
     }
 
+    /// Whether something stands at the id.
     pub fn contains(&self, id: Id) -> bool
         ensures { result ≡ contains self.now.0 id }
     {
@@ -98,10 +110,11 @@ impl Presence {
     }
 }
 
-/// How many entries, at the front, have a lesser id.
-fn rank_of(entries: &[(Id, Role)], id: Id) -> usize
-    ensures value { result ≡ rank entries.now id }
+/// How many entries have a lesser id, found by bisection.
+pub fn rank_of<X>(entries: &[(Id, X)], id: &Id) -> usize
+    requires { IsAscending entries.now }
+    ensures value { result ≡ rank entries.now id.now }
     ensures within { result ≤ length entries.now }
 {
-    entries.iter().take_while(|entry| entry.0 < id).count()
+    entries.partition_point(|entry| entry.0 < *id)
 }

@@ -2,8 +2,8 @@ use Rattle.std.proofs.Common.{◌∙◌, ap, set}
 use Rattle.std.proofs.lemmas.Int.{to_z-of_z}
 use mir.Syntax.{w64}
 use Rattle.doc_words.specs.declared.role.Role.TheVariants.{Counter}
-use Rattle.doc_tree.specs.Nodes.{node_of}
-use Rattle.doc_tree.specs.Writes.{with_number}
+use Rattle.doc_nodes.specs.Nodes.{node_of}
+use Rattle.doc_nodes.specs.Writes.{with_number}
 use Rattle.doc_tree.proofs.Putting.{ready-way, within-marked, counter_room-marked, facts-added, role-added, tree-added}
 use Rattle.doc_tree.proofs.commit.add_at.Goals as goal
 

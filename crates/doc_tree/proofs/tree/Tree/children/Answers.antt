@@ -3,9 +3,10 @@ use Rattle.std.specs.Prelude.{Contains}
 use Rattle.std.proofs.lemmas.List.{get_or_default}
 use Rattle.op_core.specs.declared.cursor.Key.TheVariants.{Text}
 use Rattle.op_core.specs.declared.cursor.Tagged.TheVariants.{Map}
-use Rattle.doc_tree.specs.declared.node.NodeNumber.{NodeNumber}
-use Rattle.doc_tree.specs.Nodes.{blank, node_of, node_at, child_of, tree_facts}
-use Rattle.doc_tree.proofs.Places.{node_within, same_node}
+use Rattle.doc_nodes.specs.declared.node.NodeNumber.{NodeNumber}
+use Rattle.doc_nodes.specs.Nodes.{blank, node_of, node_at, child_of}
+use Rattle.doc_tree.specs.Nodes.{tree_facts}
+use Rattle.doc_nodes.proofs.Places.{node_within, same_node}
 use Rattle.doc_tree.proofs.Below.{present_child, entry_in}
 use Rattle.doc_tree.proofs.tree.Tree.children.Goals as goal
 

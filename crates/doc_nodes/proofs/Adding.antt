@@ -1,0 +1,176 @@
+-- More room in one node, and one node more, change nothing of what the nodes say.
+use Rattle.std.proofs.Common.{◌≡◌, ℕ, ◌+◌, ◌<◌, ◌≤◌, List, [], ◌∷◌, ◌++◌, length, set, Bool, true, false, if◌then◌else◌, Option, Some, None, ◌⊎◌, inl, inr, ⊎_elim, refl, sym, ap, ◌∙◌, subst, arith}
+use Rattle.std.proofs.lemmas.List.{get_or_past, get_or_append_left, get_or_push, length_push, length-set}
+use Rattle.std.proofs.lemmas.Bool.{cases_eq, cases_lt}
+use Rattle.op_core.specs.declared.cursor.Key.{Key}
+use Rattle.crdt_rules.specs.Same.{key_eq}
+use Rattle.crdt_rules.proofs.SameLaws.{key_decides}
+use Rattle.doc_nodes.specs.declared.node.NodeNumber.{NodeNumber}
+use Rattle.doc_nodes.specs.declared.node.Node.{Node}
+use Rattle.doc_nodes.specs.Children.{number_at}
+use Rattle.doc_nodes.specs.Nodes.{blank, node_of, child_of, AreTree}
+use Rattle.doc_nodes.specs.Growth.{Grows, with_child, IsFresh}
+use Rattle.doc_nodes.proofs.ChildrenLaws.{number_at-insert_rank}
+use Rattle.doc_nodes.proofs.Marking.{here-set, other-set, eq_number, shape-set}
+use Rattle.doc_nodes.proofs.WriteFacts.{unwritten}
+
+module _ (nodes : List Node) (n : NodeNumber) (within : n.0 < length nodes) where
+  no_less : (part : Node → ℕ) (node : Node) → part (node_of nodes n) ≤ part node → (j : NodeNumber) → part (node_of nodes j) ≤ part (node_of (set nodes n.0 node) j)
+  no_less part node le j = ⊎_elim
+      (λ e. subst (λ z. part (node_of nodes z) ≤ part (node_of (set nodes n.0 node) z)) (sym (eq_number j n e)) (subst (λ z. part (node_of nodes n) ≤ part z) (sym (here-set nodes n node within)) le))
+      (λ e. subst (λ z. part (node_of nodes j) ≤ part z) (sym (other-set nodes n j node e)) (omega arith))
+      (cases_eq j.0 n.0)
+
+  -- a node that says the same with no less room
+  pub record SaysTheSame (node : Node) : Type 0 where
+    pub presence : node.presence.0 ≡ (node_of nodes n).presence.0
+    pub register : node.register.0 ≡ (node_of nodes n).register.0
+    pub counter : node.counter.0 ≡ (node_of nodes n).counter.0
+    pub order : node.order.0 ≡ (node_of nodes n).order.0
+    pub presence_room : (node_of nodes n).presence.1 ≤ node.presence.1
+    pub register_room : (node_of nodes n).register.1 ≤ node.register.1
+    pub counter_room : (node_of nodes n).counter.1 ≤ node.counter.1
+    pub order_room : (node_of nodes n).order.1 ≤ node.order.1
+    pub children : node.children ≡ (node_of nodes n).children
+
+  pub grows_room : (node : Node) → SaysTheSame node → Grows nodes (set nodes n.0 node)
+  grows_room node same = record {
+    size = omega (arith, length-set nodes n.0 node);
+    presence = unwritten nodes n within (λ z. z.presence.0) node same.presence;
+    register = unwritten nodes n within (λ z. z.register.0) node same.register;
+    counter = unwritten nodes n within (λ z. z.counter.0) node same.counter;
+    order = unwritten nodes n within (λ z. z.order.0) node same.order;
+    presence_room = no_less (λ z. z.presence.1) node same.presence_room;
+    register_room = no_less (λ z. z.register.1) node same.register_room;
+    counter_room = no_less (λ z. z.counter.1) node same.counter_room;
+    order_room = no_less (λ z. z.order.1) node same.order_room;
+    forward = λ m k c e. ap (λ f. f m k) (shape-set nodes n node within same.children) ∙ e;
+    back = λ m k c e l. ap (λ f. f m k) (sym (shape-set nodes n node within same.children)) ∙ e;
+  }
+
+module _ (nodes : List Node) (tree : AreTree nodes) (n : NodeNumber) (within : n.0 < length nodes) (k : Key) (none : child_of nodes n k ≡ None)
+    (number : NodeNumber) (next : number.0 ≡ length nodes) (fresh : Node) (is_fresh : IsFresh fresh) where
+  abbrev written : List Node
+  written = set nodes n.0 (with_child k number (node_of nodes n))
+
+  abbrev added : List Node
+  added = set nodes n.0 (with_child k number (node_of nodes n)) ++ fresh ∷ []
+
+  -- which node stands at a number
+  before : (j : NodeNumber) → j.0 < length nodes → node_of added j ≡ node_of written j
+  before j l = get_or_append_left written (fresh ∷ []) blank j.0 (omega (arith, length-set nodes n.0 (with_child k number (node_of nodes n)), l))
+
+  at_number : (j : NodeNumber) → j.0 ≡ length nodes → node_of added j ≡ fresh
+  at_number j e = get_or_push written fresh blank j.0 (length-set nodes n.0 (with_child k number (node_of nodes n)) ∙ sym e)
+
+  past : (j : NodeNumber) → length nodes < j.0 → node_of added j ≡ blank
+  past j l = get_or_past added j.0 blank (omega (arith, length_push written fresh, length-set nodes n.0 (with_child k number (node_of nodes n)), l))
+
+  missing : (j : NodeNumber) → length nodes ≤ j.0 → node_of nodes j ≡ blank
+  missing j l = get_or_past nodes j.0 blank l
+
+  -- what a part says that the new child does not touch
+  same_part : {X : Type 0} (part : Node → X) → part (with_child k number (node_of nodes n)) ≡ part (node_of nodes n) → part fresh ≡ part blank
+      → (j : NodeNumber) → part (node_of added j) ≡ part (node_of nodes j)
+  same_part part kept empty j = ⊎_elim
+      (λ l. ap part (before j l) ∙ unwritten nodes n within part (with_child k number (node_of nodes n)) kept j)
+      (λ l. ⊎_elim
+      (λ e. ap part (at_number j e) ∙ empty ∙ ap part (sym (missing j l)))
+      (λ ne. ap part (past j (omega (arith, l, ne))) ∙ ap part (sym (missing j l)))
+      (cases_eq j.0 (length nodes)))
+      (cases_lt j.0 (length nodes))
+
+  fewer : (part : Node → ℕ) → part (with_child k number (node_of nodes n)) ≡ part (node_of nodes n) → part blank ≡ 0
+      → (j : NodeNumber) → part (node_of nodes j) ≤ part (node_of added j)
+  fewer part kept zero j = ⊎_elim
+      (λ l. omega (arith, ap part (before j l), unwritten nodes n within part (with_child k number (node_of nodes n)) kept j))
+      (λ l. omega (arith, ap part (missing j l), zero))
+      (cases_lt j.0 (length nodes))
+
+  -- the children are the old ones and the new one
+  child_added : (j : NodeNumber) (q : Key) (c : NodeNumber) → child_of added j q ≡ Some c → (child_of nodes j q ≡ Some c) ⊎ ((j ≡ n) × (k ≡ q) × (c ≡ number))
+  child_added j q c e = ⊎_elim
+      (λ l. ⊎_elim
+      (λ same. at_parent (eq_number j n same) (sym (ap (λ z. number_at z.children q) (before j l)) ∙ e))
+      (λ apart. inl (sym (ap (λ z. number_at z.children q) (before j l ∙ other-set nodes n j (with_child k number (node_of nodes n)) apart)) ∙ e))
+      (cases_eq j.0 n.0))
+      (λ l. ⊎_elim
+      (λ same. let void : ◌≡◌ {A = Option NodeNumber} None (Some c) = sym (ap (λ z. number_at z.children q) (at_number j same) ∙ ap (λ z. number_at z q) is_fresh.children) ∙ e in cc)
+      (λ apart. let void : ◌≡◌ {A = Option NodeNumber} None (Some c) = sym (ap (λ z. number_at z.children q) (past j (omega (arith, l, apart)))) ∙ e in cc)
+      (cases_eq j.0 (length nodes)))
+      (cases_lt j.0 (length nodes))
+    where
+      chosen : (b : Bool) → (b ≡ true → k ≡ q) → (if b then Some number else child_of nodes n q) ≡ Some c → (child_of nodes n q ≡ Some c) ⊎ ((k ≡ q) × (c ≡ number))
+      chosen true same f = inr (same refl, cc)
+      chosen false same f = inl f
+
+      at_parent : j ≡ n → child_of (set nodes n.0 (with_child k number (node_of nodes n))) j q ≡ Some c → (child_of nodes j q ≡ Some c) ⊎ ((j ≡ n) × (k ≡ q) × (c ≡ number))
+      at_parent same f =
+          let here : child_of (set nodes n.0 (with_child k number (node_of nodes n))) n q ≡ Some c = subst (λ z. child_of (set nodes n.0 (with_child k number (node_of nodes n))) z q ≡ Some c) same f in
+          let pushed : (if key_eq k q then Some number else child_of nodes n q) ≡ Some c =
+          sym (ap (λ z. number_at z.children q) (here-set nodes n (with_child k number (node_of nodes n)) within) ∙ number_at-insert_rank (node_of nodes n).children k number q none) ∙ here in
+          ⊎_elim
+          (λ g. inl (subst (λ z. child_of nodes z q ≡ Some c) (sym same) g))
+          (λ g. inr (same, g.0, g.1))
+          (chosen (key_eq k q) (key_decides.same k q) pushed)
+
+  child_kept : (j : NodeNumber) (q : Key) (c : NodeNumber) → child_of nodes j q ≡ Some c → child_of added j q ≡ Some c
+  child_kept j q c e = ⊎_elim
+      (λ l. ⊎_elim
+      (λ same. ap (λ z. number_at z.children q) (before j l) ∙ at_parent (eq_number j n same))
+      (λ apart. ap (λ z. number_at z.children q) (before j l ∙ other-set nodes n j (with_child k number (node_of nodes n)) apart) ∙ e)
+      (cases_eq j.0 n.0))
+      (λ l. let void : ◌≡◌ {A = Option NodeNumber} None (Some c) = sym (ap (λ z. number_at z.children q) (missing j l)) ∙ e in absurd (cc))
+      (cases_lt j.0 (length nodes))
+    where
+      chosen : (b : Bool) → (b ≡ true → k ≡ q) → child_of nodes n q ≡ Some c → (if b then Some number else child_of nodes n q) ≡ Some c
+      chosen true same f = let void : ◌≡◌ {A = Option NodeNumber} None (Some c) = sym (subst (λ z. child_of nodes n z ≡ None) (same refl) none) ∙ f in absurd (cc)
+      chosen false same f = f
+
+      at_parent : j ≡ n → child_of (set nodes n.0 (with_child k number (node_of nodes n))) j q ≡ Some c
+      at_parent same =
+          subst (λ z. child_of (set nodes n.0 (with_child k number (node_of nodes n))) z q ≡ Some c) (sym same)
+          (ap (λ z. number_at z.children q) (here-set nodes n (with_child k number (node_of nodes n)) within)
+          ∙ number_at-insert_rank (node_of nodes n).children k number q none
+          ∙ chosen (key_eq k q) (key_decides.same k q) (subst (λ z. child_of nodes z q ≡ Some c) same e))
+
+  longer : length added ≡ length nodes + 1
+  longer = length_push written fresh ∙ ap (λ z. z + 1) (length-set nodes n.0 (with_child k number (node_of nodes n)))
+
+  pub tree_added : AreTree added
+  tree_added = record {
+    rooted = omega (arith, longer);
+    rising = λ j q c e. ⊎_elim (tree.rising j q c) (λ h. omega (arith, ap (λ z. z.0) h.0, ap (λ z. z.0) h.2, next, within)) (child_added j q c e);
+    within = λ j q c e. ⊎_elim (λ h. omega (arith, tree.within j q c h, longer)) (λ h. omega (arith, ap (λ z. z.0) h.2, next, longer)) (child_added j q c e);
+    unique = λ i j q r c e f. ⊎_elim
+        (λ g. ⊎_elim
+        (λ h. tree.unique i j q r c g h)
+        (λ h. absurd (omega (arith, tree.within i q c g, ap (λ z. z.0) h.2, next)))
+        (child_added j r c f))
+        (λ g. ⊎_elim
+        (λ h. absurd (omega (arith, tree.within j r c h, ap (λ z. z.0) g.2, next)))
+        (λ h. (g.0 ∙ sym h.0, sym g.1 ∙ h.1))
+        (child_added j r c f))
+        (child_added i q c e);
+  }
+
+  pub grows_added : Grows nodes added
+  grows_added = record {
+    size = omega (arith, longer);
+    presence = same_part (λ z. z.presence.0) refl is_fresh.presence;
+    register = same_part (λ z. z.register.0) refl is_fresh.register;
+    counter = same_part (λ z. z.counter.0) refl is_fresh.counter;
+    order = same_part (λ z. z.order.0) refl is_fresh.order;
+    presence_room = fewer (λ z. z.presence.1) refl refl;
+    register_room = fewer (λ z. z.register.1) refl refl;
+    counter_room = fewer (λ z. z.counter.1) refl refl;
+    order_room = fewer (λ z. z.order.1) refl refl;
+    forward = child_kept;
+    back = λ j q c e l. ⊎_elim (λ h. h) (λ h. absurd (omega (arith, ap (λ z. z.0) h.2, next, l))) (child_added j q c e);
+  }
+
+  pub child_new : child_of added n k ≡ Some number
+  child_new =
+      ap (λ z. number_at z.children k) (before n within ∙ here-set nodes n (with_child k number (node_of nodes n)) within)
+      ∙ number_at-insert_rank (node_of nodes n).children k number k none
+      ∙ (let own : key_eq k k ≡ true = key_decides.itself k in rw own)

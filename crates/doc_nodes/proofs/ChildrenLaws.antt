@@ -1,0 +1,55 @@
+-- Laws of numbers by key.
+use Rattle.std.proofs.Common.{◌≡◌, ℕ, ◌<◌, suc, List, [], ◌∷◌, length, get_or, Bool, true, false, if◌then◌else◌, Some, None, refl, sym, ap, ◌∙◌, arith}
+use Rattle.op_core.specs.declared.cursor.Key.{Key}
+use Rattle.crdt_rules.specs.Same.{key_eq}
+use Rattle.std.specs.Prelude.{insert}
+use Rattle.doc_nodes.specs.declared.node.NodeNumber.{NodeNumber}
+use Rattle.sorted_lists.specs.Sorted.{get_by}
+use Rattle.sorted_lists.proofs.Bisection.{get-own, get-rank, get-missing}
+use Rattle.sorted_lists.proofs.Insertion.{get-insert_rank, rising-insert}
+use Rattle.doc_nodes.specs.Children.{number_at}
+use Rattle.doc_nodes.specs.KeyOrder.{rank, IsRising}
+use Rattle.doc_nodes.proofs.KeyOrder.{keys_ordered}
+
+-- each number that is found stands in an entry
+pub entry_of : (entries : List (Key × NodeNumber)) (k : Key) (c : NodeNumber) → number_at entries k ≡ Some c
+    → (i : ℕ) × (i < length entries) × ((d : Key × NodeNumber) → (get_or entries i d).1 ≡ c)
+entry_of [] k c e = cc
+entry_of (x ∷ entries) k c e = go (key_eq x.0 k) e (entry_of entries k c)
+  where
+    go : (b : Bool) → (if b then Some x.1 else number_at entries k) ≡ Some c
+        → (number_at entries k ≡ Some c → (i : ℕ) × (i < length entries) × ((d : Key × NodeNumber) → (get_or entries i d).1 ≡ c))
+        → (i : ℕ) × (i < length (x ∷ entries)) × ((d : Key × NodeNumber) → (get_or (x ∷ entries) i d).1 ≡ c)
+    go true f ih = (0, omega arith, λ d. cc)
+    go false f ih = let h = ih f in (suc h.0, omega (arith, h.1), h.2)
+
+-- the number at a key is what stands there
+pub number_at-get_by : (entries : List (Key × NodeNumber)) (k : Key) → number_at entries k ≡ get_by key_eq entries k
+number_at-get_by [] k = refl
+number_at-get_by (e ∷ entries) k = ap (λ o. if key_eq e.0 k then Some e.1 else o) (number_at-get_by entries k)
+
+module _ (entries : List (Key × NodeNumber)) where
+  -- the number of each entry is found by its key
+  pub number_at-own : IsRising entries → (i : ℕ) (d : Key × NodeNumber) → i < length entries
+      → number_at entries (get_or entries i d).0 ≡ Some (get_or entries i d).1
+  number_at-own rising i d within = number_at-get_by entries (get_or entries i d).0 ∙ get-own keys_ordered entries rising i d within
+
+  -- so is one that is inserted at its rank
+  pub number_at-insert_rank : (k : Key) (n : NodeNumber) (j : Key) → number_at entries k ≡ None
+      → number_at (insert entries (rank entries k) (k, n)) j ≡ (if key_eq k j then Some n else number_at entries j)
+  number_at-insert_rank k n j none =
+      number_at-get_by (insert entries (rank entries k) (k, n)) j
+      ∙ get-insert_rank keys_ordered entries k n j (sym (number_at-get_by entries k) ∙ none)
+      ∙ ap (λ o. if key_eq k j then Some n else o) (sym (number_at-get_by entries j))
+
+  pub rising-insert_rank : (k : Key) (n : NodeNumber) → IsRising entries → number_at entries k ≡ None → IsRising (insert entries (rank entries k) (k, n))
+  rising-insert_rank k n rising none = rising-insert keys_ordered entries k n rising (sym (number_at-get_by entries k) ∙ none)
+
+  -- the number at a key stands where bisection ends, or nowhere
+  pub number_at-rank : (k : Key) (d : Key × NodeNumber) → rank entries k < length entries → key_eq (get_or entries (rank entries k) d).0 k ≡ true
+      → number_at entries k ≡ Some (get_or entries (rank entries k) d).1
+  number_at-rank k d within same = number_at-get_by entries k ∙ get-rank keys_ordered entries k d within same
+
+  pub number_at-missing : (k : Key) (d : Key × NodeNumber) → IsRising entries
+      → (rank entries k < length entries → key_eq (get_or entries (rank entries k) d).0 k ≡ false) → number_at entries k ≡ None
+  number_at-missing k d rising other = number_at-get_by entries k ∙ get-missing keys_ordered entries k d rising other

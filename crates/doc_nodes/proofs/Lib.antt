@@ -1,0 +1,11 @@
+pub mod KeyOrder
+pub mod Walks
+pub mod Trails
+pub mod ChildrenLaws
+pub mod Clearing
+pub mod Places
+pub mod Marking
+pub mod WriteFacts
+pub mod Growing
+pub mod Adding
+pub mod Made

@@ -1,0 +1,10 @@
+use Rattle.std.proofs.Common.{◌≡◌, ◌-◌, length}
+use Rattle.doc_nodes.specs.Nodes.{node_of}
+use Rattle.doc_nodes.proofs.Clearing.{ClearsFirst}
+use Rattle.doc_nodes.proofs.clear.+clear_under.Given as goal
+
+abbrev pub decreases-clear_under : goal.decreases-clear_under
+decreases-clear_under l = length l.nodes.now - l.at.0
+
+abbrev pub invariant-loop-i : goal.invariant-loop-i
+invariant-loop-i l = (ClearsFirst l.front l.fn.nodes l.nodes l.at l.i) × (l.count ≡ length (node_of l.fn.nodes l.at).children)

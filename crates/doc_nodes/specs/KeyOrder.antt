@@ -1,0 +1,40 @@
+-- The order of keys: texts in byte order, then elements in id order.
+use Rattle.std.specs.Prelude.{ℕ, List, []}
+use Rattle.std.specs.Ordering.{nat_cmp, ordering_then}
+use Rattle.std.specs.Cmp.Lexicographic.{slice_cmp}
+use Rattle.std.specs.declared.cmp.Ordering.{Ordering}
+use Rattle.lamport_id.specs.declared.id.Id.{Id}
+use Rattle.op_core.specs.declared.cursor.Key.{Key}
+use Rattle.op_core.specs.declared.cursor.Key.TheVariants.{Doc, Text, Element, Head}
+use Rattle.lamport_id.specs.Order.{id_cmp}
+use Rattle.sorted_lists.specs.Sorted.{rank_by, IsBelowBy, IsRisingBy}
+use Rattle.doc_nodes.specs.declared.node.NodeNumber.{NodeNumber}
+
+abbrev pub kind_of : Key → ℕ
+kind_of Doc = 0
+kind_of Head = 1
+kind_of (Text t) = 2
+kind_of (Element i) = 3
+
+abbrev pub text_of : Key → List ℕ
+text_of (Text t) = t
+text_of _ = []
+
+abbrev pub id_of : Key → Id
+id_of (Element i) = i
+id_of _ = record { counter = 0; replica = [] }
+
+abbrev pub key_cmp : Key → Key → Ordering
+key_cmp a b = ordering_then (nat_cmp (kind_of a) (kind_of b)) (ordering_then (slice_cmp nat_cmp (text_of a) (text_of b)) (id_cmp (id_of a) (id_of b)))
+
+-- how many children, at the front, have a lesser key
+abbrev pub rank : List (Key × NodeNumber) → Key → ℕ
+rank = rank_by key_cmp
+
+-- a key is less than each of these
+abbrev pub IsBelow : Key → List (Key × NodeNumber) → Type 0
+IsBelow = IsBelowBy key_cmp
+
+-- the keys rise
+abbrev pub IsRising : List (Key × NodeNumber) → Type 0
+IsRising = IsRisingBy key_cmp

@@ -1,0 +1,59 @@
+-- The marks of an operation on the nodes that it passes, and where it ends.
+use Rattle.std.specs.Prelude.{◌≡◌, ◌≢◌, ◌<◌, List, [], ◌∷◌, ◌++◌, length, Some, ◌&&◌, ◌||◌, IsSome}
+use Rattle.lamport_id.specs.declared.id.Id.{Id}
+use Rattle.op_core.specs.declared.cursor.Key.{Key}
+use Rattle.op_core.specs.declared.cursor.Tagged.{Tagged}
+use Rattle.op_core.specs.Shape.{key_of}
+use Rattle.crdt_rules.specs.Same.{id_eq}
+use Rattle.crdt_rules.specs.Place.{is_within}
+use Rattle.crdt_rules.specs.Facts.{Facts}
+use Rattle.doc_words.specs.declared.role.Role.{Role}
+use Rattle.doc_words.specs.declared.role.Role.TheVariants.{Through}
+use Rattle.presence_set.specs.ById.{put}
+use Rattle.doc_nodes.specs.declared.node.NodeNumber.{NodeNumber}
+use Rattle.doc_nodes.specs.declared.node.Node.{Node}
+use Rattle.doc_nodes.specs.Walk.{walk}
+use Rattle.doc_nodes.specs.Nodes.{node_of, child_of, AreTree}
+
+-- a node that an operation makes present, in a role
+abbrev pub marked : Id → Role → Node → Node
+marked id role node = record node { presence = (put node.presence.0 id role, node.presence.1) }
+
+-- the role in a node from which keys still lead on
+abbrev pub role_before : List Key → Role → Role
+role_before [] role = role
+role_before (k ∷ keys) role = Through
+
+-- the keys on the way down to a place
+abbrev pub keys_below : List Tagged → Key → List Key
+keys_below [] k = k ∷ []
+keys_below (s ∷ way) k = key_of s ∷ keys_below way k
+
+abbrev pub keys_to : List Tagged → Key → List Key
+keys_to [] k = []
+keys_to (t ∷ way) k = keys_below way k
+
+-- there is room for one more id in the presence of each node on the way
+abbrev pub HasRoomAlong : List Node → NodeNumber → List Key → Type 0
+HasRoomAlong nodes n keys =
+    (front rest : List Key) (j : NodeNumber) → keys ≡ front ++ rest → walk (child_of nodes) n front ≡ Some j
+    → length (node_of nodes j).presence.0 < (node_of nodes j).presence.1
+
+-- the nodes on the way from n by the keys are marked, and no other
+pub record MarksAlong (id : Id) (role : Role) (old new : List Node) (n : NodeNumber) (keys : List Key) : Type 0 where
+  pub along : (front rest : List Key) (j : NodeNumber) → keys ≡ front ++ rest → walk (child_of old) n front ≡ Some j
+      → node_of new j ≡ marked id (role_before rest role) (node_of old j)
+  pub outside : (j : NodeNumber) → ((front rest : List Key) → keys ≡ front ++ rest → walk (child_of old) n front ≢ Some j) → node_of new j ≡ node_of old j
+  pub shape : child_of new ≡ child_of old
+  pub kept : (j : NodeNumber) → ((node_of new j).register ≡ (node_of old j).register) × ((node_of new j).counter ≡ (node_of old j).counter) × ((node_of new j).order ≡ (node_of old j).order)
+
+-- what marks on the way from n need
+pub record IsReady (nodes : List Node) (n : NodeNumber) (keys : List Key) : Type 0 where
+  pub tree : AreTree nodes
+  pub within : n.0 < length nodes
+  pub reached : IsSome (walk (child_of nodes) n keys)
+  pub room : HasRoomAlong nodes n keys
+
+-- a place, and those above it, are present by an id
+abbrev pub mark_facts : Facts → List Tagged → Key → Id → Facts
+mark_facts f p k id = record f { present = λ q j i. f.present q j i || (is_within p k q j && id_eq id i) }

@@ -1,0 +1,89 @@
+-- What numbered nodes say of a document.
+use Rattle.std.specs.Prelude.{◌≡◌, ◌≢◌, ℕ, ℤ, List, [], Bool, ◌&&◌, not, Option, Some, None, is_some, option_and_then, slice_index_or, if◌then◌else◌, ◌⊎◌, length}
+use Rattle.lamport_id.specs.declared.id.Id.{Id}
+use Rattle.json_scalar.specs.declared.scalar.Scalar.{Scalar}
+use Rattle.op_core.specs.declared.cursor.Key.{Key}
+use Rattle.op_core.specs.declared.cursor.Tagged.{Tagged}
+use Rattle.crdt_rules.specs.Place.{is_within}
+use Rattle.crdt_rules.specs.Facts.{Facts}
+use Rattle.doc_words.specs.declared.role.Role.{Role}
+use Rattle.presence_set.specs.ById.{get, uncovered}
+use Rattle.doc_nodes.specs.declared.node.NodeNumber.{NodeNumber}
+use Rattle.doc_nodes.specs.declared.node.Node.{Node}
+use Rattle.doc_nodes.specs.Children.{number_at}
+use Rattle.doc_nodes.specs.Walk.{trail, list_trail, walk, root, IsTree}
+
+-- a node in which nothing stands
+abbrev pub blank : Node
+blank = record { presence = ([], 0); register = ([], 0); counter = ([], 0); order = ([], 0); children = [] }
+
+abbrev pub node_of : List Node → NodeNumber → Node
+node_of nodes n = slice_index_or nodes n.0 blank
+
+abbrev pub child_of : List Node → NodeNumber → Key → Option NodeNumber
+child_of nodes n k = number_at (node_of nodes n).children k
+
+-- the node of a place
+abbrev pub node_at : List Node → List Tagged → Key → Option NodeNumber
+node_at nodes p k = option_and_then (walk (child_of nodes) root) (trail p k)
+
+-- the node whose list a path leads to
+abbrev pub list_node_at : List Node → List Tagged → Option NodeNumber
+list_node_at nodes p = option_and_then (walk (child_of nodes) root) (list_trail p)
+
+-- what stands in a node, if there is one
+abbrev pub role_in : List Node → Option NodeNumber → Id → Option Role
+role_in nodes None i = None
+role_in nodes (Some n) i = get (node_of nodes n).presence.0 i
+
+abbrev pub value_in : {X : Type 0} → (Node → List (Id × X)) → List Node → Option NodeNumber → Id → Option X
+value_in part nodes None i = None
+value_in part nodes (Some n) i = get (part (node_of nodes n)) i
+
+abbrev pub scalar_in : List Node → Option NodeNumber → Id → Option Scalar
+scalar_in = value_in (λ node. node.register.0)
+
+abbrev pub number_in : List Node → Option NodeNumber → Id → Option ℤ
+number_in = value_in (λ node. node.counter.0)
+
+abbrev pub ids_in : List Node → Option NodeNumber → List Id
+ids_in nodes None = []
+ids_in nodes (Some n) = (node_of nodes n).order.0
+
+-- the role of an operation at a place
+unfoldable pub role_at : List Node → List Tagged → Key → Id → Option Role
+role_at nodes p k i = role_in nodes (node_at nodes p k) i
+
+-- the facts of a document that is kept as numbered nodes
+unfoldable pub facts_of : List Node → Facts
+facts_of nodes =
+    record {
+      present = λ p k i. is_some (role_at nodes p k i);
+      register = λ p k i. scalar_in nodes (node_at nodes p k) i;
+      counter = λ p k i. number_in nodes (node_at nodes p k) i;
+      order = λ p. ids_in nodes (list_node_at nodes p);
+    }
+
+-- the nodes of a tree
+abbrev pub AreTree : List Node → Type 0
+AreTree nodes = IsTree (child_of nodes) (length nodes)
+
+-- a node without what the front covers
+abbrev pub cleared : List (List ℕ × ℕ) → Node → Node
+cleared front node = record node { presence = (uncovered front node.presence.0, node.presence.1); register = (uncovered front node.register.0, node.register.1); counter = (uncovered front node.counter.0, node.counter.1) }
+
+-- the nodes from n down are cleared, and no other
+pub record ClearsUnder (front : List (List ℕ × ℕ)) (old new : List Node) (n : NodeNumber) : Type 0 where
+  pub each : (j : NodeNumber) → (node_of new j ≡ node_of old j) ⊎ (node_of new j ≡ cleared front (node_of old j))
+  pub inside : (j : NodeNumber) (keys : List Key) → walk (child_of old) n keys ≡ Some j → node_of new j ≡ cleared front (node_of old j)
+  pub outside : (j : NodeNumber) → ((keys : List Key) → walk (child_of old) n keys ≢ Some j) → node_of new j ≡ node_of old j
+
+-- what the ids of deps put at a place and below it is taken out of the facts
+abbrev pub clear_facts_at : Facts → List Tagged → Key → (Id → Bool) → Facts
+clear_facts_at f p k deps =
+    record {
+      present = λ q j i. f.present q j i && not (is_within q j p k && deps i);
+      register = λ q j i. if is_within q j p k && deps i then None else f.register q j i;
+      counter = λ q j i. if is_within q j p k && deps i then None else f.counter q j i;
+      order = f.order;
+    }

@@ -1,0 +1,166 @@
+//! The node of a place.
+ghost use Rattle.std.specs.Prelude.{◌≡◌, Some, None, IsSome, option_and_then, if◌then◌else◌};
+ghost use Rattle.op_core.specs.Shape.{key_of, is_list, may_follow};
+ghost use Rattle.crdt_rules.specs.Same.{key_eq};
+ghost use Rattle.op_core.specs.declared.cursor.Key.TheVariants.{Doc};
+ghost use Rattle.doc_nodes.specs.Walk.{trail_below, list_trail_below, walk, root};
+ghost use Rattle.doc_nodes.specs.Nodes.{child_of, node_at, list_node_at};
+
+use crate::node::{Node, NodeNumber};
+use op_core::{Key, Path, Tagged};
+
+/// The number of the root.
+pub fn root_number() -> NodeNumber
+    ensures { result ≡ root }
+{
+    NodeNumber(0)
+}
+
+/// The node of a place.
+pub fn find(nodes: &[Node], path: &[Tagged], key: &Key) -> Option<NodeNumber>
+    ensures { result ≡ node_at nodes.now path.now key.now }
+{
+    match path.split_first() {
+        None => {
+            if is_doc(key) {
+                Some(root_number())
+            } else {
+                None
+            }
+        }
+        Some((first, way)) => {
+            if is_doc(key_in(first)) {
+                find_below(nodes, root_number(), first, way, key)
+            } else {
+                None
+            }
+        }
+    }
+}
+
+/// The node of a place below a tagged key.
+pub fn find_below(
+    nodes: &[Node],
+    at: NodeNumber,
+    tag: &Tagged,
+    way: &[Tagged],
+    key: &Key,
+) -> Option<NodeNumber>
+    ensures { result ≡ option_and_then (walk (child_of nodes.now) at) (trail_below tag.now way.now key.now) }
+{
+    match way.split_first() {
+        None => child(nodes, at, tag, key),
+        Some((next, rest)) => match child(nodes, at, tag, key_in(next)) {
+            None => None,
+            Some(below) => find_below(nodes, below, next, rest, key),
+        },
+    }
+}
+
+/// The node whose list a path leads to.
+pub fn find_list(nodes: &[Node], path: &[Tagged]) -> Option<NodeNumber>
+    ensures { result ≡ list_node_at nodes.now path.now }
+{
+    match path.split_first() {
+        None => None,
+        Some((first, way)) => {
+            if is_doc(key_in(first)) {
+                find_list_below(nodes, root_number(), first, way)
+            } else {
+                None
+            }
+        }
+    }
+}
+
+/// The node whose list a path below a tagged key leads to.
+fn find_list_below(
+    nodes: &[Node],
+    at: NodeNumber,
+    tag: &Tagged,
+    way: &[Tagged],
+) -> Option<NodeNumber>
+    ensures { result ≡ option_and_then (walk (child_of nodes.now) at) (list_trail_below tag.now way.now) }
+{
+    match way.split_first() {
+        None => { if is_list_tag(tag) { Some(at) } else { None } }
+        Some((next, rest)) => match child(nodes, at, tag, key_in(next)) {
+            None => None,
+            Some(below) => find_list_below(nodes, below, next, rest),
+        },
+    }
+}
+
+/// The node of a place that has one.
+pub fn known_node(nodes: &[Node], path: &[Tagged], key: &Key) -> NodeNumber
+    requires { IsSome (node_at nodes.now path.now key.now) }
+    ensures { node_at nodes.now path.now key.now ≡ Some result }
+{
+    find(nodes, path, key).unwrap()
+}
+
+/// The node of a list that has one.
+pub fn known_list(nodes: &[Node], path: &[Tagged]) -> NodeNumber
+    requires { IsSome (list_node_at nodes.now path.now) }
+    ensures { list_node_at nodes.now path.now ≡ Some result }
+{
+    find_list(nodes, path).unwrap()
+}
+
+fn is_list_tag(tag: &Tagged) -> bool
+    ensures { result ≡ is_list tag.now }
+{
+    match tag {
+        Tagged::Map(_) => false,
+        Tagged::List(_) => true,
+    }
+}
+
+/// The child of a node at a key, if the tagged key leads to keys of that kind.
+pub fn child(nodes: &[Node], at: NodeNumber, tag: &Tagged, key: &Key) -> Option<NodeNumber>
+    ensures { result ≡ (if may_follow tag.now key.now then child_of nodes.now at key.now else None) }
+{
+    if !leads_to(tag, key) {
+        return None;
+    }
+    match nodes.get(at.0) {
+        None => None,
+        Some(node) => node.children.find(key),
+    }
+}
+
+/// The keys of a path.
+pub fn keys(path: &Path) -> &[Tagged]
+    ensures { result.now ≡ path.now }
+{
+    path.as_slice()
+}
+
+/// The key of a tagged key.
+pub fn key_in(tag: &Tagged) -> &Key
+    ensures { result.now ≡ key_of tag.now }
+{
+    match tag {
+        Tagged::Map(key) => key,
+        Tagged::List(key) => key,
+    }
+}
+
+pub fn is_doc(key: &Key) -> bool
+    ensures { result ≡ key_eq key.now Doc }
+{
+    match key {
+        Key::Doc => true,
+        _ => false,
+    }
+}
+
+fn leads_to(tag: &Tagged, key: &Key) -> bool
+    ensures { result ≡ may_follow tag.now key.now }
+{
+    match (tag, key) {
+        (Tagged::Map(_), Key::Text(_)) => true,
+        (Tagged::List(_), Key::Element(_)) => true,
+        _ => false,
+    }
+}

@@ -1,0 +1,157 @@
+//! Growth that changes nothing of what the nodes say.
+ghost use Rattle.std.specs.Prelude.{◌≡◌, ◌<◌, ◌++◌, ◌∷◌, [], length, Some, None, OnOk, OnErr, IfOk, slice_set};
+ghost use Rattle.doc_nodes.specs.Nodes.{AreTree, node_of, child_of};
+ghost use Rattle.doc_nodes.specs.Marks.{keys_below, keys_to};
+ghost use Rattle.doc_nodes.specs.Walk.{root};
+ghost use Rattle.doc_nodes.specs.Growth.{Grows, IsMade, with_child};
+
+use crate::finding::{key_in, root_number};
+use crate::node::{Node, NodeNumber};
+use json_scalar::Refusal;
+use op_core::{Key, Tagged};
+
+/// Makes the nodes on the way from the root down to a place, with room for one more id in each.
+pub fn prepare_way(nodes: &mut Vec<Node>, path: &[Tagged], key: &Key) -> Result<(), Refusal>
+    requires tree { AreTree nodes.old.items }
+    ensures tree { AreTree nodes.new.items }
+    ensures grows { Grows nodes.old.items nodes.new.items }
+    ensures ok { OnOk result (IsMade nodes.new.items root (keys_to path.now key.now)) }
+{
+    match path.split_first() {
+        None => reserve_presence(nodes, root_number()),
+        Some((_, way)) => prepare_below(nodes, root_number(), way, key),
+    }
+}
+
+/// Makes the nodes on the way from a node down to a place, with room for one more id in each.
+fn prepare_below(
+    nodes: &mut Vec<Node>,
+    at: NodeNumber,
+    way: &[Tagged],
+    key: &Key,
+) -> Result<(), Refusal>
+    requires tree { AreTree nodes.old.items }
+    requires known { at.0 < length nodes.old.items }
+    ensures tree { AreTree nodes.new.items }
+    ensures grows { Grows nodes.old.items nodes.new.items }
+    ensures ok { OnOk result (IsMade nodes.new.items at (keys_below way.now key.now)) }
+{
+    reserve_presence(nodes, at)?;
+    match way.split_first() {
+        None => {
+            let end = grown_child(nodes, at, key)?;
+            reserve_presence(nodes, end)
+        }
+        Some((next, rest)) => {
+            let below = grown_child(nodes, at, key_in(next))?;
+            prepare_below(nodes, below, rest, key)
+        }
+    }
+}
+
+/// Makes room for one more scalar and one more number in a node.
+pub fn reserve_values(nodes: &mut Vec<Node>, at: NodeNumber) -> Result<(), Refusal>
+    requires tree { AreTree nodes.old.items }
+    requires known { at.0 < length nodes.old.items }
+    ensures tree { AreTree nodes.new.items }
+    ensures grows { Grows nodes.old.items nodes.new.items }
+    ensures register { OnOk result (length (node_of nodes.new.items at).register.0 < (node_of nodes.new.items at).register.1) }
+    ensures counter { OnOk result (length (node_of nodes.new.items at).counter.0 < (node_of nodes.new.items at).counter.1) }
+{
+    reserve_register(nodes, at)?;
+    reserve_counter(nodes, at)
+}
+
+/// Makes room for one more number in the counter of a node.
+fn reserve_counter(nodes: &mut Vec<Node>, at: NodeNumber) -> Result<(), Refusal>
+    requires tree { AreTree nodes.old.items }
+    requires known { at.0 < length nodes.old.items }
+    ensures tree { AreTree nodes.new.items }
+    ensures grows { Grows nodes.old.items nodes.new.items }
+    ensures room { OnOk result (length (node_of nodes.new.items at).counter.0 < (node_of nodes.new.items at).counter.1) }
+{
+    let node = &mut nodes[at.0];
+    node.counter.reserve_one()?;
+    Ok(())
+}
+
+/// Makes room for one more scalar in the register of a node.
+fn reserve_register(nodes: &mut Vec<Node>, at: NodeNumber) -> Result<(), Refusal>
+    requires tree { AreTree nodes.old.items }
+    requires known { at.0 < length nodes.old.items }
+    ensures tree { AreTree nodes.new.items }
+    ensures grows { Grows nodes.old.items nodes.new.items }
+    ensures room { OnOk result (length (node_of nodes.new.items at).register.0 < (node_of nodes.new.items at).register.1) }
+{
+    let node = &mut nodes[at.0];
+    node.register.reserve_one()?;
+    Ok(())
+}
+
+/// Makes room for one more id in the list of a node.
+pub fn reserve_order(nodes: &mut Vec<Node>, at: NodeNumber) -> Result<(), Refusal>
+    requires tree { AreTree nodes.old.items }
+    requires known { at.0 < length nodes.old.items }
+    ensures tree { AreTree nodes.new.items }
+    ensures grows { Grows nodes.old.items nodes.new.items }
+    ensures room { OnOk result (length (node_of nodes.new.items at).order.0 < (node_of nodes.new.items at).order.1) }
+{
+    let node = &mut nodes[at.0];
+    node.order.reserve_one()?;
+    Ok(())
+}
+
+/// Makes room for one more id in the presence of a node.
+pub fn reserve_presence(nodes: &mut Vec<Node>, at: NodeNumber) -> Result<(), Refusal>
+    requires tree { AreTree nodes.old.items }
+    requires known { at.0 < length nodes.old.items }
+    ensures tree { AreTree nodes.new.items }
+    ensures grows { Grows nodes.old.items nodes.new.items }
+    ensures room { OnOk result (length (node_of nodes.new.items at).presence.0 < (node_of nodes.new.items at).presence.1) }
+{
+    let node = &mut nodes[at.0];
+    node.presence.reserve_one()?;
+    Ok(())
+}
+
+/// The child of a node at a key, made if there is none.
+pub fn grown_child(nodes: &mut Vec<Node>, at: NodeNumber, key: &Key) -> Result<NodeNumber, Refusal>
+    requires tree { AreTree nodes.old.items }
+    requires known { at.0 < length nodes.old.items }
+    ensures tree { AreTree nodes.new.items }
+    ensures grows { Grows nodes.old.items nodes.new.items }
+    ensures child { IfOk result (λ c. child_of nodes.new.items at key.now ≡ Some c) }
+{
+    if let Some(child) = nodes[at.0].children.find(key) {
+        return Ok(child);
+    }
+    let key = key_copy(key)?;
+    let fresh = Node::new(*nodes.allocator());
+    let number = NodeNumber(nodes.len());
+    add_child(nodes, at, key, fresh)?;
+    Ok(number)
+}
+
+/// A copy of a key.
+fn key_copy(key: &Key) -> Result<Key, Refusal>
+    ensures { IfOk result (λ k. k ≡ key.now) }
+{
+    Ok(key.try_clone()?)
+}
+
+/// Adds a node as the child of another.
+fn add_child(nodes: &mut Vec<Node>, at: NodeNumber, key: Key, fresh: Node) -> Result<(), Refusal>
+    requires known { at.0 < length nodes.old.items }
+    requires missing { child_of nodes.old.items at key ≡ None }
+    ensures ok { OnOk result (nodes.new.items ≡ slice_set nodes.old.items at.0 (with_child key (record { 0 = length nodes.old.items }) (node_of nodes.old.items at)) ++ fresh ∷ []) }
+    ensures err { OnErr result (nodes.new.items ≡ nodes.old.items) }
+{
+    nodes.reserve(1)?;
+    let number = NodeNumber(nodes.len());
+    let node = &mut nodes[at.0];
+    node.children.insert(key, number)?;
+    match nodes.push(fresh) {
+        Ok(()) => Ok(()),
+        Err(_) => unreachable!(),
+    }
+}

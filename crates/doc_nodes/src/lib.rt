@@ -1,0 +1,16 @@
+//! The numbered nodes of a document's tree: how they are found, cleared, marked, written and grown.
+#![tactic(auto)]
+
+mod clear;
+mod finding;
+mod growth;
+mod mark;
+mod node;
+mod write;
+
+pub use clear::clear_under;
+pub use finding::{find, find_list, keys, known_list, known_node};
+pub use growth::{prepare_way, reserve_order, reserve_values};
+pub use mark::mark_way;
+pub use node::{Children, Counter, Node, NodeNumber, Register};
+pub use write::{count, enter, link};

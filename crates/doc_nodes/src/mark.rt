@@ -1,0 +1,69 @@
+//! The marks of an operation on the nodes that it passes, and where it ends.
+ghost use Rattle.std.specs.Prelude.{◌≡◌, ◌<◌, length, Some, IsSome, slice_set};
+ghost use Rattle.doc_nodes.specs.Walk.{walk, root};
+ghost use Rattle.doc_nodes.specs.Nodes.{AreTree, node_of, child_of};
+ghost use Rattle.doc_nodes.specs.Marks.{marked, keys_below, keys_to, HasRoomAlong, IsReady, MarksAlong};
+
+use crate::finding::{key_in, root_number};
+use crate::node::{Node, NodeNumber};
+use lamport_id::Id;
+use op_core::{Key, Tagged};
+use presence_set::Role;
+
+/// Marks the nodes on the way from the root down to a place.
+pub fn mark_way(nodes: &mut [Node], path: &[Tagged], key: &Key, id: &Id, role: Role)
+    requires { IsReady nodes.old root (keys_to path.now key.now) }
+    ensures { MarksAlong id.now role nodes.old nodes.new root (keys_to path.now key.now) }
+{
+    match path.split_first() {
+        None => mark(nodes, root_number(), id, role),
+        Some((_, way)) => mark_below(nodes, root_number(), way, key, id, role),
+    }
+}
+
+/// Marks the nodes on the way from a node down to a place.
+pub fn mark_below(
+    nodes: &mut [Node],
+    at: NodeNumber,
+    way: &[Tagged],
+    key: &Key,
+    id: &Id,
+    role: Role,
+)
+    requires tree { AreTree nodes.old }
+    requires known { at.0 < length nodes.old }
+    requires reached { IsSome (walk (child_of nodes.old) at (keys_below way.now key.now)) }
+    requires room { HasRoomAlong nodes.old at (keys_below way.now key.now) }
+    ensures { MarksAlong id.now role nodes.old nodes.new at (keys_below way.now key.now) }
+{
+    mark(nodes, at, id, Role::Through);
+    match way.split_first() {
+        None => {
+            let end = known_child(nodes, at, key);
+            mark(nodes, end, id, role);
+        }
+        Some((next, rest)) => {
+            let below = known_child(nodes, at, key_in(next));
+            mark_below(nodes, below, rest, key, id, role);
+        }
+    }
+}
+
+/// Marks one node.
+pub fn mark(nodes: &mut [Node], at: NodeNumber, id: &Id, role: Role)
+    requires known { at.0 < length nodes.old }
+    requires room { length (node_of nodes.old at).presence.0 < (node_of nodes.old at).presence.1 }
+    ensures { nodes.new ≡ slice_set nodes.old at.0 (marked id.now role (node_of nodes.old at)) }
+{
+    let node = &mut nodes[at.0];
+    node.presence.put(*id, role);
+}
+
+/// The child of a node at a key that has one.
+pub fn known_child(nodes: &[Node], at: NodeNumber, key: &Key) -> NodeNumber
+    requires known { at.0 < length nodes.now }
+    requires child { IsSome (child_of nodes.now at key.now) }
+    ensures { child_of nodes.now at key.now ≡ Some result }
+{
+    nodes[at.0].children.find(key).unwrap()
+}
