@@ -8,8 +8,9 @@ use Rattle.op_core.specs.declared.cursor.Key.{Key}
 use Rattle.op_core.specs.declared.cursor.Tagged.{Tagged}
 use Rattle.doc_words.specs.declared.role.Role.{Role}
 use Rattle.presence_set.specs.ById.{get, IsAscending}
-use Rattle.doc_tree.specs.declared.node.Node.{Node}
-use Rattle.doc_tree.specs.Nodes.{facts_of, tree_facts, tree_role}
+use Rattle.doc_nodes.specs.declared.node.Node.{Node}
+use Rattle.doc_nodes.specs.Nodes.{facts_of}
+use Rattle.doc_tree.specs.Nodes.{tree_facts, tree_role}
 use Rattle.doc_rules.specs.Reads.{IsPresent}
 use Rattle.doc_view.proofs.Entries.{get-Contains, Contains-get}
 

@@ -10,7 +10,7 @@ use Rattle.list_laws.proofs.Members.{Contains-nil, Contains-here, Contains-there
 use Rattle.crdt_rules.proofs.Tests.{some_same}
 use Rattle.doc_words.specs.declared.role.Role.{Role}
 use Rattle.presence_set.specs.ById.{get}
-use Rattle.doc_tree.specs.declared.node.Node.{Node}
+use Rattle.doc_nodes.specs.declared.node.Node.{Node}
 use Rattle.doc_tree.specs.Nodes.{tree_facts, tree_role}
 use Rattle.doc_rules.specs.Reads.{AreConflicts}
 use Rattle.doc_rules.specs.Role.{value_in}
