@@ -9,9 +9,9 @@ use Rattle.op_core.specs.declared.cursor.Key.{Key}
 use Rattle.op_core.specs.declared.cursor.Key.TheVariants.{Doc, Text, Element, Head}
 use Rattle.list_laws.proofs.Members.{Contains-nil, Contains-here, Contains-there, Contains-cases}
 use Rattle.crdt_rules.specs.Facts.{Facts}
-use Rattle.doc_tree.specs.declared.node.NodeNumber.{NodeNumber}
-use Rattle.doc_tree.specs.KeyOrder as key_order
-use Rattle.doc_tree.proofs.KeyOrder.{text_lt}
+use Rattle.doc_nodes.specs.declared.node.NodeNumber.{NodeNumber}
+use Rattle.doc_nodes.specs.KeyOrder as key_order
+use Rattle.doc_nodes.proofs.KeyOrder.{text_lt}
 use Rattle.op_core.specs.declared.cursor.Tagged.{Tagged}
 use Rattle.doc_rules.specs.Reads.{AreKeys, IsPresent, into_map}
 use Rattle.doc_rules.specs.Sorted.{IsRising, AreThose}

@@ -2,7 +2,7 @@
 use Rattle.std.specs.Prelude.{ℕ, List, [], ◌∷◌, ◌++◌, Option, Some, None}
 use Rattle.op_core.specs.declared.cursor.Key.{Key}
 use Rattle.op_core.specs.declared.cursor.Key.TheVariants.{Text}
-use Rattle.doc_tree.specs.declared.node.NodeNumber.{NodeNumber}
+use Rattle.doc_nodes.specs.declared.node.NodeNumber.{NodeNumber}
 
 -- what there is, as a list
 abbrev pub listed : {X : Type 0} → Option X → List X

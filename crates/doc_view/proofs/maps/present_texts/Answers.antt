@@ -2,7 +2,7 @@ use Rattle.std.proofs.Common.{List, ℕ, [], sym, subst}
 use Rattle.std.proofs.lemmas.List.{take_all}
 use Rattle.op_core.specs.declared.cursor.Key.{Key}
 use Rattle.op_core.specs.declared.cursor.Key.TheVariants.{Text}
-use Rattle.doc_tree.specs.declared.node.NodeNumber.{NodeNumber}
+use Rattle.doc_nodes.specs.declared.node.NodeNumber.{NodeNumber}
 use Rattle.doc_tree.specs.Nodes.{tree_facts}
 use Rattle.doc_rules.specs.Reads.{IsPresent}
 use Rattle.doc_rules.specs.Sorted.{AreThose}
