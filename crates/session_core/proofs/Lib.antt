@@ -1,0 +1,5 @@
+pub mod Names
+pub mod Lists
+pub mod Sessions
+pub mod SoFar
+pub mod Telling

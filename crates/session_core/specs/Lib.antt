@@ -1,0 +1,6 @@
+pub mod Seats
+pub mod Opened
+pub mod Serving
+pub mod Telling
+pub mod Short
+pub mod Owned

@@ -1,0 +1,166 @@
+//! A whole session.
+ghost use Rattle.std.specs.Prelude.{◌≡◌, ◌↔◌, ◌≤◌, ◌+◌, ◌*◌, ℕ, Bool, false, [], List, is_err, IsTrue, IfOk, IfSome, OnOk, OnErr};
+ghost use Rattle.std.specs.Io.KnownBytes.{Appends, Consumes};
+ghost use Rattle.line_feed.specs.Cut.{AppendsCut};
+ghost use Rattle.line_proto.specs.Told.{line_told};
+ghost use Rattle.line_proto.specs.declared.told.Told.{Told};
+ghost use Rattle.session_rules.specs.Session.{Answers, refused};
+ghost use Rattle.session_rules.specs.Transcript.{IsSession};
+ghost use Rattle.session_core.specs.Opened.{AreSeated, access_of, session_of};
+ghost use Rattle.session_core.specs.Telling.{MayTell};
+
+use crate::access::DocAccess;
+use crate::serving::refused;
+use crate::session::Session;
+use json_scalar::Refusal;
+use line_feed::{DeviceFault, LineFeed, Outcome, Sink, Source};
+use line_proto::{Told, WriteFault};
+use session_rules::Ending;
+use std::alloc::{AllocError, Global};
+
+/// The most lines of a session.
+pub const MAX_LINES: u32 = 1_000_000;
+
+/// A session that has ended, and why.
+#[derive(Drop)]
+pub struct Ended<A: DocAccess> {
+    pub why: Ending,
+    pub session: Session<A>,
+}
+
+/// Writes a refusal's line. It takes no memory.
+fn tell_refusal<W: Sink>(alloc: Global, cause: Refusal, sink: &mut W) -> Result<(), DeviceFault>
+    requires { W.has_failed sink.old ≡ false }
+    ensures ok { OnOk result (Appends (W.contents sink.old) (W.contents sink.new) (line_told (refused cause))) }
+    ensures cut { OnErr result (AppendsCut (W.contents sink.old) (W.contents sink.new) (line_told (refused cause))) }
+    ensures failed { W.has_failed sink.new ≡ is_err result }
+{
+    match refused(cause).write(alloc, sink) {
+        Ok(()) => Ok(()),
+        Err(WriteFault::Device) => Err(DeviceFault),
+        Err(WriteFault::NoMemory) => unreachable!(),
+    }
+}
+
+/// Writes the line that is told, or that memory is wanting for it.
+fn tell<W: Sink>(alloc: Global, told: &Told, sink: &mut W) -> Result<(), DeviceFault>
+    requires { W.has_failed sink.old ≡ false }
+    ensures ok { OnOk result ((out : Told) × MayTell told.now out × Appends (W.contents sink.old) (W.contents sink.new) (line_told out)) }
+    ensures cut { OnErr result ((out : Told) × MayTell told.now out × AppendsCut (W.contents sink.old) (W.contents sink.new) (line_told out)) }
+    ensures failed { W.has_failed sink.new ≡ is_err result }
+{
+    match told.write(alloc, sink) {
+        Ok(()) => Ok(()),
+        Err(WriteFault::Device) => Err(DeviceFault),
+        Err(WriteFault::NoMemory) => tell_refusal(alloc, Refusal::NoMemory, sink),
+    }
+}
+
+/// Answers a line into the sink, and tells whether the session goes on.
+fn answer_line<A: DocAccess, W: Sink>(
+    alloc: Global,
+    access: &mut A,
+    session: &mut Session<A>,
+    line: &[u8],
+    sink: &mut W,
+) -> Result<bool, DeviceFault>
+    requires seats { AreSeated A.has_seat access.old session.old.opened.items }
+    requires works { W.has_failed sink.old ≡ false }
+    ensures ok { (names : List (List ℕ)) → A.names access.old ≡ names → IfOk result (λ goes_on. (out : Told)
+        × Answers (access_of names A.opens A.acts A.reads) (session_of A.seat_number (A.documents access.old) session.old.opened.items)
+        line.now out goes_on (session_of A.seat_number (A.documents access.new) session.new.opened.items)
+        × Appends (W.contents sink.old) (W.contents sink.new) (line_told out)) }
+    ensures cut { (names : List (List ℕ)) → A.names access.old ≡ names → OnErr result ((out : Told) × (goes_on : Bool)
+        × Answers (access_of names A.opens A.acts A.reads) (session_of A.seat_number (A.documents access.old) session.old.opened.items)
+        line.now out goes_on (session_of A.seat_number (A.documents access.new) session.new.opened.items)
+        × AppendsCut (W.contents sink.old) (W.contents sink.new) (line_told out)) }
+    ensures failed { W.has_failed sink.new ≡ is_err result }
+    ensures seats { AreSeated A.has_seat access.new session.new.opened.items }
+    ensures names { A.names access.new ≡ A.names access.old }
+{
+    let answer = session.step(alloc, access, line);
+    match tell(alloc, &answer.told, sink) {
+        Ok(()) => Ok(answer.goes_on),
+        Err(fault) => Err(fault),
+    }
+}
+
+/// Answers the lines of the source into the sink, one after the other, with no document opened at first: at most
+/// `MAX_LINES` lines of at most 65,536 bytes each. Without memory for its buffer it has read and written nothing.
+pub fn run_session<R: Source, W: Sink, A: DocAccess>(
+    alloc: Global,
+    source: &mut R,
+    sink: &mut W,
+    access: &mut A,
+) -> Result<Ended<A>, AllocError>
+    requires source_works { R.has_failed source.old ≡ false }
+    requires sink_works { W.has_failed sink.old ≡ false }
+
+    ensures session { IfOk result (λ ended. (read written : List ℕ)
+        × Consumes (R.remaining source.old) (R.remaining source.new) read
+        × Appends (W.contents sink.old) (W.contents sink.new) written
+        × IfSome (R.remaining source.old) (λ bytes.
+        IsSession (access_of (A.names access.old) A.opens A.acts A.reads) (session_of A.seat_number (A.documents access.old) []) bytes read
+        ended.why written (session_of A.seat_number (A.documents access.new) ended.session.opened.items))) }
+    ensures seats { IfOk result (λ ended. AreSeated A.has_seat access.new ended.session.opened.items) }
+    ensures names { A.names access.new ≡ A.names access.old }
+
+    // A fault is told exactly where the device failed.
+    ensures read_fault { IfOk result (λ ended. IsTrue (R.has_failed source.new) ↔ (ended.why ≡ Ending.ReadFault)) }
+    ensures write_fault { IfOk result (λ ended. IsTrue (W.has_failed sink.new) ↔ (ended.why ≡ Ending.WriteFault)) }
+
+    ensures reads { R.reads source.new ≤ R.reads source.old + 65537 * 1000000 }
+
+    // Before a byte is read or written.
+    ensures unbegun { OnErr result ((access.new ≡ access.old) × (source.new ≡ source.old) × (sink.new ≡ sink.old)) }
+{
+    let mut feed = LineFeed::new(alloc)?;
+    let mut session = Session::new(alloc);
+    for _ in 0..MAX_LINES {
+        match feed.next(source) {
+            Outcome::Line => match answer_line(alloc, access, &mut session, feed.line(), sink) {
+                Ok(true) => {}
+                Ok(false) => {
+                    return Ok(Ended {
+                        why: Ending::Quit,
+                        session,
+                    });
+                }
+                Err(_) => {
+                    return Ok(Ended {
+                        why: Ending::WriteFault,
+                        session,
+                    });
+                }
+            },
+            Outcome::End => {
+                return Ok(Ended {
+                    why: Ending::End,
+                    session,
+                });
+            }
+            Outcome::TooLong => {
+                if tell_refusal(alloc, Refusal::LineTooLong, sink).is_err() {
+                    return Ok(Ended {
+                        why: Ending::WriteFault,
+                        session,
+                    });
+                }
+                return Ok(Ended {
+                    why: Ending::TooLong,
+                    session,
+                });
+            }
+            Outcome::Fault => {
+                return Ok(Ended {
+                    why: Ending::ReadFault,
+                    session,
+                });
+            }
+        }
+    }
+    Ok(Ended {
+        why: Ending::LinesUsedUp,
+        session,
+    })
+}
