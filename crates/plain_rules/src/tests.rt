@@ -35,13 +35,20 @@ fn concurrent_deletes(rt: HostRuntime) -> Result<(), Fail> {
         r#"["op",[2,"p"],[["p",1]],[[["m",0],["m","a"]],"b"],["delete"]]"#,
         r#"["op",[2,"q"],[["p",1]],[[["m",0]],"a"],["delete"]]"#,
     ];
-    let ops = operations(rt.alloc(), &texts)?;
-    let cursor = ops[0].cursor();
-    for (count, want) in [(1, true), (2, false), (3, false)] {
-        let ctx = plain_replay(rt.alloc(), &ops[..count])?;
-        let here = ctx.is_present(cursor.path.as_slice(), &cursor.key);
-        assert_eq!(rt; here, want, "after {count}");
-        assert_eq!(rt; ctx.has_mark(cursor.path.as_slice(), &cursor.key, &ops[0].id()), want);
+    let first = operation(rt.alloc(), texts[0])?;
+    let cursor = first.cursor();
+    for (some, want) in [
+        (&texts[..1], true),
+        (&texts[..2], false),
+        (&texts[..], false),
+    ] {
+        let ops = operations(rt.alloc(), some)?;
+        let ctx = plain_replay(rt.alloc(), ops.as_slice())?;
+        assert_eq!(rt; ctx.is_present(cursor.path.as_slice(), &cursor.key), want);
+        assert_eq!(rt;
+            ctx.has_mark(cursor.path.as_slice(), &cursor.key, &first.id()),
+            want
+        );
     }
     Ok(())
 }
@@ -55,12 +62,16 @@ fn counter_and_scalar(rt: HostRuntime) -> Result<(), Fail> {
     ];
     let ops = operations(rt.alloc(), &texts)?;
     let ctx = plain_replay(rt.alloc(), ops.as_slice())?;
-    let path = ops[0].cursor().path.as_slice();
-    let key = &ops[0].cursor().key;
-    assert_eq!(rt; ctx.number(path, key, &ops[0].id()), None);
-    assert_eq!(rt; ctx.number(path, key, &ops[1].id()), Some(&-7));
-    assert_eq!(rt; ctx.scalar(path, key, &ops[2].id()), Some(&Scalar::Int(12)));
-    assert_eq!(rt; ctx.scalar(path, key, &ops[1].id()), None);
+    let first = operation(rt.alloc(), texts[0])?;
+    let cursor = first.cursor();
+    let (path, key) = (cursor.path.as_slice(), &cursor.key);
+    let p = id(1, b"p").ok_or("p")?;
+    let q = id(1, b"q").ok_or("q")?;
+    let later = id(2, b"p").ok_or("p")?;
+    assert_eq!(rt; ctx.number(path, key, &p), None);
+    assert_eq!(rt; ctx.number(path, key, &q), Some(&-7));
+    assert_eq!(rt; ctx.scalar(path, key, &later), Some(&Scalar::Int(12)));
+    assert_eq!(rt; ctx.scalar(path, key, &q), None);
     Ok(())
 }
 
@@ -77,11 +88,12 @@ fn concurrent_list_edits(rt: HostRuntime) -> Result<(), Fail> {
     ];
     let ops = operations(rt.alloc(), &texts)?;
     let ctx = plain_replay(rt.alloc(), ops.as_slice())?;
-    let order = ctx.elements(ops[0].cursor().path.as_slice());
+    let first = operation(rt.alloc(), texts[0])?;
+    let order = ctx.elements(first.cursor().path.as_slice());
     let want = [(3, "o"), (7, "p"), (6, "q"), (4, "o"), (5, "o"), (7, "q")];
     assert_eq!(rt; order.len(), want.len());
-    for (i, (counter, replica)) in want.iter().enumerate() {
-        assert_eq!(rt; Some(order[i]), id(*counter, replica.as_bytes()), "at {i}");
+    for (found, (counter, replica)) in order.iter().zip(want.iter()) {
+        assert_eq!(rt; Some(*found), id(*counter, replica.as_bytes()));
     }
     Ok(())
 }
