@@ -3,3 +3,4 @@ pub mod Lists
 pub mod Sessions
 pub mod SoFar
 pub mod Telling
+pub mod Owners

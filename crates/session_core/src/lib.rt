@@ -2,6 +2,7 @@
 #![tactic(auto)]
 
 mod access;
+mod alone;
 mod opened;
 mod run;
 mod serving;
@@ -9,6 +10,7 @@ mod session;
 mod variables;
 
 pub use access::DocAccess;
+pub use alone::{Alone, Document, Finished, Owned, Unbegun, run_alone};
 pub use opened::Opened;
 pub use run::{Ended, MAX_LINES, run_session};
 pub use session::{Answer, Session};
