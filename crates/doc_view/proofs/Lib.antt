@@ -4,3 +4,5 @@ pub mod Lists
 pub mod TellingRoles
 pub mod Leading
 pub mod MapLaws
+pub mod NoFloat
+pub mod ShowLaws

@@ -1,3 +1,4 @@
 pub mod Readings
 pub mod Told
 pub mod Members
+pub mod Showing

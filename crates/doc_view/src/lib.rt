@@ -7,9 +7,12 @@ mod place;
 mod registers;
 mod resolving;
 mod roles;
+mod shown;
+mod written;
 
 pub use elements::items;
 pub use maps::keys;
 pub use registers::{sum, values};
 pub use resolving::resolve;
 pub use roles::conflicts;
+pub use shown::show;

@@ -50,7 +50,7 @@ fn present_texts(
 }
 
 /// The text of a key of the map, if it is a text and present.
-fn present_text<'a>(tree: &Tree, map: &Path, key: &'a Key) -> Option<&'a KeyText>
+pub fn present_text<'a>(tree: &Tree, map: &Path, key: &'a Key) -> Option<&'a KeyText>
     ensures { AreThose (λ t. IsPresent (tree_facts tree.now) map.now (Text t)) (texts_at key.now) (listed (option_map (λ text. text.now) result)) }
 {
     match key {

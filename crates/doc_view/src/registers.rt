@@ -58,7 +58,7 @@ pub fn sum_at(tree: &Tree, path: &Path, key: &Key) -> i128
 }
 
 // A slice has fewer than 2^64 entries, so the total of 64-bit numbers is within 128 bits.
-fn total_of(entries: &[(Id, i64)]) -> i128
+pub fn total_of(entries: &[(Id, i64)]) -> i128
     ensures { result ≡ total entries.now }
 {
     let mut total: i128 = 0;

@@ -6,6 +6,8 @@ ghost use Rattle.doc_tree.specs.Nodes.{tree_facts};
 ghost use Rattle.doc_rules.specs.Reads.{AreConflicts};
 ghost use Rattle.doc_rules.specs.Role.{value_in};
 ghost use Rattle.doc_view.specs.Readings.{Gives, ReadsHere};
+ghost use Rattle.std.specs.List.{list_any};
+ghost use Rattle.doc_view.specs.Showing as showing;
 ghost use Rattle.doc_view.specs.Told.{tree_values, values_told, with_value};
 
 use crate::place::is_head;
@@ -80,4 +82,36 @@ fn scalar_told(id: &Id, scalars: &[(Id, Scalar)]) -> Result<Option<Val>, Refusal
         }
     }
     Ok(None)
+}
+
+/// Some id has the role of one that put an empty map.
+pub fn puts_map(roles: &[(Id, Role)]) -> bool
+    ensures { result ≡ list_any (λ e. showing.is_map e.1) roles.now }
+{
+    roles.iter().any(|entry| is_map(&entry.1))
+}
+
+/// Some id has the role of one that put an empty list.
+pub fn puts_list(roles: &[(Id, Role)]) -> bool
+    ensures { result ≡ list_any (λ e. showing.is_list e.1) roles.now }
+{
+    roles.iter().any(|entry| is_list(&entry.1))
+}
+
+fn is_map(role: &Role) -> bool
+    ensures { result ≡ showing.is_map role.now }
+{
+    match role {
+        Role::Map => true,
+        Role::Through | Role::List | Role::Scalar | Role::Counter => false,
+    }
+}
+
+fn is_list(role: &Role) -> bool
+    ensures { result ≡ showing.is_list role.now }
+{
+    match role {
+        Role::List => true,
+        Role::Through | Role::Map | Role::Scalar | Role::Counter => false,
+    }
 }
