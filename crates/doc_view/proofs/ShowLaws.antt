@@ -19,9 +19,9 @@ use Rattle.list_laws.proofs.Members.{Contains-nil, Contains-here, Contains-cases
 use Rattle.crdt_rules.proofs.Tests.{any_at, any_from}
 use Rattle.doc_words.specs.declared.role.Role.{Role}
 use Rattle.doc_words.specs.declared.role.Role.TheVariants as role
-use Rattle.doc_tree.specs.declared.node.Node.{Node}
-use Rattle.doc_tree.specs.declared.node.NodeNumber.{NodeNumber}
-use Rattle.doc_tree.specs.KeyOrder as key_order
+use Rattle.doc_nodes.specs.declared.node.Node.{Node}
+use Rattle.doc_nodes.specs.declared.node.NodeNumber.{NodeNumber}
+use Rattle.doc_nodes.specs.KeyOrder as key_order
 use Rattle.doc_tree.specs.Nodes.{tree_facts}
 use Rattle.doc_rules.specs.Reads.{AreKeys, AreEntries, AreTerms, AreElements, IsPresent, into_map, into_list}
 use Rattle.doc_rules.specs.Role.{value_in}
@@ -77,12 +77,13 @@ puts_decides : (tree : List Node × Option Scalar) (p : List Tagged) (k : Key) (
     → (test : Role → Bool) (v : Val) → ((r : Role) (s : Option Scalar) → test r ≡ true → value_in r s ≡ Some v)
     → ((r : Role) (s : Option Scalar) → value_in r s ≡ Some v → test r ≡ true)
     → Decides (list_any (λ (e : Id × Role). test e.1) roles) (IsPut (tree_facts tree) (tree_values tree) p k v)
-puts_decides tree p k roles are test v tells told =
-    (λ h. let e = any_from (λ (e : Id × Role). test e.1) roles h in
-        (e.0.0, present_from are e.0 e.1, ap (seen e.0.0) (role_of are e.0 e.1) ∙ tells e.0.1 (entry e.0.0) e.2),
-    λ put. let e = entry_from are put.0 put.1 in
-        any_at (λ (e : Id × Role). test e.1) roles e.1
-        (told e.0 (entry put.0) (sym (ap (seen put.0) (role_of are (put.0, e.0) e.1)) ∙ put.2)))
+puts_decides tree p k roles are test v tells told = (
+  λ h. let e = any_from (λ (e : Id × Role). test e.1) roles h in
+      (e.0.0, present_from are e.0 e.1, ap (seen e.0.0) (role_of are e.0 e.1) ∙ tells e.0.1 (entry e.0.0) e.2),
+  λ put. let e = entry_from are put.0 put.1 in
+      any_at (λ (e : Id × Role). test e.1) roles e.1
+      (told e.0 (entry put.0) (sym (ap (seen put.0) (role_of are (put.0, e.0) e.1)) ∙ put.2)),
+)
   where
     entry : Id → Option Scalar
     entry i = (tree_facts tree).register p k i
@@ -166,7 +167,6 @@ fields_shown tree p (x ∷ xs) h = (h.0, fields_shown tree p xs h.1)
 
 module _ (tree : List Node × Option Scalar) (p : List Tagged) (k : Key) (children : List (Key × NodeNumber)) (rising : key_order.IsRising children)
     (has : (t : List ℕ) (i : Id) → (tree_facts tree).present (into_map p k) (Text t) i ≡ true → (n : NodeNumber) × Contains children (Text t, n)) where
-
   keys_shown : (fields : List (List ℕ × Shown))
       → AreThose (λ t. IsPresent (tree_facts tree) (into_map p k) (Text t)) (texts_in children) (map (λ (x : List ℕ × Shown). x.0) fields)
       → AreKeys (tree_facts tree) p k (names (fields_of fields))

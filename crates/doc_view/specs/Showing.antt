@@ -10,7 +10,7 @@ use Rattle.op_core.specs.Wire.{list_data}
 use Rattle.crdt_rules.specs.Facts.{Facts}
 use Rattle.doc_words.specs.declared.role.Role.{Role}
 use Rattle.doc_words.specs.declared.role.Role.TheVariants as role
-use Rattle.doc_tree.specs.declared.node.Node.{Node}
+use Rattle.doc_nodes.specs.declared.node.Node.{Node}
 use Rattle.doc_tree.specs.Nodes.{tree_facts}
 use Rattle.doc_rules.specs.Reads.{IsPresent}
 use Rattle.doc_rules.specs.Shown.{Shown, MapShown, ListShown, Shows, ShowsMap, ShowsList, shown_data, map_branch, list_branch}

@@ -57,7 +57,13 @@ fn shown_at(
 {
     let members = map_at(alloc, tree, path, key, bound)?;
     let elements = list_at(alloc, tree, path, key, bound)?;
-    branches(alloc, members, elements, tree.register(path, key), tree.counter(path, key))
+    branches(
+        alloc,
+        members,
+        elements,
+        tree.register(path, key),
+        tree.counter(path, key),
+    )
 }
 
 /// The branch of the map at a place.

@@ -59,7 +59,11 @@ pub fn push_some(parts: &mut Vec<Value>, part: Option<Value>) -> Result<(), Refu
     Ok(())
 }
 
-fn push_entries(alloc: Global, parts: &mut Vec<Value>, entries: &[(Id, Scalar)]) -> Result<(), Refusal>
+fn push_entries(
+    alloc: Global,
+    parts: &mut Vec<Value>,
+    entries: &[(Id, Scalar)],
+) -> Result<(), Refusal>
     ensures { Gives (λ _. map view parts.new.items ≡ map view parts.old.items ++ map entry_data entries.now) result }
 {
     for entry in entries {
