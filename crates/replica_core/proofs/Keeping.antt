@@ -1,0 +1,50 @@
+-- A replica keeps what it keeps.
+use Rattle.std.proofs.Common.{◌≡◌, ℕ, List, [], Option, true, sym, subst, arith}
+use Rattle.lamport_id.specs.Name.{is_name}
+use Rattle.json_scalar.specs.declared.scalar.Scalar.{Scalar}
+use Rattle.op_core.specs.Op.{Op}
+use Rattle.list_laws.proofs.Members.{Contains-nil}
+use Rattle.doc_words.specs.declared.ask.Command.{Command}
+use Rattle.doc_words.specs.declared.reply.Reply.{Reply}
+use Rattle.doc_nodes.specs.declared.node.Node.{Node}
+use Rattle.doc_rules.specs.Events.{Event, IsWellMade}
+use Rattle.doc_rules.specs.Replica.{IsKept}
+use Rattle.doc_rules.proofs.Kept.{event_keeps}
+use Rattle.crdt_rules.specs.Log.{IsGood}
+use Rattle.hold_buffer.specs.Held.{Buffer, IsCurrent}
+use Rattle.replica_core.specs.Tells.{Tells}
+use Rattle.replica_core.specs.Whole.{IsWhole, replica_of}
+
+-- with a good log, and nothing held
+pub whole_log : (name : List ℕ) (tree : List Node × Option Scalar) (log : List Op) (buffer : Buffer) → is_name name ≡ true → Tells tree log → IsCurrent buffer log
+    → IsGood log → buffer.held ≡ [] → IsWhole name tree log buffer
+whole_log name tree log buffer named tells current good none = record {
+  named = named;
+  tells = tells;
+  current = current;
+  kept = subst (λ h. IsKept (replica_of name log h)) (sym none)
+      (record {
+        good = good;
+        in_order = tt;
+        few = omega arith;
+        unlogged = λ op c. absurd (Contains-nil c);
+        foreign = λ op c. absurd (Contains-nil c);
+        waits = λ op c. absurd (Contains-nil c);
+      });
+}
+
+-- and after an event
+pub whole_next : (name : List ℕ) (tree tree' : List Node × Option Scalar) (log log' : List Op) (buffer buffer' : Buffer) (command : Command) (answer : Reply)
+    → IsWhole name tree log buffer → Tells tree' log' → IsCurrent buffer' log' → IsWellMade command
+    → Event (replica_of name log buffer.held) command answer (replica_of name log' buffer'.held) → IsWhole name tree' log' buffer'
+whole_next name tree tree' log log' buffer buffer' command answer whole tells current made event = record {
+  named = whole.named;
+  tells = tells;
+  current = current;
+  kept = event_keeps (replica_of name log buffer.held) (replica_of name log' buffer'.held) command answer whole.named made whole.kept event;
+}
+
+pub whole_empty : (name : List ℕ) (tree : List Node × Option Scalar) (log : List Op) (buffer : Buffer) → is_name name ≡ true → Tells tree [] → log ≡ []
+    → IsCurrent buffer [] → buffer.held ≡ [] → IsWhole name tree log buffer
+whole_empty name tree log buffer named tells empty current none =
+    subst (λ l. IsWhole name tree l buffer) (sym empty) (whole_log name tree [] buffer named tells current tt none)

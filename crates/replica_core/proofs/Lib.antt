@@ -1,0 +1,6 @@
+pub mod Telling
+pub mod Draining
+pub mod Meeting
+pub mod Owning
+pub mod Keeping
+pub mod Numbers

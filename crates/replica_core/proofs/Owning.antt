@@ -1,0 +1,89 @@
+-- One's own changes.
+use Rattle.crdt_rules.specs.Same.{id_eq}
+use Rattle.crdt_rules.proofs.Tests.{some≢none}
+use Rattle.replica_core.specs.Told.{forgotten, told_forgotten}
+use Rattle.replica_core.specs.Whole.{replica_of}
+use Rattle.std.proofs.Common.{[], ◌∷◌, Bool, false, not, filter, if◌then◌else◌, ◌≡◌, ◌≢◌, inl, inr, ℕ, List, Option, Some, None, Result, Ok, Err, true, refl, sym, ap, subst, ◌∙◌}
+use Rattle.std.specs.Prelude.{⊤}
+use Rattle.json_scalar.specs.Refusal.{and_then}
+use Rattle.json_scalar.specs.declared.refusal.Refusal.{Refusal}
+use Rattle.json_scalar.specs.declared.refusal.Refusal.TheVariants.{NoMemory, NotHeld}
+use Rattle.lamport_id.specs.declared.id.Id.{Id}
+use Rattle.op_core.specs.declared.cursor.Cursor.{Cursor}
+use Rattle.op_core.specs.declared.mutation.Mutation.{Mutation}
+use Rattle.op_core.specs.Op.{Op}
+use Rattle.op_core.specs.Shape.{is_shaped, shape_of}
+use Rattle.op_core.proofs.Shapes.{shape_of-shaped}
+use Rattle.doc_words.specs.declared.reply.Reply.{Reply}
+use Rattle.doc_words.specs.declared.reply.Reply.TheVariants as reply
+use Rattle.doc_words.specs.declared.ask.Command.TheVariants as command
+use Rattle.doc_words.specs.declared.place.Place.{Place}
+use Rattle.doc_rules.specs.Events.{told, logged, due_own, own_change, Event, Forgets}
+use Rattle.doc_rules.specs.Resolve.{Resolves}
+use Rattle.replica_core.specs.Told.{Meets}
+use Rattle.doc_rules.specs.Replica.{Replica, facts_of, find_id}
+
+-- the first cause against a change is told
+pub own_told : (a b : Result ⊤ Refusal) (op : Op) (e : Refusal) → Err e ≡ and_then a (λ _. b)
+    → told (reply.Refused e) ≡ due_own (and_then a (λ _. and_then b (λ _. Ok op)))
+own_told (Err x) b op e h = let same : e ≡ x = cc in ap (λ z. told (reply.Refused z)) same
+own_told (Ok u) (Err x) op e h = let same : e ≡ x = cc in ap (λ z. told (reply.Refused z)) same
+own_told (Ok u) (Ok v) op e h = absurd (cc)
+
+-- and where there is none, its operation is logged
+pub own_logged : (a b : Result ⊤ Refusal) (op : Op) → Ok tt ≡ and_then a (λ _. b) → logged op ≡ due_own (and_then a (λ _. and_then b (λ _. Ok op)))
+own_logged (Err x) b op h = absurd (cc)
+own_logged (Ok u) (Err x) op h = absurd (cc)
+own_logged (Ok u) (Ok v) op h = refl
+
+pub first_ok : (a b : Result ⊤ Refusal) → Ok tt ≡ and_then a (λ _. b) → a ≡ Ok tt
+first_ok (Err x) b h = absurd (cc)
+first_ok (Ok u) b h = refl
+
+pub second_ok : (a b : Result ⊤ Refusal) → Ok tt ≡ and_then a (λ _. b) → b ≡ Ok tt
+second_ok (Err x) b h = absurd (cc)
+second_ok (Ok u) b h = sym h
+
+pub shaped_ok : (op : Op) → is_shaped op ≡ true → and_then (shape_of op) (λ _. Ok op) ≡ Ok op
+shaped_ok op h = ap (λ (r : Result ⊤ Refusal). and_then r (λ _. Ok op)) (shape_of-shaped op h)
+
+-- ---- held operations that are given up
+
+-- nothing is let go of an id that is not held
+kept_all : (ops : List Op) (i : Id) → find_id ops i ≡ None → filter (λ o. not (id_eq o.id i)) ops ≡ ops
+kept_all [] i h = refl
+kept_all (o ∷ ops) i h = by (id_eq o.id i) h (λ h. kept_all ops i h)
+  where
+    by : (b : Bool) → ◌≡◌ {A = Option Op} (if b then Some o else find_id ops i) None → (find_id ops i ≡ None → filter (λ z. not (id_eq z.id i)) ops ≡ ops)
+        → (if not b then o ∷ filter (λ z. not (id_eq z.id i)) ops else filter (λ z. not (id_eq z.id i)) ops) ≡ o ∷ ops
+    by true h ih = absurd (some≢none h)
+    by false h ih = ap (λ l. o ∷ l) (ih h)
+
+pub event_forget : (name : List ℕ) (log waiting waiting' : List Op) (i : Id) (o : Option Op) (answer : Result ⊤ Refusal) → o ≡ find_id waiting i
+    → answer ≡ forgotten o → waiting' ≡ filter (λ z. not (id_eq z.id i)) waiting
+    → Event (replica_of name log waiting) (command.Forget i) (told_forgotten answer) (replica_of name log waiting')
+event_forget name log waiting waiting' i (Some x) answer is due same =
+    subst (λ (a : Result ⊤ Refusal). Event (replica_of name log waiting) (command.Forget i) (told_forgotten a) (replica_of name log waiting')) (sym due)
+    (inl (subst (λ (y : Option Op). Forgets (replica_of name log waiting) i y reply.Forgotten (replica_of name log waiting')) is
+    (refl, (λ j. replica_of name log (same j)))))
+event_forget name log waiting waiting' i None answer is due same =
+    subst (λ (a : Result ⊤ Refusal). Event (replica_of name log waiting) (command.Forget i) (told_forgotten a) (replica_of name log waiting')) (sym due)
+    (inl (subst (λ (y : Option Op). Forgets (replica_of name log waiting) i y (reply.Refused NotHeld) (replica_of name log waiting')) is
+    (refl, (λ j. replica_of name log ((same ∙ kept_all waiting i (sym is)) j)))))
+
+-- ---- a change at a place
+
+pub event_change : (r s : Replica) (place : Place) (m : Mutation) (answer : Reply) (c : Result Cursor Refusal)
+    → (c ≢ Err NoMemory → Resolves (facts_of r) place.start place.steps c) → Meets r (due_own (own_change r m c)) answer s → Event r (command.Change place m) answer s
+event_change r s place m answer (Ok c) h met =
+    elim met [ inl does ↦ inl (Ok c, h (λ e. cc), does) | inr lacks ↦ inr lacks ]
+event_change r s place m answer (Err NoMemory) h met = elim met [ inl does ↦ inr does | inr lacks ↦ inr lacks ]
+event_change r s place m answer (Err e) h met =
+    elim met [ inl does ↦ inl (Err e, h (λ f. cc), does) | inr lacks ↦ inr lacks ]
+
+-- an answer that is due, and is another, lacks memory
+pub lacks : {A : Type 0} (r : Result A Refusal) (e : Refusal) (x : A) → (r ≢ Err NoMemory → r ≡ Ok x) → r ≡ Err e → e ≢ NoMemory → ⊥
+lacks {A} r e x h is other =
+    let due : r ≡ Ok x = h (λ f. other (let same : ◌≡◌ {A = Result A Refusal} (Err e) (Err NoMemory) = sym is ∙ f in cc)) in
+    let no : ◌≡◌ {A = Result A Refusal} (Err e) (Ok x) = sym is ∙ due in
+    cc

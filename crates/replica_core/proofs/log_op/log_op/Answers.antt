@@ -1,0 +1,46 @@
+use Rattle.std.proofs.Common.{◌≡◌, ap, subst, sym, ◌∙◌, ◌++◌, ◌∷◌, [], List}
+use Rattle.op_core.specs.Op.{Op}
+use Rattle.crdt_rules.specs.Fits.{Fits}
+use Rattle.op_log.specs.Log.{Log}
+use Rattle.doc_tree.proofs.ShapeLaws.{shaped_has_place}
+use Rattle.replica_core.specs.Tells.{Tells}
+use Rattle.replica_core.proofs.Telling.{tells_same, tells_next, knows_reference, is_new_element}
+use Rattle.replica_core.proofs.log_op.log_op.Goals as goal
+use Rattle.replica_core.proofs.log_op.log_op.Goals.{then-is_err-via-then-is_err, then-is_err-via-else-is_err+then-is_err-2}
+
+pub prepare-requires : goal.prepare-requires
+prepare-requires c = shaped_has_place c.args.op c.requires.fits.shape
+
+kept : (c : goal.After-drop) → c.then-is_err.log.operations ≡ c.args.log.now.operations
+kept c =
+    elim c.then-is_err.branch [
+      | then-is_err-via-then-is_err w ↦ ap (λ (l : Log). l.operations) w.log-is
+      | then-is_err-via-else-is_err+then-is_err-2 w ↦ ap (λ (l : Log). l.operations) w.log-is ∙ w.reserve.ensures.operations
+    ]
+
+pub returns-then-is_err-clause-kept : goal.returns-then-is_err-clause-kept
+returns-then-is_err-clause-kept c = kept c
+
+pub returns-then-is_err-clause-tells : goal.returns-then-is_err-clause-tells
+returns-then-is_err-clause-tells c =
+    subst (Tells c.prepare.new.self) (sym (kept c)) (tells_same {old = c.args.tree.now} {new = c.prepare.new.self} c.requires.tells c.prepare.ensures.facts c.prepare.ensures.roles)
+
+pub commit-requires-clause-reference : goal.commit-requires-clause-reference
+commit-requires-clause-reference c =
+    knows_reference (tells_same {old = c.args.tree.now} {new = c.prepare.new.self} c.requires.tells c.prepare.ensures.facts c.prepare.ensures.roles) c.args.op c.len-length.ensures.good c.requires.fits
+
+pub commit-requires-clause-new : goal.commit-requires-clause-new
+commit-requires-clause-new c =
+    is_new_element (tells_same {old = c.args.tree.now} {new = c.prepare.new.self} c.requires.tells c.prepare.ensures.facts c.prepare.ensures.roles) c.args.op c.len-length.ensures.good c.requires.fits
+
+pub append-requires-clause-fits : goal.append-requires-clause-fits
+append-requires-clause-fits c = subst (Fits c.args.op) (sym c.reserve.ensures.operations) c.requires.fits
+
+pub returns-clause-ok : goal.returns-clause-ok
+returns-clause-ok c = c.append.ensures.operations ∙ ap (λ (l : List Op). l ++ c.args.op ∷ []) c.reserve.ensures.operations
+
+pub returns-clause-tells : goal.returns-clause-tells
+returns-clause-tells c =
+    let next = tells_next (tells_same {old = c.args.tree.now} {new = c.prepare.new.self} c.requires.tells c.prepare.ensures.facts c.prepare.ensures.roles) c.args.op c.len-length.ensures.good c.requires.fits
+    c.commit.ensures.facts c.commit.ensures.roles in
+    subst (Tells c.commit.new.self) (sym (c.append.ensures.operations ∙ ap (λ (l : List Op). l ++ c.args.op ∷ []) c.reserve.ensures.operations)) next

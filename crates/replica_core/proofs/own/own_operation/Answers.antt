@@ -1,0 +1,39 @@
+use Rattle.std.proofs.Common.{◌≡◌, ◌+◌, ◌≤◌, Ok, Err, [], ◌∷◌, List, length, ap, ◌∙◌, arith}
+use Rattle.std.proofs.lemmas.Result.{err_from_is_err_and}
+use Rattle.op_core.specs.Front.{max_counter}
+use Rattle.op_core.specs.Op.{Op}
+use Rattle.op_core.specs.Shape.{shape_of}
+use Rattle.json_scalar.specs.Refusal.{and_then}
+use Rattle.crdt_rules.specs.Pull.{front_of}
+use Rattle.doc_rules.specs.Replica.{own_op}
+use Rattle.doc_rules.proofs.Resolved.{ok_same}
+use Rattle.doc_rules.proofs.WholeFront.{max_counter_below}
+use Rattle.replica_core.specs.Whole.{replica_of}
+use Rattle.replica_core.proofs.Owning.{shaped_ok, lacks}
+use Rattle.replica_core.proofs.own.own_operation.Goals as goal
+
+pub returns-in_err-front : goal.returns-in_err-front
+returns-in_err-front c =
+    let exit = err_from_is_err_and c.from_residual.result c.from_residual.ensures.1 in
+    rw (exit.1, exit.2)
+    (λ other.
+    absurd (lacks c.front.result c.in_err-front.field-0.0 (front_of c.args.log.now.operations) c.front.ensures c.in_err-front.was (λ memory. other (ap Err memory))))
+
+few_more : (op : Op) (log : List Op) → length (op ∷ log) ≤ 100000 → length log + 1 ≤ 100000
+few_more op log h = omega arith
+
+pub overflow_add-id : goal.overflow_add-id
+overflow_add-id c =
+    let front : c.in_ok-front.front ≡ front_of c.args.log.now.operations = ok_same (c.in_ok-front.ensures (λ e. cc)) in
+    let few : length c.args.log.now.operations + 1 ≤ 100000 = few_more (own_op (replica_of c.args.name c.args.log.now.operations []) c.args.cursor c.args.mutation) c.args.log.now.operations c.requires.room.operations in
+    omega (arith, c.max_counter.ensures ∙ ap max_counter front, max_counter_below c.args.log.now.operations c.len-length.ensures.good, few)
+
+pub returns : goal.returns
+returns c other =
+    let front : c.in_ok-front.front ≡ front_of c.args.log.now.operations = ok_same (c.in_ok-front.ensures (λ e. cc)) in
+    let own = own_op (replica_of c.args.name c.args.log.now.operations []) c.args.cursor c.args.mutation in
+    let counter = ap (λ n. n + 1) (c.max_counter.ensures ∙ ap max_counter front) in
+    c.shaped.ensures
+    ∙ ap (λ (o : Op). and_then (shape_of o) (λ _. Ok o))
+    (λ i. record { id = record { counter = counter i; replica = c.args.name }; front = front i; cursor = c.args.cursor; mutation = c.args.mutation })
+    ∙ shaped_ok own c.requires.shape

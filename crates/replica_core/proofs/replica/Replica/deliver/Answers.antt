@@ -1,0 +1,22 @@
+use Rattle.doc_words.specs.declared.ask.Command.TheVariants as command
+use Rattle.replica_core.specs.Told.{told_delivered}
+use Rattle.replica_core.proofs.Keeping.{whole_next}
+use Rattle.replica_core.proofs.replica.Replica.deliver.Goals as goal
+
+pub deliver-requires-clause-tells : goal.deliver-requires-clause-tells
+deliver-requires-clause-tells c = c.self.invariant.tells
+
+pub deliver-requires-clause-current : goal.deliver-requires-clause-current
+deliver-requires-clause-current c = c.self.invariant.current
+
+pub deliver-requires-clause-few : goal.deliver-requires-clause-few
+deliver-requires-clause-few c = c.self.invariant.kept.few
+
+pub invariant_of-self : goal.invariant_of-self
+invariant_of-self c =
+    whole_next c.self.inside.name c.self.inside.tree c.deliver.new.tree c.self.inside.log.operations c.deliver.new.log.operations c.self.inside.held c.deliver.new.held
+    (command.Deliver c.args.op) (told_delivered c.deliver.result) c.self.invariant c.deliver.ensures.tells c.deliver.ensures.current c.id-id.ensures.shaped
+    c.deliver.ensures.met
+
+pub returns : goal.returns
+returns c = rw (← c.self.view_is) c.deliver.ensures.met

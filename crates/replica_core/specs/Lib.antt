@@ -1,0 +1,4 @@
+pub mod Tells
+pub mod Whole
+pub mod Told
+pub mod Resolved

@@ -1,0 +1,14 @@
+-- Where the steps of a place led.
+use Rattle.std.specs.Prelude.{◌≢◌, List, Result, Err}
+use Rattle.json_scalar.specs.declared.refusal.Refusal.{Refusal}
+use Rattle.json_scalar.specs.declared.refusal.Refusal.TheVariants.{NoMemory}
+use Rattle.op_core.specs.declared.cursor.Cursor.{Cursor}
+use Rattle.op_core.specs.Op.{Op}
+use Rattle.doc_words.specs.declared.place.Step.{Step}
+use Rattle.crdt_rules.specs.Facts.{facts}
+use Rattle.crdt_rules.specs.Log.{replay}
+use Rattle.doc_rules.specs.Resolve.{Resolves}
+
+-- unless memory was wanting, some steps in the document of the log lead there
+abbrev pub IsPlaceOf : List Op → Result Cursor Refusal → Type 0
+IsPlaceOf log c = c ≢ Err NoMemory → (start : Cursor) × (steps : List Step) × Resolves (facts (replay log)) start steps c

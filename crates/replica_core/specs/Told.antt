@@ -1,0 +1,35 @@
+-- What a replica's answers are told as.
+use Rattle.std.specs.Prelude.{◌⊎◌, Option, Some, None, Result, Ok, Err, ⊤}
+use Rattle.op_core.specs.Op.{Op}
+use Rattle.json_scalar.specs.declared.refusal.Refusal.TheVariants.{NotHeld}
+use Rattle.json_scalar.specs.declared.refusal.Refusal.{Refusal}
+use Rattle.doc_words.specs.declared.reply.Reply.{Reply}
+use Rattle.doc_words.specs.declared.reply.Reply.TheVariants as reply
+use Rattle.doc_rules.specs.Events.{Due, Settles, Lacks}
+use Rattle.doc_rules.specs.Replica.{Replica}
+use Rattle.replica_core.specs.declared.outcome.Applied.{Applied}
+use Rattle.replica_core.specs.declared.outcome.Delivered.{Delivered}
+use Rattle.replica_core.specs.declared.outcome.Delivered.TheVariants as delivered
+
+abbrev pub told_applied : Result Applied Refusal → Reply
+told_applied (Ok a) = reply.Applied a.count a.dropped a.id
+told_applied (Err cause) = reply.Refused cause
+
+abbrev pub told_delivered : Result Delivered Refusal → Reply
+told_delivered (Ok (delivered.Applied a)) = reply.Applied a.count a.dropped a.id
+told_delivered (Ok delivered.Known) = reply.Known
+told_delivered (Ok (delivered.Held ids)) = reply.Held ids
+told_delivered (Err cause) = reply.Refused cause
+
+abbrev pub told_forgotten : Result ⊤ Refusal → Reply
+told_forgotten (Ok _) = reply.Forgotten
+told_forgotten (Err cause) = reply.Refused cause
+
+-- what is due comes about, or memory is wanting and nothing has changed
+abbrev pub Meets : Replica → Due → Reply → Replica → Type 0
+Meets r due reply s = Settles r due reply s ⊎ Lacks r reply s
+
+-- what the giving up of a held operation is answered
+abbrev pub forgotten : Option Op → Result ⊤ Refusal
+forgotten (Some op) = Ok tt
+forgotten None = Err NotHeld

@@ -1,0 +1,19 @@
+-- What a replica keeps.
+use Rattle.std.specs.Prelude.{◌≡◌, ℕ, List, Option, true}
+use Rattle.lamport_id.specs.Name.{is_name}
+use Rattle.json_scalar.specs.declared.scalar.Scalar.{Scalar}
+use Rattle.op_core.specs.Op.{Op}
+use Rattle.doc_nodes.specs.declared.node.Node.{Node}
+use Rattle.doc_rules.specs.Replica.{Replica, IsKept}
+use Rattle.hold_buffer.specs.Held.{Buffer, IsCurrent}
+use Rattle.replica_core.specs.Tells.{Tells}
+
+abbrev pub replica_of : List ℕ → List Op → List Op → Replica
+replica_of name log held = record { name = name; log = log; held = held }
+
+-- the log is good, its tree says what it makes, and what is held waits
+pub record IsWhole (name : List ℕ) (tree : List Node × Option Scalar) (log : List Op) (buffer : Buffer) : Type 0 where
+  pub named : is_name name ≡ true
+  pub tells : Tells tree log
+  pub current : IsCurrent buffer log
+  pub kept : IsKept (replica_of name log buffer.held)

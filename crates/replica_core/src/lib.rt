@@ -1,0 +1,14 @@
+//! A replica of a document: its log, the tree that the log makes, and the operations that wait.
+#![tactic(auto)]
+
+mod deliver;
+mod drain;
+mod limits;
+mod log_op;
+mod outcome;
+mod own;
+mod replica;
+mod told;
+
+pub use outcome::{Applied, Delivered};
+pub use replica::Replica;

@@ -1,0 +1,29 @@
+//! One more operation of a log, in its tree too.
+ghost use Rattle.std.specs.Prelude.{◌≡◌, [], ◌∷◌, ◌++◌, OnOk, OnErr, IfErr};
+ghost use Rattle.crdt_rules.specs.Fits.{Fits};
+ghost use Rattle.replica_core.specs.Tells.{Tells};
+
+use doc_tree::Tree;
+use json_scalar::Refusal;
+use op_core::Operation;
+use op_log::OpLog;
+
+/// Logs an operation that fits, and applies it to the tree of the log. It is refused for want of memory alone, and the log
+/// is then as it was, and the tree says what it said.
+pub fn log_op(tree: &mut Tree, log: &mut OpLog, op: Operation) -> Result<(), Refusal>
+    requires fits { Fits op log.old.operations }
+    requires tells { Tells tree.old log.old.operations }
+    ensures ok { OnOk result (log.new.operations ≡ log.old.operations ++ op ∷ []) }
+    ensures err { IfErr result (λ e. e ≡ Refusal.NoMemory) }
+    ensures kept { OnErr result (log.new.operations ≡ log.old.operations) }
+    ensures tells { Tells tree.new log.new.operations }
+{
+    let _length = log.len();
+    if tree.prepare(&op).is_err() || log.reserve(1).is_err() {
+        drop(op);
+        return Err(Refusal::NoMemory);
+    }
+    tree.commit(&op);
+    log.append(op);
+    Ok(())
+}

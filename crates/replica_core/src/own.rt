@@ -1,0 +1,184 @@
+//! Changes of one's own.
+ghost use Rattle.std.specs.Prelude.{◌≡◌, ◌≤◌, [], length, Ok, Err, true, if◌then◌else◌};
+ghost use Rattle.lamport_id.specs.Name.{is_name};
+ghost use Rattle.json_scalar.specs.Refusal.{UnlessMemory, and_then};
+ghost use Rattle.op_core.specs.Shape as shape;
+ghost use Rattle.crdt_rules.specs.Fits.{Fits};
+ghost use Rattle.doc_rules.specs.Cause.{room_cause};
+ghost use Rattle.doc_rules.specs.Events as due;
+ghost use Rattle.doc_rules.specs.Events.{cause_at, due_own, own_change};
+ghost use Rattle.doc_rules.specs.Replica.{Replica, own_op};
+ghost use Rattle.hold_buffer.specs.Held.{IsCurrent};
+ghost use Rattle.replica_core.specs.Resolved.{IsPlaceOf};
+ghost use Rattle.replica_core.specs.Tells.{Tells};
+ghost use Rattle.replica_core.specs.Told.{Meets, told_applied};
+ghost use Rattle.replica_core.specs.Whole.{replica_of};
+
+use crate::deliver::log_and_drain;
+use crate::limits::keeps_limits;
+use crate::outcome::Applied;
+use doc_tree::Tree;
+use hold_buffer::HoldBuffer;
+use json_scalar::Refusal;
+use lamport_id::{Id, ReplicaName};
+use op_core::{Cursor, Key, Mutation, Operation, Tagged};
+use op_log::OpLog;
+
+/// Makes a change where the steps of its place led, or tells why they led nowhere.
+pub fn change(
+    name: ReplicaName,
+    tree: &mut Tree,
+    log: &mut OpLog,
+    held: &mut HoldBuffer,
+    resolved: Result<Cursor, Refusal>,
+    mutation: Mutation,
+) -> Result<Applied, Refusal>
+    requires named { is_name name ≡ true }
+    requires place { IsPlaceOf log.old.operations resolved }
+    requires tells { Tells tree.old log.old.operations }
+    requires current { IsCurrent held.old log.old.operations }
+    requires few { length held.old.held ≤ 256 }
+    ensures met { let r = replica_of name log.old.operations held.old.held in
+        Meets r (due_own (own_change r mutation resolved)) (told_applied result) (replica_of name log.new.operations held.new.held) }
+    ensures tells { Tells tree.new log.new.operations }
+    ensures current { IsCurrent held.new log.new.operations }
+{
+    match resolved {
+        Ok(cursor) => change_at(name, tree, log, held, cursor, mutation),
+        Err(cause) => {
+            drop(mutation);
+            Err(cause)
+        }
+    }
+}
+
+fn change_at(
+    name: ReplicaName,
+    tree: &mut Tree,
+    log: &mut OpLog,
+    held: &mut HoldBuffer,
+    cursor: Cursor,
+    mutation: Mutation,
+) -> Result<Applied, Refusal>
+    requires named { is_name name ≡ true }
+    requires place { IsPlaceOf log.old.operations (Ok cursor) }
+    requires tells { Tells tree.old log.old.operations }
+    requires current { IsCurrent held.old log.old.operations }
+    requires few { length held.old.held ≤ 256 }
+    ensures met { let r = replica_of name log.old.operations held.old.held in
+        Meets r (due_own (own_change r mutation (Ok cursor))) (told_applied result) (replica_of name log.new.operations held.new.held) }
+    ensures tells { Tells tree.new log.new.operations }
+    ensures current { IsCurrent held.new log.new.operations }
+{
+    match own_cause(&name, log, &cursor, &mutation) {
+        Ok(()) => log_own(name, tree, log, held, cursor, mutation),
+        Err(cause) => {
+            drop(cursor);
+            drop(mutation);
+            Err(cause)
+        }
+    }
+}
+
+// Logs one's own operation, against which there is no cause.
+fn log_own(
+    name: ReplicaName,
+    tree: &mut Tree,
+    log: &mut OpLog,
+    held: &mut HoldBuffer,
+    cursor: Cursor,
+    mutation: Mutation,
+) -> Result<Applied, Refusal>
+    requires named { is_name name ≡ true }
+    requires place { IsPlaceOf log.old.operations (Ok cursor) }
+    requires here { cause_at mutation cursor ≡ Ok tt }
+    requires room { let r = replica_of name log.old.operations held.old.held in room_cause (own_op r cursor mutation) log.old.operations ≡ Ok tt }
+    requires tells { Tells tree.old log.old.operations }
+    requires current { IsCurrent held.old log.old.operations }
+    requires few { length held.old.held ≤ 256 }
+    ensures met { let r = replica_of name log.old.operations held.old.held in
+        Meets r (due.logged (own_op r cursor mutation)) (told_applied result) (replica_of name log.new.operations held.new.held) }
+    ensures tells { Tells tree.new log.new.operations }
+    ensures current { IsCurrent held.new log.new.operations }
+{
+    keeps_limits(&mutation);
+    let _length = log.len();
+    match own_operation(name, log, cursor, mutation) {
+        Ok(op) => log_and_drain(tree, log, held, op),
+        Err(_) => Err(Refusal::NoMemory),
+    }
+}
+
+// The first cause against one's own change at a place.
+fn own_cause(
+    name: &ReplicaName,
+    log: &OpLog,
+    cursor: &Cursor,
+    mutation: &Mutation,
+) -> Result<(), Refusal>
+    ensures { (r : Replica) → r.name ≡ name.now → result ≡ and_then (cause_at mutation.now cursor.now) (λ _. room_cause (own_op r cursor.now mutation.now) log.now.operations) }
+{
+    match place_cause(cursor, mutation) {
+        Ok(()) => log.check_room(*name),
+        Err(cause) => Err(cause),
+    }
+}
+
+// An insertion is in a list, and nothing else is at a head.
+fn place_cause(cursor: &Cursor, mutation: &Mutation) -> Result<(), Refusal>
+    ensures { result ≡ cause_at mutation.now cursor.now }
+{
+    match mutation {
+        Mutation::Insert(_) => {
+            if ends_in_list(cursor.path.as_slice()) {
+                Ok(())
+            } else {
+                Err(Refusal::NotInList)
+            }
+        }
+        Mutation::Assign(_) | Mutation::Delete | Mutation::Add(_) => no_head(&cursor.key),
+    }
+}
+
+fn no_head(key: &Key) -> Result<(), Refusal>
+    ensures { result ≡ (if shape.is_head key.now then Err Refusal.AtHead else Ok tt) }
+{
+    match key {
+        Key::Head => Err(Refusal::AtHead),
+        Key::Doc | Key::Text(_) | Key::Element(_) => Ok(()),
+    }
+}
+
+fn ends_in_list(path: &[Tagged]) -> bool
+    ensures { result ≡ shape.ends_in_list path.now }
+{
+    match path {
+        [] => false,
+        [.., last] => is_list(last),
+    }
+}
+
+fn is_list(tagged: &Tagged) -> bool
+    ensures { result ≡ shape.is_list tagged.now }
+{
+    matches!(tagged, Tagged::List(_))
+}
+
+// One's own next operation, which fits. It is refused for want of memory alone.
+fn own_operation(
+    name: ReplicaName,
+    log: &OpLog,
+    cursor: Cursor,
+    mutation: Mutation,
+) -> Result<Operation, Refusal>
+    requires { Fits (own_op (replica_of name log.now.operations []) cursor mutation) log.now.operations }
+    ensures { UnlessMemory result (Ok (own_op (replica_of name log.now.operations []) cursor mutation)) }
+{
+    let _length = log.len();
+    let front = log.front()?;
+    let id = Id {
+        counter: front.max_counter() + 1,
+        replica: name,
+    };
+    Operation::shaped(id, front, cursor, mutation)
+}

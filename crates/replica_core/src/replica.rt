@@ -1,0 +1,162 @@
+//! The replica.
+ghost use Rattle.std.specs.Prelude.{◌≡◌, [], IfOk, IfErr};
+ghost use Rattle.crdt_rules.specs.Log.{IsGood};
+ghost use Rattle.doc_rules.specs.Events.{Event};
+ghost use Rattle.doc_rules.specs.Replica.{IsKept};
+ghost use Rattle.doc_words.specs.declared.ask.Command.TheVariants as command;
+ghost use Rattle.replica_core.specs.Tells.{Tells};
+ghost use Rattle.replica_core.specs.Told.{forgotten, told_applied, told_delivered, told_forgotten};
+ghost use Rattle.replica_core.specs.Whole.{replica_of};
+
+use crate::deliver::deliver;
+use crate::limits::keeps_limits;
+use crate::outcome::{Applied, Delivered};
+use crate::own::change;
+use crate::told::{applied_reply, delivered_reply, forgotten_reply};
+use doc_tree::Tree;
+use doc_view::resolve;
+use doc_words::{Command, Place, Reply};
+use hold_buffer::HoldBuffer;
+use json_scalar::Refusal;
+use lamport_id::{Id, ReplicaName};
+use op_core::{Mutation, Operation};
+use op_log::OpLog;
+use std::alloc::Global;
+use std::marker::Model;
+
+/// A replica of a document. A contract sees its name, its log, and the held operations in the order of their ids. The log is
+/// good, its tree says what it makes, and each held operation is foreign and waits for one that is not logged.
+pub struct Replica {
+    name: ReplicaName,
+    alloc: Global,
+    tree: Tree,
+    log: OpLog,
+    held: HoldBuffer,
+}
+
+impl Model for Replica {
+    ghost use Rattle.doc_rules.specs.Replica.{Replica as Document};
+    ghost use Rattle.replica_core.specs.Whole.{IsWhole};
+
+    ghost Value = { Document };
+
+    ghost view = { λ r. record { name = r.name; log = r.log.operations; held = r.held.held } };
+
+    ghost invariant = { λ r. IsWhole r.name r.tree r.log.operations r.held };
+}
+
+impl Replica {
+    /// The replica of this name whose log is empty. It keeps the allocator. It is refused for want of memory alone.
+    pub fn new(alloc: Global, name: ReplicaName) -> Result<Replica, Refusal>
+        ensures ok { IfOk result (λ r. r ≡ replica_of name [] []) }
+        ensures err { IfErr result (λ e. e ≡ Refusal.NoMemory) }
+    {
+        let _name = name.as_bytes();
+        match Tree::new(alloc) {
+            Ok(tree) => Ok(Replica {
+                name,
+                alloc,
+                tree,
+                log: OpLog::new(alloc),
+                held: HoldBuffer::new(alloc),
+            }),
+            Err(_) => Err(Refusal::NoMemory),
+        }
+    }
+
+    /// Its name.
+    pub fn name(&self) -> ReplicaName
+        ensures { result ≡ self.now.name }
+    {
+        self.name
+    }
+
+    /// Its log.
+    pub fn log(&self) -> &OpLog
+        ensures log { result.now.operations ≡ self.now.log }
+        ensures kept { IsKept self.now }
+    {
+        &self.log
+    }
+
+    /// The tree of its log.
+    pub fn tree(&self) -> &Tree
+        ensures { Tells result.now self.now.log }
+    {
+        &self.tree
+    }
+
+    /// Makes a change of one's own at a place, as the next operation of this replica, and then logs what that releases. The
+    /// answer is the first cause against the place (as `resolve` tells it), not-in-list for an insertion outside a list,
+    /// at-head for anything else at a head, log-full or too-many-replicas. For want of memory it is refused. After a refusal
+    /// all is as it was.
+    pub fn local(&mut self, place: Place, mutation: Mutation) -> Result<Applied, Refusal>
+        ensures { Event self.old (command.Change place mutation) (told_applied result) self.new }
+    {
+        keeps_limits(&mutation);
+        let Place { start, steps } = place;
+        let resolved = resolve(self.alloc, &self.tree, start, steps.as_slice());
+        change(
+            self.name,
+            &mut self.tree,
+            &mut self.log,
+            &mut self.held,
+            resolved,
+            mutation,
+        )
+    }
+
+    /// Hands in an operation that was made elsewhere. The answer is that it is known, or the first cause against it: id-conflict
+    /// with one that is logged or held under its id, own-name, held-full, and those of `OpLog::check`. Else it is logged and
+    /// the held ones drained, or it is held. For want of memory it is refused. After a refusal all is as it was.
+    pub fn deliver(&mut self, op: Operation) -> Result<Delivered, Refusal>
+        ensures { Event self.old (command.Deliver op) (told_delivered result) self.new }
+    {
+        let _id = op.id();
+        deliver(self.name, &mut self.tree, &mut self.log, &mut self.held, op)
+    }
+
+    /// Gives up a held operation. It is refused as not-held where none is held under the id.
+    pub fn forget(&mut self, id: Id) -> Result<(), Refusal>
+        ensures { Event self.old (command.Forget id) (told_forgotten result) self.new }
+    {
+        forgotten(self.held.remove(id))
+    }
+
+    /// Obeys a command, and tells the answer of `local`, `deliver` or `forget`.
+    pub fn act(&mut self, command: Command) -> Reply
+        ensures { Event self.old command result self.new }
+    {
+        match command {
+            Command::Change(place, mutation) => applied_reply(self.local(place, mutation)),
+            Command::Deliver(op) => delivered_reply(self.deliver(op)),
+            Command::Forget(id) => forgotten_reply(self.forget(id)),
+        }
+    }
+}
+
+// What the giving up of a held operation is answered, by what was held.
+fn forgotten(op: Option<Operation>) -> Result<(), Refusal>
+    ensures { result ≡ forgotten op }
+{
+    match op {
+        Some(op) => {
+            drop(op);
+            Ok(())
+        }
+        None => Err(Refusal::NotHeld),
+    }
+}
+
+// By hand, so that it is called and not written out where a replica is let go.
+impl Drop for Replica {
+    fn drop(self) {
+        let Replica {
+            name: _,
+            alloc: _,
+            tree: _,
+            log: _,
+            held: _,
+        } = self;
+    }
+}
