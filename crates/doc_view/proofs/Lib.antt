@@ -6,3 +6,4 @@ pub mod Leading
 pub mod MapLaws
 pub mod NoFloat
 pub mod ShowLaws
+pub mod Among

@@ -180,7 +180,7 @@ fn is_listed(alloc: Global, tree: &Tree, list: &Path, id: &Id) -> Result<bool, R
     Ok(is_among(order.as_slice(), id))
 }
 
-fn is_among(ids: &[Id], id: &Id) -> bool
+pub fn is_among(ids: &[Id], id: &Id) -> bool
     ensures { result ≡ list_any (id_eq id.now) ids.now }
 {
     ids.iter().any(|other| *id == *other)
