@@ -4,3 +4,4 @@ pub mod Meeting
 pub mod Owning
 pub mod Keeping
 pub mod Numbers
+pub mod Looking

@@ -7,6 +7,7 @@ mod limits;
 mod log_op;
 mod outcome;
 mod own;
+mod read;
 mod replica;
 mod told;
 

@@ -1,6 +1,7 @@
 //! The replica.
 ghost use Rattle.std.specs.Prelude.{◌≡◌, [], IfOk, IfErr};
 ghost use Rattle.crdt_rules.specs.Log.{IsGood};
+ghost use Rattle.doc_rules.specs.Answers.{Answers};
 ghost use Rattle.doc_rules.specs.Events.{Event};
 ghost use Rattle.doc_rules.specs.Replica.{IsKept};
 ghost use Rattle.doc_words.specs.declared.ask.Command.TheVariants as command;
@@ -12,10 +13,11 @@ use crate::deliver::deliver;
 use crate::limits::keeps_limits;
 use crate::outcome::{Applied, Delivered};
 use crate::own::change;
+use crate::read::read;
 use crate::told::{applied_reply, delivered_reply, forgotten_reply};
 use doc_tree::Tree;
 use doc_view::resolve;
-use doc_words::{Command, Place, Reply};
+use doc_words::{Command, Place, Query, Reply};
 use hold_buffer::HoldBuffer;
 use json_scalar::Refusal;
 use lamport_id::{Id, ReplicaName};
@@ -121,6 +123,14 @@ impl Replica {
         ensures { Event self.old (command.Forget id) (told_forgotten result) self.new }
     {
         forgotten(self.held.remove(id))
+    }
+
+    /// Answers a query, with nothing changed. `mine` is told as the account. A reading of a place is refused by the first cause
+    /// against its steps, or as at-head; and any answer but an account for want of memory.
+    pub fn read(&self, mine: u64, query: Query) -> Reply
+        ensures { Answers self.now mine query result }
+    {
+        read(self.alloc, &self.tree, &self.log, &self.held, mine, query)
     }
 
     /// Obeys a command, and tells the answer of `local`, `deliver` or `forget`.

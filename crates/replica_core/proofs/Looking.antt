@@ -1,0 +1,63 @@
+-- What is read of a tree that says what the log makes is the replica's answer.
+use Rattle.std.proofs.Common.{◌≡◌, ◌≢◌, ◌⊎◌, inl, inr, ℕ, List, Bool, true, false, Option, Result, Ok, Err, refl, sym, ap, subst, ◌∙◌}
+use Rattle.std.specs.Prelude.{MatchBool, MatchResult}
+use Rattle.json_scalar.specs.declared.scalar.Scalar.{Scalar}
+use Rattle.json_scalar.specs.declared.refusal.Refusal.{Refusal}
+use Rattle.json_scalar.specs.declared.refusal.Refusal.TheVariants.{AtHead, NoMemory}
+use Rattle.op_core.specs.declared.cursor.Cursor.{Cursor}
+use Rattle.op_core.specs.declared.cursor.Key.{Key}
+use Rattle.op_core.specs.declared.cursor.Tagged.{Tagged}
+use Rattle.op_core.specs.Op.{Op}
+use Rattle.op_core.specs.Shape.{is_head}
+use Rattle.doc_words.specs.declared.ask.Look.{Look}
+use Rattle.doc_words.specs.declared.ask.Query.{Query}
+use Rattle.doc_words.specs.declared.ask.Query.TheVariants as query
+use Rattle.doc_words.specs.declared.place.Place.{Place}
+use Rattle.doc_words.specs.declared.place.Step.{Step}
+use Rattle.doc_words.specs.declared.reply.Reply.{Reply}
+use Rattle.doc_words.specs.declared.reply.Reply.TheVariants as reply
+use Rattle.doc_nodes.specs.declared.node.Node.{Node}
+use Rattle.doc_tree.specs.Nodes.{tree_facts, tree_role}
+use Rattle.crdt_rules.specs.Log.{IsGood}
+use Rattle.doc_view.specs.Readings as view
+use Rattle.doc_view.specs.Told.{tree_values}
+use Rattle.doc_rules.specs.Answers.{Answers, Reads, ReadsHere, LooksHere, told_as}
+use Rattle.doc_rules.specs.Replica.{Replica}
+use Rattle.doc_rules.specs.Resolve.{Resolves}
+use Rattle.doc_rules.specs.Role.{roles_of}
+use Rattle.doc_rules.proofs.Looks.{AreOf, look_answers}
+use Rattle.replica_core.specs.Tells.{Tells}
+use Rattle.replica_core.specs.Whole.{replica_of}
+
+-- a reader's answer is told as a look's, unless memory is wanting
+pub told_here : {X : Type 0} (reads : List Tagged → Key → X → Type 0) (tell : X → Reply) (c : Cursor) (r : Result X Refusal) → view.ReadsHere reads c r
+    → (told_as tell r ≡ reply.Refused NoMemory) ⊎ ReadsHere reads tell c (told_as tell r)
+told_here {X} reads tell c r h = by (is_head c.key) refl r h
+  where
+    by : (b : Bool) → is_head c.key ≡ b → (r : Result X Refusal) → MatchBool b (r ≡ Err AtHead) (view.Gives (reads c.path c.key) r)
+        → (told_as tell r ≡ reply.Refused NoMemory) ⊎ ReadsHere reads tell c (told_as tell r)
+    by true e r h = inr (Err AtHead, (e, refl), ap (told_as tell) h)
+    by false e (Ok x) h = inr (Ok x, (e, h), refl)
+    by false e (Err cause) h = inl (ap reply.Refused h)
+
+-- the tree's facts and roles are the log's
+are_of : {tree : List Node × Option Scalar} {log : List Op} → Tells tree log → AreOf log (tree_facts tree) (tree_role tree)
+are_of {tree} {log} tells = record {
+  facts_are = tells.facts_are;
+  roles_are = λ p k i. tells.roles_are p k i ∙ ap (λ f. roles_of f log p k i) (sym tells.facts_are);
+}
+
+-- a look where the steps lead
+pub look_told : (name : List ℕ) (log held : List Op) (mine : ℕ) (tree : List Node × Option Scalar) → Tells tree log → IsGood log → (look : Look) (place : Place) (c : Cursor)
+    (answer : Reply) → Resolves (tree_facts tree) place.start place.steps (Ok c)
+    → (answer ≡ reply.Refused NoMemory) ⊎ LooksHere (tree_facts tree) (tree_values tree) look c answer
+    → Answers (replica_of name log held) mine (query.Look look place) answer
+look_told name log held mine tree tells good look place c answer leads (inl memory) = inr memory
+look_told name log held mine tree tells good look place c answer leads (inr here) =
+    inl (look_answers (replica_of name log held) mine (tree_facts tree) (tree_role tree) good (are_of tells) look place (Ok c) answer leads here)
+
+-- where the steps lead
+pub resolve_told : (name : List ℕ) (log held : List Op) (mine : ℕ) (tree : List Node × Option Scalar) → Tells tree log → (place : Place) (c : Cursor)
+    → Resolves (tree_facts tree) place.start place.steps (Ok c) → Answers (replica_of name log held) mine (query.Resolve place) (reply.Resolved c)
+resolve_told name log held mine tree tells place c leads =
+    inl (Ok c, subst (λ f. Resolves f place.start place.steps (Ok c)) tells.facts_are leads, refl)

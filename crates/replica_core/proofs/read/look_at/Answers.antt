@@ -1,0 +1,49 @@
+use Rattle.std.proofs.Common.{◌≡◌, ◌⊎◌, sym, subst}
+use Rattle.json_scalar.specs.declared.refusal.Refusal.TheVariants.{NoMemory}
+use Rattle.doc_words.specs.declared.ask.Look.{Look}
+use Rattle.doc_words.specs.declared.ask.Look.TheVariants as look
+use Rattle.doc_words.specs.declared.reply.Reply.{Reply}
+use Rattle.doc_words.specs.declared.reply.Reply.TheVariants as reply
+use Rattle.doc_tree.specs.Nodes.{tree_facts}
+use Rattle.doc_view.specs.Told.{tree_values}
+use Rattle.doc_rules.specs.Answers.{LooksHere}
+use Rattle.doc_rules.specs.Reads.{AreKeys, AreValues, AreItems, AreConflicts, IsSum}
+use Rattle.doc_rules.specs.Shown.{ShowsText}
+use Rattle.replica_core.proofs.Looking.{told_here}
+use Rattle.replica_core.proofs.read.look_at.Goals as goal
+
+pub returns-in-Keys : goal.returns-in-Keys
+returns-in-Keys c =
+    rw c.in-Keys.is
+    (subst (λ (a : Reply). (a ≡ reply.Refused NoMemory) ⊎ LooksHere (tree_facts c.args.tree.now) (tree_values c.args.tree.now) look.Keys c.args.cursor.now a)
+    (sym c.keys_reply.ensures) (told_here (AreKeys (tree_facts c.args.tree.now)) (λ x. reply.Keys x) c.args.cursor.now c.keys.result c.keys.ensures))
+
+pub returns-in-Values : goal.returns-in-Values
+returns-in-Values c =
+    rw c.in-Values.is
+    (subst (λ (a : Reply). (a ≡ reply.Refused NoMemory) ⊎ LooksHere (tree_facts c.args.tree.now) (tree_values c.args.tree.now) look.Values c.args.cursor.now a)
+    (sym c.values_reply.ensures) (told_here (AreValues (tree_facts c.args.tree.now)) (λ x. reply.Values x) c.args.cursor.now c.values.result c.values.ensures))
+
+pub returns-in-Items : goal.returns-in-Items
+returns-in-Items c =
+    rw c.in-Items.is
+    (subst (λ (a : Reply). (a ≡ reply.Refused NoMemory) ⊎ LooksHere (tree_facts c.args.tree.now) (tree_values c.args.tree.now) look.Items c.args.cursor.now a)
+    (sym c.items_reply.ensures) (told_here (AreItems (tree_facts c.args.tree.now)) (λ x. reply.Items x) c.args.cursor.now c.items.result c.items.ensures))
+
+pub returns-in-Conflicts : goal.returns-in-Conflicts
+returns-in-Conflicts c =
+    rw c.in-Conflicts.is
+    (subst (λ (a : Reply). (a ≡ reply.Refused NoMemory) ⊎ LooksHere (tree_facts c.args.tree.now) (tree_values c.args.tree.now) look.Conflicts c.args.cursor.now a)
+    (sym c.conflicts_reply.ensures) (told_here (AreConflicts (tree_facts c.args.tree.now) (tree_values c.args.tree.now)) (λ x. reply.Conflicts x) c.args.cursor.now c.conflicts.result c.conflicts.ensures))
+
+pub returns-in-Show : goal.returns-in-Show
+returns-in-Show c =
+    rw c.in-Show.is
+    (subst (λ (a : Reply). (a ≡ reply.Refused NoMemory) ⊎ LooksHere (tree_facts c.args.tree.now) (tree_values c.args.tree.now) look.Show c.args.cursor.now a)
+    (sym c.show_reply.ensures) (told_here (ShowsText (tree_facts c.args.tree.now) (tree_values c.args.tree.now)) (λ x. reply.Show x) c.args.cursor.now c.show.result c.show.ensures))
+
+pub returns-in-Sum : goal.returns-in-Sum
+returns-in-Sum c =
+    rw c.in-Sum.is
+    (subst (λ (a : Reply). (a ≡ reply.Refused NoMemory) ⊎ LooksHere (tree_facts c.args.tree.now) (tree_values c.args.tree.now) look.Sum c.args.cursor.now a)
+    (sym c.sum_reply.ensures) (told_here (IsSum (tree_facts c.args.tree.now)) (λ x. reply.Sum x) c.args.cursor.now c.sum.result c.sum.ensures))

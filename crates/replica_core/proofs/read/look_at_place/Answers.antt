@@ -1,0 +1,12 @@
+use Rattle.std.proofs.Common.{Result, Ok, Err, subst}
+use Rattle.json_scalar.specs.declared.refusal.Refusal.{Refusal}
+use Rattle.op_core.specs.declared.cursor.Cursor.{Cursor}
+use Rattle.doc_tree.specs.Nodes.{tree_facts}
+use Rattle.doc_rules.specs.Resolve.{Resolves}
+use Rattle.replica_core.proofs.Looking.{look_told}
+use Rattle.replica_core.proofs.read.look_at_place.Goals as goal
+
+pub returns-in-Ok : goal.returns-in-Ok
+returns-in-Ok c name held mine =
+    look_told name c.args.log.now.operations held mine c.args.tree.now c.requires c.len-length.ensures.good c.args.look c.args.place c.in-Ok.cursor c.look_at.result
+    (subst (λ l. Resolves (tree_facts c.args.tree.now) c.args.place.start l (Ok c.in-Ok.cursor)) c.as_slice.ensures (c.in-Ok.ensures (λ e. cc))) c.look_at.ensures

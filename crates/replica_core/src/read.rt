@@ -1,0 +1,167 @@
+//! What a replica answers where it is only read.
+ghost use Rattle.std.specs.Prelude.{◌≡◌, ◌⊎◌, ℕ, List};
+ghost use Rattle.op_core.specs.Op.{Op};
+ghost use Rattle.doc_tree.specs.Nodes.{tree_facts};
+ghost use Rattle.doc_rules.specs.Answers.{Answers, LooksHere, told_as};
+ghost use Rattle.doc_view.specs.Told.{tree_values};
+ghost use Rattle.doc_words.specs.declared.ask.Query.TheVariants as query;
+ghost use Rattle.hold_buffer.specs.Held.{IsCurrent};
+ghost use Rattle.replica_core.specs.Tells.{Tells};
+ghost use Rattle.replica_core.specs.Whole.{replica_of};
+
+use doc_tree::Tree;
+use doc_view::{conflicts, items, keys, resolve, show, sum, values};
+use doc_words::{Conflicts, Items, Look, Place, Query, Reply, Scalars, ShownText, Texts};
+use hold_buffer::HoldBuffer;
+use json_scalar::Refusal;
+use op_core::{Cursor, Front};
+use op_log::OpLog;
+use std::alloc::Global;
+
+/// What a replica answers to a query. `mine` is what it tells of an account. For want of memory it tells that, and where a
+/// reading of a place is refused the cause.
+pub fn read(
+    alloc: Global,
+    tree: &Tree,
+    log: &OpLog,
+    held: &HoldBuffer,
+    mine: u64,
+    query: Query,
+) -> Reply
+    requires tells { Tells tree.now log.now.operations }
+    requires current { IsCurrent held.now log.now.operations }
+    ensures { (name : List ℕ) → Answers (replica_of name log.now.operations held.now.held) mine query result }
+{
+    match query {
+        Query::Resolve(place) => resolve_place(alloc, tree, log, place),
+        Query::Look(look, place) => look_at_place(alloc, tree, log, look, place),
+        Query::Operations(front, limit) => operations(log, &front, limit),
+        Query::Front => whole_front(log),
+        Query::Held => waiting(log, held),
+        Query::Account => Reply::Account(mine),
+    }
+}
+
+// The answer of a look at a place, or what stood against its steps.
+fn look_at_place(alloc: Global, tree: &Tree, log: &OpLog, look: Look, place: Place) -> Reply
+    requires { Tells tree.now log.now.operations }
+    ensures { (name : List ℕ) (held : List Op) (mine : ℕ) → Answers (replica_of name log.now.operations held) mine (query.Look look place) result }
+{
+    let _length = log.len();
+    let Place { start, steps } = place;
+    match resolve(alloc, tree, start, steps.as_slice()) {
+        Ok(cursor) => look_at(alloc, tree, look, &cursor),
+        Err(cause) => Reply::Refused(cause),
+    }
+}
+
+// Where the steps of a place lead.
+fn resolve_place(alloc: Global, tree: &Tree, log: &OpLog, place: Place) -> Reply
+    requires { Tells tree.now log.now.operations }
+    ensures { (name : List ℕ) (held : List Op) (mine : ℕ) → Answers (replica_of name log.now.operations held) mine (query.Resolve place) result }
+{
+    let Place { start, steps } = place;
+    match resolve(alloc, tree, start, steps.as_slice()) {
+        Ok(cursor) => Reply::Resolved(cursor),
+        Err(cause) => Reply::Refused(cause),
+    }
+}
+
+// What a look at a cursor tells, unless memory is wanting.
+fn look_at(alloc: Global, tree: &Tree, look: Look, cursor: &Cursor) -> Reply
+    ensures { (result ≡ Reply.Refused Refusal.NoMemory) ⊎ LooksHere (tree_facts tree.now) (tree_values tree.now) look cursor.now result }
+{
+    match look {
+        Look::Keys => keys_reply(keys(alloc, tree, cursor)),
+        Look::Values => values_reply(values(alloc, tree, cursor)),
+        Look::Items => items_reply(items(alloc, tree, cursor)),
+        Look::Conflicts => conflicts_reply(conflicts(alloc, tree, cursor)),
+        Look::Show => show_reply(show(alloc, tree, cursor)),
+        Look::Sum => sum_reply(sum(tree, cursor)),
+    }
+}
+
+// The logged operations that a front does not cover, at most so many.
+fn operations(log: &OpLog, front: &Front, limit: u64) -> Reply
+    ensures { (name : List ℕ) (held : List Op) (mine : ℕ) → Answers (replica_of name log.now.operations held) mine (query.Operations front.now limit) result }
+{
+    match log.since(front, limit as usize) {
+        Ok(operations) => Reply::Operations(operations),
+        Err(_) => Reply::Refused(Refusal::NoMemory),
+    }
+}
+
+// The front of the log.
+fn whole_front(log: &OpLog) -> Reply
+    ensures { (name : List ℕ) (held : List Op) (mine : ℕ) → Answers (replica_of name log.now.operations held) mine query.Front result }
+{
+    match log.front() {
+        Ok(front) => Reply::Front(front),
+        Err(_) => Reply::Refused(Refusal::NoMemory),
+    }
+}
+
+// The held operations, and what each waits for.
+fn waiting(log: &OpLog, held: &HoldBuffer) -> Reply
+    requires { IsCurrent held.now log.now.operations }
+    ensures { (name : List ℕ) (mine : ℕ) → Answers (replica_of name log.now.operations held.now.held) mine query.Held result }
+{
+    match held.waiting(log) {
+        Ok(waiting) => Reply::Waiting(waiting),
+        Err(_) => Reply::Refused(Refusal::NoMemory),
+    }
+}
+
+fn keys_reply(answer: Result<Texts, Refusal>) -> Reply
+    ensures { result ≡ told_as (λ x. Reply.Keys x) answer }
+{
+    match answer {
+        Ok(keys) => Reply::Keys(keys),
+        Err(cause) => Reply::Refused(cause),
+    }
+}
+
+fn values_reply(answer: Result<Scalars, Refusal>) -> Reply
+    ensures { result ≡ told_as (λ x. Reply.Values x) answer }
+{
+    match answer {
+        Ok(values) => Reply::Values(values),
+        Err(cause) => Reply::Refused(cause),
+    }
+}
+
+fn items_reply(answer: Result<Items, Refusal>) -> Reply
+    ensures { result ≡ told_as (λ x. Reply.Items x) answer }
+{
+    match answer {
+        Ok(items) => Reply::Items(items),
+        Err(cause) => Reply::Refused(cause),
+    }
+}
+
+fn conflicts_reply(answer: Result<Conflicts, Refusal>) -> Reply
+    ensures { result ≡ told_as (λ x. Reply.Conflicts x) answer }
+{
+    match answer {
+        Ok(conflicts) => Reply::Conflicts(conflicts),
+        Err(cause) => Reply::Refused(cause),
+    }
+}
+
+fn show_reply(answer: Result<ShownText, Refusal>) -> Reply
+    ensures { result ≡ told_as (λ x. Reply.Show x) answer }
+{
+    match answer {
+        Ok(text) => Reply::Show(text),
+        Err(cause) => Reply::Refused(cause),
+    }
+}
+
+fn sum_reply(answer: Result<i128, Refusal>) -> Reply
+    ensures { result ≡ told_as (λ x. Reply.Sum x) answer }
+{
+    match answer {
+        Ok(sum) => Reply::Sum(sum),
+        Err(cause) => Reply::Refused(cause),
+    }
+}
