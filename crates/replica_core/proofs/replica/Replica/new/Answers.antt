@@ -5,5 +5,5 @@ use Rattle.replica_core.proofs.replica.Replica.new.Goals as goal
 
 pub invariant_of-result : goal.invariant_of-result
 invariant_of-result c =
-    whole_empty c.args.name c.in-Ok.tree c.new-in-Ok.result.operations c.new-in-Ok-2.result c.as_bytes-name.ensures.name (tells_new c.in-Ok.tree c.in-Ok.ensures)
+    whole_empty c.args.name c.in-Ok.tree c.new-in-Ok.result.operations c.new-in-Ok-2.result c.as_bytes-name.ensures.name (tells_new c.in-Ok.tree c.in-Ok.ensures.ok)
     c.new-in-Ok.ensures (c.new-in-Ok-2.ensures.current []) c.new-in-Ok-2.ensures.held
