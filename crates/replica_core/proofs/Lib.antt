@@ -5,3 +5,4 @@ pub mod Owning
 pub mod Keeping
 pub mod Numbers
 pub mod Looking
+pub mod FirstMisfits

@@ -1,6 +1,6 @@
 -- What is read of a tree that says what the log makes is the replica's answer.
-use Rattle.std.proofs.Common.{◌≡◌, ◌≢◌, ◌⊎◌, inl, inr, ℕ, List, Bool, true, false, Option, Result, Ok, Err, refl, sym, ap, subst, ◌∙◌}
-use Rattle.std.specs.Prelude.{MatchBool, MatchResult}
+use Rattle.std.proofs.Common.{◌≡◌, ◌⊎◌, inl, inr, ℕ, List, Bool, true, false, Option, Result, Ok, Err, refl, sym, ap, subst, ◌∙◌}
+use Rattle.std.specs.Prelude.{MatchBool}
 use Rattle.json_scalar.specs.declared.scalar.Scalar.{Scalar}
 use Rattle.json_scalar.specs.declared.refusal.Refusal.{Refusal}
 use Rattle.json_scalar.specs.declared.refusal.Refusal.TheVariants.{AtHead, NoMemory}
@@ -10,10 +10,8 @@ use Rattle.op_core.specs.declared.cursor.Tagged.{Tagged}
 use Rattle.op_core.specs.Op.{Op}
 use Rattle.op_core.specs.Shape.{is_head}
 use Rattle.doc_words.specs.declared.ask.Look.{Look}
-use Rattle.doc_words.specs.declared.ask.Query.{Query}
 use Rattle.doc_words.specs.declared.ask.Query.TheVariants as query
 use Rattle.doc_words.specs.declared.place.Place.{Place}
-use Rattle.doc_words.specs.declared.place.Step.{Step}
 use Rattle.doc_words.specs.declared.reply.Reply.{Reply}
 use Rattle.doc_words.specs.declared.reply.Reply.TheVariants as reply
 use Rattle.doc_nodes.specs.declared.node.Node.{Node}
@@ -21,8 +19,7 @@ use Rattle.doc_tree.specs.Nodes.{tree_facts, tree_role}
 use Rattle.crdt_rules.specs.Log.{IsGood}
 use Rattle.doc_view.specs.Readings as view
 use Rattle.doc_view.specs.Told.{tree_values}
-use Rattle.doc_rules.specs.Answers.{Answers, Reads, ReadsHere, LooksHere, told_as}
-use Rattle.doc_rules.specs.Replica.{Replica}
+use Rattle.doc_rules.specs.Answers.{Answers, ReadsHere, LooksHere, told_as}
 use Rattle.doc_rules.specs.Resolve.{Resolves}
 use Rattle.doc_rules.specs.Role.{roles_of}
 use Rattle.doc_rules.proofs.Looks.{AreOf, look_answers}

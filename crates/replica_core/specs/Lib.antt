@@ -2,3 +2,4 @@ pub mod Tells
 pub mod Whole
 pub mod Told
 pub mod Resolved
+pub mod Misfits

@@ -9,7 +9,9 @@ mod outcome;
 mod own;
 mod read;
 mod replica;
+mod restore;
 mod told;
 
 pub use outcome::{Applied, Delivered};
 pub use replica::Replica;
+pub use restore::Misfit;

@@ -1,10 +1,11 @@
 //! The replica.
-ghost use Rattle.std.specs.Prelude.{◌≡◌, [], IfOk, IfErr};
+ghost use Rattle.std.specs.Prelude.{◌≡◌, [], OnOk, IfOk, IfErr};
 ghost use Rattle.crdt_rules.specs.Log.{IsGood};
 ghost use Rattle.doc_rules.specs.Answers.{Answers};
 ghost use Rattle.doc_rules.specs.Events.{Event};
 ghost use Rattle.doc_rules.specs.Replica.{IsKept};
 ghost use Rattle.doc_words.specs.declared.ask.Command.TheVariants as command;
+ghost use Rattle.replica_core.specs.Misfits.{IsMisfitOf};
 ghost use Rattle.replica_core.specs.Tells.{Tells};
 ghost use Rattle.replica_core.specs.Told.{forgotten, told_applied, told_delivered, told_forgotten};
 ghost use Rattle.replica_core.specs.Whole.{replica_of};
@@ -14,6 +15,7 @@ use crate::limits::keeps_limits;
 use crate::outcome::{Applied, Delivered};
 use crate::own::change;
 use crate::read::read;
+use crate::restore::{Misfit, logged};
 use crate::told::{applied_reply, delivered_reply, forgotten_reply};
 use doc_tree::Tree;
 use doc_view::resolve;
@@ -63,6 +65,30 @@ impl Replica {
                 held: HoldBuffer::new(alloc),
             }),
             Err(_) => Err(Refusal::NoMemory),
+        }
+    }
+
+    /// The replica of this name whose log is these operations, and which holds none. It keeps the allocator. Where they are no
+    /// good log it tells the first that does not fit those before it, and the cause.
+    pub fn restore(
+        alloc: Global,
+        name: ReplicaName,
+        operations: &[Operation],
+    ) -> Result<Replica, Misfit>
+        ensures ok { IfOk result (λ r. r ≡ replica_of name operations.now []) }
+        ensures good { OnOk result (IsGood operations.now) }
+        ensures err { IfErr result (IsMisfitOf operations.now) }
+    {
+        let _name = name.as_bytes();
+        match logged(alloc, operations) {
+            Ok((tree, log)) => Ok(Replica {
+                name,
+                alloc,
+                tree,
+                log,
+                held: HoldBuffer::new(alloc),
+            }),
+            Err(misfit) => Err(misfit),
         }
     }
 

@@ -1,6 +1,4 @@
-use Rattle.std.proofs.Common.{Result, Ok, Err, subst}
-use Rattle.json_scalar.specs.declared.refusal.Refusal.{Refusal}
-use Rattle.op_core.specs.declared.cursor.Cursor.{Cursor}
+use Rattle.std.proofs.Common.{Ok, subst}
 use Rattle.doc_tree.specs.Nodes.{tree_facts}
 use Rattle.doc_rules.specs.Resolve.{Resolves}
 use Rattle.replica_core.proofs.Looking.{look_told}

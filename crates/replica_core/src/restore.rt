@@ -1,0 +1,124 @@
+//! Logs made of lists of operations.
+ghost use Rattle.std.specs.Prelude.{◌≡◌, [], ◌∷◌, ◌++◌, None, OnOk, IfOk, IfErr};
+ghost use Rattle.crdt_rules.specs.Fits.{Fits};
+ghost use Rattle.crdt_rules.specs.Log.{IsGood};
+ghost use Rattle.replica_core.specs.Misfits.{IsCauseAgainst, IsMisfitOf, misfit_at, no_cause};
+ghost use Rattle.replica_core.specs.Tells.{Tells};
+
+use crate::log_op::log_op;
+use doc_tree::Tree;
+use json_scalar::Refusal;
+use op_core::Operation;
+use op_log::OpLog;
+use std::alloc::Global;
+
+/// Why a list of operations makes no log.
+#[derive(Debug, Drop)]
+pub enum Misfit {
+    /// The first operation that does not fit those before it: its place, from 0 on, and the cause, which is id-conflict where
+    /// its id stands twice.
+    At { place: usize, cause: Refusal },
+    /// Memory is wanting.
+    NoMemory,
+}
+
+/// The log of these operations, with its tree; or the first that does not fit.
+pub fn logged(alloc: Global, operations: &[Operation]) -> Result<(Tree, OpLog), Misfit>
+    ensures tells { IfOk result (λ parts. Tells parts.0 operations.now) }
+    ensures log { IfOk result (λ parts. parts.1.operations ≡ operations.now) }
+    ensures good { OnOk result (IsGood operations.now) }
+    ensures err { IfErr result (IsMisfitOf operations.now) }
+{
+    match Tree::new(alloc) {
+        Ok(tree) => logged_in(tree, OpLog::new(alloc), operations),
+        Err(_) => Err(Misfit::NoMemory),
+    }
+}
+
+fn logged_in(tree: Tree, log: OpLog, operations: &[Operation]) -> Result<(Tree, OpLog), Misfit>
+    requires empty { log.operations ≡ [] }
+    requires tells { Tells tree [] }
+    ensures tells { IfOk result (λ parts. Tells parts.0 operations.now) }
+    ensures log { IfOk result (λ parts. parts.1.operations ≡ operations.now) }
+    ensures good { OnOk result (IsGood operations.now) }
+    ensures err { IfErr result (IsMisfitOf operations.now) }
+{
+    let mut tree = tree;
+    let mut log = log;
+    match log_all(&mut tree, &mut log, operations) {
+        Ok(()) => {
+            let _length = log.len();
+            Ok((tree, log))
+        }
+        Err(misfit) => Err(misfit),
+    }
+}
+
+// Logs these operations, one after another, in an empty log and its tree. The first that does not fit is told; what was
+// logged by then stays.
+fn log_all(tree: &mut Tree, log: &mut OpLog, operations: &[Operation]) -> Result<(), Misfit>
+    requires empty { log.old.operations ≡ [] }
+    requires tells { Tells tree.old log.old.operations }
+    ensures ok { OnOk result (log.new.operations ≡ operations.now) }
+    ensures err { IfErr result (IsMisfitOf operations.now) }
+    ensures tells { Tells tree.new log.new.operations }
+{
+    for place in 0..operations.len() {
+        match log_next(tree, log, &operations[place]) {
+            Ok(()) => {}
+            Err(cause) => return Err(misfit_at(place, cause)),
+        }
+    }
+    Ok(())
+}
+
+// Logs a copy of an operation if it fits and its id is new, or tells the cause against it, or none for want of memory.
+fn log_next(tree: &mut Tree, log: &mut OpLog, op: &Operation) -> Result<(), Option<Refusal>>
+    requires tells { Tells tree.old log.old.operations }
+    ensures good { IsGood log.old.operations }
+    ensures ok { OnOk result (log.new.operations ≡ log.old.operations ++ op.now ∷ []) }
+    ensures err { IfErr result (IsCauseAgainst op.now log.old.operations) }
+    ensures tells { Tells tree.new log.new.operations }
+{
+    let _length = log.len();
+    if log.contains(op.id()) {
+        return Err(Some(Refusal::IdConflict));
+    }
+    match log.check(op) {
+        Ok(()) => log_copy(tree, log, op),
+        Err(cause) => Err(Some(cause)),
+    }
+}
+
+// Logs a copy of an operation that fits; tells no cause for want of memory.
+fn log_copy(tree: &mut Tree, log: &mut OpLog, op: &Operation) -> Result<(), Option<Refusal>>
+    requires fits { Fits op.now log.old.operations }
+    requires tells { Tells tree.old log.old.operations }
+    ensures ok { OnOk result (log.new.operations ≡ log.old.operations ++ op.now ∷ []) }
+    ensures err { IfErr result (λ e. e ≡ None) }
+    ensures tells { Tells tree.new log.new.operations }
+{
+    match op.try_clone() {
+        Ok(copy) => no_cause(log_op(tree, log, copy)),
+        Err(_) => Err(None),
+    }
+}
+
+fn no_cause(answer: Result<(), Refusal>) -> Result<(), Option<Refusal>>
+    ensures { result ≡ no_cause answer }
+{
+    match answer {
+        Ok(()) => Ok(()),
+        Err(_) => Err(None),
+    }
+}
+
+// What stops a list at this place: the cause, or want of memory.
+fn misfit_at(place: usize, cause: Option<Refusal>) -> Misfit
+    ensures { result ≡ misfit_at place cause }
+{
+    match cause {
+        Some(cause) => Misfit::At { place, cause },
+        None => Misfit::NoMemory,
+    }
+}
