@@ -9,6 +9,7 @@ mod answer;
 mod doc;
 mod gather;
 mod ledgers;
+mod reading;
 mod seat;
 mod shelf;
 mod steps;

@@ -1,11 +1,11 @@
 //! Documents on a shelf.
 ghost use Rattle.std.specs.Prelude.{◌≡◌, ◌+◌, ◌<◌, length, IfErr, OnOk};
-ghost use Rattle.locked_doc.specs.Somewhere.{OpensSomewhere, ActsSomewhere};
+ghost use Rattle.locked_doc.specs.Somewhere.{OpensSomewhere, ActsSomewhere, AnswersSomewhere};
 
 use crate::answer::Answer;
 use crate::doc::LockedDoc;
 use crate::seat::Seat;
-use doc_words::Command;
+use doc_words::{Command, Query};
 use json_scalar::Refusal;
 use share_ledger::Marker;
 use std::alloc::Global;
@@ -71,5 +71,15 @@ impl<M: Marker> Shelf<M> {
         let mut doc = self.docs[place].lock(rt);
         let _number = doc.number();
         doc.act(seat, command)
+    }
+
+    /// `LockedDoc::read` of the document in this place.
+    pub fn read<R: Wait>(&self, rt: &R, place: usize, seat: &mut Seat<M>, query: Query) -> Answer<M>
+        requires { place < length self.now.docs.items }
+        ensures { AnswersSomewhere seat.old query result seat.new }
+    {
+        let doc = self.docs[place].lock(rt);
+        let _number = doc.number();
+        doc.read(seat, query)
     }
 }

@@ -2,7 +2,7 @@ ghost use Rattle.std.specs.Prelude.{◌≡◌, ◌+◌, ◌≤◌, IfOk, OnOk};
 ghost use Rattle.share_ledger.specs.Counters.{place_of};
 
 use super::*;
-use doc_words::{Command, Place, Reply, Step, Steps};
+use doc_words::{Command, Place, Query, Reply, Step, Steps};
 use json_scalar::{Refusal, Scalar, Val};
 use lamport_id::{Id, ReplicaName};
 use op_core::{Cursor, Front, Key, KeyText, Mutation, Operation, Path, Tagged};
@@ -72,6 +72,13 @@ fn applied(answer: Reply) -> Option<(u64, u64)> {
 fn refused(answer: Reply) -> Option<Refusal> {
     match &answer {
         Reply::Refused(refusal) => Some(*refusal),
+        _ => None,
+    }
+}
+
+fn account(answer: Reply) -> Option<u64> {
+    match &answer {
+        Reply::Account(count) => Some(*count),
         _ => None,
     }
 }
@@ -173,8 +180,14 @@ fn releases<M: Marker, R: Abort>(rt: &R, alloc: Global, blank: Blank) -> Result<
         applied(doc.act(&mut two, first).into_reply()),
         Some((2, 0))
     );
-    assert_eq!(rt; one.account(), 0);
-    assert_eq!(rt; two.account(), 2);
+    assert_eq!(rt;
+        account(doc.read(&mut one, Query::Account).into_reply()),
+        Some(0)
+    );
+    assert_eq!(rt;
+        account(doc.read(&mut two, Query::Account).into_reply()),
+        Some(2)
+    );
     assert!(rt; matches!(&doc.open_seat(), Err(Refusal::SeatsFull)));
     let elsewhere = other.act(&mut one, assign(alloc, 1)?).into_reply();
     assert_eq!(rt; refused(elsewhere), Some(Refusal::NotOpen));
