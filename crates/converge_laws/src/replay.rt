@@ -1,13 +1,11 @@
 //! Lists of operations, replayed.
 ghost use Rattle.std.specs.Prelude.{◌≡◌, ◌≢◌, ℕ, [], ◌∷◌, ◌++◌, IsOk, OnOk, IfOk, IfErr};
 ghost use Rattle.json_scalar.specs.declared.refusal.Refusal.TheVariants.{NoMemory};
-ghost use Rattle.crdt_rules.specs.Context.{empty};
 ghost use Rattle.crdt_rules.specs.Facts.{facts};
 ghost use Rattle.crdt_rules.specs.Fits.{Fits};
 ghost use Rattle.crdt_rules.specs.Log.{IsGood, replay};
 ghost use Rattle.doc_rules.specs.Cause.{misfit_of, IsFirstMisfit};
 ghost use Rattle.doc_tree.specs.Nodes.{tree_facts};
-ghost use Rattle.doc_tree.specs.Prepared.{HasPlace, IsPrepared};
 ghost use Rattle.converge_laws.specs.Replayed.{AreFactsOfEach};
 
 use doc_tree::Tree;
@@ -74,21 +72,11 @@ fn grown(alloc: Global, ops: &[Operation]) -> Result<Tree, Refusal>
     ensures ok { IfOk result (λ tree. tree_facts tree ≡ facts (replay ops.now)) }
     ensures memory { IfErr result (λ cause. cause ≡ NoMemory) }
 {
-    let mut tree = new_tree(alloc)?;
+    let mut tree = Tree::new(alloc)?;
     for i in 0..ops.len() {
         grow(&mut tree, &ops[..i], &ops[i])?;
     }
     Ok(tree)
-}
-
-fn new_tree(alloc: Global) -> Result<Tree, Refusal>
-    ensures ok { IfOk result (λ tree. tree_facts tree ≡ facts empty) }
-    ensures memory { IfErr result (λ cause. cause ≡ NoMemory) }
-{
-    match Tree::new(alloc) {
-        Ok(tree) => Ok(tree),
-        Err(_) => Err(Refusal::NoMemory),
-    }
 }
 
 /// Takes an operation into the tree that those before it made.
@@ -99,19 +87,7 @@ fn grow(tree: &mut Tree, before: &[Operation], op: &Operation) -> Result<(), Ref
     ensures ok { OnOk result (tree_facts tree.new ≡ facts (replay (before.now ++ op.now ∷ []))) }
     ensures memory { IfErr result (λ cause. cause ≡ NoMemory) }
 {
-    prepare(tree, op)?;
+    tree.prepare(op)?;
     tree.commit(op);
     Ok(())
-}
-
-fn prepare(tree: &mut Tree, op: &Operation) -> Result<(), Refusal>
-    requires { HasPlace op.now }
-    ensures facts { tree_facts tree.new ≡ tree_facts tree.old }
-    ensures ok { OnOk result (IsPrepared tree.new op.now) }
-    ensures memory { IfErr result (λ cause. cause ≡ NoMemory) }
-{
-    match tree.prepare(op) {
-        Ok(()) => Ok(()),
-        Err(_) => Err(Refusal::NoMemory),
-    }
 }

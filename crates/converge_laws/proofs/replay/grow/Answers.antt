@@ -16,7 +16,7 @@ prepare-requires c = shaped_has_place c.args.op.now c.requires.fits.shape
 pub commit-requires-clause-reference : goal.commit-requires-clause-reference
 commit-requires-clause-reference c =
     let op = c.args.op.now in
-    let known : tree_facts c.prepare.new.tree ≡ facts (replay c.args.before.now) = c.in_ok-prepare.ensures.facts ∙ c.requires.same in
+    let known : tree_facts c.prepare.new.self ≡ facts (replay c.args.before.now) = c.in_ok-prepare.ensures.facts ∙ c.requires.same in
     λ insertion.
     subst (λ f. ForSome (reference op.cursor.key) (Contains (f.order (path_of op)))) (sym known)
     (reference_stands c.args.before.now c.requires.good op c.requires.fits insertion)
@@ -24,7 +24,7 @@ commit-requires-clause-reference c =
 pub commit-requires-clause-new : goal.commit-requires-clause-new
 commit-requires-clause-new c =
     let op = c.args.op.now in
-    let known : tree_facts c.prepare.new.tree ≡ facts (replay c.args.before.now) = c.in_ok-prepare.ensures.facts ∙ c.requires.same in
+    let known : tree_facts c.prepare.new.self ≡ facts (replay c.args.before.now) = c.in_ok-prepare.ensures.facts ∙ c.requires.same in
     λ insertion.
     subst (λ f. ¬ (Contains (f.order (path_of op)) op.id)) (sym known)
     (id_is_new c.args.before.now c.requires.good op c.requires.fits insertion)
@@ -32,5 +32,5 @@ commit-requires-clause-new c =
 pub returns-clause-ok : goal.returns-clause-ok
 returns-clause-ok c =
     let op = c.args.op.now in
-    let known : tree_facts c.prepare.new.tree ≡ facts (replay c.args.before.now) = c.in_ok-prepare.ensures.facts ∙ c.requires.same in
+    let known : tree_facts c.prepare.new.self ≡ facts (replay c.args.before.now) = c.in_ok-prepare.ensures.facts ∙ c.requires.same in
     c.commit.ensures.facts ∙ ap (λ f. step_facts f op (covers op.front)) known ∙ sym (facts_push c.args.before.now c.requires.good op)
