@@ -1,5 +1,5 @@
 -- What a test of an id against others says.
-use Rattle.std.proofs.Common.{◌≡◌, List, true, not, true≢false, sym, ap, ◌∙◌, subst, Contains, Some}
+use Rattle.std.proofs.Common.{◌≡◌, List, true, not, true≢false, sym, ap, ◌∙◌, subst, Contains}
 use Rattle.std.specs.List.{list_any}
 use Rattle.std.specs.Option.{ForSome}
 use Rattle.lamport_id.specs.declared.id.Id.{Id}

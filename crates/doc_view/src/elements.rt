@@ -95,10 +95,7 @@ fn keep(kept: &mut Vec<Id>, id: &Id, is_kept: bool) -> Result<(), Refusal>
 pub fn order_of(alloc: Global, tree: &Tree, list: &Path) -> Result<Vec<Id>, Refusal>
     ensures { Gives (λ ids. ids.items ≡ (tree_facts tree.now).order list.now) result }
 {
-    match tree.elements(alloc, list) {
-        Ok(ids) => Ok(ids),
-        Err(_) => Err(Refusal::NoMemory),
-    }
+    tree.elements(alloc, list)
 }
 
 /// Some id makes a place present.
