@@ -15,3 +15,6 @@ mod told;
 pub use outcome::{Applied, Delivered};
 pub use replica::Replica;
 pub use restore::Misfit;
+
+#[cfg(test)]
+mod tests;
