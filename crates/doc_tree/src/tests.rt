@@ -1,0 +1,102 @@
+ghost use Rattle.std.specs.Prelude.{◌≡◌};
+ghost use Rattle.crdt_rules.specs.Effect as Effect;
+
+use crate::Tree;
+use json_scalar::Refusal;
+use op_core::{Key, KeyText, Mutation, Operation, Path, read_wire};
+use serde_json::Value;
+use std::alloc::Global;
+use std::test::Fail;
+
+fn operation(alloc: Global, text: &str) -> Result<Operation, Refusal> {
+    match Value::from_str(alloc, text) {
+        Ok(value) => read_wire(alloc, &value),
+        Err(_) => Err(Refusal::NotJson),
+    }
+}
+
+fn is_insertion(mutation: &Mutation) -> bool
+    ensures { result ≡ Effect.is_insertion mutation.now }
+{
+    match mutation {
+        Mutation::Insert(_) => true,
+        _ => false,
+    }
+}
+
+// Prepares and commits an operation, if it is no insertion.
+fn apply(tree: &mut Tree, op: &Operation) -> Result<(), Refusal> {
+    // what is told with its id: that its shape is right
+    let _id = op.id();
+    if is_insertion(op.mutation()) {
+        return Err(Refusal::BadOperation);
+    }
+    tree.prepare(op)?;
+    tree.commit(op);
+    Ok(())
+}
+
+fn tree_of(alloc: Global, texts: &[&str]) -> Result<Tree, Refusal> {
+    let mut tree = Tree::new(alloc)?;
+    for text in texts {
+        apply(&mut tree, &operation(alloc, text)?)?;
+    }
+    Ok(tree)
+}
+
+// How many operations make the place of another present, and how many scalars and numbers stand there.
+fn counts(alloc: Global, texts: &[&str], at: &str) -> Result<(usize, usize, usize), Refusal> {
+    let tree = tree_of(alloc, texts)?;
+    let op = operation(alloc, at)?;
+    let place = op.cursor();
+    Ok((
+        tree.present(&place.path, &place.key).len(),
+        tree.register(&place.path, &place.key).len(),
+        tree.counter(&place.path, &place.key).len(),
+    ))
+}
+
+const FIRST: &str = r#"["op",[1,"p"],[],[[["m",0]],"k"],["assign","A"]]"#;
+
+const SECOND: &str = r#"["op",[2,"p"],[["p",1]],[[["m",0]],"k"],["assign","B"]]"#;
+
+const OTHER: &str = r#"["op",[2,"q"],[["p",1]],[[["m",0]],"k"],["assign","C"]]"#;
+
+const ADDED: &str = r#"["op",[3,"q"],[["p",1],["q",2]],[[["m",0]],"k"],["add",5]]"#;
+
+const DELETED: &str = r#"["op",[4,"q"],[["p",1],["q",3]],[[["m",0]],"k"],["delete"]]"#;
+
+#[test]
+fn concurrent_register(rt: HostRuntime) -> Result<(), Fail> {
+    let alloc = rt.alloc();
+    assert_eq!(rt; counts(alloc, &[FIRST], FIRST)?, (1, 1, 0));
+    assert_eq!(rt; counts(alloc, &[FIRST, SECOND, OTHER], FIRST)?, (2, 2, 0));
+    assert_eq!(rt;
+        counts(alloc, &[FIRST, SECOND, OTHER, ADDED], FIRST)?,
+        (3, 2, 1)
+    );
+    assert_eq!(rt;
+        counts(alloc, &[FIRST, SECOND, OTHER, ADDED, DELETED], FIRST)?,
+        (1, 1, 0)
+    );
+    Ok(())
+}
+
+// An assignment below the greatest number of keys, 29.
+fn deep(alloc: Global) -> Result<String, Refusal> {
+    let mut text = String::from_str(alloc, r#"["op",[1,"p"],[],[[["m",0]"#)?;
+    for _ in 0..29 {
+        text.push_str(r#",["m","k"]"#)?;
+    }
+    text.push_str(r#"],"k"],["assign",7]]"#)?;
+    Ok(text)
+}
+
+#[test]
+fn deepest_place(rt: HostRuntime) -> Result<(), Fail> {
+    let alloc = rt.alloc();
+    let text = deep(alloc)?;
+    assert_eq!(rt; counts(alloc, &[text.as_str()], text.as_str())?, (1, 1, 0));
+    assert_eq!(rt; counts(alloc, &[text.as_str()], FIRST)?, (1, 0, 0));
+    Ok(())
+}
