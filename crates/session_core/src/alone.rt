@@ -97,6 +97,7 @@ fn place_of(name: &str, names: &[Name]) -> Option<usize>
 
 impl<D: Document> DocAccess for Alone<D> {
     type Seat = D::Seat;
+
     type Documents = Owned<D>;
 
     ghost names = { λ a. a.names.items };

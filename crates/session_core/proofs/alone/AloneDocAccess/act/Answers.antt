@@ -5,8 +5,7 @@ pub returns-clause-acts : goal.returns-clause-acts
 returns-clause-acts g c =
     let documents = c.args.self.now.documents.items in
     let document = g.D.Document.document in
-    let within = seat_within g.D.Document.has_seat documents c.args.place c.args.seat.now c.requires.seat in
-    (
+    let within = seat_within g.D.Document.has_seat documents c.args.place c.args.seat.now c.requires.seat in (
       document c.index_mut.result.now,
       document c.act.new.self,
       get-map document documents c.args.place c.index_mut.result.now (get-at documents c.args.place c.index_mut.result.now _ c.index_mut.ensures.value within),

@@ -8,8 +8,7 @@ pub returns-clause-opens : goal.returns-clause-opens
 returns-clause-opens g c =
     let documents = c.args.self.now.documents.items in
     let document = g.D.Document.document in
-    let within : c.args.place < length documents = subst (λ n. c.args.place < n) c.args.self.now.as_many c.requires.within in
-    (
+    let within : c.args.place < length documents = subst (λ n. c.args.place < n) c.args.self.now.as_many c.requires.within in (
       document c.index_mut.result.now,
       get-map document documents c.args.place c.index_mut.result.now (get-at documents c.args.place c.index_mut.result.now _ c.index_mut.ensures.value within),
       c.open_seat.ensures.opens,
