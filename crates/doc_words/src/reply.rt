@@ -69,7 +69,11 @@ pub enum Reply {
 impl Drop for Reply {
     fn drop(self) {
         match self {
-            Reply::Applied { count: _, dropped: _, id: _ } => {}
+            Reply::Applied {
+                count: _,
+                dropped: _,
+                id: _,
+            } => {}
             Reply::Known => {}
             Reply::Held(_) => {}
             Reply::Forgotten => {}
