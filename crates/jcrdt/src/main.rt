@@ -6,6 +6,8 @@ ghost use Rattle.std.specs.Prelude.{◌≡◌};
 mod command_line;
 mod documents;
 mod program;
+#[cfg(test)]
+mod tests;
 
 use crate::documents::Ledger;
 use crate::program::run_words;

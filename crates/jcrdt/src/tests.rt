@@ -1,0 +1,209 @@
+//! The program over bytes in memory: the worked rows, pieces of any size, faults, and command lines.
+ghost use Rattle.std.specs.Prelude.{◌≡◌, ◌<◌};
+
+mod rows;
+
+use crate::documents::Ledger;
+use crate::program::run_words;
+use line_feed::doubles::{FailAfter, InPieces};
+use line_feed::{Reader, Writer};
+use share_ledger::{Blank, Marker};
+use std::alloc::{AllocError, Global};
+use std::marker::Brand;
+use std::process::Abort;
+use std::test::Fail;
+
+/// As many bytes as there may be.
+const ALL: usize = usize::MAX;
+
+/// The status of a run over these bytes, and what it wrote, by devices that take pieces and fail after so many bytes.
+fn written_over<M: Marker>(
+    alloc: Global,
+    blank: Blank,
+    words: &[&str],
+    input: &[u8],
+    piece: usize,
+    read_after: usize,
+    write_after: usize,
+) -> Result<(u8, Vec<u8>), AllocError>
+    requires named { blank ≡ M.name }
+    requires some { 0 < piece }
+{
+    let mut out = Vec::new(alloc);
+    let mut source = FailAfter::new(InPieces::new(Reader::new(input), piece), read_after);
+    let mut sink = FailAfter::new(InPieces::new(Writer::new(&mut out), piece), write_after);
+    let mut ledger = Ledger::<M>::new(blank);
+    let status = run_words(alloc, &mut ledger, words, &mut source, &mut sink);
+    Ok((status, out))
+}
+
+/// The same, over a table of its own.
+fn written(
+    alloc: Global,
+    words: &[&str],
+    input: &[u8],
+    piece: usize,
+    read_after: usize,
+    write_after: usize,
+) -> Result<(u8, Vec<u8>), AllocError>
+    requires { 0 < piece }
+{
+    written_over::<Brand>(
+        alloc,
+        Blank::new(),
+        words,
+        input,
+        piece,
+        read_after,
+        write_after,
+    )
+}
+
+/// A run of one document gives this output.
+fn row<R: Abort>(rt: &R, alloc: Global, input: &[u8], output: &[u8]) -> Result<(), Fail> {
+    let words = ["run", "d"];
+    let (status, out) = written(alloc, words.as_slice(), input, 4096, ALL, ALL)?;
+    assert_eq!(rt; out.as_slice(), output);
+    assert_eq!(rt; status, 0);
+    Ok(())
+}
+
+/// A run of these words over no bytes has this status, and writes nothing.
+fn status<R: Abort>(rt: &R, alloc: Global, words: &[&str], expected: u8) -> Result<(), Fail> {
+    let (status, out) = written(alloc, words, b"", 4096, ALL, ALL)?;
+    assert_eq!(rt; status, expected);
+    assert!(rt; out.is_empty());
+    Ok(())
+}
+
+const SHOPPING: &[u8] = br#"["open","d"]
+["assign","d",[0],{}]
+["assign","d",[0,"shopping"],[]]
+["insert","d",[0,"shopping",0],"eggs"]
+["let","d","e",[0,"shopping",1]]
+["insert","d",[0,"shopping",0],"cheese"]
+["insert","d",["e"],"milk"]
+["items","d",[0,"shopping"]]
+"#;
+
+const SHOPPED: &[u8] = br#"["opened",1]
+["applied",1,0,[1,"srv-1"]]
+["applied",1,0,[2,"srv-1"]]
+["applied",1,0,[3,"srv-1"]]
+["bound"]
+["applied",1,0,[4,"srv-1"]]
+["applied",1,0,[5,"srv-1"]]
+["items",[[[4,"srv-1"],["cheese"]],[[3,"srv-1"],["eggs"]],[[5,"srv-1"],["milk"]]]]
+"#;
+
+#[test]
+fn shopping_list_in_pieces(rt: HostRuntime) -> Result<(), Fail> {
+    let words = ["run", "d"];
+    for piece in [1, 7, 4096] {
+        let (status, out) = written(rt.alloc(), words.as_slice(), SHOPPING, piece, ALL, ALL)?;
+        assert_eq!(rt; out.as_slice(), SHOPPED, "in pieces of {piece}");
+        assert_eq!(rt; status, 0);
+    }
+    Ok(())
+}
+
+#[test]
+fn cut_after_every_byte(rt: HostRuntime) -> Result<(), Fail> {
+    let words = ["run", "d"];
+    for after in 0..SHOPPED.len() {
+        let (status, out) = written(rt.alloc(), words.as_slice(), SHOPPING, 4096, ALL, after)?;
+        assert_eq!(rt; Some(out.as_slice()), SHOPPED.get(..after), "after {after}");
+        assert_eq!(rt; status, 1);
+    }
+    Ok(())
+}
+
+#[test]
+fn a_line_that_was_not_read_whole_is_none(rt: HostRuntime) -> Result<(), Fail> {
+    let words = ["run", "d"];
+    let input = b"[\"open\",\"d\"]\n[\"account\",\"d\"]\n";
+    for after in [12, 13, 20] {
+        let (status, out) = written(rt.alloc(), words.as_slice(), input, 5, after, ALL)?;
+        let expected: &[u8] = if after == 12 {
+            b""
+        } else {
+            b"[\"opened\",1]\n"
+        };
+        assert_eq!(rt; out.as_slice(), expected, "after {after}");
+        assert_eq!(rt; status, 1);
+    }
+    Ok(())
+}
+
+#[test]
+fn command_lines(rt: HostRuntime) -> Result<(), Fail> {
+    let alloc = rt.alloc();
+    status(&rt, alloc, &["run", "a", "b-2"], 0)?;
+    status(&rt, alloc, &["run", "--name", "peer", "a"], 0)?;
+    status(
+        &rt,
+        alloc,
+        &["run", "--name", "a-name-of-24-bytes-in-all", "a"],
+        2,
+    )?;
+    status(&rt, alloc, &["run", "a", "a"], 2)?;
+    status(&rt, alloc, &["run", "A"], 2)?;
+    status(&rt, alloc, &["run"], 2)?;
+    status(&rt, alloc, &["run", "--help"], 2)
+}
+
+#[test]
+fn other_words(rt: HostRuntime) -> Result<(), Fail> {
+    let alloc = rt.alloc();
+    status(&rt, alloc, &[], 2)?;
+    status(&rt, alloc, &["walk", "a"], 2)?;
+    status(&rt, alloc, &["run", "--name", "", "a"], 2)?;
+    let sixteen = [
+        "run", "a", "b", "c", "d", "e", "f", "g", "h", "i", "j", "k", "l", "m", "n", "o", "p",
+    ];
+    status(&rt, alloc, &sixteen, 0)?;
+    let seventeen = [
+        "run", "a", "b", "c", "d", "e", "f", "g", "h", "i", "j", "k", "l", "m", "n", "o", "p", "q",
+    ];
+    status(&rt, alloc, &seventeen, 2)
+}
+
+/// Where a line has several causes against it, the first in the order of causes is told: the form of the request, then its
+/// values, then the document, its seat, the variable, and the steps in turn.
+#[test]
+fn first_of_several_causes(rt: HostRuntime) -> Result<(), Fail> {
+    row(
+        &rt,
+        rt.alloc(),
+        br#"["assign","x",["v"],1.5,0]
+["ops","x",[["b",1],["a",1]],0]
+["ops","x",[["b",1],["a",1]],1]
+["assign","x",["v"],1.5]
+["deliver","x",["op",[2,"p"],[["q",1],["o",2]],[[["m",0]],"K"],["assign",1.5]]]
+["deliver","x",["op",[2,"p"],[],[[["m",0]],"k"],["delete"]]]
+["assign","x",["v"],1]
+["assign","d",["v"],1]
+["open","d"]
+["assign","d",["v",0,9],1]
+["assign","d",[0,0,9],1]
+["assign","d",[0,9,"k"],1]
+["insert","d",[0,0],1]
+["assign","d",[0,0],1]
+"#,
+        br#"["no",2,"bad-request"]
+["no",2,"bad-request"]
+["no",13,"bad-front"]
+["no",6,"bad-value"]
+["no",12,"bad-operation"]
+["no",13,"bad-front"]
+["no",4,"no-such-document"]
+["no",5,"not-open"]
+["opened",1]
+["no",8,"no-such-variable"]
+["no",10,"at-head"]
+["no",9,"index-past-end"]
+["applied",1,0,[1,"srv-1"]]
+["no",10,"at-head"]
+"#,
+    )
+}
