@@ -1,6 +1,7 @@
 //! The program over bytes in memory: the worked rows, pieces of any size, faults, and command lines.
 ghost use Rattle.std.specs.Prelude.{◌≡◌, ◌<◌};
 
+mod limits;
 mod rows;
 
 use crate::documents::Ledger;
@@ -59,13 +60,23 @@ fn written(
     )
 }
 
-/// A run of one document gives this output.
-fn row<R: Abort>(rt: &R, alloc: Global, input: &[u8], output: &[u8]) -> Result<(), Fail> {
-    let words = ["run", "d"];
-    let (status, out) = written(alloc, words.as_slice(), input, 4096, ALL, ALL)?;
+/// A run of these words gives this output.
+fn row_of<R: Abort>(
+    rt: &R,
+    alloc: Global,
+    words: &[&str],
+    input: &[u8],
+    output: &[u8],
+) -> Result<(), Fail> {
+    let (status, out) = written(alloc, words, input, 4096, ALL, ALL)?;
     assert_eq!(rt; out.as_slice(), output);
     assert_eq!(rt; status, 0);
     Ok(())
+}
+
+/// A run of one document gives this output.
+fn row<R: Abort>(rt: &R, alloc: Global, input: &[u8], output: &[u8]) -> Result<(), Fail> {
+    row_of(rt, alloc, &["run", "d"], input, output)
 }
 
 /// A run of these words over no bytes has this status, and writes nothing.
