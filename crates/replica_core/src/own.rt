@@ -1,7 +1,8 @@
 //! Changes of one's own.
-ghost use Rattle.std.specs.Prelude.{◌≡◌, ◌≤◌, [], length, Ok, Err, true, if◌then◌else◌};
+ghost use Rattle.std.specs.Prelude.{◌≡◌, ◌+◌, ◌<◌, ◌≤◌, [], length, Ok, Err, true, if◌then◌else◌};
 ghost use Rattle.lamport_id.specs.Name.{is_name};
 ghost use Rattle.json_scalar.specs.Refusal.{UnlessMemory, and_then};
+ghost use Rattle.op_core.specs.Front.{max_counter};
 ghost use Rattle.op_core.specs.Shape as shape;
 ghost use Rattle.crdt_rules.specs.Fits.{Fits};
 ghost use Rattle.doc_rules.specs.Cause.{room_cause};
@@ -21,7 +22,7 @@ use doc_tree::Tree;
 use hold_buffer::HoldBuffer;
 use json_scalar::Refusal;
 use lamport_id::{Id, ReplicaName};
-use op_core::{Cursor, Key, Mutation, Operation, Tagged};
+use op_core::{Cursor, Front, Key, Mutation, Operation, Tagged};
 use op_log::OpLog;
 
 /// Makes a change where the steps of its place led, or tells why they led nowhere.
@@ -176,9 +177,17 @@ fn own_operation(
 {
     let _length = log.len();
     let front = log.front()?;
-    let id = Id {
-        counter: front.max_counter() + 1,
-        replica: name,
-    };
+    let id = next_id(&front, &name);
     Operation::shaped(id, front, cursor, mutation)
+}
+
+// One's own next id: behind all that a front covers, of whatever replica.
+fn next_id(front: &Front, name: &ReplicaName) -> Id
+    requires { max_counter front.now < 100000 }
+    ensures { (result.counter ≡ max_counter front.now + 1) × (result.replica ≡ name.now) }
+{
+    Id {
+        counter: front.max_counter() + 1,
+        replica: *name,
+    }
 }

@@ -1,4 +1,9 @@
-//! Operations handed in out of order, twice, and against the rules; held ones given up, and released by changes of one's own.
+//! Operations handed in out of order, twice, and against the rules; held ones given up, and released by changes of one's own;
+//! and want of memory.
+mod foreign;
+mod samples;
+mod scarce;
+
 use crate::outcome::{Applied, Delivered};
 use crate::replica::Replica;
 use crate::restore::Misfit;
@@ -158,25 +163,11 @@ fn misfit_dropped_on_release(rt: HostRuntime) -> Result<(), Fail> {
 }
 
 #[test]
-fn foreign_refusals(rt: HostRuntime) -> Result<(), Fail> {
-    let mut own = Replica::new(rt.alloc(), name(b"p")?).expect(&rt, "memory");
-    assert!(rt;
-        is_refused(
-            own.deliver(assignment(&rt, rt.alloc(), 1)?),
-            Refusal::OwnName
-        )
-    );
+fn forget_not_held(rt: HostRuntime) -> Result<(), Fail> {
     let mut replica = Replica::new(rt.alloc(), name(b"srv-1")?).expect(&rt, "memory");
     let id = assignment(&rt, rt.alloc(), 1)?.id();
     assert!(rt; replica.forget(id) == Err(Refusal::NotHeld));
     Ok(())
-}
-
-fn is_refused(answer: Result<Delivered, Refusal>, cause: Refusal) -> bool {
-    match answer {
-        Err(refusal) => refusal == cause,
-        Ok(_) => false,
-    }
 }
 
 #[test]

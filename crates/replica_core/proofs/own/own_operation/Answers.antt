@@ -22,18 +22,18 @@ returns-in_err-front c =
 few_more : (op : Op) (log : List Op) → length (op ∷ log) ≤ 100000 → length log + 1 ≤ 100000
 few_more op log h = omega arith
 
-pub overflow_add-id : goal.overflow_add-id
-overflow_add-id c =
+pub next_id-id-requires : goal.next_id-id-requires
+next_id-id-requires c =
     let front : c.in_ok-front.front ≡ front_of c.args.log.now.operations = ok_same (c.in_ok-front.ensures (λ e. cc)) in
     let few : length c.args.log.now.operations + 1 ≤ 100000 = few_more (own_op (replica_of c.args.name c.args.log.now.operations []) c.args.cursor c.args.mutation) c.args.log.now.operations c.requires.room.operations in
-    omega (arith, c.max_counter.ensures ∙ ap max_counter front, max_counter_below c.args.log.now.operations c.len-length.ensures.good, few)
+    omega (arith, ap max_counter front, max_counter_below c.args.log.now.operations c.len-length.ensures.good, few)
 
 pub returns : goal.returns
 returns c other =
     let front : c.in_ok-front.front ≡ front_of c.args.log.now.operations = ok_same (c.in_ok-front.ensures (λ e. cc)) in
     let own = own_op (replica_of c.args.name c.args.log.now.operations []) c.args.cursor c.args.mutation in
-    let counter = ap (λ n. n + 1) (c.max_counter.ensures ∙ ap max_counter front) in
+    let counter = c.next_id-id.ensures.0 ∙ ap (λ f. max_counter f + 1) front in
     c.shaped.ensures
     ∙ ap (λ (o : Op). and_then (shape_of o) (λ _. Ok o))
-    (λ i. record { id = record { counter = counter i; replica = c.args.name }; front = front i; cursor = c.args.cursor; mutation = c.args.mutation })
+    (λ i. record { id = record { counter = counter i; replica = c.next_id-id.ensures.1 i }; front = front i; cursor = c.args.cursor; mutation = c.args.mutation })
     ∙ shaped_ok own c.requires.shape

@@ -1,4 +1,0 @@
-use Rattle.locked_doc.proofs.tests.gather_totals.Given as goal
-
-abbrev pub ghosts-gathers : goal.ghosts-gathers
-ghosts-gathers g a = record { name = a.blank }

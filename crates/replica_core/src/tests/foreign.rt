@@ -1,0 +1,116 @@
+//! The worked row on what is refused of operations that are handed in.
+use super::samples::{Told, delivered, operation};
+use crate::replica::Replica;
+use doc_words::{Query, Reply};
+use json_scalar::Refusal;
+use lamport_id::{Id, ReplicaName};
+use op_core::{Cursor, Front, Key, Mutation, Operation, Path};
+use std::alloc::Global;
+use std::test::Fail;
+
+const FOREIGN: [(&str, Told); 8] = [
+    (
+        r#"["op",[1,"o"],[],[[["m",0]],"l"],["assign",[]]]"#,
+        Told::Applied(1, 0, 1),
+    ),
+    (
+        r#"["op",[2,"o"],[["o",1]],[[["m",0],["l","l"]],1],["insert","a"]]"#,
+        Told::Applied(1, 0, 2),
+    ),
+    (
+        r#"["op",[3,"q"],[["o",2]],[[["m",0]],"k"],["assign",1]]"#,
+        Told::Applied(1, 0, 3),
+    ),
+    (
+        r#"["op",[4,"p"],[["q",3]],[[["m",0]],"k"],["assign",2]]"#,
+        Told::Refused(Refusal::BadFront),
+    ),
+    (
+        r#"["op",[2,"q"],[["o",1]],[[["m",0]],"k"],["assign",3]]"#,
+        Told::Refused(Refusal::Forked { last: 3 }),
+    ),
+    (
+        r#"["op",[2,"p"],[["o",1]],[[["m",0],["l","l"]],[2,"o"]],["assign","b"]]"#,
+        Told::Refused(Refusal::BadCursor),
+    ),
+    (
+        r#"["op",[1,"srv-1"],[],[[["m",0]],"k"],["assign",2]]"#,
+        Told::Refused(Refusal::OwnName),
+    ),
+    // Again: it is known, and nothing is logged twice.
+    (
+        r#"["op",[3,"q"],[["o",2]],[[["m",0]],"k"],["assign",1]]"#,
+        Told::Known,
+    ),
+];
+
+// The counter of this one is not the next of its front, so it has no right shape and can't be handed in.
+const NO_SHAPE: &str = r#"["op",[9,"p"],[["o",1]],[[["m",0]],"k"],["assign",2]]"#;
+
+fn is_front(reply: Reply, first: (&str, u64), second: (&str, u64)) -> bool {
+    match &reply {
+        Reply::Front(front) => match front.as_slice() {
+            [one, other] => is_entry(one, first) && is_entry(other, second),
+            _ => false,
+        },
+        _ => false,
+    }
+}
+
+fn is_entry(entry: &(ReplicaName, u64), due: (&str, u64)) -> bool {
+    *entry.0.as_bytes() == *due.0.as_bytes() && entry.1 == due.1
+}
+
+fn server(alloc: Global) -> Result<Replica, Refusal> {
+    let name = ReplicaName::read(b"srv-1").ok_or(Refusal::BadRequest)?;
+    Replica::new(alloc, name)
+}
+
+#[test]
+fn foreign_refusals(rt: HostRuntime) -> Result<(), Fail> {
+    let alloc = rt.alloc();
+    let mut replica = server(alloc)?;
+    for (text, due) in &FOREIGN {
+        let op = operation(alloc, text)?;
+        assert_eq!(rt; delivered(replica.deliver(op)), *due, "{text}");
+    }
+    let shape = operation(alloc, NO_SHAPE);
+    assert!(rt; matches!(&shape, Err(Refusal::BadFront)));
+    let front = replica.read(0, Query::Front);
+    assert!(rt; is_front(front, ("o", 2), ("q", 3)));
+    assert_eq!(rt; replica.log().len(), 3);
+    Ok(())
+}
+
+// The operation of p with this counter, above 1, which knows the one before it.
+fn later(alloc: Global, counter: u64) -> Result<Operation, Refusal> {
+    let replica = ReplicaName::read(b"p").ok_or(Refusal::BadRequest)?;
+    let mut entries = Vec::new(alloc);
+    entries.push((replica, counter.saturating_sub(1)))?;
+    let cursor = Cursor {
+        path: Path::new(alloc),
+        key: Key::Doc,
+    };
+    Operation::shaped(
+        Id { counter, replica },
+        Front::from(entries),
+        cursor,
+        Mutation::Delete,
+    )
+}
+
+#[test]
+fn foreign_refusals_held_full(rt: HostRuntime) -> Result<(), Fail> {
+    let alloc = rt.alloc();
+    let mut replica = server(alloc)?;
+    for counter in 2..258 {
+        let op = later(alloc, counter)?;
+        assert_eq!(rt; delivered(replica.deliver(op)), Told::Held);
+    }
+    let last = later(alloc, 258)?;
+    assert_eq!(rt;
+        delivered(replica.deliver(last)),
+        Told::Refused(Refusal::HeldFull)
+    );
+    Ok(())
+}

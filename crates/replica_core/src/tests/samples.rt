@@ -1,0 +1,74 @@
+//! Operations by their written forms, and what the changes of a replica tell.
+use crate::outcome::{Applied, Delivered};
+use doc_words::{Place, Steps};
+use json_scalar::Refusal;
+use op_core::{Cursor, Key, KeyText, Operation, Path, Tagged, read_wire};
+use serde_json::Value;
+use std::alloc::Global;
+
+/// What a change tells: of an operation that was logged how many were logged and how many dropped, and its counter.
+#[derive(Clone, Copy, Debug, PartialEq, Eq)]
+pub enum Told {
+    Applied(u64, u64, u64),
+    Known,
+    Held,
+    Forgotten,
+    Refused(Refusal),
+}
+
+pub fn delivered(answer: Result<Delivered, Refusal>) -> Told {
+    match &answer {
+        Ok(Delivered::Applied(applied)) => logged(applied),
+        Ok(Delivered::Known) => Told::Known,
+        Ok(Delivered::Held(_)) => Told::Held,
+        Err(refusal) => Told::Refused(*refusal),
+    }
+}
+
+pub fn changed(answer: Result<Applied, Refusal>) -> Told {
+    match &answer {
+        Ok(applied) => logged(applied),
+        Err(refusal) => Told::Refused(*refusal),
+    }
+}
+
+fn logged(applied: &Applied) -> Told {
+    Told::Applied(applied.count, applied.dropped, applied.id.counter)
+}
+
+pub fn given_up(answer: Result<(), Refusal>) -> Told {
+    match &answer {
+        Ok(()) => Told::Forgotten,
+        Err(refusal) => Told::Refused(*refusal),
+    }
+}
+
+pub fn operation(alloc: Global, text: &str) -> Result<Operation, Refusal> {
+    match Value::from_str(alloc, text) {
+        Ok(value) => read_wire(alloc, &value),
+        Err(_) => Err(Refusal::NoMemory),
+    }
+}
+
+/// The place of the whole document.
+pub fn whole(alloc: Global) -> Place {
+    let start = Cursor {
+        path: Path::new(alloc),
+        key: Key::Doc,
+    };
+    Place {
+        start,
+        steps: Steps::from(Vec::new(alloc)),
+    }
+}
+
+/// The place of this member of the document.
+pub fn member(alloc: Global, name: &str) -> Result<Place, Refusal> {
+    let mut path = Path::new(alloc);
+    path.push(Tagged::Map(Key::Doc))?;
+    let key = Key::Text(KeyText::new(alloc, name)?);
+    Ok(Place {
+        start: Cursor { path, key },
+        steps: Steps::from(Vec::new(alloc)),
+    })
+}
