@@ -1,0 +1,185 @@
+//! What the tree says of a place, beside what the plain program says, and what the set of the operations says.
+use crate::history::{TEXTS, below};
+use crate::sites::Site;
+use converge_laws::free_present;
+use doc_tree::Tree;
+use doc_view::{conflicts, items, keys, sum, values};
+use doc_words::{Role, Scalars};
+use json_scalar::Refusal;
+use lamport_id::Id;
+use op_core::{Cursor, Key, KeyText, Operation, Path, Tagged};
+use plain_rules::PlainContext;
+use std::alloc::Global;
+
+fn has_id(entries: &[(Id, Role)], id: &Id) -> bool {
+    entries.iter().any(|entry| entry.0 == *id)
+}
+
+/// The plain program has the ids of the tree at a place, and of those of the history no other.
+fn marks_agree(tree: &Tree, plain: &PlainContext, site: &Site) -> bool {
+    let (path, key) = (&site.cursor.path, &site.cursor.key);
+    let entries = tree.present(path, key);
+    entries
+        .iter()
+        .all(|entry| plain.has_mark(path.as_slice(), key, &entry.0))
+        && site.touched.iter().all(|entry| {
+            plain.has_mark(path.as_slice(), key, &entry.0) == has_id(entries, &entry.0)
+        })
+}
+
+fn values_agree(
+    alloc: Global,
+    tree: &Tree,
+    plain: &PlainContext,
+    site: &Site,
+) -> Result<bool, Refusal> {
+    let mut due = Vec::new(alloc);
+    for entry in site.touched.as_slice() {
+        let path = site.cursor.path.as_slice();
+        if let Some(scalar) = plain.scalar(path, &site.cursor.key, &entry.0) {
+            due.push(scalar.try_clone()?)?;
+        }
+    }
+    let read = values(alloc, tree, &site.cursor)?;
+    Ok(read.as_slice() == due.as_slice())
+}
+
+fn sums_agree(tree: &Tree, plain: &PlainContext, site: &Site) -> Result<bool, Refusal> {
+    let mut due: i128 = 0;
+    for entry in site.touched.as_slice() {
+        let path = site.cursor.path.as_slice();
+        if let Some(number) = plain.number(path, &site.cursor.key, &entry.0) {
+            due = due.wrapping_add(i128::from(*number));
+        }
+    }
+    Ok(sum(tree, &site.cursor)? == due)
+}
+
+fn conflicts_agree(
+    alloc: Global,
+    tree: &Tree,
+    plain: &PlainContext,
+    site: &Site,
+) -> Result<bool, Refusal> {
+    let mut due = Vec::new(alloc);
+    for (id, value) in site.touched.as_slice() {
+        if let Some(value) = value {
+            if plain.has_mark(site.cursor.path.as_slice(), &site.cursor.key, id) {
+                due.push((*id, value.try_clone()?))?;
+            }
+        }
+    }
+    let read = conflicts(alloc, tree, &site.cursor)?;
+    Ok(read.as_slice() == due.as_slice())
+}
+
+fn keys_agree(
+    alloc: Global,
+    tree: &Tree,
+    plain: &PlainContext,
+    site: &Site,
+) -> Result<bool, Refusal> {
+    let map = below(&site.cursor.path, Tagged::Map(site.cursor.key.try_clone()?))?;
+    let mut due = Vec::new(alloc);
+    for text in TEXTS {
+        let text = KeyText::new(alloc, text)?;
+        let key = Key::Text(text.try_clone()?);
+        if plain.is_present(map.as_slice(), &key) {
+            due.push(text)?;
+        }
+    }
+    let read = keys(alloc, tree, &site.cursor)?;
+    Ok(read.as_slice() == due.as_slice())
+}
+
+fn present_elements(alloc: Global, plain: &PlainContext, list: &Path) -> Result<Vec<Id>, Refusal> {
+    let mut present = Vec::new(alloc);
+    for id in plain.elements(list.as_slice()) {
+        if plain.is_present(list.as_slice(), &Key::Element(*id)) {
+            present.push(*id)?;
+        }
+    }
+    Ok(present)
+}
+
+/// An item has the values that are read at its element, which is a place of its own.
+fn item_agrees(
+    alloc: Global,
+    tree: &Tree,
+    list: &Path,
+    item: &(Id, Scalars),
+) -> Result<bool, Refusal> {
+    let cursor = Cursor {
+        path: list.try_clone()?,
+        key: Key::Element(item.0),
+    };
+    let read = values(alloc, tree, &cursor)?;
+    Ok(read.as_slice() == item.1.as_slice())
+}
+
+fn items_agree(
+    alloc: Global,
+    tree: &Tree,
+    plain: &PlainContext,
+    site: &Site,
+    list: &Path,
+) -> Result<bool, Refusal> {
+    let due = present_elements(alloc, plain, list)?;
+    let read = items(alloc, tree, &site.cursor)?;
+    if read.as_slice().len() != due.len() {
+        return Ok(false);
+    }
+    for (item, id) in read.as_slice().iter().zip(due.as_slice().iter()) {
+        if item.0 != *id || !item_agrees(alloc, tree, list, item)? {
+            return Ok(false);
+        }
+    }
+    Ok(true)
+}
+
+/// The list at a place has one order in both, deleted elements included, and the same items.
+fn lists_agree(
+    alloc: Global,
+    tree: &Tree,
+    plain: &PlainContext,
+    site: &Site,
+) -> Result<bool, Refusal> {
+    let list = below(
+        &site.cursor.path,
+        Tagged::List(site.cursor.key.try_clone()?),
+    )?;
+    let order = tree.elements(alloc, &list)?;
+    Ok(
+        order.as_slice() == plain.elements(list.as_slice())
+            && items_agree(alloc, tree, plain, site, &list)?,
+    )
+}
+
+/// Whether tree and plain program say the same of a place: which ids make it present, its values, sum, conflicts and keys,
+/// the order of its list, and its items.
+pub fn agree_at(
+    alloc: Global,
+    tree: &Tree,
+    plain: &PlainContext,
+    site: &Site,
+) -> Result<bool, Refusal> {
+    Ok(
+        marks_agree(tree, plain, site)
+            && values_agree(alloc, tree, plain, site)?
+            && sums_agree(tree, plain, site)?
+            && conflicts_agree(alloc, tree, plain, site)?
+            && keys_agree(alloc, tree, plain, site)?
+            && lists_agree(alloc, tree, plain, site)?,
+    )
+}
+
+/// Whether the set of the operations says of the ids at a place what the tree says.
+pub fn is_free_at(tree: &Tree, ops: &[Operation], site: &Site) -> bool {
+    let entries = tree.present(&site.cursor.path, &site.cursor.key);
+    entries
+        .iter()
+        .all(|entry| free_present(ops, &site.cursor, entry.0))
+        && site.touched.iter().all(|entry| {
+            free_present(ops, &site.cursor, entry.0) == has_id(entries, &entry.0)
+        })
+}

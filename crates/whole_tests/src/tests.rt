@@ -1,0 +1,3 @@
+//! The tests.
+mod long_history;
+mod orders;
