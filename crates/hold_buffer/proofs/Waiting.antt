@@ -1,6 +1,7 @@
 -- The held operations, by their tickets.
 use Rattle.std.proofs.Common.{◌≡◌, ◌≢◌, ℕ, ◌<◌, ◌≤◌, inl, inr, zero, suc, List, [], ◌∷◌, ◌++◌, length, map, filter, take, drop, get_or, not, nat_lt, Result, Ok, Err, Bool, true, false, cond, Option, Some, None, Contains, refl, sym, ap, subst, ◌∙◌, arith, true≢false, Less, find}
-use Rattle.std.specs.Prelude.{insert, is_some, IsTrue, ◌↔◌}
+use Rattle.std.specs.Prelude.{insert, is_some, IsTrue, IfSome, ◌↔◌}
+use Rattle.std.specs.Option.{option_map}
 use Rattle.std.specs.Bool.{Decides}
 use Rattle.std.specs.List.{cons_option}
 use Rattle.std.proofs.lemmas.Bool.{false_from_ne_true}
@@ -21,6 +22,7 @@ use Rattle.op_log.specs.Sorted.{IsPlace, IsGap}
 use Rattle.list_laws.proofs.Members.{Contains-nil, Contains-here, Contains-there, Contains-cases}
 use Rattle.crdt_rules.proofs.SameLaws.{id_decides}
 use Rattle.crdt_rules.proofs.Tests.{some_same, some≢none}
+use Rattle.crdt_rules.proofs.Filters.{filter-failed}
 use Rattle.op_log.proofs.KeyOrders.{id_order}
 use Rattle.op_log.proofs.Sorted.{less≢equal, not_less_back, gap_none, keys_once, IsRising-insert, IsRising-split, Contains-take, Contains-drop, Contains-insert_cases}
 use Rattle.op_log.proofs.Ids.{find_id-Contains, find_id-Some, find_id-none, is_logged-find_id}
@@ -63,7 +65,7 @@ operations-from slots (t ∷ order) right {op} c =
       | inr there ↦ let u = operations-from slots order (tail_right slots t order right) there in (u.0, Contains-there t order u.1, u.2)
     ]
 
-operations-at : (slots : Slab Op) (order : List Ticket) → AreRight slots order → (t : Ticket) (op : Op) → Contains order t → get slots t.key ≡ Some op → Contains (operations_of slots order) op
+pub operations-at : (slots : Slab Op) (order : List Ticket) → AreRight slots order → (t : Ticket) (op : Op) → Contains order t → get slots t.key ≡ Some op → Contains (operations_of slots order) op
 operations-at slots [] right t op c at = absurd (Contains-nil c)
 operations-at slots (u ∷ order) right t op c at =
     let r = right u (Contains-here order refl) in
@@ -94,7 +96,7 @@ rising-operations slots order is = go order is.rising is.right
         )
 
 -- within a list the default does not matter
-read_within : (xs : List Ticket) (i : ℕ) (c d : Ticket) → i < length xs → get_or xs i c ≡ get_or xs i d
+pub read_within : (xs : List Ticket) (i : ℕ) (c d : Ticket) → i < length xs → get_or xs i c ≡ get_or xs i d
 read_within [] i c d within = absurd (omega arith)
 read_within (x ∷ xs) zero c d within = refl
 read_within (x ∷ xs) (suc i) c d within = read_within xs i c d (omega arith)
@@ -118,9 +120,9 @@ module _ {slots : Slab Op} {order : List Ticket} (is : IsOrdered slots order) wh
 
   pub held_at : (id : Id) (i : ℕ) → IsPlace id_cmp (λ u. u.id) order id i → is_logged (operations_of slots order) id ≡ true
   held_at id i place =
-      let t = get_or order i (record { id = id; key = 0 }) in
-      let r = is.right t (Contains-get_or order i (record { id = id; key = 0 }) place.within) in
-      let first : get_or order i t ≡ t = read_within order i t (record { id = id; key = 0 }) place.within in
+      let t = get_or order i (record { id = id; key = 0; missing = 0 }) in
+      let r = is.right t (Contains-get_or order i (record { id = id; key = 0; missing = 0 }) place.within) in
+      let first : get_or order i t ≡ t = read_within order i t (record { id = id; key = 0; missing = 0 }) place.within in
       is_logged-find_id (operations_of slots order) id ∙ ap (λ (o : Option Op). is_some o) (sym (found_at id i t place (sym first)) ∙ r.1)
 
   pub not_held : (id : Id) (i : ℕ) → IsGap id_cmp (λ u. u.id) order id i → is_logged (operations_of slots order) id ≡ false
@@ -143,10 +145,10 @@ put-between (u ∷ us) vs op below above =
     rw (not_less_back id_order u.id op.id (below u (Contains-here us refl)))
     (ap (λ l. u ∷ l) (put-between us vs op (λ o c. below o (Contains-there u us c)) above))
 
-module _ {old new : Slab Op} {order : List Ticket} (is : IsOrdered old order) (op : Op) (key i : ℕ)
+module _ {old new : Slab Op} {order : List Ticket} (is : IsOrdered old order) (op : Op) (key number i : ℕ)
     (gap : IsGap id_cmp (λ t. t.id) order op.id i) (vacant : get old key ≡ None) (updates : Updates old new key (Some op)) where
   abbrev added : Ticket
-  added = record { id = op.id; key = key }
+  added = record { id = op.id; key = key; missing = number }
 
   others_stay : (t : Ticket) → Contains order t → get new t.key ≡ get old t.key
   others_stay t c =
@@ -169,7 +171,7 @@ module _ {old new : Slab Op} {order : List Ticket} (is : IsOrdered old order) (o
       subst (λ j. id_cmp op.id j ≡ Less) (sym (ticket_id old (drop i order) right u.0 o u.1 u.2)) (gap.greater_behind u.0 u.1)
 
   -- one more operation, under a key that was free
-  pub operations-insert : operations_of new (insert order i (record { id = op.id; key = key })) ≡ put_among op (operations_of old order)
+  pub operations-insert : operations_of new (insert order i (record { id = op.id; key = key; missing = number })) ≡ put_among op (operations_of old order)
   operations-insert =
       let before : operations_of new (take i order) ≡ operations_of old (take i order) =
       operations-same old new (take i order) (λ t c. others_stay t (Contains-take i order c)) in
@@ -180,7 +182,7 @@ module _ {old new : Slab Op} {order : List Ticket} (is : IsOrdered old order) (o
       ∙ sym (put-between (operations_of old (take i order)) (operations_of old (drop i order)) op below above)
       ∙ ap (put_among op) (sym (filter_map-append (λ t. get old t.key) (take i order) (drop i order)) ∙ ap (operations_of old) (take-append-drop i order))
 
-  pub IsOrdered-insert : IsOrdered new (insert order i (record { id = op.id; key = key }))
+  pub IsOrdered-insert : IsOrdered new (insert order i (record { id = op.id; key = key; missing = number }))
   IsOrdered-insert = record {
     rising = IsRising-insert id_order (λ t. t.id) order i added is.rising gap;
     right = λ t c.
@@ -191,11 +193,11 @@ module _ {old new : Slab Op} {order : List Ticket} (is : IsOrdered old order) (o
   }
 
 -- those of other ids
-others_kept : (id : Id) (xs : List Op) → ((o : Op) → Contains xs o → o.id ≢ id) → filter (λ o. not (id_eq o.id id)) xs ≡ xs
-others_kept id [] other = refl
-others_kept id (x ∷ xs) other =
-    rw (false_from_ne_true (id_eq x.id id) (λ h. other x (Contains-here xs refl) (id_decides.same x.id id h)))
-    (ap (λ l. x ∷ l) (others_kept id xs (λ o c. other o (Contains-there x xs c))))
+pub others_kept : {X : Type 0} (name : X → Id) (id : Id) (xs : List X) → ((x : X) → Contains xs x → name x ≢ id) → filter (λ x. not (id_eq (name x) id)) xs ≡ xs
+others_kept name id [] other = refl
+others_kept name id (x ∷ xs) other =
+    rw (false_from_ne_true (id_eq (name x) id) (λ h. other x (Contains-here xs refl) (id_decides.same (name x) id h)))
+    (ap (λ l. x ∷ l) (others_kept name id xs (λ o c. other o (Contains-there x xs c))))
 
 module _ {old new : Slab Op} (us vs : List Ticket) (t : Ticket) (is : IsOrdered old (us ++ t ∷ vs)) (updates : Updates old new t.key None) where
   parts : ((u : Ticket) → Contains us u → id_cmp u.id t.id ≡ Less) × ((v : Ticket) → Contains vs v → id_cmp t.id v.id ≡ Less) × IsRising id_cmp (λ u. u.id) (us ++ vs)
@@ -238,7 +240,7 @@ module _ {old new : Slab Op} (us vs : List Ticket) (t : Ticket) (is : IsOrdered 
       rw (subst (λ i. id_eq (first.0).id i ≡ true) first.2 (id_decides.itself (first.0).id)) refl in
       let rest : operations_of old (us ++ vs) ≡ operations_of old us ++ operations_of old vs = filter_map-append (λ u. get old u.key) us vs in
       operations-same old new (us ++ vs) stays
-      ∙ sym (others_kept t.id (operations_of old (us ++ vs))
+      ∙ sym (others_kept (λ (o : Op). o.id) t.id (operations_of old (us ++ vs))
       (λ o c.
       let u = operations-from old (us ++ vs) kept_right c in
       λ same. other_id u.0 u.1 (sym (ticket_id old (us ++ vs) kept_right u.0 o u.1 u.2) ∙ same)))
@@ -247,6 +249,14 @@ module _ {old new : Slab Op} (us vs : List Ticket) (t : Ticket) (is : IsOrdered 
       ∙ ap (λ l. filter test (operations_of old us) ++ l) (sym gone)
       ∙ sym (filter-append test (operations_of old us) (first.0 ∷ operations_of old vs))
       ∙ ap (filter test) (sym whole)
+
+  -- and so is the ticket
+  pub tickets-remove : us ++ vs ≡ filter (λ u. not (id_eq u.id t.id)) (us ++ t ∷ vs)
+  tickets-remove =
+      let test : Ticket → Bool = λ u. not (id_eq u.id t.id) in
+      sym (others_kept (λ (u : Ticket). u.id) t.id (us ++ vs) other_id)
+      ∙ filter-append test us vs
+      ∙ sym (filter-failed test us t vs (ap not (id_decides.itself t.id)))
 
   pub IsOrdered-remove : IsOrdered new (us ++ vs)
   IsOrdered-remove = record {
@@ -258,10 +268,13 @@ module _ {old new : Slab Op} (us vs : List Ticket) (t : Ticket) (is : IsOrdered 
 pub none_removed : {slots : Slab Op} {order : List Ticket} → IsOrdered slots order → (id : Id) (i : ℕ) → IsGap id_cmp (λ u. u.id) order id i
     → operations_of slots order ≡ filter (λ o. not (id_eq o.id id)) (operations_of slots order)
 none_removed {slots} {order} is id i gap =
-    sym (others_kept id (operations_of slots order)
+    sym (others_kept (λ (o : Op). o.id) id (operations_of slots order)
     (λ o c same.
     let u = operations-from slots order is.right c in
     gap_none id_order (λ t. t.id) order id i gap u.0 u.1 (sym (ticket_id slots order is.right u.0 o u.1 u.2) ∙ same)))
+
+pub no_ticket_removed : (order : List Ticket) (id : Id) (i : ℕ) → IsGap id_cmp (λ u. u.id) order id i → order ≡ filter (λ u. not (id_eq u.id id)) order
+no_ticket_removed order id i gap = sym (others_kept (λ (u : Ticket). u.id) id order (λ u c. gap_none id_order (λ t. t.id) order id i gap u c))
 
 -- ---- the cause against holding an operation
 
@@ -378,3 +391,21 @@ lacks {A} r e x h is other =
     let due : r ≡ Ok x = h (λ f. other (let same : ◌≡◌ {A = Result A Refusal} (Err e) (Err NoMemory) = sym is ∙ f in cc)) in
     let no : ◌≡◌ {A = Result A Refusal} (Err e) (Ok x) = sym is ∙ due in
     cc
+
+-- what holds of the first that passes, by its id
+pub first_named : (p : Op → Bool) (held : List Op) (r : Option Id) → IsRising id_cmp (λ o. o.id) held → r ≡ option_map (λ o. o.id) (find p held)
+    → IfSome r (λ id. find_id held id ≡ find p held)
+first_named p held r rising is = by (find p held) refl r is
+  where
+    by : (f : Option Op) → find p held ≡ f → (r : Option Id) → r ≡ option_map (λ o. o.id) f → IfSome r (λ id. find_id held id ≡ find p held)
+    by None e None is = tt
+    by None e (Some i) is = absurd (some≢none is)
+    by (Some o) e None is = absurd (some≢none (sym is))
+    by (Some o) e (Some i) is = first_operation p held i rising (record { op = o; name = sym (some_same is); found = e })
+
+-- an id of no ticket is that of no operation
+pub no_held : {slots : Slab Op} {order : List Ticket} → IsOrdered slots order → (id : Id) (i : ℕ) → IsGap id_cmp (λ u. u.id) order id i
+    → (o : Op) → Contains (operations_of slots order) o → o.id ≢ id
+no_held {slots} {order} is id i gap o c same =
+    let u = operations-from slots order is.right c in
+    gap_none id_order (λ t. t.id) order id i gap u.0 u.1 (sym (ticket_id slots order is.right u.0 o u.1 u.2) ∙ same)

@@ -1,18 +1,23 @@
 -- What a buffer shows of itself.
-use Rattle.std.specs.Prelude.{List, length, Bool, true, false, nat_lt, Result, Ok, Err, ⊤}
+use Rattle.std.specs.Prelude.{List, length, Bool, true, false, nat_lt, Result, Ok, Err, ⊤, Contains, ◌↔◌}
 use Rattle.lamport_id.specs.declared.id.Id.{Id}
 use Rattle.json_scalar.specs.declared.refusal.Refusal.{Refusal}
 use Rattle.json_scalar.specs.declared.refusal.Refusal.TheVariants.{IdConflict, HeldFull}
 use Rattle.op_core.specs.Op.{Op}
-use Rattle.crdt_rules.specs.Dependencies.{is_logged}
+use Rattle.crdt_rules.specs.Dependencies.{is_logged, missing}
+use Rattle.hold_buffer.specs.declared.wait.Wait.{Wait}
 
 pub record Buffer : Type 0 where
   -- the held operations, by rising id
   pub held : List Op
+  -- which of them waits for which id
+  pub waits : List Wait
 
--- What the buffer keeps of the log is right. It keeps nothing of it: it asks the log again each time.
+-- What the buffer keeps of the log is right: a held operation waits for the ids of its front that are not logged, and for
+-- no others.
 unfoldable pub IsCurrent : Buffer → List Op → Type 0
-IsCurrent buffer log = Unit {0}
+IsCurrent buffer log =
+    (op : Op) → Contains buffer.held op → (i : Id) → Contains buffer.waits (record { awaited = i; waiter = op.id }) ↔ Contains (missing op log) i
 
 -- the first cause against holding an operation: another one is held under its id, or there is no room
 abbrev pub first_cause : Bool → Bool → Result ⊤ Refusal

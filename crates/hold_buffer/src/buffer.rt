@@ -11,8 +11,11 @@ ghost use Rattle.crdt_rules.specs.Dependencies.{is_logged, is_ready, missing};
 ghost use Rattle.hold_buffer.specs.Held.{IsCurrent, cause_of};
 ghost use Rattle.doc_rules.specs.Replica.{put_among};
 
-use crate::order::{ids_of, prepare, search, store, take, waiting_of};
+use crate::order::{grow, ids_of, search, store, take, waiting_of};
+use crate::ready::{forget, release};
 use crate::ticket::Ticket;
+use crate::wait::Wait;
+use crate::waits::{add_waits, cut, end_of, start_of};
 use doc_words::{Ids, Waiting};
 use json_scalar::Refusal;
 use lamport_id::Id;
@@ -27,17 +30,22 @@ use std::marker::Model;
 pub struct HoldBuffer {
     slots: Slab<Operation>,
     order: Vec<Ticket>,
+    // by rising awaited id
+    waits: Vec<Wait>,
+    // rising, with room for the ids of all tickets
+    ready: Vec<Id>,
 }
 
 impl Model for HoldBuffer {
     ghost use Rattle.hold_buffer.specs.Held.{Buffer};
-    ghost use Rattle.hold_buffer.specs.Order.{operations_of, IsOrdered};
+    ghost use Rattle.hold_buffer.specs.Order.{operations_of, IsIntact};
+    ghost use Rattle.std.specs.Vec.{vec_capacity};
 
     ghost Value = { Buffer };
 
-    ghost view = { λ b. record { held = operations_of b.slots b.order.items } };
+    ghost view = { λ b. record { held = operations_of b.slots b.order.items; waits = b.waits.items } };
 
-    ghost invariant = { λ b. IsOrdered b.slots b.order.items };
+    ghost invariant = { λ b. IsIntact b.slots b.order.items b.waits.items b.ready.items (vec_capacity b.ready) };
 }
 
 impl HoldBuffer {
@@ -49,6 +57,8 @@ impl HoldBuffer {
         HoldBuffer {
             slots: Slab::new(alloc),
             order: Vec::new(alloc),
+            waits: Vec::new(alloc),
+            ready: Vec::new(alloc),
         }
     }
 
@@ -123,9 +133,19 @@ impl HoldBuffer {
         ensures err { OnErr result (self.new ≡ self.old) }
         ensures current { IsCurrent self.new log.now.operations }
     {
-        match prepare(&mut self.slots, &mut self.order, op.id()) {
-            Ok(at) => {
-                store(&mut self.slots, &mut self.order, at, op);
+        let room = grow(
+            log,
+            &op,
+            &mut self.slots,
+            &mut self.order,
+            &mut self.waits,
+            &mut self.ready,
+        );
+        match room {
+            Ok((at, missing)) => {
+                let awaited = missing.as_slice();
+                add_waits(&mut self.waits, awaited, &op.id());
+                store(&mut self.slots, &mut self.order, at, op, awaited.len());
                 Ok(())
             }
             Err(refusal) => {
@@ -139,7 +159,12 @@ impl HoldBuffer {
     pub fn logged(&mut self, id: Id)
         ensures held { self.new.held ≡ self.old.held }
         ensures current { (log : List Op) (op : Op) → op.id ≡ id → IsCurrent self.old log → IsCurrent self.new (log ++ op ∷ []) }
-    {}
+    {
+        let start = start_of(&self.waits, &id);
+        let end = end_of(&self.waits, &id);
+        release(&mut self.order, &mut self.ready, &self.waits, start, end);
+        cut(&mut self.waits, start, end);
+    }
 
     /// The least id of the ready operations.
     pub fn next_ready(&self, log: &OpLog) -> Option<Id>
@@ -147,12 +172,7 @@ impl HoldBuffer {
         ensures least { result ≡ option_map (λ o. o.id) (find (λ o. is_ready o log.now.operations) self.now.held) }
         ensures operation { IfSome result (λ id. find_id self.now.held id ≡ find (λ o. is_ready o log.now.operations) self.now.held) }
     {
-        for ticket in self.order.as_slice() {
-            if log.is_ready(&self.slots[ticket.key]) {
-                return Some(ticket.id);
-            }
-        }
-        None
+        self.ready.first().copied()
     }
 
     /// The ids that a held operation waits for, in the order of its front. It is refused for want of memory alone.
@@ -171,6 +191,7 @@ impl HoldBuffer {
         ensures held { self.new.held ≡ filter (λ o. not (id_eq o.id id)) self.old.held }
         ensures current { (log : List Op) → IsCurrent self.old log → IsCurrent self.new log }
     {
+        forget(&mut self.waits, &mut self.ready, &id);
         take(&mut self.slots, &mut self.order, id)
     }
 }
@@ -178,6 +199,11 @@ impl HoldBuffer {
 // By hand, so that it is called and not written out where a buffer is let go.
 impl Drop for HoldBuffer {
     fn drop(self) {
-        let HoldBuffer { slots: _, order: _ } = self;
+        let HoldBuffer {
+            slots: _,
+            order: _,
+            waits: _,
+            ready: _,
+        } = self;
     }
 }

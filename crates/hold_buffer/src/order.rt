@@ -1,5 +1,5 @@
 //! The order of the held operations.
-ghost use Rattle.std.specs.Prelude.{◌≡◌, ◌≢◌, ◌<◌, ◌+◌, not, length, filter, map, vec_len, OnOk, OnSome, IfOk, Ok, Err, MatchResult};
+ghost use Rattle.std.specs.Prelude.{◌≡◌, ◌≢◌, ◌<◌, ◌+◌, not, length, filter, map, vec_len, ◌≤◌, ℕ, insert, OnOk, OnSome, IfOk, IfErr, Ok, Err, MatchResult};
 ghost use Rattle.std.specs.Vec.{vec_capacity};
 ghost use Rattle.slab.specs.Slab.{HasRoomFor};
 ghost use Rattle.lamport_id.specs.Order.{id_cmp};
@@ -13,6 +13,7 @@ ghost use Rattle.hold_buffer.specs.Held.{cause_of};
 ghost use Rattle.hold_buffer.specs.Order.{operations_of, IsOrdered};
 
 use crate::ticket::Ticket;
+use crate::wait::Wait;
 use doc_words::{Ids, Waiting};
 use json_scalar::Refusal;
 use lamport_id::Id;
@@ -67,18 +68,86 @@ pub fn prepare(
     }
 }
 
-/// Stores an operation where it is to be.
-pub fn store(slots: &mut Slab<Operation>, order: &mut Vec<Ticket>, at: usize, op: Operation)
+/// The ids that an operation waits for, with room for them as waits, and for so many ready ids. It is refused for want of
+/// memory alone.
+pub fn prepare_waits(
+    log: &OpLog,
+    op: &Operation,
+    room: usize,
+    waits: &mut Vec<Wait>,
+    ready: &mut Vec<Id>,
+) -> Result<Ids, Refusal>
+    ensures waits { waits.new.items ≡ waits.old.items }
+    ensures ready { ready.new.items ≡ ready.old.items }
+    ensures missing { IfOk result (λ ids. ids ≡ missing op.now log.now.operations) }
+    ensures room { IfOk result (λ ids. vec_len waits.new + length ids ≤ vec_capacity waits.new) }
+    ensures enough { OnOk result (room ≤ vec_capacity ready.new) }
+    ensures keeps { vec_capacity ready.old ≤ vec_capacity ready.new }
+    ensures err { IfErr result (λ e. e ≡ Refusal.NoMemory) }
+{
+    match log.missing(op) {
+        Ok(missing) => {
+            waits.reserve(missing.as_slice().len())?;
+            ready.reserve(room)?;
+            Ok(missing)
+        }
+        Err(_) => Err(Refusal::NoMemory),
+    }
+}
+
+/// Room for one more held operation: where it is to be stored, and the ids that it waits for; or the first cause against
+/// it.
+pub fn grow(
+    log: &OpLog,
+    op: &Operation,
+    slots: &mut Slab<Operation>,
+    order: &mut Vec<Ticket>,
+    waits: &mut Vec<Wait>,
+    ready: &mut Vec<Id>,
+) -> Result<(usize, Ids), Refusal>
+    requires { IsOrdered slots.old order.old.items }
+    ensures order { order.new.items ≡ order.old.items }
+    ensures slots { slots.new ≡ record slots.old { capacity = slots.new.capacity } }
+    ensures waits { waits.new.items ≡ waits.old.items }
+    ensures ready { ready.new.items ≡ ready.old.items }
+    ensures gap { IfOk result (λ r. IsGap id_cmp (λ t. t.id) order.old.items op.now.id r.0) }
+    ensures missing { IfOk result (λ r. r.1 ≡ missing op.now log.now.operations) }
+    ensures slot { OnOk result (HasRoomFor slots.new 1) }
+    ensures ticket { OnOk result (vec_len order.new < vec_capacity order.new) }
+    ensures room { IfOk result (λ r. vec_len waits.new + length r.1 ≤ vec_capacity waits.new) }
+    ensures enough { OnOk result (length order.old.items + 1 ≤ vec_capacity ready.new) }
+    ensures keeps { vec_capacity ready.old ≤ vec_capacity ready.new }
+    ensures cause { MatchResult result (λ _. cause_of op.now.id (operations_of slots.old order.old.items) ≡ Ok tt)
+        (λ e. e ≢ Refusal.NoMemory → cause_of op.now.id (operations_of slots.old order.old.items) ≡ Err e) }
+{
+    match prepare(slots, order, op.id()) {
+        Ok(at) => match prepare_waits(log, op, order.capacity(), waits, ready) {
+            Ok(missing) => Ok((at, missing)),
+            Err(refusal) => Err(refusal),
+        },
+        Err(cause) => Err(cause),
+    }
+}
+
+/// Stores an operation where it is to be, with the number of ids that it waits for.
+pub fn store(
+    slots: &mut Slab<Operation>,
+    order: &mut Vec<Ticket>,
+    at: usize,
+    op: Operation,
+    missing: usize,
+)
     requires ordered { IsOrdered slots.old order.old.items }
     requires gap { IsGap id_cmp (λ t. t.id) order.old.items op.id at }
     requires slot { HasRoomFor slots.old 1 }
     requires ticket { vec_len order.old < vec_capacity order.old }
     ensures ordered { IsOrdered slots.new order.new.items }
     ensures operations { operations_of slots.new order.new.items ≡ put_among op (operations_of slots.old order.old.items) }
+    ensures ticket { (key : ℕ) × (order.new.items ≡ insert order.old.items at (record { id = op.id; key = key; missing = missing })) }
 {
     let id = op.id();
     let key = slots.insert_reserved(op);
-    let ticket = Ticket { id, key };
+    let ticket = Ticket { id, key, missing };
     order.insert(at, ticket).unwrap();
 }
 
@@ -89,6 +158,7 @@ pub fn take(slots: &mut Slab<Operation>, order: &mut Vec<Ticket>, id: Id) -> Opt
     ensures value { result ≡ find_id (operations_of slots.old order.old.items) id }
     ensures len { OnSome result (length (operations_of slots.new order.new.items) + 1 ≡ length (operations_of slots.old order.old.items)) }
     ensures operations { operations_of slots.new order.new.items ≡ filter (λ o. not (id_eq o.id id)) (operations_of slots.old order.old.items) }
+    ensures tickets { order.new.items ≡ filter (λ t. not (id_eq t.id id)) order.old.items }
 {
     match search(order, id) {
         Ok(at) => {

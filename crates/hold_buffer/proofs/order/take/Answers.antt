@@ -5,7 +5,7 @@ use Rattle.crdt_rules.specs.Same.{id_eq}
 use Rattle.op_log.proofs.Sorted.{split_at}
 use Rattle.hold_buffer.specs.declared.ticket.Ticket.{Ticket}
 use Rattle.hold_buffer.specs.Order.{operations_of, IsOrdered}
-use Rattle.hold_buffer.proofs.Waiting.{found_at, not_found, operations-remove, IsOrdered-remove, none_removed, length-operations}
+use Rattle.hold_buffer.proofs.Waiting.{found_at, not_found, operations-remove, tickets-remove, IsOrdered-remove, none_removed, no_ticket_removed, length-operations}
 use Rattle.hold_buffer.proofs.order.take.Goals as goal
 
 -- the tickets before and behind the one that goes
@@ -56,3 +56,17 @@ returns-in-Ok-clause-len c =
     let fewer : length (operations_of c.try_remove.new.self c.remove-ticket.new.self.items) + 1 ≡ length (operations_of c.args.slots.now c.args.order.now.items) =
     omega (arith, c.remove-ticket.ensures.len, c.args.order.now.ok.0, c.remove-ticket.new.self.ok.0) in
     on_some c.try_remove.result fewer
+
+pub returns-in-Ok-clause-tickets : goal.returns-in-Ok-clause-tickets
+returns-in-Ok-clause-tickets c =
+    let place = rw c.deref.ensures.value at c.in-Ok.ensures in
+    let name : c.remove-ticket.result.id ≡ c.args.id = ap (λ (t : Ticket). t.id) c.remove-ticket.ensures.value ∙ place.has_key c.remove-ticket.result in
+    rw c.remove-ticket.ensures.items
+    (tickets-remove (take c.in-Ok.at c.args.order.now.items) (drop (suc c.in-Ok.at) c.args.order.now.items) c.remove-ticket.result
+    (subst (IsOrdered c.args.slots.now) (sym (split c)) c.requires) c.try_remove.ensures.updates
+    ∙ (λ i. filter (λ (t : Ticket). not (id_eq t.id (name i))) (split c i)))
+
+pub returns-in-Err-clause-tickets : goal.returns-in-Err-clause-tickets
+returns-in-Err-clause-tickets c =
+    let gap = rw c.deref.ensures.value at c.in-Err.ensures in
+    no_ticket_removed c.args.order.now.items c.args.id c.in-Err.field-0 gap
