@@ -6,4 +6,3 @@ pub mod Leading
 pub mod MapLaws
 pub mod NoFloat
 pub mod ShowLaws
-pub mod Among

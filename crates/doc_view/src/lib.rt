@@ -16,6 +16,3 @@ pub use registers::{sum, values};
 pub use resolving::resolve;
 pub use roles::conflicts;
 pub use shown::show;
-
-#[cfg(test)]
-mod tests;

@@ -6,8 +6,6 @@ mod lengthy;
 mod name;
 mod read;
 mod request;
-#[cfg(test)]
-mod tests;
 mod text;
 mod told;
 mod told_json;

@@ -10,6 +10,3 @@ mod replay;
 
 pub use context::{PlainContext, plain_step};
 pub use replay::plain_replay;
-
-#[cfg(test)]
-mod tests;

@@ -1,24 +1,9 @@
-use crate::{free_present, orders_agree, replay_all};
+//! The laws of convergence.
+use crate::written::{operation, operations};
+use converge_laws::{free_present, orders_agree, replay_all};
 use json_scalar::Refusal;
-use op_core::{Operation, read_wire};
-use serde_json::Value;
 use std::alloc::Global;
 use std::test::Fail;
-
-fn operation(alloc: Global, text: &str) -> Result<Operation, Refusal> {
-    match Value::from_str(alloc, text) {
-        Ok(value) => read_wire(alloc, &value),
-        Err(_) => Err(Refusal::NotJson),
-    }
-}
-
-fn operations(alloc: Global, texts: &[&str]) -> Result<Vec<Operation>, Refusal> {
-    let mut ops = Vec::new(alloc);
-    for text in texts {
-        ops.push(operation(alloc, text)?)?;
-    }
-    Ok(ops)
-}
 
 // Whether two lists of operations agree.
 fn agree(alloc: Global, texts: &[&str], others: &[&str]) -> Result<bool, Refusal> {

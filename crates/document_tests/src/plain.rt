@@ -1,25 +1,10 @@
-use crate::plain_replay;
+//! The plain program.
+use crate::written::{operation, operations};
 use json_scalar::{Refusal, Scalar};
 use lamport_id::{Id, ReplicaName};
-use op_core::{Operation, read_wire};
-use serde_json::Value;
+use plain_rules::plain_replay;
 use std::alloc::Global;
 use std::test::Fail;
-
-fn operation(alloc: Global, text: &str) -> Result<Operation, Refusal> {
-    match Value::from_str(alloc, text) {
-        Ok(value) => read_wire(alloc, &value),
-        Err(_) => Err(Refusal::NotJson),
-    }
-}
-
-fn operations(alloc: Global, texts: &[&str]) -> Result<Vec<Operation>, Refusal> {
-    let mut ops = Vec::new(alloc);
-    for text in texts {
-        ops.push(operation(alloc, text)?)?;
-    }
-    Ok(ops)
-}
 
 fn id(counter: u64, replica: &[u8]) -> Option<Id> {
     Some(Id {

@@ -1,4 +1,4 @@
-use crate::{Ask, Request, Told};
+use line_proto::{Ask, Request, Told, WriteFault};
 use doc_words::{
     Conflicts, Ids, Items, Look, Operations, Reply, Scalars, ShownText, Texts, Waiting,
 };
@@ -425,7 +425,7 @@ fn a_sink_that_fails_has_a_front_of_the_line(rt: HostRuntime) -> Result<(), Fail
     let missing = Ids::from(vec![in rt.alloc(); own_id()?, own_id()?]?);
     let mut sink = FailAfter::new(Writer::new(Vec::<u8>::new(rt.alloc())), 20);
     let told = Told::Answered(Reply::Held(missing));
-    assert!(rt; told.write(rt.alloc(), &mut sink) == Err(crate::WriteFault::Device));
+    assert!(rt; told.write(rt.alloc(), &mut sink) == Err(WriteFault::Device));
     let FailAfter { device, .. } = sink;
     assert!(rt; device.into_inner().as_slice() == b"[\"held\",[[3,\"srv-1\"]".as_slice());
     Ok(())

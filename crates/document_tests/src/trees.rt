@@ -1,19 +1,13 @@
+//! The tree.
 ghost use Rattle.std.specs.Prelude.{◌≡◌};
 ghost use Rattle.crdt_rules.specs.Effect as Effect;
 
-use crate::Tree;
+use crate::written::operation;
+use doc_tree::Tree;
 use json_scalar::Refusal;
-use op_core::{Key, KeyText, Mutation, Operation, Path, read_wire};
-use serde_json::Value;
+use op_core::{Mutation, Operation};
 use std::alloc::Global;
 use std::test::Fail;
-
-fn operation(alloc: Global, text: &str) -> Result<Operation, Refusal> {
-    match Value::from_str(alloc, text) {
-        Ok(value) => read_wire(alloc, &value),
-        Err(_) => Err(Refusal::NotJson),
-    }
-}
 
 fn is_insertion(mutation: &Mutation) -> bool
     ensures { result ≡ Effect.is_insertion mutation.now }
