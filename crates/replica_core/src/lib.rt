@@ -15,6 +15,3 @@ mod told;
 pub use outcome::{Applied, Delivered};
 pub use replica::Replica;
 pub use restore::Misfit;
-
-#[cfg(test)]
-mod tests;

@@ -2,12 +2,11 @@
 //! and made again it does what it does with ample memory. Held operations may be dropped instead.
 use super::is_conflict_at;
 use super::samples::{Told, changed, delivered, given_up, member, operation, whole};
-use crate::replica::Replica;
-use crate::restore::Misfit;
 use doc_words::{Look, Place, Query, Reply, Steps};
 use json_scalar::Refusal;
 use lamport_id::ReplicaName;
 use op_core::{Front, Operation};
+use replica_core::{Misfit, Replica};
 use std::alloc::Global;
 use std::process::Abort;
 use std::test::Fail;

@@ -4,13 +4,11 @@ mod foreign;
 mod samples;
 mod scarce;
 
-use crate::outcome::{Applied, Delivered};
-use crate::replica::Replica;
-use crate::restore::Misfit;
 use doc_words::{Place, Steps};
 use json_scalar::{Refusal, Scalar, Val};
 use lamport_id::{Id, ReplicaName};
 use op_core::{Cursor, Front, Key, Mutation, Operation, Path};
+use replica_core::{Applied, Delivered, Misfit, Replica};
 use std::alloc::Global;
 use std::process::Abort;
 use std::test::Fail;

@@ -1,8 +1,8 @@
 //! Operations by their written forms, and what the changes of a replica tell.
-use crate::outcome::{Applied, Delivered};
 use doc_words::{Place, Steps};
 use json_scalar::Refusal;
 use op_core::{Cursor, Key, KeyText, Operation, Path, Tagged, read_wire};
+use replica_core::{Applied, Delivered};
 use serde_json::Value;
 use std::alloc::Global;
 

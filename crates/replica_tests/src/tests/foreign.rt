@@ -1,10 +1,10 @@
 //! The worked row on what is refused of operations that are handed in.
 use super::samples::{Told, delivered, operation};
-use crate::replica::Replica;
 use doc_words::{Query, Reply};
 use json_scalar::Refusal;
 use lamport_id::{Id, ReplicaName};
 use op_core::{Cursor, Front, Key, Mutation, Operation, Path};
+use replica_core::Replica;
 use std::alloc::Global;
 use std::test::Fail;
 
