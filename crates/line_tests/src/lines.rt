@@ -1,4 +1,3 @@
-use line_proto::{Ask, Request, Told, WriteFault};
 use doc_words::{
     Conflicts, Ids, Items, Look, Operations, Reply, Scalars, ShownText, Texts, Waiting,
 };
@@ -6,6 +5,7 @@ use json_scalar::{Refusal, Scalar, Val};
 use lamport_id::{Id, ReplicaName};
 use line_feed::Writer;
 use line_feed::doubles::FailAfter;
+use line_proto::{Ask, Request, Told, WriteFault};
 use op_core::{Front, KeyText, Mutation, read_wire};
 use serde_json::Value;
 use std::alloc::Global;
