@@ -1,45 +1,101 @@
 -- Seats of the documents of a run.
-use Rattle.std.proofs.Common.{◌≡◌, ◌≤◌, ◌<◌, ◌+◌, ℕ, nat_lt, Bool, true, false, Result, Ok, Err, IfOk, if◌then◌else◌, refl, sym, ap, ◌∙◌, subst, arith}
+use Rattle.std.proofs.Common.{◌≡◌, ◌⊎◌, inl, inr, ◌≤◌, ◌<◌, ◌+◌, ◌++◌, ◌==◌, ℕ, suc, nat_lt, Bool, true, false, List, [], ◌∷◌, length, drop, Result, Ok, Err, IfOk, if◌then◌else◌, refl, sym, ap, ap₂, ◌∙◌, subst, arith}
+use Rattle.std.proofs.lemmas.List.{map-append}
+use Rattle.std.proofs.Math.Seq.{drop-append_seam}
+use Rattle.std.proofs.lemmas.Bool.{eqb-true}
+use Rattle.std.specs.List.{All}
+use Rattle.op_core.specs.Op.{Op}
 use Rattle.json_scalar.specs.declared.refusal.Refusal.{Refusal}
-use Rattle.json_scalar.specs.declared.refusal.Refusal.TheVariants.{SeatsFull}
+use Rattle.json_scalar.specs.declared.refusal.Refusal.TheVariants.{ListsDiffer, NoMemory, SeatsFull}
 use Rattle.doc_words.specs.declared.ask.Command.{Command}
-use Rattle.doc_rules.specs.Document.{Document, opens}
-use Rattle.doc_rules.specs.Seats.{Seat, Answer, ActsFor, AnswersFor, IsSeatOf}
+use Rattle.doc_rules.specs.Document.{Document, IsSound, by, logged_by, opens}
+use Rattle.doc_rules.specs.Seats.{Seat, Answer, ActsFor, AnswersFor, AreEndsOf, IsSeatOf, ids_of}
+use Rattle.doc_rules.proofs.Shared.{acts_gives}
 use Rattle.doc_words.specs.declared.ask.Query.{Query}
 use Rattle.locked_doc.specs.Locked.{seat_opened}
 use Rattle.session_core.specs.Seats.{seat_told}
+use Rattle.jcrdt.specs.Told.{HasTold}
 
 pub told_is : (n : ℕ) (r : Result ℕ Refusal) → seat_told (λ (s : Seat). s.seat) (seat_opened n r) ≡ r
 told_is n (Ok seat) = refl
 told_is n (Err cause) = refl
 
--- a new seat is one of its document's
-pub opened_here : (n : ℕ) (d : Document) → IfOk (seat_opened n (opens d).0) (λ s. IsSeatOf n (opens d).1 s)
-opened_here n d = go (nat_lt d.opened d.seats)
+-- nothing is logged for a seat that is not opened yet
+by-none : (n : ℕ) (log : List Op) (seats : List ℕ) → All (λ s. s ≤ n) seats → by (n + 1) log seats ≡ []
+by-none n [] seats few = refl
+by-none n (op ∷ log) [] few = refl
+by-none n (op ∷ log) (s ∷ seats) few = go (s == n + 1) refl (few 0 s (omega arith)) (by-none n log seats (λ k x less. few (suc k) x (omega arith)))
+  where
+    go : (b : Bool) → (s == n + 1) ≡ b → s ≤ n → by (n + 1) log seats ≡ [] → (if b then op ∷ by (n + 1) log seats else by (n + 1) log seats) ≡ []
+    go true e low rest = let is = eqb-true s (n + 1) e in absurd (omega (arith, is, low))
+    go false e low rest = rest
+
+-- a new seat is one of its document's, and was told nothing
+opened_here : (n : ℕ) (d : Document) → IsSound d → IfOk (seat_opened n (opens d).0) (λ s. HasTold n (opens d).1 s)
+opened_here n d sound = go (nat_lt d.opened d.seats)
   where
     go : (b : Bool)
         → IfOk (seat_opened n (if◌then◌else◌ {A = Result ℕ Refusal × Document} b (Ok (d.opened + 1), record d { opened = d.opened + 1 }) (Err SeatsFull, d)).0)
-        (λ s. IsSeatOf n (if◌then◌else◌ {A = Result ℕ Refusal × Document} b (Ok (d.opened + 1), record d { opened = d.opened + 1 }) (Err SeatsFull, d)).1 s)
-    go true = (refl, omega arith, omega arith)
+        (λ s. HasTold n (if◌then◌else◌ {A = Result ℕ Refusal × Document} b (Ok (d.opened + 1), record d { opened = d.opened + 1 }) (Err SeatsFull, d)).1 s)
+    go true = record { seat = (refl, omega arith, omega arith); told = sym (ap ids_of (by-none d.opened d.replica.log d.seats_of sound.opened_alone)) }
     go false = tt
 
--- a seat stays one of its document's
-pub acted_here : (n m : ℕ) (d e : Document) (s t : Seat) (command : Command) (a : Answer) → m ≡ n → IsSeatOf n d s → ActsFor d s command a e t → IsSeatOf m e t
-acted_here n m d e s t command a same here acts = (
-  acts.answer.same.0 ∙ here.0 ∙ sym same,
-  subst (λ k. 0 < k) (sym acts.answer.same.1) here.1,
-  subst (λ k. k ≤ e.opened) (sym acts.answer.same.1) (subst (λ k. s.seat ≤ k) (sym (ap (λ (x : Document). x.opened) acts.event.2)) here.2),
-)
+pub opened_at : (n m : ℕ) (d e : Document) (r : Result Seat Refusal) → IsSound d → r ≡ seat_opened n (opens d).0 → m ≡ n → e ≡ (opens d).1 → IfOk r (λ s. HasTold m e s)
+opened_at n m d e r sound given number document =
+    subst (λ (x : Result Seat Refusal). IfOk x (λ s. HasTold m e s)) (sym given)
+    (subst (λ k. IfOk (seat_opened n (opens d).0) (λ s. HasTold k e s)) (sym number)
+    (subst (λ (x : Document). IfOk (seat_opened n (opens d).0) (λ s. HasTold n x s)) (sym document) (opened_here n d sound)))
 
-pub read_here : (n : ℕ) (d : Document) (s t : Seat) (query : Query) (a : Answer) → IsSeatOf n d s → AnswersFor d s query a t → IsSeatOf n d t
-read_here n d s t query a here answers = (
-  answers.answer.same.0 ∙ here.0,
-  subst (λ k. 0 < k) (sym answers.answer.same.1) here.1,
-  subst (λ k. k ≤ d.opened) (sym answers.answer.same.1) here.2,
-)
+-- a seat stays one of its document's, and was told what is logged for it
+pub acted_here : (n m : ℕ) (d e : Document) (s t : Seat) (command : Command) (a : Answer) → IsSound d → m ≡ n → HasTold n d s → ActsFor d s command a e t → HasTold m e t
+acted_here n m d e s t command a sound same here acts =
+    let given = acts_gives d e s.seat command a.reply sound.each_has_a_seat acts.event in
+    let new : drop (length d.replica.log) e.replica.log ≡ given.new = ap (drop (length d.replica.log)) given.log ∙ drop-append_seam d.replica.log given.new in
+    let after : t.told ≡ ids_of (logged_by s.seat e) =
+    acts.told ∙ ap₂ (λ xs ys. xs ++ ys) here.told (ap ids_of new) ∙ sym (map-append (λ op. op.id) (logged_by s.seat d) given.new) ∙ ap ids_of (sym given.mine) in
+    record {
+      seat = (
+        acts.answer.same.0 ∙ here.seat.0 ∙ sym same,
+        subst (λ k. 0 < k) (sym acts.answer.same.1) here.seat.1,
+        subst (λ k. k ≤ e.opened) (sym acts.answer.same.1) (subst (λ k. s.seat ≤ k) (sym (ap (λ (x : Document). x.opened) acts.event.2)) here.seat.2),
+      );
+      told = after ∙ ap (λ k. ids_of (logged_by k e)) (sym acts.answer.same.1);
+    }
 
-pub opened_at : (n m : ℕ) (d e : Document) (r : Result Seat Refusal) → r ≡ seat_opened n (opens d).0 → m ≡ n → e ≡ (opens d).1 → IfOk r (λ s. IsSeatOf m e s)
-opened_at n m d e r given number document =
-    subst (λ (x : Result Seat Refusal). IfOk x (λ s. IsSeatOf m e s)) (sym given)
-    (subst (λ k. IfOk (seat_opened n (opens d).0) (λ s. IsSeatOf k e s)) (sym number)
-    (subst (λ (x : Document). IfOk (seat_opened n (opens d).0) (λ s. IsSeatOf n x s)) (sym document) (opened_here n d)))
+pub read_here : (n : ℕ) (d : Document) (s t : Seat) (query : Query) (a : Answer) → HasTold n d s → AnswersFor d s query a t → HasTold n d t
+read_here n d s t query a here answers =
+    record {
+      seat = (
+        answers.answer.same.0 ∙ here.seat.0,
+        subst (λ k. 0 < k) (sym answers.answer.same.1) here.seat.1,
+        subst (λ k. k ≤ d.opened) (sym answers.answer.same.1) here.seat.2,
+      );
+      told = answers.told ∙ here.told ∙ ap (λ k. ids_of (logged_by k d)) (sym answers.answer.same.1);
+    }
+
+-- a document keeps its number of seats
+pub seats_acted : (d e : Document) (s t : Seat) (command : Command) (a : Answer) → ActsFor d s command a e t → d.seats ≡ 1 → e.seats ≡ 1
+seats_acted d e s t command a acts one = ap (λ (x : Document). x.seats) acts.event.2 ∙ one
+
+pub seats_opened : (d e : Document) → e ≡ (opens d).1 → d.seats ≡ 1 → e.seats ≡ 1
+seats_opened d e is one = ap (λ (x : Document). x.seats) is ∙ go (nat_lt d.opened d.seats) ∙ one
+  where
+    go : (b : Bool) → (if◌then◌else◌ {A = Result ℕ Refusal × Document} b (Ok (d.opened + 1), record d { opened = d.opened + 1 }) (Err SeatsFull, d)).1.seats ≡ d.seats
+    go true = refl
+    go false = refl
+
+-- the end of the one seat of a document
+one_end : (n : ℕ) (d : Document) (e : Seat) → d.seats ≡ 1 → IsSound d → HasTold n d e → AreEndsOf n d (e ∷ [])
+one_end n d e one sound here =
+    let few = sound.few in
+    let low = here.seat.1 in
+    let high = here.seat.2 in
+    let seat : e.seat ≡ 1 = omega (arith, few, low, high, one) in
+    let opened : 1 ≡ d.opened = omega (arith, few, low, high, one) in
+    ((here.seat.0, seat, here.told ∙ ap (λ k. ids_of (logged_by k d)) seat), opened)
+
+-- nothing but memory stands against it
+pub for_memory : (n : ℕ) (d : Document) (ends : List Seat) (refusal : Refusal) → d.seats ≡ 1 → IsSound d
+    → (refusal ≡ NoMemory) ⊎ ((refusal ≡ ListsDiffer) × ¬ AreEndsOf n d ends) → (e : Seat) → ends ≡ e ∷ [] → HasTold n d e → refusal ≡ NoMemory
+for_memory n d ends refusal one sound (inl memory) e is here = memory
+for_memory n d ends refusal one sound (inr differ) e is here = absurd (differ.1 (subst (AreEndsOf n d) (sym is) (one_end n d e one sound here)))

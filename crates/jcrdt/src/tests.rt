@@ -1,6 +1,7 @@
 //! The program over bytes in memory: the worked rows, pieces of any size, faults, and command lines.
 ghost use Rattle.std.specs.Prelude.{◌≡◌, ◌<◌};
 
+mod gathering;
 mod limits;
 mod rows;
 

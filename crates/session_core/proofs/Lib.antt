@@ -4,3 +4,4 @@ pub mod Sessions
 pub mod SoFar
 pub mod Telling
 pub mod Owners
+pub mod Ends

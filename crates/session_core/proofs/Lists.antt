@@ -156,7 +156,7 @@ module _ {S : Type 0} (number : S → ℕ) where
       go false past e = find-view place os ∙ ap (option_map (opened_of number)) (none_of place os (ltb-false n (length os) past))
 
   -- a place that isn't opened is none of them
-  unopened : (place : ℕ) (os : List (kept.Opened S)) → opened_at place (map (opened_of number) os) ≡ None
+  pub unopened : (place : ℕ) (os : List (kept.Opened S)) → opened_at place (map (opened_of number) os) ≡ None
       → (k : ℕ) (o : kept.Opened S) → slice_get os k ≡ Some o → o.place ≢ place
   unopened place [] e k o at = cc
   unopened place (x ∷ os) e k o at = go (x.place == place) refl e k at (unopened place os)

@@ -1,31 +1,34 @@
 //! Documents that one session has for itself.
-ghost use Rattle.std.specs.Prelude.{◌≡◌, ◌↔◌, ◌≤◌, ◌+◌, ◌*◌, ℕ, List, [], false, length, map, IsTrue, IfOk, IfErr, IfSome};
+ghost use Rattle.std.specs.Prelude.{◌≡◌, ◌↔◌, ◌≤◌, ◌+◌, ◌*◌, ℕ, List, [], false, length, map, replicate, option_map, None, Some, IsTrue, IfOk, IfErr, IfSome};
 ghost use Rattle.std.specs.Io.KnownBytes.{Appends, Consumes};
 ghost use Rattle.doc_rules.specs.Document as rules;
 ghost use Rattle.session_rules.specs.Alone as sole;
 ghost use Rattle.session_rules.specs.Alone.{alone};
+ghost use Rattle.session_rules.specs.Session as sessions;
 ghost use Rattle.session_rules.specs.Session.{place_of};
 ghost use Rattle.session_rules.specs.Transcript.{IsSession};
-ghost use Rattle.session_core.specs.Opened.{session_of};
-ghost use Rattle.session_core.specs.Owned.{HasSeat};
+ghost use Rattle.session_core.specs.Owned.{AreEnds, AreWithin, HasSeat, given_back};
 ghost use Rattle.session_core.specs.Seats.{seat_told};
 ghost use Rattle.session_core.specs.Short.{event_short};
 
 use crate::access::DocAccess;
+use crate::opened::Opened;
 use crate::run::run_session;
-use crate::session::Session;
 use doc_words::{Command, Query, Reply};
 use json_scalar::Refusal;
 use line_feed::{Sink, Source};
 use line_proto::Name;
 use session_rules::Ending;
-use std::alloc::Global;
+use std::alloc::{AllocError, Global};
 use std::marker::Model;
 
 /// A document with seats, each call of which is one event of the rules.
 pub trait Document: Drop {
     /// A seat at the document.
     type Seat: Drop;
+
+    /// The end of a seat that was given back.
+    type End: Drop;
 
     ghost document: { Self → rules.Document };
 
@@ -35,9 +38,16 @@ pub trait Document: Drop {
     /// The seat is one of the document's opened seats.
     ghost has_seat: { Self → Self.Seat → Type 0 };
 
+    /// The seat of which this is the end, as it was given back.
+    ghost seat_of: { Self.End → Self.Seat };
+
     /// The seat's number among those of its document, from 1.
     fn number_of(seat: &Self::Seat) -> u64
         ensures { result ≡ seat_number seat.now };
+
+    /// Gives a seat back. It takes no memory.
+    fn end(seat: Self::Seat) -> Self::End
+        ensures { seat_of result ≡ seat };
 
     /// The next seat, or `SeatsFull` with nothing changed. It takes no memory.
     fn open_seat(&mut self) -> Result<Self::Seat, Refusal>
@@ -137,37 +147,64 @@ impl<D: Document> DocAccess for Alone<D> {
     }
 }
 
-/// A session over documents of its own that has ended: why, the documents, and what it held, its seats among it.
+/// A session over documents of its own that has ended.
 #[derive(Drop)]
-pub struct Finished<D: Document> {
+pub struct Ended<D: Document> {
+    /// Why it ended.
     pub why: Ending,
+    /// The documents, as the session left them.
     pub documents: Alone<D>,
-    pub session: Session<Alone<D>>,
+    /// Of each document, in their order, the end of the seat that the session had there; none where it was not opened.
+    pub ends: Vec<Option<D::End>>,
 }
 
-/// A session for whose buffer there was no memory, with all that was handed in.
+/// A session for whose buffer or ends there was no memory, with all that was handed in.
 #[derive(Drop)]
 pub struct Unbegun<D: Document> {
     pub documents: Alone<D>,
 }
 
+/// A place for the end of a seat at each document.
+fn no_ends<E: Drop>(alloc: Global, documents: usize) -> Result<Vec<Option<E>>, AllocError>
+    ensures { IfOk result (λ ends. ends.items ≡ replicate documents None) }
+{
+    let mut ends = Vec::new(alloc);
+    for _ in 0..documents {
+        ends.push(None)?;
+    }
+    Ok(ends)
+}
+
+/// Puts the end of each seat to the place of its document. It takes no memory.
+fn end_all<D: Document>(opened: Vec<Opened<D::Seat>>, ends: &mut Vec<Option<D::End>>)
+    requires { AreWithin opened.items (length ends.old.items) }
+    ensures { map (option_map D.seat_of) ends.new.items ≡ given_back opened.items (map (option_map D.seat_of) ends.old.items) }
+{
+    for one in opened {
+        ends[one.place] = Some(D::end(one.seat));
+    }
+}
+
 /// Answers the lines of the source into the sink, one after the other, with the documents as they are and none of them
-/// opened: at most 1,000,000 lines of at most 65,536 bytes each.
+/// opened: at most 1,000,000 lines of at most 65,536 bytes each. All memory for the ends is taken before the first line.
 pub fn run_alone<R: Source, W: Sink, D: Document>(
     alloc: Global,
     source: &mut R,
     sink: &mut W,
     documents: Alone<D>,
-) -> Result<Finished<D>, Unbegun<D>>
+) -> Result<Ended<D>, Unbegun<D>>
     requires source_works { R.has_failed source.old ≡ false }
     requires sink_works { W.has_failed sink.old ≡ false }
 
-    ensures session { IfOk result (λ ended. (read written : List ℕ)
+    // The ends are those of the seats that the session had at the end of the transcript.
+    ensures session { IfOk result (λ ended. (read written : List ℕ) × (opened : List sessions.Opened)
         × Consumes (R.remaining source.old) (R.remaining source.new) read
         × Appends (W.contents sink.old) (W.contents sink.new) written
         × IfSome (R.remaining source.old) (λ bytes.
         IsSession (alone documents.names.items) (record { documents = map D.document documents.documents.items; opened = [] }) bytes read
-        ended.why written (session_of D.seat_number (map D.document ended.documents.documents.items) ended.session.opened.items))) }
+        ended.why written (record { documents = map D.document ended.documents.documents.items; opened = opened }))
+        × AreEnds D.has_seat D.seat_number ended.documents.documents.items opened (map (option_map D.seat_of) ended.ends.items)) }
+    ensures names { IfOk result (λ ended. ended.documents.names.items ≡ documents.names.items) }
 
     // A fault is told exactly where the device failed.
     ensures read_fault { IfOk result (λ ended. IsTrue (R.has_failed source.new) ↔ (ended.why ≡ Ending.ReadFault)) }
@@ -179,12 +216,18 @@ pub fn run_alone<R: Source, W: Sink, D: Document>(
     ensures unbegun { IfErr result (λ unbegun. (unbegun.documents ≡ documents) × (source.new ≡ source.old) × (sink.new ≡ sink.old)) }
 {
     let mut documents = documents;
+    let Ok(mut ends) = no_ends(alloc, documents.documents.len()) else {
+        return Err(Unbegun { documents });
+    };
     match run_session(alloc, source, sink, &mut documents) {
-        Ok(ended) => Ok(Finished {
-            why: ended.why,
-            documents,
-            session: ended.session,
-        }),
+        Ok(finished) => {
+            end_all::<D>(finished.session.opened, &mut ends);
+            Ok(Ended {
+                why: finished.why,
+                documents,
+                ends,
+            })
+        }
         Err(_) => Err(Unbegun { documents }),
     }
 }

@@ -10,8 +10,8 @@ mod session;
 mod variables;
 
 pub use access::DocAccess;
-pub use alone::{Alone, Document, Finished, Owned, Unbegun, run_alone};
+pub use alone::{Alone, Document, Ended, Owned, Unbegun, run_alone};
 pub use opened::Opened;
-pub use run::{Ended, MAX_LINES, run_session};
+pub use run::{Finished, MAX_LINES, run_session};
 pub use session::{Answer, Session};
 pub use variables::{MAX_VARIABLES, VariableName, Variables};

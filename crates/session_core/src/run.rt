@@ -23,7 +23,7 @@ pub const MAX_LINES: u32 = 1_000_000;
 
 /// A session that has ended, and why.
 #[derive(Drop)]
-pub struct Ended<A: DocAccess> {
+pub struct Finished<A: DocAccess> {
     pub why: Ending,
     pub session: Session<A>,
 }
@@ -92,7 +92,7 @@ pub fn run_session<R: Source, W: Sink, A: DocAccess>(
     source: &mut R,
     sink: &mut W,
     access: &mut A,
-) -> Result<Ended<A>, AllocError>
+) -> Result<Finished<A>, AllocError>
     requires source_works { R.has_failed source.old ≡ false }
     requires sink_works { W.has_failed sink.old ≡ false }
 
@@ -121,45 +121,45 @@ pub fn run_session<R: Source, W: Sink, A: DocAccess>(
             Outcome::Line => match answer_line(alloc, access, &mut session, feed.line(), sink) {
                 Ok(true) => {}
                 Ok(false) => {
-                    return Ok(Ended {
+                    return Ok(Finished {
                         why: Ending::Quit,
                         session,
                     });
                 }
                 Err(_) => {
-                    return Ok(Ended {
+                    return Ok(Finished {
                         why: Ending::WriteFault,
                         session,
                     });
                 }
             },
             Outcome::End => {
-                return Ok(Ended {
+                return Ok(Finished {
                     why: Ending::End,
                     session,
                 });
             }
             Outcome::TooLong => {
                 if tell_refusal(alloc, Refusal::LineTooLong, sink).is_err() {
-                    return Ok(Ended {
+                    return Ok(Finished {
                         why: Ending::WriteFault,
                         session,
                     });
                 }
-                return Ok(Ended {
+                return Ok(Finished {
                     why: Ending::TooLong,
                     session,
                 });
             }
             Outcome::Fault => {
-                return Ok(Ended {
+                return Ok(Finished {
                     why: Ending::ReadFault,
                     session,
                 });
             }
         }
     }
-    Ok(Ended {
+    Ok(Finished {
         why: Ending::LinesUsedUp,
         session,
     })

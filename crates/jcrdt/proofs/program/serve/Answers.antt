@@ -4,7 +4,7 @@ use Rattle.jcrdt.proofs.program.serve.Goals as goal
 
 pub returns-in-Ok-run_alone-clause-served : goal.returns-in-Ok-run_alone-clause-served
 returns-in-Ok-run_alone-clause-served g c = λ wanted named listed zero.
-    let (read, written, consumed, appended, session) = c.in-Ok-run_alone.ensures.session in (
+    let (read, written, opened, consumed, appended, session, ends) = c.in-Ok-run_alone.ensures.session in (
       read,
       written,
       c.in-Ok-run_alone.ended.why,

@@ -5,4 +5,4 @@ pub returns-clause-seat : goal.returns-clause-seat
 returns-clause-seat g c =
     let d = c.args.self.now.locked in
     acted_here d.number c.act.new.self.number d.document c.act.new.self.document c.args.seat.now c.act.new.seat c.args.command c.act.result
-    c.act.ensures.number c.requires.seat (c.act.ensures.own c.requires.seat)
+    c.number.ensures.sound c.act.ensures.number c.requires.seat (c.act.ensures.own c.requires.seat.seat)
