@@ -1,15 +1,15 @@
 -- Seats of the documents of a run.
-use Rattle.std.proofs.Common.{◌≡◌, ◌⊎◌, inl, inr, ◌≤◌, ◌<◌, ◌+◌, ◌++◌, ◌==◌, ℕ, suc, nat_lt, Bool, true, false, List, [], ◌∷◌, length, drop, Result, Ok, Err, IfOk, if◌then◌else◌, refl, sym, ap, ap₂, ◌∙◌, subst, arith}
+use Rattle.std.proofs.Common.{◌≡◌, ◌≤◌, ◌<◌, ◌+◌, ◌++◌, ◌==◌, ℕ, suc, nat_lt, Bool, true, false, List, [], ◌∷◌, length, drop, Result, Ok, Err, IfOk, if◌then◌else◌, refl, sym, ap, ap₂, ◌∙◌, subst, arith}
 use Rattle.std.proofs.lemmas.List.{map-append}
 use Rattle.std.proofs.Math.Seq.{drop-append_seam}
 use Rattle.std.proofs.lemmas.Bool.{eqb-true}
 use Rattle.std.specs.List.{All}
 use Rattle.op_core.specs.Op.{Op}
 use Rattle.json_scalar.specs.declared.refusal.Refusal.{Refusal}
-use Rattle.json_scalar.specs.declared.refusal.Refusal.TheVariants.{ListsDiffer, NoMemory, SeatsFull}
+use Rattle.json_scalar.specs.declared.refusal.Refusal.TheVariants.{SeatsFull}
 use Rattle.doc_words.specs.declared.ask.Command.{Command}
 use Rattle.doc_rules.specs.Document.{Document, IsSound, by, logged_by, opens}
-use Rattle.doc_rules.specs.Seats.{Seat, Answer, ActsFor, AnswersFor, AreEndsOf, IsSeatOf, ids_of}
+use Rattle.doc_rules.specs.Seats.{Seat, Answer, ActsFor, AnswersFor, IsSeatOf, ids_of}
 use Rattle.doc_rules.proofs.Shared.{acts_gives}
 use Rattle.doc_words.specs.declared.ask.Query.{Query}
 use Rattle.locked_doc.specs.Locked.{seat_opened}
@@ -72,30 +72,3 @@ read_here n d s t query a here answers =
       );
       told = answers.told ∙ here.told ∙ ap (λ k. ids_of (logged_by k d)) (sym answers.answer.same.1);
     }
-
--- a document keeps its number of seats
-pub seats_acted : (d e : Document) (s t : Seat) (command : Command) (a : Answer) → ActsFor d s command a e t → d.seats ≡ 1 → e.seats ≡ 1
-seats_acted d e s t command a acts one = ap (λ (x : Document). x.seats) acts.event.2 ∙ one
-
-pub seats_opened : (d e : Document) → e ≡ (opens d).1 → d.seats ≡ 1 → e.seats ≡ 1
-seats_opened d e is one = ap (λ (x : Document). x.seats) is ∙ go (nat_lt d.opened d.seats) ∙ one
-  where
-    go : (b : Bool) → (if◌then◌else◌ {A = Result ℕ Refusal × Document} b (Ok (d.opened + 1), record d { opened = d.opened + 1 }) (Err SeatsFull, d)).1.seats ≡ d.seats
-    go true = refl
-    go false = refl
-
--- the end of the one seat of a document
-one_end : (n : ℕ) (d : Document) (e : Seat) → d.seats ≡ 1 → IsSound d → HasTold n d e → AreEndsOf n d (e ∷ [])
-one_end n d e one sound here =
-    let few = sound.few in
-    let low = here.seat.1 in
-    let high = here.seat.2 in
-    let seat : e.seat ≡ 1 = omega (arith, few, low, high, one) in
-    let opened : 1 ≡ d.opened = omega (arith, few, low, high, one) in
-    ((here.seat.0, seat, here.told ∙ ap (λ k. ids_of (logged_by k d)) seat), opened)
-
--- nothing but memory stands against it
-pub for_memory : (n : ℕ) (d : Document) (ends : List Seat) (refusal : Refusal) → d.seats ≡ 1 → IsSound d
-    → (refusal ≡ NoMemory) ⊎ ((refusal ≡ ListsDiffer) × ¬ AreEndsOf n d ends) → (e : Seat) → ends ≡ e ∷ [] → HasTold n d e → refusal ≡ NoMemory
-for_memory n d ends refusal one sound (inl memory) e is here = memory
-for_memory n d ends refusal one sound (inr differ) e is here = absurd (differ.1 (subst (AreEndsOf n d) (sym is) (one_end n d e one sound here)))

@@ -14,4 +14,4 @@ pub returns-clause-seat : goal.returns-clause-seat
 returns-clause-seat g c =
     let d = c.args.self.now.locked in
     opened_at d.number c.open_seat.new.self.number d.document c.open_seat.new.self.document c.open_seat.result
-    c.number.ensures.sound c.open_seat.ensures.seat c.open_seat.ensures.document.0 c.open_seat.ensures.document.1
+    c.number-sound.ensures.sound c.open_seat.ensures.seat c.open_seat.ensures.document.0 c.open_seat.ensures.document.1
