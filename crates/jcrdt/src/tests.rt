@@ -130,6 +130,53 @@ fn cut_after_every_byte(rt: HostRuntime) -> Result<(), Fail> {
     Ok(())
 }
 
+/// The first lines of a text, so many of them.
+fn first_lines(alloc: Global, text: &[u8], count: usize) -> Result<Vec<u8>, AllocError> {
+    let mut lines = Vec::new(alloc);
+    let mut ended = 0;
+    for byte in text {
+        if ended == count {
+            return Ok(lines);
+        }
+        lines.push(*byte)?;
+        if *byte == b'\n' {
+            ended += 1;
+        }
+    }
+    Ok(lines)
+}
+
+/// What the shopping list's input gives where it ends after so many bytes: each whole line has its reply, with its newline or
+/// without, and a line that was cut is no JSON.
+fn shopped_after(alloc: Global, after: usize) -> Result<Vec<u8>, AllocError> {
+    let read = SHOPPING.get(..after).unwrap_or(SHOPPING);
+    let ended = read.iter().filter(|byte| **byte == b'\n').count();
+    let is_between = matches!(read.last(), None | Some(b'\n'));
+    let is_whole = SHOPPING.get(after) == Some(&b'\n');
+    if is_between {
+        return first_lines(alloc, SHOPPED, ended);
+    }
+    if is_whole {
+        return first_lines(alloc, SHOPPED, ended + 1);
+    }
+    let mut lines = first_lines(alloc, SHOPPED, ended)?;
+    lines.extend_from_slice(b"[\"no\",1,\"not-json\"]\n")?;
+    Ok(lines)
+}
+
+#[test]
+fn input_cut_after_every_byte(rt: HostRuntime) -> Result<(), Fail> {
+    let words = ["run", "d"];
+    for after in 0..SHOPPING.len() {
+        let input = SHOPPING.get(..after).unwrap_or(SHOPPING);
+        let (status, out) = written(rt.alloc(), words.as_slice(), input, 4096, ALL, ALL)?;
+        let due = shopped_after(rt.alloc(), after)?;
+        assert_eq!(rt; out.as_slice(), due.as_slice(), "after {after}");
+        assert_eq!(rt; status, 0);
+    }
+    Ok(())
+}
+
 #[test]
 fn a_line_that_was_not_read_whole_is_none(rt: HostRuntime) -> Result<(), Fail> {
     let words = ["run", "d"];
