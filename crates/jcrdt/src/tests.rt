@@ -133,14 +133,14 @@ fn cut_after_every_byte(rt: HostRuntime) -> Result<(), Fail> {
 /// The first lines of a text, so many of them.
 fn first_lines(alloc: Global, text: &[u8], count: usize) -> Result<Vec<u8>, AllocError> {
     let mut lines = Vec::new(alloc);
-    let mut ended = 0;
+    let mut ended: usize = 0;
     for byte in text {
         if ended == count {
             return Ok(lines);
         }
         lines.push(*byte)?;
         if *byte == b'\n' {
-            ended += 1;
+            ended = ended.saturating_add(1);
         }
     }
     Ok(lines)
@@ -157,7 +157,7 @@ fn shopped_after(alloc: Global, after: usize) -> Result<Vec<u8>, AllocError> {
         return first_lines(alloc, SHOPPED, ended);
     }
     if is_whole {
-        return first_lines(alloc, SHOPPED, ended + 1);
+        return first_lines(alloc, SHOPPED, ended.saturating_add(1));
     }
     let mut lines = first_lines(alloc, SHOPPED, ended)?;
     lines.extend_from_slice(b"[\"no\",1,\"not-json\"]\n")?;
