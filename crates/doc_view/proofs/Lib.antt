@@ -1,6 +1,7 @@
 pub mod Entries
 pub mod Presence
 pub mod Lists
+pub mod Indexed
 pub mod TellingRoles
 pub mod Leading
 pub mod MapLaws

@@ -1,16 +1,19 @@
 -- Which ids make a place present, read from what stands there.
-use Rattle.std.proofs.Common.{◌≡◌, ◌==◌, ℕ, suc, arith, List, [], ◌∷◌, length, true, false, true≢false, not, Bool, Decides, Option, Some, None, refl, sym, ap, ◌∙◌, Contains, is_some}
+use Rattle.std.proofs.Common.{◌≡◌, ◌==◌, ℕ, suc, arith, List, [], ◌∷◌, length, true, false, true≢false, not, Bool, Decides, ◌⊎◌, inl, inr, Option, Some, None, refl, sym, ap, ◌∙◌, Contains, is_some}
 use Rattle.std.proofs.lemmas.Bool.Decides.{nat_tests}
 use Rattle.list_laws.proofs.Members.{Contains-nil, Contains-here}
 use Rattle.lamport_id.specs.declared.id.Id.{Id}
 use Rattle.json_scalar.specs.declared.scalar.Scalar.{Scalar}
 use Rattle.op_core.specs.declared.cursor.Key.{Key}
 use Rattle.op_core.specs.declared.cursor.Tagged.{Tagged}
+use Rattle.crdt_rules.proofs.SameLaws.{id_decides}
 use Rattle.doc_words.specs.declared.role.Role.{Role}
 use Rattle.presence_set.specs.ById.{get, IsAscending}
 use Rattle.doc_nodes.specs.declared.node.Node.{Node}
-use Rattle.doc_nodes.specs.Nodes.{facts_of}
+use Rattle.doc_nodes.specs.declared.node.NodeNumber.{NodeNumber}
+use Rattle.doc_nodes.specs.Nodes.{facts_of, node_at, node_of}
 use Rattle.doc_tree.specs.Nodes.{tree_facts, tree_role}
+use Rattle.doc_tree.proofs.Reading.{role_read, role_absent}
 use Rattle.doc_rules.specs.Reads.{IsPresent}
 use Rattle.doc_view.proofs.Entries.{get-Contains, Contains-get}
 
@@ -48,3 +51,19 @@ present_decides tree p k (e ∷ roles) true are is = absurd (true≢false (is �
     some : (n : ℕ) → (suc n == 0) ≡ false
     some n = grind (arith, nat_tests)
 present_decides tree p k (e ∷ roles) false are is = (λ h. (e.0, present_from are e (Contains-here roles refl)), λ w. refl)
+
+-- some ids and roles stand at each place
+roles_there : (tree : List Node × Option Scalar) (p : List Tagged) (k : Key) → (roles : List (Id × Role)) × ((i : Id) → get roles i ≡ tree_role tree p k i)
+roles_there tree p k = go (node_at tree.0 p k) refl
+  where
+    go : (o : Option NodeNumber) → node_at tree.0 p k ≡ o → (roles : List (Id × Role)) × ((i : Id) → get roles i ≡ tree_role tree p k i)
+    go None e = ([], role_absent tree.0 p k e)
+    go (Some n) e = ((node_of tree.0 n).presence.0, role_read tree.0 p k n e)
+
+-- so each place is present or isn't
+pub present_or_not : (tree : List Node × Option Scalar) (p : List Tagged) (k : Key) → IsPresent (tree_facts tree) p k ⊎ ¬ (IsPresent (tree_facts tree) p k)
+present_or_not tree p k = let there = roles_there tree p k in go there.0 there.1
+  where
+    go : (roles : List (Id × Role)) → ((i : Id) → get roles i ≡ tree_role tree p k i) → IsPresent (tree_facts tree) p k ⊎ ¬ (IsPresent (tree_facts tree) p k)
+    go [] is = inr (λ w. true≢false (sym w.1 ∙ present_role tree p k w.0 ∙ ap is_some (sym (is w.0))))
+    go (e ∷ roles) is = inl (e.0, present_role tree p k e.0 ∙ ap is_some (sym (is e.0)) ∙ (rw (id_decides.itself e.0) refl))

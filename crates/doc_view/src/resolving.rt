@@ -1,19 +1,20 @@
 //! Where cursors lead.
-ghost use Rattle.std.specs.Prelude.{◌≡◌, ◌≢◌, ◌&&◌, [], Ok, Err};
+ghost use Rattle.std.specs.Prelude.{◌≡◌, ◌≢◌, ◌&&◌, List, [], Ok, Err, ok_or};
 ghost use Rattle.std.specs.List.{list_any};
-ghost use Rattle.json_scalar.specs.declared.refusal.Refusal.TheVariants.{NoMemory};
+ghost use Rattle.lamport_id.specs.declared.id.Id.{Id};
+ghost use Rattle.json_scalar.specs.declared.refusal.Refusal.TheVariants.{NoMemory, IndexPastEnd};
 ghost use Rattle.json_scalar.specs.Refusal.{UnlessMemory, and_then};
 ghost use Rattle.op_core.specs.Shape.{is_placed};
 ghost use Rattle.op_core.specs.declared.cursor.Cursor.{Cursor};
 ghost use Rattle.op_core.specs.declared.cursor.Key.TheVariants.{Text};
 ghost use Rattle.doc_words.specs.declared.place.Step.TheVariants.{Index};
-ghost use Rattle.doc_rules.specs.Reads.{into_map, into_list};
+ghost use Rattle.doc_rules.specs.Reads.{into_map, into_list, AreElements};
 ghost use Rattle.crdt_rules.specs.Same.{id_eq};
 ghost use Rattle.doc_tree.specs.Nodes.{tree_facts};
 ghost use Rattle.doc_rules.specs.Resolve as rules;
 ghost use Rattle.doc_view.specs.Readings.{Gives};
 
-use crate::elements::{elements_in, order_of};
+use crate::elements::{element_by_index, order_of};
 use crate::place::{into_list, is_head, is_placed};
 use doc_tree::Tree;
 use doc_words::Step;
@@ -97,33 +98,30 @@ fn below_list(from: Cursor, key: Key) -> Result<Cursor, Refusal>
     Ok(Cursor { path, key })
 }
 
-// The elements are read first, so that the clause can name them also where the step is refused.
 fn to_index(alloc: Global, tree: &Tree, from: Cursor, index: u64) -> Result<Cursor, Refusal>
     ensures { result ≢ Err NoMemory → rules.Goes (tree_facts tree.now) from (Index index) result }
 {
-    let list = into_list(&from.path, &from.key)?;
-    let ids = elements_in(alloc, tree, &list)?;
-    at_index(from, ids.as_slice(), index)
-}
-
-fn at_index(from: Cursor, ids: &[Id], index: u64) -> Result<Cursor, Refusal>
-    ensures { UnlessMemory result (and_then (rules.may_go_on from) (λ _. rules.at_index from ids.now index)) }
-{
     may_go_on(&from)?;
-    let key = key_at(ids, index).ok_or(Refusal::IndexPastEnd)?;
-    below_list(from, key)
+    let key = key_at(alloc, tree, &from, index)?;
+    to_key(from, key)
 }
 
-fn key_at(ids: &[Id], index: u64) -> Option<Key>
-    ensures { result ≡ rules.key_at ids.now index }
+/// The key to which an index leads. The head is before all elements, so that none is read for it.
+fn key_at(alloc: Global, tree: &Tree, from: &Cursor, index: u64) -> Result<Option<Key>, Refusal>
+    ensures { Gives (λ key. (ids : List Id) × AreElements (tree_facts tree.now) from.now.path from.now.key ids × (key ≡ rules.key_at ids index)) result }
 {
     if index == 0 {
-        return Some(Key::Head);
+        return Ok(Some(Key::Head));
     }
-    match ids.get((index - 1) as usize) {
-        None => None,
-        Some(id) => Some(Key::Element(*id)),
-    }
+    let list = into_list(&from.path, &from.key)?;
+    let id = element_by_index(alloc, tree, &list, index - 1)?;
+    Ok(id.map(Key::Element))
+}
+
+fn to_key(from: Cursor, key: Option<Key>) -> Result<Cursor, Refusal>
+    ensures { UnlessMemory result (and_then (ok_or key IndexPastEnd) (λ k. Ok (record { path = into_list from.path from.key; key = k }))) }
+{
+    below_list(from, key.ok_or(Refusal::IndexPastEnd)?)
 }
 
 /// The start, unless there is a cause against it.

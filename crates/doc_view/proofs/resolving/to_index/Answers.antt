@@ -1,20 +1,19 @@
-use Rattle.std.proofs.Common.{◌≡◌, List, subst}
+use Rattle.std.proofs.Common.{Result, ap}
+use Rattle.std.specs.Prelude.{⊤}
+use Rattle.std.proofs.lemmas.Result.{err_from_is_err_and}
 use Rattle.json_scalar.specs.Refusal.{and_then}
-use Rattle.lamport_id.specs.declared.id.Id.{Id}
-use Rattle.op_core.specs.declared.cursor.Key.TheVariants.{Element}
-use Rattle.op_core.specs.declared.cursor.Tagged.{Tagged}
-use Rattle.doc_tree.specs.Nodes.{tree_facts}
-use Rattle.doc_rules.specs.Reads.{IsPresent}
-use Rattle.doc_rules.specs.Resolve.{may_go_on, at_index}
-use Rattle.doc_rules.specs.Sorted.{AreThose}
+use Rattle.json_scalar.specs.declared.refusal.Refusal.{Refusal}
+use Rattle.doc_rules.specs.Resolve.{at_index}
+use Rattle.doc_view.proofs.Indexed.{elements_exist}
 use Rattle.doc_view.proofs.resolving.to_index.Goals as goal
 
-pub returns : goal.returns
-returns c = λ other.
-    let f = tree_facts c.args.tree.now in
-    let ids = c.in_ok-ids.ids.items in (
-      ids,
-      subst (λ (p : List Tagged). AreThose (λ i. IsPresent f p (Element i)) (f.order p) ids) c.in_ok-list.ensures c.in_ok-ids.ensures,
-      subst (λ (is : List Id). c.at_index.result ≡ and_then (may_go_on c.args.from) (λ _. at_index c.args.from is c.args.index)) c.as_slice.ensures.value
-          (c.at_index.ensures other),
-    )
+pub returns-in_err-may_go_on : goal.returns-in_err-may_go_on
+returns-in_err-may_go_on c =
+    let exit = err_from_is_err_and c.from_residual.result c.from_residual.ensures.1 in
+    let elements = elements_exist c.args.tree.now c.args.from.path c.args.from.key in
+    rw (exit.1, exit.2)
+    (λ other. (
+      elements.0,
+      elements.1,
+      ap (λ (may : Result ⊤ Refusal). and_then may (λ _. at_index c.args.from elements.0 c.args.index)) c.in_err-may_go_on.ensures,
+    ))
