@@ -1,6 +1,6 @@
 -- Where a list of operations stops to be a good log.
 use Rattle.std.proofs.Common.{◌≡◌, ℕ, ◌<◌, zero, suc, List, [], ◌∷◌, ◌++◌, length, take, drop, get_or, true, false, Option, Some, None, Result, Ok, Err, if◌then◌else◌, refl, sym, ap, subst, ◌∙◌, arith}
-use Rattle.std.specs.Prelude.{⊤, OnOk, IfErr}
+use Rattle.std.specs.Prelude.{⊤, IfErr, IfSome}
 use Rattle.std.proofs.lemmas.List.{length-take}
 use Rattle.json_scalar.specs.declared.refusal.Refusal.{Refusal}
 use Rattle.json_scalar.specs.declared.refusal.Refusal.TheVariants.{IdConflict}
@@ -9,7 +9,6 @@ use Rattle.crdt_rules.specs.Dependencies.{is_logged}
 use Rattle.crdt_rules.specs.Log.{IsGood}
 use Rattle.op_log.proofs.Sorted.{split_at}
 use Rattle.doc_rules.specs.Cause.{IsFirstMisfit, misfit_of, cause_of}
-use Rattle.replica_core.specs.Misfits.{IsCauseAgainst, IsMisfitOf, misfit_at, no_cause}
 
 pub misfit_here : (ops log : List Op) (place : ℕ) (op : Op) (cause : Refusal) → log ≡ take place ops → place < length ops → op ≡ get_or ops place op → IsGood log
     → misfit_of op log ≡ Err cause → IsFirstMisfit ops place cause
@@ -23,11 +22,6 @@ misfit_here ops log place op cause is within read good against = record {
   cause_is = against;
 }
 
-pub stopped_here : (ops log : List Op) (place : ℕ) (op : Op) (cause : Option Refusal) → log ≡ take place ops → place < length ops → op ≡ get_or ops place op → IsGood log
-    → IsCauseAgainst op log cause → IsMisfitOf ops (misfit_at place cause)
-stopped_here ops log place op (Some cause) is within read good against = misfit_here ops log place op cause is within read good against
-stopped_here ops log place op None is within read good against = tt
-
 -- the first operations, and the next
 pub taken_next : (ops : List Op) (i : ℕ) (op : Op) → i < length ops → op ≡ get_or ops i op → take i ops ++ op ∷ [] ≡ take (suc i) ops
 taken_next [] i op within read = absurd (omega arith)
@@ -40,14 +34,9 @@ conflict_here op log h = ap (λ b. if◌then◌else◌ {A = Result ⊤ Refusal} 
 pub cause_here : (op : Op) (log : List Op) (cause : Refusal) → is_logged log op.id ≡ false → Err cause ≡ cause_of op log → misfit_of op log ≡ Err cause
 cause_here op log cause h is = ap (λ b. if◌then◌else◌ {A = Result ⊤ Refusal} b (Err IdConflict) (cause_of op log)) h ∙ sym is
 
-pub lacking_here : (op : Op) (log : List Op) (r : Result ⊤ (Option Refusal)) → IfErr r (λ e. e ≡ None) → IfErr r (IsCauseAgainst op log)
-lacking_here op log (Ok done) h = tt
-lacking_here op log (Err e) h = subst (IsCauseAgainst op log) (sym h) tt
+pub lacking_here : (P : Refusal → Type 0) (r : Result ⊤ (Option Refusal)) → IfErr r (λ e. e ≡ None) → IfErr r (λ e. IfSome e P)
+lacking_here P (Ok done) h = tt
+lacking_here P (Err e) h = subst (λ (o : Option Refusal). IfSome o P) (sym h) tt
 
-pub no_cause_ok : (r : Result ⊤ Refusal) (P : Type 0) → OnOk r P → OnOk (no_cause r) P
-no_cause_ok (Ok done) P h = h
-no_cause_ok (Err e) P h = tt
-
-pub no_cause_err : (r : Result ⊤ Refusal) → IfErr (no_cause r) (λ e. e ≡ None)
-no_cause_err (Ok done) = tt
-no_cause_err (Err e) = refl
+pub cause_told : (P : Refusal → Type 0) (o : Option Refusal) (cause : Refusal) → o ≡ Some cause → IfSome o P → P cause
+cause_told P o cause is h = subst (λ (x : Option Refusal). IfSome x P) is h

@@ -1,7 +1,6 @@
 -- One's own changes.
 use Rattle.crdt_rules.specs.Same.{id_eq}
 use Rattle.crdt_rules.proofs.Tests.{some≢none}
-use Rattle.replica_core.specs.Told.{forgotten, told_forgotten}
 use Rattle.replica_core.specs.Whole.{replica_of}
 use Rattle.std.proofs.Common.{[], ◌∷◌, Bool, false, not, filter, if◌then◌else◌, ◌≡◌, ◌≢◌, inl, inr, ℕ, List, Option, Some, None, Result, Ok, Err, true, refl, sym, ap, subst, ◌∙◌}
 use Rattle.std.specs.Prelude.{⊤}
@@ -18,9 +17,9 @@ use Rattle.doc_words.specs.declared.reply.Reply.{Reply}
 use Rattle.doc_words.specs.declared.reply.Reply.TheVariants as reply
 use Rattle.doc_words.specs.declared.ask.Command.TheVariants as command
 use Rattle.doc_words.specs.declared.place.Place.{Place}
-use Rattle.doc_rules.specs.Events.{told, logged, due_own, own_change, Event, Forgets}
+use Rattle.doc_rules.specs.Events.{told, logged, due_own, own_change, Does, Event, Forgets}
 use Rattle.doc_rules.specs.Resolve.{Resolves}
-use Rattle.replica_core.specs.Told.{Meets}
+use Rattle.replica_core.specs.Told.{Meets, told_forgotten}
 use Rattle.doc_rules.specs.Replica.{Replica, facts_of, find_id}
 
 -- the first cause against a change is told
@@ -59,17 +58,19 @@ kept_all (o ∷ ops) i h = by (id_eq o.id i) h (λ h. kept_all ops i h)
     by true h ih = absurd (some≢none h)
     by false h ih = ap (λ l. o ∷ l) (ih h)
 
-pub event_forget : (name : List ℕ) (log waiting waiting' : List Op) (i : Id) (o : Option Op) (answer : Result ⊤ Refusal) → o ≡ find_id waiting i
-    → answer ≡ forgotten o → waiting' ≡ filter (λ z. not (id_eq z.id i)) waiting
-    → Event (replica_of name log waiting) (command.Forget i) (told_forgotten answer) (replica_of name log waiting')
-event_forget name log waiting waiting' i (Some x) answer is due same =
-    subst (λ (a : Result ⊤ Refusal). Event (replica_of name log waiting) (command.Forget i) (told_forgotten a) (replica_of name log waiting')) (sym due)
-    (inl (subst (λ (y : Option Op). Forgets (replica_of name log waiting) i y reply.Forgotten (replica_of name log waiting')) is
-    (refl, (λ j. replica_of name log (same j)))))
-event_forget name log waiting waiting' i None answer is due same =
-    subst (λ (a : Result ⊤ Refusal). Event (replica_of name log waiting) (command.Forget i) (told_forgotten a) (replica_of name log waiting')) (sym due)
-    (inl (subst (λ (y : Option Op). Forgets (replica_of name log waiting) i y (reply.Refused NotHeld) (replica_of name log waiting')) is
-    (refl, (λ j. replica_of name log ((same ∙ kept_all waiting i (sym is)) j)))))
+pub forgets_held : (name : List ℕ) (log waiting waiting' : List Op) (i : Id) (op : Op) (answer : Result ⊤ Refusal) → answer ≡ Ok tt → Some op ≡ find_id waiting i
+    → waiting' ≡ filter (λ z. not (id_eq z.id i)) waiting
+    → Does (replica_of name log waiting) (command.Forget i) (told_forgotten answer) (replica_of name log waiting')
+forgets_held name log waiting waiting' i op answer answered is same =
+    subst (λ (o : Option Op). Forgets (replica_of name log waiting) i o (told_forgotten answer) (replica_of name log waiting')) is
+    (ap told_forgotten answered, (λ j. replica_of name log (same j)))
+
+pub forgets_none : (name : List ℕ) (log waiting waiting' : List Op) (i : Id) (answer : Result ⊤ Refusal) → answer ≡ Err NotHeld → None ≡ find_id waiting i
+    → waiting' ≡ filter (λ z. not (id_eq z.id i)) waiting
+    → Does (replica_of name log waiting) (command.Forget i) (told_forgotten answer) (replica_of name log waiting')
+forgets_none name log waiting waiting' i answer answered is same =
+    subst (λ (o : Option Op). Forgets (replica_of name log waiting) i o (told_forgotten answer) (replica_of name log waiting')) is
+    (ap told_forgotten answered, (λ j. replica_of name log ((same ∙ kept_all waiting i (sym is)) j)))
 
 -- ---- a change at a place
 

@@ -1,7 +1,5 @@
 -- What a replica's answers are told as.
-use Rattle.std.specs.Prelude.{◌⊎◌, Option, Some, None, Result, Ok, Err, ⊤}
-use Rattle.op_core.specs.Op.{Op}
-use Rattle.json_scalar.specs.declared.refusal.Refusal.TheVariants.{NotHeld}
+use Rattle.std.specs.Prelude.{◌⊎◌, Result, Ok, Err, ⊤}
 use Rattle.json_scalar.specs.declared.refusal.Refusal.{Refusal}
 use Rattle.doc_words.specs.declared.reply.Reply.{Reply}
 use Rattle.doc_words.specs.declared.reply.Reply.TheVariants as reply
@@ -28,8 +26,3 @@ told_forgotten (Err cause) = reply.Refused cause
 -- what is due comes about, or memory is wanting and nothing has changed
 abbrev pub Meets : Replica → Due → Reply → Replica → Type 0
 Meets r due reply s = Settles r due reply s ⊎ Lacks r reply s
-
--- what the giving up of a held operation is answered
-abbrev pub forgotten : Option Op → Result ⊤ Refusal
-forgotten (Some op) = Ok tt
-forgotten None = Err NotHeld

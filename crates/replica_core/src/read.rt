@@ -18,8 +18,8 @@ use op_core::{Cursor, Front};
 use op_log::OpLog;
 use std::alloc::Global;
 
-/// What a replica answers to a query. `mine` is what it tells of an account. For want of memory it tells that, and where a
-/// reading of a place is refused the cause.
+/// What a replica answers to a query. `mine` is what it tells of an account. Of any other query it may tell that memory is
+/// wanting, and where a reading of a place is refused the cause.
 pub fn read(
     alloc: Global,
     tree: &Tree,
@@ -30,7 +30,8 @@ pub fn read(
 ) -> Reply
     requires tells { Tells tree.now log.now.operations }
     requires current { IsCurrent held.now log.now.operations }
-    ensures { (name : List ℕ) → Answers (replica_of name log.now.operations held.now.held) mine query result }
+    ensures answer { (name : List ℕ) → Answers (replica_of name log.now.operations held.now.held) mine query result }
+    ensures account { query ≡ Query.Account → result ≡ Reply.Account mine }
 {
     match query {
         Query::Resolve(place) => resolve_place(alloc, tree, log, place),

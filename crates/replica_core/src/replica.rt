@@ -2,12 +2,12 @@
 ghost use Rattle.std.specs.Prelude.{◌≡◌, [], OnOk, IfOk, IfErr};
 ghost use Rattle.crdt_rules.specs.Log.{IsGood};
 ghost use Rattle.doc_rules.specs.Answers.{Answers};
-ghost use Rattle.doc_rules.specs.Events.{Event};
+ghost use Rattle.doc_rules.specs.Events.{Does, Event};
 ghost use Rattle.doc_rules.specs.Replica.{IsKept};
 ghost use Rattle.doc_words.specs.declared.ask.Command.TheVariants as command;
 ghost use Rattle.replica_core.specs.Misfits.{IsMisfitOf};
 ghost use Rattle.replica_core.specs.Tells.{Tells};
-ghost use Rattle.replica_core.specs.Told.{forgotten, told_applied, told_delivered, told_forgotten};
+ghost use Rattle.replica_core.specs.Told.{told_applied, told_delivered, told_forgotten};
 ghost use Rattle.replica_core.specs.Whole.{replica_of};
 
 use crate::deliver::deliver;
@@ -144,17 +144,25 @@ impl Replica {
         deliver(self.name, &mut self.tree, &mut self.log, &mut self.held, op)
     }
 
-    /// Gives up a held operation. It is refused as not-held where none is held under the id.
+    /// Gives up a held operation. It is refused as not-held where none is held under the id, and nothing has changed then. It
+    /// takes no memory.
     pub fn forget(&mut self, id: Id) -> Result<(), Refusal>
-        ensures { Event self.old (command.Forget id) (told_forgotten result) self.new }
+        ensures { Does self.old (command.Forget id) (told_forgotten result) self.new }
     {
-        forgotten(self.held.remove(id))
+        match self.held.remove(id) {
+            Some(op) => {
+                drop(op);
+                Ok(())
+            }
+            None => Err(Refusal::NotHeld),
+        }
     }
 
     /// Answers a query, with nothing changed. `mine` is told as the account. A reading of a place is refused by the first cause
     /// against its steps, or as at-head; and any answer but an account for want of memory.
     pub fn read(&self, mine: u64, query: Query) -> Reply
-        ensures { Answers self.now mine query result }
+        ensures answer { Answers self.now mine query result }
+        ensures account { query ≡ Query.Account → result ≡ Reply.Account mine }
     {
         read(self.alloc, &self.tree, &self.log, &self.held, mine, query)
     }
@@ -168,19 +176,6 @@ impl Replica {
             Command::Deliver(op) => delivered_reply(self.deliver(op)),
             Command::Forget(id) => forgotten_reply(self.forget(id)),
         }
-    }
-}
-
-// What the giving up of a held operation is answered, by what was held.
-fn forgotten(op: Option<Operation>) -> Result<(), Refusal>
-    ensures { result ≡ forgotten op }
-{
-    match op {
-        Some(op) => {
-            drop(op);
-            Ok(())
-        }
-        None => Err(Refusal::NotHeld),
     }
 }
 

@@ -1,8 +1,9 @@
 //! Logs made of lists of operations.
-ghost use Rattle.std.specs.Prelude.{◌≡◌, [], ◌∷◌, ◌++◌, None, OnOk, IfOk, IfErr};
+ghost use Rattle.std.specs.Prelude.{◌≡◌, [], ◌∷◌, ◌++◌, None, Err, OnOk, IfOk, IfErr, IfSome};
 ghost use Rattle.crdt_rules.specs.Fits.{Fits};
 ghost use Rattle.crdt_rules.specs.Log.{IsGood};
-ghost use Rattle.replica_core.specs.Misfits.{IsCauseAgainst, IsMisfitOf, misfit_at, no_cause};
+ghost use Rattle.doc_rules.specs.Cause.{misfit_of};
+ghost use Rattle.replica_core.specs.Misfits.{IsMisfitOf};
 ghost use Rattle.replica_core.specs.Tells.{Tells};
 
 use crate::log_op::log_op;
@@ -66,7 +67,8 @@ fn log_all(tree: &mut Tree, log: &mut OpLog, operations: &[Operation]) -> Result
     for place in 0..operations.len() {
         match log_next(tree, log, &operations[place]) {
             Ok(()) => {}
-            Err(cause) => return Err(misfit_at(place, cause)),
+            Err(Some(cause)) => return Err(Misfit::At { place, cause }),
+            Err(None) => return Err(Misfit::NoMemory),
         }
     }
     Ok(())
@@ -77,7 +79,7 @@ fn log_next(tree: &mut Tree, log: &mut OpLog, op: &Operation) -> Result<(), Opti
     requires tells { Tells tree.old log.old.operations }
     ensures good { IsGood log.old.operations }
     ensures ok { OnOk result (log.new.operations ≡ log.old.operations ++ op.now ∷ []) }
-    ensures err { IfErr result (IsCauseAgainst op.now log.old.operations) }
+    ensures err { IfErr result (λ e. IfSome e (λ cause. misfit_of op.now log.old.operations ≡ Err cause)) }
     ensures tells { Tells tree.new log.new.operations }
 {
     let _length = log.len();
@@ -98,27 +100,11 @@ fn log_copy(tree: &mut Tree, log: &mut OpLog, op: &Operation) -> Result<(), Opti
     ensures err { IfErr result (λ e. e ≡ None) }
     ensures tells { Tells tree.new log.new.operations }
 {
-    match op.try_clone() {
-        Ok(copy) => no_cause(log_op(tree, log, copy)),
-        Err(_) => Err(None),
-    }
-}
-
-fn no_cause(answer: Result<(), Refusal>) -> Result<(), Option<Refusal>>
-    ensures { result ≡ no_cause answer }
-{
-    match answer {
+    let Ok(copy) = op.try_clone() else {
+        return Err(None);
+    };
+    match log_op(tree, log, copy) {
         Ok(()) => Ok(()),
         Err(_) => Err(None),
-    }
-}
-
-// What stops a list at this place: the cause, or want of memory.
-fn misfit_at(place: usize, cause: Option<Refusal>) -> Misfit
-    ensures { result ≡ misfit_at place cause }
-{
-    match cause {
-        Some(cause) => Misfit::At { place, cause },
-        None => Misfit::NoMemory,
     }
 }

@@ -1,7 +1,8 @@
-use Rattle.std.proofs.Common.{◌≡◌, ◌+◌, suc, List, [], ◌∷◌, ◌++◌, ap, ◌∙◌, arith}
+use Rattle.std.proofs.Common.{◌≡◌, ◌+◌, suc, List, [], ◌∷◌, ◌++◌, Err, ap, ◌∙◌, arith}
 use Rattle.std.proofs.lemmas.List.{take_all}
 use Rattle.op_core.specs.Op.{Op}
-use Rattle.replica_core.proofs.FirstMisfits.{stopped_here, taken_next}
+use Rattle.doc_rules.specs.Cause.{misfit_of}
+use Rattle.replica_core.proofs.FirstMisfits.{misfit_here, cause_told, taken_next}
 use Rattle.replica_core.proofs.restore.log_all.Goals as goal
 
 pub loop-place-preserved : goal.loop-place-preserved
@@ -13,11 +14,14 @@ loop-place-preserved c =
       c.log_next.ensures.tells,
     )
 
-pub returns-in-Err-clause-err : goal.returns-in-Err-clause-err
-returns-in-Err-clause-err c =
-    rw c.misfit_at.ensures
-    (stopped_here c.args.operations.now c.loop-place.log.operations c.loop-place.place c.index-operations-place.result c.in-Err.cause c.loop-place.invariant.0
-    c.loop-place-test.true c.index-operations-place.is c.log_next.ensures.good c.in-Err.ensures.err)
-
 pub returns-clause-ok : goal.returns-clause-ok
 returns-clause-ok c = c.loop-place.invariant.0 ∙ take_all c.loop-place.place c.args.operations.now c.loop-place-test.false
+
+pub returns-in-Err-Some-clause-err : goal.returns-in-Err-Some-clause-err
+returns-in-Err-Some-clause-err c =
+    let op = c.index-operations-place.result in
+    let log = c.loop-place.log.operations in
+    rw c.in-Err-Some.cause-is
+    (misfit_here c.args.operations.now log c.loop-place.place op c.in-Err-Some.cause c.loop-place.invariant.0 c.loop-place-test.true c.index-operations-place.is
+    c.log_next.ensures.good
+    (cause_told (λ cause. misfit_of op log ≡ Err cause) c.in-Err-Some.field-0 c.in-Err-Some.cause c.in-Err-Some.field-0-is c.in-Err-Some.ensures.err))

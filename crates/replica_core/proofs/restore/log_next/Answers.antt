@@ -1,5 +1,6 @@
-use Rattle.std.proofs.Common.{refl, sym, ap, ◌∙◌}
+use Rattle.std.proofs.Common.{◌≡◌, Err, refl, sym, ap, ◌∙◌}
 use Rattle.crdt_rules.specs.Dependencies.{is_logged}
+use Rattle.doc_rules.specs.Cause.{misfit_of}
 use Rattle.replica_core.proofs.FirstMisfits.{conflict_here, cause_here, lacking_here}
 use Rattle.replica_core.proofs.restore.log_next.Goals as goal
 
@@ -12,7 +13,8 @@ pub log_copy-requires-clause-fits : goal.log_copy-requires-clause-fits
 log_copy-requires-clause-fits c = c.in-Ok.ensures.fits.0 refl
 
 pub returns-in-Ok-clause-err : goal.returns-in-Ok-clause-err
-returns-in-Ok-clause-err c = lacking_here c.args.op.now c.args.log.now.operations c.log_copy.result c.log_copy.ensures.err
+returns-in-Ok-clause-err c =
+    lacking_here (λ cause. misfit_of c.args.op.now c.args.log.now.operations ≡ Err cause) c.log_copy.result c.log_copy.ensures.err
 
 pub returns-in-Err-clause-err : goal.returns-in-Err-clause-err
 returns-in-Err-clause-err c =

@@ -1,19 +1,27 @@
+use Rattle.std.proofs.Common.{inl, sym, ◌∙◌}
 use Rattle.doc_words.specs.declared.ask.Command.TheVariants as command
+use Rattle.doc_rules.specs.Events.{Does}
 use Rattle.replica_core.specs.Told.{told_forgotten}
+use Rattle.replica_core.specs.Whole.{replica_of}
 use Rattle.replica_core.proofs.Keeping.{whole_next}
-use Rattle.replica_core.proofs.Owning.{event_forget}
+use Rattle.replica_core.proofs.Owning.{forgets_held, forgets_none}
 use Rattle.replica_core.proofs.replica.Replica.forget.Goals as goal
+use Rattle.replica_core.proofs.replica.Replica.forget.Goals.{in-Some, in-None}
+
+does : (c : goal.Joined-remove)
+    → Does (replica_of c.self.inside.name c.self.inside.log.operations c.self.inside.held.held) (command.Forget c.args.id) (told_forgotten c.match-remove.result)
+    (replica_of c.self.inside.name c.self.inside.log.operations c.remove.new.self.held)
+does c =
+    elim c.match-remove.branch [ in-Some w ↦ forgets_held c.self.inside.name c.self.inside.log.operations c.self.inside.held.held c.remove.new.self.held c.args.id w.in-Some.op
+        c.match-remove.result w.result-is (sym w.in-Some.is ∙ c.remove.ensures.value) c.remove.ensures.held
+    | in-None w ↦ forgets_none c.self.inside.name c.self.inside.log.operations c.self.inside.held.held c.remove.new.self.held c.args.id
+        c.match-remove.result w.result-is (sym w.in-None.is ∙ c.remove.ensures.value) c.remove.ensures.held ]
 
 pub invariant_of-self : goal.invariant_of-self
 invariant_of-self c =
     whole_next c.self.inside.name c.self.inside.tree c.self.inside.tree c.self.inside.log.operations c.self.inside.log.operations c.self.inside.held c.remove.new.self
-    (command.Forget c.args.id) (told_forgotten c.forgotten.result) c.self.invariant c.self.invariant.tells
-    (c.remove.ensures.current c.self.inside.log.operations c.self.invariant.current) tt
-    (event_forget c.self.inside.name c.self.inside.log.operations c.self.inside.held.held c.remove.new.self.held c.args.id c.remove.result c.forgotten.result
-    c.remove.ensures.value c.forgotten.ensures c.remove.ensures.held)
+    (command.Forget c.args.id) (told_forgotten c.match-remove.result) c.self.invariant c.self.invariant.tells
+    (c.remove.ensures.current c.self.inside.log.operations c.self.invariant.current) tt (inl (does c))
 
 pub returns : goal.returns
-returns c =
-    rw (← c.self.view_is)
-    (event_forget c.self.inside.name c.self.inside.log.operations c.self.inside.held.held c.remove.new.self.held c.args.id c.remove.result c.forgotten.result
-    c.remove.ensures.value c.forgotten.ensures c.remove.ensures.held)
+returns c = rw (← c.self.view_is) (does c)

@@ -6,5 +6,5 @@ read-requires-clause-tells c = c.self.invariant.tells
 pub read-requires-clause-current : goal.read-requires-clause-current
 read-requires-clause-current c = c.self.invariant.current
 
-pub returns : goal.returns
-returns c = rw (← c.self.view_is) (c.read.ensures c.self.inside.name)
+pub returns-clause-answer : goal.returns-clause-answer
+returns-clause-answer c = rw (← c.self.view_is) (c.read.ensures.answer c.self.inside.name)
