@@ -58,6 +58,7 @@ kept_all (o ∷ ops) i h = by (id_eq o.id i) h (λ h. kept_all ops i h)
     by true h ih = absurd (some≢none h)
     by false h ih = ap (λ l. o ∷ l) (ih h)
 
+-- the one of its id is let go
 pub forgets_held : (name : List ℕ) (log waiting waiting' : List Op) (i : Id) (op : Op) (answer : Result ⊤ Refusal) → answer ≡ Ok tt → Some op ≡ find_id waiting i
     → waiting' ≡ filter (λ z. not (id_eq z.id i)) waiting
     → Does (replica_of name log waiting) (command.Forget i) (told_forgotten answer) (replica_of name log waiting')
@@ -65,6 +66,7 @@ forgets_held name log waiting waiting' i op answer answered is same =
     subst (λ (o : Option Op). Forgets (replica_of name log waiting) i o (told_forgotten answer) (replica_of name log waiting')) is
     (ap told_forgotten answered, (λ j. replica_of name log (same j)))
 
+-- and where there is none, nothing changes
 pub forgets_none : (name : List ℕ) (log waiting waiting' : List Op) (i : Id) (answer : Result ⊤ Refusal) → answer ≡ Err NotHeld → None ≡ find_id waiting i
     → waiting' ≡ filter (λ z. not (id_eq z.id i)) waiting
     → Does (replica_of name log waiting) (command.Forget i) (told_forgotten answer) (replica_of name log waiting')

@@ -12,10 +12,12 @@ does : (c : goal.Joined-remove)
     → Does (replica_of c.self.inside.name c.self.inside.log.operations c.self.inside.held.held) (command.Forget c.args.id) (told_forgotten c.match-remove.result)
     (replica_of c.self.inside.name c.self.inside.log.operations c.remove.new.self.held)
 does c =
-    elim c.match-remove.branch [ in-Some w ↦ forgets_held c.self.inside.name c.self.inside.log.operations c.self.inside.held.held c.remove.new.self.held c.args.id w.in-Some.op
-        c.match-remove.result w.result-is (sym w.in-Some.is ∙ c.remove.ensures.value) c.remove.ensures.held
-    | in-None w ↦ forgets_none c.self.inside.name c.self.inside.log.operations c.self.inside.held.held c.remove.new.self.held c.args.id
-        c.match-remove.result w.result-is (sym w.in-None.is ∙ c.remove.ensures.value) c.remove.ensures.held ]
+    elim c.match-remove.branch [
+      | in-Some w ↦ forgets_held c.self.inside.name c.self.inside.log.operations c.self.inside.held.held c.remove.new.self.held c.args.id w.in-Some.op
+          c.match-remove.result w.result-is (sym w.in-Some.is ∙ c.remove.ensures.value) c.remove.ensures.held
+      | in-None w ↦ forgets_none c.self.inside.name c.self.inside.log.operations c.self.inside.held.held c.remove.new.self.held c.args.id
+          c.match-remove.result w.result-is (sym w.in-None.is ∙ c.remove.ensures.value) c.remove.ensures.held
+    ]
 
 pub invariant_of-self : goal.invariant_of-self
 invariant_of-self c =

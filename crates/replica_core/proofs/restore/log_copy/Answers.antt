@@ -1,1 +1,0 @@
-use Rattle.replica_core.proofs.restore.log_copy.Goals as goal
