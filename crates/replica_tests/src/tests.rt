@@ -1,5 +1,6 @@
-//! Operations handed in out of order, twice, and against the rules; held ones given up, and released by changes of one's own;
-//! and want of memory.
+//! Operations handed in out of order, twice, and against the rules, also against several at once; held ones given up, and
+//! released by changes of one's own; and want of memory.
+mod causes;
 mod foreign;
 mod samples;
 mod scarce;

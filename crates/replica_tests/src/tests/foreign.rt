@@ -1,11 +1,8 @@
 //! The worked row on what is refused of operations that are handed in.
-use super::samples::{Told, delivered, operation};
+use super::samples::{Told, delivered, later, operation, server};
 use doc_words::{Query, Reply};
 use json_scalar::Refusal;
-use lamport_id::{Id, ReplicaName};
-use op_core::{Cursor, Front, Key, Mutation, Operation, Path};
-use replica_core::Replica;
-use std::alloc::Global;
+use lamport_id::ReplicaName;
 use std::test::Fail;
 
 const FOREIGN: [(&str, Told); 8] = [
@@ -61,11 +58,6 @@ fn is_entry(entry: &(ReplicaName, u64), due: (&str, u64)) -> bool {
     *entry.0.as_bytes() == *due.0.as_bytes() && entry.1 == due.1
 }
 
-fn server(alloc: Global) -> Result<Replica, Refusal> {
-    let name = ReplicaName::read(b"srv-1").ok_or(Refusal::BadRequest)?;
-    Replica::new(alloc, name)
-}
-
 #[test]
 fn foreign_refusals(rt: HostRuntime) -> Result<(), Fail> {
     let alloc = rt.alloc();
@@ -80,23 +72,6 @@ fn foreign_refusals(rt: HostRuntime) -> Result<(), Fail> {
     assert!(rt; is_front(front, ("o", 2), ("q", 3)));
     assert_eq!(rt; replica.log().len(), 3);
     Ok(())
-}
-
-// The operation of p with this counter, above 1, which knows the one before it.
-fn later(alloc: Global, counter: u64) -> Result<Operation, Refusal> {
-    let replica = ReplicaName::read(b"p").ok_or(Refusal::BadRequest)?;
-    let mut entries = Vec::new(alloc);
-    entries.push((replica, counter.saturating_sub(1)))?;
-    let cursor = Cursor {
-        path: Path::new(alloc),
-        key: Key::Doc,
-    };
-    Operation::shaped(
-        Id { counter, replica },
-        Front::from(entries),
-        cursor,
-        Mutation::Delete,
-    )
 }
 
 #[test]

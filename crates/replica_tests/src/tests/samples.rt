@@ -1,8 +1,9 @@
 //! Operations by their written forms, and what the changes of a replica tell.
 use doc_words::{Place, Steps};
 use json_scalar::Refusal;
-use op_core::{Cursor, Key, KeyText, Operation, Path, Tagged, read_wire};
-use replica_core::{Applied, Delivered};
+use lamport_id::{Id, ReplicaName};
+use op_core::{Cursor, Front, Key, KeyText, Mutation, Operation, Path, Tagged, read_wire};
+use replica_core::{Applied, Delivered, Replica};
 use serde_json::Value;
 use std::alloc::Global;
 
@@ -71,4 +72,27 @@ pub fn member(alloc: Global, name: &str) -> Result<Place, Refusal> {
         start: Cursor { path, key },
         steps: Steps::from(Vec::new(alloc)),
     })
+}
+
+/// A replica named srv-1 whose log is empty.
+pub fn server(alloc: Global) -> Result<Replica, Refusal> {
+    let name = ReplicaName::read(b"srv-1").ok_or(Refusal::BadRequest)?;
+    Replica::new(alloc, name)
+}
+
+/// The operation of p with this counter, above 1, which knows the one before it.
+pub fn later(alloc: Global, counter: u64) -> Result<Operation, Refusal> {
+    let replica = ReplicaName::read(b"p").ok_or(Refusal::BadRequest)?;
+    let mut entries = Vec::new(alloc);
+    entries.push((replica, counter.saturating_sub(1)))?;
+    let cursor = Cursor {
+        path: Path::new(alloc),
+        key: Key::Doc,
+    };
+    Operation::shaped(
+        Id { counter, replica },
+        Front::from(entries),
+        cursor,
+        Mutation::Delete,
+    )
 }

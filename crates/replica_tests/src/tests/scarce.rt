@@ -1,7 +1,11 @@
-//! One allocation is refused, whichever it is (`rt try --test --fail-alloc N` for each N). A call that meets it leaves all as it was,
-//! and made again it does what it does with ample memory. Held operations may be dropped instead.
+//! One allocation is refused, whichever it is. A call that meets it leaves all as it was, and made again it does what it does with
+//! ample memory. Held operations may be dropped instead.
+//!
+//! `rt test` refuses none. `bench/each-allocation replica_tests TEST..` runs a test of this file once for each of its allocations,
+//! with that one refused. `rt try --test --fail-alloc N` refuses the Nth of each test, for one N a run, and the tests of the other
+//! files fail under it, since they expect ample memory.
 use super::is_conflict_at;
-use super::samples::{Told, changed, delivered, given_up, member, operation, whole};
+use super::samples::{Told, changed, delivered, given_up, member, operation, server, whole};
 use doc_words::{Look, Place, Query, Reply, Steps};
 use json_scalar::Refusal;
 use lamport_id::ReplicaName;
@@ -253,17 +257,12 @@ fn restored_again(alloc: Global, ops: &[Operation]) -> Result<Replica, Misfit> {
 // A replica with an empty log is made at the second try.
 #[test]
 fn new_with_memory_wanting(rt: HostRuntime) -> Result<(), Fail> {
-    let made = match new_server(rt.alloc()) {
+    let made = match server(rt.alloc()) {
         Ok(replica) => Ok(replica),
-        Err(_) => new_server(rt.alloc()),
+        Err(_) => server(rt.alloc()),
     };
     assert_eq!(rt; made?.log().len(), 0);
     Ok(())
-}
-
-fn new_server(alloc: Global) -> Result<Replica, Refusal> {
-    let name = ReplicaName::read(b"srv-1").ok_or(Refusal::BadRequest)?;
-    Replica::new(alloc, name)
 }
 
 #[test]
