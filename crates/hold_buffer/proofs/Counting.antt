@@ -21,11 +21,11 @@ use Rattle.crdt_rules.proofs.Filters.{filter-Contains, Contains-filter, filter-p
 use Rattle.doc_rules.proofs.Held.{length-filter}
 use Rattle.op_log.proofs.KeyOrders.{id_order}
 use Rattle.op_log.proofs.Sorted.{less≢equal, IsRising-split, Contains-insert_cases, Contains-insert_old, Contains-insert_new, not_less_back, gap_none, split_at}
-use Rattle.hold_buffer.specs.Order.{operations_of, HoldAlike, IsIndexed, count_waits, ready_ids, one_less, counted_down}
+use Rattle.hold_buffer.specs.Order.{operations_of, HoldAlike, IsIndexed, count_waits, ready_ids, one_less, counted_down, waits_for, wait_of}
 use Rattle.hold_buffer.specs.declared.ticket.Ticket.{Ticket}
 use Rattle.hold_buffer.specs.declared.wait.Wait.{Wait}
 use Rattle.hold_buffer.proofs.Waiting.{read_within, others_kept}
-use Rattle.hold_buffer.proofs.WaitLists.{count-middle_own, count-middle_other, count-without, count-one, count-permuted, count-append, count-all, count-none, waits_for, wait_of, count-some, not_true, less_lt}
+use Rattle.hold_buffer.proofs.WaitLists.{count-middle_own, count-middle_other, count-without, count-one, count-permuted, count-append, count-all, count-none, count-some, not_true, less_lt}
 
 module _ {X Y : Type 0} (f : X → Y) where
   pub Contains-map : (xs : List X) {x : X} → Contains xs x → Contains (map f xs) (f x)

@@ -17,10 +17,10 @@ use Rattle.crdt_rules.proofs.Tests.{all_at, all_from}
 use Rattle.crdt_rules.proofs.Filters.{filter-Contains, Contains-filter}
 use Rattle.doc_rules.proofs.Held.{put_among_from}
 use Rattle.hold_buffer.specs.Held.{IsCurrent}
-use Rattle.hold_buffer.specs.Order.{operations_of, IsOrdered, IsIndexed, count_waits}
+use Rattle.hold_buffer.specs.Order.{operations_of, IsOrdered, IsIndexed, count_waits, waits_for, wait_of}
 use Rattle.hold_buffer.specs.declared.ticket.Ticket.{Ticket}
 use Rattle.hold_buffer.specs.declared.wait.Wait.{Wait}
-use Rattle.hold_buffer.proofs.WaitLists.{not_true, waits_for, wait_of, count-some, count-one}
+use Rattle.hold_buffer.proofs.WaitLists.{not_true, count-some, count-one}
 use Rattle.hold_buffer.proofs.Counting.{Contains-map, map-from, zero_test, some_test}
 use Rattle.hold_buffer.proofs.Waiting.{operations-at}
 

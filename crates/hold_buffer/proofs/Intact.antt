@@ -15,10 +15,10 @@ use Rattle.doc_rules.proofs.FromLog.{lacks_something}
 use Rattle.doc_rules.proofs.Held.{length-filter}
 use Rattle.op_log.specs.Sorted.{IsGap}
 use Rattle.hold_buffer.specs.Held.{Buffer, IsCurrent}
-use Rattle.hold_buffer.specs.Order.{operations_of, IsOrdered, HoldAlike, AreSorted, IsIndexed, IsIntact}
+use Rattle.hold_buffer.specs.Order.{operations_of, IsOrdered, HoldAlike, AreSorted, IsIndexed, IsIntact, waits_for}
 use Rattle.hold_buffer.specs.declared.ticket.Ticket.{Ticket}
 use Rattle.hold_buffer.specs.declared.wait.Wait.{Wait}
-use Rattle.hold_buffer.proofs.WaitLists.{sorted-filter, without_run, waits_for}
+use Rattle.hold_buffer.proofs.WaitLists.{sorted-filter, without_run}
 use Rattle.hold_buffer.proofs.Counting.{indexed-held, indexed-removed, no_waits}
 use Rattle.hold_buffer.proofs.Current.{current-logged, current-removed, current-held}
 use Rattle.hold_buffer.proofs.Waiting.{same_state, no_held}

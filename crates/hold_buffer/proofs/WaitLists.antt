@@ -1,22 +1,22 @@
 -- Lists of waits: their order, the run of one id, and how many there are of an operation.
-use Rattle.std.proofs.Common.{◌≡◌, ◌≢◌, ℕ, zero, suc, ◌<◌, ◌≤◌, ◌+◌, inl, inr, List, [], ◌∷◌, ◌++◌, length, map, filter, take, drop, get_or, not, Bool, true, false, cond, Contains, refl, sym, ap, subst, ◌∙◌, arith, true≢false, Ordering, Less, Equal, Greater, length-drop}
-use Rattle.std.specs.Prelude.{insert, IsPermutation}
+use Rattle.std.proofs.Common.{◌≡◌, ◌≢◌, ℕ, zero, suc, ◌<◌, ◌≤◌, ◌+◌, inl, inr, List, [], ◌∷◌, ◌++◌, length, filter, take, drop, get_or, not, Bool, true, false, cond, Contains, refl, sym, ap, subst, ◌∙◌, arith, true≢false, Ordering, Less, Equal, Greater, length-drop}
+use Rattle.std.specs.Prelude.{IsPermutation}
 use Rattle.std.specs.Ordering.{is_lt}
-use Rattle.std.specs.List.Sorted.{IsPartitionPoint, IsPartitionedBy}
+use Rattle.std.specs.List.Sorted.{IsPartitionPoint, IsPartitionedBy, IsSortedBy}
 use Rattle.std.proofs.lemmas.Bool.{both_ways, false_from_ne_true, cases_lt}
-use Rattle.std.proofs.lemmas.List.{length-append, length-take, take-append-drop, get_or-take, get_or-drop}
-use Rattle.std.proofs.lemmas.List.Elements.{filter-append, Contains-get_or, Contains-append_left, Contains-append_right, Contains-append_cases}
-use Rattle.std.proofs.lemmas.List.Sorted.{sum_by-IsPermutation}
+use Rattle.std.proofs.lemmas.List.{length-append, length-take, get_or-take, get_or-drop}
+use Rattle.std.proofs.lemmas.List.Elements.{filter-append, Contains-get_or}
+use Rattle.std.proofs.lemmas.List.Sorted.{sum_by-IsPermutation, sorted_far, ranks_by}
 use Rattle.std.proofs.lemmas.List.Sums.{length-filter}
 use Rattle.lamport_id.specs.Order.{id_cmp}
 use Rattle.lamport_id.specs.declared.id.Id.{Id}
 use Rattle.crdt_rules.specs.Same.{id_eq}
-use Rattle.list_laws.proofs.Members.{Contains-here, Contains-there, Contains-cases}
+use Rattle.list_laws.proofs.Members.{Contains-here}
 use Rattle.crdt_rules.proofs.SameLaws.{id_decides, eq_from}
 use Rattle.crdt_rules.proofs.Filters.{filter-Contains, Contains-filter}
 use Rattle.op_log.proofs.KeyOrders.{id_order}
 use Rattle.op_log.proofs.Sorted.{less_back, not_less_back}
-use Rattle.hold_buffer.specs.Order.{AreSorted, count_waits}
+use Rattle.hold_buffer.specs.Order.{AreSorted, count_waits, wait_of, waits_for}
 use Rattle.hold_buffer.specs.declared.wait.Wait.{Wait}
 
 -- ---- the order
@@ -75,30 +75,19 @@ module _ (P Q : Wait → Type 0) (waits : List Wait) (n : ℕ) (within : n ≤ l
       let inside : n + c.0 < length waits = omega (arith, length-drop n waits, c.1) in
       subst Q (sym (get_or-drop n waits c.0 v) ∙ c.2) (point.1 (n + c.0) v (omega arith) inside)
 
-sorted-put : (us vs : List Wait) (w : Wait) → AreSorted (us ++ vs) → ((u : Wait) → Contains us u → is_lt (id_cmp w.awaited u.awaited) ≡ false)
-    → ((v : Wait) → Contains vs v → is_lt (id_cmp v.awaited w.awaited) ≡ false) → AreSorted (us ++ w ∷ vs)
-sorted-put [] vs w sorted above below = (below, sorted)
-sorted-put (u ∷ us) vs w sorted above below = (first, sorted-put us vs w sorted.1 (λ x c. above x (Contains-there u us c)) below)
-  where
-    first : (v : Wait) → Contains (us ++ w ∷ vs) v → is_lt (id_cmp v.awaited u.awaited) ≡ false
-    first v c =
-        elim (Contains-append_cases us (w ∷ vs) v c) [
-          | inl left ↦ sorted.0 v (Contains-append_left us vs v left)
-          | inr right ↦ elim (Contains-cases w vs right) [
-            | inl here ↦ subst (λ (z : Wait). is_lt (id_cmp z.awaited u.awaited) ≡ false) here (above u (Contains-here us refl))
-            | inr behind ↦ sorted.0 v (Contains-append_right us vs v behind)
-          ]
-        ]
+-- no element is less than one before it
+pub sorted-from : (waits : List Wait) → ((i j : ℕ) (d : Wait) → i ≤ j → j < length waits → is_lt (id_cmp (get_or waits j d).awaited (get_or waits i d).awaited) ≡ false)
+    → AreSorted waits
+sorted-from [] far = tt
+sorted-from (w ∷ waits) far = (
+  (λ v c. subst (λ (z : Wait). is_lt (id_cmp z.awaited w.awaited) ≡ false) c.2 (far 0 (suc c.0) v (omega arith) (omega (arith, c.1)))),
+  sorted-from waits (λ i j d le within. far (suc i) (suc j) d (omega (arith, le)) (omega (arith, within))),
+)
 
--- a wait goes behind those for lesser ids
-pub sorted-insert : (waits : List Wait) (at : ℕ) (w : Wait) → AreSorted waits → at ≤ length waits
-    → IsPartitionPoint (λ v. is_lt (id_cmp v.awaited w.awaited) ≡ true) (λ v. is_lt (id_cmp v.awaited w.awaited) ≡ false) waits at → AreSorted (insert waits at w)
-sorted-insert waits at w sorted within point =
-    let P : Wait → Type 0 = λ v. is_lt (id_cmp v.awaited w.awaited) ≡ true in
-    let Q : Wait → Type 0 = λ v. is_lt (id_cmp v.awaited w.awaited) ≡ false in
-    sorted-put (take at waits) (drop at waits) w (subst AreSorted (sym (take-append-drop at waits)) sorted)
-    (λ u c. not_less_back id_order u.awaited w.awaited (less_is (id_cmp u.awaited w.awaited) (first_part P Q waits at within point u c)))
-    (second_part P Q waits at within point)
+-- after a sort by the awaited ids
+pub sorted-by_awaited : (waits : List Wait) → IsSortedBy (λ v w. is_lt (id_cmp v.awaited w.awaited)) waits → AreSorted waits
+sorted-by_awaited waits rises =
+    sorted-from waits (sorted_far (λ v w. is_lt (id_cmp v.awaited w.awaited)) (ranks_by id_order.total (λ (w : Wait). w.awaited)) waits rises)
 
 pub sorted-filter : (p : Wait → Bool) (waits : List Wait) → AreSorted waits → AreSorted (filter p waits)
 sorted-filter p [] sorted = tt
@@ -196,13 +185,6 @@ count-own id w waits own =
 pub count-other : (id : Id) (w : Wait) (waits : List Wait) → id_eq w.waiter id ≡ false → count_waits id (w ∷ waits) ≡ count_waits id waits
 count-other id w waits other =
     ap (λ b. length (cond b (w ∷ filter (λ v. id_eq v.waiter id) waits) (filter (λ v. id_eq v.waiter id) waits))) other
-
-abbrev pub wait_of : Id → Id → Wait
-wait_of i waiter = record { awaited = i; waiter = waiter }
-
--- the waits of one operation for these ids
-abbrev pub waits_for : List Id → Id → List Wait
-waits_for ids waiter = map (λ i. wait_of i waiter) ids
 
 pub count-all : (waiter : Id) (ids : List Id) → count_waits waiter (waits_for ids waiter) ≡ length ids
 count-all waiter [] = refl

@@ -24,6 +24,14 @@ abbrev pub AreSorted : List Wait → Type 0
 AreSorted [] = Unit {0}
 AreSorted (w ∷ waits) = ((v : Wait) → Contains waits v → is_lt (id_cmp v.awaited w.awaited) ≡ false) × AreSorted waits
 
+-- an operation waits for an id
+abbrev pub wait_of : Id → Id → Wait
+wait_of i waiter = record { awaited = i; waiter = waiter }
+
+-- the waits of one operation for these ids
+abbrev pub waits_for : List Id → Id → List Wait
+waits_for ids waiter = map (λ i. wait_of i waiter) ids
+
 -- for how many ids an operation waits
 abbrev pub count_waits : Id → List Wait → ℕ
 count_waits id waits = length (filter (λ w. id_eq w.waiter id) waits)

@@ -11,11 +11,11 @@ ghost use Rattle.crdt_rules.specs.Dependencies.{is_logged, is_ready, missing};
 ghost use Rattle.hold_buffer.specs.Held.{IsCurrent, cause_of};
 ghost use Rattle.doc_rules.specs.Replica.{put_among};
 
-use crate::order::{grow, ids_of, search, store, take, waiting_of};
+use crate::order::{admit, ids_of, search, store, take, waiting_of};
 use crate::ready::{forget, release};
 use crate::ticket::Ticket;
 use crate::wait::Wait;
-use crate::waits::{add_waits, cut, end_of, start_of};
+use crate::waits::{cut, end_of, start_of};
 use doc_words::{Ids, Waiting};
 use json_scalar::Refusal;
 use lamport_id::Id;
@@ -133,7 +133,7 @@ impl HoldBuffer {
         ensures err { OnErr result (self.new ≡ self.old) }
         ensures current { IsCurrent self.new log.now.operations }
     {
-        let room = grow(
+        let place = admit(
             log,
             &op,
             &mut self.slots,
@@ -141,11 +141,9 @@ impl HoldBuffer {
             &mut self.waits,
             &mut self.ready,
         );
-        match room {
+        match place {
             Ok((at, missing)) => {
-                let awaited = missing.as_slice();
-                add_waits(&mut self.waits, awaited, &op.id());
-                store(&mut self.slots, &mut self.order, at, op, awaited.len());
+                store(&mut self.slots, &mut self.order, at, op, missing);
                 Ok(())
             }
             Err(refusal) => {

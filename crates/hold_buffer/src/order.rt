@@ -1,5 +1,5 @@
 //! The order of the held operations.
-ghost use Rattle.std.specs.Prelude.{◌≡◌, ◌≢◌, ◌<◌, ◌+◌, not, length, filter, map, vec_len, ◌≤◌, ℕ, insert, OnOk, OnSome, IfOk, IfErr, Ok, Err, MatchResult};
+ghost use Rattle.std.specs.Prelude.{◌≡◌, ◌≢◌, ◌<◌, ◌+◌, ◌++◌, not, length, filter, map, vec_len, ◌≤◌, ℕ, insert, IsPermutation, OnOk, OnErr, OnSome, IfOk, IfErr, Ok, Err, MatchResult};
 ghost use Rattle.std.specs.Vec.{vec_capacity};
 ghost use Rattle.slab.specs.Slab.{HasRoomFor};
 ghost use Rattle.lamport_id.specs.Order.{id_cmp};
@@ -10,10 +10,11 @@ ghost use Rattle.op_log.specs.Sorted.{IsPlace, IsGap};
 ghost use Rattle.crdt_rules.specs.Dependencies.{missing};
 ghost use Rattle.doc_rules.specs.Replica.{find_id, put_among};
 ghost use Rattle.hold_buffer.specs.Held.{cause_of};
-ghost use Rattle.hold_buffer.specs.Order.{operations_of, IsOrdered};
+ghost use Rattle.hold_buffer.specs.Order.{operations_of, IsOrdered, AreSorted, waits_for};
 
 use crate::ticket::Ticket;
 use crate::wait::Wait;
+use crate::waits::add_waits;
 use doc_words::{Ids, Waiting};
 use json_scalar::Refusal;
 use lamport_id::Id;
@@ -68,60 +69,63 @@ pub fn prepare(
     }
 }
 
-/// The ids that an operation waits for, with room for them as waits, and for so many ready ids. It is refused for want of
-/// memory alone.
-pub fn prepare_waits(
+/// Adds what an operation waits for, with room for so many ready ids, and counts it. It is refused for want of memory alone,
+/// and then the waits stay as they are.
+pub fn add_missing(
     log: &OpLog,
     op: &Operation,
     room: usize,
     waits: &mut Vec<Wait>,
     ready: &mut Vec<Id>,
-) -> Result<Ids, Refusal>
-    ensures waits { waits.new.items ≡ waits.old.items }
+) -> Result<usize, Refusal>
+    ensures sorted { OnOk result (AreSorted waits.new.items) }
+    ensures added { OnOk result (IsPermutation (waits.old.items ++ waits_for (missing op.now log.now.operations) op.now.id) waits.new.items) }
+    ensures missing { IfOk result (λ n. n ≡ length (missing op.now log.now.operations)) }
     ensures ready { ready.new.items ≡ ready.old.items }
-    ensures missing { IfOk result (λ ids. ids ≡ missing op.now log.now.operations) }
-    ensures room { IfOk result (λ ids. vec_len waits.new + length ids ≤ vec_capacity waits.new) }
     ensures enough { OnOk result (room ≤ vec_capacity ready.new) }
     ensures keeps { vec_capacity ready.old ≤ vec_capacity ready.new }
     ensures err { IfErr result (λ e. e ≡ Refusal.NoMemory) }
+    ensures kept { OnErr result (waits.new.items ≡ waits.old.items) }
 {
     match log.missing(op) {
         Ok(missing) => {
-            waits.reserve(missing.as_slice().len())?;
+            let awaited = missing.as_slice();
             ready.reserve(room)?;
-            Ok(missing)
+            add_waits(waits, awaited, &op.id())?;
+            Ok(awaited.len())
         }
         Err(_) => Err(Refusal::NoMemory),
     }
 }
 
-/// Room for one more held operation: where it is to be stored, and the ids that it waits for; or the first cause against
-/// it.
-pub fn grow(
+/// Adds what one more operation waits for, with room for the operation: where it is to be stored, and for how many ids it
+/// waits; or the first cause against it, which leaves the waits as they are.
+pub fn admit(
     log: &OpLog,
     op: &Operation,
     slots: &mut Slab<Operation>,
     order: &mut Vec<Ticket>,
     waits: &mut Vec<Wait>,
     ready: &mut Vec<Id>,
-) -> Result<(usize, Ids), Refusal>
+) -> Result<(usize, usize), Refusal>
     requires { IsOrdered slots.old order.old.items }
     ensures order { order.new.items ≡ order.old.items }
     ensures slots { slots.new ≡ record slots.old { capacity = slots.new.capacity } }
-    ensures waits { waits.new.items ≡ waits.old.items }
+    ensures sorted { OnOk result (AreSorted waits.new.items) }
+    ensures added { OnOk result (IsPermutation (waits.old.items ++ waits_for (missing op.now log.now.operations) op.now.id) waits.new.items) }
+    ensures kept { OnErr result (waits.new.items ≡ waits.old.items) }
     ensures ready { ready.new.items ≡ ready.old.items }
     ensures gap { IfOk result (λ r. IsGap id_cmp (λ t. t.id) order.old.items op.now.id r.0) }
-    ensures missing { IfOk result (λ r. r.1 ≡ missing op.now log.now.operations) }
+    ensures missing { IfOk result (λ r. r.1 ≡ length (missing op.now log.now.operations)) }
     ensures slot { OnOk result (HasRoomFor slots.new 1) }
     ensures ticket { OnOk result (vec_len order.new < vec_capacity order.new) }
-    ensures room { IfOk result (λ r. vec_len waits.new + length r.1 ≤ vec_capacity waits.new) }
     ensures enough { OnOk result (length order.old.items + 1 ≤ vec_capacity ready.new) }
     ensures keeps { vec_capacity ready.old ≤ vec_capacity ready.new }
     ensures cause { MatchResult result (λ _. cause_of op.now.id (operations_of slots.old order.old.items) ≡ Ok tt)
         (λ e. e ≢ Refusal.NoMemory → cause_of op.now.id (operations_of slots.old order.old.items) ≡ Err e) }
 {
     match prepare(slots, order, op.id()) {
-        Ok(at) => match prepare_waits(log, op, order.capacity(), waits, ready) {
+        Ok(at) => match add_missing(log, op, order.capacity(), waits, ready) {
             Ok(missing) => Ok((at, missing)),
             Err(refusal) => Err(refusal),
         },
@@ -181,13 +185,13 @@ pub fn waiting_of(
 {
     let mut waiting = Vec::new(alloc);
     for ticket in order {
-        let entry = waits_for(log, &slots[ticket.key])?;
+        let entry = entry_of(log, &slots[ticket.key])?;
         waiting.push(entry)?;
     }
     Ok(Waiting::from(waiting))
 }
 
-fn waits_for(log: &OpLog, op: &Operation) -> Result<(Id, Ids), Refusal>
+fn entry_of(log: &OpLog, op: &Operation) -> Result<(Id, Ids), Refusal>
     ensures { UnlessMemory result (Ok (op.now.id, missing op.now log.now.operations)) }
 {
     let missing = log.missing(op)?;

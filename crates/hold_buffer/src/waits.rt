@@ -1,15 +1,16 @@
 //! What the held operations wait for.
-ghost use Rattle.std.specs.Prelude.{◌≡◌, ◌≤◌, ◌<◌, ◌+◌, ◌++◌, ◌∷◌, true, false, not, length, filter, map, vec_len, IsPermutation};
+ghost use Rattle.std.specs.Prelude.{◌≡◌, ◌≤◌, ◌+◌, ◌++◌, true, false, not, length, filter, map, vec_len, IsPermutation, OnOk, OnErr};
 ghost use Rattle.std.specs.List.{remove_range};
 ghost use Rattle.std.specs.Ordering.{is_lt};
 ghost use Rattle.std.specs.List.Sorted.{IsPartitionPoint};
 ghost use Rattle.std.specs.Vec.{vec_capacity};
 ghost use Rattle.lamport_id.specs.Order.{id_cmp};
 ghost use Rattle.crdt_rules.specs.Same.{id_eq};
-ghost use Rattle.hold_buffer.specs.Order.{AreSorted};
+ghost use Rattle.hold_buffer.specs.Order.{AreSorted, waits_for};
 
 use crate::wait::Wait;
 use lamport_id::Id;
+use std::alloc::AllocError;
 
 /// Where the waits for an id begin, or would begin.
 pub fn start_of(waits: &[Wait], id: &Id) -> usize
@@ -38,33 +39,43 @@ pub fn cut(waits: &mut Vec<Wait>, start: usize, end: usize)
     drop(waits.drain(start..end));
 }
 
-/// One more wait.
-fn add_wait(waits: &mut Vec<Wait>, wait: &Wait)
-    requires sorted { AreSorted waits.old.items }
-    requires room { vec_len waits.old < vec_capacity waits.old }
-    ensures sorted { AreSorted waits.new.items }
-    ensures added { IsPermutation (wait.now ∷ waits.old.items) waits.new.items }
-    ensures len { vec_len waits.new ≡ vec_len waits.old + 1 }
-    ensures capacity { vec_capacity waits.new ≡ vec_capacity waits.old }
-{
-    let at = start_of(waits, &wait.awaited);
-    waits.insert(at, *wait).unwrap();
-}
-
-/// The waits of one operation for these ids.
-pub fn add_waits(waits: &mut Vec<Wait>, awaited: &[Id], waiter: &Id)
-    requires sorted { AreSorted waits.old.items }
-    requires room { vec_len waits.old + length awaited.now ≤ vec_capacity waits.old }
-    ensures sorted { AreSorted waits.new.items }
-    ensures added { IsPermutation (waits.old.items ++ map (λ i. record { awaited = i; waiter = waiter.now }) awaited.now) waits.new.items }
+// The waits of one operation for these ids, behind the others.
+fn append(waits: &mut Vec<Wait>, awaited: &[Id], waiter: &Id)
+    requires { vec_len waits.old + length awaited.now ≤ vec_capacity waits.old }
+    ensures { waits.new.items ≡ waits.old.items ++ waits_for awaited.now waiter.now }
 {
     for id in awaited {
-        let wait = Wait {
+        waits.push_reserved(Wait {
             awaited: *id,
             waiter: *waiter,
-        };
-        add_wait(waits, &wait);
+        });
     }
+}
+
+// Brings the waits in order. Where memory is lacking they stay as they are.
+fn sort(waits: &mut Vec<Wait>) -> Result<(), AllocError>
+    ensures sorted { OnOk result (AreSorted waits.new.items) }
+    ensures moved { OnOk result (IsPermutation waits.old.items waits.new.items) }
+    ensures err { OnErr result (waits.new.items ≡ waits.old.items) }
+{
+    // A stable sort, since it merges the waits that are in order with the new ones in one pass.
+    waits.sort_by(|wait, other| wait.awaited.cmp(&other.awaited))
+}
+
+/// The waits of one operation for these ids. Where memory is lacking all stays as it is.
+pub fn add_waits(waits: &mut Vec<Wait>, awaited: &[Id], waiter: &Id) -> Result<(), AllocError>
+    ensures sorted { OnOk result (AreSorted waits.new.items) }
+    ensures added { OnOk result (IsPermutation (waits.old.items ++ waits_for awaited.now waiter.now) waits.new.items) }
+    ensures err { OnErr result (waits.new.items ≡ waits.old.items) }
+{
+    let len = waits.len();
+    waits.reserve(awaited.len())?;
+    append(waits, awaited, waiter);
+    if let Err(lack) = sort(waits) {
+        waits.truncate(len);
+        return Err(lack);
+    }
+    Ok(())
 }
 
 /// Takes the waits of an operation out.

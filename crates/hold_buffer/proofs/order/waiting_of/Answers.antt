@@ -38,5 +38,5 @@ returns-in_err-entry c =
     let op = c.index.result.now in
     rw (exit.1, exit.2)
     (λ other.
-    absurd (lacks c.waits_for.result c.in_err-entry.field-0.0 (op.id, missing op c.args.log.now.operations) c.waits_for.ensures c.in_err-entry.was
+    absurd (lacks c.entry_of.result c.in_err-entry.field-0.0 (op.id, missing op c.args.log.now.operations) c.entry_of.ensures c.in_err-entry.was
     (λ memory. other (ap Err memory))))
