@@ -157,14 +157,14 @@ module _ (id : Id) where
 -- one wait is no more
 pub indexed-counted : (order : List Ticket) (us vs : List Wait) (w : Wait) (ready new : List Id) → IsIndexed order (us ++ w ∷ vs) ready
     → new ≡ ready_ids (counted_down w.waiter order) → IsIndexed (counted_down w.waiter order) (us ++ vs) new
-indexed-counted order us vs w ready new is free = record {
+indexed-counted order us vs w ready new is same = record {
   counted = λ u c.
       let r = map-from (one_less w.waiter) order c in
       subst (λ (v : Ticket). v.missing ≡ count_waits v.id (us ++ vs)) r.2 (fewer r.0 (is.counted r.0 r.1));
   held = λ v c.
       let r = is.held v (among v c) in
       (one_less w.waiter r.0, Contains-map (one_less w.waiter) order r.1, one_less-id w.waiter r.0 ∙ r.2);
-  free = free;
+  ready = same;
 }
   where
     among : (v : Wait) → Contains (us ++ vs) v → Contains (us ++ w ∷ vs) v
@@ -220,7 +220,7 @@ indexed-held order waits more ready ids at t is gap number some moved = record {
             let r = map-from (λ (i : Id). wait_of i t.id) ids new in
             (t, Contains-insert_new order at t, ap (λ (v : Wait). v.waiter) r.2)
       ];
-  free = is.free
+  ready = is.ready
       ∙ ap ready_ids (sym (take-append-drop at order)) ∙ ready-append (take at order) (drop at order)
       ∙ sym (ready-waits (take at order) (drop at order) t (some_test t.missing (omega (arith, number, some))));
 }
@@ -269,7 +269,7 @@ indexed-removed id {order} {waits} is = record {
       let r = filter-Contains (λ v. not (id_eq v.waiter id)) waits c in
       let s = is.held w r.0 in
       (s.0, Contains-filter (λ u. not (id_eq u.id id)) order s.1 (subst (λ j. not (id_eq j id) ≡ true) (sym s.2) r.1), s.2);
-  free = ap (filter (λ i. not (id_eq i id))) is.free ∙ ready-without id order;
+  ready = ap (filter (λ i. not (id_eq i id))) is.ready ∙ ready-without id order;
 }
 
 both_less : (a b : Id) → id_cmp a b ≡ Less → id_cmp b a ≡ Less → ⊥
@@ -397,7 +397,7 @@ waits_some us vs w is t c same =
 -- a ready id is no waiter
 pub ready_apart : {order : List Ticket} {waits : List Wait} {ready : List Id} → IsIndexed order waits ready → (id : Id) → Contains ready id → (w : Wait) → Contains waits w → w.waiter ≢ id
 ready_apart {order} {waits} is id among w c same =
-    let t = ready-from order (subst (λ l. Contains l id) is.free among) in
+    let t = ready-from order (subst (λ l. Contains l id) is.ready among) in
     let some = count-one (t.0).id waits w c (same ∙ sym t.3) in
     let was = is.counted t.0 t.1 in
     both_ways (is_free t.0) (some_test (t.0).missing (omega (arith, some, was))) t.2

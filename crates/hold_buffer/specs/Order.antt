@@ -52,10 +52,10 @@ abbrev pub HoldAlike : List Ticket → List Ticket → Type 0
 HoldAlike old new = (slots : Slab Op) → IsOrdered slots old → IsOrdered slots new × (operations_of slots new ≡ operations_of slots old)
 
 -- each ticket has the number of its waits, each wait is of a ticket, and the ready ids are those that wait for none
-pub record IsIndexed (order : List Ticket) (waits : List Wait) (ready : List Id) : Type 0 where
+pub record IsIndexed (order : List Ticket) (waits : List Wait) (ids : List Id) : Type 0 where
   pub counted : (t : Ticket) → Contains order t → t.missing ≡ count_waits t.id waits
   pub held : (w : Wait) → Contains waits w → (t : Ticket) × Contains order t × (t.id ≡ w.waiter)
-  pub free : ready ≡ ready_ids order
+  pub ready : ids ≡ ready_ids order
 
 -- all of a buffer, where the list of the ready ids has room for this many
 pub record IsIntact (slots : Slab Op) (order : List Ticket) (waits : List Wait) (ready : List Id) (room : ℕ) : Type 0 where

@@ -25,7 +25,8 @@ use slab::Slab;
 use std::alloc::Global;
 use std::marker::Model;
 
-/// Operations that wait for others to be logged. A contract sees the list of the held operations, by rising id.
+/// Operations that wait for others to be logged. A contract sees the held operations, by rising id (`held`), and which of
+/// them waits for which id (`waits`): `IsCurrent` says that they wait for exactly the ids of their fronts that a log lacks.
 #[derive(Debug)]
 pub struct HoldBuffer {
     slots: Slab<Operation>,

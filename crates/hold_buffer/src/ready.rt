@@ -50,10 +50,10 @@ pub fn release(
 fn count_down(order: &mut Vec<Ticket>, ready: &mut Vec<Id>, waiter: &Id)
     requires rising { IsRising id_cmp (λ t. t.id) order.old.items }
     requires waits { (t : Ticket) → Contains order.old.items t → t.id ≡ waiter.now → 0 < t.missing }
-    requires free { ready.old.items ≡ ready_ids order.old.items }
+    requires ready { ready.old.items ≡ ready_ids order.old.items }
     requires room { length order.old.items ≤ vec_capacity ready.old }
     ensures order { order.new.items ≡ counted_down waiter.now order.old.items }
-    ensures free { ready.new.items ≡ ready_ids order.new.items }
+    ensures ready { ready.new.items ≡ ready_ids order.new.items }
     ensures room { vec_capacity ready.new ≡ vec_capacity ready.old }
 {
     if let Ok(at) = search(order, *waiter) {

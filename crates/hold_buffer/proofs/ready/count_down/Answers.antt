@@ -17,7 +17,7 @@ overflow_sub-left c =
 
 pub put-requires-clause-rising : goal.put-requires-clause-rising
 put-requires-clause-rising c =
-    subst (IsRising id_cmp (λ (i : Id). i)) (sym c.requires.free) (rising-ready c.args.order.now.items c.requires.rising)
+    subst (IsRising id_cmp (λ (i : Id). i)) (sym c.requires.ready) (rising-ready c.args.order.now.items c.requires.rising)
 
 pub put-requires-clause-new : goal.put-requires-clause-new
 put-requires-clause-new c among =
@@ -26,7 +26,7 @@ put-requires-clause-new c among =
     let place = rw c.deref.ensures.value at c.in-Ok.ensures in
     let t = c.index.result.now in
     let some = c.requires.waits t (member order c.requires.rising id c.in-Ok.at place t c.index.ensures) (name order c.requires.rising id c.in-Ok.at place t c.index.ensures) in
-    not_ready order c.requires.rising id c.in-Ok.at place t c.index.ensures (some_test t.missing some) (subst (λ (l : List Id). Contains l id) c.requires.free among)
+    not_ready order c.requires.rising id c.in-Ok.at place t c.index.ensures (some_test t.missing some) (subst (λ (l : List Id). Contains l id) c.requires.ready among)
 
 pub put-requires-clause-room : goal.put-requires-clause-room
 put-requires-clause-room c =
@@ -36,7 +36,7 @@ put-requires-clause-room c =
     let t = c.index.result.now in
     let some = c.requires.waits t (member order c.requires.rising id c.in-Ok.at place t c.index.ensures) (name order c.requires.rising id c.in-Ok.at place t c.index.ensures) in
     let few = room_for order c.requires.rising id c.in-Ok.at place t c.index.ensures (some_test t.missing some) in
-    omega (arith, few, ap length c.requires.free, c.args.ready.now.ok.0, c.requires.room)
+    omega (arith, few, ap length c.requires.ready, c.args.ready.now.ok.0, c.requires.room)
 
 pub returns-then-left-eq0-clause-order : goal.returns-then-left-eq0-clause-order
 returns-then-left-eq0-clause-order c =
@@ -48,25 +48,25 @@ returns-else-left-eq0-clause-order c =
     let place = rw c.deref.ensures.value at c.in-Ok.ensures in
     set_record c.args.order.now.items c.requires.rising c.args.waiter.now c.in-Ok.at place c.index.result.now c.index.ensures c.index_mut.result.now c.index_mut.ensures.value
 
-pub returns-then-left-eq0-clause-free : goal.returns-then-left-eq0-clause-free
-returns-then-left-eq0-clause-free c =
+pub returns-then-left-eq0-clause-ready : goal.returns-then-left-eq0-clause-ready
+returns-then-left-eq0-clause-ready c =
     let order = c.args.order.now.items in
     let id = c.args.waiter.now in
     let place = rw c.deref.ensures.value at c.in-Ok.ensures in
     let t = c.index.result.now in
     let some = c.requires.waits t (member order c.requires.rising id c.in-Ok.at place t c.index.ensures) (name order c.requires.rising id c.in-Ok.at place t c.index.ensures) in
     ready_now order c.requires.rising id c.in-Ok.at place t c.index.ensures (some_test t.missing some) (zero_test _ c.if-left-eq0.true) c.put.new.ready.items
-    (λ us vs is below above. c.put.ensures.placed us vs (c.requires.free ∙ is) below above)
+    (λ us vs is below above. c.put.ensures.placed us vs (c.requires.ready ∙ is) below above)
     ∙ ap ready_ids (sym (set_record order c.requires.rising id c.in-Ok.at place t c.index.ensures c.index_mut.result.now c.index_mut.ensures.value))
 
-pub returns-else-left-eq0-clause-free : goal.returns-else-left-eq0-clause-free
-returns-else-left-eq0-clause-free c =
+pub returns-else-left-eq0-clause-ready : goal.returns-else-left-eq0-clause-ready
+returns-else-left-eq0-clause-ready c =
     let order = c.args.order.now.items in
     let id = c.args.waiter.now in
     let place = rw c.deref.ensures.value at c.in-Ok.ensures in
     let t = c.index.result.now in
     let some = c.requires.waits t (member order c.requires.rising id c.in-Ok.at place t c.index.ensures) (name order c.requires.rising id c.in-Ok.at place t c.index.ensures) in
-    c.requires.free
+    c.requires.ready
     ∙ ready_stays order c.requires.rising id c.in-Ok.at place t c.index.ensures (some_test t.missing some) (other_test _ c.if-left-eq0.false)
     ∙ ap ready_ids (sym (set_record order c.requires.rising id c.in-Ok.at place t c.index.ensures c.index_mut.result.now c.index_mut.ensures.value))
 

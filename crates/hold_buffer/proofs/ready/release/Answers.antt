@@ -28,7 +28,7 @@ loop-at-preserved c =
     rw add-one (
       subst (IsRising id_cmp (λ (t : Ticket). t.id)) (sym counted) (rising-counted w.waiter order c.loop-at.invariant.0),
       subst (λ (o : List Ticket). IsIndexed o (take c.args.start waits ++ drop (suc at) waits) c.count_down.new.ready.items) (sym counted)
-          (indexed-counted order (take c.args.start waits) (drop (suc at) waits) w c.loop-at.ready.items c.count_down.new.ready.items indexed (c.count_down.ensures.free ∙ ap ready_ids counted)),
+          (indexed-counted order (take c.args.start waits) (drop (suc at) waits) w c.loop-at.ready.items c.count_down.new.ready.items indexed (c.count_down.ensures.ready ∙ ap ready_ids counted)),
       (λ slots is.
           let first = c.loop-at.invariant.2 slots is in
           let next = alike-counted w.waiter order slots first.0 in

@@ -18,7 +18,7 @@ returns-clause-least c =
     let order = c.self.inside.order.items in
     let whole = c.self.invariant in
     let current = subst (λ (b : Buffer). IsCurrent b log) (sym c.self.view_is) c.requires in
-    let read = c.copied.ensures ∙ c.first.ensures.value ∙ ap (λ (l : List Id). slice_get l 0) (c.deref.ensures.value ∙ whole.indexed.free) in
+    let read = c.copied.ensures ∙ c.first.ensures.value ∙ ap (λ (l : List Id). slice_get l 0) (c.deref.ensures.value ∙ whole.indexed.ready) in
     rw (← c.self.view_is) (read ∙ sym (first_free slots order (λ (o : Op). is_ready o log) (ready_test whole.ordered whole.indexed log current)))
 
 pub returns-clause-operation : goal.returns-clause-operation
