@@ -1,12 +1,12 @@
 //! What is read of a tree.
-use crate::written::operations;
+use crate::written::{operation, operations};
 use converge_laws::replay_all;
 use doc_tree::Tree;
 use doc_view::{conflicts, items, keys, resolve, show, sum, values};
 use doc_words::{Scalars, Step};
 use json_scalar::Refusal;
 use lamport_id::Id;
-use op_core::{Cursor, Key, KeyText, Path};
+use op_core::{Cursor, Key, KeyText, Operation, Path};
 use std::alloc::Global;
 use std::test::Fail;
 
@@ -140,5 +140,85 @@ fn index_and_head_refusals(rt: HostRuntime) -> Result<(), Fail> {
         resolve(rt.alloc(), &tree, list, &[Step::Index(2)]),
         Err(Refusal::IndexPastEnd)
     );
+    Ok(())
+}
+
+fn is_at_head<T>(read: &Result<T, Refusal>) -> bool {
+    matches!(read, Err(Refusal::AtHead))
+}
+
+#[test]
+fn reads_at_a_head(rt: HostRuntime) -> Result<(), Fail> {
+    let tree = map_and_list(rt.alloc())?;
+    let list = at(rt.alloc(), &tree, &["a"])?;
+    let head = resolve(rt.alloc(), &tree, list, &[Step::Index(0)])?;
+    assert!(rt; is_at_head(&keys(rt.alloc(), &tree, &head)));
+    assert!(rt; is_at_head(&values(rt.alloc(), &tree, &head)));
+    assert!(rt; is_at_head(&items(rt.alloc(), &tree, &head)));
+    assert!(rt; is_at_head(&conflicts(rt.alloc(), &tree, &head)));
+    assert!(rt; is_at_head(&show(rt.alloc(), &tree, &head)));
+    Ok(())
+}
+
+/// How deep the brackets of a text nest, none of which stands in a string.
+fn nesting(text: &str) -> usize {
+    let mut open: usize = 0;
+    let mut deepest: usize = 0;
+    for byte in text.as_bytes() {
+        open = match byte {
+            b'[' | b'{' => open.saturating_add(1),
+            b']' | b'}' => open.saturating_sub(1),
+            _ => open,
+        };
+        deepest = deepest.max(open);
+    }
+    deepest
+}
+
+/// How deep the brackets of a reply nest that shows the whole document.
+fn shown_nesting(alloc: Global, tree: &Tree) -> Result<usize, Refusal> {
+    let element = show(alloc, tree, &whole(alloc))?;
+    let reply = format!(in alloc; r#"["show",{}]"#, element.as_str())?;
+    Ok(nesting(reply.as_str()))
+}
+
+/// An assignment in a map in 29 others, at a path of 30 keys.
+fn map_in_maps(alloc: Global) -> Result<Tree, Refusal> {
+    let mut text = String::from_str(alloc, r#"["op",[1,"p"],[],[[["m",0]"#)?;
+    for _ in 0..29 {
+        text.push_str(r#",["m","k"]"#)?;
+    }
+    text.push_str(r#"],"k"],["assign",7]]"#)?;
+    tree_of(alloc, &[text.as_str()])
+}
+
+/// An insertion after p's last one, into the list to which a path leads.
+fn insertion(alloc: Global, counter: u64, front: &str, path: &str) -> Result<Operation, Refusal> {
+    let text = format!(in alloc; r#"["op",[{counter},"p"],[{front}],[[{path}],1],["insert",7]]"#)?;
+    operation(alloc, text.as_str())
+}
+
+/// An element of a list in a map that is an element of a list, and so on, at a path of 30 keys.
+fn lists_in_maps(alloc: Global) -> Result<Tree, Refusal> {
+    let mut ops = Vec::new(alloc);
+    let mut path = String::from_str(alloc, r#"["m",0],["l","k"]"#)?;
+    let mut front = String::new(alloc);
+    for counter in 1..16 {
+        ops.push(insertion(alloc, counter, front.as_str(), path.as_str())?)?;
+        let below = format!(in alloc; r#",["m",[{counter},"p"]],["l","k"]"#)?;
+        path.push_str(below.as_str())?;
+        front = format!(in alloc; r#"["p",{counter}]"#)?;
+    }
+    replay_all(alloc, ops.as_slice())
+}
+
+// No path is longer than 30 keys. A map has four brackets (its element, its branch, its fields and one of them), a list
+// three, a scalar three (its element, its branch and its id), and the reply one. So nothing nests deeper than maps alone.
+#[test]
+fn deepest_show(rt: HostRuntime) -> Result<(), Fail> {
+    let maps = map_in_maps(rt.alloc())?;
+    assert_eq!(rt; shown_nesting(rt.alloc(), &maps)?, 124);
+    let lists = lists_in_maps(rt.alloc())?;
+    assert_eq!(rt; shown_nesting(rt.alloc(), &lists)?, 15 * (4 + 3) + 3 + 1);
     Ok(())
 }
