@@ -1,0 +1,18 @@
+-- The clearing of the rules at any place of a document.
+use Rattle.std.specs.Prelude.{List, [], ◌∷◌, Bool, if◌then◌else◌}
+use Rattle.lamport_id.specs.declared.id.Id.{Id}
+use Rattle.op_core.specs.declared.cursor.Key.{Key}
+use Rattle.op_core.specs.declared.cursor.Tagged.{Tagged}
+use Rattle.crdt_rules.specs.Same.{tagged_eq}
+use Rattle.crdt_rules.specs.Context.{Context, node, child, register, counter, present, order, clear_elem}
+
+-- the context at the end of a path is cleared at a key, and all beside it stays
+abbrev pub clear_at : (Id → Bool) → List Tagged → Key → Context → Context
+clear_at deps [] k ctx = clear_elem deps k ctx
+clear_at deps (t ∷ path) k ctx =
+    node
+    (λ s. if tagged_eq t s then clear_at deps path k (child ctx t) else child ctx s)
+    (register ctx)
+    (counter ctx)
+    (present ctx)
+    (order ctx)
