@@ -48,111 +48,111 @@ fn is_in(ids: &[Id], id: &Id) -> bool
     ids.iter().any(|other| *other == *id)
 }
 
-fn clear_marks(marks: &mut Vec<(Key, Id)>, deps: &[Id])
-    ensures { marks.new.items ≡ filter (λ m. not (is_in deps.now m.1)) marks.old.items }
+fn clear_marks(marks: &mut Vec<(Key, Id)>, dependencies: &[Id])
+    ensures { marks.new.items ≡ filter (λ m. not (is_in dependencies.now m.1)) marks.old.items }
 {
     marks.retain(
         |mark: &(Key, Id)| -> bool
-            ensures { result ≡ not (is_in deps.entry.now mark.now.1) }
-        { !is_in(deps, &mark.1) },
+            ensures { result ≡ not (is_in dependencies.entry.now mark.now.1) }
+        { !is_in(dependencies, &mark.1) },
     );
 }
 
-fn clear_values<T: Drop>(values: &mut Vec<(Key, Id, T)>, deps: &[Id])
-    ensures { values.new.items ≡ filter (λ e. not (is_in deps.now e.1)) values.old.items }
+fn clear_values<T: Drop>(values: &mut Vec<(Key, Id, T)>, dependencies: &[Id])
+    ensures { values.new.items ≡ filter (λ e. not (is_in dependencies.now e.1)) values.old.items }
 {
     values.retain(
         |entry: &(Key, Id, T)| -> bool
-            ensures { result ≡ not (is_in deps.entry.now entry.now.1) }
-        { !is_in(deps, &entry.1) },
+            ensures { result ≡ not (is_in dependencies.entry.now entry.now.1) }
+        { !is_in(dependencies, &entry.1) },
     );
 }
 
-fn clear_marks_at(marks: &mut Vec<(Key, Id)>, key: &Key, deps: &[Id])
-    ensures { marks.new.items ≡ filter (λ m. not (key_eq m.0 key.now && is_in deps.now m.1)) marks.old.items }
+fn clear_marks_at(marks: &mut Vec<(Key, Id)>, key: &Key, dependencies: &[Id])
+    ensures { marks.new.items ≡ filter (λ m. not (key_eq m.0 key.now && is_in dependencies.now m.1)) marks.old.items }
 {
     marks.retain(
         |mark: &(Key, Id)| -> bool
-            ensures { result ≡ not (key_eq mark.now.0 key.entry.now && is_in deps.entry.now mark.now.1) }
-        { !(mark.0 == *key && is_in(deps, &mark.1)) },
+            ensures { result ≡ not (key_eq mark.now.0 key.entry.now && is_in dependencies.entry.now mark.now.1) }
+        { !(mark.0 == *key && is_in(dependencies, &mark.1)) },
     );
 }
 
-fn clear_values_at<T: Drop>(values: &mut Vec<(Key, Id, T)>, key: &Key, deps: &[Id])
-    ensures { values.new.items ≡ filter (λ e. not (key_eq e.0 key.now && is_in deps.now e.1)) values.old.items }
+fn clear_values_at<T: Drop>(values: &mut Vec<(Key, Id, T)>, key: &Key, dependencies: &[Id])
+    ensures { values.new.items ≡ filter (λ e. not (key_eq e.0 key.now && is_in dependencies.now e.1)) values.old.items }
 {
     values.retain(
         |entry: &(Key, Id, T)| -> bool
-            ensures { result ≡ not (key_eq entry.now.0 key.entry.now && is_in deps.entry.now entry.now.1) }
-        { !(entry.0 == *key && is_in(deps, &entry.1)) },
+            ensures { result ≡ not (key_eq entry.now.0 key.entry.now && is_in dependencies.entry.now entry.now.1) }
+        { !(entry.0 == *key && is_in(dependencies, &entry.1)) },
     );
 }
 
 /// Takes the ids of a set out of a whole context.
 #[cycle(clearing)]
-fn clear_all(ctx: &mut PlainContext, deps: &[Id])
-    ensures { context_of ctx.new ≡ clear_all (is_in deps.now) (context_of ctx.old) }
+fn clear_all(context: &mut PlainContext, dependencies: &[Id])
+    ensures { context_of context.new ≡ clear_all (is_in dependencies.now) (context_of context.old) }
 {
-    clear_marks(&mut ctx.marks, deps);
-    clear_values(&mut ctx.scalars, deps);
-    clear_values(&mut ctx.numbers, deps);
-    clear_children(&mut ctx.children, deps);
+    clear_marks(&mut context.marks, dependencies);
+    clear_values(&mut context.scalars, dependencies);
+    clear_values(&mut context.numbers, dependencies);
+    clear_children(&mut context.children, dependencies);
 }
 
 #[cycle(clearing)]
-fn clear_children(children: &mut [(Tagged, PlainContext)], deps: &[Id])
-    ensures { contexts_of children.new ≡ clear_each (λ _. true) (is_in deps.now) (contexts_of children.old) }
+fn clear_children(children: &mut [(Tagged, PlainContext)], dependencies: &[Id])
+    ensures { contexts_of children.new ≡ clear_each (λ _. true) (is_in dependencies.now) (contexts_of children.old) }
 {
     for i in 0..children.len() {
-        clear_all(&mut children[i].1, deps);
+        clear_all(&mut children[i].1, dependencies);
     }
 }
 
-fn clear_child_at(child: &mut (Tagged, PlainContext), key: &Key, deps: &[Id])
-    ensures { seen child.new ≡ clear_child (λ k. key_eq k key.now) (is_in deps.now) (seen child.old) }
+fn clear_child_at(child: &mut (Tagged, PlainContext), key: &Key, dependencies: &[Id])
+    ensures { seen child.new ≡ clear_child (λ k. key_eq k key.now) (is_in dependencies.now) (seen child.old) }
 {
     if child.0.key() == key {
-        clear_all(&mut child.1, deps);
+        clear_all(&mut child.1, dependencies);
     }
 }
 
-fn clear_children_at(children: &mut [(Tagged, PlainContext)], key: &Key, deps: &[Id])
-    ensures { contexts_of children.new ≡ clear_each (λ k. key_eq k key.now) (is_in deps.now) (contexts_of children.old) }
+fn clear_children_at(children: &mut [(Tagged, PlainContext)], key: &Key, dependencies: &[Id])
+    ensures { contexts_of children.new ≡ clear_each (λ k. key_eq k key.now) (is_in dependencies.now) (contexts_of children.old) }
 {
     for i in 0..children.len() {
-        clear_child_at(&mut children[i], key, deps);
+        clear_child_at(&mut children[i], key, dependencies);
     }
 }
 
 /// Takes the ids of a set out at a key, and of the map and the list there.
-fn clear_elem(ctx: &mut PlainContext, key: &Key, deps: &[Id])
-    ensures { context_of ctx.new ≡ clear_elem (is_in deps.now) key.now (context_of ctx.old) }
+fn clear_elem(context: &mut PlainContext, key: &Key, dependencies: &[Id])
+    ensures { context_of context.new ≡ clear_elem (is_in dependencies.now) key.now (context_of context.old) }
 {
-    clear_marks_at(&mut ctx.marks, key, deps);
-    clear_values_at(&mut ctx.scalars, key, deps);
-    clear_values_at(&mut ctx.numbers, key, deps);
-    clear_children_at(&mut ctx.children, key, deps);
+    clear_marks_at(&mut context.marks, key, dependencies);
+    clear_values_at(&mut context.scalars, key, dependencies);
+    clear_values_at(&mut context.numbers, key, dependencies);
+    clear_children_at(&mut context.children, key, dependencies);
 }
 
 /// Adds an id to the presence set of a key.
-fn mark(ctx: &mut PlainContext, key: &Key, id: &Id) -> Result<(), Refusal>
-    ensures done { OnOk result (context_of ctx.new ≡ mark id.now key.now (context_of ctx.old)) }
+fn mark(context: &mut PlainContext, key: &Key, id: &Id) -> Result<(), Refusal>
+    ensures done { OnOk result (context_of context.new ≡ mark id.now key.now (context_of context.old)) }
     ensures memory { IfErr result (λ e. e ≡ NoMemory) }
 {
     let entry = (key_copy(key)?, *id);
-    ctx.marks.insert(0, entry)?;
+    context.marks.insert(0, entry)?;
     Ok(())
 }
 
 /// Enters a value, if it is a scalar, into the register of a key.
-fn enter(ctx: &mut PlainContext, key: &Key, id: &Id, val: &Val) -> Result<(), Refusal>
-    ensures done { OnOk result (context_of ctx.new ≡ enter id.now key.now (scalar_in val.now) (context_of ctx.old)) }
+fn enter(context: &mut PlainContext, key: &Key, id: &Id, val: &Val) -> Result<(), Refusal>
+    ensures done { OnOk result (context_of context.new ≡ enter id.now key.now (scalar_in val.now) (context_of context.old)) }
     ensures memory { IfErr result (λ e. e ≡ NoMemory) }
 {
     match val {
         Val::Scalar(scalar) => {
             let entry = (key_copy(key)?, *id, scalar_copy(scalar)?);
-            ctx.scalars.insert(0, entry)?;
+            context.scalars.insert(0, entry)?;
             Ok(())
         }
         Val::EmptyMap | Val::EmptyList => Ok(()),
@@ -160,22 +160,22 @@ fn enter(ctx: &mut PlainContext, key: &Key, id: &Id, val: &Val) -> Result<(), Re
 }
 
 /// Enters a number into the counter of a key.
-fn count(ctx: &mut PlainContext, key: &Key, id: &Id, number: &i64) -> Result<(), Refusal>
-    ensures done { OnOk result (context_of ctx.new ≡ count id.now key.now number.now (context_of ctx.old)) }
+fn count(context: &mut PlainContext, key: &Key, id: &Id, number: &i64) -> Result<(), Refusal>
+    ensures done { OnOk result (context_of context.new ≡ count id.now key.now number.now (context_of context.old)) }
     ensures memory { IfErr result (λ e. e ≡ NoMemory) }
 {
     let entry = (key_copy(key)?, *id, *number);
-    ctx.numbers.insert(0, entry)?;
+    context.numbers.insert(0, entry)?;
     Ok(())
 }
 
 /// Adds a number at a key.
-fn add(ctx: &mut PlainContext, key: &Key, id: &Id, number: &i64) -> Result<(), Refusal>
-    ensures done { OnOk result (context_of ctx.new ≡ count id.now key.now number.now (mark id.now key.now (context_of ctx.old))) }
+fn add(context: &mut PlainContext, key: &Key, id: &Id, number: &i64) -> Result<(), Refusal>
+    ensures done { OnOk result (context_of context.new ≡ count id.now key.now number.now (mark id.now key.now (context_of context.old))) }
     ensures memory { IfErr result (λ e. e ≡ NoMemory) }
 {
-    mark(ctx, key, id)?;
-    count(ctx, key, id, number)
+    mark(context, key, id)?;
+    count(context, key, id, number)
 }
 
 /// Where the first child at a key stands, or the length.
@@ -219,67 +219,73 @@ fn put_child(
 }
 
 /// Assigns a value at a key.
-fn put(ctx: &mut PlainContext, key: &Key, id: &Id, val: &Val, deps: &[Id]) -> Result<(), Refusal>
-    ensures done { OnOk result (context_of ctx.new ≡ put (is_in deps.now) id.now key.now val.now (context_of ctx.old)) }
+fn put(
+    context: &mut PlainContext,
+    key: &Key,
+    id: &Id,
+    val: &Val,
+    dependencies: &[Id],
+) -> Result<(), Refusal>
+    ensures done { OnOk result (context_of context.new ≡ put (is_in dependencies.now) id.now key.now val.now (context_of context.old)) }
     ensures memory { IfErr result (λ e. e ≡ NoMemory) }
 {
-    clear_elem(ctx, key, deps);
-    mark(ctx, key, id)?;
-    enter(ctx, key, id, val)
+    clear_elem(context, key, dependencies);
+    mark(context, key, id)?;
+    enter(context, key, id, val)
 }
 
 /// Takes an id into the order of the list.
-fn place(ctx: &mut PlainContext, after: &Key, id: &Id) -> Result<(), Refusal>
-    ensures done { OnOk result (context_of ctx.new ≡ place_id id.now after.now (context_of ctx.old)) }
+fn place(context: &mut PlainContext, after: &Key, id: &Id) -> Result<(), Refusal>
+    ensures done { OnOk result (context_of context.new ≡ place_id id.now after.now (context_of context.old)) }
     ensures memory { IfErr result (λ e. e ≡ NoMemory) }
 {
-    insert_by_rule(&mut ctx.order, after, id)
+    insert_by_rule(&mut context.order, after, id)
 }
 
 /// Inserts a value into the list.
 fn insert(
-    ctx: &mut PlainContext,
+    context: &mut PlainContext,
     after: &Key,
     id: &Id,
     val: &Val,
-    deps: &[Id],
+    dependencies: &[Id],
 ) -> Result<(), Refusal>
-    ensures done { OnOk result (context_of ctx.new ≡ mutate (is_in deps.now) id.now after.now (Insert val.now) (context_of ctx.old)) }
+    ensures done { OnOk result (context_of context.new ≡ mutate (is_in dependencies.now) id.now after.now (Insert val.now) (context_of context.old)) }
     ensures memory { IfErr result (λ e. e ≡ NoMemory) }
 {
-    place(ctx, after, id)?;
-    put(ctx, &Key::Element(*id), id, val, deps)
+    place(context, after, id)?;
+    put(context, &Key::Element(*id), id, val, dependencies)
 }
 
 /// What a mutation does at a key.
 fn mutate(
-    ctx: &mut PlainContext,
+    context: &mut PlainContext,
     key: &Key,
     id: &Id,
     mutation: &Mutation,
-    deps: &[Id],
+    dependencies: &[Id],
 ) -> Result<(), Refusal>
-    ensures done { OnOk result (context_of ctx.new ≡ mutate (is_in deps.now) id.now key.now mutation.now (context_of ctx.old)) }
+    ensures done { OnOk result (context_of context.new ≡ mutate (is_in dependencies.now) id.now key.now mutation.now (context_of context.old)) }
     ensures memory { IfErr result (λ e. e ≡ NoMemory) }
 {
     match mutation {
-        Mutation::Assign(val) => put(ctx, key, id, val, deps),
-        Mutation::Insert(val) => insert(ctx, key, id, val, deps),
+        Mutation::Assign(val) => put(context, key, id, val, dependencies),
+        Mutation::Insert(val) => insert(context, key, id, val, dependencies),
         Mutation::Delete => {
-            clear_elem(ctx, key, deps);
+            clear_elem(context, key, dependencies);
             Ok(())
         }
-        Mutation::Add(number) => add(ctx, key, id, number),
+        Mutation::Add(number) => add(context, key, id, number),
     }
 }
 
 /// Marks a key on the way of an operation, unless it is a delete.
-fn pass(ctx: &mut PlainContext, key: &Key, id: &Id, mutation: &Mutation) -> Result<(), Refusal>
-    ensures done { OnOk result (context_of ctx.new ≡ passed id.now key.now mutation.now (context_of ctx.old)) }
+fn pass(context: &mut PlainContext, key: &Key, id: &Id, mutation: &Mutation) -> Result<(), Refusal>
+    ensures done { OnOk result (context_of context.new ≡ passed id.now key.now mutation.now (context_of context.old)) }
     ensures memory { IfErr result (λ e. e ≡ NoMemory) }
 {
     match mutation {
-        Mutation::Assign(_) | Mutation::Insert(_) | Mutation::Add(_) => mark(ctx, key, id),
+        Mutation::Assign(_) | Mutation::Insert(_) | Mutation::Add(_) => mark(context, key, id),
         Mutation::Delete => Ok(()),
     }
 }
@@ -288,17 +294,23 @@ fn pass(ctx: &mut PlainContext, key: &Key, id: &Id, mutation: &Mutation) -> Resu
 #[cycle(descending)]
 fn descend(
     alloc: Global,
-    ctx: &mut PlainContext,
+    context: &mut PlainContext,
     op: &Operation,
     path: &[Tagged],
-    deps: &[Id],
+    dependencies: &[Id],
 ) -> Result<(), Refusal>
-    ensures done { OnOk result (context_of ctx.new ≡ descend (is_in deps.now) op.now path.now (context_of ctx.old)) }
+    ensures done { OnOk result (context_of context.new ≡ descend (is_in dependencies.now) op.now path.now (context_of context.old)) }
     ensures memory { IfErr result (λ e. e ≡ NoMemory) }
 {
     match path {
-        [] => mutate(ctx, &op.cursor().key, &op.id(), op.mutation(), deps),
-        [first, rest @ ..] => follow(alloc, ctx, op, first, rest, deps),
+        [] => mutate(
+            context,
+            &op.cursor().key,
+            &op.id(),
+            op.mutation(),
+            dependencies,
+        ),
+        [first, rest @ ..] => follow(alloc, context, op, first, rest, dependencies),
     }
 }
 
@@ -306,19 +318,19 @@ fn descend(
 #[cycle(descending)]
 fn follow(
     alloc: Global,
-    ctx: &mut PlainContext,
+    context: &mut PlainContext,
     op: &Operation,
     first: &Tagged,
     rest: &[Tagged],
-    deps: &[Id],
+    dependencies: &[Id],
 ) -> Result<(), Refusal>
-    ensures done { OnOk result (context_of ctx.new ≡ descend (is_in deps.now) op.now (first.now ∷ rest.now) (context_of ctx.old)) }
+    ensures done { OnOk result (context_of context.new ≡ descend (is_in dependencies.now) op.now (first.now ∷ rest.now) (context_of context.old)) }
     ensures memory { IfErr result (λ e. e ≡ NoMemory) }
 {
-    pass(ctx, first.key(), &op.id(), op.mutation())?;
-    let mut below = take_child(alloc, &mut ctx.children, first);
-    descend(alloc, &mut below, op, rest, deps)?;
-    put_child(&mut ctx.children, first, below)?;
+    pass(context, first.key(), &op.id(), op.mutation())?;
+    let mut below = take_child(alloc, &mut context.children, first);
+    descend(alloc, &mut below, op, rest, dependencies)?;
+    put_child(&mut context.children, first, below)?;
     Ok(())
 }
 
@@ -328,14 +340,20 @@ fn follow(
 /// Refused for want of memory alone (22); the context is let go then.
 pub fn plain_step(
     alloc: Global,
-    ctx: PlainContext,
+    context: PlainContext,
     op: &Operation,
-    deps: &[Id],
+    dependencies: &[Id],
 ) -> Result<PlainContext, Refusal>
-    ensures done { IfOk result (λ new. context_of new ≡ step (context_of ctx) op.now (is_in deps.now)) }
+    ensures done { IfOk result (λ new. context_of new ≡ step (context_of context) op.now (is_in dependencies.now)) }
     ensures memory { IfErr result (λ e. e ≡ NoMemory) }
 {
-    let mut changed = ctx;
-    descend(alloc, &mut changed, op, op.cursor().path.as_slice(), deps)?;
+    let mut changed = context;
+    descend(
+        alloc,
+        &mut changed,
+        op,
+        op.cursor().path.as_slice(),
+        dependencies,
+    )?;
     Ok(changed)
 }

@@ -16,7 +16,7 @@ pub fn insert_by_rule(order: &mut Vec<Id>, after: &Key, id: &Id) -> Result<(), R
     ensures memory { IfErr result (λ e. e ≡ NoMemory) }
 {
     match after {
-        Key::Element(prev) => insert_behind(order, prev, id),
+        Key::Element(previous) => insert_behind(order, previous, id),
         Key::Doc | Key::Text(_) | Key::Head => insert_first(order, id),
     }
 }
@@ -30,11 +30,11 @@ fn insert_first(order: &mut Vec<Id>, id: &Id) -> Result<(), Refusal>
     Ok(())
 }
 
-fn insert_behind(order: &mut Vec<Id>, prev: &Id, id: &Id) -> Result<(), Refusal>
-    ensures done { OnOk result (order.new.items ≡ place_behind id_cmp order.old.items prev.now id.now) }
+fn insert_behind(order: &mut Vec<Id>, previous: &Id, id: &Id) -> Result<(), Refusal>
+    ensures done { OnOk result (order.new.items ≡ place_behind id_cmp order.old.items previous.now id.now) }
     ensures memory { IfErr result (λ e. e ≡ NoMemory) }
 {
-    let from = place_in(order.as_slice(), prev);
+    let from = place_in(order.as_slice(), previous);
     if from < order.len() {
         let at = from + 1 + greater_in(&order[from + 1..], id);
         order.insert(at, *id)?;

@@ -18,7 +18,7 @@ impl PlainContext {
         ensures { result ≡ present (context_at (context_of self.now) path.now) key.now id.now }
     {
         match below(self, path) {
-            Some(ctx) => is_marked(ctx.marks.as_slice(), key, id),
+            Some(context) => is_marked(context.marks.as_slice(), key, id),
             None => false,
         }
     }
@@ -28,7 +28,7 @@ impl PlainContext {
         ensures { IsTrue result ↔ ((i : Id) × (present (context_at (context_of self.now) path.now) key.now i ≡ true)) }
     {
         match below(self, path) {
-            Some(ctx) => is_key_marked(ctx.marks.as_slice(), key),
+            Some(context) => is_key_marked(context.marks.as_slice(), key),
             None => false,
         }
     }
@@ -40,7 +40,7 @@ impl PlainContext {
             (λ scalar. register (context_at (context_of self.now) path.now) key.now id.now ≡ Some scalar.now) }
     {
         match below(self, path) {
-            Some(ctx) => value_of(ctx.scalars.as_slice(), key, id),
+            Some(context) => value_of(context.scalars.as_slice(), key, id),
             None => None,
         }
     }
@@ -52,7 +52,7 @@ impl PlainContext {
             (λ number. counter (context_at (context_of self.now) path.now) key.now id.now ≡ Some number.now) }
     {
         match below(self, path) {
-            Some(ctx) => value_of(ctx.numbers.as_slice(), key, id),
+            Some(context) => value_of(context.numbers.as_slice(), key, id),
             None => None,
         }
     }
@@ -62,7 +62,7 @@ impl PlainContext {
         ensures { result.now ≡ order (context_at (context_of self.now) path.now) }
     {
         match below(self, path) {
-            Some(ctx) => ctx.order.as_slice(),
+            Some(context) => context.order.as_slice(),
             None => &[],
         }
     }
@@ -113,28 +113,28 @@ fn child_at<'a>(children: &'a [(Tagged, PlainContext)], key: &Tagged) -> Option<
 
 /// The context at the end of a path; one that is missing is empty.
 #[cycle(going_down)]
-fn below<'a>(ctx: &'a PlainContext, path: &[Tagged]) -> Option<&'a PlainContext>
+fn below<'a>(context: &'a PlainContext, path: &[Tagged]) -> Option<&'a PlainContext>
     ensures { MatchOption result
-        (context_at (context_of ctx.now) path.now ≡ empty)
-        (λ end. context_of end.now ≡ context_at (context_of ctx.now) path.now) }
+        (context_at (context_of context.now) path.now ≡ empty)
+        (λ end. context_of end.now ≡ context_at (context_of context.now) path.now) }
 {
     match path {
-        [] => Some(ctx),
-        [first, rest @ ..] => below_first(ctx, first, rest),
+        [] => Some(context),
+        [first, rest @ ..] => below_first(context, first, rest),
     }
 }
 
 #[cycle(going_down)]
 fn below_first<'a>(
-    ctx: &'a PlainContext,
+    context: &'a PlainContext,
     first: &Tagged,
     rest: &[Tagged],
 ) -> Option<&'a PlainContext>
     ensures { MatchOption result
-        (context_at (context_of ctx.now) (first.now ∷ rest.now) ≡ empty)
-        (λ end. context_of end.now ≡ context_at (context_of ctx.now) (first.now ∷ rest.now)) }
+        (context_at (context_of context.now) (first.now ∷ rest.now) ≡ empty)
+        (λ end. context_of end.now ≡ context_at (context_of context.now) (first.now ∷ rest.now)) }
 {
-    match child_at(ctx.children.as_slice(), first) {
+    match child_at(context.children.as_slice(), first) {
         Some(child) => below(child, rest),
         None => None,
     }

@@ -14,16 +14,16 @@ use std::alloc::Global;
 
 /// The ids of the operations before it that an operation depends on.
 fn dependencies(alloc: Global, op: &Operation, before: &[Operation]) -> Result<Vec<Id>, Refusal>
-    ensures done { IfOk result (λ deps. deps.items ≡ filter (covers op.now.front) (map (λ o. o.id) before.now)) }
+    ensures done { IfOk result (λ ids. ids.items ≡ filter (covers op.now.front) (map (λ o. o.id) before.now)) }
     ensures memory { IfErr result (λ e. e ≡ NoMemory) }
 {
-    let mut deps = Vec::new(alloc);
+    let mut ids = Vec::new(alloc);
     for earlier in before {
         if op.front().covers(earlier.id()) {
-            deps.push(earlier.id())?;
+            ids.push(earlier.id())?;
         }
     }
-    Ok(deps)
+    Ok(ids)
 }
 
 /// The context that a list of operations makes, each with its dependencies among those before it. It asks nothing of the
@@ -31,14 +31,14 @@ fn dependencies(alloc: Global, op: &Operation, before: &[Operation]) -> Result<V
 ///
 /// Refused for want of memory alone (22).
 pub fn plain_replay(alloc: Global, ops: &[Operation]) -> Result<PlainContext, Refusal>
-    ensures done { IfOk result (λ ctx. facts (context_of ctx) ≡ facts (replay ops.now)) }
+    ensures done { IfOk result (λ context. facts (context_of context) ≡ facts (replay ops.now)) }
     ensures memory { IfErr result (λ e. e ≡ NoMemory) }
 {
-    let mut ctx = PlainContext::new(alloc);
+    let mut context = PlainContext::new(alloc);
     for i in 0..ops.len() {
         let op = &ops[i];
-        let deps = dependencies(alloc, op, &ops[..i])?;
-        ctx = plain_step(alloc, ctx, op, deps.as_slice())?;
+        let dependencies = dependencies(alloc, op, &ops[..i])?;
+        context = plain_step(alloc, context, op, dependencies.as_slice())?;
     }
-    Ok(ctx)
+    Ok(context)
 }

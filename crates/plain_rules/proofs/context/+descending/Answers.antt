@@ -7,17 +7,17 @@ use Rattle.plain_rules.proofs.context.+descending.Goals as goal
 
 pub follow-returns-clause-done : goal.follow-returns-clause-done
 follow-returns-clause-done t c =
-    let before = out-PlainContext c.pass.new.ctx in
+    let before = out-PlainContext c.pass.new.context in
     let op = c.args.op.now in
     let first = c.args.first.now in
-    let deps = is_in c.args.deps.now in
+    let deps = is_in c.args.dependencies.now in
     let put =
-    c.in_ok-put_child.ensures.done ∙ ap (λ y. seen (first, c.descend.new.ctx) ∷ contexts_of y.children.items) (out-roll-PlainContext _) in
+    c.in_ok-put_child.ensures.done ∙ ap (λ y. seen (first, c.descend.new.context) ∷ contexts_of y.children.items) (out-roll-PlainContext _) in
     rw (context_of-roll _, out-roll-PlainContext _)
     (ap (λ l. whole l before.scalars.items before.numbers.items before.marks.items before.order.items) put
-    ∙ descended deps op first c.args.rest.now (context_of c.args.ctx.now) (contexts_of before.children.items) (contexts_of c.take_child-below.new.children.items) before.scalars.items before.numbers.items before.marks.items before.order.items
-    (context_of c.take_child-below.result) (context_of c.descend.new.ctx)
-    (sym (context_of-out c.pass.new.ctx) ∙ (search rules))
+    ∙ descended deps op first c.args.rest.now (context_of c.args.context.now) (contexts_of before.children.items) (contexts_of c.take_child-below.new.children.items) before.scalars.items before.numbers.items before.marks.items before.order.items
+    (context_of c.take_child-below.result) (context_of c.descend.new.context)
+    (sym (context_of-out c.pass.new.context) ∙ (search rules))
     c.take_child-below.ensures.child
     c.take_child-below.ensures.others
     c.in_ok-descend.ensures.done)

@@ -10,9 +10,9 @@ use Rattle.plain_rules.proofs.context.clear_elem.Goals as goal
 
 pub returns : goal.returns
 returns c =
-    let before = out-PlainContext c.args.ctx.now in
+    let before = out-PlainContext c.args.context.now in
     let key = c.args.key.now in
-    let deps = is_in c.args.deps.now in
+    let deps = is_in c.args.dependencies.now in
     let scalars = c.clear_values_at.ensures ∙ ap (λ y. filter (λ e. not (key_eq e.0 key && deps e.1)) y.scalars.items) (out-roll-PlainContext _) in
     let numbers = c.clear_values_at-2.ensures ∙ ap (λ y. filter (λ e. not (key_eq e.0 key && deps e.1)) y.numbers.items) (out-roll-PlainContext _) ∙ ap (λ y. filter (λ e. not (key_eq e.0 key && deps e.1)) y.numbers.items) (out-roll-PlainContext _) in
     let below =
@@ -24,4 +24,4 @@ returns c =
     rw (context_of-roll _, out-roll-PlainContext _, out-roll-PlainContext _, out-roll-PlainContext _)
     ((λ i. whole ((ap contexts_of fits ∙ below) i) (scalars i) (numbers i) (c.clear_marks_at.ensures i) before.order.items)
     ∙ whole-clear_elem deps key (contexts_of before.children.items) before.scalars.items before.numbers.items before.marks.items before.order.items
-    ∙ ap (clear_elem deps key) (sym (context_of-out c.args.ctx.now)))
+    ∙ ap (clear_elem deps key) (sym (context_of-out c.args.context.now)))

@@ -4,4 +4,4 @@ use Rattle.plain_rules.specs.Plain.{is_in}
 use Rattle.plain_rules.proofs.context.clear_values.Goals as goal
 
 pub returns : goal.returns
-returns g c = filter_same _ (λ e. not (is_in c.args.deps.now e.1)) _ (λ x b f' h. search rules) _ _ c.retain.ensures.filtered
+returns g c = filter_same _ (λ e. not (is_in c.args.dependencies.now e.1)) _ (λ x b f' h. search rules) _ _ c.retain.ensures.filtered

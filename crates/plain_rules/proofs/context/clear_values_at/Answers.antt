@@ -6,4 +6,4 @@ use Rattle.plain_rules.proofs.context.clear_values_at.Goals as goal
 
 pub returns : goal.returns
 returns g c =
-    filter_same _ (λ e. not (key_eq e.0 c.args.key.now && is_in c.args.deps.now e.1)) _ (λ x b f' h. search rules) _ _ c.retain.ensures.filtered
+    filter_same _ (λ e. not (key_eq e.0 c.args.key.now && is_in c.args.dependencies.now e.1)) _ (λ x b f' h. search rules) _ _ c.retain.ensures.filtered

@@ -8,7 +8,7 @@ use Rattle.plain_rules.proofs.order.insert_behind.Goals as goal
 pub returns-in_ok-insert-clause-done : goal.returns-in_ok-insert-clause-done
 returns-in_ok-insert-clause-done c =
     let ids = c.args.order.now.items in
-    let prev = c.args.prev.now in
+    let prev = c.args.previous.now in
     let id = c.args.id.now in
     let from : c.place_in-from.result ≡ place_of ids prev = c.place_in-from.ensures.value ∙ ap (λ l. place_of l prev) c.as_slice.ensures.value in
     let rest : c.greater_in.result ≡ greater_len (drop (c.place_in-from.result + 1) ids) id = search (rules, take_rest) in
@@ -21,7 +21,7 @@ returns-in_ok-insert-clause-done c =
 pub returns-else-from-len-clause-done : goal.returns-else-from-len-clause-done
 returns-else-from-len-clause-done c =
     let ids = c.args.order.now.items in
-    let id = c.args.prev.now in
+    let id = c.args.previous.now in
     let from : c.place_in-from.result ≡ place_of ids id = c.place_in-from.ensures.value ∙ ap (λ l. place_of l id) c.as_slice.ensures.value in
     let within : length ids ≤ c.place_in-from.result = search rules in
     sym (place_behind-missing ids id c.args.id.now (subst (λ n. length ids ≤ n) from within))

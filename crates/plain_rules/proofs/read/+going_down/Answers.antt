@@ -10,7 +10,7 @@ pub below_first-returns-in-None : goal.below_first-returns-in-None
 below_first-returns-in-None t c =
     let first = c.args.first.now in
     let rest = c.args.rest.now in
-    ap (λ x. context_at (child x first) rest) (context_of-out c.args.ctx.now)
+    ap (λ x. context_at (child x first) rest) (context_of-out c.args.context.now)
     ∙ ap (λ l. context_at (child_in (contexts_of l) first) rest) (sym c.as_slice.ensures.value)
     ∙ ap (λ x. context_at x rest) c.in-None.ensures
     ∙ empty_at rest

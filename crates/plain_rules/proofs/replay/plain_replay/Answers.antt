@@ -9,12 +9,12 @@ pub loop-i-preserved : goal.loop-i-preserved
 loop-i-preserved c =
     let ops = c.args.ops.now in
     let op = c.index-ops-i.result in
-    let known : c.in_ok-deps.deps.items ≡ filter (covers op.front) (map (λ o. o.id) (take c.loop-i.i ops)) = search rules in
-    replay_next ops c.loop-i.i op (context_of c.loop-i.ctx) (context_of c.in_ok-ctx.ctx) c.in_ok-deps.deps.items (search rules) c.index-ops-i.is known
-    (c.in_ok-ctx.ensures.done ∙ ap (λ l. step (context_of c.loop-i.ctx) op (is_in l)) c.as_slice.ensures.value)
+    let known : c.in_ok-dependencies.dependencies.items ≡ filter (covers op.front) (map (λ o. o.id) (take c.loop-i.i ops)) = search rules in
+    replay_next ops c.loop-i.i op (context_of c.loop-i.context) (context_of c.in_ok-context.context) c.in_ok-dependencies.dependencies.items (search rules) c.index-ops-i.is known
+    (c.in_ok-context.ensures.done ∙ ap (λ l. step (context_of c.loop-i.context) op (is_in l)) c.as_slice.ensures.value)
     ∙ c.loop-i.invariant
 
 pub returns-clause-done : goal.returns-clause-done
 returns-clause-done c =
     let within : length c.args.ops.now ≤ c.loop-i.i = search rules in
-    replay_end c.args.ops.now c.loop-i.i (context_of c.loop-i.ctx) within c.loop-i.invariant
+    replay_end c.args.ops.now c.loop-i.i (context_of c.loop-i.context) within c.loop-i.invariant

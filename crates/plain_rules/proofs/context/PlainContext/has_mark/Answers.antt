@@ -12,4 +12,4 @@ returns-in-Some c =
     c.is_marked.ensures
     ∙ marked-any key c.as_slice.result.now id
     ∙ ap (λ marks. present_in marks key id) c.as_slice.ensures.value
-    ∙ ap (λ ctx. present ctx key id) (sym (context_of-out c.in-Some.ctx.now) ∙ c.in-Some.ensures)
+    ∙ ap (λ ctx. present ctx key id) (sym (context_of-out c.in-Some.context.now) ∙ c.in-Some.ensures)

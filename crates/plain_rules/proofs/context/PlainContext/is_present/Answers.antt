@@ -13,7 +13,7 @@ returns-in-Some c =
     let marks = c.as_slice.result.now in
     let here : (i : Id) → present_in marks key i ≡ present (context_at (context_of c.args.self.now) c.args.path.now) key i =
     λ i. ap (λ l. present_in l key i) c.as_slice.ensures.value
-    ∙ ap (λ ctx. present ctx key i) (sym (context_of-out c.in-Some.ctx.now) ∙ c.in-Some.ensures) in (
+    ∙ ap (λ ctx. present ctx key i) (sym (context_of-out c.in-Some.context.now) ∙ c.in-Some.ensures) in (
       λ h. let some = marked-some key marks (sym c.is_key_marked.ensures ∙ h) in (some.0, sym (here some.0) ∙ some.1),
       λ some. c.is_key_marked.ensures ∙ some-marked key marks some.0 (here some.0 ∙ some.1),
     )
