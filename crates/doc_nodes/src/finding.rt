@@ -146,6 +146,7 @@ pub fn key_in(tag: &Tagged) -> &Key
     }
 }
 
+/// Whether a key is that of the whole document.
 pub fn is_doc(key: &Key) -> bool
     ensures { result ≡ key_eq key.now Doc }
 {

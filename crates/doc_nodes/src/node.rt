@@ -53,6 +53,7 @@ impl Drop for Children {
 }
 
 impl Children {
+    /// No child. It takes no memory yet.
     pub fn new(alloc: Global) -> Children
         ensures { result ≡ [] }
     {
@@ -79,6 +80,7 @@ impl Children {
         Ok(())
     }
 
+    /// How many children there are.
     pub fn len(&self) -> usize
         ensures { result ≡ length self.now }
     {
@@ -168,10 +170,15 @@ pub fn is_same_key(a: &Key, b: &Key) -> bool
 
 /// An element of the document: what makes it present, its register, its counter, the order of its list, and the elements below.
 pub struct Node {
+    /// The operations that make the element present, each with its role.
     pub presence: Presence,
+    /// The scalars that stand at the element, by the operations that put them there.
     pub register: Register,
+    /// The numbers that stand at the element, by the operations that added them there.
     pub counter: Counter,
+    /// The elements of its list, deleted ones included.
     pub order: ListOrder,
+    /// The nodes at the keys of its map and at the elements of its list.
     pub children: Children,
 }
 
@@ -191,6 +198,7 @@ impl Node {
     ghost use Rattle.std.specs.Prelude.{◌≡◌, []};
     ghost use Rattle.doc_nodes.specs.Nodes.{cleared};
 
+    /// A node in which nothing stands. It takes no memory yet.
     pub fn new(alloc: Global) -> Node
         ensures presence { result.presence.0 ≡ [] }
         ensures register { result.register.0 ≡ [] }

@@ -87,38 +87,38 @@ module _ {slots : List Slot} {first : Option SlotNumber} {index : List (Id × Sl
 
   module _ (after : Option Id) (known : ForSome after (Contains (ids_along slots (path_from slots first)))) (id : Id)
       (new : number_along slots (path_from slots first) id ≡ None) where
-    abbrev pub prev : Option SlotNumber
-    prev = passed slots id (number_for index after) (path_from slots (behind slots first (number_for index after)))
+    abbrev pub previous : Option SlotNumber
+    previous = passed slots id (number_for index after) (path_from slots (behind slots first (number_for index after)))
 
-    cut : IsCut slots (path_from slots first) None prev (insert_after id_cmp (ids_along slots (path_from slots first)) after id) id
+    cut : IsCut slots (path_from slots first) None previous (insert_after id_cmp (ids_along slots (path_from slots first)) after id) id
     cut = insertion_cuts slots first (path_from slots first) o.path (omega (arith, o.every)) after (number_for index after) id (is_reference after known)
 
-    made : IsInserted slots first id cut.front cut.rest prev
-    made = inserted slots first id cut.front cut.rest prev cut.ends (subst (λ l. IsPath slots first l) cut.parts o.path)
+    made : IsInserted slots first id cut.front cut.rest previous
+    made = inserted slots first id cut.front cut.rest previous cut.ends (subst (λ l. IsPath slots first l) cut.parts o.path)
 
-    new_path : path_from (linked slots first prev id) (linked_first slots first prev) ≡ cut.front ++ fresh_of slots ∷ cut.rest
+    new_path : path_from (linked slots first previous id) (linked_first slots first previous) ≡ cut.front ++ fresh_of slots ∷ cut.rest
     new_path =
-        path_from-path (linked slots first prev id) (linked_first slots first prev) (cut.front ++ fresh_of slots ∷ cut.rest) made.path
+        path_from-path (linked slots first previous id) (linked_first slots first previous) (cut.front ++ fresh_of slots ∷ cut.rest) made.path
         (omega (arith, o.every, ap length cut.parts, length-append cut.front cut.rest, length-append cut.front (fresh_of slots ∷ cut.rest), made.slots_are.longer))
 
-    pub ids_inserted : ids_along (linked slots first prev id) (path_from (linked slots first prev id) (linked_first slots first prev))
+    pub ids_inserted : ids_along (linked slots first previous id) (path_from (linked slots first previous id) (linked_first slots first previous))
         ≡ insert_after id_cmp (ids_along slots (path_from slots first)) after id
     ids_inserted =
-        ap (ids_along (linked slots first prev id)) new_path
+        ap (ids_along (linked slots first previous id)) new_path
         ∙ ids_linked made.slots_are first cut.front cut.rest (subst (λ l. IsPath slots first l) cut.parts o.path)
         ∙ sym cut.placed
 
     pub order_inserted : (entries : List (Id × SlotNumber)) → entries ≡ put index id (fresh_of slots) → length entries ≡ length index + 1
-        → IsOrder (linked slots first prev id) (linked_first slots first prev) entries
+        → IsOrder (linked slots first previous id) (linked_first slots first previous) entries
     order_inserted entries are longer = record {
-      path = subst (λ l. IsPath (linked slots first prev id) (linked_first slots first prev) l) (sym new_path) made.path;
+      path = subst (λ l. IsPath (linked slots first previous id) (linked_first slots first previous) l) (sym new_path) made.path;
       every = omega (arith, ap length new_path, o.every, ap length cut.parts, length-append cut.front cut.rest, length-append cut.front (fresh_of slots ∷ cut.rest), made.slots_are.longer);
       ascending = subst IsAscending (sym are) (put_ascending index id (fresh_of slots) o.ascending);
       exact = λ i.
           ap (λ l. get l i) are ∙ get-put index id (fresh_of slots) i
           ∙ ap (λ n. if id_eq id i then Some (fresh_of slots) else n) (o.exact i ∙ ap (λ l. number_along slots l i) cut.parts)
           ∙ sym (number_linked made.slots_are first cut.front cut.rest (subst (λ l. IsPath slots first l) cut.parts o.path) (subst (λ l. number_along slots l id ≡ None) cut.parts new) i)
-          ∙ sym (ap (λ l. number_along (linked slots first prev id) l i) new_path);
+          ∙ sym (ap (λ l. number_along (linked slots first previous id) l i) new_path);
       indexed = omega (arith, longer, o.indexed, made.slots_are.longer);
     }
 

@@ -165,14 +165,14 @@ module _ (slots : List Slot) (first : Option SlotNumber) (id : Id) where
         (ap (λ s. s.next) (read_before p within ∙ read_p)) (ap (λ s. s.next) read_fresh) first front h
 
   -- what linking in behind the last slot of the front makes
-  pub record IsInserted (front rest : List SlotNumber) (prev : Option SlotNumber) : Type 0 where
-    pub slots_are : IsLinked slots (linked slots first prev id) (fresh_of slots) id
-    pub path : IsPath (linked slots first prev id) (linked_first slots first prev) (front ++ fresh_of slots ∷ rest)
+  pub record IsInserted (front rest : List SlotNumber) (previous : Option SlotNumber) : Type 0 where
+    pub slots_are : IsLinked slots (linked slots first previous id) (fresh_of slots) id
+    pub path : IsPath (linked slots first previous id) (linked_first slots first previous) (front ++ fresh_of slots ∷ rest)
 
-  pub inserted : (front rest : List SlotNumber) (prev : Option SlotNumber) → last_of None front ≡ prev → IsPath slots first (front ++ rest)
-      → IsInserted front rest prev
-  inserted [] rest prev e h = subst (λ q. IsInserted [] rest q) e (record { slots_are = head_linked; path = path_at_head rest h })
-  inserted (n ∷ front) rest prev e h =
+  pub inserted : (front rest : List SlotNumber) (previous : Option SlotNumber) → last_of None front ≡ previous → IsPath slots first (front ++ rest)
+      → IsInserted front rest previous
+  inserted [] rest previous e h = subst (λ q. IsInserted [] rest q) e (record { slots_are = head_linked; path = path_at_head rest h })
+  inserted (n ∷ front) rest previous e h =
       let z = ends None n front in
       let p : SlotNumber = z.1 in
       let parts : IsPath slots first (z.0 ++ p ∷ rest) = subst (λ l. IsPath slots first l) (ap (λ l. l ++ rest) z.2 ∙ append_assoc z.0 (p ∷ []) rest) h in

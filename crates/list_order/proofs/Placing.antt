@@ -13,21 +13,21 @@ use Rattle.list_order.specs.declared.slots.SlotNumber.{SlotNumber}
 use Rattle.list_order.specs.Slots.{slot_at, behind, IsPath, path_from, ids_along, number_along, passed}
 use Rattle.list_order.proofs.Paths.{path_from-path, path-append}
 
--- the last of these, or prev
+-- the last of these, or previous
 abbrev pub last_of : Option SlotNumber → List SlotNumber → Option SlotNumber
-last_of prev [] = prev
-last_of prev (n ∷ path) = last_of (Some n) path
+last_of previous [] = previous
+last_of previous (n ∷ path) = last_of (Some n) path
 
-last_of-append : (prev : Option SlotNumber) (front : List SlotNumber) (n : SlotNumber) (more : List SlotNumber)
-    → last_of prev (front ++ n ∷ more) ≡ last_of (Some n) more
-last_of-append prev [] n more = refl
-last_of-append prev (m ∷ front) n more = last_of-append (Some m) front n more
+last_of-append : (previous : Option SlotNumber) (front : List SlotNumber) (n : SlotNumber) (more : List SlotNumber)
+    → last_of previous (front ++ n ∷ more) ≡ last_of (Some n) more
+last_of-append previous [] n more = refl
+last_of-append previous (m ∷ front) n more = last_of-append (Some m) front n more
 
 -- a list that is not empty has a last element
-pub ends : (prev : Option SlotNumber) (n : SlotNumber) (path : List SlotNumber)
-    → (front : List SlotNumber) × (p : SlotNumber) × (n ∷ path ≡ front ++ p ∷ []) × (last_of prev (n ∷ path) ≡ Some p)
-ends prev n [] = ([], n, refl, refl)
-ends prev n (m ∷ path) =
+pub ends : (previous : Option SlotNumber) (n : SlotNumber) (path : List SlotNumber)
+    → (front : List SlotNumber) × (p : SlotNumber) × (n ∷ path ≡ front ++ p ∷ []) × (last_of previous (n ∷ path) ≡ Some p)
+ends previous n [] = ([], n, refl, refl)
+ends previous n (m ∷ path) =
     let rest = ends (Some n) m path in
     (n ∷ rest.0, rest.1, ap (λ l. n ∷ l) rest.2, rest.3)
 
@@ -37,20 +37,20 @@ module _ (slots : List Slot) where
   ids-append (x ∷ xs) ys = ap (λ l. (slot_at slots x).id ∷ l) (ids-append xs ys)
 
   -- the scan cuts the path where `place` puts the id
-  pub record IsCut (path : List SlotNumber) (prev last : Option SlotNumber) (ids : List Id) (id : Id) : Type 0 where
+  pub record IsCut (path : List SlotNumber) (previous last : Option SlotNumber) (ids : List Id) (id : Id) : Type 0 where
     pub front : List SlotNumber
     pub rest : List SlotNumber
     pub parts : path ≡ front ++ rest
-    pub ends : last_of prev front ≡ last
+    pub ends : last_of previous front ≡ last
     pub placed : ids ≡ ids_along slots front ++ id ∷ ids_along slots rest
 
-  passed-place : (path : List SlotNumber) (prev : Option SlotNumber) (id : Id)
-      → IsCut path prev (passed slots id prev path) (place id_cmp (ids_along slots path) id) id
-  passed-place [] prev id = record { front = []; rest = []; parts = refl; ends = refl; placed = refl }
-  passed-place (n ∷ path) prev id = by (is_lt (id_cmp (slot_at slots n).id id)) (passed-place path (Some n) id)
+  passed-place : (path : List SlotNumber) (previous : Option SlotNumber) (id : Id)
+      → IsCut path previous (passed slots id previous path) (place id_cmp (ids_along slots path) id) id
+  passed-place [] previous id = record { front = []; rest = []; parts = refl; ends = refl; placed = refl }
+  passed-place (n ∷ path) previous id = by (is_lt (id_cmp (slot_at slots n).id id)) (passed-place path (Some n) id)
     where
       by : (less : Bool) → IsCut path (Some n) (passed slots id (Some n) path) (place id_cmp (ids_along slots path) id) id
-          → IsCut (n ∷ path) prev (if less then prev else passed slots id (Some n) path)
+          → IsCut (n ∷ path) previous (if less then previous else passed slots id (Some n) path)
           (if less then id ∷ ids_along slots (n ∷ path) else (slot_at slots n).id ∷ place id_cmp (ids_along slots path) id) id
       by true cut = record { front = []; rest = n ∷ path; parts = refl; ends = refl; placed = refl }
       by false cut = record {
@@ -111,23 +111,23 @@ module _ (slots : List Slot) where
         placed = cut.placed;
       }
   insertion_cuts first path p short (Some after) reference id h =
-      let prev : SlotNumber = h.0 in
-      let f = found path after prev h.2 in
-      let on = path-append slots f.front prev f.rest first (subst (λ l. IsPath slots first l) f.parts p) in
-      let fewer : length f.rest ≤ length slots = omega (arith, ap length f.parts, length-append f.front (prev ∷ f.rest)) in
+      let previous : SlotNumber = h.0 in
+      let f = found path after previous h.2 in
+      let on = path-append slots f.front previous f.rest first (subst (λ l. IsPath slots first l) f.parts p) in
+      let fewer : length f.rest ≤ length slots = omega (arith, ap length f.parts, length-append f.front (previous ∷ f.rest)) in
       let all : path_from slots (behind slots first reference) ≡ f.rest =
-      ap (λ r. path_from slots (behind slots first r)) h.1 ∙ path_from-path slots (slot_at slots prev).next f.rest on.1 fewer in
-      let cut = passed-place f.rest (Some prev) id in
+      ap (λ r. path_from slots (behind slots first r)) h.1 ∙ path_from-path slots (slot_at slots previous).next f.rest on.1 fewer in
+      let cut = passed-place f.rest (Some previous) id in
       record {
-        front = f.front ++ prev ∷ cut.front;
+        front = f.front ++ previous ∷ cut.front;
         rest = cut.rest;
-        parts = f.parts ∙ ap (λ l. f.front ++ prev ∷ l) cut.parts ∙ sym (append_assoc f.front (prev ∷ cut.front) cut.rest);
-        ends = last_of-append None f.front prev cut.front ∙ cut.ends ∙ (λ i. passed slots id (sym h.1 i) (sym all i));
+        parts = f.parts ∙ ap (λ l. f.front ++ previous ∷ l) cut.parts ∙ sym (append_assoc f.front (previous ∷ cut.front) cut.rest);
+        ends = last_of-append None f.front previous cut.front ∙ cut.ends ∙ (λ i. passed slots id (sym h.1 i) (sym all i));
         placed =
             f.placed id
-            ∙ ap (λ l. ids_along slots f.front ++ (slot_at slots prev).id ∷ l) cut.placed
-            ∙ sym (append_assoc (ids_along slots f.front) (ids_along slots (prev ∷ cut.front)) (id ∷ ids_along slots cut.rest))
-            ∙ ap (λ l. l ++ id ∷ ids_along slots cut.rest) (sym (ids-append f.front (prev ∷ cut.front)));
+            ∙ ap (λ l. ids_along slots f.front ++ (slot_at slots previous).id ∷ l) cut.placed
+            ∙ sym (append_assoc (ids_along slots f.front) (ids_along slots (previous ∷ cut.front)) (id ∷ ids_along slots cut.rest))
+            ∙ ap (λ l. l ++ id ∷ ids_along slots cut.rest) (sym (ids-append f.front (previous ∷ cut.front)));
       }
 
   -- an id has a slot where it is on the path

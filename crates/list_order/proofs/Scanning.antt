@@ -24,23 +24,23 @@ module _ (slots : List Slot) where
       record { within = on.0; path = path; walk = on.2; shorter = omega (arith, ap length path) }
 
   -- the scan passes a slot that is not less
-  pub passed_on : (id : Id) (prev at : Option SlotNumber) (n : SlotNumber) → IsStep slots at n → is_lt (id_cmp (slot_at slots n).id id) ≡ false
-      → passed slots id (Some n) (path_from slots (slot_at slots n).next) ≡ passed slots id prev (path_from slots at)
-  passed_on id prev at n s e = rw (s.path, e) refl
+  pub passed_on : (id : Id) (previous at : Option SlotNumber) (n : SlotNumber) → IsStep slots at n → is_lt (id_cmp (slot_at slots n).id id) ≡ false
+      → passed slots id (Some n) (path_from slots (slot_at slots n).next) ≡ passed slots id previous (path_from slots at)
+  passed_on id previous at n s e = rw (s.path, e) refl
 
   -- and stops before a lesser one
-  pub passed_stop : (id : Id) (prev at : Option SlotNumber) (n : SlotNumber) → IsStep slots at n → is_lt (id_cmp (slot_at slots n).id id) ≡ true
-      → prev ≡ passed slots id prev (path_from slots at)
-  passed_stop id prev at n s e = rw (s.path, e) refl
+  pub passed_stop : (id : Id) (previous at : Option SlotNumber) (n : SlotNumber) → IsStep slots at n → is_lt (id_cmp (slot_at slots n).id id) ≡ true
+      → previous ≡ passed slots id previous (path_from slots at)
+  passed_stop id previous at n s e = rw (s.path, e) refl
 
   -- where the scan stops is a slot
-  pub passed_within : (id : Id) (prev at : Option SlotNumber) (path : List SlotNumber) → IsPath slots at path → ForSome prev (λ p. p.0 < length slots)
-      → ForSome (passed slots id prev path) (λ p. p.0 < length slots)
-  passed_within id prev at [] p h = h
-  passed_within id prev at (n ∷ path) p h =
+  pub passed_within : (id : Id) (previous at : Option SlotNumber) (path : List SlotNumber) → IsPath slots at path → ForSome previous (λ p. p.0 < length slots)
+      → ForSome (passed slots id previous path) (λ p. p.0 < length slots)
+  passed_within id previous at [] p h = h
+  passed_within id previous at (n ∷ path) p h =
       by (is_lt (id_cmp (slot_at slots n).id id))
       (passed_within id (Some n) (slot_at slots n).next path p.2 (λ m e. let same : n ≡ m = cc in subst (λ k. k.0 < length slots) same p.1))
     where
-      by : (less : Bool) → ForSome (passed slots id (Some n) path) (λ p. p.0 < length slots) → ForSome (if less then prev else passed slots id (Some n) path) (λ p. p.0 < length slots)
+      by : (less : Bool) → ForSome (passed slots id (Some n) path) (λ p. p.0 < length slots) → ForSome (if less then previous else passed slots id (Some n) path) (λ p. p.0 < length slots)
       by true later = h
       by false later = later

@@ -47,10 +47,10 @@ abbrev pub number_for : List (Id × SlotNumber) → Option Id → Option SlotNum
 number_for index None = None
 number_for index (Some id) = get index id
 
--- the last slot that is not less than id, from the front on, or prev
+-- the last slot that is not less than id, from the front on, or previous
 abbrev pub passed : List Slot → Id → Option SlotNumber → List SlotNumber → Option SlotNumber
-passed slots id prev [] = prev
-passed slots id prev (n ∷ path) = if is_lt (id_cmp (slot_at slots n).id id) then prev else passed slots id (Some n) path
+passed slots id previous [] = previous
+passed slots id previous (n ∷ path) = if is_lt (id_cmp (slot_at slots n).id id) then previous else passed slots id (Some n) path
 
 -- the slots with one more, linked in behind a slot or as the first
 abbrev pub linked : List Slot → Option SlotNumber → Option SlotNumber → Id → List Slot

@@ -34,12 +34,12 @@ pub fn slot_at(slots: &[Slot], n: SlotNumber) -> &Slot
 pub fn behind(
     slots: &[Slot],
     first: Option<SlotNumber>,
-    prev: Option<SlotNumber>,
+    previous: Option<SlotNumber>,
 ) -> Option<SlotNumber>
-    requires { ForSome prev (λ p. p.0 < length slots.now) }
-    ensures { result ≡ Spec.behind slots.now first prev }
+    requires { ForSome previous (λ p. p.0 < length slots.now) }
+    ensures { result ≡ Spec.behind slots.now first previous }
 {
-    match prev {
+    match previous {
         None => first,
         Some(p) => slot_at(slots, p).next,
     }
@@ -56,17 +56,17 @@ pub fn last_passed(
     requires walk { IsWalk slots.now (Spec.behind slots.now first reference) }
     ensures { result ≡ passed slots.now id.now reference (path_from slots.now (Spec.behind slots.now first reference)) }
 {
-    let mut prev = reference;
+    let mut previous = reference;
     let mut at = behind(slots, first, reference);
     while let Some(n) = at {
         let slot = slot_at(slots, n);
         if is_less(&slot.id, id) {
             break;
         }
-        prev = at;
+        previous = at;
         at = slot.next;
     }
-    prev
+    previous
 }
 
 /// Whether an id is less than another.
@@ -80,18 +80,18 @@ fn is_less(a: &Id, b: &Id) -> bool
 pub fn link(
     slots: &mut Vec<Slot>,
     first: &mut Option<SlotNumber>,
-    prev: Option<SlotNumber>,
+    previous: Option<SlotNumber>,
     id: &Id,
 )
-    requires known { ForSome prev (λ p. p.0 < length slots.old.items) }
+    requires known { ForSome previous (λ p. p.0 < length slots.old.items) }
     requires room { length slots.old.items < vec_capacity slots.old }
-    ensures slots { slots.new.items ≡ linked slots.old.items first.old prev id.now }
-    ensures first { first.new ≡ linked_first slots.old.items first.old prev }
+    ensures slots { slots.new.items ≡ linked slots.old.items first.old previous id.now }
+    ensures first { first.new ≡ linked_first slots.old.items first.old previous }
     ensures capacity { vec_capacity slots.new ≡ vec_capacity slots.old }
 {
     let fresh = Some(SlotNumber(slots.len()));
-    let next = behind(slots.as_slice(), *first, prev);
-    match prev {
+    let next = behind(slots.as_slice(), *first, previous);
+    match previous {
         None => *first = fresh,
         Some(p) => slots[p.0].next = fresh,
     }

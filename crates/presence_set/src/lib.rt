@@ -64,7 +64,6 @@ impl<X: Drop> ById<X> {
         requires { length self.old.0 < self.old.1 }
         ensures { self.new ≡ (put self.old.0 id value, self.old.1) }
     {
-        let id = id;
         let at = rank_of(self.entries.as_slice(), &id);
         if at < self.entries.len() && self.entries[at].0 == id {
             self.entries[at] = (id, value);

@@ -24,7 +24,7 @@ loop-at-preserved c =
       walk = subst (λ s. IsWalk slots s.next) (sym c.slot_at-slot.ensures) s.walk;
       same =
           ap (λ s. passed slots id (Some c.in-Some.n) (path_from slots s.next)) c.slot_at-slot.ensures
-          ∙ passed_on slots id c.loop-at.prev c.loop-at.at c.in-Some.n s (subst (λ s. is_lt (id_cmp s.id id) ≡ false) c.slot_at-slot.ensures (sym c.is_less.ensures ∙ c.if-is_less.false))
+          ∙ passed_on slots id c.loop-at.previous c.loop-at.at c.in-Some.n s (subst (λ s. is_lt (id_cmp s.id id) ≡ false) c.slot_at-slot.ensures (sym c.is_less.ensures ∙ c.if-is_less.false))
           ∙ c.loop-at.invariant.same;
     }
 
@@ -32,12 +32,12 @@ pub returns-then-is_less : goal.returns-then-is_less
 returns-then-is_less c =
     let slots = c.args.slots.now in
     let id = c.args.id.now in
-    passed_stop slots id c.loop-at.prev c.loop-at.at c.in-Some.n (step slots c.loop-at.at c.in-Some.n c.in-Some.is c.loop-at.invariant.walk)
+    passed_stop slots id c.loop-at.previous c.loop-at.at c.in-Some.n (step slots c.loop-at.at c.in-Some.n c.in-Some.is c.loop-at.invariant.walk)
     (subst (λ s. is_lt (id_cmp s.id id) ≡ true) c.slot_at-slot.ensures (sym c.is_less.ensures ∙ c.if-is_less.true))
     ∙ c.loop-at.invariant.same
 
 pub returns-in_default : goal.returns-in_default
 returns-in_default c =
     let slots = c.args.slots.now in
-    ap (λ l. passed slots c.args.id.now c.loop-at.prev l) (sym (ap (path_from slots) c.in_default.is ∙ walk-None slots))
+    ap (λ l. passed slots c.args.id.now c.loop-at.previous l) (sym (ap (path_from slots) c.in_default.is ∙ walk-None slots))
     ∙ c.loop-at.invariant.same
