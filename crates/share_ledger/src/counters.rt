@@ -139,21 +139,21 @@ impl<M: Marker> Table<M> {
 }
 
 impl<M: Marker> Book<M> {
-    /// The number of the document whose counter it is.
+    /// The number of the document whose book it is.
     pub fn number(&self) -> u16
         ensures { result ≡ self.now.number }
     {
         self.number
     }
 
-    /// The seat of the document whose counter it is.
+    /// The seat that the document keeps it for.
     pub fn seat(&self) -> u16
         ensures { result ≡ self.now.seat }
     {
         self.seat
     }
 
-    /// How much was credited.
+    /// How much was credited to it.
     pub fn count(&self) -> u64
         ensures { result ≡ self.now.count }
     {
@@ -193,21 +193,21 @@ impl<M: Marker> Book<M> {
 }
 
 impl<M: Marker> Share<M> {
-    /// The number of the document whose counter it is.
+    /// The number of the document whose seat keeps it.
     pub fn number(&self) -> u16
         ensures { result ≡ self.now.number }
     {
         self.number
     }
 
-    /// The seat of the document whose counter it is.
+    /// The seat that keeps it.
     pub fn seat(&self) -> u16
         ensures { result ≡ self.now.seat }
     {
         self.seat
     }
 
-    /// How much was credited.
+    /// How much the seat was credited.
     pub fn count(&self) -> u64
         ensures { result ≡ self.now.count }
     {
