@@ -1,5 +1,6 @@
-//! One allocation is refused, whichever it is (`rt try --test --fail-alloc 1..` runs this once for each). A call that meets it leaves
-//! all as it was, and made again it does what it does with ample memory. Held operations may be dropped instead.
+//! One allocation is refused, whichever it is: `bench/each-allocation` runs a test of the built test program once for each, and
+//! `rt test` runs it with ample memory alone. A call that meets the refusal leaves all as it was, and made again it does what it does
+//! with ample memory. Held operations may be dropped instead.
 ghost use Rattle.std.specs.Prelude.{◌≡◌, ◌≤◌, IfOk};
 ghost use Rattle.share_ledger.specs.Counters.{place_of};
 
