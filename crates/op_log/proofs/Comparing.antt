@@ -1,8 +1,9 @@
 -- Fronts that ascend, compared entry by entry.
-use Rattle.std.proofs.Common.{◌≡◌, ◌≢◌, ℕ, ◌≤◌, inl, inr, List, [], ◌∷◌, Bool, true, false, ◌&&◌, ◌||◌, ◌==◌, ◌+◌, nat_le, bytes_eq, Contains, length, arith, refl, sym, ap, subst, ◌∙◌, Ordering, Less, Equal, Greater}
+use Rattle.std.proofs.Common.{◌≡◌, ◌≢◌, ℕ, ◌<◌, ◌≤◌, zero, suc, inl, inr, List, [], ◌∷◌, Bool, true, false, ◌&&◌, ◌||◌, ◌==◌, ◌+◌, nat_le, bytes_eq, Contains, length, take, drop, get_or, ◌-◌, arith, refl, sym, ap, subst, ◌∙◌, Less, Equal, Greater}
+use Rattle.std.proofs.Math.Dec.{eqb-suc-zero}
 use Rattle.std.proofs.lemmas.Bool.{and_parts, false_from_ne_true}
+use Rattle.std.proofs.lemmas.List.{take_all}
 use Rattle.op_core.specs.Front.{max_counter}
-use Rattle.op_log.specs.Front.{compare, compare_first}
 use lib.Pointwise.{bytes_decides}
 use Rattle.lamport_id.specs.Order.{name_cmp}
 use Rattle.op_core.specs.Front.{covers, id_of, is_ascending, is_le, reaches}
@@ -10,6 +11,7 @@ use Rattle.op_core.specs.Op.{Op}
 use Rattle.op_core.specs.Shape.{is_shaped, is_shallow, has_form, has_front}
 use Rattle.list_laws.proofs.Members.{Contains-here, Contains-there, Contains-cases}
 use Rattle.crdt_rules.proofs.Tests.{any_none}
+use Rattle.op_log.proofs.Cursors.{drop_at}
 use Rattle.op_log.proofs.Fronts.{NamesRise, rising_from_ascending}
 use Rattle.op_log.proofs.KeyOrders.{name_order}
 use Rattle.op_log.proofs.Sorted.{less≢equal, less_back}
@@ -76,26 +78,53 @@ pub ascending-rest : (e : List ℕ × ℕ) (rest : List (List ℕ × ℕ)) → i
 ascending-rest e [] h = refl
 ascending-rest e (f ∷ rest) h = (and_parts _ (is_ascending (f ∷ rest)) h).1
 
--- so the comparison is the test
-pub compare_is : (front other : List (List ℕ × ℕ)) → is_ascending front ≡ true → is_ascending other ≡ true → compare front other ≡ is_le front other
-compare_is [] other a b = refl
-compare_is (e ∷ rest) [] a b = refl
-compare_is (e ∷ rest) (n ∷ others) a b =
-    by (name_cmp e.0 n.0) refl (compare_is rest others (ascending-rest e rest a) (ascending-rest n others b)) (compare_is (e ∷ rest) others a (ascending-rest n others b))
-  where
-    by : (o : Ordering) → name_cmp e.0 n.0 ≡ o → compare rest others ≡ is_le rest others → compare (e ∷ rest) others ≡ is_le (e ∷ rest) others
-        → compare_first o (nat_le e.1 n.1 && compare rest others) (compare (e ∷ rest) others) ≡ is_le (e ∷ rest) (n ∷ others)
-    by Less h both later = sym (le_less e rest n others b h)
-    by Equal h both later = ap (λ t. nat_le e.1 n.1 && t) both ∙ sym (le_equal e rest n others a b h)
-    by Greater h both later = later ∙ sym (le_greater e rest n others a h)
+pub ascending-drop : (front : List (List ℕ × ℕ)) (i : ℕ) → is_ascending front ≡ true → is_ascending (drop i front) ≡ true
+ascending-drop front zero h = h
+ascending-drop [] (suc i) h = refl
+ascending-drop (e ∷ rest) (suc i) h = ascending-drop rest i (ascending-rest e rest h)
+
+-- what is left of the one front and of the other, and the first entry of each
+module _ (front other : List (List ℕ × ℕ)) (i : ℕ) (e n : List ℕ × ℕ) (some : 1 ≤ length front) (first : e ≡ get_or front 0 e) (within : i < length other)
+    (next : n ≡ get_or other i n) where
+  whole : front ≡ e ∷ drop 1 front
+  whole = drop_at front 0 e some first
+
+  other_whole : drop i other ≡ n ∷ drop (suc i) other
+  other_whole = drop_at other i n within next
+
+  module _ (ascends : is_ascending front ≡ true) (other_ascends : is_ascending other ≡ true) where
+    here : is_ascending (e ∷ drop 1 front) ≡ true
+    here = subst (λ f. is_ascending f ≡ true) whole ascends
+
+    there : is_ascending (n ∷ drop (suc i) other) ≡ true
+    there = subst (λ f. is_ascending f ≡ true) other_whole (ascending-drop other i other_ascends)
+
+    pub turn_less : name_cmp e.0 n.0 ≡ Less → is_le front (drop i other) ≡ false
+    turn_less less = (λ j. is_le (whole j) (other_whole j)) ∙ le_less e (drop 1 front) n (drop (suc i) other) there less
+
+    pub turn_equal : name_cmp e.0 n.0 ≡ Equal → is_le front (drop i other) ≡ (nat_le e.1 n.1 && is_le (drop 1 front) (drop (suc i) other))
+    turn_equal equal = (λ j. is_le (whole j) (other_whole j)) ∙ le_equal e (drop 1 front) n (drop (suc i) other) here there equal
+
+    pub turn_greater : name_cmp e.0 n.0 ≡ Greater → is_le front (drop i other) ≡ is_le front (drop (suc i) other)
+    turn_greater greater =
+        (λ j. is_le (whole j) (other_whole j)) ∙ le_greater e (drop 1 front) n (drop (suc i) other) here greater
+        ∙ ap (λ f. is_le f (drop (suc i) other)) (sym whole)
+
+    pub turn_ascends : is_ascending (drop 1 front) ≡ true
+    turn_ascends = ascending-rest e (drop 1 front) here
+
+-- all behind the first entry, by its length
+pub behind_first : (front : List (List ℕ × ℕ)) → take (length front - 1) (drop 1 front) ≡ drop 1 front
+behind_first [] = take_all (length {A = List ℕ × ℕ} [] - 1) [] (omega arith)
+behind_first (e ∷ rest) = take_all (length (e ∷ rest) - 1) rest (omega arith)
+
+-- where the other front is at its end
+pub le_end : (front : List (List ℕ × ℕ)) → (length front == 0) ≡ is_le front []
+le_end [] = refl
+le_end (e ∷ rest) = eqb-suc-zero (length rest)
 
 -- the front of an operation ascends
 pub shaped_ascending : (op : Op) → is_shaped op ≡ true → is_ascending op.front ≡ true
 shaped_ascending op h =
     let front = (and_parts (is_shallow op.cursor.path && has_form op) (has_front op) h).1 in
     (and_parts (is_ascending op.front) (op.id.counter == max_counter op.front + 1) front).0
-
-pub compare_empty : (front other : List (List ℕ × ℕ)) → 1 ≤ length front → length other ≤ 0 → false ≡ compare front other
-compare_empty [] other some none = absurd (omega arith)
-compare_empty (e ∷ rest) [] some none = refl
-compare_empty (e ∷ rest) (n ∷ others) some none = absurd (omega arith)

@@ -6,7 +6,7 @@ use Rattle.op_core.specs.declared.cursor.Key.{Key}
 use Rattle.op_core.specs.declared.cursor.Tagged.{Tagged}
 use Rattle.crdt_rules.specs.Fits.{knows_cursor, knows_key}
 
-drop_at : {X : Type 0} (xs : List X) (i : ℕ) (x : X) → i < length xs → x ≡ get_or xs i x → drop i xs ≡ x ∷ drop (suc i) xs
+pub drop_at : {X : Type 0} (xs : List X) (i : ℕ) (x : X) → i < length xs → x ≡ get_or xs i x → drop i xs ≡ x ∷ drop (suc i) xs
 drop_at [] i x within read = absurd (omega arith)
 drop_at (y ∷ xs) zero x within read = ap (λ z. z ∷ xs) (sym read)
 drop_at (y ∷ xs) (suc i) x within read = drop_at xs i x (omega arith) read

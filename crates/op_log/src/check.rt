@@ -87,10 +87,12 @@ impl OpLog {
         requires { is_ascending front.now ≡ true }
         ensures { result ≡ list_all (λ e. list_any (λ o. id_eq o.id (id_of e) && is_le o.front front.now) self.now.operations) entries.now }
     {
-        match entries {
-            [] => true,
-            [entry, rest @ ..] => self.knows_entry(front, entry) && self.knows_entries(front, rest),
+        for entry in entries {
+            if !self.knows_entry(front, entry) {
+                return false;
+            }
         }
+        true
     }
 
     // Whether the entry is a logged operation, whose own front is at most this one.

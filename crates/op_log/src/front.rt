@@ -4,7 +4,7 @@ ghost use Rattle.std.specs.Vec.{vec_capacity};
 ghost use Rattle.lamport_id.specs.Order.{name_cmp};
 ghost use Rattle.op_core.specs.Front.{is_ascending, is_le};
 ghost use Rattle.crdt_rules.specs.Dependencies.{entry_of};
-ghost use Rattle.op_log.specs.Front.{PutsEntry, compare};
+ghost use Rattle.op_log.specs.Front.{PutsEntry};
 ghost use Rattle.op_log.specs.Sorted.{IsPlace, IsGap};
 
 use lamport_id::ReplicaName;
@@ -53,19 +53,17 @@ pub fn is_at_most(front: &[Entry], other: &[Entry]) -> bool
     requires other_ascending { is_ascending other.now ≡ true }
     ensures { result ≡ is_le front.now other.now }
 {
-    compare(front, other)
-}
-
-fn compare(front: &[Entry], other: &[Entry]) -> bool
-    ensures { result ≡ compare front.now other.now }
-{
-    match (front, other) {
-        ([], _) => true,
-        ([_, ..], []) => false,
-        ([first, rest @ ..], [next, others @ ..]) => match first.0.cmp(&next.0) {
-            Ordering::Less => false,
-            Ordering::Equal => first.1 <= next.1 && compare(rest, others),
-            Ordering::Greater => compare(front, others),
-        },
+    let mut rest = front;
+    for next in other {
+        let [first, later @ ..] = rest else {
+            return true;
+        };
+        match first.0.cmp(&next.0) {
+            Ordering::Less => return false,
+            Ordering::Equal if next.1 < first.1 => return false,
+            Ordering::Equal => rest = later,
+            Ordering::Greater => {}
+        }
     }
+    rest.is_empty()
 }
