@@ -1,9 +1,10 @@
 //! What the tree says of a place, beside what the plain program says, and what the set of the operations says.
 use crate::history::{TEXTS, below};
+use crate::plain_shown::plain_shown;
 use crate::sites::Site;
 use converge_laws::free_present;
 use doc_tree::Tree;
-use doc_view::{conflicts, items, keys, sum, values};
+use doc_view::{conflicts, items, keys, show, sum, values};
 use doc_words::{Role, Scalars};
 use json_scalar::Refusal;
 use lamport_id::Id;
@@ -73,6 +74,23 @@ fn conflicts_agree(
     Ok(read.as_slice() == due.as_slice())
 }
 
+/// The texts of the present members of a map, in byte order.
+pub fn present_texts(
+    alloc: Global,
+    plain: &PlainContext,
+    map: &Path,
+) -> Result<Vec<KeyText>, Refusal> {
+    let mut present = Vec::new(alloc);
+    for text in TEXTS {
+        let text = KeyText::new(alloc, text)?;
+        let key = Key::Text(text.try_clone()?);
+        if plain.is_present(map.as_slice(), &key) {
+            present.push(text)?;
+        }
+    }
+    Ok(present)
+}
+
 fn keys_agree(
     alloc: Global,
     tree: &Tree,
@@ -80,19 +98,17 @@ fn keys_agree(
     site: &Site,
 ) -> Result<bool, Refusal> {
     let map = below(&site.cursor.path, Tagged::Map(site.cursor.key.try_clone()?))?;
-    let mut due = Vec::new(alloc);
-    for text in TEXTS {
-        let text = KeyText::new(alloc, text)?;
-        let key = Key::Text(text.try_clone()?);
-        if plain.is_present(map.as_slice(), &key) {
-            due.push(text)?;
-        }
-    }
+    let due = present_texts(alloc, plain, &map)?;
     let read = keys(alloc, tree, &site.cursor)?;
     Ok(read.as_slice() == due.as_slice())
 }
 
-fn present_elements(alloc: Global, plain: &PlainContext, list: &Path) -> Result<Vec<Id>, Refusal> {
+/// The present elements of a list, in its order.
+pub fn present_elements(
+    alloc: Global,
+    plain: &PlainContext,
+    list: &Path,
+) -> Result<Vec<Id>, Refusal> {
     let mut present = Vec::new(alloc);
     for id in plain.elements(list.as_slice()) {
         if plain.is_present(list.as_slice(), &Key::Element(*id)) {
@@ -153,6 +169,22 @@ fn lists_agree(
         order.as_slice() == plain.elements(list.as_slice())
             && items_agree(alloc, tree, plain, site, &list)?,
     )
+}
+
+/// Whether tree and plain program show the same of the whole document, whose places these are.
+pub fn show_alike(
+    alloc: Global,
+    tree: &Tree,
+    plain: &PlainContext,
+    sites: &[Site],
+) -> Result<bool, Refusal> {
+    let document = Cursor {
+        path: Path::new(alloc),
+        key: Key::Doc,
+    };
+    let due = plain_shown(alloc, plain, sites)?;
+    let shown = show(alloc, tree, &document)?;
+    Ok(shown.as_str() == due.as_str())
 }
 
 /// Whether tree and plain program say the same of a place: which ids make it present, its values, sum, conflicts and keys,

@@ -9,6 +9,8 @@ mod history;
 #[cfg(test)]
 mod orders;
 #[cfg(test)]
+mod plain_shown;
+#[cfg(test)]
 mod readings;
 #[cfg(test)]
 mod rule;

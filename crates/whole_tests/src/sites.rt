@@ -40,6 +40,14 @@ fn position(sites: &[Site], path: &[Tagged], key: &Key) -> Option<usize>
     sites.iter().position(|site| is_at(site, path, key))
 }
 
+/// The operations that pass a place or end there, by their ids, each with the value that it puts there.
+pub fn touched_at<'a>(sites: &'a [Site], path: &[Tagged], key: &Key) -> &'a [(Id, Option<Val>)] {
+    match position(sites, path, key) {
+        Some(at) => sites[at].touched.as_slice(),
+        None => &[],
+    }
+}
+
 /// How many ids are less.
 fn rank(touched: &[(Id, Option<Val>)], id: &Id) -> usize
     ensures { result ≤ length touched.now }

@@ -1,5 +1,5 @@
 //! A history of 2,000 operations of four replicas: maps, lists, deletes, additions, and much that is concurrent.
-use crate::alike::{agree_at, is_free_at};
+use crate::alike::{agree_at, is_free_at, show_alike};
 use crate::history::make_history;
 use crate::sites::{Site, add_operation};
 use converge_laws::replay_all;
@@ -22,16 +22,18 @@ fn sites_of(alloc: Global, ops: &[Operation]) -> Result<Vec<Site>, Refusal> {
     Ok(sites)
 }
 
-/// Whether the tree of some operations says what the plain program says, at each place that one passes or ends at.
+/// Whether the tree of some operations says what the plain program says, at each place that one passes or ends at, and shows
+/// the same of the whole document.
 fn agree_everywhere(alloc: Global, ops: &[Operation]) -> Result<bool, Refusal> {
     let tree = replay_all(alloc, ops)?;
     let plain = plain_replay(alloc, ops)?;
-    for site in sites_of(alloc, ops)? {
-        if !agree_at(alloc, &tree, &plain, &site)? {
+    let sites = sites_of(alloc, ops)?;
+    for site in sites.as_slice() {
+        if !agree_at(alloc, &tree, &plain, site)? {
             return Ok(false);
         }
     }
-    Ok(true)
+    show_alike(alloc, &tree, &plain, sites.as_slice())
 }
 
 fn agree_each_hundred(alloc: Global, ops: &[Operation]) -> Result<bool, Refusal> {
