@@ -1,5 +1,6 @@
 //! Growth that changes nothing of what the nodes say.
-ghost use Rattle.std.specs.Prelude.{◌≡◌, ◌<◌, ◌++◌, ◌∷◌, [], length, Some, None, OnOk, OnErr, IfOk, slice_set};
+ghost use Rattle.std.specs.Prelude.{◌≡◌, ◌<◌, ◌++◌, ◌∷◌, [], length, Some, None, OnOk, OnErr, IfOk, IfErr, slice_set};
+ghost use Rattle.json_scalar.specs.declared.refusal.Refusal.TheVariants.{NoMemory};
 ghost use Rattle.doc_nodes.specs.Nodes.{AreTree, node_of, child_of};
 ghost use Rattle.doc_nodes.specs.Marks.{keys_below, keys_to};
 ghost use Rattle.doc_nodes.specs.Walk.{root};
@@ -16,6 +17,7 @@ pub fn prepare_way(nodes: &mut Vec<Node>, path: &[Tagged], key: &Key) -> Result<
     ensures tree { AreTree nodes.new.items }
     ensures grows { Grows nodes.old.items nodes.new.items }
     ensures ok { OnOk result (IsMade nodes.new.items root (keys_to path.now key.now)) }
+    ensures memory { IfErr result (λ cause. cause ≡ NoMemory) }
 {
     match path.split_first() {
         None => reserve_presence(nodes, root_number()),
@@ -35,6 +37,7 @@ fn prepare_below(
     ensures tree { AreTree nodes.new.items }
     ensures grows { Grows nodes.old.items nodes.new.items }
     ensures ok { OnOk result (IsMade nodes.new.items at (keys_below way.now key.now)) }
+    ensures memory { IfErr result (λ cause. cause ≡ NoMemory) }
 {
     reserve_presence(nodes, at)?;
     match way.split_first() {
@@ -57,6 +60,7 @@ pub fn reserve_values(nodes: &mut Vec<Node>, at: NodeNumber) -> Result<(), Refus
     ensures grows { Grows nodes.old.items nodes.new.items }
     ensures register { OnOk result (length (node_of nodes.new.items at).register.0 < (node_of nodes.new.items at).register.1) }
     ensures counter { OnOk result (length (node_of nodes.new.items at).counter.0 < (node_of nodes.new.items at).counter.1) }
+    ensures memory { IfErr result (λ cause. cause ≡ NoMemory) }
 {
     reserve_register(nodes, at)?;
     reserve_counter(nodes, at)
@@ -69,6 +73,7 @@ fn reserve_counter(nodes: &mut Vec<Node>, at: NodeNumber) -> Result<(), Refusal>
     ensures tree { AreTree nodes.new.items }
     ensures grows { Grows nodes.old.items nodes.new.items }
     ensures room { OnOk result (length (node_of nodes.new.items at).counter.0 < (node_of nodes.new.items at).counter.1) }
+    ensures memory { IfErr result (λ cause. cause ≡ NoMemory) }
 {
     let node = &mut nodes[at.0];
     node.counter.reserve_one()?;
@@ -82,6 +87,7 @@ fn reserve_register(nodes: &mut Vec<Node>, at: NodeNumber) -> Result<(), Refusal
     ensures tree { AreTree nodes.new.items }
     ensures grows { Grows nodes.old.items nodes.new.items }
     ensures room { OnOk result (length (node_of nodes.new.items at).register.0 < (node_of nodes.new.items at).register.1) }
+    ensures memory { IfErr result (λ cause. cause ≡ NoMemory) }
 {
     let node = &mut nodes[at.0];
     node.register.reserve_one()?;
@@ -95,6 +101,7 @@ pub fn reserve_order(nodes: &mut Vec<Node>, at: NodeNumber) -> Result<(), Refusa
     ensures tree { AreTree nodes.new.items }
     ensures grows { Grows nodes.old.items nodes.new.items }
     ensures room { OnOk result (length (node_of nodes.new.items at).order.0 < (node_of nodes.new.items at).order.1) }
+    ensures memory { IfErr result (λ cause. cause ≡ NoMemory) }
 {
     let node = &mut nodes[at.0];
     node.order.reserve_one()?;
@@ -108,6 +115,7 @@ pub fn reserve_presence(nodes: &mut Vec<Node>, at: NodeNumber) -> Result<(), Ref
     ensures tree { AreTree nodes.new.items }
     ensures grows { Grows nodes.old.items nodes.new.items }
     ensures room { OnOk result (length (node_of nodes.new.items at).presence.0 < (node_of nodes.new.items at).presence.1) }
+    ensures memory { IfErr result (λ cause. cause ≡ NoMemory) }
 {
     let node = &mut nodes[at.0];
     node.presence.reserve_one()?;
@@ -121,6 +129,7 @@ pub fn grown_child(nodes: &mut Vec<Node>, at: NodeNumber, key: &Key) -> Result<N
     ensures tree { AreTree nodes.new.items }
     ensures grows { Grows nodes.old.items nodes.new.items }
     ensures child { IfOk result (λ c. child_of nodes.new.items at key.now ≡ Some c) }
+    ensures memory { IfErr result (λ cause. cause ≡ NoMemory) }
 {
     if let Some(child) = nodes[at.0].children.find(key) {
         return Ok(child);
@@ -134,7 +143,8 @@ pub fn grown_child(nodes: &mut Vec<Node>, at: NodeNumber, key: &Key) -> Result<N
 
 /// A copy of a key.
 fn key_copy(key: &Key) -> Result<Key, Refusal>
-    ensures { IfOk result (λ k. k ≡ key.now) }
+    ensures ok { IfOk result (λ k. k ≡ key.now) }
+    ensures memory { IfErr result (λ cause. cause ≡ NoMemory) }
 {
     Ok(key.try_clone()?)
 }
@@ -145,6 +155,7 @@ fn add_child(nodes: &mut Vec<Node>, at: NodeNumber, key: Key, fresh: Node) -> Re
     requires missing { child_of nodes.old.items at key ≡ None }
     ensures ok { OnOk result (nodes.new.items ≡ slice_set nodes.old.items at.0 (with_child key (record { 0 = length nodes.old.items }) (node_of nodes.old.items at)) ++ fresh ∷ []) }
     ensures err { OnErr result (nodes.new.items ≡ nodes.old.items) }
+    ensures memory { IfErr result (λ cause. cause ≡ NoMemory) }
 {
     nodes.reserve(1)?;
     let number = NodeNumber(nodes.len());
