@@ -17,11 +17,17 @@ pub enum Command {
 /// What is read at a place.
 #[derive(Clone, Copy, Debug, PartialEq, Eq)]
 pub enum Look {
+    /// The names of the present members of the map.
     Keys,
+    /// The scalars of the register.
     Values,
+    /// The present elements of the list, each with the scalars of its register.
     Items,
+    /// The present values, each with the id of the operation that put it.
     Conflicts,
+    /// All that stands there and below, as JSON text.
     Show,
+    /// The sum of the counter.
     Sum,
 }
 
@@ -30,6 +36,7 @@ pub enum Look {
 pub enum Query {
     /// Where the steps lead.
     Resolve(Place),
+    /// What stands at the place.
     Look(Look, Place),
     /// The first so many of the logged operations that the front does not cover.
     Operations(Front, u64),

@@ -48,6 +48,8 @@ impl From<Vec<Step>> for Steps {
 /// A place in a document: steps from a start.
 #[derive(Debug, Drop)]
 pub struct Place {
+    /// Where the steps start.
     pub start: Cursor,
+    /// The steps from there, in order.
     pub steps: Steps,
 }

@@ -44,24 +44,44 @@ impl From<String> for ShownText {
 /// What a document answers.
 #[derive(Debug)]
 pub enum Reply {
-    /// How many operations were logged, how many were dropped, and the first id.
-    Applied { count: u64, dropped: u64, id: Id },
+    /// The operation is logged, and with it the held ones that it released.
+    Applied {
+        /// How many operations were logged, the first included.
+        count: u64,
+        /// How many held operations were given up.
+        dropped: u64,
+        /// The id of the first.
+        id: Id,
+    },
     /// The operation is logged already.
     Known,
     /// The operation is held; with the ids that it waits for.
     Held(Ids),
+    /// The operation is held no longer.
     Forgotten,
+    /// Where the steps led.
     Resolved(Cursor),
+    /// The names of the present members of the map.
     Keys(Texts),
+    /// The scalars of the register.
     Values(Scalars),
+    /// The present elements of the list, each with the scalars of its register.
     Items(Items),
+    /// The present values, each with the id of the operation that put it.
     Conflicts(Conflicts),
+    /// All that stands at the place and below.
     Show(ShownText),
+    /// The sum of the counter.
     Sum(i128),
+    /// Logged operations that the front doesn't cover, in the order of the log.
     Operations(Operations),
+    /// The front of the whole log.
     Front(Front),
+    /// The held operations, and what each waits for.
     Waiting(Waiting),
+    /// How many of the logged operations are the asking seat's.
     Account(u64),
+    /// It is refused for this cause, with nothing changed.
     Refused(Refusal),
 }
 
