@@ -47,7 +47,7 @@ impl<R: Source> Source for FailAfter<R> {
     }
 
     fn failed(&self) -> bool {
-        self.failed || self.device.failed()
+        self.failed || Source::failed(&self.device)
     }
 }
 
@@ -68,7 +68,7 @@ impl<W: Sink> Sink for FailAfter<W> {
     }
 
     fn failed(&self) -> bool {
-        self.failed || self.device.failed()
+        self.failed || Sink::failed(&self.device)
     }
 }
 
@@ -113,7 +113,7 @@ impl<R: Source> Source for InPieces<R> {
     }
 
     fn failed(&self) -> bool {
-        self.device.failed()
+        Source::failed(&self.device)
     }
 }
 
@@ -128,6 +128,6 @@ impl<W: Sink> Sink for InPieces<W> {
     }
 
     fn failed(&self) -> bool {
-        self.device.failed()
+        Sink::failed(&self.device)
     }
 }
