@@ -7,12 +7,12 @@ ghost use Rattle.line_proto.specs.Told.{line_text, worded, shown_text, reply_tex
 ghost use Rattle.line_proto.specs.Writing.{is_lengthy};
 
 use crate::told_json::{
-    conflicts_json, cursor_json, items_json, operations_json, scalars_json, sum_json, texts_json,
-    waiting_json, worded,
+    conflicts_json, items_json, operations_json, scalars_json, sum_json, texts_json, waiting_json,
+    worded,
 };
 use doc_words::Reply;
 use json_scalar::Refusal;
-use op_core::write_front;
+use op_core::{write_cursor, write_front};
 use serde_json::Value;
 use std::alloc::Global;
 
@@ -23,7 +23,7 @@ pub(crate) fn lengthy_line(alloc: Global, reply: &Reply) -> Result<String, Refus
     ensures { IfOk result (λ line. string_bytes line ≡ line_of (reply_text reply.now)) }
 {
     match reply {
-        Reply::Resolved(cursor) => told_line(alloc, "cursor", cursor_json(alloc, cursor)?),
+        Reply::Resolved(cursor) => told_line(alloc, "cursor", write_cursor(alloc, cursor)?),
         Reply::Keys(texts) => told_line(alloc, "keys", texts_json(alloc, texts.as_slice())?),
         Reply::Values(scalars) => told_line(
             alloc,

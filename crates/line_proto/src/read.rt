@@ -95,8 +95,8 @@ fn read_items(alloc: Global, items: &[Value]) -> Result<Request, Refusal>
         [] => Err(Refusal::BadRequest),
         [verb] => read_bare(verb),
         [verb, document] => read_plain(alloc, verb, document),
-        [verb, document, a] => read_short(alloc, verb, document, a),
-        [verb, document, a, b] => read_long(alloc, verb, document, a, b),
+        [verb, document, third] => read_short(alloc, verb, document, third),
+        [verb, document, third, fourth] => read_long(alloc, verb, document, third, fourth),
         [_, _, _, _, _, ..] => Err(Refusal::BadRequest),
     }
 }
@@ -145,26 +145,31 @@ fn plain_ask(verb: &str) -> Option<Ask>
     }
 }
 
-fn read_short(alloc: Global, verb: &Value, document: &Value, a: &Value) -> Result<Request, Refusal>
-    ensures { UnlessMemory result (short_from (view verb.now) (view document.now) (view a.now)) }
+fn read_short(
+    alloc: Global,
+    verb: &Value,
+    document: &Value,
+    third: &Value,
+) -> Result<Request, Refusal>
+    ensures { UnlessMemory result (short_from (view verb.now) (view document.now) (view third.now)) }
 {
     let verb = verb.as_str().ok_or(Refusal::BadRequest)?;
     let document = document.as_str().ok_or(Refusal::BadRequest)?;
-    let ask = short_ask(alloc, verb, a)?;
+    let ask = short_ask(alloc, verb, third)?;
     Ok(Request::Of(Name::new(alloc, document)?, ask))
 }
 
-fn short_ask(alloc: Global, verb: &str, a: &Value) -> Result<Ask, Refusal>
-    ensures { UnlessMemory result (short_ask verb.now (view a.now)) }
+fn short_ask(alloc: Global, verb: &str, third: &Value) -> Result<Ask, Refusal>
+    ensures { UnlessMemory result (short_ask verb.now (view third.now)) }
 {
     if verb == "delete" {
-        read_deletion(alloc, a)
+        read_deletion(alloc, third)
     } else if verb == "deliver" {
-        read_delivery(alloc, a)
+        read_delivery(alloc, third)
     } else if verb == "forget" {
-        read_forgetting(a)
+        read_forgetting(third)
     } else {
-        read_look(alloc, verb, a)
+        read_look(alloc, verb, third)
     }
 }
 
@@ -217,26 +222,26 @@ fn read_long(
     alloc: Global,
     verb: &Value,
     document: &Value,
-    a: &Value,
-    b: &Value,
+    third: &Value,
+    fourth: &Value,
 ) -> Result<Request, Refusal>
-    ensures { UnlessMemory result (long_from (view verb.now) (view document.now) (view a.now) (view b.now)) }
+    ensures { UnlessMemory result (long_from (view verb.now) (view document.now) (view third.now) (view fourth.now)) }
 {
     let verb = verb.as_str().ok_or(Refusal::BadRequest)?;
     let document = document.as_str().ok_or(Refusal::BadRequest)?;
-    let ask = long_ask(alloc, verb, a, b)?;
+    let ask = long_ask(alloc, verb, third, fourth)?;
     Ok(Request::Of(Name::new(alloc, document)?, ask))
 }
 
-fn long_ask(alloc: Global, verb: &str, a: &Value, b: &Value) -> Result<Ask, Refusal>
-    ensures { UnlessMemory result (long_ask verb.now (view a.now) (view b.now)) }
+fn long_ask(alloc: Global, verb: &str, third: &Value, fourth: &Value) -> Result<Ask, Refusal>
+    ensures { UnlessMemory result (long_ask verb.now (view third.now) (view fourth.now)) }
 {
     if verb == "let" {
-        read_naming(alloc, a, b)
+        read_naming(alloc, third, fourth)
     } else if verb == "ops" {
-        read_ops(alloc, a, b)
+        read_ops(alloc, third, fourth)
     } else {
-        read_change(alloc, verb, a, b)
+        read_change(alloc, verb, third, fourth)
     }
 }
 

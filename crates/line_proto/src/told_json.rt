@@ -4,14 +4,14 @@ ghost use Rattle.std.specs.Fmt.{signed_decimal};
 ghost use Rattle.serde_json.specs.Data.{string};
 ghost use Rattle.serde_json.specs.View.{view};
 ghost use Rattle.json_scalar.specs.Writing.{Writes};
-ghost use Rattle.op_core.specs.Wire.{list_data, key_data, tagged_data, path_data, cursor_data, wire};
+ghost use Rattle.op_core.specs.Wire.{list_data, wire};
 ghost use Rattle.line_proto.specs.Told.{worded, pair_data, ids_data, scalars_data, item_data, conflict_data, waiting_data};
 
 use doc_words::{Ids, Scalars};
 use itoa::Buffer;
 use json_scalar::{Refusal, Scalar, Val};
 use lamport_id::Id;
-use op_core::{Cursor, Key, KeyText, Operation, Path, Tagged, write_id, write_wire};
+use op_core::{KeyText, Operation, write_id, write_wire};
 use serde_json::Value;
 use std::alloc::Global;
 
@@ -123,42 +123,4 @@ pub(crate) fn operations_json(alloc: Global, ops: &[Operation]) -> Result<Value,
         values.push(write_wire(alloc, op)?)?;
     }
     Ok(Value::Array(values))
-}
-
-fn key_json(alloc: Global, key: &Key) -> Result<Value, Refusal>
-    ensures { Writes (key_data key.now) result }
-{
-    match key {
-        Key::Doc => Ok(Value::from(0u64)),
-        Key::Text(text) => Ok(Value::try_from_str(alloc, text.as_str())?),
-        Key::Element(id) => write_id(alloc, id),
-        Key::Head => Ok(Value::from(1u64)),
-    }
-}
-
-fn tagged_json(alloc: Global, tagged: &Tagged) -> Result<Value, Refusal>
-    ensures { Writes (tagged_data tagged.now) result }
-{
-    match tagged {
-        Tagged::Map(key) => worded(alloc, "m", key_json(alloc, key)?),
-        Tagged::List(key) => worded(alloc, "l", key_json(alloc, key)?),
-    }
-}
-
-fn path_json(alloc: Global, path: &Path) -> Result<Value, Refusal>
-    ensures { Writes (path_data path.now) result }
-{
-    let mut values = Vec::new(alloc);
-    for tagged in path.as_slice() {
-        values.push(tagged_json(alloc, tagged)?)?;
-    }
-    Ok(Value::Array(values))
-}
-
-pub(crate) fn cursor_json(alloc: Global, cursor: &Cursor) -> Result<Value, Refusal>
-    ensures { Writes (cursor_data cursor.now) result }
-{
-    let path = path_json(alloc, &cursor.path)?;
-    let key = key_json(alloc, &cursor.key)?;
-    Ok(Value::Array(vec![in alloc; path, key]?))
 }
