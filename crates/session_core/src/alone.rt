@@ -1,15 +1,14 @@
 //! Documents that one session has for itself.
-ghost use Rattle.std.specs.Prelude.{◌≡◌, ◌↔◌, ◌≤◌, ◌+◌, ◌*◌, ℕ, List, [], false, length, map, replicate, option_map, None, Some, IsTrue, IfOk, IfErr, IfSome};
-ghost use Rattle.std.specs.Io.KnownBytes.{Appends, Consumes};
+ghost use Rattle.std.specs.Prelude.{◌≡◌, ◌↔◌, ◌≤◌, ◌+◌, ◌*◌, ℕ, List, [], false, length, map, replicate, option_map, None, Some, IsTrue, IfOk, IfErr};
 ghost use Rattle.doc_rules.specs.Document as rules;
 ghost use Rattle.session_rules.specs.Alone as sole;
 ghost use Rattle.session_rules.specs.Alone.{alone};
 ghost use Rattle.session_rules.specs.Session as sessions;
 ghost use Rattle.session_rules.specs.Session.{place_of};
-ghost use Rattle.session_rules.specs.Transcript.{IsSession};
 ghost use Rattle.session_core.specs.Owned.{AreEnds, AreWithin, HasSeat, given_back};
 ghost use Rattle.session_core.specs.Seats.{seat_told};
-ghost use Rattle.session_core.specs.Short.{event_short};
+ghost use Rattle.session_core.specs.Ended.{Ends};
+ghost use Rattle.session_core.specs.Answered.{event_short};
 
 use crate::access::DocAccess;
 use crate::opened::Opened;
@@ -88,7 +87,9 @@ impl<D: Document> Model for Owned<D> {
 /// Documents of one owner, each with its name.
 #[derive(Drop)]
 pub struct Alone<D: Document> {
+    /// The names, in the order of the documents.
     pub names: Vec<Name>,
+    /// The documents, as many as there are names.
     pub documents: Vec<D>,
     ghost as_many: { length names.items ≡ length documents.items },
 }
@@ -161,6 +162,7 @@ pub struct Ended<D: Document> {
 /// A session for whose buffer or ends there was no memory, with all that was handed in.
 #[derive(Drop)]
 pub struct Unbegun<D: Document> {
+    /// The documents, as they were handed in.
     pub documents: Alone<D>,
 }
 
@@ -197,12 +199,10 @@ pub fn run_alone<R: Source, W: Sink, D: Document>(
     requires sink_works { W.has_failed sink.old ≡ false }
 
     // The ends are those of the seats that the session had at the end of the transcript.
-    ensures session { IfOk result (λ ended. (read written : List ℕ) × (opened : List sessions.Opened)
-        × Consumes (R.remaining source.old) (R.remaining source.new) read
-        × Appends (W.contents sink.old) (W.contents sink.new) written
-        × IfSome (R.remaining source.old) (λ bytes.
-        IsSession (alone documents.names.items) (record { documents = map D.document documents.documents.items; opened = [] }) bytes read
-        ended.why written (record { documents = map D.document ended.documents.documents.items; opened = opened }))
+    ensures session { IfOk result (λ ended. (opened : List sessions.Opened)
+        × Ends (alone documents.names.items) (record { documents = map D.document documents.documents.items; opened = [] })
+        (R.remaining source.old) (R.remaining source.new) (W.contents sink.old) (W.contents sink.new)
+        ended.why (record { documents = map D.document ended.documents.documents.items; opened = opened })
         × AreEnds D.has_seat D.seat_number ended.documents.documents.items opened (map (option_map D.seat_of) ended.ends.items)) }
     ensures names { IfOk result (λ ended. ended.documents.names.items ≡ documents.names.items) }
 

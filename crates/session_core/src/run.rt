@@ -1,11 +1,11 @@
 //! A whole session.
-ghost use Rattle.std.specs.Prelude.{◌≡◌, ◌↔◌, ◌≤◌, ◌+◌, ◌*◌, ℕ, Bool, false, [], List, is_err, IsTrue, IfOk, IfSome, OnOk, OnErr};
-ghost use Rattle.std.specs.Io.KnownBytes.{Appends, Consumes};
+ghost use Rattle.std.specs.Prelude.{◌≡◌, ◌↔◌, ◌≤◌, ◌+◌, ◌*◌, ℕ, Bool, false, [], List, Some, is_err, IsTrue, IfOk, OnOk, OnErr};
+ghost use Rattle.std.specs.Io.KnownBytes.{Appends};
 ghost use Rattle.line_feed.specs.Cut.{AppendsCut};
 ghost use Rattle.line_proto.specs.Told.{line_told};
 ghost use Rattle.line_proto.specs.declared.told.Told.{Told};
 ghost use Rattle.session_rules.specs.Session.{Answers, refused};
-ghost use Rattle.session_rules.specs.Transcript.{IsSession};
+ghost use Rattle.session_core.specs.Ended.{Ends, Turns};
 ghost use Rattle.session_core.specs.Opened.{AreSeated, access_of, session_of};
 ghost use Rattle.session_core.specs.Telling.{MayTell};
 
@@ -24,7 +24,9 @@ pub const MAX_LINES: u32 = 1_000_000;
 /// A session that has ended, and why.
 #[derive(Drop)]
 pub struct Finished<A: DocAccess> {
+    /// Why it ended.
     pub why: Ending,
+    /// The session at its end, with the seats that it had.
     pub session: Session<A>,
 }
 
@@ -85,6 +87,40 @@ fn answer_line<A: DocAccess, W: Sink>(
     }
 }
 
+/// Answers what was read, a line or none, into the sink, and gives the cause for which the session ends, if it does.
+fn end_of<A: DocAccess, W: Sink>(
+    alloc: Global,
+    access: &mut A,
+    session: &mut Session<A>,
+    outcome: Outcome,
+    line: &[u8],
+    sink: &mut W,
+) -> Option<Ending>
+    requires seats { AreSeated A.has_seat access.old session.old.opened.items }
+    requires works { W.has_failed sink.old ≡ false }
+    ensures turns { (names : List (List ℕ)) → A.names access.old ≡ names → Turns (access_of names A.opens A.acts A.reads) outcome line.now
+        (session_of A.seat_number (A.documents access.old) session.old.opened.items) (W.contents sink.old) result
+        (session_of A.seat_number (A.documents access.new) session.new.opened.items) (W.contents sink.new) }
+    ensures read_fault { (outcome ≡ Outcome.Fault) ↔ (result ≡ Some Ending.ReadFault) }
+    ensures write_fault { IsTrue (W.has_failed sink.new) ↔ (result ≡ Some Ending.WriteFault) }
+    ensures seats { AreSeated A.has_seat access.new session.new.opened.items }
+    ensures names { A.names access.new ≡ A.names access.old }
+{
+    match outcome {
+        Outcome::Line => match answer_line(alloc, access, session, line, sink) {
+            Ok(true) => None,
+            Ok(false) => Some(Ending::Quit),
+            Err(_) => Some(Ending::WriteFault),
+        },
+        Outcome::TooLong => match tell_refusal(alloc, Refusal::LineTooLong, sink) {
+            Ok(()) => Some(Ending::TooLong),
+            Err(_) => Some(Ending::WriteFault),
+        },
+        Outcome::End => Some(Ending::End),
+        Outcome::Fault => Some(Ending::ReadFault),
+    }
+}
+
 /// Answers the lines of the source into the sink, one after the other, with no document opened at first: at most
 /// `MAX_LINES` lines of at most 65,536 bytes each. Without memory for its buffer it has read and written nothing.
 pub fn run_session<R: Source, W: Sink, A: DocAccess>(
@@ -96,12 +132,9 @@ pub fn run_session<R: Source, W: Sink, A: DocAccess>(
     requires source_works { R.has_failed source.old ≡ false }
     requires sink_works { W.has_failed sink.old ≡ false }
 
-    ensures session { IfOk result (λ ended. (read written : List ℕ)
-        × Consumes (R.remaining source.old) (R.remaining source.new) read
-        × Appends (W.contents sink.old) (W.contents sink.new) written
-        × IfSome (R.remaining source.old) (λ bytes.
-        IsSession (access_of (A.names access.old) A.opens A.acts A.reads) (session_of A.seat_number (A.documents access.old) []) bytes read
-        ended.why written (session_of A.seat_number (A.documents access.new) ended.session.opened.items))) }
+    ensures session { IfOk result (λ ended. Ends (access_of (A.names access.old) A.opens A.acts A.reads)
+        (session_of A.seat_number (A.documents access.old) []) (R.remaining source.old) (R.remaining source.new) (W.contents sink.old) (W.contents sink.new)
+        ended.why (session_of A.seat_number (A.documents access.new) ended.session.opened.items)) }
     ensures seats { IfOk result (λ ended. AreSeated A.has_seat access.new ended.session.opened.items) }
     ensures names { A.names access.new ≡ A.names access.old }
 
@@ -117,46 +150,9 @@ pub fn run_session<R: Source, W: Sink, A: DocAccess>(
     let mut feed = LineFeed::new(alloc)?;
     let mut session = Session::new(alloc);
     for _ in 0..MAX_LINES {
-        match feed.next(source) {
-            Outcome::Line => match answer_line(alloc, access, &mut session, feed.line(), sink) {
-                Ok(true) => {}
-                Ok(false) => {
-                    return Ok(Finished {
-                        why: Ending::Quit,
-                        session,
-                    });
-                }
-                Err(_) => {
-                    return Ok(Finished {
-                        why: Ending::WriteFault,
-                        session,
-                    });
-                }
-            },
-            Outcome::End => {
-                return Ok(Finished {
-                    why: Ending::End,
-                    session,
-                });
-            }
-            Outcome::TooLong => {
-                if tell_refusal(alloc, Refusal::LineTooLong, sink).is_err() {
-                    return Ok(Finished {
-                        why: Ending::WriteFault,
-                        session,
-                    });
-                }
-                return Ok(Finished {
-                    why: Ending::TooLong,
-                    session,
-                });
-            }
-            Outcome::Fault => {
-                return Ok(Finished {
-                    why: Ending::ReadFault,
-                    session,
-                });
-            }
+        let outcome = feed.next(source);
+        if let Some(why) = end_of(alloc, access, &mut session, outcome, feed.line(), sink) {
+            return Ok(Finished { why, session });
         }
     }
     Ok(Finished {

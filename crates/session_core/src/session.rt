@@ -14,7 +14,9 @@ use std::alloc::Global;
 /// What is told in answer to a line, and whether the session goes on.
 #[derive(Drop)]
 pub struct Answer {
+    /// What is told.
     pub told: Told,
+    /// Whether the session goes on; after `quit` alone it doesn't.
     pub goes_on: bool,
 }
 

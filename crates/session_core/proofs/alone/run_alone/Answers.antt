@@ -24,13 +24,8 @@ returns-in-Ok-run_session-clause-session g c =
     let all : c.len.result ≡ length documents =
     before ∙ sym c.args.documents.as_many ∙ ap length (sym c.in-Ok-run_session.ensures.names) ∙ c.run_session.new.access.as_many in
     let shown = shown_ends g.D.Document.seat_of opened c.len.result c.in-Ok.ends.items c.end_all.new.ends.items c.in-Ok.ensures c.end_all.ensures in
-    let ends = ends_are g.D.Document.has_seat g.D.Document.seat_number documents opened seats.seated seats.apart c.len.result all in
-    let (read, written, consumed, appended, session) = c.in-Ok-run_session.ensures.session in (
-      read,
-      written,
+    let ends = ends_are g.D.Document.has_seat g.D.Document.seat_number documents opened seats.seated seats.apart c.len.result all in (
       map (opened_of g.D.Document.seat_number) opened,
-      consumed,
-      appended,
-      session,
+      c.in-Ok-run_session.ensures.session,
       subst (AreEnds g.D.Document.has_seat g.D.Document.seat_number documents (map (opened_of g.D.Document.seat_number) opened)) (sym shown) ends,
     )
