@@ -2,8 +2,8 @@
 ghost use Rattle.std.specs.Prelude.{◌≡◌, ◌≢◌, ◌⊎◌, ◌≤◌, ◌+◌, ℕ, [], false, true, length, map, Some, IfOk, IsTrue};
 ghost use Rattle.lamport_id.specs.Name.{is_name};
 ghost use Rattle.doc_rules.specs.Document.{new_document};
-ghost use Rattle.jcrdt.specs.CommandLine.{Asks, Wanted, first_replica, is_good};
-ghost use Rattle.jcrdt.specs.Served.{Serves};
+ghost use Rattle.jcrdt.specs.CommandLine.{Asks, Wanted, first_replica, is_good, is_run};
+ghost use Rattle.jcrdt.specs.Served.{ServesAll, ServesUntilFault};
 
 use crate::command_line::{is_good, is_run, run_matches};
 use clap::error::ErrorKind;
@@ -89,9 +89,11 @@ fn serve<M: Maker, R: Source, W: Sink>(
     requires sink_works { W.has_failed sink.old ≡ false }
     ensures bound { result ≤ 1 }
     ensures served { (wanted : Wanted) → replica.now ≡ first_replica wanted.name → map (λ s. s.now) names.now ≡ wanted.documents
-        → result ≡ 0 → Serves wanted (R.remaining source.old) (R.remaining source.new) (W.contents sink.old) (W.contents sink.new) }
+        → result ≡ 0 → ServesAll wanted (R.remaining source.old) (R.remaining source.new) (W.contents sink.old) (W.contents sink.new) }
     ensures no_fault { result ≡ 0 → (R.has_failed source.new ≡ false) × (W.has_failed sink.new ≡ false) }
-    ensures failed { result ≡ 1 → (IsTrue (R.has_failed source.new) ⊎ IsTrue (W.has_failed sink.new)) ⊎ ((source.new ≡ source.old) × (sink.new ≡ sink.old)) }
+    ensures failed { (wanted : Wanted) → replica.now ≡ first_replica wanted.name → map (λ s. s.now) names.now ≡ wanted.documents
+        → result ≡ 1 → ServesUntilFault wanted (R.has_failed source.new) (W.has_failed sink.new) (R.remaining source.old) (R.remaining source.new) (W.contents sink.old) (W.contents sink.new)
+        ⊎ ((source.new ≡ source.old) × (sink.new ≡ sink.old)) }
 {
     let Ok(documents) = make_all(alloc, maker, replica, names) else {
         return 1;
@@ -116,13 +118,17 @@ pub fn run_words<M: Maker, R: Source, W: Sink>(
     requires sink_works { W.has_failed sink.old ≡ false }
 
     ensures status { result ≤ 2 }
+    ensures first_word { is_run (map (λ s. s.now) words.now) ≡ false → result ≡ 2 }
 
-    // What was written is a transcript for the name and the documents of the words.
+    // What was written is a whole transcript for the name and the documents of the words.
     ensures served { result ≡ 0 → (wanted : Wanted) × Asks (map (λ s. s.now) words.now) wanted
-        × Serves wanted (R.remaining source.old) (R.remaining source.new) (W.contents sink.old) (W.contents sink.new) }
+        × ServesAll wanted (R.remaining source.old) (R.remaining source.new) (W.contents sink.old) (W.contents sink.new) }
     ensures no_fault { result ≡ 0 → (R.has_failed source.new ≡ false) × (W.has_failed sink.new ≡ false) }
 
-    ensures failed { result ≡ 1 → (IsTrue (R.has_failed source.new) ⊎ IsTrue (W.has_failed sink.new)) ⊎ ((source.new ≡ source.old) × (sink.new ≡ sink.old)) }
+    // What was written is a transcript up to a device's fault, or memory was wanting before it began.
+    ensures failed { result ≡ 1 → ((wanted : Wanted) × Asks (map (λ s. s.now) words.now) wanted
+        × ServesUntilFault wanted (R.has_failed source.new) (W.has_failed sink.new) (R.remaining source.old) (R.remaining source.new) (W.contents sink.old) (W.contents sink.new))
+        ⊎ ((source.new ≡ source.old) × (sink.new ≡ sink.old)) }
 
     ensures refused { result ≡ 2 → (wanted : Wanted) → Asks (map (λ s. s.now) words.now) wanted → ⊥ }
     ensures untouched { result ≡ 2 → (source.new ≡ source.old) × (sink.new ≡ sink.old) }
