@@ -1,15 +1,15 @@
 -- Seats of the documents of a run.
-use Rattle.std.proofs.Common.{◌≡◌, ◌≤◌, ◌<◌, ◌+◌, ◌++◌, ◌==◌, ℕ, suc, nat_lt, Bool, true, false, List, [], ◌∷◌, length, drop, Result, Ok, Err, IfOk, if◌then◌else◌, refl, sym, ap, ap₂, ◌∙◌, subst, arith}
+use Rattle.std.proofs.Common.{◌≡◌, ◌⊎◌, inl, inr, ◌≤◌, ◌<◌, ◌+◌, ◌++◌, ◌==◌, ℕ, suc, nat_lt, Bool, true, false, List, [], ◌∷◌, length, drop, Result, Ok, Err, IfOk, if◌then◌else◌, refl, sym, ap, ap₂, ◌∙◌, subst, arith}
 use Rattle.std.proofs.lemmas.List.{map-append}
 use Rattle.std.proofs.Math.Seq.{drop-append_seam}
 use Rattle.std.proofs.lemmas.Bool.{eqb-true}
 use Rattle.std.specs.List.{All}
 use Rattle.op_core.specs.Op.{Op}
 use Rattle.json_scalar.specs.declared.refusal.Refusal.{Refusal}
-use Rattle.json_scalar.specs.declared.refusal.Refusal.TheVariants.{SeatsFull}
+use Rattle.json_scalar.specs.declared.refusal.Refusal.TheVariants.{SeatsFull, NoMemory, ListsDiffer}
 use Rattle.doc_words.specs.declared.ask.Command.{Command}
 use Rattle.doc_rules.specs.Document.{Document, IsSound, by, logged_by, opens}
-use Rattle.doc_rules.specs.Seats.{Seat, Answer, ActsFor, AnswersFor, IsSeatOf, ids_of}
+use Rattle.doc_rules.specs.Seats.{Seat, Answer, ActsFor, AnswersFor, AreEndsOf, ids_of}
 use Rattle.doc_rules.proofs.Shared.{acts_gives}
 use Rattle.doc_words.specs.declared.ask.Query.{Query}
 use Rattle.locked_doc.specs.Locked.{seat_opened}
@@ -72,3 +72,9 @@ read_here n d s t query a here answers =
       );
       told = answers.told ∙ here.told ∙ ap (λ k. ids_of (logged_by k d)) (sym answers.answer.same.1);
     }
+
+-- no end is right where no seat was opened
+pub none_unopened : (n : ℕ) (d : Document) (ends : List Seat) (refusal : Refusal) → (refusal ≡ NoMemory) ⊎ ((refusal ≡ ListsDiffer) × (AreEndsOf n d ends → ⊥))
+    → d.opened ≡ 0 → ends ≡ [] → refusal ≡ NoMemory
+none_unopened n d ends refusal (inl memory) unopened none = memory
+none_unopened n d ends refusal (inr (differ, wrong)) unopened none = absurd (wrong (subst (AreEndsOf n d) (sym none) (sym unopened)))

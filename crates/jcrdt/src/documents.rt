@@ -42,11 +42,13 @@ impl<M: Marker> Document for Seated<M> {
     }
 
     fn open_seat(&mut self) -> Result<Seat<M>, Refusal> {
+        // The number isn't used: the call's contract says that the document is sound.
         let _sound = self.locked.number();
         self.locked.open_seat()
     }
 
     fn act(&mut self, seat: &mut Seat<M>, command: Command) -> Reply {
+        // As above, for the contract alone.
         let _sound = self.locked.number();
         self.locked.act(seat, command).into_reply()
     }
@@ -64,13 +66,16 @@ impl<M: Marker> Seated<M> {
     ghost use Rattle.jcrdt.specs.Told.{HasTold};
 
     /// Adds up what was done at the document, given the end of its seat, if that was opened. The end that a session gave back
-    /// was told just what is logged for it, so it is refused for want of memory alone. Each refusal hands everything back.
+    /// was told just what is logged for it, so it is refused for want of memory alone, and so is no end where no seat was
+    /// opened. Each refusal hands everything back.
     pub fn gather(self, alloc: Global, ends: Vec<SeatEnd<M>>) -> Result<Totals, Gathering<M>>
         ensures ok { IfOk result (λ t. AreEndsOf self.locked.number self.locked.document ends.items × (totals_told t ≡ totals_of self.locked.document ends.items)) }
         ensures err { IfErr result (λ g. (g.doc ≡ self.locked) × (g.ends.items ≡ ends.items)) }
         ensures given_back { IfErr result (λ g. (end : seats.Seat) → ends.items ≡ end ∷ [] → HasTold self.locked.number self.locked.document end
             → g.refusal ≡ Refusal.NoMemory) }
+        ensures unopened { IfErr result (λ g. self.locked.document.opened ≡ 0 → ends.items ≡ [] → g.refusal ≡ Refusal.NoMemory) }
     {
+        // As above, for the contract alone.
         let _sound = self.locked.number();
         self.locked.gather(alloc, ends)
     }
