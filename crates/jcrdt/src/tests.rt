@@ -1,6 +1,8 @@
-//! The program over bytes in memory: the worked rows, pieces of any size, faults, and command lines.
+//! The program over bytes in memory: the worked rows, the order of causes, pieces of 1, 7 and 4,096 bytes, faults, and
+//! command lines.
 ghost use Rattle.std.specs.Prelude.{◌≡◌, ◌<◌};
 
+mod causes;
 mod gathering;
 mod limits;
 mod rows;
@@ -202,7 +204,13 @@ fn command_lines(rt: HostRuntime) -> Result<(), Fail> {
     status(
         &rt,
         alloc,
-        &["run", "--name", "a-name-of-24-bytes-in-all", "a"],
+        &["run", "--name", "a-name-of-24-bytes-whole", "a"],
+        0,
+    )?;
+    status(
+        &rt,
+        alloc,
+        &["run", "--name", "a-name-of-25-bytes-in-all", "a"],
         2,
     )?;
     status(&rt, alloc, &["run", "a", "a"], 2)?;
@@ -225,44 +233,4 @@ fn other_words(rt: HostRuntime) -> Result<(), Fail> {
         "run", "a", "b", "c", "d", "e", "f", "g", "h", "i", "j", "k", "l", "m", "n", "o", "p", "q",
     ];
     status(&rt, alloc, &seventeen, 2)
-}
-
-/// Where a line has several causes against it, the first in the order of causes is told: the form of the request, then its
-/// values, then the document, its seat, the variable, and the steps in turn.
-#[test]
-fn first_of_several_causes(rt: HostRuntime) -> Result<(), Fail> {
-    row(
-        &rt,
-        rt.alloc(),
-        br#"["assign","x",["v"],1.5,0]
-["ops","x",[["b",1],["a",1]],0]
-["ops","x",[["b",1],["a",1]],1]
-["assign","x",["v"],1.5]
-["deliver","x",["op",[2,"p"],[["q",1],["o",2]],[[["m",0]],"K"],["assign",1.5]]]
-["deliver","x",["op",[2,"p"],[],[[["m",0]],"k"],["delete"]]]
-["assign","x",["v"],1]
-["assign","d",["v"],1]
-["open","d"]
-["assign","d",["v",0,9],1]
-["assign","d",[0,0,9],1]
-["assign","d",[0,9,"k"],1]
-["insert","d",[0,0],1]
-["assign","d",[0,0],1]
-"#,
-        br#"["no",2,"bad-request"]
-["no",2,"bad-request"]
-["no",13,"bad-front"]
-["no",6,"bad-value"]
-["no",12,"bad-operation"]
-["no",13,"bad-front"]
-["no",4,"no-such-document"]
-["no",5,"not-open"]
-["opened",1]
-["no",8,"no-such-variable"]
-["no",10,"at-head"]
-["no",9,"index-past-end"]
-["applied",1,0,[1,"srv-1"]]
-["no",10,"at-head"]
-"#,
-    )
 }
