@@ -12,8 +12,8 @@ use std::alloc::Global;
 use std::marker::Model;
 use std::sync::{Mutex, Wait};
 
-/// Documents, each in a lock of its own. Contracts see a shelf as how many documents it has: that they stand in the order in which
-/// they were put there is tested, not promised. No clause can name what a lock holds when it is taken: it is a sound document, and a
+/// Documents, each in a lock of its own. Contracts see a shelf as how many documents it has, and don't promise that they stand in
+/// the order in which they were put there. No clause can name what a lock holds when it is taken: it is a sound document, and a
 /// call that takes a lock is one event of that document. Whether a call gets its lock is not claimed.
 #[derive(Drop)]
 pub struct Shelf<M: Marker> {

@@ -5,10 +5,10 @@ ghost use Rattle.std.specs.Prelude.{◌≡◌, ◌≤◌, IfOk};
 ghost use Rattle.share_ledger.specs.Counters.{place_of};
 
 use super::samples::{Deed, Told, command, member, operation, told_by, whole};
-use crate::{Gathering, Ledgers, LockedDoc, Seat, SeatEnd, Shelf, Totals};
 use doc_words::{Command, Look, Query, Reply};
 use json_scalar::Refusal;
 use lamport_id::ReplicaName;
+use locked_doc::{Gathering, Ledgers, LockedDoc, Seat, SeatEnd, Shelf, Totals};
 use op_core::Front;
 use replica_core::Replica;
 use share_ledger::{Blank, Marker, Table};

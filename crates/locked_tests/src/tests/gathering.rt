@@ -3,10 +3,10 @@ ghost use Rattle.std.specs.Prelude.{◌≡◌, ◌≤◌};
 ghost use Rattle.share_ledger.specs.Counters.{place_of};
 
 use super::samples::{Deed, Told, command, document, told_by};
-use crate::{Gathering, LockedDoc, Seat, SeatEnd};
 use doc_words::Query;
 use json_scalar::Refusal;
 use lamport_id::Id;
+use locked_doc::{Gathering, LockedDoc, Seat, SeatEnd};
 use share_ledger::{Blank, Marker, Table};
 use std::alloc::Global;
 use std::marker::Brand;

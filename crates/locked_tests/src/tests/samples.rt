@@ -2,10 +2,10 @@
 ghost use Rattle.std.specs.Prelude.{◌≡◌, ◌+◌, ◌≤◌, IfOk, OnOk};
 ghost use Rattle.share_ledger.specs.Counters.{place_of};
 
-use crate::{Ledgers, LockedDoc};
 use doc_words::{Command, Look, Place, Query, Reply, Steps};
 use json_scalar::{Refusal, Scalar};
 use lamport_id::{Id, ReplicaName};
+use locked_doc::{Ledgers, LockedDoc};
 use op_core::{Cursor, Key, KeyText, Operation, Path, Tagged, read_wire};
 use replica_core::Replica;
 use serde_json::Value;

@@ -2,8 +2,8 @@
 ghost use Rattle.std.specs.Prelude.{◌≡◌, ◌<◌};
 
 use super::samples::{Deed, Told, are_numbers, command, document, told_by, values_at};
-use crate::{Seat, Shelf};
 use json_scalar::Refusal;
+use locked_doc::{Seat, Shelf};
 use share_ledger::{Blank, Marker};
 use std::alloc::Global;
 use std::marker::Brand;

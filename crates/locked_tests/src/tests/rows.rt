@@ -2,10 +2,10 @@
 ghost use Rattle.std.specs.Prelude.{◌≡◌};
 
 use super::samples::{Deed, Told, are_ids, are_numbers, command, document, told_by, values_at};
-use crate::{LockedDoc, Seat};
 use doc_words::{Command, Query, Reply};
 use json_scalar::Refusal;
 use lamport_id::{Id, ReplicaName};
+use locked_doc::{LockedDoc, Seat};
 use op_core::{Cursor, Front, Key, Mutation, Operation, Path};
 use share_ledger::{Blank, Marker};
 use std::alloc::Global;
