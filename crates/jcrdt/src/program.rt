@@ -1,5 +1,5 @@
 //! The program over any source and sink.
-ghost use Rattle.std.specs.Prelude.{◌≡◌, ◌≢◌, ◌⊎◌, ◌≤◌, ◌+◌, ℕ, [], false, true, length, map, Some, IfOk, IsTrue};
+ghost use Rattle.std.specs.Prelude.{◌≡◌, ◌≢◌, ◌⊎◌, ◌≤◌, ◌+◌, ℕ, [], false, true, length, map, Some, IfOk, IfErr, IsTrue};
 ghost use Rattle.lamport_id.specs.Name.{is_name};
 ghost use Rattle.doc_rules.specs.Document.{new_document};
 ghost use Rattle.jcrdt.specs.CommandLine.{Asks, Wanted, first_replica, is_good, is_run};
@@ -26,6 +26,7 @@ pub trait Maker {
     fn make(&mut self, alloc: Global, name: &ReplicaName) -> Result<Self::Made, Refusal>
         requires { 1 ≤ room self.old }
         ensures made { IfOk result (λ made. Self.Made.document made ≡ new_document name.now [] 1) }
+        ensures memory { IfErr result (λ cause. cause ≡ Refusal.NoMemory) }
         ensures room { room self.old ≤ room self.new + 1 };
 }
 
@@ -50,6 +51,7 @@ fn make_all<M: Maker>(
     requires { length names.now ≤ M.room maker.old }
     ensures names { IfOk result (λ made. made.names.items ≡ map (λ s. s.now) names.now) }
     ensures documents { IfOk result (λ made. map M.Made.document made.documents.items ≡ map (λ n. new_document replica.now [] 1) (map (λ s. s.now) names.now)) }
+    ensures memory { IfErr result (λ cause. cause ≡ Refusal.NoMemory) }
 {
     let mut made = Vec::new(alloc);
     let mut documents = Vec::new(alloc);
