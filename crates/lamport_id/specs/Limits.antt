@@ -1,0 +1,10 @@
+-- The limits of names and ids.
+use Rattle.std.specs.Prelude.{ℕ}
+
+-- the bytes of a name
+abbrev pub longest_name : ℕ
+longest_name = 32
+
+-- counters go from 1 to this
+abbrev pub greatest_counter : ℕ
+greatest_counter = 100000
