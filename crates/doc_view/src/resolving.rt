@@ -14,7 +14,7 @@ ghost use Rattle.doc_tree.specs.Nodes.{tree_facts};
 ghost use Rattle.doc_rules.specs.Resolve as rules;
 ghost use Rattle.doc_view.specs.Readings.{Gives};
 
-use crate::elements::{element_by_index, order_of};
+use crate::elements::element_by_index;
 use crate::place::{into_list, is_head, is_placed};
 use doc_tree::Tree;
 use doc_words::Step;
@@ -166,22 +166,15 @@ fn stands_in(alloc: Global, tree: &Tree, before: &Path, key: &Key) -> Result<boo
     match key {
         Key::Doc => Ok(true),
         Key::Text(text) => Ok(is_short(text)),
-        Key::Element(id) => is_listed(alloc, tree, before, id),
+        Key::Element(id) => Ok(is_listed(tree, before, id)),
         Key::Head => Ok(true),
     }
 }
 
-fn is_listed(alloc: Global, tree: &Tree, list: &Path, id: &Id) -> Result<bool, Refusal>
-    ensures { Gives (λ b. b ≡ list_any (id_eq id.now) ((tree_facts tree.now).order list.now)) result }
+fn is_listed(tree: &Tree, list: &Path, id: &Id) -> bool
+    ensures { result ≡ list_any (id_eq id.now) ((tree_facts tree.now).order list.now) }
 {
-    let order = order_of(alloc, tree, list)?;
-    Ok(is_among(order.as_slice(), id))
-}
-
-pub fn is_among(ids: &[Id], id: &Id) -> bool
-    ensures { result ≡ list_any (id_eq id.now) ids.now }
-{
-    ids.iter().any(|other| *id == *other)
+    tree.has_element(list, id)
 }
 
 fn is_short(text: &KeyText) -> bool

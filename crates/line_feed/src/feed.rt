@@ -1,5 +1,5 @@
 //! Lines of a source.
-ghost use Rattle.std.specs.Prelude.{◌≡◌, ℕ, Bool, true, false, List, [], ◌++◌, ◌+◌, ◌<◌, ◌≤◌, ◌↔◌, length, take, IsTrue, IfOk, MatchResult, is_err, position, slice_range};
+ghost use Rattle.std.specs.Prelude.{◌≡◌, ◌-◌, ℕ, Bool, true, false, List, [], ◌++◌, ◌+◌, ◌<◌, ◌≤◌, ◌↔◌, length, take, IsTrue, IfOk, MatchResult, is_err, position, slice_range, vec_len};
 ghost use Rattle.std.specs.Io.KnownBytes.{Consumes, IsAtEnd, Keeps};
 ghost use Rattle.line_feed.specs.Lines.{is_newline, HasNoNewline};
 ghost use Rattle.line_feed.specs.Feed.{Advances, Gives, Stops};
@@ -70,6 +70,18 @@ fn read_behind<R: Source>(
     source.read_some(&mut buffer[len..])
 }
 
+/// Moves the bytes from `start` up to `end` to the front. Where there are none it does nothing.
+fn to_front(buffer: &mut Vec<u8>, start: usize, end: usize)
+    requires ordered { start ≤ end }
+    requires within { end ≤ length buffer.old.items }
+    ensures len { vec_len buffer.new ≡ vec_len buffer.old }
+    ensures front { take (end - start) buffer.new.items ≡ slice_range buffer.old.items start end }
+{
+    if start < end {
+        buffer.rotate_left(start);
+    }
+}
+
 /// Reads behind the first `held` bytes until a newline comes, the buffer is full, or nothing more comes.
 fn fill<R: Source>(source: &mut R, buffer: &mut [u8], held: usize) -> Filled
     requires works { R.has_failed source.old ≡ false }
@@ -131,7 +143,7 @@ pub struct LineFeed {
 }
 
 impl Model for LineFeed {
-    ghost use Rattle.std.specs.Prelude.{◌≡◌, ◌≤◌, true, slice_range, vec_len};
+    ghost use Rattle.std.specs.Prelude.{◌≡◌, ◌-◌, ◌≤◌, true, slice_range, vec_len};
     ghost use Rattle.line_feed.specs.Feed.{Feed, IsSpan};
 
     ghost Value = { Feed };
@@ -208,7 +220,7 @@ impl LineFeed {
             self.start = self.line_end + 1;
             return Outcome::Line;
         }
-        self.buffer.rotate_left(self.start);
+        to_front(&mut self.buffer, self.start, self.end);
         let Filled { len, stop } = fill(source, &mut self.buffer, self.end - self.start);
         self.start = 0;
         self.end = len;

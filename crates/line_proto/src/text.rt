@@ -17,6 +17,9 @@ use lamport_id::Id;
 /// Room for the longest line of a fixed number of parts.
 pub(crate) type Line = ArrayString<128>;
 
+/// Room for a dozen ids.
+pub(crate) type Piece = ArrayString<1024>;
+
 #[tactic(auto, using(crate::proofs::Texts::digits))]
 fn put_number(line: &mut Line, n: u64)
     requires { length line.old.bytes + 20 ≤ 128 }

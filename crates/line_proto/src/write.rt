@@ -1,5 +1,5 @@
 //! How lines are written.
-ghost use Rattle.std.specs.Prelude.{◌≡◌, ◌≢◌, ◌++◌, [], ◌∷◌, true, false, codes, is_err, OnOk, OnErr};
+ghost use Rattle.std.specs.Prelude.{◌≡◌, ◌≢◌, ◌≤◌, ◌++◌, ℕ, List, length, [], ◌∷◌, true, false, codes, is_err, OnOk, OnErr};
 ghost use Rattle.std.specs.Io.KnownBytes.{Appends};
 ghost use Rattle.serde_json.specs.Data.{Data};
 ghost use Rattle.serde_json.specs.Written.{comma_if, compact_text};
@@ -11,7 +11,7 @@ ghost use Rattle.line_proto.specs.Writing.{is_lengthy, may_lack, is_device};
 ghost use Rattle.line_proto.specs.declared.told.Told.TheVariants.{Answered};
 
 use crate::lengthy::lengthy_line;
-use crate::text::{Line, account, applied, fixed, no, opened, put_id, version};
+use crate::text::{Line, Piece, account, applied, fixed, no, opened, put_id, version};
 use crate::told::{Told, VERSION};
 use doc_words::Reply;
 use lamport_id::Id;
@@ -112,23 +112,41 @@ fn write_lengthy<W: Sink>(alloc: Global, reply: &Reply, sink: &mut W) -> Result<
     Ok(write_all(sink, line.as_str().as_bytes())?)
 }
 
-/// Writes the ids one by one, since there may be many and no memory is taken.
+/// Writes the ids in pieces, since there may be many and no memory is taken. A dozen of them are one piece.
 fn write_held<W: Sink>(missing: &[Id], sink: &mut W) -> Result<(), DeviceFault>
     requires { W.has_failed sink.old ≡ false }
     ensures ok { OnOk result (Appends (W.contents sink.old) (W.contents sink.new) (line_text (reply_data (Held missing.now)))) }
     ensures cut { OnErr result (AppendsCut (W.contents sink.old) (W.contents sink.new) (line_text (reply_data (Held missing.now)))) }
     ensures failed { W.has_failed sink.new ≡ is_err result }
 {
-    write_all(sink, b"[\"held\",[")?;
+    let mut piece = Piece::new();
+    piece.push_str("[\"held\",[");
     for i in 0..missing.len() {
-        write_all(sink, id_item(0 < i, &missing[i]).as_str().as_bytes())?;
+        make_room(&mut piece, sink)?;
+        piece.push_str(id_item(0 < i, &missing[i]).as_str());
     }
-    write_all(sink, b"]]\n")
+    piece.push_str("]]\n");
+    write_all(sink, piece.as_str().as_bytes())
+}
+
+/// Writes a piece where it has no room for one more id, and begins anew.
+fn make_room<W: Sink>(piece: &mut Piece, sink: &mut W) -> Result<(), DeviceFault>
+    requires { W.has_failed sink.old ≡ false }
+    ensures ok { OnOk result ((front : List ℕ) × Appends (W.contents sink.old) (W.contents sink.new) front × (piece.old.bytes ≡ front ++ piece.new.bytes) × (length piece.new.bytes ≤ 896)) }
+    ensures cut { OnErr result (AppendsCut (W.contents sink.old) (W.contents sink.new) piece.old.bytes) }
+    ensures failed { W.has_failed sink.new ≡ is_err result }
+{
+    if piece.len() > 896 {
+        write_all(sink, piece.as_str().as_bytes())?;
+        piece.clear();
+    }
+    Ok(())
 }
 
 /// An id of an array, behind a comma if it isn't the first.
 fn id_item(later: bool, id: &Id) -> Line
-    ensures { result.bytes ≡ comma_if later ++ compact_text (id_data id.now) }
+    ensures bytes { result.bytes ≡ comma_if later ++ compact_text (id_data id.now) }
+    ensures len { length result.bytes ≤ 58 }
 {
     let mut line = Line::new();
     if later {

@@ -47,7 +47,7 @@ pub fn entries(alloc: Global, front: &[Entry]) -> Result<Vec<Entry>, Refusal>
     ensures ok { IfOk result (λ copied. copied.items ≡ front.now) }
     ensures err { IfErr result (λ e. e ≡ Refusal.NoMemory) }
 {
-    let mut copied = Vec::new(alloc);
+    let mut copied = Vec::with_capacity(alloc, front.len())?;
     for entry in front {
         copied.push(*entry)?;
     }

@@ -80,7 +80,7 @@ impl OpLog {
         ensures good { IsGood self.now.operations }
         ensures found { option_copied result ≡ find_id self.now.operations id }
     {
-        match places::search(&self.places, (id.replica, id.counter)) {
+        match places::search(&self.places, id) {
             Ok(at) => Some(&self.entries[self.places[at].index]),
             Err(_) => None,
         }
@@ -90,7 +90,7 @@ impl OpLog {
     pub fn contains(&self, id: Id) -> bool
         ensures { result ≡ is_logged self.now.operations id }
     {
-        places::search(&self.places, (id.replica, id.counter)).is_ok()
+        places::search(&self.places, id).is_ok()
     }
 
     /// The counter of the replica's last operation, if it has one.

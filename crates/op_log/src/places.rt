@@ -1,4 +1,4 @@
-//! The index of a log: its places, by replica and then by counter.
+//! The index of a log: its places, by id.
 ghost use Rattle.std.specs.Prelude.{◌≡◌, ◌≢◌, ◌+◌, ◌<◌, ◌≤◌, ◌∷◌, vec_len, Contains, MatchResult};
 ghost use Rattle.std.specs.Vec.{vec_capacity};
 ghost use Rattle.list_laws.specs.Walk.{SameMembers};
@@ -7,10 +7,11 @@ ghost use Rattle.op_log.specs.Sorted.{IsPlace, IsGap};
 ghost use Rattle.op_log.specs.Chain.{chain_cmp};
 ghost use Rattle.op_log.specs.Index.{key_of};
 
-use crate::index::{Key, Place};
+use crate::index::Place;
+use lamport_id::Id;
 
 /// Where the key stands in the index, or where it would go.
-pub fn search(places: &[Place], key: Key) -> Result<usize, usize>
+pub fn search(places: &[Place], key: Id) -> Result<usize, usize>
     requires { IsRising chain_cmp key_of places.now }
     ensures { MatchResult result (IsPlace chain_cmp key_of places.now key) (IsGap chain_cmp key_of places.now key) }
 {

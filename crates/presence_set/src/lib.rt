@@ -56,6 +56,10 @@ impl<X: Drop> ById<X> {
         ensures grows { self.old.1 ≤ self.new.1 }
         ensures room { OnOk result (length self.new.0 < self.new.1) }
     {
+        // Most places have one entry and never a second.
+        if self.entries.is_empty() {
+            return self.entries.reserve_exact(1);
+        }
         self.entries.reserve(1)
     }
 

@@ -6,5 +6,5 @@ use Rattle.op_log.proofs.log.OpLog.contains.Goals as goal
 pub returns : goal.returns
 returns c =
     c.is_ok.ensures.value
-    ∙ is_ok-search c.self.invariant (c.args.id.replica, c.args.id.counter) c.search.result (rw c.deref.ensures.value at c.search.ensures)
+    ∙ is_ok-search c.self.invariant c.args.id c.search.result (rw c.deref.ensures.value at c.search.ensures)
     ∙ ap (λ l. is_logged l.operations c.args.id) c.self.view_is

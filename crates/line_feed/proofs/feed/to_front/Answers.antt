@@ -1,0 +1,8 @@
+use Rattle.std.proofs.Common.{◌≡◌, ℕ, ◌-◌, ◌≤◌, List, ◌++◌, rules, arith, length, take, drop, slice_range, sym, ap, ◌∙◌, length-drop}
+use Rattle.std.proofs.lemmas.List.{take-append-le}
+use Rattle.line_feed.proofs.feed.to_front.Goals as goal
+
+-- what is held moves to the front of the buffer
+front_of_rotated : (items : List ℕ) (start end : ℕ) → start ≤ end → end ≤ length items
+    → take (end - start) (drop start items ++ take start items) ≡ slice_range items start end
+front_of_rotated items start end p q = take-append-le (end - start) (drop start items) (take start items) (omega (arith, length-drop start items))
