@@ -18,14 +18,10 @@ use Rattle.crdt_rules.specs.Log.{IsGood, replay}
 use Rattle.doc_rules.specs.Answers.{LooksHere, Reads}
 use Rattle.doc_rules.specs.Replica.{Replica, facts_of}
 use Rattle.doc_rules.specs.Resolve.{Resolves}
+pub use Rattle.doc_rules.specs.Role.{AreOf}
 use Rattle.doc_rules.specs.Role.{value_at, value_in, values_in, roles_of}
 use Rattle.doc_rules.proofs.Roles.{values_told}
 use Rattle.doc_rules.proofs.SameValues.{looks_same}
-
--- the facts and the roles are those of the log
-pub record AreOf (log : List Op) (f : Facts) (roles : List Tagged → Key → Id → Option Role) : Type 0 where
-  pub facts_are : f ≡ facts (replay log)
-  pub roles_are : (p : List Tagged) (k : Key) (i : Id) → roles p k i ≡ roles_of f log p k i
 
 pub looks_tell : (log : List Op) (f : Facts) (roles : List Tagged → Key → Id → Option Role) → IsGood log → AreOf log f roles → (l : Look) (c : Cursor) (answer : Reply)
     → LooksHere f (values_in f roles) l c answer → LooksHere (facts (replay log)) (value_at log) l c answer

@@ -59,7 +59,7 @@ module _ {X K : Type 0} {cmp : K → K → Ordering} (key : X → K) (o : IsIdOr
         | inr behind ↦ behind
       ]
 
-  rising_same : (xs ys : List X) → IsRising cmp key xs → IsRising cmp key ys → ((z : X) → Contains xs z → Contains ys z)
+  pub rising_same : (xs ys : List X) → IsRising cmp key xs → IsRising cmp key ys → ((z : X) → Contains xs z → Contains ys z)
       → ((z : X) → Contains ys z → Contains xs z) → xs ≡ ys
   rising_same [] [] rx ry to from = refl
   rising_same [] (y ∷ ys) rx ry to from = absurd (Contains-nil (from y (Contains-here ys refl)))

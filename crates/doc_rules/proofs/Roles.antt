@@ -1,5 +1,5 @@
 -- Roles after one more operation: its own is what it does there, and the others stay. And the values that roles tell.
-use Rattle.std.proofs.Common.{◌≡◌, ◌≢◌, List, [], ◌∷◌, ◌++◌, Bool, true, false, not, ◌&&◌, ◌||◌, Option, Some, None, if◌then◌else◌, Contains, refl, sym, ap, ◌∙◌}
+use Rattle.std.proofs.Common.{◌≡◌, ◌≢◌, List, [], ◌∷◌, ◌++◌, Bool, true, false, not, ◌&&◌, ◌||◌, Option, Some, None, if◌then◌else◌, Contains, refl, sym, ap, ◌∙◌, true≢false}
 use Rattle.std.specs.List.{list_any}
 use Rattle.std.proofs.lemmas.Bool.{and_parts, both_ways, false_from_ne_true, not-true}
 use Rattle.lamport_id.specs.declared.id.Id.{Id}
@@ -13,13 +13,14 @@ use Rattle.op_core.specs.declared.mutation.Mutation.TheVariants.{Assign, Insert,
 use Rattle.list_laws.proofs.Members.{Contains-here, Contains-there}
 use Rattle.crdt_rules.specs.Same.{id_eq}
 use Rattle.crdt_rules.specs.Effect.{clears, marks, scalar_put, value_put}
-use Rattle.crdt_rules.specs.Context.{entered}
-use Rattle.crdt_rules.specs.Facts.{facts, step_facts, ends_here}
+use Rattle.crdt_rules.specs.Context.{empty, entered}
+use Rattle.crdt_rules.specs.Facts.{Facts, facts, step_facts, ends_here}
 use Rattle.crdt_rules.specs.Fits.{Fits}
 use Rattle.crdt_rules.specs.Free.{is_cleared}
 use Rattle.crdt_rules.specs.Free as free
 use Rattle.crdt_rules.specs.Log.{IsGood, replay}
 use Rattle.crdt_rules.proofs.Chain.{fits_new}
+use Rattle.crdt_rules.proofs.NextStep.{facts_push}
 use Rattle.crdt_rules.proofs.Readings.{here_from}
 use Rattle.crdt_rules.proofs.ReplayFacts.{replay_present, replay_register}
 use Rattle.crdt_rules.proofs.SameLaws.{id_decides, eq_from}
@@ -27,9 +28,10 @@ use Rattle.crdt_rules.proofs.StepFacts.{entered-false}
 use Rattle.crdt_rules.proofs.Tests.{any_none}
 use Rattle.op_core.specs.Front.{covers}
 use Rattle.doc_words.specs.declared.role.Role.{Role}
-use Rattle.std.specs.Prelude.{option_and_then}
+use Rattle.doc_words.specs.declared.role.Role.TheVariants as role
+use Rattle.std.specs.Prelude.{option_and_then, is_some}
 use Rattle.doc_rules.specs.Reads.{AgreeOnPresent}
-use Rattle.doc_rules.specs.Role.{value_at, value_in, role_put, role_at, role_here, roles_of, values_in, step_roles}
+use Rattle.doc_rules.specs.Role.{value_at, value_in, role_put, role_at, role_here, roles_of, AreOf, values_in, step_roles}
 
 module _ (p : List Tagged) (k : Key) (i : Id) where
   -- behind operations of which none ends here
@@ -125,3 +127,38 @@ roles_after log op p k i good fits = by (marks op p k) refl (id_eq op.id i) refl
     by false m b e =
         told_old ((facts (replay log)).present p k i) (clears op p k && covers op.front i) (role_at (log ++ op ∷ []) p k i) (role_at log p k i)
         (λ h. role_old log op p k i (λ same. both_ways ((facts (replay log)).present p k i) (ap ((facts (replay log)).present p k) (sym same) ∙ absent_new log op p k good fits) h))
+
+-- ---- facts and roles of a log
+
+-- where no place is present, no id has a role
+none_here : (o : Option Role) (here : Bool) (r : Role) → is_some o ≡ here → here ≡ false → o ≡ (if here then Some r else None)
+none_here None here r is none = sym (ap (λ b. if◌then◌else◌ {A = Option Role} b (Some r) None) none)
+none_here (Some s) here r is none = absurd (true≢false (is ∙ none))
+
+-- the facts of the empty document, and roles of its present ids
+pub are_of_new : {f : Facts} {roles : List Tagged → Key → Id → Option Role} → f ≡ facts empty
+    → ((p : List Tagged) (k : Key) (i : Id) → is_some (roles p k i) ≡ f.present p k i) → AreOf [] f roles
+are_of_new {f} {roles} is present = record {
+  facts_are = is;
+  roles_are = λ p k i.
+      none_here (roles p k i) (f.present p k i) role.Through (present p k i)
+      (ap (λ (g : Facts). g.present p k i) is ∙ ap (λ g. g p k i) (replay_present [] tt));
+}
+
+-- after one more operation that fits
+pub are_of_next : {log : List Op} {f g : Facts} {roles next : List Tagged → Key → Id → Option Role} → AreOf log f roles → (op : Op) → IsGood log → Fits op log
+    → g ≡ step_facts f op (covers op.front)
+    → ((p : List Tagged) (k : Key) (i : Id) → next p k i ≡ step_roles roles op (covers op.front) p k i)
+    → AreOf (log ++ op ∷ []) g next
+are_of_next {log} {f} {g} {roles} {next} are op good fits facts_step roles_step = record {
+  facts_are = stepped ∙ sym (facts_push log good op);
+  roles_are = λ p k i.
+      roles_step p k i
+      ∙ ap (λ (r : Option Role). if◌then◌else◌ {A = Option Role} (marks op p k && id_eq op.id i) (Some (role_here op p k)) (if clears op p k && covers op.front i then None else r))
+      (are.roles_are p k i ∙ ap (λ h. roles_of h log p k i) are.facts_are)
+      ∙ sym (roles_after log op p k i good fits)
+      ∙ ap (λ h. roles_of h (log ++ op ∷ []) p k i) (sym stepped);
+}
+  where
+    stepped : g ≡ step_facts (facts (replay log)) op (covers op.front)
+    stepped = facts_step ∙ ap (λ h. step_facts h op (covers op.front)) are.facts_are

@@ -14,13 +14,13 @@ use Rattle.crdt_rules.specs.Dependencies.{entry_of}
 use Rattle.crdt_rules.specs.Fits.{last_counter, knows_front}
 use Rattle.crdt_rules.specs.Log.{IsGood}
 use Rattle.crdt_rules.specs.Pull.{raise, raise_first, front_of}
-use Rattle.crdt_rules.proofs.Fronts.{shaped_counter}
+use Rattle.crdt_rules.proofs.Fronts.{shaped_counter, entry_of-Contains}
 use Rattle.crdt_rules.proofs.Logs.{by_fits, fits_inside}
 use Rattle.crdt_rules.proofs.FrontOf.{front_of-covers}
 use Rattle.crdt_rules.proofs.Readings.{known_from, known_at}
 use Rattle.crdt_rules.proofs.Tests.{all_from}
 use Rattle.doc_rules.specs.Sorted.{IsRising}
-use Rattle.doc_rules.proofs.OneAnswer.{name_order}
+use Rattle.doc_rules.proofs.OneAnswer.{name_order, rising_same}
 
 abbrev Entry : Type 0
 Entry = List ℕ × ℕ
@@ -161,6 +161,27 @@ front_last (o ∷ log) name =
     by : (b : Bool) → raised b o.id.counter (last_counter log name) ≡ (if b then Some (max o.id.counter (unwrap_or (last_counter log name) 0)) else last_counter log name)
     by true = refl
     by false = refl
+
+-- each entry of a rising front is its replica's
+entry_of-at : (front : List Entry) {e : Entry} → IsRising name_cmp (λ e. e.0) front → Contains front e → entry_of front e.0 ≡ Some e.1
+entry_of-at [] h c = absurd (Contains-nil c)
+entry_of-at (f ∷ front) {e} h c =
+    elim (Contains-cases f front c) [
+      | inl is ↦
+          let same : bytes_eq f.0 e.0 ≡ true = (bytes_decides f.0 e.0).1 (ap (λ (z : Entry). z.0) is) in
+          rw same (ap (λ (z : Entry). Some z.1) is)
+      | inr behind ↦
+          rw (false_from_ne_true (bytes_eq f.0 e.0) (λ same. less_other f.0 e.0 (h.0 e behind) ((bytes_decides f.0 e.0).0 same)))
+          (entry_of-at front h.1 behind)
+    ]
+
+-- fronts that rise and say the same of each replica are one
+pub fronts_same : (xs ys : List Entry) → IsRising name_cmp (λ e. e.0) xs → IsRising name_cmp (λ e. e.0) ys → ((name : List ℕ) → entry_of xs name ≡ entry_of ys name) → xs ≡ ys
+fronts_same xs ys rising other_rising same =
+    rising_same (λ (e : Entry). e.0) name_order xs ys rising other_rising (within xs ys rising same) (within ys xs other_rising (λ name. sym (same name)))
+  where
+    within : (xs ys : List Entry) → IsRising name_cmp (λ e. e.0) xs → ((name : List ℕ) → entry_of xs name ≡ entry_of ys name) → (e : Entry) → Contains xs e → Contains ys e
+    within xs ys rising same e c = entry_of-Contains ys e.0 e.1 (sym (same e.0) ∙ entry_of-at xs rising c)
 
 -- ---- in a good log
 

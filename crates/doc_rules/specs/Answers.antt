@@ -62,3 +62,10 @@ Reads r mine query.Account answer = answer ≡ reply.Account mine
 -- what may be answered
 abbrev pub Answers : Replica → ℕ → Query → Reply → Type 0
 Answers r mine q answer = Reads r mine q answer ⊎ (answer ≡ reply.Refused NoMemory)
+
+-- the operations alone answer it, whatever their order: where steps lead, a look at a place, and the front
+abbrev pub IsOfOperations : Query → Type 0
+IsOfOperations (query.Resolve place) = Unit {0}
+IsOfOperations (query.Look look place) = Unit {0}
+IsOfOperations query.Front = Unit {0}
+IsOfOperations _ = ⊥

@@ -10,3 +10,4 @@ pub mod Memory
 pub mod Answers
 pub mod Document
 pub mod Seats
+pub mod Unchanged

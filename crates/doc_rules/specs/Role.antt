@@ -1,5 +1,5 @@
 -- What the operation of an id did at a place.
-use Rattle.std.specs.Prelude.{List, [], ◌∷◌, Bool, ◌&&◌, Option, Some, None, option_map, option_and_then, if◌then◌else◌}
+use Rattle.std.specs.Prelude.{◌≡◌, List, [], ◌∷◌, Bool, ◌&&◌, Option, Some, None, option_map, option_and_then, if◌then◌else◌}
 use Rattle.lamport_id.specs.declared.id.Id.{Id}
 use Rattle.json_scalar.specs.declared.scalar.Scalar.{Scalar}
 use Rattle.json_scalar.specs.declared.scalar.Val.{Val}
@@ -13,7 +13,8 @@ use Rattle.doc_words.specs.declared.role.Role.{Role}
 use Rattle.doc_words.specs.declared.role.Role.TheVariants as role
 use Rattle.crdt_rules.specs.Same.{id_eq}
 use Rattle.crdt_rules.specs.Effect.{value_put, clears, marks}
-use Rattle.crdt_rules.specs.Facts.{Facts, ends_here}
+use Rattle.crdt_rules.specs.Facts.{Facts, facts, ends_here}
+use Rattle.crdt_rules.specs.Log.{replay}
 
 -- the value that the operation of this id put at this very place
 abbrev pub value_at : List Op → List Tagged → Key → Id → Option Val
@@ -52,6 +53,11 @@ value_in role.Counter entry = None
 -- each present id with its role
 abbrev pub roles_of : Facts → List Op → List Tagged → Key → Id → Option Role
 roles_of f log p k i = if f.present p k i then Some (role_at log p k i) else None
+
+-- the facts are those of the log, and each present id has its role
+pub record AreOf (log : List Op) (f : Facts) (roles : List Tagged → Key → Id → Option Role) : Type 0 where
+  pub facts_are : f ≡ facts (replay log)
+  pub roles_are : (p : List Tagged) (k : Key) (i : Id) → roles p k i ≡ roles_of f log p k i
 
 -- the values that roles tell, with the entries of the registers
 abbrev pub values_in : Facts → (List Tagged → Key → Id → Option Role) → List Tagged → Key → Id → Option Val

@@ -2,7 +2,7 @@
 //! share. The functions here are laws, and do nothing.
 #![tactic(auto)]
 
-ghost use Rattle.std.specs.Prelude.{◌≡◌, ◌≢◌, ◌⊎◌, ℕ, ◌+◌, ◌≤◌, true, false, List, [], ◌∷◌, ◌++◌, length, sum, Contains, Result, Ok};
+ghost use Rattle.std.specs.Prelude.{◌≡◌, ◌≢◌, ◌⊎◌, ℕ, ◌+◌, ◌≤◌, true, false, List, [], ◌∷◌, ◌++◌, length, sum, Contains, Result, Ok, Err};
 ghost use Rattle.lamport_id.specs.Name.{is_name};
 ghost use Rattle.lamport_id.specs.declared.id.Id.{Id};
 ghost use Rattle.json_scalar.specs.declared.refusal.Refusal.{Refusal};
@@ -19,11 +19,14 @@ ghost use Rattle.doc_words.specs.declared.ask.Look.{Look};
 ghost use Rattle.doc_words.specs.declared.ask.Query.{Query};
 ghost use Rattle.doc_words.specs.declared.place.Step.{Step};
 ghost use Rattle.doc_words.specs.declared.reply.Reply.{Reply};
+ghost use Rattle.doc_words.specs.declared.reply.Reply.TheVariants.{Refused};
+ghost use Rattle.list_laws.specs.Walk.{SameMembers};
 ghost use Rattle.crdt_rules.specs.Dependencies.{is_ready, missing};
 ghost use Rattle.crdt_rules.specs.Facts.{Facts, facts, step_facts};
 ghost use Rattle.crdt_rules.specs.Fits.{Fits};
 ghost use Rattle.crdt_rules.specs.Log.{IsGood, replay};
-ghost use Rattle.doc_rules.specs.Answers.{LooksHere, Reads};
+ghost use Rattle.crdt_rules.specs.Pull.{front_of};
+ghost use Rattle.doc_rules.specs.Answers.{LooksHere, Reads, IsOfOperations};
 ghost use Rattle.doc_rules.specs.Cause.{IsFirstMisfit, cause_of, room_cause};
 ghost use Rattle.doc_rules.specs.Document.{Document, Acts, GivesTo, IsSound, copied_to, count_in, count_of, logged_by, new_document, opens, total_of};
 ghost use Rattle.doc_rules.specs.Events.{Event, IsWellMade, cause_at};
@@ -32,8 +35,9 @@ ghost use Rattle.doc_rules.specs.Reads.{AgreeOnPresent, AreConflicts, Values};
 ghost use Rattle.doc_rules.specs.Replica.{Replica, GoesOn, IsKept, facts_of, own_op};
 ghost use Rattle.doc_rules.specs.Resolve.{Resolves};
 ghost use Rattle.doc_rules.specs.Role.{role_at, role_here, roles_of, step_roles, value_at, value_in, values_in};
-ghost use Rattle.doc_rules.specs.Seats.{Seat, AreEndsOf, told_counts};
+ghost use Rattle.doc_rules.specs.Seats.{Seat, Answer, ActsFor, AnswersFor, AreEndsOf, told_counts};
 ghost use Rattle.doc_rules.specs.Shown.{Shown, Shows};
+ghost use Rattle.doc_rules.specs.Unchanged.{RefusalsKeep, called};
 
 /// Steps lead to one cursor, or are refused for one cause; and a query has one answer.
 pub fn one_answer()
@@ -97,6 +101,29 @@ pub fn events_keep()
         → Event r command reply s → IsKept s }
     ensures lacks { (op : Op) (log : List Op) → is_ready op log ≡ false → missing op log ≢ [] }
     ensures goes_on { (r s : Replica) (command : Command) (reply : Reply) → Event r command reply s → GoesOn r (count_in reply) s }
+{}
+
+/// A command that is refused, for whatever cause, leaves the replica as it was, and the document that it stands in: its log, what
+/// it holds, its seats and how much of it is copied. The seat has then made one more call and was told of nothing; so has a seat
+/// that reads, whatever it is answered. A document that refuses a new seat is as it was.
+pub fn refusals_change_nothing()
+    ensures replica { (r : Replica) (command : Command) → RefusalsKeep r (Event r command) }
+    ensures document { (d : Document) (seat : ℕ) (command : Command) → RefusalsKeep d (Acts d seat command) }
+    ensures acts { (d e : Document) (s t : Seat) (command : Command) (a : Answer) (cause : Refusal) → a.reply ≡ Refused cause
+        → ActsFor d s command a e t → (e ≡ d) × (t ≡ called s) }
+    ensures reads { (d : Document) (s t : Seat) (query : Query) (a : Answer) → AnswersFor d s query a t → t ≡ called s }
+    ensures opens { (d : Document) (cause : Refusal) → (opens d).0 ≡ Err cause → (opens d).1 ≡ d }
+{}
+
+/// Two replicas whose good logs hold the same operations, in whatever orders, answer alike what the operations answer: where
+/// steps lead, each look at a place, and the front. The ids that make a place present have the same roles there, and the fronts
+/// are one.
+pub fn same_operations_same_answers()
+    ensures answers { (r s : Replica) (mine theirs : ℕ) (q : Query) (answer : Reply) → IsGood r.log → IsGood s.log
+        → SameMembers r.log s.log → IsOfOperations q → Reads r mine q answer → Reads s theirs q answer }
+    ensures roles { (log other : List Op) (p : List Tagged) (k : Key) (i : Id) → IsGood log → IsGood other → SameMembers log other
+        → roles_of (facts (replay log)) log p k i ≡ roles_of (facts (replay other)) other p k i }
+    ensures front { (log other : List Op) → IsGood log → IsGood other → SameMembers log other → front_of log ≡ front_of other }
 {}
 
 /// A new document is sound over a good log, each event keeps it sound, and a command gives its seat just what the answer tells, and the others nothing.
