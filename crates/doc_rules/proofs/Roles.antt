@@ -145,6 +145,14 @@ are_of_new {f} {roles} is present = record {
       (ap (λ (g : Facts). g.present p k i) is ∙ ap (λ g. g p k i) (replay_present [] tt));
 }
 
+-- what says the same
+pub are_of_same : {log : List Op} {f g : Facts} {roles others : List Tagged → Key → Id → Option Role} → AreOf log f roles → g ≡ f
+    → ((p : List Tagged) (k : Key) (i : Id) → others p k i ≡ roles p k i) → AreOf log g others
+are_of_same {log} are facts_same roles_same = record {
+  facts_are = facts_same ∙ are.facts_are;
+  roles_are = λ p k i. roles_same p k i ∙ are.roles_are p k i ∙ ap (λ h. roles_of h log p k i) (sym facts_same);
+}
+
 -- after one more operation that fits
 pub are_of_next : {log : List Op} {f g : Facts} {roles next : List Tagged → Key → Id → Option Role} → AreOf log f roles → (op : Op) → IsGood log → Fits op log
     → g ≡ step_facts f op (covers op.front)
