@@ -1,10 +1,14 @@
 -- Trees that grow with a log.
-use Rattle.std.proofs.Common.{◌≡◌, ℕ, zero, suc, ◌+◌, ◌<◌, List, [], ◌∷◌, ◌++◌, length, take, drop, get_or, Result, Ok, Err, sym, ap, subst, ◌∙◌, refl, arith}
+use Rattle.std.proofs.Common.{◌≡◌, ℕ, zero, suc, ◌+◌, ◌<◌, List, [], ◌∷◌, ◌++◌, length, take, drop, get_or, Option, Result, Ok, Err, sym, ap, subst, ◌∙◌, refl, arith}
 use Rattle.std.specs.Prelude.{IfOk}
 use Rattle.std.proofs.Math.Seq.{drop-cons}
 use Rattle.std.proofs.lemmas.List.{take-append-drop}
 use Rattle.json_scalar.specs.declared.refusal.Refusal.{Refusal}
+use Rattle.lamport_id.specs.declared.id.Id.{Id}
+use Rattle.op_core.specs.declared.cursor.Key.{Key}
+use Rattle.op_core.specs.declared.cursor.Tagged.{Tagged}
 use Rattle.op_core.specs.Op.{Op}
+use Rattle.doc_words.specs.declared.role.Role.{Role}
 use Rattle.crdt_rules.specs.Facts.{Facts, facts}
 use Rattle.crdt_rules.specs.Fits.{Fits}
 use Rattle.crdt_rules.specs.Free.{AreFactsOf}
@@ -13,7 +17,9 @@ use Rattle.crdt_rules.proofs.Logs.{good_split}
 use Rattle.crdt_rules.proofs.Orders.{all_orders}
 use Rattle.crdt_rules.proofs.SameSet.{replay_free}
 use Rattle.doc_rules.specs.Cause.{misfit_of, IsFirstMisfit}
-use Rattle.converge_laws.specs.Replayed.{AreFactsOfEach}
+use Rattle.doc_rules.specs.Role.{roles_of, AreOf}
+use Rattle.doc_rules.proofs.SameOperations.{roles_of-same}
+use Rattle.converge_laws.specs.Replayed.{AreFactsOfEach, AreRolesOfEach}
 
 pub facts_of_each : (ops : List Op) (f : Facts) → IsGood ops → f ≡ facts (replay ops) → AreFactsOfEach ops f
 facts_of_each ops f good is =
@@ -57,7 +63,16 @@ first_misfit_at ops i op cause h is good e = (
   },
 )
 
-pub each_from : {A : Type 0} (f : A → Facts) (ops : List Op) → IsGood ops → (r : Result A Refusal) → IfOk r (λ t. f t ≡ facts (replay ops))
-    → IfOk r (λ t. AreFactsOfEach ops (f t))
-each_from f ops good (Ok t) h = facts_of_each ops (f t) good h
-each_from f ops good (Err e) h = tt
+pub each_from : {A : Type 0} (f : A → Facts) (roles : A → List Tagged → Key → Id → Option Role) (ops : List Op) → IsGood ops → (r : Result A Refusal)
+    → IfOk r (λ t. AreOf ops (f t) (roles t)) → IfOk r (λ t. AreFactsOfEach ops (f t))
+each_from f roles ops good (Ok t) h = facts_of_each ops (f t) good h.facts_are
+each_from f roles ops good (Err e) h = tt
+
+-- the roles of a good list are those of each causal order
+pub roles_from : {A : Type 0} (f : A → Facts) (roles : A → List Tagged → Key → Id → Option Role) (ops : List Op) → IsGood ops → (r : Result A Refusal)
+    → IfOk r (λ t. AreOf ops (f t) (roles t)) → IfOk r (λ t. AreRolesOfEach ops (roles t))
+roles_from f roles ops good (Ok t) h = λ order causal p k i.
+    h.roles_are p k i
+    ∙ ap (λ g. roles_of g ops p k i) h.facts_are
+    ∙ roles_of-same ops order good (all_orders ops good order causal).0 causal.same p k i
+roles_from f roles ops good (Err e) h = tt

@@ -1,7 +1,11 @@
 -- What a list of operations says, however it is replayed.
 use Rattle.std.specs.Prelude.{◌≡◌, List, Bool, false, Option, Some, None}
+use Rattle.lamport_id.specs.declared.id.Id.{Id}
+use Rattle.op_core.specs.declared.cursor.Key.{Key}
+use Rattle.op_core.specs.declared.cursor.Tagged.{Tagged}
 use Rattle.op_core.specs.Op.{Op}
 use Rattle.op_core.specs.Equality.{operation_eq}
+use Rattle.doc_words.specs.declared.role.Role.{Role}
 use Rattle.list_laws.specs.Walk.{SameMembers}
 use Rattle.crdt_rules.specs.Facts.{Facts, facts}
 use Rattle.crdt_rules.specs.Fits.{HasRoom}
@@ -9,12 +13,18 @@ use Rattle.crdt_rules.specs.Free.{AreFactsOf}
 use Rattle.crdt_rules.specs.Pull.{pulled, HoldsWhatItCovers}
 use Rattle.crdt_rules.specs.Log.{IsGood, IsCausalOrder, replay}
 use Rattle.doc_rules.specs.Replica.{find_id}
+use Rattle.doc_rules.specs.Role.{roles_of}
 
 -- a good list whose facts these are: those of the set of its operations, and of each causal order of them
 pub record AreFactsOfEach (ops : List Op) (f : Facts) : Type 0 where
   pub good : IsGood ops
   pub set : AreFactsOf ops f
   pub orders : (order : List Op) → IsCausalOrder ops order → f ≡ facts (replay order)
+
+-- each present id has its role, whichever causal order of the operations it is told from
+abbrev pub AreRolesOfEach : List Op → (List Tagged → Key → Id → Option Role) → Type 0
+AreRolesOfEach ops roles =
+    (order : List Op) → IsCausalOrder ops order → (p : List Tagged) (k : Key) (i : Id) → roles p k i ≡ roles_of (facts (replay order)) order p k i
 
 -- two good lists of one set of operations
 pub record Agree (ops others : List Op) : Type 0 where

@@ -1,12 +1,12 @@
 //! Lists of operations, replayed.
 ghost use Rattle.std.specs.Prelude.{◌≡◌, ◌≢◌, ℕ, [], ◌∷◌, ◌++◌, IsOk, OnOk, IfOk, IfErr};
 ghost use Rattle.json_scalar.specs.declared.refusal.Refusal.TheVariants.{NoMemory};
-ghost use Rattle.crdt_rules.specs.Facts.{facts};
 ghost use Rattle.crdt_rules.specs.Fits.{Fits};
-ghost use Rattle.crdt_rules.specs.Log.{IsGood, replay};
+ghost use Rattle.crdt_rules.specs.Log.{IsGood};
 ghost use Rattle.doc_rules.specs.Cause.{misfit_of, IsFirstMisfit};
-ghost use Rattle.doc_tree.specs.Nodes.{tree_facts};
-ghost use Rattle.converge_laws.specs.Replayed.{AreFactsOfEach};
+ghost use Rattle.doc_rules.specs.Role.{AreOf};
+ghost use Rattle.doc_tree.specs.Nodes.{tree_facts, tree_role};
+ghost use Rattle.converge_laws.specs.Replayed.{AreFactsOfEach, AreRolesOfEach};
 
 use doc_tree::Tree;
 use json_scalar::Refusal;
@@ -15,7 +15,8 @@ use op_log::OpLog;
 use std::alloc::Global;
 
 /// The tree of a list each of whose operations fits those before it. Its facts are those of every causal order of the
-/// operations, and those that the set of them has without any order.
+/// operations, and those that the set of them has without any order; and each id that makes a place present has the role there
+/// that its operation gives it, in every causal order: so it tells `{}` from `[]`.
 ///
 /// Of another list it is refused for the cause against the first operation that doesn't fit: its id stands twice (15), a
 /// front id isn't logged before or that operation's front isn't at most this one (13), its replica's chain forks (14), its
@@ -23,6 +24,7 @@ use std::alloc::Global;
 /// Whose name the operations bear isn't looked at. 22 for want of memory.
 pub fn replay_all(alloc: Global, ops: &[Operation]) -> Result<Tree, Refusal>
     ensures replayed { IfOk result (λ tree. AreFactsOfEach ops.now (tree_facts tree)) }
+    ensures roles { IfOk result (λ tree. AreRolesOfEach ops.now (tree_role tree)) }
     ensures misfit { IfErr result (λ cause. cause ≢ NoMemory → (place : ℕ) × IsFirstMisfit ops.now place cause) }
 {
     drop(log_of(alloc, ops)?);
@@ -69,7 +71,7 @@ fn misfit(log: &OpLog, op: &Operation) -> Result<(), Refusal>
 /// The tree that a good list makes.
 fn grown(alloc: Global, ops: &[Operation]) -> Result<Tree, Refusal>
     requires { IsGood ops.now }
-    ensures ok { IfOk result (λ tree. tree_facts tree ≡ facts (replay ops.now)) }
+    ensures ok { IfOk result (λ tree. AreOf ops.now (tree_facts tree) (tree_role tree)) }
     ensures memory { IfErr result (λ cause. cause ≡ NoMemory) }
 {
     let mut tree = Tree::new(alloc)?;
@@ -83,8 +85,8 @@ fn grown(alloc: Global, ops: &[Operation]) -> Result<Tree, Refusal>
 fn grow(tree: &mut Tree, before: &[Operation], op: &Operation) -> Result<(), Refusal>
     requires good { IsGood before.now }
     requires fits { Fits op.now before.now }
-    requires same { tree_facts tree.old ≡ facts (replay before.now) }
-    ensures ok { OnOk result (tree_facts tree.new ≡ facts (replay (before.now ++ op.now ∷ []))) }
+    requires same { AreOf before.now (tree_facts tree.old) (tree_role tree.old) }
+    ensures ok { OnOk result (AreOf (before.now ++ op.now ∷ []) (tree_facts tree.new) (tree_role tree.new)) }
     ensures memory { IfErr result (λ cause. cause ≡ NoMemory) }
 {
     tree.prepare(op)?;

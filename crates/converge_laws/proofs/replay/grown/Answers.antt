@@ -1,7 +1,11 @@
 use Rattle.std.proofs.Common.{rules, ◌<◌, length, take, sym, subst}
 use Rattle.crdt_rules.specs.Fits.{Fits}
+use Rattle.converge_laws.proofs.Growing.{new_tree}
 use Rattle.converge_laws.proofs.Replays.{fits_at}
 use Rattle.converge_laws.proofs.replay.grown.Goals as goal
+
+pub loop-i-init : goal.loop-i-init
+loop-i-init c = new_tree c.in_ok-tree.tree c.in_ok-tree.ensures.ok
 
 pub grow-requires-clause-good : goal.grow-requires-clause-good
 grow-requires-clause-good c =
