@@ -1,5 +1,5 @@
 //! Growth that changes nothing of what the nodes say.
-ghost use Rattle.std.specs.Prelude.{◌≡◌, ◌<◌, ◌++◌, ◌∷◌, [], length, Some, None, OnOk, OnErr, IfOk, IfErr, slice_set};
+ghost use Rattle.std.specs.Prelude.{◌≡◌, ◌<◌, ◌≤◌, ◌+◌, ◌++◌, ◌∷◌, [], length, Some, None, OnOk, OnErr, IfOk, IfErr, slice_set};
 ghost use Rattle.json_scalar.specs.declared.refusal.Refusal.TheVariants.{NoMemory};
 ghost use Rattle.doc_nodes.specs.Nodes.{AreTree, node_of, child_of};
 ghost use Rattle.doc_nodes.specs.Marks.{keys_below, keys_to};
@@ -11,11 +11,13 @@ use crate::node::{Node, NodeNumber};
 use json_scalar::Refusal;
 use op_core::{Key, Tagged};
 
-/// Makes the nodes on the way from the root down to a place, with room for one more id in each.
+/// Makes the nodes on the way from the root down to a place, with room for one more id in each: at
+/// most one node for each key of the path.
 pub fn prepare_way(nodes: &mut Vec<Node>, path: &[Tagged], key: &Key) -> Result<(), Refusal>
     requires tree { AreTree nodes.old.items }
     ensures tree { AreTree nodes.new.items }
     ensures grows { Grows nodes.old.items nodes.new.items }
+    ensures few { length nodes.new.items ≤ length nodes.old.items + length path.now }
     ensures ok { OnOk result (IsMade nodes.new.items root (keys_to path.now key.now)) }
     ensures memory { IfErr result (λ cause. cause ≡ NoMemory) }
 {
@@ -36,6 +38,7 @@ fn prepare_below(
     requires known { at.0 < length nodes.old.items }
     ensures tree { AreTree nodes.new.items }
     ensures grows { Grows nodes.old.items nodes.new.items }
+    ensures few { length nodes.new.items ≤ length nodes.old.items + length way.now + 1 }
     ensures ok { OnOk result (IsMade nodes.new.items at (keys_below way.now key.now)) }
     ensures memory { IfErr result (λ cause. cause ≡ NoMemory) }
 {
@@ -58,6 +61,7 @@ pub fn reserve_values(nodes: &mut Vec<Node>, at: NodeNumber) -> Result<(), Refus
     requires known { at.0 < length nodes.old.items }
     ensures tree { AreTree nodes.new.items }
     ensures grows { Grows nodes.old.items nodes.new.items }
+    ensures none { length nodes.new.items ≡ length nodes.old.items }
     ensures register { OnOk result (length (node_of nodes.new.items at).register.0 < (node_of nodes.new.items at).register.1) }
     ensures counter { OnOk result (length (node_of nodes.new.items at).counter.0 < (node_of nodes.new.items at).counter.1) }
     ensures memory { IfErr result (λ cause. cause ≡ NoMemory) }
@@ -72,6 +76,7 @@ fn reserve_counter(nodes: &mut Vec<Node>, at: NodeNumber) -> Result<(), Refusal>
     requires known { at.0 < length nodes.old.items }
     ensures tree { AreTree nodes.new.items }
     ensures grows { Grows nodes.old.items nodes.new.items }
+    ensures none { length nodes.new.items ≡ length nodes.old.items }
     ensures room { OnOk result (length (node_of nodes.new.items at).counter.0 < (node_of nodes.new.items at).counter.1) }
     ensures memory { IfErr result (λ cause. cause ≡ NoMemory) }
 {
@@ -86,6 +91,7 @@ fn reserve_register(nodes: &mut Vec<Node>, at: NodeNumber) -> Result<(), Refusal
     requires known { at.0 < length nodes.old.items }
     ensures tree { AreTree nodes.new.items }
     ensures grows { Grows nodes.old.items nodes.new.items }
+    ensures none { length nodes.new.items ≡ length nodes.old.items }
     ensures room { OnOk result (length (node_of nodes.new.items at).register.0 < (node_of nodes.new.items at).register.1) }
     ensures memory { IfErr result (λ cause. cause ≡ NoMemory) }
 {
@@ -100,6 +106,7 @@ pub fn reserve_order(nodes: &mut Vec<Node>, at: NodeNumber) -> Result<(), Refusa
     requires known { at.0 < length nodes.old.items }
     ensures tree { AreTree nodes.new.items }
     ensures grows { Grows nodes.old.items nodes.new.items }
+    ensures none { length nodes.new.items ≡ length nodes.old.items }
     ensures room { OnOk result (length (node_of nodes.new.items at).order.0 < (node_of nodes.new.items at).order.1) }
     ensures memory { IfErr result (λ cause. cause ≡ NoMemory) }
 {
@@ -114,6 +121,7 @@ pub fn reserve_presence(nodes: &mut Vec<Node>, at: NodeNumber) -> Result<(), Ref
     requires known { at.0 < length nodes.old.items }
     ensures tree { AreTree nodes.new.items }
     ensures grows { Grows nodes.old.items nodes.new.items }
+    ensures none { length nodes.new.items ≡ length nodes.old.items }
     ensures room { OnOk result (length (node_of nodes.new.items at).presence.0 < (node_of nodes.new.items at).presence.1) }
     ensures memory { IfErr result (λ cause. cause ≡ NoMemory) }
 {
@@ -128,6 +136,7 @@ pub fn grown_child(nodes: &mut Vec<Node>, at: NodeNumber, key: &Key) -> Result<N
     requires known { at.0 < length nodes.old.items }
     ensures tree { AreTree nodes.new.items }
     ensures grows { Grows nodes.old.items nodes.new.items }
+    ensures few { length nodes.new.items ≤ length nodes.old.items + 1 }
     ensures child { IfOk result (λ c. child_of nodes.new.items at key.now ≡ Some c) }
     ensures memory { IfErr result (λ cause. cause ≡ NoMemory) }
 {
