@@ -1,5 +1,5 @@
 -- The children of a place, and the places below it.
-use Rattle.std.proofs.Common.{◌≡◌, ℕ, List, [], ◌∷◌, ◌++◌, Bool, true, false, Option, Some, None, if◌then◌else◌, refl, sym, ap, ◌∙◌, arith}
+use Rattle.std.proofs.Common.{◌≡◌, ℕ, List, [], ◌∷◌, ◌++◌, Bool, true, false, Option, Some, None, if◌then◌else◌, refl, sym, ap, ◌∙◌, arith, true≢false}
 use Rattle.std.specs.Prelude.{option_and_then, is_some, Contains}
 use Rattle.std.specs.Option.{option_map}
 use Rattle.lamport_id.specs.declared.id.Id.{Id}
@@ -16,37 +16,59 @@ use Rattle.doc_nodes.specs.declared.node.Node.{Node}
 use Rattle.doc_nodes.specs.Children.{number_at}
 use Rattle.doc_nodes.specs.Walk.{trail, trail_below, walk, root}
 use Rattle.doc_nodes.specs.Nodes.{child_of, node_at, role_in, role_at, facts_of}
-use Rattle.doc_nodes.proofs.Walks.{parts_of, walk_split}
+use Rattle.doc_nodes.proofs.Walks.{parts_of, walk-append, walk_split}
 use Rattle.doc_nodes.proofs.Places.{node_by}
 
--- the way into the map at a place goes by the place
-trail_below-into : (t : Tagged) (p : List Tagged) (k : Key) (x : List ℕ)
-    → trail_below t (p ++ MapAt k ∷ []) (Text x) ≡ option_map (λ keys. keys ++ Text x ∷ []) (trail_below t p k)
-trail_below-into t [] k x = go (may_follow t k)
+-- the way to what is below a place goes by the place
+trail_below-into : (s : Tagged) (p : List Tagged) (t : Tagged) (x : Key) → may_follow t x ≡ true
+    → trail_below s (p ++ t ∷ []) x ≡ option_map (λ keys. keys ++ x ∷ []) (trail_below s p (key_of t))
+trail_below-into s [] t x fits = go (may_follow s (key_of t)) (may_follow t x) fits
   where
-    go : (b : Bool) → ◌≡◌ {A = Option (List Key)} (if b then Some (k ∷ Text x ∷ []) else None) (option_map (λ keys. keys ++ Text x ∷ []) (if◌then◌else◌ {A = Option (List Key)} b (Some (k ∷ [])) None))
-    go true = refl
-    go false = refl
-trail_below-into t (s ∷ p) k x = go (may_follow t (key_of s)) (trail_below s p k) (trail_below s (p ++ MapAt k ∷ []) (Text x)) (trail_below-into s p k x)
+    go : (b d : Bool) → d ≡ true
+        → ◌≡◌ {A = Option (List Key)} (if b then option_map (λ keys. key_of t ∷ keys) (if◌then◌else◌ {A = Option (List Key)} d (Some (x ∷ [])) None) else None) (option_map (λ keys. keys ++ x ∷ []) (if◌then◌else◌ {A = Option (List Key)} b (Some (key_of t ∷ [])) None))
+    go true true e = refl
+    go false true e = refl
+    go b false e = absurd (true≢false (sym e))
+trail_below-into s (r ∷ p) t x fits = go (may_follow s (key_of r)) (trail_below r p (key_of t)) (trail_below r (p ++ t ∷ []) x) (trail_below-into r p t x fits)
   where
-    go : (b : Bool) (o q : Option (List Key)) → q ≡ option_map (λ keys. keys ++ Text x ∷ []) o
-        → ◌≡◌ {A = Option (List Key)} (if b then option_map (λ keys. key_of s ∷ keys) q else None) (option_map (λ keys. keys ++ Text x ∷ []) (if◌then◌else◌ {A = Option (List Key)} b (option_map (λ keys. key_of s ∷ keys) o) None))
+    go : (b : Bool) (o q : Option (List Key)) → q ≡ option_map (λ keys. keys ++ x ∷ []) o
+        → ◌≡◌ {A = Option (List Key)} (if b then option_map (λ keys. key_of r ∷ keys) q else None) (option_map (λ keys. keys ++ x ∷ []) (if◌then◌else◌ {A = Option (List Key)} b (option_map (λ keys. key_of r ∷ keys) o) None))
     go false o q e = refl
-    go true None q e = ap (option_map (λ keys. key_of s ∷ keys)) e
-    go true (Some l) q e = ap (option_map (λ keys. key_of s ∷ keys)) e
+    go true None q e = ap (option_map (λ keys. key_of r ∷ keys)) e
+    go true (Some l) q e = ap (option_map (λ keys. key_of r ∷ keys)) e
 
-trail-into : (p : List Tagged) (k : Key) (x : List ℕ) → trail (p ++ MapAt k ∷ []) (Text x) ≡ option_map (λ keys. keys ++ Text x ∷ []) (trail p k)
-trail-into [] k x = go (key_eq k Doc)
+trail-into : (p : List Tagged) (t : Tagged) (x : Key) → may_follow t x ≡ true → trail (p ++ t ∷ []) x ≡ option_map (λ keys. keys ++ x ∷ []) (trail p (key_of t))
+trail-into [] t x fits = go (key_eq (key_of t) Doc) (may_follow t x) fits
   where
-    go : (b : Bool) → ◌≡◌ {A = Option (List Key)} (if b then Some (Text x ∷ []) else None) (option_map (λ keys. keys ++ Text x ∷ []) (if◌then◌else◌ {A = Option (List Key)} b (Some []) None))
-    go true = refl
-    go false = refl
-trail-into (t ∷ p) k x = go (key_eq (key_of t) Doc) (trail_below-into t p k x)
+    go : (b d : Bool) → d ≡ true
+        → ◌≡◌ {A = Option (List Key)} (if b then (if◌then◌else◌ {A = Option (List Key)} d (Some (x ∷ [])) None) else None) (option_map (λ keys. keys ++ x ∷ []) (if◌then◌else◌ {A = Option (List Key)} b (Some []) None))
+    go true true e = refl
+    go false true e = refl
+    go b false e = absurd (true≢false (sym e))
+trail-into (r ∷ p) t x fits = go (key_eq (key_of r) Doc) (trail_below-into r p t x fits)
   where
-    go : (b : Bool) → trail_below t (p ++ MapAt k ∷ []) (Text x) ≡ option_map (λ keys. keys ++ Text x ∷ []) (trail_below t p k)
-        → ◌≡◌ {A = Option (List Key)} (if b then trail_below t (p ++ MapAt k ∷ []) (Text x) else None) (option_map (λ keys. keys ++ Text x ∷ []) (if◌then◌else◌ {A = Option (List Key)} b (trail_below t p k) None))
+    go : (b : Bool) → trail_below r (p ++ t ∷ []) x ≡ option_map (λ keys. keys ++ x ∷ []) (trail_below r p (key_of t))
+        → ◌≡◌ {A = Option (List Key)} (if b then trail_below r (p ++ t ∷ []) x else None) (option_map (λ keys. keys ++ x ∷ []) (if◌then◌else◌ {A = Option (List Key)} b (trail_below r p (key_of t)) None))
     go true e = e
     go false e = refl
+
+-- so what is below a place is a child of the place's node
+pub number-into : (nodes : List Node) (p : List Tagged) (t : Tagged) (x : Key) → may_follow t x ≡ true
+    → node_at nodes (p ++ t ∷ []) x ≡ option_and_then (λ n. child_of nodes n x) (node_at nodes p (key_of t))
+number-into nodes p t x fits = ap (option_and_then (walk (child_of nodes) root)) (trail-into p t x fits) ∙ at (trail p (key_of t))
+  where
+    one : (o : Option NodeNumber) → option_and_then (λ c. Some c) o ≡ o
+    one None = refl
+    one (Some c) = refl
+
+    from : (o : Option NodeNumber) → option_and_then (λ m. walk (child_of nodes) m (x ∷ [])) o ≡ option_and_then (λ n. child_of nodes n x) o
+    from None = refl
+    from (Some m) = one (child_of nodes m x)
+
+    at : (o : Option (List Key)) → option_and_then (walk (child_of nodes) root) (option_map (λ keys. keys ++ x ∷ []) o)
+        ≡ option_and_then (λ n. child_of nodes n x) (option_and_then (walk (child_of nodes) root) o)
+    at None = refl
+    at (Some keys) = walk-append (child_of nodes) root keys (x ∷ []) ∙ from (walk (child_of nodes) root keys)
 
 -- what is found by a key is an entry
 pub entry_in : (entries : List (Key × NodeNumber)) (k : Key) (c : NodeNumber) → number_at entries k ≡ Some c → Contains entries (k, c)
@@ -62,7 +84,7 @@ module _ (nodes : List Node) (p : List Tagged) (k : Key) (x : List ℕ) where
   -- a key of the map at a place that has a node is a child of the place's node
   child_at : (c : NodeNumber) → node_at nodes (p ++ MapAt k ∷ []) (Text x) ≡ Some c
       → (n : NodeNumber) × (node_at nodes p k ≡ Some n) × (child_of nodes n (Text x) ≡ Some c)
-  child_at c e = go (trail p k) refl (sym (ap (option_and_then (walk (child_of nodes) root)) (trail-into p k x)) ∙ e)
+  child_at c e = go (trail p k) refl (sym (ap (option_and_then (walk (child_of nodes) root)) (trail-into p (MapAt k) (Text x) refl)) ∙ e)
     where
       go : (o : Option (List Key)) → trail p k ≡ o → option_and_then (walk (child_of nodes) root) (option_map (λ keys. keys ++ Text x ∷ []) o) ≡ Some c
           → (n : NodeNumber) × (node_at nodes p k ≡ Some n) × (child_of nodes n (Text x) ≡ Some c)

@@ -117,3 +117,21 @@ facts-unchanged front nodes p k none =
         none_either false = refl
     value_stays {X} part q j i (Some c) e true is = absurd (apart q j c e is)
     value_stays {X} part q j i (Some c) e false is = refl
+
+-- so no role changes there
+pub role-unchanged : (front : List (List ℕ × ℕ)) (nodes : List Node) (p : List Tagged) (k : Key) → node_at nodes p k ≡ None
+    → (q : List Tagged) (j : Key) (i : Id) → role_at nodes q j i ≡ (if is_within q j p k && covers front i then None else role_at nodes q j i)
+unfolding role_at
+role-unchanged front nodes p k none q j i = go (node_at nodes q j) refl (is_within q j p k) refl
+  where
+    none_either : (b : Bool) → ◌≡◌ {A = Option Role} None (if b then None else None)
+    none_either true = refl
+    none_either false = refl
+
+    go : (o : Option NodeNumber) → node_at nodes q j ≡ o → (w : Bool) → is_within q j p k ≡ w → role_in nodes o i ≡ (if w && covers front i then None else role_in nodes o i)
+    go None e w is = none_either (w && covers front i)
+    go (Some c) e true is =
+        let up = node_above nodes q j p k c e is in
+        let other : ◌≡◌ {A = Option NodeNumber} None (Some up.0) = sym none ∙ up.2 in
+        absurd (cc)
+    go (Some c) e false is = refl

@@ -7,7 +7,8 @@ use Rattle.op_core.specs.declared.cursor.Tagged.{Tagged}
 use Rattle.crdt_rules.specs.Facts.{Facts}
 use Rattle.doc_words.specs.declared.role.Role.{Role}
 use Rattle.doc_nodes.specs.declared.node.Node.{Node}
-use Rattle.doc_nodes.specs.Nodes.{facts_of, role_at}
+use Rattle.doc_nodes.specs.declared.node.NodeNumber.{NodeNumber}
+use Rattle.doc_nodes.specs.Nodes.{facts_of, role_at, node_at}
 
 -- the facts of a tree
 abbrev pub tree_facts : List Node × Option Scalar → Facts
@@ -15,3 +16,7 @@ tree_facts tree = facts_of tree.0
 
 abbrev pub tree_role : List Node × Option Scalar → List Tagged → Key → Id → Option Role
 tree_role tree = role_at tree.0
+
+-- the number of the node of a place
+abbrev pub tree_number : List Node × Option Scalar → List Tagged → Key → Option NodeNumber
+tree_number tree = node_at tree.0

@@ -1,5 +1,5 @@
 -- When the tree has all that an operation needs, and what the operation then does to roles.
-use Rattle.std.specs.Prelude.{◌≡◌, ◌<◌, List, length, Bool, true, ◌&&◌, Option, Some, None, IsSome, Contains, if◌then◌else◌}
+use Rattle.std.specs.Prelude.{◌≡◌, ◌<◌, List, length, Bool, true, false, ◌&&◌, Option, Some, None, IsSome, Contains, if◌then◌else◌}
 use Rattle.std.specs.Option.{ForSome}
 use Rattle.lamport_id.specs.declared.id.Id.{Id}
 use Rattle.json_scalar.specs.declared.scalar.Scalar.{Scalar}
@@ -11,7 +11,7 @@ use Rattle.op_core.specs.declared.mutation.Mutation.{Mutation}
 use Rattle.op_core.specs.declared.mutation.Mutation.TheVariants.{Assign, Insert, Delete, Add}
 use Rattle.op_core.specs.Op.{Op}
 use Rattle.crdt_rules.specs.Same.{id_eq, key_eq, path_eq}
-use Rattle.crdt_rules.specs.Effect.{marks, clears, is_insertion, scalar_put, path_of, end_key}
+use Rattle.crdt_rules.specs.Effect.{marks, clears, is_delete, is_insertion, scalar_put, path_of, end_key}
 use Rattle.crdt_rules.specs.Context.{reference}
 use Rattle.crdt_rules.specs.Facts.{Facts}
 use Rattle.doc_words.specs.declared.role.Role.{Role}
@@ -46,9 +46,9 @@ pub record IsReadyList (nodes : List Node) (p : List Tagged) : Type 0 where
   pub found : IsSome (list_node_at nodes p)
   pub room : (n : NodeNumber) → list_node_at nodes p ≡ Some n → length (node_of nodes n).order.0 < (node_of nodes n).order.1
 
--- the nodes have what an operation needs
+-- the nodes have what an operation needs; a delete needs nothing
 pub record AreReady (nodes : List Node) (op : Op) : Type 0 where
-  pub place : IsReadyFor nodes (path_of op) (end_key op)
+  pub place : is_delete op.mutation ≡ false → IsReadyFor nodes (path_of op) (end_key op)
   pub list : is_insertion op.mutation ≡ true → IsReadyList nodes (path_of op)
 
 -- so does the tree, which has set a copy of its scalar aside

@@ -1,5 +1,5 @@
 //! What an operation does to the nodes.
-ghost use Rattle.std.specs.Prelude.{◌≡◌, ◌<◌, length, List, ◌&&◌, None, IsSome, slice_set, Contains, if◌then◌else◌};
+ghost use Rattle.std.specs.Prelude.{◌≡◌, ◌<◌, length, List, ◌&&◌, None, slice_set, Contains, if◌then◌else◌};
 ghost use Rattle.std.specs.Option.{ForSome};
 ghost use Rattle.lamport_id.specs.declared.id.Id.{Id};
 ghost use Rattle.op_core.specs.declared.cursor.Key.{Key};
@@ -13,11 +13,13 @@ ghost use Rattle.crdt_rules.specs.Effect.{scalar_put};
 ghost use Rattle.crdt_rules.specs.Context.{reference};
 ghost use Rattle.crdt_rules.specs.Facts.{step_facts};
 ghost use Rattle.doc_words.specs.declared.role.Role.TheVariants.{Counter};
-ghost use Rattle.doc_nodes.specs.Nodes.{AreTree, node_of, node_at, facts_of, role_at, clear_facts_at};
+ghost use Rattle.doc_nodes.specs.Nodes.{AreTree, node_of, facts_of, role_at, clear_facts_at};
 ghost use Rattle.doc_nodes.specs.Writes.{with_scalar, with_number, add_facts, add_role, with_ids, put_facts, put_role, order_facts, IsReadyFor};
 ghost use Rattle.doc_tree.specs.Prepared.{AreReady, IsNewElement, IsReadyList, KnowsReference, role_of, step_role};
 
-use doc_nodes::{Node, clear_under, count, enter, keys, known_list, known_node, link, mark_way};
+use doc_nodes::{
+    Node, clear_under, count, enter, find, keys, known_list, known_node, link, mark_way,
+};
 use json_scalar::{Scalar, Val};
 use lamport_id::Id;
 use op_core::{Front, Key, Mutation, Operation, Tagged};
@@ -88,16 +90,16 @@ pub fn element_key(id: &Id) -> Key
     Key::Element(*id)
 }
 
-/// Clears a place and what is below it.
+/// Clears a place and what is below it, if it has a node.
 pub fn clear_at(nodes: &mut [Node], path: &[Tagged], key: &Key, front: &Front)
     requires tree { AreTree nodes.old }
-    requires found { IsSome (node_at nodes.old path.now key.now) }
     ensures facts { facts_of nodes.new ≡ clear_facts_at (facts_of nodes.old) path.now key.now (covers front.now) }
     ensures roles { (q : List Tagged) (j : Key) (i : Id) → role_at nodes.new q j i ≡ (if is_within q j path.now key.now && covers front.now i then None else role_at nodes.old q j i) }
     ensures tree { AreTree nodes.new }
 {
-    let end = known_node(nodes, path, key);
-    clear_under(nodes, end, front);
+    if let Some(end) = find(nodes, path, key) {
+        clear_under(nodes, end, front);
+    }
 }
 
 /// Inserts an element into a list, and assigns at it.

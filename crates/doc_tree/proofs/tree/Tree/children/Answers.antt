@@ -1,13 +1,14 @@
-use Rattle.std.proofs.Common.{◌≡◌, ◌<◌, ◌∙◌, sym, ap, subst, Option, Some, None, ◌++◌, ◌∷◌, [], true}
-use Rattle.std.specs.Prelude.{Contains}
+use Rattle.std.proofs.Common.{◌≡◌, ◌<◌, ◌∙◌, refl, sym, ap, subst, Option, Some, None, ◌++◌, ◌∷◌, [], true}
+use Rattle.std.specs.Prelude.{Contains, option_and_then}
+use Rattle.doc_nodes.specs.Children.{number_at}
 use Rattle.std.proofs.lemmas.List.{get_or_default}
-use Rattle.op_core.specs.declared.cursor.Key.TheVariants.{Text}
-use Rattle.op_core.specs.declared.cursor.Tagged.TheVariants.{Map}
+use Rattle.op_core.specs.declared.cursor.Key.TheVariants.{Text, Element}
+use Rattle.op_core.specs.declared.cursor.Tagged.TheVariants.{Map, List as ListAt}
 use Rattle.doc_nodes.specs.declared.node.NodeNumber.{NodeNumber}
 use Rattle.doc_nodes.specs.Nodes.{blank, node_of, node_at, child_of}
-use Rattle.doc_tree.specs.Nodes.{tree_facts}
+use Rattle.doc_tree.specs.Nodes.{tree_facts, tree_number}
 use Rattle.doc_nodes.proofs.Places.{node_within, same_node}
-use Rattle.doc_tree.proofs.Below.{present_child, entry_in}
+use Rattle.doc_tree.proofs.Below.{number-into, present_child, entry_in}
 use Rattle.doc_tree.proofs.tree.Tree.children.Goals as goal
 
 pub index-requires : goal.index-requires
@@ -48,3 +49,55 @@ returns-in-Some-clause-map c = λ text i there.
       subst (λ l. Contains l (Text text, child.1)) (sym (c.entries.ensures.value ∙ ap (λ z. z.children) read))
           (entry_in (node_of nodes c.in-Some.at).children (Text text) child.1 at),
     )
+
+pub returns-in-None-clause-members : goal.returns-in-None-clause-members
+returns-in-None-clause-members c = λ text.
+    let nodes = c.self.inside.nodes.items in
+    let p = c.args.path.now in
+    let k = c.args.key.now in
+    let absent : node_at nodes p k ≡ None =
+    ap (λ p. node_at nodes p c.args.key.now) (sym c.keys.ensures)
+    ∙ ap (λ l. node_at l c.keys.result.now c.args.key.now) (sym c.as_slice.ensures.value) ∙ sym c.find.ensures ∙ c.in-None.is in
+    sym (number-into nodes p (Map k) (Text text) refl ∙ ap (option_and_then (λ n. child_of nodes n (Text text))) absent)
+    ∙ ap (λ t. tree_number t (p ++ Map k ∷ []) (Text text)) c.self.view_is
+
+pub returns-in-Some-clause-members : goal.returns-in-Some-clause-members
+returns-in-Some-clause-members c = λ text.
+    let nodes = c.self.inside.nodes.items in
+    let p = c.args.path.now in
+    let k = c.args.key.now in
+    let found : node_at nodes p k ≡ Some c.in-Some.at =
+    ap (λ p. node_at nodes p c.args.key.now) (sym c.keys.ensures)
+    ∙ ap (λ l. node_at l c.keys.result.now c.args.key.now) (sym c.as_slice.ensures.value) ∙ sym c.find.ensures ∙ c.in-Some.is in
+    let read : c.index.result.now ≡ node_of nodes c.in-Some.at =
+    c.index.ensures
+    ∙ get_or_default nodes c.in-Some.at.0 c.index.result.now blank (node_within nodes c.self.invariant p k c.in-Some.at found) in
+    ap (λ l. number_at l (Text text)) (c.entries.ensures.value ∙ ap (λ z. z.children) read)
+    ∙ sym (number-into nodes p (Map k) (Text text) refl ∙ ap (option_and_then (λ n. child_of nodes n (Text text))) found)
+    ∙ ap (λ t. tree_number t (p ++ Map k ∷ []) (Text text)) c.self.view_is
+
+pub returns-in-None-clause-elements : goal.returns-in-None-clause-elements
+returns-in-None-clause-elements c = λ i.
+    let nodes = c.self.inside.nodes.items in
+    let p = c.args.path.now in
+    let k = c.args.key.now in
+    let absent : node_at nodes p k ≡ None =
+    ap (λ p. node_at nodes p c.args.key.now) (sym c.keys.ensures)
+    ∙ ap (λ l. node_at l c.keys.result.now c.args.key.now) (sym c.as_slice.ensures.value) ∙ sym c.find.ensures ∙ c.in-None.is in
+    sym (number-into nodes p (ListAt k) (Element i) refl ∙ ap (option_and_then (λ n. child_of nodes n (Element i))) absent)
+    ∙ ap (λ t. tree_number t (p ++ ListAt k ∷ []) (Element i)) c.self.view_is
+
+pub returns-in-Some-clause-elements : goal.returns-in-Some-clause-elements
+returns-in-Some-clause-elements c = λ i.
+    let nodes = c.self.inside.nodes.items in
+    let p = c.args.path.now in
+    let k = c.args.key.now in
+    let found : node_at nodes p k ≡ Some c.in-Some.at =
+    ap (λ p. node_at nodes p c.args.key.now) (sym c.keys.ensures)
+    ∙ ap (λ l. node_at l c.keys.result.now c.args.key.now) (sym c.as_slice.ensures.value) ∙ sym c.find.ensures ∙ c.in-Some.is in
+    let read : c.index.result.now ≡ node_of nodes c.in-Some.at =
+    c.index.ensures
+    ∙ get_or_default nodes c.in-Some.at.0 c.index.result.now blank (node_within nodes c.self.invariant p k c.in-Some.at found) in
+    ap (λ l. number_at l (Element i)) (c.entries.ensures.value ∙ ap (λ z. z.children) read)
+    ∙ sym (number-into nodes p (ListAt k) (Element i) refl ∙ ap (option_and_then (λ n. child_of nodes n (Element i))) found)
+    ∙ ap (λ t. tree_number t (p ++ ListAt k ∷ []) (Element i)) c.self.view_is

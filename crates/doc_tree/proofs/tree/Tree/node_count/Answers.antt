@@ -5,8 +5,8 @@ use Rattle.doc_tree.specs.Nodes.{tree_facts}
 use Rattle.doc_tree.proofs.Depth.{present_deep}
 use Rattle.doc_tree.proofs.tree.Tree.node_count.Goals as goal
 
-pub returns : goal.returns
-returns c = λ p k i here.
+pub returns-clause-deep : goal.returns-clause-deep
+returns-clause-deep c = λ p k i here.
     let nodes = c.self.inside.nodes.items in
     let deep : length p < length nodes =
     present_deep nodes c.self.invariant p k i (ap (λ (t : List Node × Option Scalar). (tree_facts t).present p k i) c.self.view_is ∙ here) in
