@@ -1,5 +1,6 @@
 //! What stands in a register and in a counter.
-ghost use Rattle.std.specs.Prelude.{◌≡◌, map};
+ghost use Rattle.std.specs.Prelude.{◌≡◌, ◌≢◌, map, Err};
+ghost use Rattle.json_scalar.specs.declared.refusal.Refusal.TheVariants.{NoMemory};
 ghost use Rattle.doc_tree.specs.Nodes.{tree_facts};
 ghost use Rattle.doc_rules.specs.Reads.{AreValues, IsSum, total};
 ghost use Rattle.doc_view.specs.Readings.{Gives, ReadsHere};
@@ -40,9 +41,11 @@ fn scalars_of(alloc: Global, entries: &[(Id, Scalar)]) -> Result<Vec<Scalar>, Re
     Ok(scalars)
 }
 
-/// The total of the numbers of the counter at a cursor. `AtHead` where the cursor stands at a head.
+/// The total of the numbers of the counter at a cursor. `AtHead` where the cursor stands at a head; it takes no memory, and
+/// never tells that memory is wanting.
 pub fn sum(tree: &Tree, cursor: &Cursor) -> Result<i128, Refusal>
-    ensures { ReadsHere (IsSum (tree_facts tree.now)) cursor.now result }
+    ensures reading { ReadsHere (IsSum (tree_facts tree.now)) cursor.now result }
+    ensures memory { result ≢ Err NoMemory }
 {
     if is_head(&cursor.key) {
         return Err(Refusal::AtHead);
