@@ -11,7 +11,7 @@ drop_at [] i x within read = absurd (omega arith)
 drop_at (y ∷ xs) zero x within read = ap (λ z. z ∷ xs) (sym read)
 drop_at (y ∷ xs) (suc i) x within read = drop_at xs i x (omega arith) read
 
-take_at : {X : Type 0} (xs : List X) (i : ℕ) (x : X) → i < length xs → x ≡ get_or xs i x → take (suc i) xs ≡ take i xs ++ x ∷ []
+pub take_at : {X : Type 0} (xs : List X) (i : ℕ) (x : X) → i < length xs → x ≡ get_or xs i x → take (suc i) xs ≡ take i xs ++ x ∷ []
 take_at [] i x within read = absurd (omega arith)
 take_at (y ∷ xs) zero x within read = ap (λ z. z ∷ []) (sym read)
 take_at (y ∷ xs) (suc i) x within read = ap (λ l. y ∷ l) (take_at xs i x (omega arith) read)

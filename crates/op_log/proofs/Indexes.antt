@@ -1,119 +1,149 @@
--- The index of a log finds its operations, and grows with it.
-use Rattle.std.proofs.Common.{◌≡◌, ◌≢◌, ℕ, ◌⊎◌, inl, inr, zero, suc, List, [], ◌∷◌, ◌++◌, length, get_or, Option, Some, None, Contains, Result, Ok, Err, true, refl, sym, ap, subst, ◌∙◌}
-use Rattle.std.specs.Prelude.{MatchResult, is_ok, is_some}
+-- The operations of one replica in a log, and what a search among them finds.
+use Rattle.std.proofs.Common.{◌≡◌, ◌≢◌, ℕ, ◌<◌, ◌≤◌, ◌⊎◌, inl, inr, zero, suc, List, [], ◌∷◌, ◌++◌, length, get_or, Option, Some, None, Contains, refl, sym, ap, subst, ◌∙◌, arith}
+use Rattle.std.specs.Prelude.{is_some, MatchOption}
 use Rattle.std.specs.List.{slice_get}
+use Rattle.std.proofs.lemmas.Bool.{cases_lt}
 use Rattle.std.proofs.lemmas.Option.{slice_get_within, get_or_from_slice_get, slice_get-get_or}
-use Rattle.std.proofs.lemmas.List.Elements.{Contains-get_or}
 use Rattle.lamport_id.specs.declared.id.Id.{Id}
-use Rattle.op_core.specs.Front.{is_ascending}
 use Rattle.op_core.specs.Op.{Op}
-use Rattle.list_laws.specs.Walk.{SameMembers}
-use Rattle.doc_rules.specs.Sorted.{IsRising}
-use Rattle.op_log.specs.Sorted.{IsPlace, IsGap}
-use Rattle.doc_rules.specs.Replica.{find_id}
 use Rattle.crdt_rules.specs.Dependencies.{is_logged}
-use Rattle.op_log.specs.Front.{PutsEntry}
 use Rattle.crdt_rules.specs.Fits.{Fits}
-use Rattle.list_laws.proofs.Members.{Contains-here, Contains-there, Contains-cases}
-use Rattle.op_log.proofs.Sorted.{gap_none}
-use Rattle.crdt_rules.proofs.Logs.{good_push}
-use Rattle.crdt_rules.proofs.Chain.{fits_new}
+use Rattle.crdt_rules.specs.Log.{IsGood}
+use Rattle.crdt_rules.proofs.Chain.{chain_covers, covered_less}
+use Rattle.crdt_rules.proofs.Logs.{by_fits}
 use Rattle.crdt_rules.proofs.Tests.{some_same, some≢none}
+use Rattle.doc_rules.specs.Replica.{find_id}
 use Rattle.op_log.proofs.Ids.{ids_once, find_id-Contains, find_id-none, is_logged-find_id}
-use Rattle.op_log.proofs.Fronts.{rising_from_ascending}
-use Rattle.op_log.proofs.LastCounters.{IsFrontOf-push}
-use Rattle.op_log.specs.Chain.{chain_cmp}
-use Rattle.op_log.specs.Index.{key_of, place_at, IsIndexed}
-use Rattle.op_log.specs.declared.index.Place.{Place}
-use Rattle.op_log.proofs.Chains.{chain_order}
+use Rattle.op_log.specs.Index.{StandsAt, IsLink, IsLast, IsFirstFrom}
+use Rattle.op_log.specs.declared.index.Link.{Link}
 
 module _ {X : Type 0} where
   pub Contains-slice_get : (xs : List X) (k : ℕ) {x : X} → slice_get xs k ≡ Some x → Contains xs x
   Contains-slice_get xs k {x} h = (k, slice_get_within xs k x h, get_or_from_slice_get xs k x x h)
 
-  slice_get-Contains : (xs : List X) {x : X} → Contains xs x → (k : ℕ) × (slice_get xs k ≡ Some x)
+  pub slice_get-Contains : (xs : List X) {x : X} → Contains xs x → (k : ℕ) × (slice_get xs k ≡ Some x)
   slice_get-Contains xs {x} c = (c.0, slice_get-get_or xs c.0 x c.1 ∙ ap (λ (y : X). Some y) c.2)
 
   -- the elements of a list with one more
-  slice_get-push_old : (xs : List X) (y : X) (k : ℕ) {x : X} → slice_get xs k ≡ Some x → slice_get (xs ++ y ∷ []) k ≡ Some x
+  pub slice_get-push_old : (xs : List X) (y : X) (k : ℕ) {x : X} → slice_get xs k ≡ Some x → slice_get (xs ++ y ∷ []) k ≡ Some x
   slice_get-push_old [] y k h = absurd (some≢none (sym h))
   slice_get-push_old (z ∷ xs) y zero h = h
   slice_get-push_old (z ∷ xs) y (suc k) h = slice_get-push_old xs y k h
 
-  slice_get-push_new : (xs : List X) (y : X) → slice_get (xs ++ y ∷ []) (length xs) ≡ Some y
+  pub slice_get-push_new : (xs : List X) (y : X) → slice_get (xs ++ y ∷ []) (length xs) ≡ Some y
   slice_get-push_new [] y = refl
   slice_get-push_new (z ∷ xs) y = slice_get-push_new xs y
 
-  slice_get-push_cases : (xs : List X) (y : X) (k : ℕ) {x : X} → slice_get (xs ++ y ∷ []) k ≡ Some x → (slice_get xs k ≡ Some x) ⊎ ((k ≡ length xs) × (y ≡ x))
+  pub slice_get-push_cases : (xs : List X) (y : X) (k : ℕ) {x : X} → slice_get (xs ++ y ∷ []) k ≡ Some x → (slice_get xs k ≡ Some x) ⊎ ((k ≡ length xs) × (y ≡ x))
   slice_get-push_cases [] y zero h = inr (refl, some_same h)
   slice_get-push_cases [] y (suc k) h = absurd (some≢none (sym h))
   slice_get-push_cases (z ∷ xs) y zero h = inl h
   slice_get-push_cases (z ∷ xs) y (suc k) h =
       elim (slice_get-push_cases xs y k h) [ inl old ↦ inl old | inr new ↦ inr (ap (λ n. suc n) new.0, new.1) ]
 
--- a place of the index leads to the operation of its key
-pub record LeadsTo (log : List Op) (p : Place) (key : Id) : Type 0 where
-  pub op : Op
-  pub there : slice_get log p.index ≡ Some op
-  pub found : find_id log key ≡ Some op
+-- what is read at a place
+pub read_at : (log : List Op) (k : ℕ) (op x : Op) → slice_get log k ≡ Some op → x ≡ get_or log k x → x ≡ op
+read_at log k op x there read = read ∙ get_or_from_slice_get log k op x there
 
--- what is read there is the operation of the key
-pub read_there : {log : List Op} {p : Place} {key : Id} → LeadsTo log p key → (x : Op) → x ≡ get_or log p.index x → Some x ≡ find_id log key
-read_there {log} {p} leads x read =
-    ap (λ (o : Op). Some o) (read ∙ get_or_from_slice_get log p.index leads.op x leads.there) ∙ sym leads.found
+pub stands-within : {log : List Op} {name : List ℕ} {k : ℕ} → StandsAt log name k → k < length log
+stands-within {log} {k = k} at = slice_get_within log k at.op at.there
 
-module _ {log : List Op} {index : List Place} {last : List (List ℕ × ℕ)} (is : IsIndexed log index last) where
-  pub leads_to : (key : Id) (i : ℕ) (d : Place) → IsPlace chain_cmp key_of index key i → LeadsTo log (get_or index i d) key
-  leads_to key i d place =
-      let r = (is.places).right (get_or index i d) (Contains-get_or index i d place.within) in
-      record {
-        op = r.0;
-        there = r.1;
-        found = find_id-Contains log key (ids_once log is.good) (Contains-slice_get log (get_or index i d).index r.1)
-            (sym r.2 ∙ place.has_key d);
-      }
+-- ---- the counters of a replica's operations rise
 
-  pub leads_from : (key : Id) (i : ℕ) (p : Place) → IsPlace chain_cmp key_of index key i → p ≡ get_or index i p → LeadsTo log p key
-  leads_from key i p place read = subst (λ (q : Place). LeadsTo log q key) (sym read) (leads_to key i p place)
+pub chain_rises : (log : List Op) → IsGood log → (name : List ℕ) (j k : ℕ) (a : StandsAt log name j) (b : StandsAt log name k) → j < k → a.op.id.counter < b.op.id.counter
+chain_rises =
+    by_fits (λ log. (name : List ℕ) (j k : ℕ) (a : StandsAt log name j) (b : StandsAt log name k) → j < k → a.op.id.counter < b.op.id.counter)
+    (λ name j k a b below. absurd (some≢none (sym a.there)))
+    push
+  where
+    push : (log : List Op) (op : Op) → IsGood log → Fits op log
+        → ((name : List ℕ) (j k : ℕ) (a : StandsAt log name j) (b : StandsAt log name k) → j < k → a.op.id.counter < b.op.id.counter)
+        → (name : List ℕ) (j k : ℕ) (a : StandsAt (log ++ op ∷ []) name j) (b : StandsAt (log ++ op ∷ []) name k) → j < k → a.op.id.counter < b.op.id.counter
+    push log op good fits ih name j k a b below =
+        elim (slice_get-push_cases log op j a.there) [
+          | inl old ↦ elim (slice_get-push_cases log op k b.there) [
+            | inl later ↦ ih name j k (record { op = a.op; there = old; made = a.made }) (record { op = b.op; there = later; made = b.made }) below
+            | inr new ↦
+                let same : a.op.id.replica ≡ op.id.replica = a.made ∙ sym (ap (λ (o : Op). o.id.replica) new.1 ∙ b.made) in
+                subst (λ (o : Op). a.op.id.counter < o.id.counter) new.1
+                (covered_less fits a.op.id (chain_covers fits a.op (Contains-slice_get log j old) same))
+          ]
+          | inr last ↦ absurd (beyond (slice_get-push_cases log op k b.there) last.0)
+        ]
+      where
+        beyond : (slice_get log k ≡ Some b.op) ⊎ ((k ≡ length log) × (op ≡ b.op)) → j ≡ length log → ⊥
+        beyond (inl old) end = let within : k < length log = slice_get_within log k b.op old in omega arith
+        beyond (inr new) end = let e : k ≡ length log = new.0 in omega arith
 
-  pub leads_nowhere : (key : Id) (i : ℕ) → IsGap chain_cmp key_of index key i → find_id log key ≡ None
-  leads_nowhere key i gap =
-      find_id-none log key
+pub rises_up_to : (log : List Op) → IsGood log → (name : List ℕ) (j k : ℕ) (a : StandsAt log name j) (b : StandsAt log name k) → j ≤ k → a.op.id.counter ≤ b.op.id.counter
+rises_up_to log good name j k a b up_to =
+    elim (cases_lt j k) [
+      | inl before ↦ let rises : a.op.id.counter < b.op.id.counter = chain_rises log good name j k a b before in omega arith
+      | inr behind ↦
+          let same : j ≡ k = omega arith in
+          let one : a.op ≡ b.op = some_same (sym a.there ∙ ap (slice_get log) same ∙ b.there) in
+          let equal : a.op.id.counter ≡ b.op.id.counter = ap (λ (o : Op). o.id.counter) one in
+          omega arith
+    ]
+
+-- ---- what a search finds
+
+-- an operation has its place
+pub placed : (log : List Op) (i : Id) {o : Op} → Contains log o → o.id ≡ i → (k : ℕ) × (at : StandsAt log i.replica k) × (at.op.id.counter ≡ i.counter)
+placed log i {o} c is =
+    let at = slice_get-Contains log c in
+    (at.0, record { op = o; there = at.1; made = ap (λ (x : Id). x.replica) is }, ap (λ (x : Id). x.counter) is)
+
+module _ (log : List Op) (good : IsGood log) (i : Id) where
+  -- an id behind the last of its replica is not logged
+  pub none_behind : (last : ℕ) → IsLast log i.replica last → ((op : Op) → slice_get log last ≡ Some op → op.id.counter < i.counter) → find_id log i ≡ None
+  none_behind last is beyond =
+      find_id-none log i
       (λ o c e.
-      let at = slice_get-Contains log c in
-      gap_none chain_order key_of index key i gap (place_at o.id at.0) ((is.places).each at.0 o at.1) e)
+      let at = placed log i c e in
+      let up_to : (at.1).op.id.counter ≤ (is.here).op.id.counter = rises_up_to log good i.replica at.0 last at.1 is.here (is.last at.0 at.1) in
+      let less : (is.here).op.id.counter < i.counter = beyond (is.here).op (is.here).there in
+      let equal : (at.1).op.id.counter ≡ i.counter = at.2 in
+      omega arith)
 
-  pub is_ok-search : (key : Id) (r : Result ℕ ℕ) → MatchResult r (IsPlace chain_cmp key_of index key) (IsGap chain_cmp key_of index key)
-      → is_ok r ≡ is_logged log key
-  is_ok-search key (Ok i) place =
-      sym (is_logged-find_id log key ∙ ap (λ (o : Option Op). is_some o) (leads_to key i (place_at key 0) place).found)
-  is_ok-search key (Err i) gap =
-      sym (is_logged-find_id log key ∙ ap (λ (o : Option Op). is_some o) (leads_nowhere key i gap))
+  -- the first from its counter on is it, if it has the counter
+  pub first_found : (k : ℕ) → IsFirstFrom log i.replica i.counter k → ((op : Op) → slice_get log k ≡ Some op → op.id.counter ≡ i.counter)
+      → (op : Op) × (slice_get log k ≡ Some op) × (find_id log i ≡ Some op)
+  first_found k first equal =
+      let at = first.here in
+      let is : at.op.id ≡ i = λ j. record { counter = equal at.op at.there j; replica = at.made j } in
+      (at.op, at.there, find_id-Contains log i (ids_once log good) (Contains-slice_get log k at.there) is)
 
-  -- the id of an operation that fits has no place yet
-  pub new_key : (op : Op) → Fits op log → (p : Place) → Contains index p → (n : List ℕ) (c : ℕ) → n ≡ op.id.replica → c ≡ op.id.counter → key_of p ≢ record { counter = c; replica = n }
-  new_key op fits p c n k name counter same =
-      let r = (is.places).right p c in
-      fits_new fits r.0 (Contains-slice_get log p.index r.1)
-      (sym r.2 ∙ same ∙ (λ i. record { counter = counter i; replica = name i }))
+  pub first_other : (k : ℕ) → IsFirstFrom log i.replica i.counter k → ((op : Op) → slice_get log k ≡ Some op → op.id.counter ≢ i.counter) → find_id log i ≡ None
+  first_other k first other =
+      find_id-none log i
+      (λ o c e.
+      let at = placed log i c e in
+      let equal : (at.1).op.id.counter ≡ i.counter = at.2 in
+      elim (cases_lt at.0 k) [
+        | inl before ↦ let less : (at.1).op.id.counter < i.counter = first.first at.0 at.1 before in omega arith
+        | inr behind ↦
+            let reaches : i.counter ≤ (first.here).op.id.counter = first.reaches in
+            let up_to : (first.here).op.id.counter ≤ (at.1).op.id.counter = rises_up_to log good i.replica k at.0 first.here at.1 behind in
+            let same : (first.here).op.id.counter ≡ i.counter = omega arith in
+            absurd (other (first.here).op (first.here).there same)
+      ])
 
-  pub IsIndexed-append : (op : Op) (index' : List Place) (last' : List (List ℕ × ℕ)) → Fits op log → IsRising chain_cmp key_of index'
-      → SameMembers index' (place_at op.id (length log) ∷ index) → is_ascending last' ≡ true → PutsEntry last last' op.id.replica op.id.counter
-      → IsIndexed (log ++ op ∷ []) index' last'
-  IsIndexed-append op index' last' fits rising same ascending puts = record {
-    good = good_push log op is.good fits;
-    places = record {
-      rising = rising;
-      each = λ k o h.
-          elim (slice_get-push_cases log op k h) [
-            | inl old ↦ (same (place_at o.id k)).1 (Contains-there (place_at op.id (length log)) index ((is.places).each k o old))
-            | inr new ↦ (same (place_at o.id k)).1 (Contains-here index (λ i. place_at (new.1 i).id (sym new.0 i)))
-          ];
-      right = λ p c.
-          elim (Contains-cases (place_at op.id (length log)) index ((same p).0 c)) [
-            | inl new ↦ (op, subst (λ (q : Place). slice_get (log ++ op ∷ []) q.index ≡ Some op) new (slice_get-push_new log op), ap key_of (sym new))
-            | inr old ↦ let r = (is.places).right p old in (r.0, slice_get-push_old log op p.index r.1, r.2)
-          ];
-    };
-    front = record { ascending = ascending; last = IsFrontOf-push op log last last' fits is.front (rising_from_ascending last' ascending) puts };
-  }
+-- what is found by an id or not tells whether it is logged
+pub found_logged : (log : List Op) (i : Id) (o : Option ℕ)
+    → MatchOption o (find_id log i ≡ None) (λ k. (op : Op) × (slice_get log k ≡ Some op) × (find_id log i ≡ Some op)) → is_some o ≡ is_logged log i
+found_logged log i (Some k) found = sym (is_logged-find_id log i ∙ ap (λ (o : Option Op). is_some o) found.2)
+found_logged log i None none = sym (is_logged-find_id log i ∙ ap (λ (o : Option Op). is_some o) none)
+
+-- where the one before it does not reach the counter, an operation is the first that does
+pub first_here : (log : List Op) → IsGood log → (name : List ℕ) (counter k : ℕ) (link : Link) → IsLink log name k link → (here : StandsAt log name k) → counter ≤ here.op.id.counter
+    → (link.before < k → (op : Op) → slice_get log link.before ≡ Some op → op.id.counter < counter) → IsFirstFrom log name counter k
+first_here log good name counter k link is here reaches short = record {
+  here = here;
+  reaches = reaches;
+  first = λ j at below.
+      let next = is.next j at below in
+      let up_to : at.op.id.counter ≤ (is.before).op.id.counter = rises_up_to log good name j link.before at is.before next.0 in
+      let less : (is.before).op.id.counter < counter = short next.1 (is.before).op (is.before).there in
+      omega arith;
+}

@@ -1,10 +1,11 @@
 pub mod Sorted
 pub mod KeyOrders
-pub mod Chains
 pub mod Ids
 pub mod Fronts
 pub mod LastCounters
 pub mod Indexes
+pub mod Growing
+pub mod Uncovered
 pub mod Firsts
 pub mod Comparing
 pub mod Cursors

@@ -1,30 +1,60 @@
--- The index of a log.
-use Rattle.std.specs.Prelude.{◌≡◌, ℕ, List, Some, Contains, slice_get}
-use Rattle.lamport_id.specs.declared.id.Id.{Id}
+-- The index of a log: where each operation finds those of its replica before it, and where the last of each replica stands.
+use Rattle.std.specs.Prelude.{◌≡◌, ℕ, ◌<◌, ◌≤◌, List, true, length, Some, None, slice_get}
+use Rattle.op_core.specs.Front.{covers, is_ascending}
 use Rattle.op_core.specs.Op.{Op}
 use Rattle.op_log.specs.Front.{IsFrontOf}
+use Rattle.crdt_rules.specs.Dependencies.{entry_of}
 use Rattle.crdt_rules.specs.Log.{IsGood}
-use Rattle.doc_rules.specs.Sorted.{IsRising}
-use Rattle.op_log.specs.Chain.{chain_cmp}
-use Rattle.op_log.specs.declared.index.Place.{Place}
+use Rattle.op_log.specs.declared.index.Link.{Link}
 
--- the id of the operation there
-abbrev pub key_of : Place → Id
-key_of p = record { counter = p.counter; replica = p.replica }
+-- at place k stands an operation of this replica
+pub record StandsAt (log : List Op) (name : List ℕ) (k : ℕ) : Type 0 where
+  pub op : Op
+  pub there : slice_get log k ≡ Some op
+  pub made : op.id.replica ≡ name
 
-abbrev pub place_at : Id → ℕ → Place
-place_at i k = record { replica = i.replica; counter = i.counter; index = k }
+-- from the operation at place k the link leads to the one of its replica before it, and to one that stands anywhere
+pub record IsLink (log : List Op) (name : List ℕ) (k : ℕ) (link : Link) : Type 0 where
+  pub before : StandsAt log name link.before
+  pub far : StandsAt log name link.far
+  -- none of the replica stands between, and the first one leads to itself
+  pub next : (j : ℕ) → StandsAt log name j → j < k → (j ≤ link.before) × (link.before < k)
 
--- the places are those of the operations of the log
-pub record ArePlaces (log : List Op) (places : List Place) : Type 0 where
-  pub rising : IsRising chain_cmp key_of places
-  -- each operation has its place
-  pub each : (k : ℕ) (op : Op) → slice_get log k ≡ Some op → Contains places (place_at op.id k)
-  -- and each place is that of an operation
-  pub right : (p : Place) → Contains places p → (op : Op) × (slice_get log p.index ≡ Some op) × (key_of p ≡ op.id)
+-- each operation has a link
+pub record AreLinks (log : List Op) (links : List Link) : Type 0 where
+  pub as_many : length links ≡ length log
+  pub right : (name : List ℕ) (k : ℕ) (link : Link) → StandsAt log name k → slice_get links k ≡ Some link → IsLink log name k link
+
+-- the last operation of the replica stands at place k
+pub record IsLast (log : List Op) (name : List ℕ) (k : ℕ) : Type 0 where
+  pub here : StandsAt log name k
+  pub last : (j : ℕ) → StandsAt log name j → j ≤ k
+
+-- each replica of the log with the place of its last operation, in the order of the names
+pub record AreLasts (log : List Op) (lasts : List (List ℕ × ℕ)) : Type 0 where
+  pub ascending : is_ascending lasts ≡ true
+  pub each : (name : List ℕ) (k : ℕ) → entry_of lasts name ≡ Some k → IsLast log name k
+  pub none : (name : List ℕ) → entry_of lasts name ≡ None → (j : ℕ) → ¬ (StandsAt log name j)
 
 -- a good log with its index and its front
-pub record IsIndexed (log : List Op) (index : List Place) (last : List (List ℕ × ℕ)) : Type 0 where
+pub record IsIndexed (log : List Op) (index : List Link) (places counters : List (List ℕ × ℕ)) : Type 0 where
   pub good : IsGood log
-  pub places : ArePlaces log index
-  pub front : IsFrontOf log last
+  pub links : AreLinks log index
+  pub lasts : AreLasts log places
+  pub front : IsFrontOf log counters
+
+-- ---- what a search finds
+
+-- the first operation of the replica with this counter or a greater one stands at place k
+pub record IsFirstFrom (log : List Op) (name : List ℕ) (counter : ℕ) (k : ℕ) : Type 0 where
+  pub here : StandsAt log name k
+  pub reaches : counter ≤ here.op.id.counter
+  pub first : (j : ℕ) (below : StandsAt log name j) → j < k → below.op.id.counter < counter
+
+-- the front covers the operations of the replica before place n
+abbrev pub CoversChain : List (List ℕ × ℕ) → List Op → List ℕ → ℕ → Type 0
+CoversChain front log name n = (k : ℕ) (at : StandsAt log name k) → k < n → covers front at.op.id ≡ true
+
+-- and those of all replicas
+abbrev pub CoversBefore : List (List ℕ × ℕ) → List Op → ℕ → Type 0
+CoversBefore front log n = (k : ℕ) (op : Op) → slice_get log k ≡ Some op → k < n → covers front op.id ≡ true

@@ -1,5 +1,4 @@
 pub mod Sorted
-pub mod Chain
 pub mod Front
 pub mod Log
 pub mod Index

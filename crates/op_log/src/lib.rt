@@ -6,7 +6,6 @@ mod copies;
 mod front;
 mod index;
 mod log;
-mod places;
 
 pub use check::{MAX_OPERATIONS, MAX_REPLICAS};
 pub use log::OpLog;

@@ -12,8 +12,7 @@ ghost use Rattle.doc_rules.specs.Replica.{find_id};
 
 use crate::copies::{copies, entries, first_uncovered};
 use crate::front::{self, Entry};
-use crate::index::Place;
-use crate::places;
+use crate::index::{self, Link};
 use doc_words::{Ids, Operations};
 use json_scalar::Refusal;
 use lamport_id::{Id, ReplicaName};
@@ -26,7 +25,9 @@ use std::marker::Model;
 #[derive(Debug)]
 pub struct OpLog {
     entries: Vec<Operation>,
-    places: Vec<Place>,
+    links: Vec<Link>,
+    // each replica with the place of its last operation
+    lasts: Vec<Entry>,
     front: Vec<Entry>,
 }
 
@@ -36,9 +37,9 @@ impl Model for OpLog {
 
     ghost Value = { Log };
 
-    ghost view = { λ l. record { operations = l.entries.items; room = room_of l.entries l.places l.front } };
+    ghost view = { λ l. record { operations = l.entries.items; room = room_of l.entries l.links l.lasts l.front } };
 
-    ghost invariant = { λ l. IsIndexed l.entries.items l.places.items l.front.items };
+    ghost invariant = { λ l. IsIndexed l.entries.items l.links.items l.lasts.items l.front.items };
 }
 
 impl OpLog {
@@ -48,7 +49,8 @@ impl OpLog {
     {
         OpLog {
             entries: Vec::new(alloc),
-            places: Vec::new(alloc),
+            links: Vec::new(alloc),
+            lasts: Vec::new(alloc),
             front: Vec::new(alloc),
         }
     }
@@ -75,22 +77,22 @@ impl OpLog {
         self.entries.as_slice()
     }
 
-    /// The operation of this id, by one search.
+    /// The operation of this id, by one search among those of its replica.
     pub fn get(&self, id: Id) -> Option<&Operation>
         ensures good { IsGood self.now.operations }
         ensures found { option_copied result ≡ find_id self.now.operations id }
     {
-        match places::search(&self.places, id) {
-            Ok(at) => Some(&self.entries[self.places[at].index]),
-            Err(_) => None,
+        match index::find(&self.entries, &self.links, &self.lasts, &id) {
+            Some(at) => Some(&self.entries[at]),
+            None => None,
         }
     }
 
-    /// Whether the operation of this id is logged, by one search.
+    /// Whether the operation of this id is logged, by one search among those of its replica.
     pub fn contains(&self, id: Id) -> bool
         ensures { result ≡ is_logged self.now.operations id }
     {
-        places::search(&self.places, id).is_ok()
+        index::find(&self.entries, &self.links, &self.lasts, &id).is_some()
     }
 
     /// The counter of the replica's last operation, if it has one.
@@ -117,7 +119,8 @@ impl OpLog {
         ensures err { IfErr result (λ e. e ≡ Refusal.NoMemory) }
     {
         self.entries.reserve(n)?;
-        self.places.reserve(n)?;
+        self.links.reserve(n)?;
+        self.lasts.reserve(n)?;
         self.front.reserve(n)?;
         Ok(())
     }
@@ -130,13 +133,10 @@ impl OpLog {
         ensures room { self.old.room ≤ self.new.room + 1 }
     {
         let Id { counter, replica } = op.id();
-        let index = self.entries.len();
-        let place = Place {
-            replica,
-            counter,
-            index,
-        };
-        places::add(&mut self.places, place);
+        let last = front::last_of(&self.lasts, replica);
+        let link = index::next_link(&self.entries, &self.links, last);
+        self.links.push(link).unwrap();
+        front::put_last(&mut self.lasts, replica, self.entries.len() as u64);
         front::put_last(&mut self.front, replica, counter);
         self.entries.push(op).unwrap();
     }
@@ -149,13 +149,14 @@ impl OpLog {
         Ok(Front::from(entries(alloc, &self.front)?))
     }
 
-    /// The first operations that the front does not cover, at most `limit` of them, in their order. It is refused for want
-    /// of memory alone.
+    /// The first operations that the front does not cover, at most `limit` of them, in their order. The search starts at the
+    /// first of them where the front's pairs ascend. It is refused for want of memory alone.
     pub fn since(&self, front: &Front, limit: usize) -> Result<Operations, Refusal>
         ensures { UnlessMemory result (Ok (take limit (since front.now self.now.operations))) }
     {
         let alloc = *self.entries.allocator();
-        Ok(Operations::from(first_uncovered(alloc, &self.entries, front, limit)?))
+        let start = index::first_uncovered(&self.entries, &self.links, &self.lasts, front);
+        Ok(Operations::from(first_uncovered(alloc, &self.entries[start..], front, limit)?))
     }
 
     /// The operations after the first `from`, at most `max` of them. It is refused for want of memory alone.
@@ -207,7 +208,8 @@ impl Drop for OpLog {
     fn drop(self) {
         let OpLog {
             entries: _,
-            places: _,
+            links: _,
+            lasts: _,
             front: _,
         } = self;
     }

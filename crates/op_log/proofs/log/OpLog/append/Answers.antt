@@ -1,24 +1,34 @@
-use Rattle.std.proofs.Common.{◌≡◌, sym, ap, subst, ◌∙◌, ◌∷◌}
-use Rattle.list_laws.specs.Walk.{SameMembers}
+use Rattle.std.proofs.Common.{◌≡◌, ℕ, List, [], ◌∷◌, ◌++◌, length, refl, sym, ap, subst, ◌∙◌}
+use Rattle.std.specs.Prelude.{IfSome}
+use Rattle.op_core.specs.Op.{Op}
+use Rattle.crdt_rules.specs.Dependencies.{entry_of}
 use Rattle.crdt_rules.specs.Fits.{Fits}
-use Rattle.op_log.specs.Index.{place_at}
-use Rattle.op_log.specs.declared.index.Place.{Place}
-use Rattle.op_log.proofs.Indexes.{new_key, IsIndexed-append}
+use Rattle.op_log.specs.Front.{PutsEntry}
+use Rattle.op_log.specs.Index.{StandsAt}
+use Rattle.op_log.proofs.Growing.{last_stands, IsIndexed-append}
 use Rattle.op_log.proofs.log.OpLog.append.Goals as goal
 
-pub add-requires-clause-new_key : goal.add-requires-clause-new_key
-add-requires-clause-new_key c =
-    let fits : Fits c.args.op c.self.inside.entries.items = subst (λ l. Fits c.args.op l.operations) (sym c.self.view_is) c.requires.fits in
-    λ p h. new_key c.self.invariant c.args.op fits p h _ _ (ap (λ i. i.replica) c.id-counter.ensures.value) (ap (λ i. i.counter) c.id-counter.ensures.value)
+pub next_link-link-requires-clause-last : goal.next_link-link-requires-clause-last
+next_link-link-requires-clause-last c =
+    let name = c.id-counter.result.replica in
+    subst (λ (l : List Op). IfSome c.last_of-last.result (λ k. (n : List ℕ) × StandsAt l n k)) (sym c.deref-2.ensures.value)
+    (last_stands c.self.invariant.lasts name c.last_of-last.result (c.last_of-last.ensures ∙ ap (λ (l : List (List ℕ × ℕ)). entry_of l name) c.deref.ensures.value))
 
 pub invariant_of-self : goal.invariant_of-self
 invariant_of-self c =
     let fits : Fits c.args.op c.self.inside.entries.items = subst (λ l. Fits c.args.op l.operations) (sym c.self.view_is) c.requires.fits in
     let id = c.id-counter.ensures.value in
-    let end = c.len-index.ensures ∙ c.self.inside.entries.ok.0 in
-    let place : ◌≡◌ {A = Place} (record { replica = c.id-counter.result.replica; counter = c.id-counter.result.counter; index = c.len-index.result }) (place_at c.args.op.id _) =
-    (λ i. record { replica = (id i).replica; counter = (id i).counter; index = end i }) in
-    rw (c.push.ensures.items, c.unwrap.ensures)
-    (IsIndexed-append c.self.invariant c.args.op c.add.new.places.items c.put_last.new.front.items fits c.add.ensures.rising
-    (subst (λ p. SameMembers c.add.new.places.items (p ∷ c.self.inside.places.items)) place c.add.ensures.members)
-    c.put_last.ensures.ascending (rw id at c.put_last.ensures.puts))
+    let end : c.len.result ≡ length c.self.inside.entries.items = c.len.ensures ∙ c.self.inside.entries.ok.0 in
+    let last : c.last_of-last.result ≡ entry_of c.self.inside.lasts.items c.args.op.id.replica =
+    c.last_of-last.ensures ∙ ap (λ (l : List (List ℕ × ℕ)). entry_of l c.id-counter.result.replica) c.deref.ensures.value
+    ∙ ap (λ i. entry_of c.self.inside.lasts.items i.replica) id in
+    let links : c.push.new.self.items ≡ c.self.inside.links.items ++ c.next_link-link.result ∷ [] = rw (c.push.ensures.items, c.unwrap.ensures) refl in
+    let entries : c.push-2.new.self.items ≡ c.self.inside.entries.items ++ c.args.op ∷ [] = rw (c.push-2.ensures.items, c.unwrap-2.ensures) refl in
+    rw (links, entries)
+    (IsIndexed-append c.self.invariant c.args.op c.last_of-last.result c.next_link-link.result c.put_last.new.front.items c.put_last-2.new.front.items fits last
+    (rw c.deref-2.ensures.value at c.next_link-link.ensures.before)
+    (rw c.deref-2.ensures.value at c.next_link-link.ensures.far)
+    c.put_last.ensures.ascending
+    (subst (λ (n : ℕ). PutsEntry c.self.inside.lasts.items c.put_last.new.front.items c.args.op.id.replica n) end (rw id at c.put_last.ensures.puts))
+    c.put_last-2.ensures.ascending
+    (rw id at c.put_last-2.ensures.puts))

@@ -1,0 +1,27 @@
+use Rattle.std.proofs.Common.{◌≡◌, ℕ, suc, ◌+◌, ◌≤◌, List, Contains, sym, subst, arith, take_all}
+use Rattle.std.proofs.lemmas.List.Elements.{Contains-get_or}
+use Rattle.op_log.proofs.Uncovered.{last_of_entry, chains_next, chains_all}
+use Rattle.op_log.proofs.index.first_uncovered_of_all.Goals as goal
+
+pub first_uncovered_of-requires-clause-last : goal.first_uncovered_of-requires-clause-last
+first_uncovered_of-requires-clause-last c =
+    last_of_entry c.requires.lasts c.last-item.result
+    (subst (λ (e : List ℕ × ℕ). Contains c.args.lasts.now e) (sym c.last-item.is)
+    (Contains-get_or c.args.lasts.now c.loop-last.last-index c.last-item.result c.loop-last-test.true))
+
+pub loop-last-preserved : goal.loop-last-preserved
+loop-last-preserved c =
+    let one : c.loop-last.last-index + 1 ≡ suc c.loop-last.last-index = omega arith in
+    let before : c.lesser-least.result ≤ c.loop-last.least = c.lesser-least.ensures.0 in
+    let here : c.lesser-least.result ≤ c.first_uncovered_of.result = c.lesser-least.ensures.1 in
+    rw one (
+      omega (arith, before, c.loop-last.invariant.0),
+      chains_next c.args.front.now c.args.entries.now c.args.lasts.now c.loop-last.last-index c.last-item.result c.loop-last.least c.first_uncovered_of.result c.lesser-least.result
+          before here c.loop-last-test.true c.last-item.is c.loop-last.invariant.1 c.first_uncovered_of.ensures,
+    )
+
+pub returns-clause-covered : goal.returns-clause-covered
+returns-clause-covered c =
+    chains_all c.args.front.now c.args.entries.now c.args.lasts.now c.loop-last.least c.requires.lasts
+    (λ f h. c.loop-last.invariant.1 f
+    (subst (λ (l : List (List ℕ × ℕ)). Contains l f) (sym (take_all c.loop-last.last-index c.args.lasts.now c.loop-last-test.false)) h))
