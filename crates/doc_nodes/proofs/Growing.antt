@@ -10,6 +10,7 @@ use Rattle.presence_set.specs.ById.{get}
 use Rattle.doc_nodes.specs.declared.node.NodeNumber.{NodeNumber}
 use Rattle.doc_nodes.specs.declared.node.Node.{Node}
 use Rattle.doc_nodes.specs.Walk.{walk, root, trail, list_trail}
+use Rattle.list_order.specs.Entries.{ids_of}
 use Rattle.doc_nodes.specs.Nodes.{blank, node_of, child_of, role_in, scalar_in, number_in, ids_in, role_at, facts_of, AreTree}
 use Rattle.doc_nodes.specs.Growth.{Grows, IsMade}
 use Rattle.doc_nodes.proofs.Walks.{parts_of, walk_rises, walk_split}
@@ -90,7 +91,7 @@ module _ (old new : List Node) (grows : Grows old new) where
       present = λ q j i. ap is_some (role-grown q j i) x;
       register = λ q j i. same_part (λ z. get z.register.0 i) None (λ n. ap (λ l. get l i) (grows.register n)) refl old_tree new_tree (λ l o. scalar_in l o i) (λ l. refl) (λ l n. refl) (trail q j) x;
       counter = λ q j i. same_part (λ z. get z.counter.0 i) None (λ n. ap (λ l. get l i) (grows.counter n)) refl old_tree new_tree (λ l o. number_in l o i) (λ l. refl) (λ l n. refl) (trail q j) x;
-      order = λ q. same_part (λ z. z.order.0) [] grows.order refl old_tree new_tree ids_in (λ l. refl) (λ l n. refl) (list_trail q) x;
+      order = λ q. same_part (λ z. ids_of z.order.0) [] (λ n. ap ids_of (grows.order n)) refl old_tree new_tree ids_in (λ l. refl) (λ l n. refl) (list_trail q) x;
     }
 
   -- what was made stays

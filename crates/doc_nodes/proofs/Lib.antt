@@ -9,3 +9,6 @@ pub mod WriteFacts
 pub mod Growing
 pub mod Adding
 pub mod Made
+pub mod Plain
+pub mod Flagging
+pub mod Passing

@@ -13,8 +13,12 @@ use Rattle.presence_set.proofs.ByIdLaws.{get-put}
 use Rattle.doc_nodes.specs.declared.node.NodeNumber.{NodeNumber}
 use Rattle.doc_nodes.specs.declared.node.Node.{Node}
 use Rattle.doc_nodes.specs.Walk.{walk, root, trail, list_trail}
+use Rattle.lamport_id.specs.Order.{id_cmp}
+use Rattle.list_laws.specs.Order.{insert_after}
+use Rattle.list_order.specs.Entries.{ids_of}
+use Rattle.list_order.proofs.Entries.{ids_of-insert}
 use Rattle.doc_nodes.specs.Nodes.{node_of, node_at, list_node_at, role_in, value_in, ids_in, role_at, facts_of, AreTree}
-use Rattle.doc_nodes.specs.Writes.{with_scalar, with_number, with_ids, enter_facts, count_facts, order_facts}
+use Rattle.doc_nodes.specs.Writes.{with_scalar, with_number, with_entry, enter_facts, count_facts, order_facts}
 use Rattle.doc_nodes.proofs.Marking.{here-set, other-set, eq_number, shape-set}
 use Rattle.doc_nodes.proofs.Places.{place_of_node, path_of_node}
 
@@ -49,12 +53,12 @@ module _ (nodes : List Node) (n : NodeNumber) (within : n.0 < length nodes) wher
         go None = refl
         go (Some c) = ap (λ l. get l i) (unwritten part node kept c)
 
-    ids-set : node.order ≡ (node_of nodes n).order → (q : List Tagged) → ids_in (set nodes n.0 node) (list_node_at (set nodes n.0 node) q) ≡ ids_in nodes (list_node_at nodes q)
+    ids-set : ids_of node.order.0 ≡ ids_of (node_of nodes n).order.0 → (q : List Tagged) → ids_in (set nodes n.0 node) (list_node_at (set nodes n.0 node) q) ≡ ids_in nodes (list_node_at nodes q)
     ids-set kept q = ap (λ o. ids_in (set nodes n.0 node) o) (list_node_at-set q) ∙ go (list_node_at nodes q)
       where
         go : (o : Option NodeNumber) → ids_in (set nodes n.0 node) o ≡ ids_in nodes o
         go None = refl
-        go (Some c) = ap (λ r. r.0) (unwritten (λ z. z.order) node kept c)
+        go (Some c) = unwritten (λ z. ids_of z.order.0) node kept c
 
 module _ (nodes : List Node) (tree : AreTree nodes) (n : NodeNumber) (within : n.0 < length nodes) where
   -- a value is put into one part of the node
@@ -109,35 +113,35 @@ module _ (nodes : List Node) (tree : AreTree nodes) (n : NodeNumber) (within : n
       }
 
   -- the order of the list of the node is changed
-  pub facts-ordered : (p : List Tagged) (f : List Id → List Id) → list_node_at nodes p ≡ Some n
-      → facts_of (set nodes n.0 (with_ids f (node_of nodes n))) ≡ order_facts (facts_of nodes) p f
+  pub facts-ordered : (p : List Tagged) (after : Option Id) (id : Id) → list_node_at nodes p ≡ Some n
+      → facts_of (set nodes n.0 (with_entry after id (node_of nodes n))) ≡ order_facts (facts_of nodes) p (λ ids. insert_after id_cmp ids after id)
   unfolding facts_of
-  facts-ordered p f at =
+  facts-ordered p after id at =
       λ x. record {
-        present = λ q j i. ap is_some (role-set nodes n within (with_ids f (node_of nodes n)) refl refl q j i) x;
-        register = λ q j i. value-set nodes n within (with_ids f (node_of nodes n)) refl (λ z. z.register.0) refl q j i x;
-        counter = λ q j i. value-set nodes n within (with_ids f (node_of nodes n)) refl (λ z. z.counter.0) refl q j i x;
+        present = λ q j i. ap is_some (role-set nodes n within (with_entry after id (node_of nodes n)) refl refl q j i) x;
+        register = λ q j i. value-set nodes n within (with_entry after id (node_of nodes n)) refl (λ z. z.register.0) refl q j i x;
+        counter = λ q j i. value-set nodes n within (with_entry after id (node_of nodes n)) refl (λ z. z.counter.0) refl q j i x;
         order = λ q. ordered q x;
       }
     where
-      ordered : (q : List Tagged) → ids_in (set nodes n.0 (with_ids f (node_of nodes n))) (list_node_at (set nodes n.0 (with_ids f (node_of nodes n))) q)
-          ≡ (if path_eq p q then f (ids_in nodes (list_node_at nodes q)) else ids_in nodes (list_node_at nodes q))
+      ordered : (q : List Tagged) → ids_in (set nodes n.0 (with_entry after id (node_of nodes n))) (list_node_at (set nodes n.0 (with_entry after id (node_of nodes n))) q)
+          ≡ (if path_eq p q then insert_after id_cmp (ids_in nodes (list_node_at nodes q)) after id else ids_in nodes (list_node_at nodes q))
       ordered q =
-          ap (λ o. ids_in (set nodes n.0 (with_ids f (node_of nodes n))) o) (list_node_at-set nodes n within (with_ids f (node_of nodes n)) refl q)
+          ap (λ o. ids_in (set nodes n.0 (with_entry after id (node_of nodes n))) o) (list_node_at-set nodes n within (with_entry after id (node_of nodes n)) refl q)
           ∙ go (list_node_at nodes q) refl (path_eq p q) refl
         where
           same_path : (b : Bool) → path_eq p q ≡ b → b ≡ true → list_node_at nodes q ≡ Some n
           same_path b is e = subst (λ z. list_node_at nodes z ≡ Some n) (path_decides.same p q (is ∙ e)) at
 
           go : (o : Option NodeNumber) → list_node_at nodes q ≡ o → (b : Bool) → path_eq p q ≡ b
-              → ids_in (set nodes n.0 (with_ids f (node_of nodes n))) o ≡ (if b then f (ids_in nodes o) else ids_in nodes o)
+              → ids_in (set nodes n.0 (with_entry after id (node_of nodes n))) o ≡ (if b then insert_after id_cmp (ids_in nodes o) after id else ids_in nodes o)
           go None e false is = refl
           go None e true is = let here : ◌≡◌ {A = Option NodeNumber} None (Some n) = sym e ∙ same_path true is refl in absurd (cc)
           go (Some c) e true is =
               let here : ◌≡◌ {A = Option NodeNumber} (Some c) (Some n) = sym e ∙ same_path true is refl in
               let same : c ≡ n = cc in
-              subst (λ z. (node_of (set nodes n.0 (with_ids f (node_of nodes n))) z).order.0 ≡ f (node_of nodes z).order.0) (sym same)
-              (ap (λ z. z.order.0) (here-set nodes n (with_ids f (node_of nodes n)) within))
+              subst (λ z. ids_of (node_of (set nodes n.0 (with_entry after id (node_of nodes n))) z).order.0 ≡ insert_after id_cmp (ids_of (node_of nodes z).order.0) after id) (sym same)
+              (ap (λ z. ids_of z.order.0) (here-set nodes n (with_entry after id (node_of nodes n)) within) ∙ ids_of-insert (node_of nodes n).order.0 after id)
           go (Some c) e false is =
-              ap (λ z. z.order.0) (other-set nodes n c (with_ids f (node_of nodes n)) (λ g.
+              ap (λ z. ids_of z.order.0) (other-set nodes n c (with_entry after id (node_of nodes n)) (λ g.
               true≢false (sym (eq_from path_decides p q (path_of_node nodes tree p q n at (e ∙ ap Some (eq_number c n g)))) ∙ is)))

@@ -5,3 +5,4 @@ pub mod Nodes
 pub mod Marks
 pub mod Writes
 pub mod Growth
+pub mod Flags

@@ -10,6 +10,7 @@ use Rattle.doc_words.specs.declared.role.Role.{Role}
 use Rattle.presence_set.specs.ById.{get, uncovered}
 use Rattle.doc_nodes.specs.declared.node.NodeNumber.{NodeNumber}
 use Rattle.doc_nodes.specs.declared.node.Node.{Node}
+use Rattle.list_order.specs.Entries.{ids_of}
 use Rattle.doc_nodes.specs.Children.{number_at}
 use Rattle.doc_nodes.specs.Walk.{trail, list_trail, walk, root, IsTree}
 
@@ -48,7 +49,7 @@ number_in = value_in (λ node. node.counter.0)
 
 abbrev pub ids_in : List Node → Option NodeNumber → List Id
 ids_in nodes None = []
-ids_in nodes (Some n) = (node_of nodes n).order.0
+ids_in nodes (Some n) = ids_of (node_of nodes n).order.0
 
 -- the role of an operation at a place
 unfoldable pub role_at : List Node → List Tagged → Key → Id → Option Role

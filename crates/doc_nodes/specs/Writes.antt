@@ -13,6 +13,8 @@ use Rattle.presence_set.specs.ById.{put}
 use Rattle.doc_nodes.specs.declared.node.NodeNumber.{NodeNumber}
 use Rattle.doc_nodes.specs.declared.node.Node.{Node}
 use Rattle.doc_nodes.specs.Walk.{root}
+use Rattle.list_laws.specs.Order.{insert_after}
+use Rattle.list_order.specs.Entries.{entry_cmp, reference, absent}
 use Rattle.doc_nodes.specs.Nodes.{node_of, node_at, clear_facts_at}
 use Rattle.doc_nodes.specs.Marks.{mark_facts, keys_to, HasRoomAlong}
 
@@ -24,9 +26,9 @@ with_scalar id s node = record node { register = (put node.register.0 id s, node
 abbrev pub with_number : Id → ℤ → Node → Node
 with_number id n node = record node { counter = (put node.counter.0 id n, node.counter.1) }
 
--- a node whose list is changed
-abbrev pub with_ids : (List Id → List Id) → Node → Node
-with_ids f node = record node { order = (f node.order.0, node.order.1) }
+-- a node with one more id in its list
+abbrev pub with_entry : Option Id → Id → Node → Node
+with_entry after id node = record node { order = (insert_after entry_cmp node.order.0 (reference after) (absent id), node.order.1) }
 
 -- a scalar stands in the register of a place
 abbrev pub enter_facts : Facts → List Tagged → Key → Id → Scalar → Facts

@@ -1,21 +1,68 @@
 //! The clearing of the nodes from one down.
-ghost use Rattle.std.specs.Prelude.{◌<◌, length};
-ghost use Rattle.doc_nodes.specs.Nodes.{AreTree, ClearsUnder};
+ghost use Rattle.std.specs.Prelude.{◌≡◌, ◌<◌, length, Some, IsSome};
+ghost use Rattle.lamport_id.specs.declared.id.Id.{Id};
+ghost use Rattle.doc_nodes.specs.declared.node.NodeNumber.{NodeNumber};
+ghost use Rattle.doc_nodes.specs.Walk.{walk, root};
+ghost use Rattle.doc_nodes.specs.Nodes.{AreTree, ClearsUnder, child_of};
+ghost use Rattle.doc_nodes.specs.Marks.{keys_below, keys_to};
+ghost use Rattle.doc_nodes.specs.Flags.{plain, AreFlagged, IsFlagged, IsFlaggedBut};
 
-use crate::node::{Node, NodeNumber};
-use op_core::Front;
+use crate::finding::{key_in, root_number};
+use crate::flag::tell;
+use crate::mark::known_child;
+use crate::node::{Node, NodeNumber, element_in};
+use op_core::{Front, Key, Tagged};
 
-/// Clears a node and those below it.
+/// Clears a node and those below it. What its own list tells of it is left to the caller.
 pub fn clear_under(nodes: &mut [Node], at: NodeNumber, front: &Front)
     requires tree { AreTree nodes.old }
     requires known { at.0 < length nodes.old }
-    ensures { ClearsUnder front.now nodes.old nodes.new at }
+    ensures clears { ClearsUnder front.now (plain nodes.old) (plain nodes.new) at }
+    ensures flags { (n : NodeNumber) (i : Id) → IsFlagged nodes.old n i → IsFlaggedBut nodes.new at n i }
 {
     let node = &mut nodes[at.0];
     node.clear(front);
     let count = nodes[at.0].children.len();
     for i in 0..count {
         let child = nodes[at.0].children.number(i);
+        let element = nodes[at.0].children.element(i);
         clear_under(nodes, child, front);
+        tell(nodes, at, element, child);
+    }
+}
+
+/// Clears a place and what is below it.
+pub fn clear_way(nodes: &mut [Node], path: &[Tagged], key: &Key, front: &Front)
+    requires tree { AreTree nodes.old }
+    requires reached { IsSome (walk (child_of nodes.old) root (keys_to path.now key.now)) }
+    ensures clears { (m : NodeNumber) → walk (child_of nodes.old) root (keys_to path.now key.now) ≡ Some m
+        → ClearsUnder front.now (plain nodes.old) (plain nodes.new) m }
+    ensures flags { AreFlagged nodes.old → AreFlagged nodes.new }
+{
+    match path.split_first() {
+        None => clear_under(nodes, root_number(), front),
+        Some((_, way)) => clear_below(nodes, root_number(), way, key, front),
+    }
+}
+
+/// Clears a place below a node and what is below the place.
+fn clear_below(nodes: &mut [Node], at: NodeNumber, way: &[Tagged], key: &Key, front: &Front)
+    requires tree { AreTree nodes.old }
+    requires known { at.0 < length nodes.old }
+    requires reached { IsSome (walk (child_of nodes.old) at (keys_below way.now key.now)) }
+    ensures clears { (m : NodeNumber) → walk (child_of nodes.old) at (keys_below way.now key.now) ≡ Some m
+        → ClearsUnder front.now (plain nodes.old) (plain nodes.new) m }
+    ensures flags { (n : NodeNumber) (i : Id) → IsFlagged nodes.old n i → IsFlagged nodes.new n i }
+{
+    match way.split_first() {
+        None => {
+            let end = known_child(nodes, at, key);
+            clear_under(nodes, end, front);
+            tell(nodes, at, element_in(key), end);
+        }
+        Some((next, rest)) => {
+            let below = known_child(nodes, at, key_in(next));
+            clear_below(nodes, below, rest, key, front);
+        }
     }
 }

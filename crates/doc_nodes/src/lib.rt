@@ -3,12 +3,13 @@
 
 mod clear;
 mod finding;
+mod flag;
 mod growth;
 mod mark;
 mod node;
 mod write;
 
-pub use clear::clear_under;
+pub use clear::{clear_under, clear_way};
 pub use finding::{find, find_list, keys, known_list, known_node};
 pub use growth::{prepare_way, reserve_order, reserve_values};
 pub use mark::mark_way;

@@ -1,19 +1,25 @@
 //! The marks of an operation on the nodes that it passes, and where it ends.
 ghost use Rattle.std.specs.Prelude.{◌≡◌, ◌<◌, length, Some, IsSome, slice_set};
+ghost use Rattle.lamport_id.specs.declared.id.Id.{Id};
+ghost use Rattle.doc_nodes.specs.declared.node.NodeNumber.{NodeNumber};
 ghost use Rattle.doc_nodes.specs.Walk.{walk, root};
 ghost use Rattle.doc_nodes.specs.Nodes.{AreTree, node_of, child_of};
 ghost use Rattle.doc_nodes.specs.Marks.{marked, keys_below, keys_to, HasRoomAlong, IsReady, MarksAlong};
+ghost use Rattle.doc_nodes.specs.Flags.{plain, AreFlagged, AreFlaggedBut, IsFlaggedBut};
 
 use crate::finding::{key_in, root_number};
-use crate::node::{Node, NodeNumber};
+use crate::flag::tell;
+use crate::node::{Node, NodeNumber, element_in};
 use lamport_id::Id;
 use op_core::{Key, Tagged};
 use presence_set::Role;
 
-/// Marks the nodes on the way from the root down to a place.
+/// Marks the nodes on the way from the root down to a place. Each list on the way tells that its element is present.
 pub fn mark_way(nodes: &mut [Node], path: &[Tagged], key: &Key, id: &Id, role: Role)
     requires { IsReady nodes.old root (keys_to path.now key.now) }
-    ensures { MarksAlong id.now role nodes.old nodes.new root (keys_to path.now key.now) }
+    ensures marks { MarksAlong id.now role (plain nodes.old) (plain nodes.new) root (keys_to path.now key.now) }
+    ensures flags { (m : NodeNumber) → walk (child_of nodes.old) root (keys_to path.now key.now) ≡ Some m
+        → AreFlaggedBut nodes.old m → AreFlagged nodes.new }
 {
     match path.split_first() {
         None => mark(nodes, root_number(), id, role),
@@ -34,17 +40,21 @@ pub fn mark_below(
     requires known { at.0 < length nodes.old }
     requires reached { IsSome (walk (child_of nodes.old) at (keys_below way.now key.now)) }
     requires room { HasRoomAlong nodes.old at (keys_below way.now key.now) }
-    ensures { MarksAlong id.now role nodes.old nodes.new at (keys_below way.now key.now) }
+    ensures marks { MarksAlong id.now role (plain nodes.old) (plain nodes.new) at (keys_below way.now key.now) }
+    ensures flags { (m : NodeNumber) → walk (child_of nodes.old) at (keys_below way.now key.now) ≡ Some m
+        → (n : NodeNumber) (i : Id) → IsFlaggedBut nodes.old m n i → IsFlaggedBut nodes.new at n i }
 {
     mark(nodes, at, id, Role::Through);
     match way.split_first() {
         None => {
             let end = known_child(nodes, at, key);
             mark(nodes, end, id, role);
+            tell(nodes, at, element_in(key), end);
         }
         Some((next, rest)) => {
             let below = known_child(nodes, at, key_in(next));
             mark_below(nodes, below, rest, key, id, role);
+            tell(nodes, at, element_in(key_in(next)), below);
         }
     }
 }

@@ -6,7 +6,7 @@ ghost use Rattle.op_core.specs.Front.{covers};
 ghost use Rattle.crdt_rules.specs.Same.{key_eq};
 ghost use Rattle.presence_set.specs.ById.{put, uncovered, rank, IsAscending};
 ghost use Rattle.op_core.specs.declared.cursor.Key.{Key};
-ghost use Rattle.doc_nodes.specs.Children.{number_at};
+ghost use Rattle.doc_nodes.specs.Children.{element_of, number_at};
 ghost use Rattle.doc_nodes.specs.KeyOrder.{key_cmp, IsRising};
 ghost use Rattle.doc_nodes.specs.KeyOrder as KeyOrder;
 
@@ -95,6 +95,14 @@ impl Children {
         self.entries.as_slice()
     }
 
+    /// The element of the child at a place, if its key is one.
+    pub fn element(&self, at: usize) -> Option<Id>
+        requires { at < length self.now }
+        ensures { (d : Key × NodeNumber) → result ≡ element_of (slice_index_or self.now at d).0 }
+    {
+        element_in(&self.entries[at].0)
+    }
+
     /// The number of the child at a place.
     pub fn number(&self, at: usize) -> NodeNumber
         requires { at < length self.now }
@@ -165,6 +173,16 @@ pub fn is_same_key(a: &Key, b: &Key) -> bool
         (Key::Element(x), Key::Element(y)) => *x == *y,
         (Key::Head, Key::Head) => true,
         _ => false,
+    }
+}
+
+/// The id of an element's key.
+pub fn element_in(key: &Key) -> Option<Id>
+    ensures { result ≡ element_of key.now }
+{
+    match key {
+        Key::Element(id) => Some(*id),
+        _ => None,
     }
 }
 

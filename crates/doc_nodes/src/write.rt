@@ -1,10 +1,9 @@
 //! Writes to one node.
 ghost use Rattle.std.specs.Prelude.{◌≡◌, ◌<◌, length, slice_set, Contains};
 ghost use Rattle.std.specs.Option.{ForSome};
-ghost use Rattle.lamport_id.specs.Order.{id_cmp};
-ghost use Rattle.list_laws.specs.Order.{insert_after};
+ghost use Rattle.list_order.specs.Entries.{ids_of};
 ghost use Rattle.doc_nodes.specs.Nodes.{node_of};
-ghost use Rattle.doc_nodes.specs.Writes.{with_scalar, with_number, with_ids};
+ghost use Rattle.doc_nodes.specs.Writes.{with_scalar, with_number, with_entry};
 
 use crate::node::{Node, NodeNumber};
 use json_scalar::Scalar;
@@ -34,9 +33,9 @@ pub fn enter(nodes: &mut [Node], at: NodeNumber, id: &Id, scalar: Scalar)
 pub fn link(nodes: &mut [Node], at: NodeNumber, after: Option<Id>, id: &Id)
     requires known { at.0 < length nodes.old }
     requires room { length (node_of nodes.old at).order.0 < (node_of nodes.old at).order.1 }
-    requires reference { ForSome after (Contains (node_of nodes.old at).order.0) }
-    requires new { ¬ (Contains (node_of nodes.old at).order.0 id.now) }
-    ensures { nodes.new ≡ slice_set nodes.old at.0 (with_ids (λ ids. insert_after id_cmp ids after id.now) (node_of nodes.old at)) }
+    requires reference { ForSome after (Contains (ids_of (node_of nodes.old at).order.0)) }
+    requires new { ¬ (Contains (ids_of (node_of nodes.old at).order.0) id.now) }
+    ensures { nodes.new ≡ slice_set nodes.old at.0 (with_entry after id.now (node_of nodes.old at)) }
 {
     let node = &mut nodes[at.0];
     node.order.insert_by_rule(after, *id);

@@ -9,6 +9,7 @@ use Rattle.crdt_rules.specs.Place.{is_within}
 use Rattle.doc_words.specs.declared.role.Role.{Role}
 use Rattle.presence_set.specs.ById.{get, uncovered}
 use Rattle.presence_set.proofs.ByIdLaws.{get-uncovered}
+use Rattle.list_order.specs.Entries.{ids_of}
 use Rattle.doc_nodes.specs.declared.node.NodeNumber.{NodeNumber}
 use Rattle.doc_nodes.specs.declared.node.Node.{Node}
 use Rattle.doc_nodes.specs.Walk.{walk, root, trail, list_trail}
@@ -64,7 +65,7 @@ module _ (front : List (List ℕ × ℕ)) (old new : List Node) (tree : AreTree 
     where
       go : (o : Option NodeNumber) → ids_in new o ≡ ids_in old o
       go None = refl
-      go (Some c) = ⊎_elim (λ e. ap (λ z. z.order.0) e) (λ e. ap (λ z. z.order.0) e) (clears.each c)
+      go (Some c) = ⊎_elim (λ e. ap (λ z. ids_of z.order.0) e) (λ e. ap (λ z. ids_of z.order.0) e) (clears.each c)
 
   is_some-if : (b : Bool) (o : Option Role) → is_some (if b then None else o) ≡ (is_some o && not b)
   is_some-if true None = refl

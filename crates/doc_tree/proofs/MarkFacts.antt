@@ -12,6 +12,7 @@ use Rattle.doc_words.specs.declared.role.Role.{Role}
 use Rattle.doc_words.specs.declared.role.Role.TheVariants.{Through}
 use Rattle.presence_set.specs.ById.{get}
 use Rattle.presence_set.proofs.ByIdLaws.{get-put}
+use Rattle.list_order.specs.Entries.{ids_of}
 use Rattle.doc_nodes.specs.declared.node.NodeNumber.{NodeNumber}
 use Rattle.doc_nodes.specs.declared.node.Node.{Node}
 use Rattle.doc_nodes.specs.Walk.{walk, root, trail, list_trail}
@@ -101,7 +102,7 @@ module _ (id : Id) (role : Role) (old new : List Node) (tree : AreTree old) (p :
     where
       go : (o : Option NodeNumber) → ids_in new o ≡ ids_in old o
       go None = refl
-      go (Some c) = ap (λ o. o.0) (marks.kept c).2
+      go (Some c) = ap (λ o. ids_of o.0) (marks.kept c).2
 
   -- the place, and those above it, are present by the id
   pub facts-marked : facts_of new ≡ mark_facts (facts_of old) p k id

@@ -1,10 +1,10 @@
 -- What an assignment needs, step by step.
-use Rattle.std.proofs.Common.{◌≡◌, ℕ, ℤ, ◌<◌, ◌≤◌, List, [], ◌∷◌, length, set, Option, Some, None, Bool, true, false, if◌then◌else◌, not, ◌&&◌, ⊎_elim, refl, sym, ap, ◌∙◌, subst, arith}
+use Rattle.std.proofs.Common.{◌≡◌, ℕ, ℤ, ◌<◌, ◌≤◌, List, [], ◌∷◌, length, set, Option, Some, None, Bool, true, false, if◌then◌else◌, not, ◌&&◌, inl, ⊎_elim, refl, sym, ap, ◌∙◌, subst, arith}
 use Rattle.std.specs.Prelude.{IsSome, option_and_then}
 use Rattle.std.specs.Option.{option_map}
 use Rattle.lamport_id.specs.declared.id.Id.{Id}
 use Rattle.op_core.specs.declared.cursor.Key.{Key}
-use Rattle.op_core.specs.declared.cursor.Key.TheVariants.{Doc}
+use Rattle.op_core.specs.declared.cursor.Key.TheVariants.{Doc, Element}
 use Rattle.op_core.specs.declared.cursor.Tagged.{Tagged}
 use Rattle.op_core.specs.Front.{covers}
 use Rattle.op_core.specs.Shape.{key_of, may_follow}
@@ -26,6 +26,8 @@ use Rattle.doc_tree.proofs.ClearFacts.{facts-cleared, role-cleared}
 use Rattle.doc_tree.proofs.MarkFacts.{facts-marked, role-marked}
 use Rattle.doc_nodes.proofs.WriteFacts.{facts-entered, facts-counted, role-set}
 use Rattle.doc_nodes.proofs.Marking.{tree-set}
+use Rattle.doc_nodes.specs.Flags.{plain, IsFlagged, IsFlaggedBut, AreFlaggedBut}
+use Rattle.doc_nodes.proofs.Plain.{child_of-plain, node_of-plain, node_at-plain, tree-plain, facts-plain, role-plain, shape_of-plain, tree_same}
 
 -- the keys of a trail
 keys_of_trail_below : (t : Tagged) (p : List Tagged) (k : Key) (keys : List Key) → trail_below t p k ≡ Some keys → keys ≡ keys_below p k
@@ -99,39 +101,65 @@ module _ (front : List (List ℕ × ℕ)) (old new : List Node) (each : IsPartCl
         room = λ begin rest j e w. presence_room j (room begin rest j e (ap (λ f. walk f root begin) (sym shape) ∙ w));
       }
 
+-- What clearing does to the facts, whatever the lists tell.
+module _ (front : List (List ℕ × ℕ)) (old new : List Node) (tree : AreTree old) (p : List Tagged) (k : Key) (m : NodeNumber)
+    (at : node_at old p k ≡ Some m) (clears : ClearsUnder front (plain old) (plain new) m) where
+  pub facts_cleared : facts_of (plain new) ≡ clear_facts_at (facts_of old) p k (covers front)
+  facts_cleared =
+      facts-cleared front (plain old) (plain new) (tree-plain old tree) p k m (node_at-plain old p k ∙ at) clears
+      ∙ ap (λ f. clear_facts_at f p k (covers front)) (facts-plain old)
+
+  pub role_cleared : (q : List Tagged) (j : Key) (i : Id) → role_at (plain new) q j i ≡ (if is_within q j p k && covers front i then None else role_at old q j i)
+  role_cleared q j i =
+      role-cleared front (plain old) (plain new) (tree-plain old tree) p k m (node_at-plain old p k ∙ at) clears q j i
+      ∙ ap (λ o. if is_within q j p k && covers front i then None else o) (role-plain old q j i)
+
+  -- what its list tells of the place may be wrong then
+  pub flagged_cleared : ((n : NodeNumber) (i : Id) → IsFlagged old n i → IsFlaggedBut new m n i) → AreFlaggedBut old m → AreFlaggedBut new m
+  flagged_cleared kept but n i = ⊎_elim
+      (λ there. inl (ap (λ f. f n (Element i)) (shape_of-plain old new (same_children front (plain old) (plain new) clears.each)) ∙ there))
+      (λ right. kept n i right)
+      (but n i)
+
 -- An assignment step by step: the place is cleared, then the way is marked.
 module _ (front : List (List ℕ × ℕ)) (id : Id) (role : Role) (old between new : List Node) (tree : AreTree old) (p : List Tagged) (k : Key) (m : NodeNumber)
-    (at : node_at old p k ≡ Some m) (clears : ClearsUnder front old between m) (same : length between ≡ length old)
-    (marks : MarksAlong id role between new root (keys_to p k)) (also : length new ≡ length between) where
-  between_tree : AreTree between
-  between_tree = tree-cleared front old between clears.each same tree
+    (at : node_at old p k ≡ Some m) (clears : ClearsUnder front (plain old) (plain between) m) (same : length between ≡ length old)
+    (marks : MarksAlong id role (plain between) (plain new) root (keys_to p k)) (also : length new ≡ length between) where
+  between_shape : child_of between ≡ child_of old
+  between_shape = shape_of-plain old between (same_children front (plain old) (plain between) clears.each)
 
-  between_way : walk (child_of between) root (keys_to p k) ≡ Some m
-  between_way = ap (λ f. walk f root (keys_to p k)) (same_children front old between clears.each) ∙ (known_way old p k m at).1
+  between_tree : AreTree between
+  between_tree = tree_same old between same between_shape tree
+
+  between_way : walk (child_of (plain between)) root (keys_to p k) ≡ Some m
+  between_way = ap (λ f. walk f root (keys_to p k)) (child_of-plain between ∙ between_shape) ∙ (known_way old p k m at).1
 
   pub facts-put : facts_of new ≡ mark_facts (clear_facts_at (facts_of old) p k (covers front)) p k id
   facts-put =
-      facts-marked id role between new between_tree p k (keys_to p k) m (known_way old p k m at).0 between_way marks
-      ∙ ap (λ f. mark_facts f p k id) (facts-cleared front old between tree p k m at clears)
+      sym (facts-plain new)
+      ∙ facts-marked id role (plain between) (plain new) (tree-plain between between_tree) p k (keys_to p k) m (known_way old p k m at).0 between_way marks
+      ∙ ap (λ f. mark_facts f p k id) (facts_cleared front old between tree p k m at clears)
 
   pub role-put : (q : List Tagged) (j : Key) (i : Id) → role_at new q j i ≡ put_role (role_at old) p k (covers front) id role q j i
   role-put q j i =
-      role-marked id role between new between_tree p k (keys_to p k) m (known_way old p k m at).0 between_way marks q j i
-      ∙ ap (λ o. if is_within p k q j && id_eq id i then Some (if path_eq p q && key_eq k j then role else Through) else o) (role-cleared front old between tree p k m at clears q j i)
+      sym (role-plain new q j i)
+      ∙ role-marked id role (plain between) (plain new) (tree-plain between between_tree) p k (keys_to p k) m (known_way old p k m at).0 between_way marks q j i
+      ∙ ap (λ o. if is_within p k q j && id_eq id i then Some (if path_eq p q && key_eq k j then role else Through) else o) (role_cleared front old between tree p k m at clears q j i)
 
   pub tree-put : AreTree new
-  tree-put = subst (λ f. IsTree f (length new)) (sym marks.shape) (subst (λ n. IsTree (child_of between) n) (sym also) between_tree)
+  tree-put = tree_same between new also (shape_of-plain between new marks.shape) between_tree
 
   pub node_at-put : node_at new p k ≡ Some m
-  node_at-put =
-      ap (λ f. option_and_then (walk f root) (trail p k)) (marks.shape ∙ same_children front old between clears.each) ∙ at
+  node_at-put = ap (λ f. option_and_then (walk f root) (trail p k)) (shape_of-plain between new marks.shape ∙ between_shape) ∙ at
 
   pub within-put : m.0 < length new
   within-put = node_within new tree-put p k m node_at-put
 
   pub register_room-put : length (node_of old m).register.0 < (node_of old m).register.1 → length (node_of new m).register.0 < (node_of new m).register.1
   register_room-put room =
-      subst (λ r. length r.0 < r.1) (sym (marks.kept m).0) (register_room front old between clears.each m room)
+      subst (λ z. length z.register.0 < z.register.1) (node_of-plain new m)
+      (subst (λ r. length r.0 < r.1) (sym (marks.kept m).0)
+      (register_room front (plain old) (plain between) clears.each m (subst (λ z. length z.register.0 < z.register.1) (sym (node_of-plain old m)) room)))
 
   -- and its scalar is entered
   module _ (s : Scalar) (last : List Node) (is : last ≡ set new m.0 (with_scalar id s (node_of new m))) where
@@ -158,29 +186,42 @@ ready-way nodes tree p k m at room = record {
 
 -- An add step by step: the way is marked, then the number is entered.
 module _ (id : Id) (role : Role) (old new : List Node) (tree : AreTree old) (p : List Tagged) (k : Key) (m : NodeNumber)
-    (at : node_at old p k ≡ Some m) (marks : MarksAlong id role old new root (keys_to p k)) (also : length new ≡ length old) where
+    (at : node_at old p k ≡ Some m) (marks : MarksAlong id role (plain old) (plain new) root (keys_to p k)) (also : length new ≡ length old) where
+  marked_shape : child_of new ≡ child_of old
+  marked_shape = shape_of-plain old new marks.shape
+
+  marked_way : walk (child_of (plain old)) root (keys_to p k) ≡ Some m
+  marked_way = ap (λ f. walk f root (keys_to p k)) (child_of-plain old) ∙ (known_way old p k m at).1
+
   tree-marked : AreTree new
-  tree-marked = subst (λ f. IsTree f (length new)) (sym marks.shape) (subst (λ n. IsTree (child_of old) n) (sym also) tree)
+  tree-marked = tree_same old new also marked_shape tree
 
   node_at-marked : node_at new p k ≡ Some m
-  node_at-marked = ap (λ f. option_and_then (walk f root) (trail p k)) marks.shape ∙ at
+  node_at-marked = ap (λ f. option_and_then (walk f root) (trail p k)) marked_shape ∙ at
 
   pub within-marked : m.0 < length new
   within-marked = node_within new tree-marked p k m node_at-marked
 
   pub counter_room-marked : length (node_of old m).counter.0 < (node_of old m).counter.1 → length (node_of new m).counter.0 < (node_of new m).counter.1
-  counter_room-marked room = subst (λ r. length r.0 < r.1) (sym (marks.kept m).1) room
+  counter_room-marked room =
+      subst (λ z. length z.counter.0 < z.counter.1) (node_of-plain new m)
+      (subst (λ r. length r.0 < r.1) (sym (marks.kept m).1) (subst (λ z. length z.counter.0 < z.counter.1) (sym (node_of-plain old m)) room))
 
   module _ (a : ℤ) (last : List Node) (is : last ≡ set new m.0 (with_number id a (node_of new m))) where
     pub facts-added : facts_of last ≡ add_facts (facts_of old) p k id a
     facts-added =
         ap facts_of is ∙ facts-counted new tree-marked m within-marked p k id a node_at-marked
-        ∙ ap (λ f. count_facts f p k id a) (facts-marked id role old new tree p k (keys_to p k) m (known_way old p k m at).0 (known_way old p k m at).1 marks)
+        ∙ ap (λ f. count_facts f p k id a)
+        (sym (facts-plain new)
+        ∙ facts-marked id role (plain old) (plain new) (tree-plain old tree) p k (keys_to p k) m (known_way old p k m at).0 marked_way marks
+        ∙ ap (λ f. mark_facts f p k id) (facts-plain old))
 
     pub role-added : (q : List Tagged) (j : Key) (i : Id) → role_at last q j i ≡ add_role (role_at old) p k id role q j i
     role-added q j i =
         ap (λ l. role_at l q j i) is ∙ role-set new m within-marked (with_number id a (node_of new m)) refl refl q j i
-        ∙ role-marked id role old new tree p k (keys_to p k) m (known_way old p k m at).0 (known_way old p k m at).1 marks q j i
+        ∙ sym (role-plain new q j i)
+        ∙ role-marked id role (plain old) (plain new) (tree-plain old tree) p k (keys_to p k) m (known_way old p k m at).0 marked_way marks q j i
+        ∙ ap (λ o. if is_within p k q j && id_eq id i then Some (if path_eq p q && key_eq k j then role else Through) else o) (role-plain old q j i)
 
     pub tree-added : AreTree last
     tree-added = subst AreTree (sym is) (tree-set new m (with_number id a (node_of new m)) within-marked refl tree-marked)

@@ -6,6 +6,7 @@ use Rattle.op_core.specs.declared.cursor.Key.{Key}
 use Rattle.op_core.specs.declared.cursor.Tagged.{Tagged}
 use Rattle.doc_words.specs.declared.role.Role.{Role}
 use Rattle.presence_set.specs.ById.{get}
+use Rattle.list_order.specs.Entries.{ids_of}
 use Rattle.doc_nodes.specs.declared.node.NodeNumber.{NodeNumber}
 use Rattle.doc_nodes.specs.declared.node.Node.{Node}
 use Rattle.doc_nodes.specs.Nodes.{node_of, node_at, list_node_at, role_in, scalar_in, number_in, ids_in, role_at, facts_of}
@@ -35,7 +36,7 @@ module _ (nodes : List Node) (p : List Tagged) (k : Key) where
   unfolding facts_of
   number_absent e i = ap (λ o. number_in nodes o i) (sym e)
 
-pub ids_read : (nodes : List Node) (p : List Tagged) (n : NodeNumber) → list_node_at nodes p ≡ Some n → (node_of nodes n).order.0 ≡ (facts_of nodes).order p
+pub ids_read : (nodes : List Node) (p : List Tagged) (n : NodeNumber) → list_node_at nodes p ≡ Some n → ids_of (node_of nodes n).order.0 ≡ (facts_of nodes).order p
 unfolding facts_of
 ids_read nodes p n e = ap (ids_in nodes) (sym e)
 

@@ -19,11 +19,12 @@ use Rattle.crdt_rules.specs.Context.{reference, entered}
 use Rattle.crdt_rules.specs.Facts.{Facts, step_facts}
 use Rattle.doc_words.specs.declared.role.Role.{Role}
 use Rattle.doc_words.specs.declared.role.Role.TheVariants.{Counter}
+use Rattle.list_order.specs.Entries.{ids_of}
 use Rattle.doc_nodes.specs.declared.node.NodeNumber.{NodeNumber}
 use Rattle.doc_nodes.specs.declared.node.Node.{Node}
 use Rattle.doc_nodes.specs.Walk.{root, walk, trail}
 use Rattle.doc_nodes.specs.Nodes.{node_of, child_of, node_at, list_node_at, ids_in, facts_of, clear_facts_at}
-use Rattle.doc_nodes.specs.Writes.{put_facts, put_role, add_facts, add_role, order_facts, with_ids, IsReadyFor}
+use Rattle.doc_nodes.specs.Writes.{put_facts, put_role, add_facts, add_role, order_facts, with_entry, IsReadyFor}
 use Rattle.doc_tree.specs.Prepared.{step_role, role_of}
 use Rattle.doc_nodes.proofs.Marking.{shape-set}
 use Rattle.doc_nodes.proofs.WriteFacts.{unwritten}
@@ -101,28 +102,28 @@ module _ (before : List Tagged → Key → Id → Option Role) (op : Op) (deps :
   add_role_step n e = ap (λ o. step_role before o deps q j i) (sym (known_mutation op (Add n) e))
 
 -- a change of the order of a list leaves the room at a place
-pub ready-linked : (nodes : List Node) (n : NodeNumber) (f : List Id → List Id) → n.0 < length nodes → (p : List Tagged) (k : Key)
-    → IsReadyFor nodes p k → IsReadyFor (set nodes n.0 (with_ids f (node_of nodes n))) p k
-ready-linked nodes n f within p k ready = record {
+pub ready-linked : (nodes : List Node) (n : NodeNumber) (after : Option Id) (id : Id) → n.0 < length nodes → (p : List Tagged) (k : Key)
+    → IsReadyFor nodes p k → IsReadyFor (set nodes n.0 (with_entry after id (node_of nodes n))) p k
+ready-linked nodes n after id within p k ready = record {
   found = subst IsSome (sym same_node) ready.found;
   along = λ begin rest j e w.
-      subst (λ r. length r.0 < r.1) (sym (unwritten nodes n within (λ z. z.presence) (with_ids f (node_of nodes n)) refl j))
+      subst (λ r. length r.0 < r.1) (sym (unwritten nodes n within (λ z. z.presence) (with_entry after id (node_of nodes n)) refl j))
       (ready.along begin rest j e (ap (λ g. walk g root begin) (sym shape) ∙ w));
   register = λ m e.
-      subst (λ r. length r.0 < r.1) (sym (unwritten nodes n within (λ z. z.register) (with_ids f (node_of nodes n)) refl m))
+      subst (λ r. length r.0 < r.1) (sym (unwritten nodes n within (λ z. z.register) (with_entry after id (node_of nodes n)) refl m))
       (ready.register m (sym same_node ∙ e));
   counter = λ m e.
-      subst (λ r. length r.0 < r.1) (sym (unwritten nodes n within (λ z. z.counter) (with_ids f (node_of nodes n)) refl m))
+      subst (λ r. length r.0 < r.1) (sym (unwritten nodes n within (λ z. z.counter) (with_entry after id (node_of nodes n)) refl m))
       (ready.counter m (sym same_node ∙ e));
 }
   where
-    shape : child_of (set nodes n.0 (with_ids f (node_of nodes n))) ≡ child_of nodes
-    shape = shape-set nodes n (with_ids f (node_of nodes n)) within refl
+    shape : child_of (set nodes n.0 (with_entry after id (node_of nodes n))) ≡ child_of nodes
+    shape = shape-set nodes n (with_entry after id (node_of nodes n)) within refl
 
-    same_node : node_at (set nodes n.0 (with_ids f (node_of nodes n))) p k ≡ node_at nodes p k
-    same_node = ap (λ g. option_and_then (walk g root) (trail p k)) (shape-set nodes n (with_ids f (node_of nodes n)) within refl)
+    same_node : node_at (set nodes n.0 (with_entry after id (node_of nodes n))) p k ≡ node_at nodes p k
+    same_node = ap (λ g. option_and_then (walk g root) (trail p k)) (shape-set nodes n (with_entry after id (node_of nodes n)) within refl)
 
 -- the order that the facts tell is that of the node
-pub order-node : (nodes : List Node) (p : List Tagged) (n : NodeNumber) → list_node_at nodes p ≡ Some n → (facts_of nodes).order p ≡ (node_of nodes n).order.0
+pub order-node : (nodes : List Node) (p : List Tagged) (n : NodeNumber) → list_node_at nodes p ≡ Some n → (facts_of nodes).order p ≡ ids_of (node_of nodes n).order.0
 unfolding facts_of
 order-node nodes p n e = ap (ids_in nodes) e

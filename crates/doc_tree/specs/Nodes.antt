@@ -1,5 +1,5 @@
 -- What the tree of a document says.
-use Rattle.std.specs.Prelude.{List, Option}
+use Rattle.std.specs.Prelude.{List, Option, Bool}
 use Rattle.lamport_id.specs.declared.id.Id.{Id}
 use Rattle.json_scalar.specs.declared.scalar.Scalar.{Scalar}
 use Rattle.op_core.specs.declared.cursor.Key.{Key}
@@ -9,6 +9,7 @@ use Rattle.doc_words.specs.declared.role.Role.{Role}
 use Rattle.doc_nodes.specs.declared.node.Node.{Node}
 use Rattle.doc_nodes.specs.declared.node.NodeNumber.{NodeNumber}
 use Rattle.doc_nodes.specs.Nodes.{facts_of, role_at, node_at}
+use Rattle.doc_nodes.specs.Flags.{stands}
 
 -- the facts of a tree
 abbrev pub tree_facts : List Node × Option Scalar → Facts
@@ -20,3 +21,7 @@ tree_role tree = role_at tree.0
 -- the number of the node of a place
 abbrev pub tree_number : List Node × Option Scalar → List Tagged → Key → Option NodeNumber
 tree_number tree = node_at tree.0
+
+-- something makes a place present
+abbrev pub tree_present : List Node × Option Scalar → List Tagged → Key → Bool
+tree_present tree p k = stands tree.0 (node_at tree.0 p k)

@@ -1,5 +1,5 @@
 //! What an operation does to the nodes.
-ghost use Rattle.std.specs.Prelude.{◌≡◌, ◌<◌, length, List, ◌&&◌, None, slice_set, Contains, if◌then◌else◌};
+ghost use Rattle.std.specs.Prelude.{◌≡◌, ◌<◌, length, List, ◌&&◌, Some, None, slice_set, Contains, if◌then◌else◌};
 ghost use Rattle.std.specs.Option.{ForSome};
 ghost use Rattle.lamport_id.specs.declared.id.Id.{Id};
 ghost use Rattle.op_core.specs.declared.cursor.Key.{Key};
@@ -13,12 +13,14 @@ ghost use Rattle.crdt_rules.specs.Effect.{scalar_put};
 ghost use Rattle.crdt_rules.specs.Context.{reference};
 ghost use Rattle.crdt_rules.specs.Facts.{step_facts};
 ghost use Rattle.doc_words.specs.declared.role.Role.TheVariants.{Counter};
-ghost use Rattle.doc_nodes.specs.Nodes.{AreTree, node_of, facts_of, role_at, clear_facts_at};
-ghost use Rattle.doc_nodes.specs.Writes.{with_scalar, with_number, add_facts, add_role, with_ids, put_facts, put_role, order_facts, IsReadyFor};
+ghost use Rattle.doc_nodes.specs.declared.node.NodeNumber.{NodeNumber};
+ghost use Rattle.doc_nodes.specs.Nodes.{AreTree, node_of, node_at, facts_of, role_at, clear_facts_at};
+ghost use Rattle.doc_nodes.specs.Flags.{AreFlagged, AreFlaggedBut};
+ghost use Rattle.doc_nodes.specs.Writes.{with_scalar, with_number, add_facts, add_role, put_facts, put_role, order_facts, IsReadyFor};
 ghost use Rattle.doc_tree.specs.Prepared.{AreReady, IsNewElement, IsReadyList, KnowsReference, role_of, step_role};
 
 use doc_nodes::{
-    Node, clear_under, count, enter, find, keys, known_list, known_node, link, mark_way,
+    Node, clear_under, clear_way, count, enter, find, keys, known_list, known_node, link, mark_way,
 };
 use json_scalar::{Scalar, Val};
 use lamport_id::Id;
@@ -28,6 +30,7 @@ use presence_set::Role;
 /// Applies an operation for which the nodes are ready.
 pub fn apply(nodes: &mut [Node], aside: Option<Scalar>, op: &Operation)
     requires tree { AreTree nodes.old }
+    requires flags { AreFlagged nodes.old }
     requires ready { AreReady nodes.old op.now }
     requires scalar { aside ≡ scalar_put op.now.mutation }
     requires reference { KnowsReference (facts_of nodes.old) op.now }
@@ -35,6 +38,7 @@ pub fn apply(nodes: &mut [Node], aside: Option<Scalar>, op: &Operation)
     ensures facts { facts_of nodes.new ≡ step_facts (facts_of nodes.old) op.now (covers op.now.front) }
     ensures roles { (q : List Tagged) (j : Key) (i : Id) → role_at nodes.new q j i ≡ step_role (role_at nodes.old) op.now (covers op.now.front) q j i }
     ensures tree { AreTree nodes.new }
+    ensures flags { AreFlagged nodes.new }
 {
     let cursor = op.cursor();
     let id = op.id();
@@ -93,12 +97,14 @@ pub fn element_key(id: &Id) -> Key
 /// Clears a place and what is below it, if it has a node.
 pub fn clear_at(nodes: &mut [Node], path: &[Tagged], key: &Key, front: &Front)
     requires tree { AreTree nodes.old }
+    requires flags { AreFlagged nodes.old }
     ensures facts { facts_of nodes.new ≡ clear_facts_at (facts_of nodes.old) path.now key.now (covers front.now) }
     ensures roles { (q : List Tagged) (j : Key) (i : Id) → role_at nodes.new q j i ≡ (if is_within q j path.now key.now && covers front.now i then None else role_at nodes.old q j i) }
     ensures tree { AreTree nodes.new }
+    ensures flags { AreFlagged nodes.new }
 {
-    if let Some(end) = find(nodes, path, key) {
-        clear_under(nodes, end, front);
+    if let Some(_) = find(nodes, path, key) {
+        clear_way(nodes, path, key, front);
     }
 }
 
@@ -113,6 +119,7 @@ pub fn insert_at(
     scalar: Option<Scalar>,
 )
     requires tree { AreTree nodes.old }
+    requires flags { AreFlagged nodes.old }
     requires list { IsReadyList nodes.old path.now }
     requires reference { ForSome (reference after.now) (Contains ((facts_of nodes.old).order path.now)) }
     requires new { ¬ (Contains ((facts_of nodes.old).order path.now) id.now) }
@@ -120,6 +127,7 @@ pub fn insert_at(
     ensures facts { facts_of nodes.new ≡ put_facts (order_facts (facts_of nodes.old) path.now (λ ids. insert_after id_cmp ids (reference after.now) id.now)) path.now (Element id.now) (covers front.now) id.now scalar }
     ensures roles { (q : List Tagged) (j : Key) (i : Id) → role_at nodes.new q j i ≡ put_role (role_at nodes.old) path.now (Element id.now) (covers front.now) id.now role q j i }
     ensures tree { AreTree nodes.new }
+    ensures flags { AreFlagged nodes.new }
 {
     let at = known_list(nodes, path);
     link(nodes, at, reference_in(after), id);
@@ -138,10 +146,12 @@ pub fn put_at(
     scalar: Option<Scalar>,
 )
     requires tree { AreTree nodes.old }
+    requires flags { (m : NodeNumber) → node_at nodes.old path.now key.now ≡ Some m → AreFlaggedBut nodes.old m }
     requires ready { IsReadyFor nodes.old path.now key.now }
     ensures facts { facts_of nodes.new ≡ put_facts (facts_of nodes.old) path.now key.now (covers front.now) id.now scalar }
     ensures roles { (q : List Tagged) (j : Key) (i : Id) → role_at nodes.new q j i ≡ put_role (role_at nodes.old) path.now key.now (covers front.now) id.now role q j i }
     ensures tree { AreTree nodes.new }
+    ensures flags { AreFlagged nodes.new }
 {
     let end = known_node(nodes, path, key);
     clear_under(nodes, end, front);
@@ -154,10 +164,12 @@ pub fn put_at(
 /// Adds at a place: makes it and those above it present, and enters a number.
 pub fn add_at(nodes: &mut [Node], path: &[Tagged], key: &Key, id: &Id, n: i64)
     requires tree { AreTree nodes.old }
+    requires flags { AreFlagged nodes.old }
     requires ready { IsReadyFor nodes.old path.now key.now }
     ensures facts { facts_of nodes.new ≡ add_facts (facts_of nodes.old) path.now key.now id.now n }
     ensures roles { (q : List Tagged) (j : Key) (i : Id) → role_at nodes.new q j i ≡ add_role (role_at nodes.old) path.now key.now id.now Counter q j i }
     ensures tree { AreTree nodes.new }
+    ensures flags { AreFlagged nodes.new }
 {
     let end = known_node(nodes, path, key);
     mark_way(nodes, path, key, id, Role::Counter);

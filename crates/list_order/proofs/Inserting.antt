@@ -3,7 +3,6 @@ use Rattle.std.proofs.Common.{◌≡◌, ◌<◌, ◌≤◌, ◌+◌, ℕ, zero,
 use Rattle.std.specs.Option.{ForSome}
 use Rattle.lamport_id.specs.declared.id.Id.{Id}
 use Rattle.crdt_rules.specs.Same.{id_eq}
-use Rattle.lamport_id.specs.Order.{id_cmp}
 use Rattle.list_laws.specs.Order.{insert_after}
 use Rattle.crdt_rules.proofs.SameLaws.{id_decides, eq_from}
 use Rattle.presence_set.specs.ById.{get, put, IsAscending}
@@ -12,9 +11,15 @@ use Rattle.presence_set.proofs.Ascending.{put_ascending}
 use Rattle.list_order.specs.declared.slots.Slot.{Slot}
 use Rattle.list_order.specs.declared.slots.SlotNumber.{SlotNumber}
 use Rattle.list_order.specs.Slots.{slot_at, behind, IsPath, path_from, ids_along, number_along, number_for, passed, linked, linked_first, IsOrder, IsWalk}
+use Rattle.std.proofs.Math.ListN.{get_or-append}
+use Rattle.std.proofs.Math.Seq.{get_or-append_seam}
+use Rattle.list_order.specs.declared.marks.Mark.{Mark}
+use Rattle.list_order.specs.Entries.{absent, entry_cmp, reference}
+use Rattle.list_order.specs.Marks.{mark_at, unmarked, new_mark, entries_along}
+use Rattle.list_order.proofs.Counting.{Along, IsSameMark}
 use Rattle.list_order.proofs.Paths.{path_from-path, walk_from_path, walk-None, path-append}
 use Rattle.list_order.proofs.Placing.{IsCut, IsReference, found, insertion_cuts}
-use Rattle.list_order.proofs.Linking.{IsInserted, inserted, fresh_of, ids_linked, number_linked}
+use Rattle.list_order.proofs.Linking.{IsInserted, inserted, fresh_of, entries_linked, number_linked}
 
 module _ (slots : List Slot) where
   or_later : (id : Id) (here : Bool) (n : SlotNumber) (path : List SlotNumber) → (p : SlotNumber) × (number_along slots path id ≡ Some p)
@@ -63,7 +68,7 @@ module _ {slots : List Slot} {first : Option SlotNumber} {index : List (Id × Sl
   -- a slot that the index gives is one
   pub number_within : (id : Id) (p : SlotNumber) → get index id ≡ Some p → (p.0 < length slots) × IsWalk slots (slot_at slots p).next
   number_within id p e =
-      let f = found slots (path_from slots first) id p (sym (o.exact id) ∙ e) in
+      let f = found slots [] (path_from slots first) id p (sym (o.exact id) ∙ e) in
       let on = path-append slots f.front p f.rest first (subst (λ l. IsPath slots first l) f.parts o.path) in
       let short : length f.rest ≤ length slots = omega (arith, o.every, ap length f.parts, length-append f.front (p ∷ f.rest)) in
       (on.0, walk_from_path slots (slot_at slots p).next f.rest on.1 short)
@@ -85,27 +90,43 @@ module _ {slots : List Slot} {first : Option SlotNumber} {index : List (Id × Sl
   reference_walk (Some id) None e = first_walk
   reference_walk (Some id) (Some p) e = (number_within id p e).1
 
-  module _ (after : Option Id) (known : ForSome after (Contains (ids_along slots (path_from slots first)))) (id : Id)
+  stays : (marks : List Mark) (mark : Mark) → length marks ≡ length slots → (at : Option SlotNumber) (path : List SlotNumber) → IsPath slots at path
+      → Along (IsSameMark marks (marks ++ mark ∷ [])) path
+  stays marks mark marked at [] p = tt
+  stays marks mark marked at (n ∷ path) p =
+      (get_or-append marks (mark ∷ []) unmarked n.0 (omega (arith, p.1, marked)), stays marks mark marked (slot_at slots n).next path p.2)
+
+  module _ (marks : List Mark) (marked : length marks ≡ length slots) (after : Option Id) (known : ForSome after (Contains (ids_along slots (path_from slots first)))) (id : Id)
       (new : number_along slots (path_from slots first) id ≡ None) where
     abbrev pub previous : Option SlotNumber
     previous = passed slots id (number_for index after) (path_from slots (behind slots first (number_for index after)))
 
-    cut : IsCut slots (path_from slots first) None previous (insert_after id_cmp (ids_along slots (path_from slots first)) after id) id
-    cut = insertion_cuts slots first (path_from slots first) o.path (omega (arith, o.every)) after (number_for index after) id (is_reference after known)
+    abbrev pub later : List Mark
+    later = marks ++ new_mark marks previous ∷ []
 
-    made : IsInserted slots first id cut.front cut.rest previous
+    pub cut : IsCut slots marks (path_from slots first) None previous (insert_after entry_cmp (entries_along slots marks (path_from slots first)) (reference after) (absent id)) id
+    cut = insertion_cuts slots marks first (path_from slots first) o.path (omega (arith, o.every)) after (number_for index after) id (is_reference after known)
+
+    pub made : IsInserted slots first id cut.front cut.rest previous
     made = inserted slots first id cut.front cut.rest previous cut.ends (subst (λ l. IsPath slots first l) cut.parts o.path)
 
-    new_path : path_from (linked slots first previous id) (linked_first slots first previous) ≡ cut.front ++ fresh_of slots ∷ cut.rest
+    pub new_path : path_from (linked slots first previous id) (linked_first slots first previous) ≡ cut.front ++ fresh_of slots ∷ cut.rest
     new_path =
         path_from-path (linked slots first previous id) (linked_first slots first previous) (cut.front ++ fresh_of slots ∷ cut.rest) made.path
         (omega (arith, o.every, ap length cut.parts, length-append cut.front cut.rest, length-append cut.front (fresh_of slots ∷ cut.rest), made.slots_are.longer))
 
-    pub ids_inserted : ids_along (linked slots first previous id) (path_from (linked slots first previous id) (linked_first slots first previous))
-        ≡ insert_after id_cmp (ids_along slots (path_from slots first)) after id
-    ids_inserted =
-        ap (ids_along (linked slots first previous id)) new_path
-        ∙ ids_linked made.slots_are first cut.front cut.rest (subst (λ l. IsPath slots first l) cut.parts o.path)
+    -- the marks of the path stay
+    pub marks_stay : Along (IsSameMark marks later) (cut.front ++ cut.rest)
+    marks_stay = stays marks (new_mark marks previous) marked first (cut.front ++ cut.rest) (subst (λ l. IsPath slots first l) cut.parts o.path)
+
+    pub mark_is : mark_at later (fresh_of slots) ≡ new_mark marks previous
+    mark_is = subst (λ n. get_or later n unmarked ≡ new_mark marks previous) marked (get_or-append_seam marks (new_mark marks previous) [] unmarked)
+
+    pub entries_inserted : entries_along (linked slots first previous id) later (path_from (linked slots first previous id) (linked_first slots first previous))
+        ≡ insert_after entry_cmp (entries_along slots marks (path_from slots first)) (reference after) (absent id)
+    entries_inserted =
+        ap (entries_along (linked slots first previous id) later) new_path
+        ∙ entries_linked made.slots_are marks later first cut.front cut.rest (subst (λ l. IsPath slots first l) cut.parts o.path) marks_stay (ap (λ m. m.is_present) mark_is)
         ∙ sym cut.placed
 
     pub order_inserted : (entries : List (Id × SlotNumber)) → entries ≡ put index id (fresh_of slots) → length entries ≡ length index + 1

@@ -7,7 +7,11 @@ use Rattle.crdt_rules.specs.Same.{id_eq}
 use Rattle.crdt_rules.proofs.SameLaws.{id_decides}
 use Rattle.list_order.specs.declared.slots.Slot.{Slot}
 use Rattle.list_order.specs.declared.slots.SlotNumber.{SlotNumber}
-use Rattle.list_order.specs.Slots.{blank, slot_at, IsPath, ids_along, number_along, linked, linked_first}
+use Rattle.list_order.specs.Slots.{blank, slot_at, IsPath, number_along, linked, linked_first}
+use Rattle.list_order.specs.declared.marks.Mark.{Mark}
+use Rattle.list_order.specs.Entries.{absent}
+use Rattle.list_order.specs.Marks.{mark_at, entries_along}
+use Rattle.list_order.proofs.Counting.{Along, IsSameMark}
 use Rattle.list_order.proofs.Paths.{path_unique, path-append}
 use Rattle.list_order.proofs.Placing.{last_of, ends}
 
@@ -62,15 +66,18 @@ module _ {slots new : List Slot} {fresh : SlotNumber} {id : Id} (l : IsLinked sl
           subst (λ o. IsPath new o (front ++ p ∷ fresh ∷ rest)) (sym same) (linked_behind to on (slot_at slots n).next front h.2),
         )
 
-  -- the ids along a path are as they were
-  ids_kept : (at : Option SlotNumber) (path : List SlotNumber) → IsPath slots at path → ids_along new path ≡ ids_along slots path
-  ids_kept at [] p = refl
-  ids_kept at (n ∷ path) p = λ i. l.ids n p.1 i ∷ ids_kept (slot_at slots n).next path p.2 i
+  -- the entries along a path are as they were
+  module _ (marks later : List Mark) where
+    entries_kept : (at : Option SlotNumber) (path : List SlotNumber) → IsPath slots at path → Along (IsSameMark marks later) path
+        → entries_along new later path ≡ entries_along slots marks path
+    entries_kept at [] p s = refl
+    entries_kept at (n ∷ path) p s = λ i. (l.ids n p.1 i, (s.0 i).is_present) ∷ entries_kept (slot_at slots n).next path p.2 s.1 i
 
-  pub ids_linked : (at : Option SlotNumber) (front rest : List SlotNumber) → IsPath slots at (front ++ rest)
-      → ids_along new (front ++ fresh ∷ rest) ≡ ids_along slots front ++ id ∷ ids_along slots rest
-  ids_linked at [] rest p = λ i. l.new_id i ∷ ids_kept at rest p i
-  ids_linked at (n ∷ front) rest p = λ i. l.ids n p.1 i ∷ ids_linked (slot_at slots n).next front rest p.2 i
+    pub entries_linked : (at : Option SlotNumber) (front rest : List SlotNumber) → IsPath slots at (front ++ rest) → Along (IsSameMark marks later) (front ++ rest)
+        → (mark_at later fresh).is_present ≡ false
+        → entries_along new later (front ++ fresh ∷ rest) ≡ entries_along slots marks front ++ absent id ∷ entries_along slots marks rest
+    entries_linked at [] rest p s none = λ i. (l.new_id i, none i) ∷ entries_kept at rest p s i
+    entries_linked at (n ∷ front) rest p s none = λ i. (l.ids n p.1 i, (s.0 i).is_present) ∷ entries_linked (slot_at slots n).next front rest p.2 s.1 none i
 
   number_kept : (at : Option SlotNumber) (path : List SlotNumber) → IsPath slots at path → (i : Id) → number_along new path i ≡ number_along slots path i
   number_kept at [] p i = refl

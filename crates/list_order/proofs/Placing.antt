@@ -10,6 +10,9 @@ use Rattle.list_laws.specs.Order.{place, place_behind, insert_after}
 use Rattle.presence_set.proofs.Ascending.{is_eq-id_cmp}
 use Rattle.list_order.specs.declared.slots.Slot.{Slot}
 use Rattle.list_order.specs.declared.slots.SlotNumber.{SlotNumber}
+use Rattle.list_order.specs.declared.marks.Mark.{Mark}
+use Rattle.list_order.specs.Entries.{ids_of, absent, entry_cmp, reference as reference_entry}
+use Rattle.list_order.specs.Marks.{mark_at, entries_along}
 use Rattle.list_order.specs.Slots.{slot_at, behind, IsPath, path_from, ids_along, number_along, passed}
 use Rattle.list_order.proofs.Paths.{path_from-path, path-append}
 
@@ -32,33 +35,39 @@ ends previous n (m ∷ path) =
     (n ∷ rest.0, rest.1, ap (λ l. n ∷ l) rest.2, rest.3)
 
 module _ (slots : List Slot) where
-  ids-append : (xs ys : List SlotNumber) → ids_along slots (xs ++ ys) ≡ ids_along slots xs ++ ids_along slots ys
+  -- the slot of the id that an insertion refers to
+  abbrev pub IsReference : List SlotNumber → Option Id → Option SlotNumber → Type 0
+  IsReference path None reference = reference ≡ None
+  IsReference path (Some id) reference = (p : SlotNumber) × (reference ≡ Some p) × (number_along slots path id ≡ Some p)
+
+module _ (slots : List Slot) (marks : List Mark) where
+  ids-append : (xs ys : List SlotNumber) → entries_along slots marks (xs ++ ys) ≡ entries_along slots marks xs ++ entries_along slots marks ys
   ids-append [] ys = refl
-  ids-append (x ∷ xs) ys = ap (λ l. (slot_at slots x).id ∷ l) (ids-append xs ys)
+  ids-append (x ∷ xs) ys = ap (λ l. ((slot_at slots x).id, (mark_at marks x).is_present) ∷ l) (ids-append xs ys)
 
   -- the scan cuts the path where `place` puts the id
-  pub record IsCut (path : List SlotNumber) (previous last : Option SlotNumber) (ids : List Id) (id : Id) : Type 0 where
+  pub record IsCut (path : List SlotNumber) (previous last : Option SlotNumber) (entries : List (Id × Bool)) (id : Id) : Type 0 where
     pub front : List SlotNumber
     pub rest : List SlotNumber
     pub parts : path ≡ front ++ rest
     pub ends : last_of previous front ≡ last
-    pub placed : ids ≡ ids_along slots front ++ id ∷ ids_along slots rest
+    pub placed : entries ≡ entries_along slots marks front ++ absent id ∷ entries_along slots marks rest
 
   passed-place : (path : List SlotNumber) (previous : Option SlotNumber) (id : Id)
-      → IsCut path previous (passed slots id previous path) (place id_cmp (ids_along slots path) id) id
+      → IsCut path previous (passed slots id previous path) (place entry_cmp (entries_along slots marks path) (absent id)) id
   passed-place [] previous id = record { front = []; rest = []; parts = refl; ends = refl; placed = refl }
   passed-place (n ∷ path) previous id = by (is_lt (id_cmp (slot_at slots n).id id)) (passed-place path (Some n) id)
     where
-      by : (less : Bool) → IsCut path (Some n) (passed slots id (Some n) path) (place id_cmp (ids_along slots path) id) id
+      by : (less : Bool) → IsCut path (Some n) (passed slots id (Some n) path) (place entry_cmp (entries_along slots marks path) (absent id)) id
           → IsCut (n ∷ path) previous (if less then previous else passed slots id (Some n) path)
-          (if less then id ∷ ids_along slots (n ∷ path) else (slot_at slots n).id ∷ place id_cmp (ids_along slots path) id) id
+          (if less then absent id ∷ entries_along slots marks (n ∷ path) else ((slot_at slots n).id, (mark_at marks n).is_present) ∷ place entry_cmp (entries_along slots marks path) (absent id)) id
       by true cut = record { front = []; rest = n ∷ path; parts = refl; ends = refl; placed = refl }
       by false cut = record {
         front = n ∷ cut.front;
         rest = cut.rest;
         parts = ap (λ l. n ∷ l) cut.parts;
         ends = cut.ends;
-        placed = ap (λ l. (slot_at slots n).id ∷ l) cut.placed;
+        placed = ap (λ l. ((slot_at slots n).id, (mark_at marks n).is_present) ∷ l) cut.placed;
       }
 
   -- the slot of an id stands on the path, and `place_behind` places behind it
@@ -66,7 +75,7 @@ module _ (slots : List Slot) where
     pub front : List SlotNumber
     pub rest : List SlotNumber
     pub parts : path ≡ front ++ p ∷ rest
-    pub placed : (new : Id) → place_behind id_cmp (ids_along slots path) id new ≡ ids_along slots front ++ (slot_at slots p).id ∷ place id_cmp (ids_along slots rest) new
+    pub placed : (new : Id) → place_behind entry_cmp (entries_along slots marks path) (absent id) (absent new) ≡ entries_along slots marks front ++ ((slot_at slots p).id, (mark_at marks p).is_present) ∷ place entry_cmp (entries_along slots marks rest) (absent new)
 
   pub found : (path : List SlotNumber) (id : Id) (p : SlotNumber) → number_along slots path id ≡ Some p → IsFound path id p
   found [] id p h = absurd (cc)
@@ -80,7 +89,7 @@ module _ (slots : List Slot) where
             front = [];
             rest = path;
             parts = ap (λ m. m ∷ path) same;
-            placed = λ new. rw (is_eq-id_cmp (slot_at slots n).id id, is) (ap (λ m. (slot_at slots m).id ∷ place id_cmp (ids_along slots path) new) same);
+            placed = λ new. rw (is_eq-id_cmp (slot_at slots n).id id, is) (ap (λ m. ((slot_at slots m).id, (mark_at marks m).is_present) ∷ place entry_cmp (entries_along slots marks path) (absent new)) same);
           }
       by false is e ih =
           let f = ih e in
@@ -88,18 +97,13 @@ module _ (slots : List Slot) where
             front = n ∷ f.front;
             rest = f.rest;
             parts = ap (λ l. n ∷ l) f.parts;
-            placed = λ new. rw (is_eq-id_cmp (slot_at slots n).id id, is) (ap (λ l. (slot_at slots n).id ∷ l) (f.placed new));
+            placed = λ new. rw (is_eq-id_cmp (slot_at slots n).id id, is) (ap (λ l. ((slot_at slots n).id, (mark_at marks n).is_present) ∷ l) (f.placed new));
           }
-
-  -- the slot of the id that an insertion refers to
-  abbrev pub IsReference : List SlotNumber → Option Id → Option SlotNumber → Type 0
-  IsReference path None reference = reference ≡ None
-  IsReference path (Some id) reference = (p : SlotNumber) × (reference ≡ Some p) × (number_along slots path id ≡ Some p)
 
   -- where an insertion cuts the path
   pub insertion_cuts : (first : Option SlotNumber) (path : List SlotNumber) → IsPath slots first path → length path ≤ length slots
-      → (after : Option Id) (reference : Option SlotNumber) (id : Id) → IsReference path after reference
-      → IsCut path None (passed slots id reference (path_from slots (behind slots first reference))) (insert_after id_cmp (ids_along slots path) after id) id
+      → (after : Option Id) (reference : Option SlotNumber) (id : Id) → IsReference slots path after reference
+      → IsCut path None (passed slots id reference (path_from slots (behind slots first reference))) (insert_after entry_cmp (entries_along slots marks path) (reference_entry after) (absent id)) id
   insertion_cuts first path p short None reference id h =
       let all : path_from slots (behind slots first reference) ≡ path = ap (λ r. path_from slots (behind slots first r)) h ∙ path_from-path slots first path p short in
       let cut = passed-place path None id in
@@ -125,17 +129,22 @@ module _ (slots : List Slot) where
         ends = last_of-append None f.front previous cut.front ∙ cut.ends ∙ (λ i. passed slots id (sym h.1 i) (sym all i));
         placed =
             f.placed id
-            ∙ ap (λ l. ids_along slots f.front ++ (slot_at slots previous).id ∷ l) cut.placed
-            ∙ sym (append_assoc (ids_along slots f.front) (ids_along slots (previous ∷ cut.front)) (id ∷ ids_along slots cut.rest))
-            ∙ ap (λ l. l ++ id ∷ ids_along slots cut.rest) (sym (ids-append f.front (previous ∷ cut.front)));
+            ∙ ap (λ l. entries_along slots marks f.front ++ ((slot_at slots previous).id, (mark_at marks previous).is_present) ∷ l) cut.placed
+            ∙ sym (append_assoc (entries_along slots marks f.front) (entries_along slots marks (previous ∷ cut.front)) (absent id ∷ entries_along slots marks cut.rest))
+            ∙ ap (λ l. l ++ absent id ∷ entries_along slots marks cut.rest) (sym (ids-append f.front (previous ∷ cut.front)));
       }
 
   -- an id has a slot where it is on the path
-  pub is_some-number_along : (path : List SlotNumber) (id : Id) → is_some (number_along slots path id) ≡ list_any (λ x. id_eq x id) (ids_along slots path)
+  pub is_some-number_along : (path : List SlotNumber) (id : Id) → is_some (number_along slots path id) ≡ list_any (λ e. id_eq e.0 id) (entries_along slots marks path)
   is_some-number_along [] id = refl
   is_some-number_along (n ∷ path) id = by (id_eq (slot_at slots n).id id) (is_some-number_along path id)
     where
-      by : (here : Bool) → is_some (number_along slots path id) ≡ list_any (λ x. id_eq x id) (ids_along slots path)
-          → is_some (if here then Some n else number_along slots path id) ≡ (here || list_any (λ x. id_eq x id) (ids_along slots path))
+      by : (here : Bool) → is_some (number_along slots path id) ≡ list_any (λ e. id_eq e.0 id) (entries_along slots marks path)
+          → is_some (if here then Some n else number_along slots path id) ≡ (here || list_any (λ e. id_eq e.0 id) (entries_along slots marks path))
       by true ih = refl
       by false ih = ih
+
+  -- the ids of the entries
+  pub ids_of-entries : (path : List SlotNumber) → ids_of (entries_along slots marks path) ≡ ids_along slots path
+  ids_of-entries [] = refl
+  ids_of-entries (n ∷ path) = ap (λ l. (slot_at slots n).id ∷ l) (ids_of-entries path)

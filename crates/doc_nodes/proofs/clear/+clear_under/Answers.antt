@@ -1,28 +1,38 @@
-use Rattle.std.proofs.Common.{◌≡◌, ◌∙◌, sym, ap, subst, set, length, get_or, Some, arith}
+use Rattle.std.proofs.Common.{◌≡◌, ◌<◌, List, refl, ◌∙◌, inl, inr, ⊎_elim, sym, ap, subst, set, length, get_or, Some, arith}
 use Rattle.std.proofs.lemmas.List.{get_or_default, get_or-set_same, length-set}
-use Rattle.op_core.specs.declared.cursor.Key.TheVariants.{Head}
-use Rattle.doc_nodes.specs.Children.{number_at}
+use Rattle.op_core.specs.declared.cursor.Key.{Key}
+use Rattle.op_core.specs.declared.cursor.Key.TheVariants.{Element, Head}
+use Rattle.doc_nodes.specs.declared.node.NodeNumber.{NodeNumber}
+use Rattle.doc_nodes.specs.Children.{element_of, number_at}
 use Rattle.doc_nodes.specs.Walk.{IsTree}
-use Rattle.doc_nodes.specs.Nodes.{blank, node_of, child_of, cleared}
+use Rattle.doc_nodes.specs.Nodes.{blank, node_of, child_of, cleared, ClearsUnder, AreTree}
+use Rattle.doc_nodes.specs.Flags.{plain, told, IsFlagged, IsFlaggedBut}
 use Rattle.doc_nodes.proofs.Clearing.{none_yet, one_more, all_done, same_children}
+use Rattle.doc_nodes.proofs.Plain.{node_of-plain, length-plain, shape_of-plain, write-plain, told-plain, tree_same}
+use Rattle.doc_nodes.proofs.Flagging.{flag-set, told-but, told-shape}
 use Rattle.doc_nodes.proofs.clear.+clear_under.Goals as goal
 
 pub loop-i-init : goal.loop-i-init
 loop-i-init t c =
     let nodes = c.args.nodes.now in
-    let is : c.clear.new.self ≡ cleared c.args.front.now (node_of nodes c.args.at) =
-    c.clear.ensures ∙ ap (cleared c.args.front.now) (get_or_default nodes c.args.at.0 c.index-nodes-at.result blank c.requires.known) in (
-      none_yet c.args.front.now nodes (set nodes c.args.at.0 c.clear.new.self) c.args.at c.requires.known (ap (set nodes c.args.at.0) is),
+    let front = c.args.front.now in
+    let is : c.clear.new.self ≡ cleared front (node_of nodes c.args.at) =
+    c.clear.ensures ∙ ap (cleared front) (get_or_default nodes c.args.at.0 c.index-nodes-at.result blank c.requires.known) in (
+      none_yet front (plain nodes) (plain (set nodes c.args.at.0 c.clear.new.self)) c.args.at
+          (subst (λ z. c.args.at.0 < z) (sym (length-plain nodes)) c.requires.known)
+          (ap (λ z. plain (set nodes c.args.at.0 z)) is ∙ write-plain nodes c.args.at (cleared front) (λ z. refl)),
       c.len-count.ensures ∙ ap (λ z. length z.children) (get_or-set_same nodes c.args.at.0 c.clear.new.self c.index-nodes-at-2.result c.requires.known ∙ is),
+      λ n i right.
+          subst (λ z. IsFlaggedBut (set nodes c.args.at.0 z) c.args.at n i) (sym is)
+          (flag-set nodes c.args.at c.requires.known (cleared front (node_of nodes c.args.at)) refl refl n i right),
     )
 
 pub clear_under-requires : goal.clear_under-requires
 clear_under-requires t c =
     let now = c.loop-i.nodes in
     let same_length : length now ≡ length c.args.nodes.now = c.loop-i.auto.nodes ∙ length-set c.args.nodes.now c.args.at.0 c.clear.new.self in
-    let shape = same_children c.args.front.now c.args.nodes.now now c.loop-i.invariant.0.each in
-    let tree : IsTree (child_of now) (length now) =
-    subst (λ f. IsTree f (length now)) (sym shape) (subst (λ n. IsTree (child_of c.args.nodes.now) n) (sym same_length) c.requires.tree) in
+    let shape = shape_of-plain c.args.nodes.now now (same_children c.args.front.now (plain c.args.nodes.now) (plain now) c.loop-i.invariant.0.each) in
+    let tree = tree_same c.args.nodes.now now same_length shape c.requires.tree in
     let kids = ap (λ z. z.children) (get_or_default now c.args.at.0 c.index-nodes-at-in-loop-i.result blank (omega arith)) in
     let key = (get_or (get_or c.loop-i.nodes c.args.at.0 c.index-nodes-at-in-loop-i.result).children c.loop-i.i (Head, c.number-child.result)).0 in
     let found : child_of now c.args.at key ≡ Some c.number-child.result =
@@ -31,22 +41,57 @@ clear_under-requires t c =
     let within = tree.within c.args.at key c.number-child.result found in
     (omega (arith, rises, within, same_length), (tree, within))
 
+pub tell-requires-clause-child : goal.tell-requires-clause-child
+tell-requires-clause-child t c =
+    let now = c.loop-i.nodes in
+    let same_length : length now ≡ length c.args.nodes.now = c.loop-i.auto.nodes ∙ length-set c.args.nodes.now c.args.at.0 c.clear.new.self in
+    let shape = shape_of-plain c.args.nodes.now now (same_children c.args.front.now (plain c.args.nodes.now) (plain now) c.loop-i.invariant.0.each) in
+    let tree = tree_same c.args.nodes.now now same_length shape c.requires.tree in
+    let kids = ap (λ z. z.children) (get_or_default now c.args.at.0 c.index-nodes-at-in-loop-i.result blank (omega (arith, same_length))) in
+    let key = (get_or (get_or c.loop-i.nodes c.args.at.0 c.index-nodes-at-in-loop-i.result).children c.loop-i.i (Head, c.number-child.result)).0 in
+    let found : child_of now c.args.at key ≡ Some c.number-child.result =
+    ap (λ cs. number_at cs key) (sym kids) ∙ c.number-child.ensures.found (Head, c.number-child.result) in
+    let within = tree.within c.args.at key c.number-child.result found in
+    omega (arith, within, c.clear_under.auto.nodes)
+
 pub loop-i-preserved : goal.loop-i-preserved
 loop-i-preserved t c =
+    let front = c.args.front.now in
     let old = c.args.nodes.now in
-    let kids : (get_or c.loop-i.nodes c.args.at.0 c.index-nodes-at-in-loop-i.result).children ≡ (node_of old c.args.at).children =
-    ap (λ z. z.children) (get_or_default c.loop-i.nodes c.args.at.0 c.index-nodes-at-in-loop-i.result blank
-    (omega (arith, c.loop-i.auto.nodes, length-set old c.args.at.0 c.clear.new.self)) ∙ c.loop-i.invariant.0.here) in
-    let key = (get_or (get_or c.loop-i.nodes c.args.at.0 c.index-nodes-at-in-loop-i.result).children c.loop-i.i (Head, c.number-child.result)).0 in (
-      one_more c.args.front.now old c.loop-i.nodes c.args.at c.clear_under.new.nodes c.loop-i.i c.number-child.result c.loop-i.invariant.0
-          (omega (arith, c.loop-i.invariant.1))
+    let now = c.loop-i.nodes in
+    let mid = c.clear_under.new.nodes in
+    let at = c.args.at in
+    let child = c.number-child.result in
+    let same_length : length now ≡ length old = c.loop-i.auto.nodes ∙ length-set old at.0 c.clear.new.self in
+    let read = ap (λ z. z.children) (get_or_default now at.0 c.index-nodes-at-in-loop-i.result blank (omega (arith, same_length))) in
+    let kids : (get_or now at.0 c.index-nodes-at-in-loop-i.result).children ≡ (node_of (plain old) at).children =
+    read ∙ ap (λ z. z.children) (sym (node_of-plain now at)) ∙ ap (λ z. z.children) c.loop-i.invariant.0.here in
+    let key = (get_or (get_or now at.0 c.index-nodes-at-in-loop-i.result).children c.loop-i.i (Head, child)).0 in
+    let found : child_of now at key ≡ Some child = ap (λ cs. number_at cs key) (sym read) ∙ c.number-child.ensures.found (Head, child) in
+    let first_shape = shape_of-plain old now (same_children front (plain old) (plain now) c.loop-i.invariant.0.each) in
+    let shape = shape_of-plain now mid (same_children front (plain now) (plain mid) c.clear_under.ensures.clears.each) in
+    let mid_length : length mid ≡ length old = c.clear_under.auto.nodes ∙ same_length in
+    let tree = tree_same old mid mid_length (shape ∙ first_shape) c.requires.tree in
+    let again = ap (λ z. z.children) (get_or_default now at.0 c.index-nodes-at-in-loop-i-2.result blank (omega (arith, same_length))) in
+    let element : c.element-element.result ≡ element_of key =
+    c.element-element.ensures (Head, child) ∙ ap (λ (cs : List (Key × NodeNumber)). element_of (get_or cs c.loop-i.i (Head, child)).0) (again ∙ sym read) in
+    let is : c.tell.new.nodes ≡ told mid at (element_of key) child = c.tell.ensures ∙ ap (λ e. told mid at e child) element in
+    let within : at.0 < length mid = omega (arith, mid_length) in (
+      one_more front (plain old) (plain now) at (plain c.tell.new.nodes) c.loop-i.i child c.loop-i.invariant.0
+          (omega (arith, c.loop-i.invariant.1, ap (λ z. length z.children) (node_of-plain old at)))
           (λ d. ap (λ cs. (get_or cs c.loop-i.i d).1) (sym kids) ∙ c.number-child.ensures.value d)
           key
-          (ap (λ cs. number_at cs key) (sym kids) ∙ c.number-child.ensures.found (Head, c.number-child.result))
-          c.clear_under.ensures,
+          (ap (λ cs. number_at cs key) (sym kids) ∙ c.number-child.ensures.found (Head, child))
+          (subst (λ l. ClearsUnder front (plain now) l child) (sym (ap plain is ∙ told-plain mid at (element_of key) child)) c.clear_under.ensures.clears),
       c.loop-i.invariant.1,
+      λ n i right. ⊎_elim
+          (λ there. inl (ap (λ f. f n (Element i)) (ap child_of is ∙ told-shape mid at within child (element_of key) ∙ shape) ∙ there))
+          (λ still. inr (subst (λ l. IsFlagged l n i) (sym is)
+          (told-but mid at within child tree key (ap (λ f. f at key) shape ∙ found) n i (c.clear_under.ensures.flags n i still))))
+          (c.loop-i.invariant.2 n i right),
     )
 
-pub returns : goal.returns
-returns t c =
-    all_done c.args.front.now c.args.nodes.now c.loop-i.nodes c.args.at c.loop-i.i c.loop-i.invariant.0 (omega (arith, c.loop-i.invariant.1))
+pub returns-clause-clears : goal.returns-clause-clears
+returns-clause-clears t c =
+    all_done c.args.front.now (plain c.args.nodes.now) (plain c.loop-i.nodes) c.args.at c.loop-i.i c.loop-i.invariant.0
+    (omega (arith, c.loop-i.invariant.1, ap (λ z. length z.children) (node_of-plain c.args.nodes.now c.args.at)))

@@ -8,4 +8,4 @@ use Rattle.doc_tree.proofs.tree.Tree.child_of.Goals as goal
 pub returns-in-Some-clause-deeper : goal.returns-in-Some-clause-deeper
 returns-in-Some-clause-deeper c = λ x is.
     let value : c.find.result ≡ child_of c.args.self.now.0 c.args.at c.args.key.now = search rules in
-    child_deeper c.args.self.now.0 (subst (λ (t : List Node × Option Scalar). AreTree t.0) c.self.view_is c.self.invariant) c.args.at c.args.key.now x (sym value ∙ is)
+    child_deeper c.args.self.now.0 (subst (λ (t : List Node × Option Scalar). AreTree t.0) c.self.view_is c.self.invariant.0) c.args.at c.args.key.now x (sym value ∙ is)

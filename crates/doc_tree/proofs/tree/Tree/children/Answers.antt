@@ -17,7 +17,7 @@ index-requires c =
     let found : node_at nodes c.args.path.now c.args.key.now ≡ Some c.in-Some.at =
     ap (λ p. node_at nodes p c.args.key.now) (sym c.keys.ensures)
     ∙ ap (λ l. node_at l c.keys.result.now c.args.key.now) (sym c.as_slice.ensures.value) ∙ sym c.find.ensures ∙ c.in-Some.is in
-    subst (λ n. c.in-Some.at.0 < n) (sym c.self.inside.nodes.ok.0) (node_within nodes c.self.invariant c.args.path.now c.args.key.now c.in-Some.at found)
+    subst (λ n. c.in-Some.at.0 < n) (sym c.self.inside.nodes.ok.0) (node_within nodes c.self.invariant.0 c.args.path.now c.args.key.now c.in-Some.at found)
 
 pub returns-in-None-clause-map : goal.returns-in-None-clause-map
 returns-in-None-clause-map c = λ text i there.
@@ -41,7 +41,7 @@ returns-in-Some-clause-map c = λ text i there.
     ∙ ap (λ l. node_at l c.keys.result.now c.args.key.now) (sym c.as_slice.ensures.value) ∙ sym c.find.ensures ∙ c.in-Some.is in
     let read : c.index.result.now ≡ node_of nodes c.in-Some.at =
     c.index.ensures
-    ∙ get_or_default nodes c.in-Some.at.0 c.index.result.now blank (node_within nodes c.self.invariant p k c.in-Some.at found) in
+    ∙ get_or_default nodes c.in-Some.at.0 c.index.result.now blank (node_within nodes c.self.invariant.0 p k c.in-Some.at found) in
     let child = present_child nodes p k text i (subst (λ t. (tree_facts t).present (p ++ Map k ∷ []) (Text text) i ≡ true) (sym c.self.view_is) there) in
     let same = same_node nodes (node_at nodes p k) child.0 c.in-Some.at child.2 found in
     let at : child_of nodes c.in-Some.at (Text text) ≡ Some child.1 = subst (λ n. child_of nodes n (Text text) ≡ Some child.1) same child.3 in (
@@ -71,7 +71,7 @@ returns-in-Some-clause-members c = λ text.
     ∙ ap (λ l. node_at l c.keys.result.now c.args.key.now) (sym c.as_slice.ensures.value) ∙ sym c.find.ensures ∙ c.in-Some.is in
     let read : c.index.result.now ≡ node_of nodes c.in-Some.at =
     c.index.ensures
-    ∙ get_or_default nodes c.in-Some.at.0 c.index.result.now blank (node_within nodes c.self.invariant p k c.in-Some.at found) in
+    ∙ get_or_default nodes c.in-Some.at.0 c.index.result.now blank (node_within nodes c.self.invariant.0 p k c.in-Some.at found) in
     ap (λ l. number_at l (Text text)) (c.entries.ensures.value ∙ ap (λ z. z.children) read)
     ∙ sym (number-into nodes p (Map k) (Text text) refl ∙ ap (option_and_then (λ n. child_of nodes n (Text text))) found)
     ∙ ap (λ t. tree_number t (p ++ Map k ∷ []) (Text text)) c.self.view_is
@@ -97,7 +97,7 @@ returns-in-Some-clause-elements c = λ i.
     ∙ ap (λ l. node_at l c.keys.result.now c.args.key.now) (sym c.as_slice.ensures.value) ∙ sym c.find.ensures ∙ c.in-Some.is in
     let read : c.index.result.now ≡ node_of nodes c.in-Some.at =
     c.index.ensures
-    ∙ get_or_default nodes c.in-Some.at.0 c.index.result.now blank (node_within nodes c.self.invariant p k c.in-Some.at found) in
+    ∙ get_or_default nodes c.in-Some.at.0 c.index.result.now blank (node_within nodes c.self.invariant.0 p k c.in-Some.at found) in
     ap (λ l. number_at l (Element i)) (c.entries.ensures.value ∙ ap (λ z. z.children) read)
     ∙ sym (number-into nodes p (ListAt k) (Element i) refl ∙ ap (option_and_then (λ n. child_of nodes n (Element i))) found)
     ∙ ap (λ t. tree_number t (p ++ ListAt k ∷ []) (Element i)) c.self.view_is

@@ -9,5 +9,5 @@ pub returns-clause-deep : goal.returns-clause-deep
 returns-clause-deep c = λ p k i here.
     let nodes = c.self.inside.nodes.items in
     let deep : length p < length nodes =
-    present_deep nodes c.self.invariant p k i (ap (λ (t : List Node × Option Scalar). (tree_facts t).present p k i) c.self.view_is ∙ here) in
+    present_deep nodes c.self.invariant.0 p k i (ap (λ (t : List Node × Option Scalar). (tree_facts t).present p k i) c.self.view_is ∙ here) in
     omega (arith, deep, c.len.ensures, c.self.inside.nodes.ok.0)

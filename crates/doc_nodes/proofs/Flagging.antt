@@ -1,0 +1,185 @@
+-- Lists tell which of their elements are present, after each write.
+use Rattle.std.proofs.Common.{◌≡◌, ◌≢◌, ◌<◌, List, length, set, get_or, Bool, true, false, Option, Some, None, ◌⊎◌, inl, inr, ⊎_elim, refl, sym, ap, ◌∙◌, subst, true≢false, arith, Contains}
+use Rattle.std.proofs.lemmas.Bool.{cases_eq, cases_lt}
+use Rattle.std.proofs.lemmas.List.{get_or_past}
+use Rattle.lamport_id.specs.declared.id.Id.{Id}
+use Rattle.op_core.specs.declared.cursor.Key.{Key}
+use Rattle.op_core.specs.declared.cursor.Key.TheVariants.{Doc, Text, Element, Head}
+use Rattle.crdt_rules.specs.Same.{id_eq}
+use Rattle.crdt_rules.proofs.SameLaws.{id_decides, eq_from}
+use Rattle.doc_words.specs.declared.role.Role.{Role}
+use Rattle.list_order.specs.Entries.{with_presence}
+use Rattle.list_order.proofs.Entries.{entry-with, entry-insert}
+use Rattle.doc_nodes.specs.declared.node.NodeNumber.{NodeNumber}
+use Rattle.doc_nodes.specs.declared.node.Node.{Node}
+use Rattle.doc_nodes.specs.Children.{element_of}
+use Rattle.doc_nodes.specs.Walk.{root}
+use Rattle.doc_nodes.specs.Nodes.{blank, node_of, child_of, AreTree}
+use Rattle.doc_nodes.specs.Marks.{marked}
+use Rattle.doc_nodes.specs.Writes.{with_entry}
+use Rattle.doc_nodes.specs.Growth.{Grows}
+use Rattle.doc_nodes.specs.Flags.{is_some_entry, stands, flagged, told, IsFlagged, IsFlaggedBut, AreFlagged, AreFlaggedBut}
+use Rattle.doc_nodes.proofs.Marking.{here-set, other-set, eq_number, shape-set}
+use Rattle.doc_nodes.proofs.WriteFacts.{unwritten}
+
+-- where the list says the same, and the child stands as it did
+flag_kept : (old new : List Node) (n : NodeNumber) (i : Id) → (node_of new n).order.0 ≡ (node_of old n).order.0
+    → stands new (child_of new n (Element i)) ≡ stands old (child_of old n (Element i)) → IsFlagged old n i → IsFlagged new n i
+flag_kept old new n i order same right is c = right is (subst (λ l. Contains l (i, is)) order c) ∙ sym same
+
+-- growth changes nothing of that
+module _ (old new : List Node) (grows : Grows old new) where
+  same_stands : (n : NodeNumber) (k : Key) → stands new (child_of new n k) ≡ stands old (child_of old n k)
+  same_stands n k = go (child_of old n k) refl (child_of new n k) refl
+    where
+      go : (a : Option NodeNumber) → child_of old n k ≡ a → (b : Option NodeNumber) → child_of new n k ≡ b → stands new b ≡ stands old a
+      go (Some c) e b f =
+          let both : ◌≡◌ {A = Option NodeNumber} b (Some c) = sym f ∙ grows.forward n k c e in
+          ap (stands new) both ∙ ap is_some_entry (grows.presence c)
+      go None e None f = refl
+      go None e (Some c) f = ⊎_elim
+          (λ l. let both : ◌≡◌ {A = Option NodeNumber} None (Some c) = sym e ∙ grows.back n k c f l in absurd (cc))
+          (λ l. ap is_some_entry (grows.presence c) ∙ ap (λ z. is_some_entry z.presence.0) (get_or_past old c.0 blank l))
+          (cases_lt c.0 (length old))
+
+  pub flagged-grown : AreFlagged old → AreFlagged new
+  flagged-grown right n i = flag_kept old new n i (grows.order n) (same_stands n (Element i)) (right n i)
+
+-- a write to a node that leaves its list and its children
+module _ (nodes : List Node) (at : NodeNumber) (within : at.0 < length nodes) (node : Node) (shape : node.children ≡ (node_of nodes at).children)
+    (order : node.order.0 ≡ (node_of nodes at).order.0) where
+  -- leaves what is told of others
+  pub flag-set : (n : NodeNumber) (i : Id) → IsFlagged nodes n i → IsFlaggedBut (set nodes at.0 node) at n i
+  flag-set n i right = go (child_of nodes n (Element i)) refl
+    where
+      child : child_of (set nodes at.0 node) n (Element i) ≡ child_of nodes n (Element i)
+      child = ap (λ f. f n (Element i)) (shape-set nodes at node within shape)
+
+      kept : stands (set nodes at.0 node) (child_of nodes n (Element i)) ≡ stands nodes (child_of nodes n (Element i)) → IsFlagged (set nodes at.0 node) n i
+      kept same = flag_kept nodes (set nodes at.0 node) n i (unwritten nodes at within (λ z. z.order.0) node order n) (ap (stands (set nodes at.0 node)) child ∙ same) right
+
+      go : (o : Option NodeNumber) → child_of nodes n (Element i) ≡ o → IsFlaggedBut (set nodes at.0 node) at n i
+      go None e = inr (kept (ap (stands (set nodes at.0 node)) e ∙ ap (stands nodes) (sym e)))
+      go (Some c) e = ⊎_elim
+          (λ here. inl (child ∙ e ∙ ap Some (eq_number c at here)))
+          (λ apart. inr (kept (ap (stands (set nodes at.0 node)) e ∙ ap (λ z. is_some_entry z.presence.0) (other-set nodes at c node apart) ∙ ap (stands nodes) (sym e))))
+          (cases_eq c.0 at.0)
+
+  -- and of the node too, where it stands as it did
+  pub flags-set : node.presence ≡ (node_of nodes at).presence → AreFlagged nodes → AreFlagged (set nodes at.0 node)
+  flags-set presence right n i =
+      flag_kept nodes (set nodes at.0 node) n i (unwritten nodes at within (λ z. z.order.0) node order n)
+      (ap (stands (set nodes at.0 node)) (ap (λ f. f n (Element i)) (shape-set nodes at node within shape)) ∙ go (child_of nodes n (Element i)))
+      (right n i)
+    where
+      go : (o : Option NodeNumber) → stands (set nodes at.0 node) o ≡ stands nodes o
+      go None = refl
+      go (Some c) = ap (λ p. is_some_entry p.0) (unwritten nodes at within (λ z. z.presence) node presence c)
+
+-- the list of a node tells anew of a child
+module _ (nodes : List Node) (at : NodeNumber) (within : at.0 < length nodes) (child : NodeNumber) where
+  pub told-shape : (element : Option Id) → child_of (told nodes at element child) ≡ child_of nodes
+  told-shape None = refl
+  told-shape (Some id) = shape-set nodes at (flagged id (stands nodes (Some child)) (node_of nodes at)) within refl
+
+  module _ (id : Id) (found : child_of nodes at (Element id) ≡ Some child) where
+    abbrev node : Node
+    node = flagged id (stands nodes (Some child)) (node_of nodes at)
+
+    same_stands-told : (n : NodeNumber) (i : Id) → stands (set nodes at.0 node) (child_of (set nodes at.0 node) n (Element i)) ≡ stands nodes (child_of nodes n (Element i))
+    same_stands-told n i = ap (λ f. stands (set nodes at.0 node) (f n (Element i))) (shape-set nodes at node within refl) ∙ go (child_of nodes n (Element i))
+      where
+        go : (o : Option NodeNumber) → stands (set nodes at.0 node) o ≡ stands nodes o
+        go None = refl
+        go (Some c) = ap (λ p. is_some_entry p.0) (unwritten nodes at within (λ z. z.presence) node refl c)
+
+    -- at the node
+    flag-here : (i : Id) → IsFlagged nodes at i ⊎ (id ≡ i) → IsFlagged (set nodes at.0 node) at i
+    flag-here i right is c =
+        ⊎_elim
+        (λ h. h.1 ∙ ap (stands nodes) (sym found) ∙ ap (λ z. stands nodes (child_of nodes at (Element z))) (sym (id_decides.same i id h.0)) ∙ sym (same_stands-told at i))
+        (λ h. ⊎_elim
+        (λ before. before is h.1 ∙ sym (same_stands-told at i))
+        (λ same. absurd (true≢false (sym (eq_from id_decides i id (sym same)) ∙ h.0)))
+        right)
+        (entry-with (node_of nodes at).order.0 id (stands nodes (Some child)) i is (subst (λ z. Contains z.order.0 (i, is)) (here-set nodes at node within) c))
+
+    flag-told : (n : NodeNumber) (i : Id) → IsFlagged nodes n i ⊎ ((n ≡ at) × (id ≡ i)) → IsFlagged (set nodes at.0 node) n i
+    flag-told n i right = ⊎_elim
+        (λ here.
+        let same = eq_number n at here in
+        subst (λ z. IsFlagged (set nodes at.0 node) z i) (sym same)
+        (flag-here i (⊎_elim (λ before. inl (subst (λ z. IsFlagged nodes z i) same before)) (λ h. inr h.1) right)))
+        (λ apart. ⊎_elim
+        (λ before. flag_kept nodes (set nodes at.0 node) n i (ap (λ z. z.order.0) (other-set nodes at n node apart)) (same_stands-told n i) before)
+        (λ h. absurd (apart (ap (λ z. z.0) h.0)))
+        right)
+        (cases_eq n.0 at.0)
+
+  -- then what was told of all but the child is right for all
+  pub told-but : AreTree nodes → (k : Key) → child_of nodes at k ≡ Some child → (n : NodeNumber) (i : Id) → IsFlaggedBut nodes child n i
+      → IsFlagged (told nodes at (element_of k) child) n i
+  told-but tree k found n i (inl there) = let one = tree.unique n at (Element i) k child there found in at_key k found one.0 one.1
+    where
+      at_key : (k : Key) → child_of nodes at k ≡ Some child → n ≡ at → Element i ≡ k → IsFlagged (told nodes at (element_of k) child) n i
+      at_key (Element id) found here same = flag-told id found n i (inr (here, cc))
+      at_key Doc found here same = absurd (cc)
+      at_key Head found here same = absurd (cc)
+      at_key (Text t) found here same = absurd (cc)
+  told-but tree k found n i (inr right) = at_key k found
+    where
+      at_key : (k : Key) → child_of nodes at k ≡ Some child → IsFlagged (told nodes at (element_of k) child) n i
+      at_key (Element id) found = flag-told id found n i (inl right)
+      at_key Doc found = right
+      at_key Head found = right
+      at_key (Text t) found = right
+
+-- no list tells of the root
+pub flagged-but_root : (nodes : List Node) → AreTree nodes → (n : NodeNumber) (i : Id) → IsFlaggedBut nodes root n i → IsFlagged nodes n i
+flagged-but_root nodes tree n i (inl there) = absurd (omega (arith, tree.rising n (Element i) root there))
+flagged-but_root nodes tree n i (inr right) = right
+
+-- A step on a way that is marked: the node is marked, then what lies below, then the node's list tells of the child.
+module _ (nodes mid last : List Node) (at m child : NodeNumber) (k : Key)
+    (first : (n : NodeNumber) (i : Id) → IsFlagged nodes n i → IsFlaggedBut mid at n i) (shape : child_of mid ≡ child_of nodes)
+    (below : (n : NodeNumber) (i : Id) → IsFlaggedBut mid m n i → IsFlaggedBut last child n i) (same : child_of last ≡ child_of mid)
+    (tree : AreTree last) (within : at.0 < length last) (found : child_of last at k ≡ Some child) where
+  pub marked-but : (n : NodeNumber) (i : Id) → IsFlaggedBut nodes m n i → IsFlaggedBut (told last at (element_of k) child) at n i
+  marked-but n i (inl there) = inr (told-but last at within child tree k found n i (below n i (inl (ap (λ f. f n (Element i)) shape ∙ there))))
+  marked-but n i (inr right) = ⊎_elim
+      (λ there. inl (ap (λ f. f n (Element i)) (told-shape last at within child (element_of k) ∙ same) ∙ there))
+      (λ kept. inr (told-but last at within child tree k found n i (below n i (inr kept))))
+      (first n i right)
+
+-- A node is linked into a list: its own flag alone may be wrong.
+module _ (nodes : List Node) (at : NodeNumber) (within : at.0 < length nodes) (after : Option Id) (id : Id) where
+  abbrev linked : List Node
+  linked = set nodes at.0 (with_entry after id (node_of nodes at))
+
+  linked_shape : child_of linked ≡ child_of nodes
+  linked_shape = shape-set nodes at (with_entry after id (node_of nodes at)) within refl
+
+  linked_stands : (n : NodeNumber) (i : Id) → stands linked (child_of linked n (Element i)) ≡ stands nodes (child_of nodes n (Element i))
+  linked_stands n i = ap (λ f. stands linked (f n (Element i))) linked_shape ∙ go (child_of nodes n (Element i))
+    where
+      go : (o : Option NodeNumber) → stands linked o ≡ stands nodes o
+      go None = refl
+      go (Some c) = ap (λ p. is_some_entry p.0) (unwritten nodes at within (λ z. z.presence) (with_entry after id (node_of nodes at)) refl c)
+
+  -- in its list
+  linked_here : (child : NodeNumber) → child_of nodes at (Element id) ≡ Some child → AreFlagged nodes → (i : Id) → IsFlaggedBut linked child at i
+  linked_here child found right i = go (id_eq i id) refl
+    where
+      go : (b : Bool) → id_eq i id ≡ b → IsFlaggedBut linked child at i
+      go true f = inl (ap (λ g. g at (Element i)) linked_shape ∙ ap (λ z. child_of nodes at (Element z)) (id_decides.same i id f) ∙ found)
+      go false f = inr (λ is c. ⊎_elim
+          (λ h. absurd (true≢false (sym (eq_from id_decides i id h.0) ∙ f)))
+          (λ old. right at i is old ∙ sym (linked_stands at i))
+          (entry-insert id i is (node_of nodes at).order.0 after
+          (subst (λ z. Contains z.order.0 (i, is)) (here-set nodes at (with_entry after id (node_of nodes at)) within) c)))
+
+  pub flagged-linked : (child : NodeNumber) → child_of nodes at (Element id) ≡ Some child → AreFlagged nodes → AreFlaggedBut linked child
+  flagged-linked child found right n i = ⊎_elim
+      (λ here. subst (λ z. IsFlaggedBut linked child z i) (sym (eq_number n at here)) (linked_here child found right i))
+      (λ apart. inr (flag_kept nodes linked n i (ap (λ z. z.order.0) (other-set nodes at n (with_entry after id (node_of nodes at)) apart)) (linked_stands n i) (right n i)))
+      (cases_eq n.0 at.0)

@@ -1,0 +1,69 @@
+-- A step on a way that is marked or cleared: what lies below is done, then the node's list tells of its child.
+use Rattle.std.proofs.Common.{◌≡◌, ◌<◌, List, [], ◌∷◌, length, set, Option, Some, inl, inr, ⊎_elim, refl, sym, ap, ◌∙◌, subst, arith}
+use Rattle.std.proofs.lemmas.List.{length-set}
+use Rattle.lamport_id.specs.declared.id.Id.{Id}
+use Rattle.op_core.specs.declared.cursor.Key.{Key}
+use Rattle.op_core.specs.declared.cursor.Key.TheVariants.{Element}
+use Rattle.doc_words.specs.declared.role.Role.{Role}
+use Rattle.doc_words.specs.declared.role.Role.TheVariants.{Through}
+use Rattle.doc_nodes.specs.declared.node.NodeNumber.{NodeNumber}
+use Rattle.doc_nodes.specs.declared.node.Node.{Node}
+use Rattle.doc_nodes.specs.Children.{element_of}
+use Rattle.doc_nodes.specs.Walk.{walk}
+use Rattle.doc_nodes.specs.Nodes.{node_of, child_of, AreTree}
+use Rattle.doc_nodes.specs.Marks.{marked, MarksAlong}
+use Rattle.doc_nodes.specs.Flags.{plain, told, IsFlagged, IsFlaggedBut}
+use Rattle.doc_nodes.proofs.Walks.{parts_of}
+use Rattle.doc_nodes.proofs.Marking.{shape-set, child_before, mark_step, mark_end}
+use Rattle.doc_nodes.proofs.Plain.{child_of-plain, length-plain, tree-plain, write-plain, told-plain, shape_of-plain, tree_same}
+use Rattle.doc_nodes.proofs.Flagging.{flag-set, marked-but}
+
+-- keys that lead on from a node lead on from its child
+pub walk_on : (child : NodeNumber → Key → Option NodeNumber) (n c m : NodeNumber) (k : Key) (keys : List Key) → child n k ≡ Some c → walk child n (k ∷ keys) ≡ Some m
+    → walk child c keys ≡ Some m
+walk_on child n c m k keys down e =
+    let step = parts_of child (λ z. walk child z keys) (child n k) m e in
+    let both : ◌≡◌ {A = Option NodeNumber} (Some c) (Some step.0) = sym down ∙ step.1 in
+    let same : c ≡ step.0 = cc in
+    subst (λ z. walk child z keys ≡ Some m) (sym same) step.2
+
+-- the end of the way
+module _ (id : Id) (role : Role) (nodes new : List Node) (end : NodeNumber) (within : end.0 < length nodes) (is : new ≡ set nodes end.0 (marked id role (node_of nodes end))) where
+  pub marks_end : MarksAlong id role (plain nodes) (plain new) end []
+  marks_end =
+      subst (λ l. MarksAlong id role (plain nodes) l end []) (sym (ap plain is ∙ write-plain nodes end (marked id role) (λ z. refl)))
+      (mark_end id role (plain nodes) end (subst (λ z. end.0 < z) (sym (length-plain nodes)) within))
+
+  pub flags_end : (n : NodeNumber) (i : Id) → IsFlaggedBut nodes end n i → IsFlaggedBut new end n i
+  flags_end n i (inl there) = inl (ap (λ f. f n (Element i)) (ap child_of is ∙ shape-set nodes end (marked id role (node_of nodes end)) within refl) ∙ there)
+  flags_end n i (inr right) = subst (λ l. IsFlaggedBut l end n i) (sym is) (flag-set nodes end within (marked id role (node_of nodes end)) refl refl n i right)
+
+-- a step on the way
+module _ (id : Id) (role : Role) (nodes mid last new : List Node) (at c : NodeNumber) (k : Key) (keys : List Key) (tree : AreTree nodes) (within : at.0 < length nodes)
+    (first : mid ≡ set nodes at.0 (marked id Through (node_of nodes at))) (down : child_of mid at k ≡ Some c)
+    (below : MarksAlong id role (plain mid) (plain last) c keys) (tells : new ≡ told last at (element_of k) c) where
+  pub marks_passed : MarksAlong id role (plain nodes) (plain new) at (k ∷ keys)
+  marks_passed =
+      mark_step id role (plain nodes) at (subst (λ z. at.0 < z) (sym (length-plain nodes)) within) (tree-plain nodes tree) k keys c (plain new)
+      (ap (λ f. f at k) (child_of-plain nodes) ∙ child_before id nodes mid at c k within first down)
+      (subst (λ l. MarksAlong id role l (plain new) c keys) (ap plain first ∙ write-plain nodes at (marked id Through) (λ z. refl))
+      (subst (λ l. MarksAlong id role (plain mid) l c keys) (sym (ap plain tells ∙ told-plain last at (element_of k) c)) below))
+
+  shape : child_of mid ≡ child_of nodes
+  shape = ap child_of first ∙ shape-set nodes at (marked id Through (node_of nodes at)) within refl
+
+  same_shape : child_of last ≡ child_of mid
+  same_shape = shape_of-plain mid last below.shape
+
+  same_mid : length mid ≡ length nodes
+  same_mid = ap length first ∙ length-set nodes at.0 (marked id Through (node_of nodes at))
+
+  pub flags_passed : (m : NodeNumber) → length last ≡ length mid → ((n : NodeNumber) (i : Id) → IsFlaggedBut mid m n i → IsFlaggedBut last c n i)
+      → (n : NodeNumber) (i : Id) → IsFlaggedBut nodes m n i → IsFlaggedBut new at n i
+  flags_passed m same flags n i doubted =
+      let same_last : length last ≡ length nodes = same ∙ same_mid in
+      subst (λ l. IsFlaggedBut l at n i) (sym tells)
+      (marked-but nodes mid last at m c k
+      (λ j x right. subst (λ l. IsFlaggedBut l at j x) (sym first) (flag-set nodes at within (marked id Through (node_of nodes at)) refl refl j x right))
+      shape flags same_shape (tree_same nodes last same_last (same_shape ∙ shape) tree) (omega (arith, same_last)) (ap (λ f. f at k) same_shape ∙ down)
+      n i doubted)

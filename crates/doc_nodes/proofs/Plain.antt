@@ -1,0 +1,116 @@
+-- The nodes but for what their lists tell: the same facts, and each write to another part is the same write.
+use Rattle.std.proofs.Common.{◌≡◌, ◌<◌, ℕ, zero, suc, List, [], ◌∷◌, length, map, set, get_or, Option, Some, None, refl, sym, ap, ◌∙◌, subst}
+use Rattle.std.proofs.lemmas.List.{length-map, map-set, set-get_or}
+use Rattle.std.specs.Prelude.{IsSome, is_some, option_and_then}
+use mathlib.Core.Path.{fun_ext}
+use Rattle.lamport_id.specs.declared.id.Id.{Id}
+use Rattle.op_core.specs.declared.cursor.Key.{Key}
+use Rattle.op_core.specs.declared.cursor.Tagged.{Tagged}
+use Rattle.presence_set.specs.ById.{get}
+use Rattle.list_order.specs.Entries.{ids_of}
+use Rattle.list_order.proofs.Entries.{ids_of-all_absent, all_absent-with}
+use Rattle.doc_nodes.specs.declared.node.NodeNumber.{NodeNumber}
+use Rattle.doc_nodes.specs.declared.node.Node.{Node}
+use Rattle.doc_nodes.specs.Children.{number_at}
+use Rattle.doc_nodes.specs.Walk.{walk, root, trail, list_trail, IsTree}
+use Rattle.doc_nodes.specs.Nodes.{blank, node_of, child_of, node_at, list_node_at, role_in, value_in, ids_in, role_at, facts_of, AreTree}
+use Rattle.doc_nodes.specs.Marks.{HasRoomAlong, IsReady}
+use Rattle.doc_nodes.specs.Flags.{flagged, stands, told, unflagged, plain}
+
+unflagged_at : (nodes : List Node) (i : ℕ) → get_or (map unflagged nodes) i blank ≡ unflagged (get_or nodes i blank)
+unflagged_at [] i = refl
+unflagged_at (node ∷ nodes) zero = refl
+unflagged_at (node ∷ nodes) (suc i) = unflagged_at nodes i
+
+module _ (nodes : List Node) where
+  pub node_of-plain : (n : NodeNumber) → node_of (plain nodes) n ≡ unflagged (node_of nodes n)
+  node_of-plain n = unflagged_at nodes n.0
+
+  pub child_of-plain : child_of (plain nodes) ≡ child_of nodes
+  child_of-plain = fun_ext (λ n. fun_ext (λ k. ap (λ z. number_at z.children k) (unflagged_at nodes n.0)))
+
+  pub length-plain : length (plain nodes) ≡ length nodes
+  length-plain = length-map nodes unflagged
+
+  pub node_at-plain : (p : List Tagged) (k : Key) → node_at (plain nodes) p k ≡ node_at nodes p k
+  node_at-plain p k = ap (λ f. option_and_then (walk f root) (trail p k)) child_of-plain
+
+  pub tree-plain : AreTree nodes → AreTree (plain nodes)
+  tree-plain tree = subst (λ f. IsTree f (length (plain nodes))) (sym child_of-plain) (subst (λ n. IsTree (child_of nodes) n) (sym length-plain) tree)
+
+  pub tree_of-plain : AreTree (plain nodes) → AreTree nodes
+  tree_of-plain tree = subst (λ f. IsTree f (length nodes)) child_of-plain (subst (λ n. IsTree (child_of (plain nodes)) n) length-plain tree)
+
+  pub room-plain : (n : NodeNumber) (keys : List Key) → HasRoomAlong nodes n keys → HasRoomAlong (plain nodes) n keys
+  room-plain n keys room front rest j e w =
+      subst (λ z. length z.presence.0 < z.presence.1) (sym (node_of-plain j)) (room front rest j e (ap (λ f. walk f n front) (sym child_of-plain) ∙ w))
+
+  pub ready_of-plain : (n : NodeNumber) (keys : List Key) → IsReady (plain nodes) n keys → IsReady nodes n keys
+  ready_of-plain n keys ready = record {
+    tree = tree_of-plain ready.tree;
+    within = subst (λ z. n.0 < z) length-plain ready.within;
+    reached = subst (λ f. IsSome (walk f n keys)) child_of-plain ready.reached;
+    room = λ front rest j e w.
+        subst (λ z. length z.presence.0 < z.presence.1) (node_of-plain j) (ready.room front rest j e (ap (λ f. walk f n front) child_of-plain ∙ w));
+  }
+
+  -- a write to another part than the flags
+  pub write-plain : (n : NodeNumber) (f : Node → Node) → ((node : Node) → unflagged (f node) ≡ f (unflagged node))
+      → plain (set nodes n.0 (f (node_of nodes n))) ≡ set (plain nodes) n.0 (f (node_of (plain nodes) n))
+  write-plain n f apart =
+      map-set unflagged nodes n.0 (f (node_of nodes n))
+      ∙ ap (set (plain nodes) n.0) (apart (node_of nodes n) ∙ ap f (sym (node_of-plain n)))
+
+  -- what is told anew
+  pub told-plain : (n : NodeNumber) (element : Option Id) (child : NodeNumber) → plain (told nodes n element child) ≡ plain nodes
+  told-plain n None child = refl
+  told-plain n (Some id) child =
+      map-set unflagged nodes n.0 (flagged id (stands nodes (Some child)) (node_of nodes n))
+      ∙ ap (set (plain nodes) n.0) (same (node_of nodes n) ∙ sym (node_of-plain n))
+      ∙ set-get_or (plain nodes) n.0 blank
+    where
+      same : (node : Node) → unflagged (flagged id (stands nodes (Some child)) node) ≡ unflagged node
+      same node = λ i. record node { order = (all_absent-with node.order.0 id (stands nodes (Some child)) i, node.order.1) }
+
+  part_in-plain : {X : Type 0} (part : Node → X) → ((node : Node) → part (unflagged node) ≡ part node) → (n : NodeNumber) → part (node_of (plain nodes) n) ≡ part (node_of nodes n)
+  part_in-plain part same n = ap part (node_of-plain n) ∙ same (node_of nodes n)
+
+  pub role-plain : (p : List Tagged) (k : Key) (i : Id) → role_at (plain nodes) p k i ≡ role_at nodes p k i
+  unfolding role_at
+  role-plain p k i = ap (λ o. role_in (plain nodes) o i) (node_at-plain p k) ∙ go (node_at nodes p k)
+    where
+      go : (o : Option NodeNumber) → role_in (plain nodes) o i ≡ role_in nodes o i
+      go None = refl
+      go (Some c) = ap (λ z. get z.presence.0 i) (node_of-plain c)
+
+  value-plain : {X : Type 0} (part : Node → List (Id × X)) → ((node : Node) → part (unflagged node) ≡ part node) → (p : List Tagged) (k : Key) (i : Id)
+      → value_in part (plain nodes) (node_at (plain nodes) p k) i ≡ value_in part nodes (node_at nodes p k) i
+  value-plain {X} part same p k i = ap (λ o. value_in part (plain nodes) o i) (node_at-plain p k) ∙ go (node_at nodes p k)
+    where
+      go : (o : Option NodeNumber) → value_in part (plain nodes) o i ≡ value_in part nodes o i
+      go None = refl
+      go (Some c) = ap (λ l. get l i) (part_in-plain part same c)
+
+  ids-plain : (p : List Tagged) → ids_in (plain nodes) (list_node_at (plain nodes) p) ≡ ids_in nodes (list_node_at nodes p)
+  ids-plain p = ap (λ f. ids_in (plain nodes) (option_and_then (walk f root) (list_trail p))) child_of-plain ∙ go (list_node_at nodes p)
+    where
+      go : (o : Option NodeNumber) → ids_in (plain nodes) o ≡ ids_in nodes o
+      go None = refl
+      go (Some c) = ap (λ z. ids_of z.order.0) (node_of-plain c) ∙ ids_of-all_absent (node_of nodes c).order.0
+
+  pub facts-plain : facts_of (plain nodes) ≡ facts_of nodes
+  unfolding facts_of
+  facts-plain =
+      λ x. record {
+        present = λ p k i. ap is_some (role-plain p k i) x;
+        register = λ p k i. value-plain (λ z. z.register.0) (λ z. refl) p k i x;
+        counter = λ p k i. value-plain (λ z. z.counter.0) (λ z. refl) p k i x;
+        order = λ p. ids-plain p x;
+      }
+
+-- nodes have the same children where their plain ones have
+pub shape_of-plain : (old new : List Node) → child_of (plain new) ≡ child_of (plain old) → child_of new ≡ child_of old
+shape_of-plain old new same = sym (child_of-plain new) ∙ same ∙ child_of-plain old
+
+pub tree_same : (old new : List Node) → length new ≡ length old → child_of new ≡ child_of old → AreTree old → AreTree new
+tree_same old new same shape tree = subst (λ f. IsTree f (length new)) (sym shape) (subst (λ n. IsTree (child_of old) n) (sym same) tree)

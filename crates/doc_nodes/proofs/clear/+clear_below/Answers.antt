@@ -1,0 +1,68 @@
+use Rattle.std.proofs.Common.{◌≡◌, ◌<◌, ◌∙◌, [], ◌∷◌, length, sym, ap, subst, Option, Some, arith}
+use Rattle.std.specs.Prelude.{IsSome}
+use Rattle.std.proofs.lemmas.List.{nil_from_length}
+use Rattle.op_core.specs.Shape.{key_of}
+use Rattle.doc_nodes.specs.declared.node.NodeNumber.{NodeNumber}
+use Rattle.doc_nodes.specs.Children.{element_of}
+use Rattle.doc_nodes.specs.Walk.{walk}
+use Rattle.doc_nodes.specs.Nodes.{child_of, ClearsUnder}
+use Rattle.doc_nodes.specs.Marks.{keys_below}
+use Rattle.doc_nodes.specs.Flags.{plain, told, IsFlagged}
+use Rattle.doc_nodes.proofs.Clearing.{same_children}
+use Rattle.doc_nodes.proofs.Marking.{first_step}
+use Rattle.doc_nodes.proofs.Plain.{shape_of-plain, told-plain, tree_same}
+use Rattle.doc_nodes.proofs.Flagging.{told-but}
+use Rattle.doc_nodes.proofs.Passing.{walk_on}
+use Rattle.doc_nodes.proofs.clear.+clear_below.Goals as goal
+
+pub returns-in-None-clause-clears : goal.returns-in-None-clause-clears
+returns-in-None-clause-clears t c = λ m way.
+    let nodes = c.args.nodes.now in
+    let mid = c.clear_under.new.nodes in
+    let end = c.known_child-end.result in
+    let key = c.args.key.now in
+    let keys : keys_below c.args.way.now key ≡ key ∷ [] = ap (λ w. keys_below w key) (nil_from_length c.args.way.now c.in-None.ensures.cases) in
+    let is : c.tell.new.nodes ≡ told mid c.args.at (element_of key) end = c.tell.ensures ∙ ap (λ e. told mid c.args.at e end) c.element_in.ensures in
+    let there : ◌≡◌ {A = Option NodeNumber} (Some end) (Some m) =
+    walk_on (child_of nodes) c.args.at end m key [] c.known_child-end.ensures (subst (λ l. walk (child_of nodes) c.args.at l ≡ Some m) keys way) in
+    let same : end ≡ m = cc in
+    subst (λ z. ClearsUnder c.args.front.now (plain nodes) (plain c.tell.new.nodes) z) same
+    (subst (λ l. ClearsUnder c.args.front.now (plain nodes) l end) (sym (ap plain is ∙ told-plain mid c.args.at (element_of key) end)) c.clear_under.ensures.clears)
+
+pub returns-in-None-clause-flags : goal.returns-in-None-clause-flags
+returns-in-None-clause-flags t c = λ n i right.
+    let nodes = c.args.nodes.now in
+    let mid = c.clear_under.new.nodes in
+    let end = c.known_child-end.result in
+    let key = c.args.key.now in
+    let is : c.tell.new.nodes ≡ told mid c.args.at (element_of key) end = c.tell.ensures ∙ ap (λ e. told mid c.args.at e end) c.element_in.ensures in
+    let shape = shape_of-plain nodes mid (same_children c.args.front.now (plain nodes) (plain mid) c.clear_under.ensures.clears.each) in
+    let same : length mid ≡ length nodes = c.clear_under.auto.nodes in
+    subst (λ l. IsFlagged l n i) (sym is)
+    (told-but mid c.args.at (omega (arith, c.requires.known, same)) end (tree_same nodes mid same shape c.requires.tree) key
+    (ap (λ f. f c.args.at key) shape ∙ c.known_child-end.ensures) n i (c.clear_under.ensures.flags n i right))
+
+pub clear_below-requires : goal.clear_below-requires
+clear_below-requires t c =
+    let nodes = c.args.nodes.now in
+    let key = key_of c.in-Some.next.now in
+    let rest = keys_below c.in-Some.rest.now c.args.key.now in
+    let below = c.known_child-below.result in
+    let keys : keys_below c.args.way.now c.args.key.now ≡ key ∷ rest = ap (λ w. keys_below w c.args.key.now) c.in-Some.ensures.cases.0 in
+    let down : child_of nodes c.args.at key ≡ Some below = ap (child_of nodes c.args.at) (sym c.key_in.ensures) ∙ c.known_child-below.ensures in
+    let first = first_step nodes c.args.at key rest (subst (λ l. IsSome (walk (child_of nodes) c.args.at l)) keys c.requires.reached) in
+    let both : ◌≡◌ {A = Option NodeNumber} (Some first.0) (Some below) = sym first.1 ∙ down in
+    let same : first.0 ≡ below = cc in (
+      omega (arith, c.in-Some.ensures.cases.1),
+      (c.requires.tree, (c.requires.tree.within c.args.at key below down, subst (λ z. IsSome (walk (child_of nodes) z rest)) same first.2)),
+    )
+
+pub returns-in-Some-clause-clears : goal.returns-in-Some-clause-clears
+returns-in-Some-clause-clears t c = λ m way.
+    let nodes = c.args.nodes.now in
+    let key = key_of c.in-Some.next.now in
+    let rest = keys_below c.in-Some.rest.now c.args.key.now in
+    let keys : keys_below c.args.way.now c.args.key.now ≡ key ∷ rest = ap (λ w. keys_below w c.args.key.now) c.in-Some.ensures.cases.0 in
+    let down : child_of nodes c.args.at key ≡ Some c.known_child-below.result = ap (child_of nodes c.args.at) (sym c.key_in.ensures) ∙ c.known_child-below.ensures in
+    c.clear_below.ensures.clears m
+    (walk_on (child_of nodes) c.args.at c.known_child-below.result m key rest down (subst (λ l. walk (child_of nodes) c.args.at l ≡ Some m) keys way))

@@ -1,0 +1,67 @@
+-- The elements of a list, as children of the list's node.
+use Rattle.std.proofs.Common.{◌≡◌, List, [], ◌∷◌, ◌++◌, filter, Bool, true, false, if◌then◌else◌, Option, Some, None, refl, sym, ap, ◌∙◌}
+use Rattle.std.specs.Prelude.{option_and_then}
+use Rattle.std.specs.Option.{option_map}
+use Rattle.lamport_id.specs.declared.id.Id.{Id}
+use Rattle.op_core.specs.declared.cursor.Key.{Key}
+use Rattle.op_core.specs.declared.cursor.Key.TheVariants.{Doc, Element}
+use Rattle.op_core.specs.declared.cursor.Tagged.{Tagged}
+use Rattle.op_core.specs.declared.cursor.Tagged.TheVariants.{Map as MapAt, List as ListAt}
+use Rattle.op_core.specs.Shape.{key_of, is_list, may_follow}
+use Rattle.crdt_rules.specs.Same.{key_eq}
+use Rattle.list_order.specs.Entries.{present_of}
+use Rattle.list_order.proofs.Entries.{present_of-told}
+use Rattle.doc_nodes.specs.declared.node.NodeNumber.{NodeNumber}
+use Rattle.doc_nodes.specs.declared.node.Node.{Node}
+use Rattle.doc_nodes.specs.Walk.{trail, trail_below, list_trail, list_trail_below, walk, root}
+use Rattle.doc_nodes.specs.Nodes.{node_of, child_of, node_at, list_node_at, facts_of}
+use Rattle.doc_nodes.specs.Flags.{stands, AreFlagged}
+use Rattle.doc_nodes.proofs.Walks.{parts_of, walk-append}
+use Rattle.doc_tree.proofs.Reading.{ids_read}
+
+-- the way to an element goes by its list
+trail-element_below : (t : Tagged) (p : List Tagged) (i : Id) (front : List Key) → list_trail_below t p ≡ Some front → trail_below t p (Element i) ≡ Some (front ++ Element i ∷ [])
+trail-element_below t [] i front e = go t e
+  where
+    go : (t : Tagged) → (if is_list t then Some [] else None) ≡ Some front → trail_below t [] (Element i) ≡ Some (front ++ Element i ∷ [])
+    go (ListAt k) f = let none : [] ≡ front = cc in ap (λ l. Some (l ++ Element i ∷ [])) none
+    go (MapAt k) f = absurd (cc)
+trail-element_below t (s ∷ p) i front e = go (may_follow t (key_of s)) (list_trail_below s p) (trail-element_below s p i) e
+  where
+    go : (b : Bool) (o : Option (List Key)) → ((l : List Key) → o ≡ Some l → trail_below s p (Element i) ≡ Some (l ++ Element i ∷ []))
+        → (if b then option_map (λ l. key_of s ∷ l) o else None) ≡ Some front
+        → (if b then option_map (λ l. key_of s ∷ l) (trail_below s p (Element i)) else None) ≡ Some (front ++ Element i ∷ [])
+    go true (Some l) ih f =
+        let one : key_of s ∷ l ≡ front = cc in
+        ap (option_map (λ x. key_of s ∷ x)) (ih l refl) ∙ ap (λ x. Some (x ++ Element i ∷ [])) one
+    go true None ih f = absurd (cc)
+    go false o ih f = absurd (cc)
+
+trail-element : (p : List Tagged) (i : Id) (front : List Key) → list_trail p ≡ Some front → trail p (Element i) ≡ Some (front ++ Element i ∷ [])
+trail-element [] i front e = absurd (cc)
+trail-element (t ∷ p) i front e = go (key_eq (key_of t) Doc) e
+  where
+    go : (b : Bool) → (if b then list_trail_below t p else None) ≡ Some front → (if b then trail_below t p (Element i) else None) ≡ Some (front ++ Element i ∷ [])
+    go true f = trail-element_below t p i front f
+    go false f = absurd (cc)
+
+-- so its node is a child of the list's
+pub element_child : (nodes : List Node) (p : List Tagged) (n : NodeNumber) (i : Id) → list_node_at nodes p ≡ Some n → node_at nodes p (Element i) ≡ child_of nodes n (Element i)
+element_child nodes p n i e =
+    let way = parts_of (child_of nodes) (walk (child_of nodes) root) (list_trail p) n e in
+    ap (option_and_then (walk (child_of nodes) root)) (trail-element p i way.0 way.1)
+    ∙ walk-append (child_of nodes) root way.0 (Element i ∷ [])
+    ∙ ap (option_and_then (λ m. walk (child_of nodes) m (Element i ∷ []))) way.2
+    ∙ one (child_of nodes n (Element i))
+  where
+    one : (o : Option NodeNumber) → option_and_then (λ c. Some c) o ≡ o
+    one None = refl
+    one (Some c) = refl
+
+-- and its list tells whether it is present
+pub present_listed : (nodes : List Node) → AreFlagged nodes → (p : List Tagged) (n : NodeNumber) → list_node_at nodes p ≡ Some n
+    → present_of (node_of nodes n).order.0 ≡ filter (λ i. stands nodes (node_at nodes p (Element i))) ((facts_of nodes).order p)
+present_listed nodes right p n e =
+    present_of-told (λ i. stands nodes (node_at nodes p (Element i))) (node_of nodes n).order.0
+    (λ i is c. right n i is c ∙ ap (stands nodes) (sym (element_child nodes p n i e)))
+    ∙ ap (filter (λ i. stands nodes (node_at nodes p (Element i)))) (ids_read nodes p n e)

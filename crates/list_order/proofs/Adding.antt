@@ -1,0 +1,169 @@
+-- What a new slot makes of the marks and the blocks.
+use Rattle.std.proofs.Common.{◌≡◌, ◌<◌, ◌≤◌, ◌+◌, ℕ, suc, List, [], ◌∷◌, ◌++◌, length, length-append, Bool, true, false, ◌&&◌, nat_eq, nat_le, eqb, eqb-true, if◌then◌else◌, Option, Some, None, Contains, refl, sym, ap, ◌∙◌, subst, arith}
+use Rattle.std.proofs.lemmas.Bool.{leb-false, lt-leb}
+use Rattle.std.proofs.lemmas.Bool.Decides.{nat_tests}
+use Rattle.std.specs.Option.{ForSome}
+use Rattle.lamport_id.specs.declared.id.Id.{Id}
+use Rattle.crdt_rules.specs.Same.{id_eq}
+use Rattle.crdt_rules.proofs.SameLaws.{id_decides, eq_from}
+use Rattle.presence_set.specs.ById.{get, put}
+use Rattle.presence_set.proofs.ByIdLaws.{get-put}
+use Rattle.list_order.specs.declared.slots.Slot.{Slot}
+use Rattle.list_order.specs.declared.slots.SlotNumber.{SlotNumber}
+use Rattle.list_order.specs.declared.marks.Mark.{Mark}
+use Rattle.list_order.specs.declared.marks.Block.{Block}
+use Rattle.list_laws.specs.Order.{insert_after}
+use Rattle.list_order.specs.Entries.{absent, entry_cmp, reference}
+use Rattle.list_order.specs.Slots.{slot_at, behind, path_from, ids_along, number_along, number_for, passed, linked, linked_first}
+use Rattle.list_order.specs.Marks.{mark_at, count_where, is_marked, is_marked_in, from_block, start_of, block_behind, new_mark, entries_along, IsRising, IsCounted, IsKept, IsRecut}
+use Rattle.list_order.proofs.Paths.{walk-None}
+use Rattle.list_order.proofs.Placing.{last_of}
+use Rattle.list_order.proofs.Linking.{fresh_of}
+use Rattle.list_order.proofs.Inserting.{cut, made, new_path, marks_stay, mark_is, entries_inserted, order_inserted, none_ordered}
+use Rattle.list_order.proofs.Counting.{Along, IsSameMark}
+use Rattle.list_order.proofs.Same.{count-same, blocks-same, from-same, rising-same}
+use Rattle.list_order.proofs.Presence.{count-presence}
+
+less_of : (k len : ℕ) → eqb k len ≡ false → k < len + 1 → k < len
+less_of k len e h = grind (arith, nat_tests)
+
+-- the block of the last slot
+abbrev last_block : ℕ → List Mark → List SlotNumber → ℕ
+last_block low marks [] = low
+last_block low marks (n ∷ path) = last_block (mark_at marks n).block marks path
+
+behind-last : (marks : List Mark) (previous : Option SlotNumber) (path : List SlotNumber) → block_behind marks (last_of previous path) ≡ last_block (block_behind marks previous) marks path
+behind-last marks previous [] = refl
+behind-last marks previous (n ∷ path) = behind-last marks (Some n) path
+
+module _ (marks later : List Mark) (fresh : SlotNumber) where
+  count_added : (test : Mark → Bool) → test (mark_at later fresh) ≡ false → (front rest : List SlotNumber) → Along (IsSameMark marks later) (front ++ rest)
+      → count_where test later (front ++ fresh ∷ rest) ≡ count_where test marks (front ++ rest)
+  count_added test none [] rest s = rw none (count-same marks later test rest s)
+  count_added test none (n ∷ front) rest s = let c = count_added test none front rest s.1 in λ i. if test (s.0 i) then suc (c i) else c i
+
+  start_added : (k low : ℕ) (at : Option SlotNumber) (front rest : List SlotNumber) → low ≤ k → (mark_at later fresh).block ≡ last_block low marks front
+      → Along (IsSameMark marks later) (front ++ rest)
+      → start_of at (from_block (suc k) later (front ++ fresh ∷ rest)) ≡ start_of at (from_block (suc k) marks (front ++ rest))
+  start_added k low at [] rest le is s =
+      rw (lt-leb (suc k) (mark_at later fresh).block (omega (arith, is))) (ap (start_of at) (from-same marks later (suc k) rest (blocks-same marks later rest s)))
+  start_added k low at (n ∷ front) rest le is s =
+      (λ i. start_of at (if nat_le (suc k) (s.0 i).block then n ∷ (front ++ fresh ∷ rest) else from_block (suc k) later (front ++ fresh ∷ rest)))
+      ∙ go (nat_le (suc k) (mark_at marks n).block) refl (λ h. start_added k (mark_at marks n).block at front rest h is s.1)
+    where
+      go : (b : Bool) → nat_le (suc k) (mark_at marks n).block ≡ b
+          → ((mark_at marks n).block ≤ k → start_of at (from_block (suc k) later (front ++ fresh ∷ rest)) ≡ start_of at (from_block (suc k) marks (front ++ rest)))
+          → start_of at (if b then n ∷ (front ++ fresh ∷ rest) else from_block (suc k) later (front ++ fresh ∷ rest)) ≡ start_of at (if b then n ∷ (front ++ rest) else from_block (suc k) marks (front ++ rest))
+      go true e ih = refl
+      go false e ih = ih (omega (arith, leb-false (suc k) (mark_at marks n).block e))
+
+  rising_added : (low : ℕ) (front rest : List SlotNumber) → (mark_at later fresh).block ≡ last_block low marks front → Along (IsSameMark marks later) (front ++ rest)
+      → IsRising low marks (front ++ rest) → IsRising low later (front ++ fresh ∷ rest)
+  rising_added low [] rest is s h =
+      (omega (arith, is), subst (λ b. IsRising b later rest) (sym is) (rising-same marks later low rest (blocks-same marks later rest s) h))
+  rising_added low (n ∷ front) rest is s h =
+      (omega (arith, ap (λ m. m.block) s.0, h.0), subst (λ m. IsRising m.block later (front ++ fresh ∷ rest)) (sym s.0) (rising_added (mark_at marks n).block front rest is s.1 h.1))
+
+module _ {slots : List Slot} {first : Option SlotNumber} {index : List (Id × SlotNumber)} {marks : List Mark} {blocks : List Block} {present : ℕ}
+    (k : IsKept slots first index marks blocks present) where
+  module _ (after : Option Id) (known : ForSome after (Contains (ids_along slots (path_from slots first)))) (id : Id)
+      (new : number_along slots (path_from slots first) id ≡ None) where
+    abbrev pub previous : Option SlotNumber
+    previous = passed slots id (number_for index after) (path_from slots (behind slots first (number_for index after)))
+
+    abbrev pub later : List Mark
+    later = marks ++ new_mark marks previous ∷ []
+
+    other : (x y : Id) (n : SlotNumber) → get index y ≡ Some n → x ≡ id → (if id_eq x y then Some (fresh_of slots) else get index y) ≡ Some n
+    other x y n mine is = go (id_eq x y) refl
+      where
+        go : (b : Bool) → id_eq x y ≡ b → (if b then Some (fresh_of slots) else get index y) ≡ Some n
+        go true e =
+            let none : get index id ≡ None = k.order.exact id ∙ new in
+            let clash : ◌≡◌ {A = Option SlotNumber} None (Some n) = sym none ∙ ap (get index) (sym is ∙ id_decides.same x y e) ∙ mine in
+            absurd (cc)
+        go false e = mine
+
+    own_added : (n : SlotNumber) → n.0 < length (linked slots first previous id) → get (put index id (fresh_of slots)) (slot_at (linked slots first previous id) n).id ≡ Some n
+    own_added n within = get-put index id (fresh_of slots) (slot_at (linked slots first previous id) n).id ∙ go (eqb n.0 (length slots)) refl
+      where
+        go : (b : Bool) → eqb n.0 (length slots) ≡ b
+            → (if id_eq id (slot_at (linked slots first previous id) n).id then Some (fresh_of slots) else get index (slot_at (linked slots first previous id) n).id) ≡ Some n
+        go true e =
+            let here : fresh_of slots ≡ n = λ i. record { 0 = sym (eqb-true n.0 (length slots) e) i } in
+            let is : (slot_at (linked slots first previous id) n).id ≡ id = ap (λ p. (slot_at (linked slots first previous id) p).id) (sym here) ∙ (made k.order marks k.marked after known id new).slots_are.new_id in
+            rw (eq_from id_decides id (slot_at (linked slots first previous id) n).id (sym is)) (ap Some here)
+        go false e =
+            let less : n.0 < length slots = less_of n.0 (length slots) e (omega (arith, within, (made k.order marks k.marked after known id new).slots_are.longer)) in
+            let is : (slot_at (linked slots first previous id) n).id ≡ (slot_at slots n).id = (made k.order marks k.marked after known id new).slots_are.ids n less in
+            let mine : get index (slot_at (linked slots first previous id) n).id ≡ Some n = ap (get index) is ∙ k.own n less in
+            other id (slot_at (linked slots first previous id) n).id n mine refl
+
+    pub kept_added : (entries : List (Id × SlotNumber)) → entries ≡ put index id (fresh_of slots) → length entries ≡ length index + 1
+        → IsKept (linked slots first previous id) (linked_first slots first previous) entries later blocks present
+    kept_added entries are longer =
+        let c = cut k.order marks k.marked after known id new in
+        let m = made k.order marks k.marked after known id new in
+        let path = new_path k.order marks k.marked after known id new in
+        let stay = marks_stay k.order marks k.marked after known id new in
+        let mark = mark_is k.order marks k.marked after known id new in
+        let old : IsCounted marks blocks (c.front ++ c.rest) None = subst (λ l. IsCounted marks blocks l None) c.parts k.counted in
+        let block : (mark_at later (fresh_of slots)).block ≡ last_block 0 marks c.front = ap (λ x. x.block) mark ∙ ap (block_behind marks) (sym c.ends) ∙ behind-last marks None c.front in
+        let absent : (mark_at later (fresh_of slots)).is_present ≡ false = ap (λ x. x.is_present) mark in
+        record {
+          order = order_inserted k.order marks k.marked after known id new entries are longer;
+          own = λ n within. ap (λ l. get l (slot_at (linked slots first previous id) n).id) are ∙ own_added n within;
+          marked = omega (arith, length-append marks (new_mark marks previous ∷ []), k.marked, m.slots_are.longer);
+          counted = subst (λ l. IsCounted later blocks l None) (sym path) (record {
+            rising = rising_added marks later (fresh_of slots) 0 c.front c.rest block stay old.rising;
+            counted = λ j h. old.counted j h ∙ sym (count_added marks later (fresh_of slots) (is_marked_in j) (ap (λ p. p && nat_eq (mark_at later (fresh_of slots)).block j) absent) c.front c.rest stay);
+            ends = λ j h. old.ends j h ∙ sym (start_added marks later (fresh_of slots) j 0 None c.front c.rest (omega arith) block stay);
+          });
+          all =
+              k.all ∙ ap (count_where is_marked marks) c.parts ∙ sym (count_added marks later (fresh_of slots) is_marked absent c.front c.rest stay)
+              ∙ ap (count_where is_marked later) (sym path);
+        }
+
+    -- what the calls of an insertion make
+    pub kept_made : (at : Option SlotNumber) → at ≡ number_for index after
+        → (last : Option SlotNumber) → last ≡ passed slots id at (path_from slots (behind slots first at))
+        → (new_slots : List Slot) → new_slots ≡ linked slots first last id → (new_first : Option SlotNumber) → new_first ≡ linked_first slots first last
+        → (entries : List (Id × SlotNumber)) → entries ≡ put index id (fresh_of slots) → length entries ≡ length index + 1
+        → (new_marks : List Mark) → new_marks ≡ marks ++ new_mark marks last ∷ []
+        → IsKept new_slots new_first entries new_marks blocks present
+        × (entries_along new_slots new_marks (path_from new_slots new_first) ≡ insert_after entry_cmp (entries_along slots marks (path_from slots first)) (reference after) (absent id))
+    kept_made at at_is last last_is new_slots slots_are new_first first_is entries entries_are longer new_marks marks_are =
+        let l : last ≡ previous = last_is ∙ ap (λ r. passed slots id r (path_from slots (behind slots first r))) at_is in
+        let a : linked slots first previous id ≡ new_slots = ap (λ p. linked slots first p id) (sym l) ∙ sym slots_are in
+        let b : linked_first slots first previous ≡ new_first = ap (linked_first slots first) (sym l) ∙ sym first_is in
+        let d : later ≡ new_marks = ap (λ p. marks ++ new_mark marks p ∷ []) (sym l) ∙ sym marks_are in
+        let t : IsKept (linked slots first previous id) (linked_first slots first previous) entries later blocks present = kept_added entries entries_are longer in
+        let u = entries_inserted k.order marks k.marked after known id new in (
+          subst (λ m. IsKept new_slots new_first entries m blocks present) d
+              (subst (λ o. IsKept new_slots o entries later blocks present) b (subst (λ s. IsKept s (linked_first slots first previous) entries later blocks present) a t)),
+          (λ i. entries_along (sym a i) (sym d i) (path_from (sym a i) (sym b i))) ∙ u,
+        )
+
+  -- cut anew, all is kept
+  pub kept_recut : (new : List Mark) (cut_anew : List Block) → IsRecut marks new cut_anew (path_from slots first) → IsKept slots first index new cut_anew present
+  kept_recut new cut_anew r = record {
+    order = k.order;
+    own = k.own;
+    marked = r.len ∙ k.marked;
+    counted = r.counted;
+    all = k.all ∙ sym (count-presence marks new r.same (path_from slots first));
+  }
+
+-- no slots
+pub none_kept : IsKept [] None [] [] [] 0
+none_kept = record {
+  order = none_ordered;
+  own = λ n h. absurd (omega arith);
+  marked = refl;
+  counted = record {
+    rising = subst (IsRising 0 []) (sym (walk-None [])) tt;
+    counted = λ k h. absurd (omega arith);
+    ends = λ k h. absurd (omega arith);
+  };
+  all = sym (ap (count_where is_marked []) (walk-None []));
+}

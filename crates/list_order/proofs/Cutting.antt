@@ -1,0 +1,183 @@
+-- Blocks that are cut along a path.
+use Rattle.std.proofs.Common.{◌≡◌, ◌<◌, ◌≤◌, ◌+◌, ℕ, suc, List, [], ◌∷◌, ◌++◌, append_assoc, append-nil, length, length-append, set, length-set, Bool, true, false, ◌&&◌, eqb, eqb-true, eq-eqb, if◌then◌else◌, Option, Some, None, inl, inr, refl, sym, ap, ◌∙◌, subst, true≢false, arith}
+use Rattle.std.proofs.lemmas.Bool.Decides.{nat_tests}
+use Rattle.std.proofs.Math.ListN.{get_or-append}
+use Rattle.std.proofs.Math.Seq.{get_or-append_seam}
+use Rattle.list_order.specs.declared.slots.Slot.{Slot}
+use Rattle.list_order.specs.declared.slots.SlotNumber.{SlotNumber}
+use Rattle.list_order.specs.declared.marks.Mark.{Mark}
+use Rattle.list_order.specs.declared.marks.Block.{Block}
+use Rattle.list_order.specs.Slots.{slot_at, IsPath, path_from, IsWalk}
+use Rattle.list_order.specs.Marks.{mark_at, block_at, no_block, count_where, is_marked_in, from_block, start_of, IsCounted, bit, set_block, IsClosed, IsRecut}
+use Rattle.list_order.proofs.Scanning.{IsStep}
+use Rattle.list_order.proofs.Paths.{walk-None, length-path_from}
+use Rattle.list_order.proofs.Counting.{Along, along-map, IsSameMark, not_other}
+use Rattle.list_order.proofs.Same.{count-same, blocks-same, from-same, rising-same, count-append, count_within, from-none, count-none, start-append, rising-append, along-snoc}
+use Rattle.list_order.proofs.Apart.{apart_front, set_here, set_other, set_apart}
+
+-- the blocks as far as the path was gone through
+pub record IsPartlyCut (slots : List Slot) (first : Option SlotNumber) (before marks : List Mark) (blocks : List Block) (at : Option SlotNumber) (present : ℕ) : Type 0 where
+  pub done : List SlotNumber
+  pub parts : path_from slots first ≡ done ++ path_from slots at
+  pub same : (n : SlotNumber) → (mark_at marks n).is_present ≡ (mark_at before n).is_present
+  pub len : length marks ≡ length before
+  pub counted : IsCounted marks blocks done at
+  pub within : Along (λ n. (mark_at marks n).block < suc (length blocks)) done
+  pub rest : present ≡ count_where (is_marked_in (length blocks)) marks done
+
+kept : (marks new : List Mark) (top : ℕ) (path : List SlotNumber) → Along (IsSameMark marks new) path → Along (λ m. (mark_at marks m).block < top) path
+    → Along (λ m. (mark_at new m).block < top) path
+kept marks new top [] s a = tt
+kept marks new top (m ∷ path) s a = (subst (λ x. x.block < top) (sym s.0) a.0, kept marks new top path s.1 a.1)
+
+presence : (marks : List Mark) (n : SlotNumber) (block : ℕ) → n.0 < length marks → (m : SlotNumber) → (mark_at (set_block marks n block) m).is_present ≡ (mark_at marks m).is_present
+presence marks n block within m = go (eqb m.0 n.0) refl
+  where
+    go : (b : Bool) → eqb m.0 n.0 ≡ b → (mark_at (set_block marks n block) m).is_present ≡ (mark_at marks m).is_present
+    go true e =
+        let here : m ≡ n = λ i. record { 0 = eqb-true m.0 n.0 e i } in
+        ap (λ k. (mark_at (set_block marks n block) k).is_present) here
+        ∙ ap (λ x. x.is_present) (set_here marks n (record { is_present = (mark_at marks n).is_present; block = block }) within)
+        ∙ ap (λ k. (mark_at marks k).is_present) (sym here)
+    go false e = ap (λ x. x.is_present) (set_other marks n (record { is_present = (mark_at marks n).is_present; block = block }) m (λ h. true≢false (sym (eq-eqb m.0 n.0 (ap (λ k. k.0) h)) ∙ e)))
+
+bit_small : (b : Bool) → bit b ≤ 1
+bit_small true = omega arith
+bit_small false = omega arith
+
+less_of : (k len : ℕ) → eqb k len ≡ false → k < suc len → k < len
+less_of k len e h = grind (arith, nat_tests)
+
+last_other : (marks : List Mark) (test : Mark → Bool) (path : List SlotNumber) (n : SlotNumber) → test (mark_at marks n) ≡ false
+    → count_where test marks (path ++ n ∷ []) ≡ count_where test marks path
+last_other marks test path n fails =
+    let none : count_where test marks (n ∷ []) ≡ 0 = rw fails refl in
+    omega (arith, count-append marks test path (n ∷ []), none)
+
+last_marked : (marks : List Mark) (k : ℕ) (path : List SlotNumber) (n : SlotNumber) → (mark_at marks n).block ≡ k
+    → count_where (is_marked_in k) marks (path ++ n ∷ []) ≡ count_where (is_marked_in k) marks path + bit (mark_at marks n).is_present
+last_marked marks k path n is =
+    let one : count_where (is_marked_in k) marks (n ∷ []) ≡ bit (mark_at marks n).is_present = rw (eq-eqb (mark_at marks n).block k is) (go (mark_at marks n).is_present) in
+    count-append marks (is_marked_in k) path (n ∷ []) ∙ ap (λ m. count_where (is_marked_in k) marks path + m) one
+  where
+    go : (p : Bool) → (if p && true then 1 else 0) ≡ bit p
+    go true = refl
+    go false = refl
+
+module _ (slots : List Slot) (first : Option SlotNumber) (before : List Mark) where
+  pub begin_cut : IsPartlyCut slots first before before [] first 0
+  begin_cut = record {
+    done = [];
+    parts = refl;
+    same = λ n. refl;
+    len = refl;
+    counted = record { rising = tt; counted = λ k h. absurd (omega arith); ends = λ k h. absurd (omega arith) };
+    within = tt;
+    rest = refl;
+  }
+
+  module _ (walk : IsWalk slots first) (marked : length before ≡ length slots) where
+    pub put_in : (marks : List Mark) (blocks : List Block) (at : Option SlotNumber) (present : ℕ) (n : SlotNumber)
+        → IsPartlyCut slots first before marks blocks at present → at ≡ Some n → IsStep slots at n
+        → IsPartlyCut slots first before (set_block marks n (length blocks)) blocks (slot_at slots n).next (present + bit (mark_at marks n).is_present)
+    put_in marks blocks at present n c is s =
+        let mark : Mark = record { is_present = (mark_at marks n).is_present; block = length blocks } in
+        let new : List Mark = set marks n.0 mark in
+        let done : List SlotNumber = c.done in
+        let parts : path_from slots first ≡ done ++ n ∷ path_from slots (slot_at slots n).next = c.parts ∙ ap (λ l. done ++ l) s.path in
+        let inside : n.0 < length marks = omega (arith, s.within, c.len) in
+        let here : mark_at new n ≡ mark = set_here marks n mark inside in
+        let away = apart_front slots first done n (path_from slots (slot_at slots n).next) (subst (λ l. IsPath slots first l) parts walk.path) in
+        let same : Along (IsSameMark marks new) done = set_apart marks n mark done away in
+        let block : (mark_at new n).block ≡ length blocks = ap (λ m. m.block) here in
+        let present_here : (mark_at new n).is_present ≡ (mark_at marks n).is_present = ap (λ m. m.is_present) here in
+        let within : Along (λ m. (mark_at new m).block < suc (length blocks)) done = kept marks new (suc (length blocks)) done same c.within in
+        record {
+          done = done ++ n ∷ [];
+          parts = parts ∙ sym (append_assoc done (n ∷ []) (path_from slots (slot_at slots n).next));
+          same = λ m. presence marks n (length blocks) inside m ∙ c.same m;
+          len = length-set marks n.0 mark ∙ c.len;
+          counted = record {
+            rising = rising-append new 0 done n (omega arith) (along-map (λ m h. omega (arith, h, block)) done within) (rising-same marks new 0 done (blocks-same marks new done same) c.counted.rising);
+            counted = λ k h.
+                c.counted.counted k h
+                ∙ sym (count-same marks new (is_marked_in k) done same)
+                ∙ sym (last_other new (is_marked_in k) done n (not_other k (mark_at new n).block (λ e. omega (arith, e, block)) (mark_at new n).is_present));
+            ends = λ k h.
+                c.counted.ends k h
+                ∙ (λ i. start_of (is i) (sym (from-same marks new (suc k) done (blocks-same marks new done same)) i))
+                ∙ sym (start-append new (suc k) (slot_at slots n).next n done (omega (arith, block)));
+          };
+          within = along-snoc new (λ m. (mark_at new m).block < suc (length blocks)) done n within (omega (arith, block));
+          rest =
+              let old = count-same marks new (is_marked_in (length blocks)) done same in
+              let last = last_marked new (length blocks) done n block in
+              omega (arith, c.rest, old, last, ap bit present_here);
+        }
+
+    -- no count is more than there are slots
+    pub count_fits : (marks : List Mark) (blocks : List Block) (at : Option SlotNumber) (present : ℕ) (n : SlotNumber)
+        → IsPartlyCut slots first before marks blocks at present → at ≡ Some n → IsStep slots at n → present + bit (mark_at marks n).is_present ≤ length slots
+    count_fits marks blocks at present n c is s =
+        let one : bit (mark_at marks n).is_present ≤ 1 = bit_small (mark_at marks n).is_present in
+        let parts : path_from slots first ≡ c.done ++ n ∷ path_from slots (slot_at slots n).next = c.parts ∙ ap (λ l. c.done ++ l) s.path in
+        omega (arith, one, c.rest, count_within marks (is_marked_in (length blocks)) c.done, ap length parts, length-append c.done (n ∷ path_from slots (slot_at slots n).next), length-path_from slots first)
+
+  -- the open block is closed, or stays open
+  pub close : (marks : List Mark) (blocks new : List Block) (at : Option SlotNumber) (present left : ℕ)
+      → IsPartlyCut slots first before marks blocks at present → IsClosed blocks new present at left
+      → IsPartlyCut slots first before marks new at left
+  close marks blocks new at present left c (inr (same, rest)) =
+      subst (λ l. IsPartlyCut slots first before marks l at left) (sym same) (subst (λ p. IsPartlyCut slots first before marks blocks at p) (sym rest) c)
+  close marks blocks new at present left c (inl (longer, none)) =
+      let block : Block = record { present = present; end = at } in
+      let len : length (blocks ++ block ∷ []) ≡ length blocks + 1 = length-append blocks (block ∷ []) in
+      let last : block_at (blocks ++ block ∷ []) (length blocks) ≡ block = get_or-append_seam blocks block [] no_block in
+      subst (λ l. IsPartlyCut slots first before marks l at left) (sym longer) (subst (λ p. IsPartlyCut slots first before marks (blocks ++ block ∷ []) at p) (sym none)
+      (record {
+        done = c.done;
+        parts = c.parts;
+        same = c.same;
+        len = c.len;
+        counted = record {
+          rising = c.counted.rising;
+          counted = λ k h. by k (eqb k (length blocks)) refl (omega (arith, h, len));
+          ends = λ k h. to k (eqb k (length blocks)) refl (omega (arith, h, len));
+        };
+        within = along-map (λ n h. omega (arith, h, len)) c.done c.within;
+        rest = sym (count-none marks (length (blocks ++ block ∷ [])) c.done (along-map (λ n h. omega (arith, h, len)) c.done c.within));
+      }))
+    where
+      by : (k : ℕ) (b : Bool) → eqb k (length blocks) ≡ b → k < suc (length blocks)
+          → (block_at (blocks ++ record { present = present; end = at } ∷ []) k).present ≡ count_where (is_marked_in k) marks c.done
+      by k true e h =
+          let here : k ≡ length blocks = eqb-true k (length blocks) e in
+          ap (λ m. (block_at (blocks ++ record { present = present; end = at } ∷ []) m).present) here
+          ∙ ap (λ x. x.present) (get_or-append_seam blocks (record { present = present; end = at }) [] no_block)
+          ∙ c.rest ∙ ap (λ m. count_where (is_marked_in m) marks c.done) (sym here)
+      by k false e h =
+          let less : k < length blocks = less_of k (length blocks) e h in
+          ap (λ x. x.present) (get_or-append blocks (record { present = present; end = at } ∷ []) no_block k less) ∙ c.counted.counted k less
+
+      to : (k : ℕ) (b : Bool) → eqb k (length blocks) ≡ b → k < suc (length blocks)
+          → (block_at (blocks ++ record { present = present; end = at } ∷ []) k).end ≡ start_of at (from_block (suc k) marks c.done)
+      to k true e h =
+          let here : k ≡ length blocks = eqb-true k (length blocks) e in
+          ap (λ m. (block_at (blocks ++ record { present = present; end = at } ∷ []) m).end) here
+          ∙ ap (λ x. x.end) (get_or-append_seam blocks (record { present = present; end = at }) [] no_block)
+          ∙ ap (start_of at) (sym (from-none marks (suc (length blocks)) c.done c.within))
+          ∙ ap (λ m. start_of at (from_block (suc m) marks c.done)) (sym here)
+      to k false e h =
+          let less : k < length blocks = less_of k (length blocks) e h in
+          ap (λ x. x.end) (get_or-append blocks (record { present = present; end = at } ∷ []) no_block k less) ∙ c.counted.ends k less
+
+  -- at the end of the path
+  pub all_cut : (marks : List Mark) (blocks : List Block) (at : Option SlotNumber) (present : ℕ) → at ≡ None
+      → IsPartlyCut slots first before marks blocks at present → IsRecut before marks blocks (path_from slots first)
+  all_cut marks blocks at present is c =
+      let whole : path_from slots first ≡ c.done = c.parts ∙ ap (λ l. c.done ++ l) (ap (path_from slots) is ∙ walk-None slots) ∙ append-nil c.done in
+      record {
+        same = c.same;
+        len = c.len;
+        counted = subst (λ l. IsCounted marks blocks l None) (sym whole) (subst (λ o. IsCounted marks blocks c.done o) is c.counted);
+      }

@@ -1,0 +1,26 @@
+use Rattle.std.proofs.Common.{◌<◌, ◌∙◌, ◌∷◌, sym, ap, subst}
+use Rattle.list_order.specs.Slots.{path_from, IsWalk}
+use Rattle.list_order.specs.Marks.{entries_along}
+use Rattle.list_order.proofs.Scanning.{step}
+use Rattle.list_order.proofs.OrderEntries.next_entry.Goals as goal
+
+pub slot_at-slot-requires : goal.slot_at-slot-requires
+slot_at-slot-requires c = (step c.self.inside.slots.now c.self.inside.at c.in-Some.n c.in-Some.is c.self.invariant.walk).within
+
+pub mark_at-is_present-requires : goal.mark_at-is_present-requires
+mark_at-is_present-requires c =
+    subst (λ m. c.in-Some.n.0 < m) (sym c.self.invariant.marked) (step c.self.inside.slots.now c.self.inside.at c.in-Some.n c.in-Some.is c.self.invariant.walk).within
+
+pub invariant_of-self : goal.invariant_of-self
+invariant_of-self c = record {
+  walk = subst (λ s. IsWalk c.self.inside.slots.now s.next) (sym c.slot_at-slot.ensures) (step c.self.inside.slots.now c.self.inside.at c.in-Some.n c.in-Some.is c.self.invariant.walk).walk;
+  marked = c.self.invariant.marked;
+}
+
+pub returns-in-Some : goal.returns-in-Some
+returns-in-Some c =
+    let slots = c.self.inside.slots.now in
+    let marks = c.self.inside.marks.now in
+    let s = step slots c.self.inside.at c.in-Some.n c.in-Some.is c.self.invariant.walk in
+    sym c.self.view_is ∙ ap (entries_along slots marks) s.path
+    ∙ (λ i. ((sym c.slot_at-slot.ensures i).id, (sym c.mark_at-is_present.ensures i).is_present) ∷ entries_along slots marks (path_from slots (sym c.slot_at-slot.ensures i).next))

@@ -1,0 +1,126 @@
+-- What is kept of each slot beside its id and link: whether its id is present, and the block in which it stands.
+use Rattle.std.specs.Prelude.{◌≡◌, ◌⊎◌, ◌++◌, ◌<◌, ◌≤◌, ◌+◌, ◌-◌, ◌^◌, ℕ, suc, List, [], ◌∷◌, map, length, Bool, false, ◌&&◌, nat_eq, nat_le, Option, Some, None, slice_index_or, slice_set, if◌then◌else◌}
+use Rattle.lamport_id.specs.declared.id.Id.{Id}
+use Rattle.presence_set.specs.ById.{get}
+use Rattle.list_order.specs.declared.slots.Slot.{Slot}
+use Rattle.list_order.specs.declared.slots.SlotNumber.{SlotNumber}
+use Rattle.list_order.specs.declared.marks.Mark.{Mark}
+use Rattle.list_order.specs.declared.marks.Block.{Block}
+use Rattle.list_order.specs.Slots.{slot_at, path_from, IsOrder, IsWalk}
+
+-- a mark for numbers that name none
+abbrev pub unmarked : Mark
+unmarked = record { is_present = false; block = 0 }
+
+abbrev pub mark_at : List Mark → SlotNumber → Mark
+mark_at marks n = slice_index_or marks n.0 unmarked
+
+-- a block for numbers that name none
+abbrev pub no_block : Block
+no_block = record { present = 0; end = None }
+
+abbrev pub block_at : List Block → ℕ → Block
+block_at blocks k = slice_index_or blocks k no_block
+
+-- how many marks along a path pass a test
+abbrev pub count_where : (Mark → Bool) → List Mark → List SlotNumber → ℕ
+count_where test marks [] = 0
+count_where test marks (n ∷ path) = if test (mark_at marks n) then suc (count_where test marks path) else count_where test marks path
+
+abbrev pub is_marked : Mark → Bool
+is_marked m = m.is_present
+
+abbrev pub is_marked_in : ℕ → Mark → Bool
+is_marked_in k m = m.is_present && nat_eq m.block k
+
+-- the path from its first slot in block k or a later one
+abbrev pub from_block : ℕ → List Mark → List SlotNumber → List SlotNumber
+from_block k marks [] = []
+from_block k marks (n ∷ path) = if nat_le k (mark_at marks n).block then n ∷ path else from_block k marks path
+
+-- where a path starts that leads on to a slot
+abbrev pub start_of : Option SlotNumber → List SlotNumber → Option SlotNumber
+start_of at [] = at
+start_of at (n ∷ path) = Some n
+
+-- the blocks never fall along a path
+abbrev pub IsRising : ℕ → List Mark → List SlotNumber → Type 0
+IsRising low marks [] = Unit {0}
+IsRising low marks (n ∷ path) = (low ≤ (mark_at marks n).block) × IsRising (mark_at marks n).block marks path
+
+-- each block has the count of its present slots, and the slot behind it. What is in no block stands at the end
+pub record IsCounted (marks : List Mark) (blocks : List Block) (path : List SlotNumber) (at : Option SlotNumber) : Type 0 where
+  pub rising : IsRising 0 marks path
+  pub counted : (k : ℕ) → k < length blocks → (block_at blocks k).present ≡ count_where (is_marked_in k) marks path
+  pub ends : (k : ℕ) → k < length blocks → (block_at blocks k).end ≡ start_of at (from_block (suc k) marks path)
+
+-- the block in which a slot stands, or the first
+abbrev pub block_behind : List Mark → Option SlotNumber → ℕ
+block_behind marks None = 0
+block_behind marks (Some n) = (mark_at marks n).block
+
+-- the mark of a new slot behind another, or in front
+abbrev pub new_mark : List Mark → Option SlotNumber → Mark
+new_mark marks previous = record { is_present = false; block = block_behind marks previous }
+
+-- a count after a mark was changed
+abbrev pub bit : Bool → ℕ
+bit b = if b then 1 else 0
+
+abbrev pub moved : ℕ → Bool → Bool → ℕ
+moved count was is = count - bit was + bit is
+
+-- a mark with another presence
+abbrev pub set_mark : List Mark → SlotNumber → Bool → List Mark
+set_mark marks n is = slice_set marks n.0 (record { is_present = is; block = (mark_at marks n).block })
+
+-- a mark with another block
+abbrev pub set_block : List Mark → SlotNumber → ℕ → List Mark
+set_block marks n block = slice_set marks n.0 (record { is_present = (mark_at marks n).is_present; block = block })
+
+-- the open block was closed, or stays open
+abbrev pub IsClosed : List Block → List Block → ℕ → Option SlotNumber → ℕ → Type 0
+IsClosed blocks new present end left = ((new ≡ blocks ++ record { present = present; end = end } ∷ []) × (left ≡ 0)) ⊎ ((new ≡ blocks) × (left ≡ present))
+
+-- the same ids are present, and the blocks are cut anew
+pub record IsRecut (marks new : List Mark) (blocks : List Block) (path : List SlotNumber) : Type 0 where
+  pub same : (n : SlotNumber) → (mark_at new n).is_present ≡ (mark_at marks n).is_present
+  pub len : length new ≡ length marks
+  pub counted : IsCounted new blocks path None
+
+-- the blocks with one count moved
+abbrev pub moved_in : List Block → ℕ → Bool → Bool → List Block
+moved_in blocks k was is = slice_set blocks k (record { present = moved (block_at blocks k).present was is; end = (block_at blocks k).end })
+
+-- a count may be moved
+pub record MayMove (count : ℕ) (was is : Bool) : Type 0 where
+  pub enough : bit was ≤ count
+  pub fits : moved count was is < 2 ^ 64
+
+-- a mark may be changed
+pub record MaySet (marks : List Mark) (blocks : List Block) (present : ℕ) (n : SlotNumber) (is : Bool) : Type 0 where
+  pub within : n.0 < length marks
+  pub all : MayMove present (mark_at marks n).is_present is
+  pub in_block : (mark_at marks n).block < length blocks → MayMove (block_at blocks (mark_at marks n).block).present (mark_at marks n).is_present is
+
+-- what stands in the slots along a path
+abbrev pub entries_along : List Slot → List Mark → List SlotNumber → List (Id × Bool)
+entries_along slots marks path = map (λ n. ((slot_at slots n).id, (mark_at marks n).is_present)) path
+
+-- the ids along a path that are present
+abbrev pub present_along : List Slot → List Mark → List SlotNumber → List Id
+present_along slots marks [] = []
+present_along slots marks (n ∷ path) = if (mark_at marks n).is_present then (slot_at slots n).id ∷ present_along slots marks path else present_along slots marks path
+
+-- the order, its marks and its blocks fit together
+pub record IsKept (slots : List Slot) (first : Option SlotNumber) (index : List (Id × SlotNumber)) (marks : List Mark) (blocks : List Block) (present : ℕ) : Type 0 where
+  pub order : IsOrder slots first index
+  pub own : (n : SlotNumber) → n.0 < length slots → get index (slot_at slots n).id ≡ Some n
+  pub marked : length marks ≡ length slots
+  pub counted : IsCounted marks blocks (path_from slots first) None
+  pub all : present ≡ count_where is_marked marks (path_from slots first)
+
+-- a slot from which links and marks lead on
+pub record IsThere (slots : List Slot) (marks : List Mark) (at : Option SlotNumber) : Type 0 where
+  pub walk : IsWalk slots at
+  pub marked : length marks ≡ length slots

@@ -1,0 +1,269 @@
+//! What is kept of each slot beside its id and link, and the blocks that count the present ids.
+ghost use Rattle.std.specs.Prelude.{◌≡◌, ◌^◌, ◌&&◌, nat_eq, ◌+◌, ◌-◌, ◌<◌, ◌≤◌, ◌++◌, ◌∷◌, [], length, suc, None, Some, slice_get, vec_capacity};
+ghost use Rattle.std.specs.Option.{ForSome};
+ghost use Rattle.list_order.specs.Slots.{path_from, IsWalk};
+ghost use Rattle.list_order.specs.Marks.{bit, block_at, moved_in, present_along, set_block, set_mark, new_mark, IsClosed, IsCounted, IsRecut, MaySet};
+ghost use Rattle.list_order.specs.Marks as Spec;
+
+use crate::slots::{Slot, SlotNumber, slot_at};
+use lamport_id::Id;
+
+/// How many slots a block has when the blocks are cut.
+const BLOCK_LEN: usize = 64;
+
+/// Whether the id of a slot is present, and the block in which the slot stands.
+#[derive(Clone, Copy)]
+pub struct Mark {
+    pub is_present: bool,
+    pub block: usize,
+}
+
+/// How many ids of a block are present, and the slot behind the block.
+#[derive(Clone, Copy)]
+pub struct Block {
+    pub present: usize,
+    pub end: Option<SlotNumber>,
+}
+
+/// The mark of a slot.
+pub fn mark_at(marks: &[Mark], n: SlotNumber) -> Mark
+    requires { n.0 < length marks.now }
+    ensures { result ≡ Spec.mark_at marks.now n }
+{
+    marks[n.0]
+}
+
+/// Marks the id of a slot as present or not.
+pub fn set_mark(marks: &mut Vec<Mark>, n: SlotNumber, is_present: bool)
+    requires { n.0 < length marks.old.items }
+    ensures items { marks.new.items ≡ set_mark marks.old.items n is_present }
+    ensures capacity { vec_capacity marks.new ≡ vec_capacity marks.old }
+{
+    marks[n.0].is_present = is_present;
+}
+
+/// The block in which a slot stands, or the first.
+fn block_behind(marks: &[Mark], previous: Option<SlotNumber>) -> usize
+    requires { ForSome previous (λ p. p.0 < length marks.now) }
+    ensures { result ≡ Spec.block_behind marks.now previous }
+{
+    match previous {
+        None => 0,
+        Some(n) => mark_at(marks, n).block,
+    }
+}
+
+/// Adds the mark of a new slot that stands behind another, or in front.
+pub fn add_mark(marks: &mut Vec<Mark>, previous: Option<SlotNumber>)
+    requires known { ForSome previous (λ p. p.0 < length marks.old.items) }
+    requires room { length marks.old.items < vec_capacity marks.old }
+    ensures items { marks.new.items ≡ marks.old.items ++ new_mark marks.old.items previous ∷ [] }
+    ensures capacity { vec_capacity marks.new ≡ vec_capacity marks.old }
+{
+    let block = block_behind(marks.as_slice(), previous);
+    let last = marks.len();
+    match marks.insert(
+        last,
+        Mark {
+            is_present: false,
+            block,
+        },
+    ) {
+        Ok(()) => {}
+        Err(_) => unreachable!(),
+    }
+}
+
+/// 1 for what is so.
+fn bit(is: bool) -> usize
+    ensures { result ≡ bit is }
+{
+    if is { 1 } else { 0 }
+}
+
+/// A count after one mark was changed.
+pub fn moved(count: usize, was: bool, is: bool) -> usize
+    requires counted { bit was ≤ count }
+    requires fits { Spec.moved count was is < 2 ^ 64 }
+    ensures { result ≡ Spec.moved count was is }
+{
+    count - bit(was) + bit(is)
+}
+
+/// Moves the count of a block, if there is one of that number.
+pub fn move_count(blocks: &mut Vec<Block>, k: usize, was: bool, is: bool)
+    requires counted { k < length blocks.old.items → bit was ≤ (block_at blocks.old.items k).present }
+    requires fits { k < length blocks.old.items → Spec.moved (block_at blocks.old.items k).present was is < 2 ^ 64 }
+    ensures { blocks.new.items ≡ moved_in blocks.old.items k was is }
+{
+    if k < blocks.len() {
+        let count = blocks[k].present;
+        blocks[k].present = moved(count, was, is);
+    }
+}
+
+/// Whether the wanted id is reached.
+fn is_due(is_present: bool, left: usize) -> bool
+    ensures { result ≡ (is_present && nat_eq left 0) }
+{
+    is_present && left == 0
+}
+
+/// The i-th present id from a slot on.
+fn nth_from(slots: &[Slot], marks: &[Mark], start: Option<SlotNumber>, i: usize) -> Option<Id>
+    requires walk { IsWalk slots.now start }
+    requires marked { length marks.now ≡ length slots.now }
+    ensures { result ≡ slice_get (present_along slots.now marks.now (path_from slots.now start)) i }
+{
+    let mut left = i;
+    let mut at = start;
+    while let Some(n) = at {
+        let slot = slot_at(slots, n);
+        let is_present = mark_at(marks, n).is_present;
+        if is_due(is_present, left) {
+            return Some(slot.id);
+        }
+        left -= bit(is_present);
+        at = slot.next;
+    }
+    None
+}
+
+/// The i-th present id: it goes from block to block, and then from slot to slot.
+pub fn nth_along(
+    slots: &[Slot],
+    first: Option<SlotNumber>,
+    marks: &[Mark],
+    blocks: &[Block],
+    i: usize,
+) -> Option<Id>
+    requires walk { IsWalk slots.now first }
+    requires marked { length marks.now ≡ length slots.now }
+    requires counted { IsCounted marks.now blocks.now (path_from slots.now first) None }
+    ensures { result ≡ slice_get (present_along slots.now marks.now (path_from slots.now first)) i }
+{
+    let mut left = i;
+    let mut at = first;
+    for block in blocks {
+        if left < block.present {
+            break;
+        }
+        left -= block.present;
+        at = block.end;
+    }
+    nth_from(slots, marks, at, left)
+}
+
+/// What stands behind the blocks that are cut so far.
+#[derive(Clone, Copy)]
+struct Open {
+    len: usize,
+    present: usize,
+}
+
+/// Puts a slot into a block. The answer is whether its id is present.
+fn set_block(marks: &mut Vec<Mark>, n: SlotNumber, block: usize) -> bool
+    requires { n.0 < length marks.old.items }
+    ensures items { marks.new.items ≡ set_block marks.old.items n block }
+    ensures capacity { vec_capacity marks.new ≡ vec_capacity marks.old }
+    ensures presence { result ≡ (Spec.mark_at marks.old.items n).is_present }
+{
+    marks[n.0].block = block;
+    marks[n.0].is_present
+}
+
+/// Closes a block that is long enough, where there is room for one.
+fn closed(blocks: &mut Vec<Block>, open: Open, end: Option<SlotNumber>) -> Open
+    ensures { IsClosed blocks.old.items blocks.new.items open.present end result.present }
+{
+    if open.len >= BLOCK_LEN && blocks.len() < blocks.capacity() {
+        let last = blocks.len();
+        match blocks.insert(
+            last,
+            Block {
+                present: open.present,
+                end,
+            },
+        ) {
+            Ok(()) => {}
+            Err(_) => unreachable!(),
+        }
+        Open { len: 0, present: 0 }
+    } else {
+        open
+    }
+}
+
+/// Cuts the list into blocks anew.
+fn recut(slots: &[Slot], first: Option<SlotNumber>, marks: &mut Vec<Mark>, blocks: &mut Vec<Block>)
+    requires walk { IsWalk slots.now first }
+    requires marked { length marks.old.items ≡ length slots.now }
+    ensures cut { IsRecut marks.old.items marks.new.items blocks.new.items (path_from slots.now first) }
+    ensures capacity { vec_capacity marks.new ≡ vec_capacity marks.old }
+{
+    blocks.clear();
+    let mut open = Open { len: 0, present: 0 };
+    let mut at = first;
+    while let Some(n) = at {
+        let is_present = set_block(marks, n, blocks.len());
+        at = slot_at(slots, n).next;
+        let longer = Open {
+            len: open.len.saturating_add(1),
+            present: open.present + bit(is_present),
+        };
+        open = closed(blocks, longer, at);
+    }
+}
+
+/// How long a list is that is cut for the first time.
+pub const FIRST_CUT: usize = 128;
+
+/// How long a list is to be when it is cut the next time.
+fn next_limit(len: usize) -> usize {
+    len.saturating_add(64 + len / 64)
+}
+
+/// Cuts the list into blocks anew, where enough slots are new.
+pub fn recut_if_due(
+    slots: &[Slot],
+    first: Option<SlotNumber>,
+    marks: &mut Vec<Mark>,
+    blocks: &mut Vec<Block>,
+    limit: &mut usize,
+)
+    requires walk { IsWalk slots.now first }
+    requires marked { length marks.old.items ≡ length slots.now }
+    requires counted { IsCounted marks.old.items blocks.old.items (path_from slots.now first) None }
+    ensures cut { IsRecut marks.old.items marks.new.items blocks.new.items (path_from slots.now first) }
+    ensures capacity { vec_capacity marks.new ≡ vec_capacity marks.old }
+{
+    if *limit < slots.len() {
+        recut(slots, first, marks, blocks);
+        *limit = next_limit(slots.len());
+    }
+}
+
+/// How many more blocks a list of this length is to have room for.
+pub fn blocks_wanted(len: usize, blocks: usize) -> usize {
+    (len / BLOCK_LEN).saturating_sub(blocks)
+}
+
+/// Marks the id of a slot as present or not, and moves the counts.
+pub fn set_presence(
+    marks: &mut Vec<Mark>,
+    blocks: &mut Vec<Block>,
+    present: &mut usize,
+    n: SlotNumber,
+    is: bool,
+)
+    requires may { MaySet marks.old.items blocks.old.items present.old n is }
+    ensures marks { marks.new.items ≡ set_mark marks.old.items n is }
+    ensures capacity { vec_capacity marks.new ≡ vec_capacity marks.old }
+    ensures blocks { let mark = Spec.mark_at marks.old.items n in blocks.new.items ≡ moved_in blocks.old.items mark.block mark.is_present is }
+    ensures present { present.new ≡ Spec.moved present.old (Spec.mark_at marks.old.items n).is_present is }
+{
+    let mark = mark_at(marks.as_slice(), n);
+    set_mark(marks, n, is);
+    move_count(blocks, mark.block, mark.is_present, is);
+    *present = moved(*present, mark.is_present, is);
+}
