@@ -7,7 +7,7 @@ use Rattle.doc_words.specs.declared.ask.Command.{Command}
 use Rattle.doc_words.specs.declared.ask.Query.{Query}
 use Rattle.doc_words.specs.declared.reply.Reply.{Reply}
 use Rattle.doc_words.specs.declared.reply.Reply.TheVariants.{Refused}
-use Rattle.doc_rules.specs.Document.{Document, Acts, Answers, count_of, logged_by}
+use Rattle.doc_rules.specs.Document.{Document, Acts, Answers, count_of, count_in, logged_by}
 
 pub record Seat : Type 0 where
   -- its document's place on the shelf, and its own among the document's seats
@@ -37,10 +37,12 @@ pub record IsAnswerTo (s t : Seat) (a : Answer) : Type 0 where
   pub calls : t.calls ≡ s.calls + 1
   pub of : (a.number ≡ s.number) × (a.seat ≡ s.seat) × (a.place ≡ t.calls)
 
--- a command for a seat: one event, told to the seat, which has as many operations as it was told, before and after
+-- a command for a seat: one event, told to the seat, which has as many operations as it was told, before and after; it was told
+-- of as many more as the reply counts
 pub record ActsFor (d : Document) (s : Seat) (command : Command) (a : Answer) (e : Document) (t : Seat) : Type 0 where
   pub event : Acts d s.seat command a.reply e
   pub told : t.told ≡ s.told ++ ids_of (drop (length d.replica.log) e.replica.log)
+  pub rises : length t.told ≡ length s.told + count_in a.reply
   pub before : count_of s.seat d.seats_of ≡ length s.told
   pub after : count_of s.seat e.seats_of ≡ length t.told
   pub answer : IsAnswerTo s t a
@@ -52,10 +54,11 @@ pub record AnswersFor (d : Document) (s : Seat) (query : Query) (a : Answer) (t 
   pub counted : count_of s.seat d.seats_of ≡ length s.told
   pub answer : IsAnswerTo s t a
 
--- a call with a seat of another document
+-- a call with a seat of another document: the answer is to that seat, and of no call of it
 pub record TurnsAway (d : Document) (s : Seat) (a : Answer) (e : Document) (t : Seat) : Type 0 where
   pub same : (e ≡ d) × (t ≡ s)
   pub answer : (a.reply ≡ Refused NotOpen) × (a.place ≡ 0)
+  pub of : (a.number ≡ s.number) × (a.seat ≡ s.seat)
 
 -- ---- at the end
 
