@@ -1,6 +1,5 @@
--- The element at an index among those of a list for which something holds.
-use Rattle.std.proofs.Common.{◌≡◌, ℕ, suc, ◌+◌, ◌-◌, ◌<◌, ◌≤◌, arith, List, [], ◌∷◌, length, get_or, drop, ◌⊎◌, inl, inr, Option, Some, None, slice_get, refl, sym, ap, subst, ◌∙◌}
-use Rattle.std.proofs.lemmas.List.{drop_all}
+-- Those elements of a list for which something holds.
+use Rattle.std.proofs.Common.{List, [], ◌∷◌, filter, Bool, true, false, true≢false, if◌then◌else◌, Decides, ◌⊎◌, inl, inr, Option, refl, sym}
 use Rattle.lamport_id.specs.declared.id.Id.{Id}
 use Rattle.json_scalar.specs.declared.scalar.Scalar.{Scalar}
 use Rattle.op_core.specs.declared.cursor.Key.{Key}
@@ -11,8 +10,6 @@ use Rattle.doc_tree.specs.Nodes.{tree_facts}
 use Rattle.doc_rules.specs.Reads.{AreElements, into_list}
 use Rattle.doc_rules.specs.Sorted.{AreThose}
 use Rattle.doc_rules.specs.Sorted.AreThose.{none, keep, skip}
-use Rattle.doc_view.specs.Readings.{IsNth}
-use Rattle.doc_view.proofs.Lists.{drop_read}
 use Rattle.doc_view.proofs.Presence.{present_or_not}
 
 module _ {X : Type 0} {holds : X → Type 0} where
@@ -26,24 +23,14 @@ module _ {X : Type 0} {holds : X → Type 0} where
         | inr h ↦ (rest.0, skip h rest.1)
       ]
 
-  pub nth_past : (xs : List X) (i n : ℕ) → length xs ≤ i → IsNth holds (drop i xs) n None
-  nth_past xs i n past = subst (λ (l : List X). IsNth holds l n None) (sym (drop_all i xs past)) ([], none, refl)
-
-  module _ (xs : List X) (i : ℕ) (x : X) (within : i < length xs) (is : x ≡ get_or xs i x) where
-    pub nth_here : ((y : X) → holds y ⊎ ¬ (holds y)) → holds x → IsNth holds (drop i xs) 0 (Some x)
-    nth_here known h =
-        let rest = those_exist known (drop (i + 1) xs) in
-        subst (λ (l : List X). IsNth holds l 0 (Some x)) (sym (drop_read xs i x within is)) (x ∷ rest.0, keep h rest.1, refl)
-
-    pub nth_behind : (n : ℕ) (found : Option X) → 0 < n → holds x → IsNth holds (drop (i + 1) xs) (n - 1) found → IsNth holds (drop i xs) n found
-    nth_behind n found some h there =
-        let e : suc (n - 1) ≡ n = omega (arith, some) in
-        subst (λ (l : List X). IsNth holds l n found) (sym (drop_read xs i x within is))
-        (x ∷ there.0, keep h there.1, there.2 ∙ ap (slice_get (x ∷ there.0)) e)
-
-    pub nth_skipping : (n : ℕ) (found : Option X) → ¬ (holds x) → IsNth holds (drop (i + 1) xs) n found → IsNth holds (drop i xs) n found
-    nth_skipping n found h there =
-        subst (λ (l : List X). IsNth holds l n found) (sym (drop_read xs i x within is)) (there.0, skip h there.1, there.2)
+  -- and a test that decides it keeps them
+  pub those_filtered : (test : X → Bool) → ((x : X) → Decides (test x) (holds x)) → (xs : List X) → AreThose holds xs (filter test xs)
+  those_filtered test decides [] = none
+  those_filtered test decides (x ∷ xs) = go (test x) (decides x) (those_filtered test decides xs)
+    where
+      go : (b : Bool) → Decides b (holds x) → AreThose holds xs (filter test xs) → AreThose holds (x ∷ xs) (if b then x ∷ filter test xs else filter test xs)
+      go true d rest = keep (d.0 refl) rest
+      go false d rest = skip (λ h. true≢false (sym (d.1 h))) rest
 
 -- a list has its present elements, whether they are read or not
 pub elements_exist : (tree : List Node × Option Scalar) (p : List Tagged) (k : Key) → (ids : List Id) × AreElements (tree_facts tree) p k ids

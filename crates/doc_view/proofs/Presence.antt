@@ -12,7 +12,8 @@ use Rattle.presence_set.specs.ById.{get, IsAscending}
 use Rattle.doc_nodes.specs.declared.node.Node.{Node}
 use Rattle.doc_nodes.specs.declared.node.NodeNumber.{NodeNumber}
 use Rattle.doc_nodes.specs.Nodes.{facts_of, node_at, node_of}
-use Rattle.doc_tree.specs.Nodes.{tree_facts, tree_role}
+use Rattle.doc_nodes.specs.Flags.{is_some_entry, stands}
+use Rattle.doc_tree.specs.Nodes.{tree_facts, tree_present, tree_role}
 use Rattle.doc_tree.proofs.Reading.{role_read, role_absent}
 use Rattle.doc_rules.specs.Reads.{IsPresent}
 use Rattle.doc_view.proofs.Entries.{get-Contains, Contains-get}
@@ -67,3 +68,15 @@ present_or_not tree p k = let there = roles_there tree p k in go there.0 there.1
     go : (roles : List (Id × Role)) → ((i : Id) → get roles i ≡ tree_role tree p k i) → IsPresent (tree_facts tree) p k ⊎ ¬ (IsPresent (tree_facts tree) p k)
     go [] is = inr (λ w. true≢false (sym w.1 ∙ present_role tree p k w.0 ∙ ap is_some (sym (is w.0))))
     go (e ∷ roles) is = inl (e.0, present_role tree p k e.0 ∙ ap is_some (sym (is e.0)) ∙ (rw (id_decides.itself e.0) refl))
+
+-- what the tree tells of a place decides it
+pub tree_decides : (tree : List Node × Option Scalar) (p : List Tagged) (k : Key) → Decides (tree_present tree p k) (IsPresent (tree_facts tree) p k)
+tree_decides tree p k = go (node_at tree.0 p k) refl
+  where
+    of : (roles : List (Id × Role)) → ((i : Id) → get roles i ≡ tree_role tree p k i) → Decides (is_some_entry roles) (IsPresent (tree_facts tree) p k)
+    of [] is = (λ h. absurd (true≢false (sym h)), λ w. absurd (true≢false (sym w.1 ∙ present_role tree p k w.0 ∙ ap is_some (sym (is w.0)))))
+    of (e ∷ roles) is = (λ h. (e.0, present_role tree p k e.0 ∙ ap is_some (sym (is e.0)) ∙ (rw (id_decides.itself e.0) refl)), λ w. refl)
+
+    go : (o : Option NodeNumber) → node_at tree.0 p k ≡ o → Decides (stands tree.0 o) (IsPresent (tree_facts tree) p k)
+    go None e = of [] (role_absent tree.0 p k e)
+    go (Some n) e = of (node_of tree.0 n).presence.0 (role_read tree.0 p k n e)

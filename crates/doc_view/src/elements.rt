@@ -92,33 +92,10 @@ fn keep(kept: &mut Vec<Id>, id: &Id, is_kept: bool) -> Result<(), Refusal>
 }
 
 /// The present element at an index of the list to which a path leads, the first at 0.
-pub fn element_by_index(
-    alloc: Global,
-    tree: &Tree,
-    list: &Path,
-    index: u64,
-) -> Result<Option<Id>, Refusal>
-    ensures { Gives (IsNth (λ i. IsPresent (tree_facts tree.now) list.now (Element i)) ((tree_facts tree.now).order list.now) index) result }
+pub fn element_by_index(tree: &Tree, list: &Path, index: u64) -> Option<Id>
+    ensures { IsNth (λ i. IsPresent (tree_facts tree.now) list.now (Element i)) ((tree_facts tree.now).order list.now) index result }
 {
-    let order = order_of(alloc, tree, list)?;
-    Ok(nth_present(tree, list, order.as_slice(), index))
-}
-
-// Whether an element is present costs a walk through the tree, so none is asked behind the one that is wanted.
-fn nth_present(tree: &Tree, list: &Path, ids: &[Id], index: u64) -> Option<Id>
-    ensures { IsNth (λ i. IsPresent (tree_facts tree.now) list.now (Element i)) ids.now index result }
-{
-    let mut left = index;
-    for id in ids {
-        if !is_element(tree, list, id) {
-            continue;
-        }
-        if left == 0 {
-            return Some(*id);
-        }
-        left -= 1;
-    }
-    None
+    tree.nth_present(list, index as usize)
 }
 
 /// All elements of the list to which a path leads, in list order.

@@ -38,25 +38,25 @@ pub fn resolve(alloc: Global, tree: &Tree, start: Cursor, steps: &[Step]) -> Res
     ensures { result ≢ Err NoMemory → rules.Resolves (tree_facts tree.now) start steps.now result }
 {
     let from = checked(alloc, tree, start)?;
-    follow(alloc, tree, from, steps)
+    follow(tree, from, steps)
 }
 
-fn follow(alloc: Global, tree: &Tree, start: Cursor, steps: &[Step]) -> Result<Cursor, Refusal>
+fn follow(tree: &Tree, start: Cursor, steps: &[Step]) -> Result<Cursor, Refusal>
     ensures { result ≢ Err NoMemory → rules.Leads (tree_facts tree.now) steps.now (Ok start) result }
 {
     let mut cursor = start;
     for step in steps {
-        cursor = go(alloc, tree, cursor, step)?;
+        cursor = go(tree, cursor, step)?;
     }
     Ok(cursor)
 }
 
-fn go(alloc: Global, tree: &Tree, from: Cursor, step: &Step) -> Result<Cursor, Refusal>
+fn go(tree: &Tree, from: Cursor, step: &Step) -> Result<Cursor, Refusal>
     ensures { result ≢ Err NoMemory → rules.Goes (tree_facts tree.now) from step.now result }
 {
     match step {
         Step::Get(text) => to_text(from, text),
-        Step::Index(index) => to_index(alloc, tree, from, *index),
+        Step::Index(index) => to_index(tree, from, *index),
     }
 }
 
@@ -98,23 +98,23 @@ fn below_list(from: Cursor, key: Key) -> Result<Cursor, Refusal>
     Ok(Cursor { path, key })
 }
 
-fn to_index(alloc: Global, tree: &Tree, from: Cursor, index: u64) -> Result<Cursor, Refusal>
+fn to_index(tree: &Tree, from: Cursor, index: u64) -> Result<Cursor, Refusal>
     ensures { result ≢ Err NoMemory → rules.Goes (tree_facts tree.now) from (Index index) result }
 {
     may_go_on(&from)?;
-    let key = key_at(alloc, tree, &from, index)?;
+    let key = key_at(tree, &from, index)?;
     to_key(from, key)
 }
 
 /// The key to which an index leads. The head is before all elements, so that none is read for it.
-fn key_at(alloc: Global, tree: &Tree, from: &Cursor, index: u64) -> Result<Option<Key>, Refusal>
+fn key_at(tree: &Tree, from: &Cursor, index: u64) -> Result<Option<Key>, Refusal>
     ensures { Gives (λ key. (ids : List Id) × AreElements (tree_facts tree.now) from.now.path from.now.key ids × (key ≡ rules.key_at ids index)) result }
 {
     if index == 0 {
         return Ok(Some(Key::Head));
     }
     let list = into_list(&from.path, &from.key)?;
-    let id = element_by_index(alloc, tree, &list, index - 1)?;
+    let id = element_by_index(tree, &list, index - 1);
     Ok(id.map(Key::Element))
 }
 

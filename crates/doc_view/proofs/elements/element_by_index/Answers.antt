@@ -1,14 +1,15 @@
-use Rattle.std.proofs.Common.{List, subst, ◌∙◌}
-use Rattle.lamport_id.specs.declared.id.Id.{Id}
+use Rattle.std.proofs.Common.{filter}
 use Rattle.op_core.specs.declared.cursor.Key.TheVariants.{Element}
-use Rattle.doc_tree.specs.Nodes.{tree_facts}
-use Rattle.doc_rules.specs.Reads.{IsPresent}
-use Rattle.doc_view.specs.Readings.{IsNth}
+use Rattle.doc_tree.specs.Nodes.{tree_facts, tree_present}
+use Rattle.doc_view.proofs.Indexed.{those_filtered}
+use Rattle.doc_view.proofs.Presence.{tree_decides}
 use Rattle.doc_view.proofs.elements.element_by_index.Goals as goal
 
 pub returns : goal.returns
 returns c =
-    subst
-    (λ (xs : List Id). IsNth (λ i. IsPresent (tree_facts c.args.tree.now) c.args.list.now (Element i)) xs c.args.index c.nth_present.result)
-    (c.as_slice.ensures.value ∙ c.in_ok-order.ensures)
-    c.nth_present.ensures
+    let tree = c.args.tree.now in
+    let list = c.args.list.now in (
+      filter (λ i. tree_present tree list (Element i)) ((tree_facts tree).order list),
+      those_filtered (λ i. tree_present tree list (Element i)) (λ i. tree_decides tree list (Element i)) ((tree_facts tree).order list),
+      c.nth_present.ensures,
+    )

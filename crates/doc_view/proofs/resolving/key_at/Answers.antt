@@ -14,6 +14,6 @@ pub returns : goal.returns
 returns c =
     let some : 0 < c.args.index = search rules in
     let e : suc (c.args.index - 1) ≡ c.args.index = omega (arith, some) in
-    let mapped : c.map.result ≡ option_map Element c.in_ok-id.id = search rules in
-    let there = rw c.in_ok-list.ensures at c.in_ok-id.ensures in
+    let mapped : c.map.result ≡ option_map Element c.element_by_index-id.result = search rules in
+    let there = rw c.in_ok-list.ensures at c.element_by_index-id.ensures in
     (there.0, there.1, mapped ∙ ap (option_map Element) there.2 ∙ ap (reading.key_at there.0) e)
