@@ -7,3 +7,4 @@ pub mod Leading
 pub mod MapLaws
 pub mod NoFloat
 pub mod ShowLaws
+pub mod ByNumber

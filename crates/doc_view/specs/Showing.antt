@@ -1,5 +1,5 @@
 -- What the parts of a shown element stand for, and their JSON.
-use Rattle.std.specs.Prelude.{◌≡◌, ◌<◌, ℕ, List, [], ◌∷◌, map, length, Bool, true, false, Option}
+use Rattle.std.specs.Prelude.{◌≡◌, ℕ, List, [], ◌∷◌, map, Bool, true, false, Option}
 use Rattle.serde_json.specs.Data.{Data, string}
 use Rattle.lamport_id.specs.declared.id.Id.{Id}
 use Rattle.json_scalar.specs.declared.scalar.Scalar.{Scalar}
@@ -7,7 +7,6 @@ use Rattle.op_core.specs.declared.cursor.Key.{Key}
 use Rattle.op_core.specs.declared.cursor.Key.TheVariants.{Text, Element}
 use Rattle.op_core.specs.declared.cursor.Tagged.{Tagged}
 use Rattle.op_core.specs.Wire.{list_data}
-use Rattle.crdt_rules.specs.Facts.{Facts}
 use Rattle.doc_words.specs.declared.role.Role.{Role}
 use Rattle.doc_words.specs.declared.role.Role.TheVariants as role
 use Rattle.doc_nodes.specs.declared.node.Node.{Node}
@@ -16,10 +15,6 @@ use Rattle.doc_rules.specs.Reads.{IsPresent}
 use Rattle.doc_rules.specs.Shown.{Shown, MapShown, ListShown, Shows, ShowsMap, ShowsList, shown_data, map_branch, list_branch}
 use Rattle.doc_rules.specs.Sorted.{AreThose}
 use Rattle.doc_view.specs.Told.{tree_values}
-
--- no place that is present lies as deep as this
-abbrev pub IsBelow : Facts → ℕ → Type 0
-IsBelow f bound = (p : List Tagged) (k : Key) (i : Id) → f.present p k i ≡ true → length p < bound
 
 abbrev pub is_map : Role → Bool
 is_map role.Map = true

@@ -1,14 +1,17 @@
 //! Elements of lists.
-ghost use Rattle.std.specs.Prelude.{◌≡◌, Decides, ◌++◌, ◌∷◌, [], if◌then◌else◌};
+ghost use Rattle.std.specs.Prelude.{◌≡◌, ◌<◌, Decides, ◌++◌, ◌∷◌, [], length};
+ghost use Rattle.std.specs.Option.{ForSome};
 ghost use Rattle.doc_tree.specs.Nodes.{tree_facts};
 ghost use Rattle.op_core.specs.declared.cursor.Key.TheVariants.{Element};
-ghost use Rattle.doc_rules.specs.Reads.{AreItems, AreValues, HaveValues, IsPresent};
-ghost use Rattle.doc_rules.specs.Sorted.{AreThose};
+ghost use Rattle.doc_rules.specs.Reads as reads;
+ghost use Rattle.doc_rules.specs.Reads.{AreItems, IsPresent};
+ghost use Rattle.doc_view.specs.ByNumber.{AtNode, HasItems, IsElementAt};
+ghost use Rattle.doc_view.specs.Members.{listed};
 ghost use Rattle.doc_view.specs.Readings.{Gives, IsNth, ReadsHere};
 
-use crate::place::{into_list, is_head};
-use crate::registers::values_at;
-use doc_tree::Tree;
+use crate::place::is_head;
+use crate::registers::values_below;
+use doc_tree::{NodeNumber, Tree};
 use doc_words::{Items, Scalars};
 use json_scalar::Refusal;
 use lamport_id::Id;
@@ -29,66 +32,85 @@ pub fn items(alloc: Global, tree: &Tree, cursor: &Cursor) -> Result<Items, Refus
 fn items_at(alloc: Global, tree: &Tree, path: &Path, key: &Key) -> Result<Items, Refusal>
     ensures { Gives (AreItems (tree_facts tree.now) path.now key.now) result }
 {
-    let below = into_list(path, key)?;
-    let ids = elements_in(alloc, tree, &below)?;
-    let items = items_of(alloc, tree, &below, ids.as_slice())?;
+    match tree.node_at(path, key) {
+        None => Ok(Items::from(Vec::new(alloc))),
+        Some(at) => items_below(alloc, tree, at),
+    }
+}
+
+fn items_below(alloc: Global, tree: &Tree, at: NodeNumber) -> Result<Items, Refusal>
+    ensures { Gives (λ items. AtNode tree.now at (λ p k. AreItems (tree_facts tree.now) p k items)) result }
+{
+    let ids = tree.elements_of(alloc, at)?;
+    let items = items_of(alloc, tree, at, ids.as_slice())?;
     Ok(Items::from(items))
 }
 
 fn items_of(
     alloc: Global,
     tree: &Tree,
-    list: &Path,
+    list: NodeNumber,
     ids: &[Id],
 ) -> Result<Vec<(Id, Scalars)>, Refusal>
-    ensures { Gives (λ items. HaveValues (tree_facts tree.now) list.now ids.now items.items) result }
+    ensures { Gives (λ items. AtNode tree.now list (λ p k. HasItems (tree_facts tree.now) (reads.into_list p k) ids.now items.items)) result }
 {
     let mut items = Vec::new(alloc);
     for id in ids {
-        let scalars = element_values(alloc, tree, list, id)?;
-        items.push((*id, scalars))?;
+        let item = item_at(alloc, tree, list, id)?;
+        push_item(&mut items, item)?;
     }
     Ok(items)
 }
 
-fn element_values(alloc: Global, tree: &Tree, list: &Path, id: &Id) -> Result<Scalars, Refusal>
-    ensures { Gives (AreValues (tree_facts tree.now) list.now (Element id.now)) result }
+/// An element of the list at a node with its scalars, if it is present.
+fn item_at(
+    alloc: Global,
+    tree: &Tree,
+    list: NodeNumber,
+    id: &Id,
+) -> Result<Option<(Id, Scalars)>, Refusal>
+    ensures { Gives (λ item. AtNode tree.now list (λ p k. HasItems (tree_facts tree.now) (reads.into_list p k) (id.now ∷ []) (listed item))) result }
 {
-    values_at(alloc, tree, list, &Key::Element(*id))
-}
-
-/// The present elements of the list to which a path leads, in list order.
-pub fn elements_in(alloc: Global, tree: &Tree, list: &Path) -> Result<Vec<Id>, Refusal>
-    ensures { Gives (λ ids. AreThose (λ i. IsPresent (tree_facts tree.now) list.now (Element i)) ((tree_facts tree.now).order list.now) ids.items) result }
-{
-    let order = order_of(alloc, tree, list)?;
-    present_ones(alloc, tree, list, order.as_slice())
-}
-
-fn present_ones(alloc: Global, tree: &Tree, list: &Path, ids: &[Id]) -> Result<Vec<Id>, Refusal>
-    ensures { Gives (λ kept. AreThose (λ i. IsPresent (tree_facts tree.now) list.now (Element i)) ids.now kept.items) result }
-{
-    let mut present = Vec::new(alloc);
-    for id in ids {
-        let is_kept = is_element(tree, list, id);
-        keep(&mut present, id, is_kept)?;
+    match present_element(tree, list, id) {
+        None => Ok(None),
+        Some(at) => {
+            let scalars = values_below(alloc, tree, at)?;
+            Ok(Some((*id, scalars)))
+        }
     }
-    Ok(present)
+}
+
+fn push_item(items: &mut Vec<(Id, Scalars)>, item: Option<(Id, Scalars)>) -> Result<(), Refusal>
+    ensures { Gives (λ _. items.new.items ≡ items.old.items ++ listed item) result }
+{
+    if let Some(item) = item {
+        items.push(item)?;
+    }
+    Ok(())
+}
+
+/// The number of the node of an element of the list at a node, if the element is present.
+pub fn present_element(tree: &Tree, list: NodeNumber, id: &Id) -> Option<NodeNumber>
+    ensures value { AtNode tree.now list (λ p k. IsElementAt tree.now (reads.into_list p k) id.now result) }
+    ensures deeper { ForSome result (λ n. (list.0 < n.0) × (n.0 < length tree.now.0)) }
+{
+    match tree.child_of(list, &Key::Element(*id)) {
+        None => None,
+        Some(at) => { if is_here(tree, at) { Some(at) } else { None } }
+    }
+}
+
+/// Some id makes the place of a node present.
+pub fn is_here(tree: &Tree, at: NodeNumber) -> bool
+    ensures { AtNode tree.now at (λ p k. Decides result (IsPresent (tree_facts tree.now) p k)) }
+{
+    !tree.presence_of(at).is_empty()
 }
 
 fn is_element(tree: &Tree, list: &Path, id: &Id) -> bool
     ensures { Decides result (IsPresent (tree_facts tree.now) list.now (Element id.now)) }
 {
     is_present(tree, list, &Key::Element(*id))
-}
-
-fn keep(kept: &mut Vec<Id>, id: &Id, is_kept: bool) -> Result<(), Refusal>
-    ensures { Gives (λ _. kept.new.items ≡ kept.old.items ++ (if is_kept then id.now ∷ [] else [])) result }
-{
-    if is_kept {
-        kept.push(*id)?;
-    }
-    Ok(())
 }
 
 /// The present element at an index of the list to which a path leads, the first at 0.

@@ -1,14 +1,16 @@
 //! Members of maps.
-ghost use Rattle.std.specs.Prelude.{◌≡◌, ◌++◌, option_map};
+ghost use Rattle.std.specs.Prelude.{◌≡◌, ◌++◌, List, option_map};
+ghost use Rattle.op_core.specs.declared.cursor.Tagged.{Tagged};
 ghost use Rattle.op_core.specs.declared.cursor.Key.TheVariants.{Text};
 ghost use Rattle.doc_tree.specs.Nodes.{tree_facts};
 ghost use Rattle.doc_rules.specs.Reads.{AreKeys, IsPresent};
 ghost use Rattle.doc_rules.specs.Sorted.{AreThose};
+ghost use Rattle.doc_view.specs.ByNumber.{AreIn, IsTextAt};
 ghost use Rattle.doc_view.specs.Members.{listed, texts_at, texts_in};
 ghost use Rattle.doc_view.specs.Readings.{Gives, ReadsHere};
 
-use crate::elements::is_present;
-use crate::place::{into_map, is_head};
+use crate::elements::is_here;
+use crate::place::is_head;
 use doc_tree::{NodeNumber, Tree};
 use doc_words::Texts;
 use json_scalar::Refusal;
@@ -28,40 +30,35 @@ pub fn keys(alloc: Global, tree: &Tree, cursor: &Cursor) -> Result<Texts, Refusa
 fn keys_at(alloc: Global, tree: &Tree, path: &Path, key: &Key) -> Result<Texts, Refusal>
     ensures { Gives (AreKeys (tree_facts tree.now) path.now key.now) result }
 {
-    let map = into_map(path, key)?;
-    let texts = present_texts(alloc, tree, &map, tree.children(path, key))?;
+    let texts = present_texts(alloc, tree, tree.children(path, key))?;
     Ok(Texts::from(texts))
 }
 
+/// The texts of those of a map's children that are present.
 fn present_texts(
     alloc: Global,
     tree: &Tree,
-    map: &Path,
     children: &[(Key, NodeNumber)],
 ) -> Result<Vec<KeyText>, Refusal>
-    ensures { Gives (λ texts. AreThose (λ t. IsPresent (tree_facts tree.now) map.now (Text t)) (texts_in children.now) texts.items) result }
+    ensures { Gives (λ texts. (map : List Tagged) → AreIn tree.now map children.now
+        → AreThose (λ t. IsPresent (tree_facts tree.now) map (Text t)) (texts_in children.now) texts.items) result }
 {
     let mut texts = Vec::new(alloc);
     for child in children {
-        let text = present_text(tree, map, &child.0);
+        let text = present_text(tree, &child.0, child.1);
         keep_text(&mut texts, text)?;
     }
     Ok(texts)
 }
 
-/// The text of a key of the map, if it is a text and present.
-pub fn present_text<'a>(tree: &Tree, map: &Path, key: &'a Key) -> Option<&'a KeyText>
-    ensures { AreThose (λ t. IsPresent (tree_facts tree.now) map.now (Text t)) (texts_at key.now) (listed (option_map (λ text. text.now) result)) }
+/// The text of a child of a map, if it is a text and present.
+pub fn present_text<'a>(tree: &Tree, key: &'a Key, at: NodeNumber) -> Option<&'a KeyText>
+    ensures { (map : List Tagged) → IsTextAt tree.now map key.now at
+        → AreThose (λ t. IsPresent (tree_facts tree.now) map (Text t)) (texts_at key.now) (listed (option_map (λ text. text.now) result)) }
 {
     match key {
         Key::Doc => None,
-        Key::Text(text) => {
-            if is_present(tree, map, key) {
-                Some(text)
-            } else {
-                None
-            }
-        }
+        Key::Text(text) => { if is_here(tree, at) { Some(text) } else { None } }
         Key::Element(_) => None,
         Key::Head => None,
     }

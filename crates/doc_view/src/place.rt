@@ -18,14 +18,6 @@ pub fn is_head(key: &Key) -> bool
     }
 }
 
-/// The path into the map at a place.
-pub fn into_map(path: &Path, key: &Key) -> Result<Path, Refusal>
-    ensures { Gives (λ below. below ≡ reads.into_map path.now key.now) result }
-{
-    let tag = Tagged::Map(key.try_clone()?);
-    joined(path, tag)
-}
-
 /// The path into the list at a place.
 pub fn into_list(path: &Path, key: &Key) -> Result<Path, Refusal>
     ensures { Gives (λ below. below ≡ reads.into_list path.now key.now) result }

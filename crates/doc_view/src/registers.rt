@@ -3,10 +3,11 @@ ghost use Rattle.std.specs.Prelude.{◌≡◌, ◌≢◌, map, Err};
 ghost use Rattle.json_scalar.specs.declared.refusal.Refusal.TheVariants.{NoMemory};
 ghost use Rattle.doc_tree.specs.Nodes.{tree_facts};
 ghost use Rattle.doc_rules.specs.Reads.{AreValues, IsSum, total};
+ghost use Rattle.doc_view.specs.ByNumber.{AtNode};
 ghost use Rattle.doc_view.specs.Readings.{Gives, ReadsHere};
 
 use crate::place::is_head;
-use doc_tree::Tree;
+use doc_tree::{NodeNumber, Tree};
 use doc_words::Scalars;
 use json_scalar::{Refusal, Scalar};
 use lamport_id::Id;
@@ -28,6 +29,14 @@ pub fn values_at(alloc: Global, tree: &Tree, path: &Path, key: &Key) -> Result<S
     ensures { Gives (AreValues (tree_facts tree.now) path.now key.now) result }
 {
     let scalars = scalars_of(alloc, tree.register(path, key))?;
+    Ok(Scalars::from(scalars))
+}
+
+/// The scalars of the register of a node.
+pub fn values_below(alloc: Global, tree: &Tree, at: NodeNumber) -> Result<Scalars, Refusal>
+    ensures { Gives (λ scalars. AtNode tree.now at (λ p k. AreValues (tree_facts tree.now) p k scalars)) result }
+{
+    let scalars = scalars_of(alloc, tree.register_of(at))?;
     Ok(Scalars::from(scalars))
 }
 

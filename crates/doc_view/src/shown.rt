@@ -1,19 +1,23 @@
 //! Whole elements.
-ghost use Rattle.std.specs.Prelude.{◌≡◌, Contains, map, option_map};
+ghost use Rattle.std.specs.Prelude.{◌≡◌, ◌<◌, ◌∷◌, [], List, length, Contains, map, option_map};
 ghost use Rattle.serde_json.specs.View.{view};
-ghost use Rattle.lamport_id.specs.declared.id.Id.{Id};
-ghost use Rattle.op_core.specs.declared.cursor.Key.TheVariants.{Element};
+ghost use Rattle.op_core.specs.declared.cursor.Key.{Key};
+ghost use Rattle.op_core.specs.declared.cursor.Tagged.{Tagged};
+ghost use Rattle.doc_nodes.specs.declared.node.NodeNumber.{NodeNumber};
+ghost use Rattle.doc_nodes.specs.KeyOrder.{IsRising};
+ghost use Rattle.doc_nodes.specs.Nodes.{node_of};
 ghost use Rattle.doc_tree.specs.Nodes.{tree_facts};
-ghost use Rattle.doc_rules.specs.Reads.{IsPresent};
+ghost use Rattle.doc_rules.specs.Reads.{into_list, into_map};
 ghost use Rattle.doc_rules.specs.Shown.{ShowsText};
+ghost use Rattle.doc_view.specs.ByNumber.{AtNode, IsTextAt, ShowsThose};
 ghost use Rattle.doc_view.specs.Members.{listed, texts_at, texts_in};
 ghost use Rattle.doc_view.specs.Readings.{Gives, ReadsHere};
-ghost use Rattle.doc_view.specs.Showing.{AreFields, AreShown, IsBelow, IsListShown, IsMapShown, IsShown};
+ghost use Rattle.doc_view.specs.Showing.{AreFields, IsListShown, IsMapShown, IsShown};
 ghost use Rattle.doc_view.specs.Told.{tree_values};
 
-use crate::elements::elements_in;
+use crate::elements::present_element;
 use crate::maps::present_text;
-use crate::place::{into_list, into_map, is_head};
+use crate::place::is_head;
 use crate::roles::{puts_list, puts_map};
 use crate::written::{branch, branches, push_some, tagged};
 use doc_tree::{NodeNumber, Tree};
@@ -38,65 +42,62 @@ pub fn show(alloc: Global, tree: &Tree, cursor: &Cursor) -> Result<ShownText, Re
 fn text_at(alloc: Global, tree: &Tree, path: &Path, key: &Key) -> Result<ShownText, Refusal>
     ensures { Gives (ShowsText (tree_facts tree.now) (tree_values tree.now) path.now key.now) result }
 {
-    let element = shown_at(alloc, tree, path, key, tree.node_count())?;
+    let element = shown_at(alloc, tree, path, key)?;
     let text = element.to_string(alloc)?;
     Ok(ShownText::from(text))
 }
 
-// No place that is present lies as deep as `bound`, so the way down ends.
-#[cycle(shown)]
-fn shown_at(
-    alloc: Global,
-    tree: &Tree,
-    path: &Path,
-    key: &Key,
-    bound: usize,
-) -> Result<Value, Refusal>
-    requires { IsBelow (tree_facts tree.now) bound }
+fn shown_at(alloc: Global, tree: &Tree, path: &Path, key: &Key) -> Result<Value, Refusal>
     ensures { Gives (λ json. IsShown tree.now path.now key.now (view json)) result }
 {
-    let members = map_at(alloc, tree, path, key, bound)?;
-    let elements = list_at(alloc, tree, path, key, bound)?;
+    match tree.node_at(path, key) {
+        None => branches(alloc, None, None, &[], &[]),
+        Some(at) => shown_below(alloc, tree, at),
+    }
+}
+
+// The numbers of the nodes rise on the way down, so it ends.
+#[cycle(shown)]
+fn shown_below(alloc: Global, tree: &Tree, at: NodeNumber) -> Result<Value, Refusal>
+    ensures { Gives (λ json. AtNode tree.now at (λ p k. IsShown tree.now p k (view json))) result }
+{
+    let members = map_below(alloc, tree, at)?;
+    let elements = list_below(alloc, tree, at)?;
     branches(
         alloc,
         members,
         elements,
-        tree.register(path, key),
-        tree.counter(path, key),
+        tree.register_of(at),
+        tree.counter_of(at),
     )
 }
 
-/// The branch of the map at a place.
+/// The branch of the map at a node.
 #[cycle(shown)]
-fn map_at(
-    alloc: Global,
-    tree: &Tree,
-    path: &Path,
-    key: &Key,
-    bound: usize,
-) -> Result<Option<Value>, Refusal>
-    requires { IsBelow (tree_facts tree.now) bound }
-    ensures { Gives (λ part. IsMapShown tree.now path.now key.now (listed (option_map view part))) result }
+fn map_below(alloc: Global, tree: &Tree, at: NodeNumber) -> Result<Option<Value>, Refusal>
+    ensures { Gives (λ part. AtNode tree.now at (λ p k. IsMapShown tree.now p k (listed (option_map view part)))) result }
 {
-    let map = into_map(path, key)?;
-    let fields = fields_in(alloc, tree, &map, tree.children(path, key), bound)?;
-    branch(alloc, "map", fields, puts_map(tree.present(path, key)))
+    let fields = fields_in(alloc, tree, at, tree.children_of(at))?;
+    branch(alloc, "map", fields, puts_map(tree.presence_of(at)))
 }
 
 #[cycle(shown)]
 fn fields_in(
     alloc: Global,
     tree: &Tree,
-    members: &Path,
+    at: NodeNumber,
     children: &[(Key, NodeNumber)],
-    bound: usize,
 ) -> Result<Vec<Value>, Refusal>
-    requires { IsBelow (tree_facts tree.now) bound }
-    ensures { Gives (λ fields. AreFields tree.now members.now (texts_in children.now) (map view fields.items)) result }
+    requires these { children.now ≡ (node_of tree.now.0 at).children }
+    requires rising { IsRising children.now }
+    requires deeper { (k : Key) (n : NodeNumber) → Contains children.now (k, n)
+        → (at.0 < n.0) × (n.0 < length tree.now.0) }
+    ensures { Gives (λ fields. AtNode tree.now at
+        (λ p k. AreFields tree.now (into_map p k) (texts_in children.now) (map view fields.items))) result }
 {
     let mut fields = Vec::new(alloc);
     for child in children {
-        let field = field_at(alloc, tree, members, &child.0, bound)?;
+        let field = field_at(alloc, tree, &child.0, child.1)?;
         push_some(&mut fields, field)?;
     }
     Ok(fields)
@@ -104,75 +105,64 @@ fn fields_in(
 
 /// A text and what is shown under it, if the key is a text and present.
 #[cycle(shown)]
-fn field_at(
-    alloc: Global,
-    tree: &Tree,
-    members: &Path,
-    key: &Key,
-    bound: usize,
-) -> Result<Option<Value>, Refusal>
-    requires { IsBelow (tree_facts tree.now) bound }
-    ensures { Gives (λ field. AreFields tree.now members.now (texts_at key.now) (listed (option_map view field))) result }
+fn field_at(alloc: Global, tree: &Tree, key: &Key, at: NodeNumber) -> Result<Option<Value>, Refusal>
+    ensures { Gives (λ field. (map : List Tagged) → IsTextAt tree.now map key.now at
+        → AreFields tree.now map (texts_at key.now) (listed (option_map view field))) result }
 {
-    match present_text(tree, members, key) {
+    match present_text(tree, key, at) {
         None => Ok(None),
         Some(text) => {
-            let element = shown_at(alloc, tree, members, key, bound)?;
+            let element = shown_below(alloc, tree, at)?;
             let field = tagged(alloc, text.as_str(), element)?;
             Ok(Some(field))
         }
     }
 }
 
-/// The branch of the list at a place.
+/// The branch of the list at a node.
 #[cycle(shown)]
-fn list_at(
-    alloc: Global,
-    tree: &Tree,
-    path: &Path,
-    key: &Key,
-    bound: usize,
-) -> Result<Option<Value>, Refusal>
-    requires { IsBelow (tree_facts tree.now) bound }
-    ensures { Gives (λ part. IsListShown tree.now path.now key.now (listed (option_map view part))) result }
+fn list_below(alloc: Global, tree: &Tree, at: NodeNumber) -> Result<Option<Value>, Refusal>
+    ensures { Gives (λ part. AtNode tree.now at (λ p k. IsListShown tree.now p k (listed (option_map view part)))) result }
 {
-    let list = into_list(path, key)?;
-    let ids = elements_in(alloc, tree, &list)?;
-    let elements = elements_at(alloc, tree, &list, ids.as_slice(), bound)?;
-    branch(alloc, "list", elements, puts_list(tree.present(path, key)))
+    let ids = tree.elements_of(alloc, at)?;
+    let elements = elements_at(alloc, tree, at, ids.as_slice())?;
+    branch(alloc, "list", elements, puts_list(tree.presence_of(at)))
 }
 
 #[cycle(shown)]
 fn elements_at(
     alloc: Global,
     tree: &Tree,
-    list: &Path,
+    list: NodeNumber,
     ids: &[Id],
-    bound: usize,
 ) -> Result<Vec<Value>, Refusal>
-    requires below { IsBelow (tree_facts tree.now) bound }
-    requires present { (i : Id) → Contains ids.now i → IsPresent (tree_facts tree.now) list.now (Element i) }
-    ensures { Gives (λ elements. AreShown tree.now list.now ids.now (map view elements.items)) result }
+    ensures { Gives (λ elements. AtNode tree.now list
+        (λ p k. ShowsThose tree.now (into_list p k) ids.now (map view elements.items))) result }
 {
     let mut elements = Vec::new(alloc);
     for id in ids {
-        let element = element_at(alloc, tree, list, id, bound)?;
-        elements.push(element)?;
+        let element = element_at(alloc, tree, list, id)?;
+        push_some(&mut elements, element)?;
     }
     Ok(elements)
 }
 
+/// What is shown at an element of the list at a node, if it is present.
 #[cycle(shown)]
 fn element_at(
     alloc: Global,
     tree: &Tree,
-    list: &Path,
+    list: NodeNumber,
     id: &Id,
-    bound: usize,
-) -> Result<Value, Refusal>
-    requires below { IsBelow (tree_facts tree.now) bound }
-    requires present { IsPresent (tree_facts tree.now) list.now (Element id.now) }
-    ensures { Gives (λ json. IsShown tree.now list.now (Element id.now) (view json)) result }
+) -> Result<Option<Value>, Refusal>
+    ensures { Gives (λ element. AtNode tree.now list
+        (λ p k. ShowsThose tree.now (into_list p k) (id.now ∷ []) (listed (option_map view element)))) result }
 {
-    shown_at(alloc, tree, list, &Key::Element(*id), bound)
+    match present_element(tree, list, id) {
+        None => Ok(None),
+        Some(at) => {
+            let element = shown_below(alloc, tree, at)?;
+            Ok(Some(element))
+        }
+    }
 }

@@ -1,20 +1,17 @@
-use Rattle.std.proofs.Common.{List, subst, sym}
+use Rattle.std.proofs.Common.{List, sym, subst, ◌∙◌}
 use Rattle.lamport_id.specs.declared.id.Id.{Id}
 use Rattle.json_scalar.specs.declared.scalar.Scalar.{Scalar}
-use Rattle.op_core.specs.declared.cursor.Key.TheVariants.{Element}
-use Rattle.op_core.specs.declared.cursor.Tagged.{Tagged}
 use Rattle.doc_tree.specs.Nodes.{tree_facts}
-use Rattle.doc_rules.specs.Reads.{IsPresent, HaveValues}
-use Rattle.doc_rules.specs.Sorted.{AreThose}
+use Rattle.doc_rules.specs.Reads.{AreItems}
+use Rattle.doc_view.proofs.ByNumber.{gives_at, no_items}
 use Rattle.doc_view.proofs.elements.items_at.Goals as goal
 
-pub returns : goal.returns
-returns c =
-    let f = tree_facts c.args.tree.now in
-    let ids = c.in_ok-ids.ids.items in (
-      ids,
-      subst (λ (p : List Tagged). AreThose (λ i. IsPresent f p (Element i)) (f.order p) ids) c.in_ok-below.ensures c.in_ok-ids.ensures,
-      subst (λ (p : List Tagged). HaveValues f p ids c.from.result) c.in_ok-below.ensures
-          (subst (λ (xs : List (Id × List Scalar)). HaveValues f c.in_ok-below.below ids xs) (sym c.from.ensures)
-          (subst (λ (is : List Id). HaveValues f c.in_ok-below.below is c.in_ok-items.items.items) c.as_slice.ensures.value c.in_ok-items.ensures)),
-    )
+pub returns-in-None : goal.returns-in-None
+returns-in-None c =
+    subst (λ (items : List (Id × List Scalar)). AreItems (tree_facts c.args.tree.now) c.args.path.now c.args.key.now items)
+    (sym (c.from.ensures ∙ c.new.ensures.items))
+    (no_items c.args.tree.now c.args.path.now c.args.key.now (sym c.node_at.ensures ∙ c.in-None.is))
+
+pub returns-in-Some : goal.returns-in-Some
+returns-in-Some c =
+    gives_at c.args.tree.now c.in-Some.at (AreItems (tree_facts c.args.tree.now)) c.items_below.result c.args.path.now c.args.key.now (sym c.node_at.ensures ∙ c.in-Some.is) c.items_below.ensures

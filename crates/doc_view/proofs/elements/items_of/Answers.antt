@@ -1,8 +1,26 @@
+use Rattle.std.proofs.Common.{List, [], sym, subst}
+use Rattle.std.proofs.lemmas.List.{take_all}
+use Rattle.lamport_id.specs.declared.id.Id.{Id}
+use Rattle.json_scalar.specs.declared.scalar.Scalar.{Scalar}
 use Rattle.doc_tree.specs.Nodes.{tree_facts}
-use Rattle.doc_view.proofs.Lists.{values_step}
+use Rattle.doc_rules.specs.Reads.{into_list}
+use Rattle.doc_rules.specs.Sorted.AreThose.{none}
+use Rattle.doc_view.specs.ByNumber.{HasItems}
+use Rattle.doc_view.specs.Members.{listed}
+use Rattle.doc_view.proofs.ByNumber.{items_step}
 use Rattle.doc_view.proofs.elements.items_of.Goals as goal
 
+pub loop-id-init : goal.loop-id-init
+loop-id-init c = λ p k at.
+    subst (λ (items : List (Id × List Scalar)). HasItems (tree_facts c.args.tree.now) (into_list p k) [] items) (sym c.new-items.ensures.items) ([], none, tt)
+
 pub loop-id-preserved : goal.loop-id-preserved
-loop-id-preserved c =
-    values_step (tree_facts c.args.tree.now) c.args.list.now c.args.ids.now c.loop-id.items.items c.push.new.self.items c.loop-id.id-index c.id-item.result
-    c.in_ok-scalars.scalars c.loop-id-test.true c.id-item.is c.loop-id.invariant c.in_ok-scalars.ensures c.in_ok-push.ensures.items
+loop-id-preserved c = λ p k at.
+    items_step (tree_facts c.args.tree.now) (into_list p k) c.args.ids.now c.loop-id.id-index c.id-item.result c.loop-id.items.items
+    (listed c.in_ok-item.item) c.push_item.new.items.items c.loop-id-test.true c.id-item.is (c.loop-id.invariant p k at)
+    (c.in_ok-item.ensures p k at) c.in_ok-push_item.ensures
+
+pub returns : goal.returns
+returns c = λ p k at.
+    subst (λ (ids : List Id). HasItems (tree_facts c.args.tree.now) (into_list p k) ids c.loop-id.items.items)
+    (take_all c.loop-id.id-index c.args.ids.now c.loop-id-test.false) (c.loop-id.invariant p k at)

@@ -1,7 +1,9 @@
 use Rattle.std.proofs.Common.{take}
 use Rattle.doc_tree.specs.Nodes.{tree_facts}
-use Rattle.doc_rules.specs.Reads.{HaveValues}
+use Rattle.doc_rules.specs.Reads.{into_list}
+use Rattle.doc_view.specs.ByNumber.{AtNode, HasItems}
 use Rattle.doc_view.proofs.elements.items_of.Given as goal
 
 abbrev pub invariant-loop-id : goal.invariant-loop-id
-invariant-loop-id l = HaveValues (tree_facts l.tree) l.list (take l.id-index l.ids) l.items.items
+invariant-loop-id l =
+    AtNode l.tree l.list (λ p k. HasItems (tree_facts l.tree) (into_list p k) (take l.id-index l.ids) l.items.items)

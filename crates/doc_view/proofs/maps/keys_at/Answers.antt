@@ -1,10 +1,8 @@
-use Rattle.std.proofs.Common.{List, ℕ, sym, subst}
+use Rattle.std.proofs.Common.{List, ℕ, sym, subst, ◌∙◌}
 use Rattle.op_core.specs.declared.cursor.Key.TheVariants.{Text}
-use Rattle.op_core.specs.declared.cursor.Tagged.{Tagged}
 use Rattle.doc_tree.specs.Nodes.{tree_facts}
-use Rattle.doc_rules.specs.Reads.{AreKeys, IsPresent}
-use Rattle.doc_rules.specs.Sorted.{AreThose}
-use Rattle.doc_view.specs.Members.{texts_in}
+use Rattle.doc_tree.proofs.Below.{entry_found}
+use Rattle.doc_rules.specs.Reads.{AreKeys, into_map}
 use Rattle.doc_view.proofs.MapLaws.{are_keys}
 use Rattle.doc_view.proofs.maps.keys_at.Goals as goal
 
@@ -15,4 +13,5 @@ returns c =
     let children = c.children.result.now in
     subst (λ (ts : List (List ℕ)). AreKeys f c.args.path.now c.args.key.now ts) (sym c.from.ensures)
     (are_keys f c.args.path.now c.args.key.now children texts c.children.ensures.rising c.children.ensures.map
-    (subst (λ (p : List Tagged). AreThose (λ t. IsPresent f p (Text t)) (texts_in children) texts) c.in_ok-map.ensures c.in_ok-texts.ensures))
+    (c.in_ok-texts.ensures (into_map c.args.path.now c.args.key.now)
+    (λ text n has. sym (c.children.ensures.members text) ∙ entry_found children c.children.ensures.rising (Text text) n has)))
