@@ -56,6 +56,20 @@ fn todo_deleted_while_edited(rt: HostRuntime) -> Result<(), Fail> {
     Ok(())
 }
 
+#[test]
+fn empty_map_and_empty_list(rt: HostRuntime) -> Result<(), Fail> {
+    let tree = tree_of(
+        rt.alloc(),
+        &[
+            r#"["op",[1,"p"],[],[[["m",0]],"m"],["assign",{}]]"#,
+            r#"["op",[1,"q"],[],[[["m",0]],"l"],["assign",[]]]"#,
+        ],
+    )?;
+    let due = r#"[["map",[["l",[["list",[]]]],["m",[["map",[]]]]]]]"#;
+    assert!(rt; shown(rt.alloc(), &tree, &[], due)?);
+    Ok(())
+}
+
 fn map_and_list(alloc: Global) -> Result<Tree, Refusal> {
     tree_of(
         alloc,
