@@ -1,0 +1,86 @@
+//! Connections for tests.
+ghost use Rattle.std.specs.Prelude.{◌≡◌, None};
+
+use crate::sessions::Connect;
+use line_feed::doubles::FailAfter;
+use line_feed::{DeviceFault, Reader, Sink};
+use std::sync::{Mutex, Wait};
+
+/// A sink that keeps what it takes behind a lock, to be looked at after the session, for tests.
+#[derive(Drop)]
+pub struct Kept<'a, R: Wait> {
+    rt: &'a R,
+    bytes: &'a Mutex<Vec<u8>>,
+    failed: bool,
+}
+
+impl<R: Wait> Sink for Kept<'_, R> {
+    ghost contents = { λ s. None };
+
+    ghost has_failed = { λ s. s.failed };
+
+    fn write_some(&mut self, bytes: &[u8]) -> Result<usize, DeviceFault> {
+        let mut kept = self.bytes.lock(self.rt);
+        let grown = kept.extend_from_slice(bytes);
+        drop(kept);
+        if grown.is_err() {
+            self.failed = true;
+            return Err(DeviceFault);
+        }
+        Ok(bytes.len())
+    }
+
+    fn failed(&self) -> bool {
+        self.failed
+    }
+}
+
+/// A connection over bytes in memory, for tests.
+#[derive(Drop)]
+pub struct Script<'a, R: Wait> {
+    /// What it waits by.
+    pub rt: &'a R,
+    /// The lines of the session.
+    pub input: &'a [u8],
+    /// Where its replies go.
+    pub replies: &'a Mutex<Vec<u8>>,
+    /// The source fails once so many bytes were read.
+    pub read_after: usize,
+    /// The sink fails once so many bytes were written.
+    pub write_after: usize,
+    /// Whether it can be opened.
+    pub opens: bool,
+}
+
+impl<'a, R: Wait> Script<'a, R> {
+    /// A connection that can be opened, and never fails.
+    pub fn new(rt: &'a R, input: &'a [u8], replies: &'a Mutex<Vec<u8>>) -> Script<'a, R> {
+        Script {
+            rt,
+            input,
+            replies,
+            read_after: usize::MAX,
+            write_after: usize::MAX,
+            opens: true,
+        }
+    }
+}
+
+impl<'a, R: Wait + Sync> Connect for Script<'a, R> {
+    type Source = FailAfter<Reader<&'a [u8]>>;
+
+    type Sink = FailAfter<Kept<'a, R>>;
+
+    fn open(self) -> Result<(FailAfter<Reader<&'a [u8]>>, FailAfter<Kept<'a, R>>), DeviceFault> {
+        if !self.opens {
+            return Err(DeviceFault);
+        }
+        let source = FailAfter::new(Reader::new(self.input), self.read_after);
+        let kept = Kept {
+            rt: self.rt,
+            bytes: self.replies,
+            failed: false,
+        };
+        Ok((source, FailAfter::new(kept, self.write_after)))
+    }
+}
