@@ -1,0 +1,140 @@
+//! Sessions at one document: their replies, and what they did, added up.
+ghost use Rattle.std.specs.Prelude.{◌≡◌};
+
+use super::samples::{first_did, run_two, two_documents};
+use crate::doubles::Script;
+use crate::{Idle, Library, OpenGate, Side, Signalled, run_sessions};
+use json_scalar::Refusal;
+use locked_doc::Totals;
+use share_ledger::{Blank, Marker};
+use std::alloc::Global;
+use std::marker::Brand;
+use std::process::Abort;
+use std::sync::{Mutex, Wait};
+use std::test::*;
+use std::thread::Threads;
+
+const THREE: &[u8] = br#"["open","a"]
+["assign","a",[0,"a"],1]
+["assign","a",[0,"a"],2]
+["assign","a",[0,"a"],3]
+["values","a",[0,"a"]]
+"#;
+
+const TWO: &[u8] = br#"["open","a"]
+["assign","a",[0,"b"],1]
+["assign","a",[0,"b"],2]
+["values","a",[0,"b"]]"#;
+
+/// Two sessions at one document are each told of their own, and add up.
+fn adds_up<M: Marker + Send + Sync, R: Threads + Wait + Abort + Sync>(
+    rt: &R,
+    alloc: Global,
+    blank: Blank,
+) -> Result<(), Fail>
+    requires { blank ≡ M.name }
+{
+    let ran = run_two::<M, R, OpenGate>(rt, alloc, blank, &OpenGate, THREE, TWO)?;
+    assert!(rt; ran.first.as_slice().ends_with(b"[\"values\",[3]]\n"));
+    assert!(rt; ran.second.as_slice().ends_with(b"[\"values\",[2]]\n"));
+    if ran.first.as_slice().starts_with(b"[\"opened\",1]\n") {
+        first_did(rt, ran.totals.as_slice(), 5, &[3, 2])
+    } else {
+        first_did(rt, ran.totals.as_slice(), 5, &[2, 3])
+    }
+}
+
+#[test]
+fn two_sessions(rt: HostRuntime) -> Result<(), Fail> {
+    adds_up::<Brand, _>(&rt, rt.alloc(), Blank::new())
+}
+
+/// The totals of 64 sessions of the same lines, with a side.
+fn totals_of_many<M: Marker + Send + Sync, R: Threads + Wait + Sync, S: Side<M>>(
+    rt: &R,
+    alloc: Global,
+    blank: Blank,
+    side: &mut S,
+) -> Result<Vec<Totals>, Refusal>
+    requires { blank ≡ M.name }
+{
+    let library = two_documents::<M>(alloc, blank, 64)?;
+    let replies = Mutex::new(Vec::new(alloc));
+    let mut scripts = Vec::new(alloc);
+    for _ in 0..64u8 {
+        scripts.push(Script::new(rt, THREE, &replies))?;
+    }
+    match run_sessions(rt, alloc, library, scripts, &OpenGate, side) {
+        Ok(totals) => Ok(totals),
+        Err(ungathered) => Err(ungathered.refusal),
+    }
+}
+
+fn adds_many_up<M: Marker + Send + Sync, R: Threads + Wait + Abort + Sync>(
+    rt: &R,
+    alloc: Global,
+    blank: Blank,
+) -> Result<(), Fail>
+    requires { blank ≡ M.name }
+{
+    let totals = totals_of_many::<M, R, Idle>(rt, alloc, blank, &mut Idle)?;
+    first_did(rt, totals.as_slice(), 192, &[3; 64])
+}
+
+#[test]
+fn many_sessions(rt: HostRuntime) -> Result<(), Fail> {
+    adds_many_up::<Brand, _>(&rt, rt.alloc(), Blank::new())
+}
+
+/// Waits until all sessions have ended, and then looks how much is logged at the first document.
+#[derive(Drop)]
+struct Watching {
+    sessions: u64,
+    ended: u64,
+    logged: Option<usize>,
+}
+
+impl<M: Marker> Side<M> for Watching {
+    fn run<R: Wait>(&mut self, rt: &R, library: &Library<M>, sessions: u64) {
+        let mut seen = Signalled {
+            raised: 0,
+            ended: 0,
+        };
+        for _ in rt.forever() {
+            if seen.ended == sessions {
+                break;
+            }
+            seen = library.signal.wait(rt, seen);
+        }
+        self.sessions = sessions;
+        self.ended = seen.ended;
+        if library.shelf.len() > 0 {
+            let doc = library.shelf.doc(0).lock(rt);
+            self.logged = doc.tail(0, 1000).ok().map(|ops| ops.as_slice().len());
+        }
+    }
+}
+
+fn watches<M: Marker + Send + Sync, R: Threads + Wait + Abort + Sync>(
+    rt: &R,
+    alloc: Global,
+    blank: Blank,
+) -> Result<(), Fail>
+    requires { blank ≡ M.name }
+{
+    let mut side = Watching {
+        sessions: 0,
+        ended: 0,
+        logged: None,
+    };
+    let totals = totals_of_many::<M, R, Watching>(rt, alloc, blank, &mut side)?;
+    first_did(rt, totals.as_slice(), 192, &[3; 64])?;
+    assert_eq!(rt; (side.sessions, side.ended), (64, 64));
+    assert_eq!(rt; side.logged, Some(192));
+    Ok(())
+}
+
+#[test]
+fn side_sees_all_end(rt: HostRuntime) -> Result<(), Fail> {
+    watches::<Brand, _>(&rt, rt.alloc(), Blank::new())
+}
