@@ -1,6 +1,7 @@
 pub mod Telling
 pub mod Draining
 pub mod Meeting
+pub mod Lacking
 pub mod Owning
 pub mod Keeping
 pub mod Numbers

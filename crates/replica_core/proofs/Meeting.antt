@@ -20,6 +20,7 @@ use Rattle.doc_rules.specs.Cause.{cause_of}
 use Rattle.doc_rules.specs.Events.{Due, told, held, logged, Settles, known_or_not, due_waiting, due_ready, due_new, due_unlogged, due_handed}
 use Rattle.doc_rules.specs.Replica.{Replica, Drains, append, find_id}
 use Rattle.replica_core.specs.declared.outcome.Applied.{Applied}
+use Rattle.replica_core.specs.Memory.{Grows}
 use Rattle.replica_core.specs.Told.{Meets, told_applied}
 use Rattle.replica_core.specs.Whole.{replica_of}
 
@@ -37,8 +38,8 @@ meets_logged r op a s h = record {
 }
 
 -- memory is wanting
-pub meets_lacking : (r : Replica) (due : Due) (e : Refusal) (s : Replica) → e ≡ NoMemory → s ≡ r → Meets r due (reply.Refused e) s
-meets_lacking r due e s memory same = inr (ap reply.Refused memory, same)
+pub meets_lacking : (r : Replica) (due : Due) (e : Refusal) (s : Replica) → Grows due → e ≡ NoMemory → s ≡ r → Meets r due (reply.Refused e) s
+meets_lacking r due e s grows memory same = inr (grows, (ap reply.Refused memory, same))
 
 -- a ready operation is logged, or refused
 pub meets_ready : (r : Replica) (op : Op) (cause : Result ⊤ Refusal) (answer : Reply) (s : Replica) → Ok tt ≡ cause → Meets r (logged op) answer s
@@ -97,7 +98,7 @@ pub meets_outcome : (name : List ℕ) (log log' waiting waiting' : List Op) (op 
     → Meets (replica_of name log waiting) (logged op) (told_applied answer) (replica_of name log' waiting')
 meets_outcome name log log' waiting waiting' op (Ok a) ok err l h = inl (meets_logged (replica_of name log waiting) op a (replica_of name log' waiting') ok)
 meets_outcome name log log' waiting waiting' op (Err e) ok err l h =
-    meets_lacking (replica_of name log waiting) (logged op) e (replica_of name log' waiting') err (same_replica name l h)
+    meets_lacking (replica_of name log waiting) (logged op) e (replica_of name log' waiting') tt err (same_replica name l h)
 
 -- a waiting operation
 pub waiting_full : (op : Op) (n : ℕ) → 256 ≤ n → told (reply.Refused HeldFull) ≡ due_waiting (nat_le 256 n) op

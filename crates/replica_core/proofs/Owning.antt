@@ -79,10 +79,10 @@ forgets_none name log waiting waiting' i answer answered is same =
 pub event_change : (r s : Replica) (place : Place) (m : Mutation) (answer : Reply) (c : Result Cursor Refusal)
     → (c ≢ Err NoMemory → Resolves (facts_of r) place.start place.steps c) → Meets r (due_own (own_change r m c)) answer s → Event r (command.Change place m) answer s
 event_change r s place m answer (Ok c) h met =
-    elim met [ inl does ↦ inl (Ok c, h (λ e. cc), does) | inr lacks ↦ inr lacks ]
-event_change r s place m answer (Err NoMemory) h met = elim met [ inl does ↦ inr does | inr lacks ↦ inr lacks ]
+    elim met [ inl does ↦ inl (Ok c, h (λ e. cc), does) | inr lacks ↦ inr lacks.1 ]
+event_change r s place m answer (Err NoMemory) h met = elim met [ inl does ↦ inr does | inr lacks ↦ inr lacks.1 ]
 event_change r s place m answer (Err e) h met =
-    elim met [ inl does ↦ inl (Err e, h (λ f. cc), does) | inr lacks ↦ inr lacks ]
+    elim met [ inl does ↦ inl (Err e, h (λ f. cc), does) | inr lacks ↦ inr lacks.1 ]
 
 -- an answer that is due, and is another, lacks memory
 pub lacks : {A : Type 0} (r : Result A Refusal) (e : Refusal) (x : A) → (r ≢ Err NoMemory → r ≡ Ok x) → r ≡ Err e → e ≢ NoMemory → ⊥

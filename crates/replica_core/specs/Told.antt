@@ -5,6 +5,7 @@ use Rattle.doc_words.specs.declared.reply.Reply.{Reply}
 use Rattle.doc_words.specs.declared.reply.Reply.TheVariants as reply
 use Rattle.doc_rules.specs.Events.{Due, Settles, Lacks}
 use Rattle.doc_rules.specs.Replica.{Replica}
+use Rattle.replica_core.specs.Memory.{Grows}
 use Rattle.replica_core.specs.declared.outcome.Applied.{Applied}
 use Rattle.replica_core.specs.declared.outcome.Delivered.{Delivered}
 use Rattle.replica_core.specs.declared.outcome.Delivered.TheVariants as delivered
@@ -23,6 +24,6 @@ abbrev pub told_forgotten : Result ⊤ Refusal → Reply
 told_forgotten (Ok _) = reply.Forgotten
 told_forgotten (Err cause) = reply.Refused cause
 
--- what is due comes about, or memory is wanting and nothing has changed
+-- what is due comes about, or, where something grows, memory is wanting and nothing has changed
 abbrev pub Meets : Replica → Due → Reply → Replica → Type 0
-Meets r due reply s = Settles r due reply s ⊎ Lacks r reply s
+Meets r due reply s = Settles r due reply s ⊎ (Grows due × Lacks r reply s)

@@ -1,10 +1,12 @@
 //! The replica.
-ghost use Rattle.std.specs.Prelude.{◌≡◌, [], OnOk, IfOk, IfErr};
+ghost use Rattle.std.specs.Prelude.{◌≡◌, [], Err, OnOk, IfOk, IfErr};
+ghost use Rattle.json_scalar.specs.declared.refusal.Refusal.TheVariants.{NoMemory};
 ghost use Rattle.crdt_rules.specs.Log.{IsGood};
 ghost use Rattle.doc_rules.specs.Answers.{Answers};
 ghost use Rattle.doc_rules.specs.Events.{Does, Event};
 ghost use Rattle.doc_rules.specs.Replica.{IsKept};
 ghost use Rattle.doc_words.specs.declared.ask.Command.TheVariants as command;
+ghost use Rattle.replica_core.specs.Memory.{MayLack};
 ghost use Rattle.replica_core.specs.Misfits.{IsMisfitOf};
 ghost use Rattle.replica_core.specs.Tells.{Tells};
 ghost use Rattle.replica_core.specs.Told.{told_applied, told_delivered, told_forgotten};
@@ -136,9 +138,11 @@ impl Replica {
 
     /// Hands in an operation that was made elsewhere. The answer is that it is known, or the first cause against it: id-conflict
     /// with one that is logged or held under its id, own-name, held-full, and those of `OpLog::check`. Else it is logged and
-    /// the held ones drained, or it is held. For want of memory it is refused. After a refusal all is as it was.
+    /// the held ones drained, or it is held. Want of memory is told only where it would be logged or held, or is held already,
+    /// so that the ids it waits for are listed. After a refusal all is as it was.
     pub fn deliver(&mut self, op: Operation) -> Result<Delivered, Refusal>
-        ensures { Event self.old (command.Deliver op) (told_delivered result) self.new }
+        ensures event { Event self.old (command.Deliver op) (told_delivered result) self.new }
+        ensures memory { result ≡ Err NoMemory → MayLack self.old (command.Deliver op) }
     {
         let _id = op.id();
         deliver(self.name, &mut self.tree, &mut self.log, &mut self.held, op)
@@ -167,9 +171,11 @@ impl Replica {
         read(self.alloc, &self.tree, &self.log, &self.held, mine, query)
     }
 
-    /// Obeys a command, and tells the answer of `local`, `deliver` or `forget`.
+    /// Obeys a command, and tells the answer of `local`, `deliver` or `forget`. Of an operation handed in it tells want of
+    /// memory only where something grows, and of one given up never.
     pub fn act(&mut self, command: Command) -> Reply
-        ensures { Event self.old command result self.new }
+        ensures event { Event self.old command result self.new }
+        ensures memory { result ≡ Reply.Refused NoMemory → MayLack self.old command }
     {
         match command {
             Command::Change(place, mutation) => applied_reply(self.local(place, mutation)),

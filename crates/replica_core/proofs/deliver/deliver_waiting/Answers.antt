@@ -1,4 +1,6 @@
 use Rattle.std.proofs.Common.{◌≤◌, ◌<◌, length, inl, inr, refl, arith}
+use Rattle.json_scalar.specs.declared.refusal.Refusal.TheVariants.{NoMemory}
+use Rattle.doc_words.specs.declared.reply.Reply.TheVariants as reply
 use Rattle.doc_rules.proofs.Resolved.{ok_same}
 use Rattle.replica_core.specs.Whole.{replica_of}
 use Rattle.replica_core.proofs.Meeting.{meets_as, waiting_full, waiting_held}
@@ -24,4 +26,7 @@ returns-in-Ok-clause-met c name =
     meets_as r _ _ _ s (waiting_held c.args.op (length c.args.held.now.held) room) (c.hold.ensures.met name)
 
 pub returns-in-Err-clause-met : goal.returns-in-Err-clause-met
-returns-in-Err-clause-met c name = inr (refl, refl)
+returns-in-Err-clause-met c name =
+    let r = replica_of name c.args.log.now.operations c.args.held.now.held in
+    let room : length c.args.held.now.held < 256 = omega (arith, c.len.ensures.len, c.if-len-ge-MAX_HELD.false) in
+    meets_as r _ _ (reply.Refused NoMemory) r (waiting_held c.args.op (length c.args.held.now.held) room) (inr (tt, (refl, refl)))

@@ -14,4 +14,4 @@ pub returns-in-Ok-clause-met : goal.returns-in-Ok-clause-met
 returns-in-Ok-clause-met c name = inl (ap reply.Held c.requires.missed, same_replica name refl c.in-Ok.ensures.ok)
 
 pub returns-in-Err-clause-met : goal.returns-in-Err-clause-met
-returns-in-Err-clause-met c name = inr (refl, same_replica name refl (ap (λ (b : Buffer). b.held) c.in-Err.ensures.err))
+returns-in-Err-clause-met c name = inr (tt, (refl, same_replica name refl (ap (λ (b : Buffer). b.held) c.in-Err.ensures.err)))

@@ -43,4 +43,4 @@ returns-in-Ok-clause-met c =
     (c.log_and_drain.ensures.ok c.args.name) c.log_and_drain.ensures.err c.log_and_drain.ensures.log (held_same c.log_and_drain.result c.args.held.now c.log_and_drain.new.held c.log_and_drain.ensures.held))
 
 pub returns-in-Err-clause-met : goal.returns-in-Err-clause-met
-returns-in-Err-clause-met c = inr (refl, refl)
+returns-in-Err-clause-met c = inr (tt, (refl, refl))

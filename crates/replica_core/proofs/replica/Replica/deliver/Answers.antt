@@ -1,6 +1,9 @@
+use Rattle.std.proofs.Common.{ap}
 use Rattle.doc_words.specs.declared.ask.Command.TheVariants as command
 use Rattle.replica_core.specs.Told.{told_delivered}
+use Rattle.replica_core.specs.Whole.{replica_of}
 use Rattle.replica_core.proofs.Keeping.{whole_next}
+use Rattle.replica_core.proofs.Lacking.{event_from, deliver_lacks}
 use Rattle.replica_core.proofs.replica.Replica.deliver.Goals as goal
 
 pub deliver-requires-clause-tells : goal.deliver-requires-clause-tells
@@ -16,7 +19,17 @@ pub invariant_of-self : goal.invariant_of-self
 invariant_of-self c =
     whole_next c.self.inside.name c.self.inside.tree c.deliver.new.tree c.self.inside.log.operations c.deliver.new.log.operations c.self.inside.held c.deliver.new.held
     (command.Deliver c.args.op) (told_delivered c.deliver.result) c.self.invariant c.deliver.ensures.tells c.deliver.ensures.current c.id-id.ensures.shaped
-    c.deliver.ensures.met
+    (event_from (replica_of c.self.inside.name c.self.inside.log.operations c.self.inside.held.held) c.args.op (told_delivered c.deliver.result)
+    (replica_of c.self.inside.name c.deliver.new.log.operations c.deliver.new.held.held) c.deliver.ensures.met)
 
-pub returns : goal.returns
-returns c = rw (← c.self.view_is) c.deliver.ensures.met
+pub returns-clause-event : goal.returns-clause-event
+returns-clause-event c =
+    rw (← c.self.view_is)
+    (event_from (replica_of c.self.inside.name c.self.inside.log.operations c.self.inside.held.held) c.args.op (told_delivered c.deliver.result)
+    (replica_of c.self.inside.name c.deliver.new.log.operations c.deliver.new.held.held) c.deliver.ensures.met)
+
+pub returns-clause-memory : goal.returns-clause-memory
+returns-clause-memory c lacks =
+    rw (← c.self.view_is)
+    (deliver_lacks (replica_of c.self.inside.name c.self.inside.log.operations c.self.inside.held.held) c.args.op (told_delivered c.deliver.result)
+    (replica_of c.self.inside.name c.deliver.new.log.operations c.deliver.new.held.held) (ap told_delivered lacks) c.deliver.ensures.met)
