@@ -17,6 +17,7 @@ use Rattle.op_core.specs.Wire.{list_data}
 use Rattle.crdt_rules.specs.Facts.{Facts}
 use Rattle.doc_words.specs.declared.role.Role.{Role}
 use Rattle.presence_set.specs.ById.{get, IsAscending}
+use Rattle.list_order.specs.Entries.{ids_of}
 use Rattle.doc_nodes.specs.declared.node.Node.{Node}
 use Rattle.doc_nodes.specs.declared.node.NodeNumber.{NodeNumber}
 use Rattle.doc_nodes.specs.Children.{number_at}
@@ -69,7 +70,7 @@ module _ (tree : List Node × Option Scalar) (p : List Tagged) (k : Key) (n : No
   pub terms_by_number : (terms : List (Id × ℤ)) → terms ≡ (node_of tree.0 n).counter.0 → IsAscending terms → AreTerms (tree_facts tree) p k terms
   terms_by_number terms is ascending = are_all terms ((tree_facts tree).counter p k) ascending (λ i. ap (λ l. get l i) is ∙ number_read tree.0 p k n at i)
 
-  pub order_by_number : (ids : List Id) → ids ≡ (node_of tree.0 n).order.0 → ids ≡ (tree_facts tree).order (into_list p k)
+  pub order_by_number : (ids : List Id) → ids ≡ ids_of (node_of tree.0 n).order.0 → ids ≡ (tree_facts tree).order (into_list p k)
   order_by_number ids is = is ∙ ids_read tree.0 (into_list p k) n (list-into tree.0 p k ∙ at)
 
   -- a child of the node has the place below

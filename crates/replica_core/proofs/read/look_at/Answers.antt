@@ -45,4 +45,4 @@ pub returns-in-Sum : goal.returns-in-Sum
 returns-in-Sum c =
     rw c.in-Sum.is
     (subst (λ (a : Reply). (a ≡ reply.Refused NoMemory) ⊎ LooksHere (tree_facts c.args.tree.now) (tree_values c.args.tree.now) look.Sum c.args.cursor.now a)
-    (sym c.sum_reply.ensures) (told_here (IsSum (tree_facts c.args.tree.now)) (λ x. reply.Sum x) c.args.cursor.now c.sum.result c.sum.ensures))
+    (sym c.sum_reply.ensures) (told_here (IsSum (tree_facts c.args.tree.now)) (λ x. reply.Sum x) c.args.cursor.now c.sum.result c.sum.ensures.reading))
