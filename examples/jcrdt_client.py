@@ -198,7 +198,7 @@ def connected(address):
 def serving(documents, sessions, name="srv", options=()):
     """Starts `jcrdt serve` at a free port of this machine and yields its address. It ends after so many sessions."""
     words = [PROGRAM, "serve", "--addr", "127.0.0.1:0", "--sessions", str(sessions), "--name", name, *options, *documents]
-    with subprocess.Popen(words, stdout=subprocess.PIPE) as program:
+    with subprocess.Popen(words, bufsize=0, stdout=subprocess.PIPE) as program:
         try:
             line = program.stdout.readline()
             if not line:
