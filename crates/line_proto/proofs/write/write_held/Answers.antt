@@ -42,7 +42,7 @@ loop-i-preserved g c =
         done ++ front,
         Appends-trans _ _ _ done front appended more,
         next ∙ ap (λ p. (done ++ p) ++ (item ++ tail)) split ∙ handed_on done front rest item tail
-        ∙ ap (λ p. ((done ++ front) ++ p) ++ tail) (sym c.push_str-in-loop-i.ensures.bytes),
+            ∙ ap (λ p. ((done ++ front) ++ p) ++ tail) (sym c.push_str-in-loop-i.ensures.bytes),
       );
     }
 
