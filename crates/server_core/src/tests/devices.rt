@@ -71,9 +71,9 @@ fn fails_alone<M: Marker + Send + Sync, R: Threads + Wait + Abort + Sync>(
         return first_did(rt, totals.as_slice(), 2, &[2]);
     }
     if told.as_slice().starts_with(b"[\"opened\",1]\n") {
-        first_did(rt, totals.as_slice(), done + 2, &[done, 2])
+        first_did(rt, totals.as_slice(), done.saturating_add(2), &[done, 2])
     } else {
-        first_did(rt, totals.as_slice(), done + 2, &[2, done])
+        first_did(rt, totals.as_slice(), done.saturating_add(2), &[2, done])
     }
 }
 
