@@ -8,7 +8,7 @@ mod reply;
 mod role;
 
 pub use ask::{Command, Look, Query};
-pub use lists::{Conflicts, Ids, Items, Operations, Scalars, Texts, Waiting};
+pub use lists::{Conflicts, Ids, Items, Listed, Operations, Scalars, Texts, Waiting};
 pub use place::{Place, Step, Steps};
 pub use reply::{Reply, ShownText};
 pub use role::Role;

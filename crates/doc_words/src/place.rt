@@ -1,8 +1,6 @@
 //! Places, as cursors and steps from them.
-ghost use Rattle.std.specs.Prelude.{◌≡◌};
-
+use crate::lists::Listed;
 use op_core::{Cursor, KeyText};
-use std::marker::Model;
 
 /// A step of a cursor: down to a member of a map, or to an element of a list or its head.
 #[derive(Debug, Drop)]
@@ -13,37 +11,8 @@ pub enum Step {
     Index(u64),
 }
 
-/// The steps of a cursor, in order. A contract sees them as their list.
-#[derive(Debug, Drop)]
-pub struct Steps {
-    steps: Vec<Step>,
-}
-
-impl Model for Steps {
-    ghost use Rattle.std.specs.Prelude.{List};
-    ghost use Rattle.doc_words.specs.declared.place.Step.{Step};
-
-    ghost Value = { List Step };
-
-    ghost view = { λ s. s.steps.items };
-}
-
-impl Steps {
-    /// The steps, in order.
-    pub fn as_slice(&self) -> &[Step]
-        ensures { result.now ≡ self.now }
-    {
-        self.steps.as_slice()
-    }
-}
-
-impl From<Vec<Step>> for Steps {
-    ghost from_gives = { λ steps all. all ≡ steps.items };
-
-    fn from(steps: Vec<Step>) -> Steps {
-        Steps { steps }
-    }
-}
+/// The steps of a cursor, in order.
+pub type Steps = Listed<Step>;
 
 /// A place in a document: steps from a start.
 #[derive(Debug, Drop)]
