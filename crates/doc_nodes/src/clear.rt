@@ -7,7 +7,7 @@ ghost use Rattle.doc_nodes.specs.Nodes.{AreTree, ClearsUnder, child_of};
 ghost use Rattle.doc_nodes.specs.Marks.{keys_below, keys_to};
 ghost use Rattle.doc_nodes.specs.Flags.{plain, AreFlagged, IsFlagged, IsFlaggedBut};
 
-use crate::finding::{key_in, root_number};
+use crate::finding::root_number;
 use crate::flag::tell;
 use crate::mark::known_child;
 use crate::node::{Node, NodeNumber, element_in};
@@ -61,7 +61,7 @@ fn clear_below(nodes: &mut [Node], at: NodeNumber, way: &[Tagged], key: &Key, fr
             tell(nodes, at, element_in(key), end);
         }
         Some((next, rest)) => {
-            let below = known_child(nodes, at, key_in(next));
+            let below = known_child(nodes, at, next.key());
             clear_below(nodes, below, rest, key, front);
         }
     }

@@ -1,6 +1,6 @@
 //! The node of a place.
 ghost use Rattle.std.specs.Prelude.{◌≡◌, Some, None, IsSome, option_and_then, if◌then◌else◌};
-ghost use Rattle.op_core.specs.Shape.{key_of, is_list, may_follow};
+ghost use Rattle.op_core.specs.Shape.{may_follow};
 ghost use Rattle.crdt_rules.specs.Same.{key_eq};
 ghost use Rattle.op_core.specs.declared.cursor.Key.TheVariants.{Doc};
 ghost use Rattle.doc_nodes.specs.Walk.{trail_below, list_trail_below, walk, root};
@@ -29,7 +29,7 @@ pub fn find(nodes: &[Node], path: &[Tagged], key: &Key) -> Option<NodeNumber>
             }
         }
         Some((first, way)) => {
-            if is_doc(key_in(first)) {
+            if is_doc(first.key()) {
                 find_below(nodes, root_number(), first, way, key)
             } else {
                 None
@@ -50,7 +50,7 @@ pub fn find_below(
 {
     match way.split_first() {
         None => child(nodes, at, tag, key),
-        Some((next, rest)) => match child(nodes, at, tag, key_in(next)) {
+        Some((next, rest)) => match child(nodes, at, tag, next.key()) {
             None => None,
             Some(below) => find_below(nodes, below, next, rest, key),
         },
@@ -64,7 +64,7 @@ pub fn find_list(nodes: &[Node], path: &[Tagged]) -> Option<NodeNumber>
     match path.split_first() {
         None => None,
         Some((first, way)) => {
-            if is_doc(key_in(first)) {
+            if is_doc(first.key()) {
                 find_list_below(nodes, root_number(), first, way)
             } else {
                 None
@@ -83,8 +83,8 @@ fn find_list_below(
     ensures { result ≡ option_and_then (walk (child_of nodes.now) at) (list_trail_below tag.now way.now) }
 {
     match way.split_first() {
-        None => { if is_list_tag(tag) { Some(at) } else { None } }
-        Some((next, rest)) => match child(nodes, at, tag, key_in(next)) {
+        None => { if tag.is_list() { Some(at) } else { None } }
+        Some((next, rest)) => match child(nodes, at, tag, next.key()) {
             None => None,
             Some(below) => find_list_below(nodes, below, next, rest),
         },
@@ -107,20 +107,11 @@ pub fn known_list(nodes: &[Node], path: &[Tagged]) -> NodeNumber
     find_list(nodes, path).unwrap()
 }
 
-fn is_list_tag(tag: &Tagged) -> bool
-    ensures { result ≡ is_list tag.now }
-{
-    match tag {
-        Tagged::Map(_) => false,
-        Tagged::List(_) => true,
-    }
-}
-
 /// The child of a node at a key, if the tagged key leads to keys of that kind.
 pub fn child(nodes: &[Node], at: NodeNumber, tag: &Tagged, key: &Key) -> Option<NodeNumber>
     ensures { result ≡ (if may_follow tag.now key.now then child_of nodes.now at key.now else None) }
 {
-    if !leads_to(tag, key) {
+    if !tag.leads_to(key) {
         return None;
     }
     match nodes.get(at.0) {
@@ -136,32 +127,12 @@ pub fn keys(path: &Path) -> &[Tagged]
     path.as_slice()
 }
 
-/// The key of a tagged key.
-pub fn key_in(tag: &Tagged) -> &Key
-    ensures { result.now ≡ key_of tag.now }
-{
-    match tag {
-        Tagged::Map(key) => key,
-        Tagged::List(key) => key,
-    }
-}
-
 /// Whether a key is that of the whole document.
 pub fn is_doc(key: &Key) -> bool
     ensures { result ≡ key_eq key.now Doc }
 {
     match key {
         Key::Doc => true,
-        _ => false,
-    }
-}
-
-fn leads_to(tag: &Tagged, key: &Key) -> bool
-    ensures { result ≡ may_follow tag.now key.now }
-{
-    match (tag, key) {
-        (Tagged::Map(_), Key::Text(_)) => true,
-        (Tagged::List(_), Key::Element(_)) => true,
         _ => false,
     }
 }

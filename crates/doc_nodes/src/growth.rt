@@ -6,7 +6,7 @@ ghost use Rattle.doc_nodes.specs.Marks.{keys_below, keys_to};
 ghost use Rattle.doc_nodes.specs.Walk.{root};
 ghost use Rattle.doc_nodes.specs.Growth.{Grows, IsMade, with_child};
 
-use crate::finding::{key_in, root_number};
+use crate::finding::root_number;
 use crate::node::{Node, NodeNumber};
 use json_scalar::Refusal;
 use op_core::{Key, Tagged};
@@ -49,7 +49,7 @@ fn prepare_below(
             reserve_presence(nodes, end)
         }
         Some((next, rest)) => {
-            let below = grown_child(nodes, at, key_in(next))?;
+            let below = grown_child(nodes, at, next.key())?;
             prepare_below(nodes, below, rest, key)
         }
     }

@@ -7,7 +7,7 @@ ghost use Rattle.doc_nodes.specs.Nodes.{AreTree, node_of, child_of};
 ghost use Rattle.doc_nodes.specs.Marks.{marked, keys_below, keys_to, HasRoomAlong, IsReady, MarksAlong};
 ghost use Rattle.doc_nodes.specs.Flags.{plain, AreFlagged, AreFlaggedBut, IsFlaggedBut};
 
-use crate::finding::{key_in, root_number};
+use crate::finding::root_number;
 use crate::flag::tell;
 use crate::node::{Node, NodeNumber, element_in};
 use lamport_id::Id;
@@ -52,9 +52,9 @@ pub fn mark_below(
             tell(nodes, at, element_in(key), end);
         }
         Some((next, rest)) => {
-            let below = known_child(nodes, at, key_in(next));
+            let below = known_child(nodes, at, next.key());
             mark_below(nodes, below, rest, key, id, role);
-            tell(nodes, at, element_in(key_in(next)), below);
+            tell(nodes, at, element_in(next.key()), below);
         }
     }
 }

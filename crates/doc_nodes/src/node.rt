@@ -164,16 +164,10 @@ fn is_lesser_text(a: &str, b: &str) -> bool
 }
 
 /// Whether two keys are the same.
-pub fn is_same_key(a: &Key, b: &Key) -> bool
+fn is_same_key(a: &Key, b: &Key) -> bool
     ensures { result ≡ key_eq a.now b.now }
 {
-    match (a, b) {
-        (Key::Doc, Key::Doc) => true,
-        (Key::Text(x), Key::Text(y)) => x.as_str() == y.as_str(),
-        (Key::Element(x), Key::Element(y)) => *x == *y,
-        (Key::Head, Key::Head) => true,
-        _ => false,
-    }
+    a == b
 }
 
 /// The id of an element's key.

@@ -9,7 +9,6 @@ ghost use Rattle.doc_view.specs.ByNumber.{AtNode, HasItems, IsElementAt};
 ghost use Rattle.doc_view.specs.Members.{listed};
 ghost use Rattle.doc_view.specs.Readings.{Gives, IsNth, ReadsHere};
 
-use crate::place::is_head;
 use crate::registers::values_below;
 use doc_tree::{NodeNumber, Tree};
 use doc_words::{Items, Scalars};
@@ -23,7 +22,7 @@ use std::alloc::Global;
 pub fn items(alloc: Global, tree: &Tree, cursor: &Cursor) -> Result<Items, Refusal>
     ensures { ReadsHere (AreItems (tree_facts tree.now)) cursor.now result }
 {
-    if is_head(&cursor.key) {
+    if cursor.key.is_head() {
         return Err(Refusal::AtHead);
     }
     items_at(alloc, tree, &cursor.path, &cursor.key)

@@ -10,7 +10,6 @@ ghost use Rattle.doc_view.specs.Members.{listed, texts_at, texts_in};
 ghost use Rattle.doc_view.specs.Readings.{Gives, ReadsHere};
 
 use crate::elements::is_here;
-use crate::place::is_head;
 use doc_tree::{NodeNumber, Tree};
 use doc_words::Texts;
 use json_scalar::Refusal;
@@ -21,7 +20,7 @@ use std::alloc::Global;
 pub fn keys(alloc: Global, tree: &Tree, cursor: &Cursor) -> Result<Texts, Refusal>
     ensures { ReadsHere (AreKeys (tree_facts tree.now)) cursor.now result }
 {
-    if is_head(&cursor.key) {
+    if cursor.key.is_head() {
         return Err(Refusal::AtHead);
     }
     keys_at(alloc, tree, &cursor.path, &cursor.key)

@@ -6,7 +6,6 @@ ghost use Rattle.doc_rules.specs.Reads.{AreValues, IsSum, total};
 ghost use Rattle.doc_view.specs.ByNumber.{AtNode};
 ghost use Rattle.doc_view.specs.Readings.{Gives, ReadsHere};
 
-use crate::place::is_head;
 use doc_tree::{NodeNumber, Tree};
 use doc_words::Scalars;
 use json_scalar::{Refusal, Scalar};
@@ -18,7 +17,7 @@ use std::alloc::Global;
 pub fn values(alloc: Global, tree: &Tree, cursor: &Cursor) -> Result<Scalars, Refusal>
     ensures { ReadsHere (AreValues (tree_facts tree.now)) cursor.now result }
 {
-    if is_head(&cursor.key) {
+    if cursor.key.is_head() {
         return Err(Refusal::AtHead);
     }
     values_at(alloc, tree, &cursor.path, &cursor.key)
@@ -56,7 +55,7 @@ pub fn sum(tree: &Tree, cursor: &Cursor) -> Result<i128, Refusal>
     ensures reading { ReadsHere (IsSum (tree_facts tree.now)) cursor.now result }
     ensures memory { result ≢ Err NoMemory }
 {
-    if is_head(&cursor.key) {
+    if cursor.key.is_head() {
         return Err(Refusal::AtHead);
     }
     Ok(sum_at(tree, &cursor.path, &cursor.key))

@@ -15,19 +15,13 @@ ghost use Rattle.doc_rules.specs.Resolve as rules;
 ghost use Rattle.doc_view.specs.Readings.{Gives};
 
 use crate::elements::element_by_index;
-use crate::place::{into_list, is_head, is_placed};
+use crate::place::into_list;
 use doc_tree::Tree;
 use doc_words::Step;
 use json_scalar::Refusal;
 use lamport_id::Id;
-use op_core::{Cursor, Key, KeyText, Path, Tagged};
+use op_core::{Cursor, Key, KeyText, MAX_KEY_LEN, MAX_PATH_LEN, Path, Tagged, is_placed};
 use std::alloc::Global;
-
-/// The most keys of a path.
-const MAX_PATH_LEN: usize = 30;
-
-/// The most bytes of a text that is a key.
-const MAX_KEY_LEN: usize = 128;
 
 /// The cursor to which steps lead from a start.
 ///
@@ -63,7 +57,7 @@ fn go(tree: &Tree, from: Cursor, step: &Step) -> Result<Cursor, Refusal>
 fn may_go_on(from: &Cursor) -> Result<(), Refusal>
     ensures { result ≡ rules.may_go_on from.now }
 {
-    if is_head(&from.key) {
+    if from.key.is_head() {
         return Err(Refusal::AtHead);
     }
     if from.path.as_slice().len() >= MAX_PATH_LEN {

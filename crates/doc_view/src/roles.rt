@@ -10,7 +10,6 @@ ghost use Rattle.std.specs.List.{list_any};
 ghost use Rattle.doc_view.specs.Showing as showing;
 ghost use Rattle.doc_view.specs.Told.{tree_values, values_told, with_value};
 
-use crate::place::is_head;
 use doc_tree::Tree;
 use doc_words::{Conflicts, Role};
 use json_scalar::{Refusal, Scalar, Val};
@@ -23,7 +22,7 @@ use std::alloc::Global;
 pub fn conflicts(alloc: Global, tree: &Tree, cursor: &Cursor) -> Result<Conflicts, Refusal>
     ensures { ReadsHere (AreConflicts (tree_facts tree.now) (tree_values tree.now)) cursor.now result }
 {
-    if is_head(&cursor.key) {
+    if cursor.key.is_head() {
         return Err(Refusal::AtHead);
     }
     conflicts_at(alloc, tree, &cursor.path, &cursor.key)

@@ -17,7 +17,6 @@ ghost use Rattle.doc_view.specs.Told.{tree_values};
 
 use crate::elements::present_element;
 use crate::maps::present_text;
-use crate::place::is_head;
 use crate::roles::{puts_list, puts_map};
 use crate::written::{branch, branches, push_some, tagged};
 use doc_tree::{NodeNumber, Tree};
@@ -33,7 +32,7 @@ use std::alloc::Global;
 pub fn show(alloc: Global, tree: &Tree, cursor: &Cursor) -> Result<ShownText, Refusal>
     ensures { ReadsHere (ShowsText (tree_facts tree.now) (tree_values tree.now)) cursor.now result }
 {
-    if is_head(&cursor.key) {
+    if cursor.key.is_head() {
         return Err(Refusal::AtHead);
     }
     text_at(alloc, tree, &cursor.path, &cursor.key)

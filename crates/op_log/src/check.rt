@@ -10,10 +10,10 @@ ghost use Rattle.crdt_rules.specs.Same.{id_eq};
 ghost use Rattle.doc_rules.specs.Cause.{cause_of, room_cause};
 
 use crate::front::{self, Entry};
-use crate::log::{OpLog, id_of};
+use crate::log::OpLog;
 use json_scalar::Refusal;
 use lamport_id::{Id, ReplicaName};
-use op_core::{Cursor, Front, Key, Mutation, Operation, Tagged};
+use op_core::{Cursor, Front, Key, Mutation, Operation, Tagged, id_of};
 
 /// The most operations of a log.
 pub const MAX_OPERATIONS: usize = 100_000;

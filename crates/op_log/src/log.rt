@@ -16,7 +16,7 @@ use crate::index::{self, Link};
 use doc_words::{Ids, Operations};
 use json_scalar::Refusal;
 use lamport_id::{Id, ReplicaName};
-use op_core::{Front, Operation};
+use op_core::{Front, Operation, id_of};
 use std::alloc::Global;
 use std::marker::Model;
 
@@ -212,15 +212,5 @@ impl Drop for OpLog {
             lasts: _,
             front: _,
         } = self;
-    }
-}
-
-/// The id that an entry of a front is.
-pub fn id_of(entry: &Entry) -> Id
-    ensures { result ≡ id_of entry.now }
-{
-    Id {
-        counter: entry.1,
-        replica: entry.0,
     }
 }

@@ -22,7 +22,7 @@ use doc_tree::Tree;
 use hold_buffer::HoldBuffer;
 use json_scalar::Refusal;
 use lamport_id::{Id, ReplicaName};
-use op_core::{Cursor, Front, Key, Mutation, Operation, Tagged};
+use op_core::{Cursor, Front, Key, Mutation, Operation};
 use op_log::OpLog;
 
 /// Makes a change where the steps of its place led, or tells why they led nowhere.
@@ -131,7 +131,7 @@ fn place_cause(cursor: &Cursor, mutation: &Mutation) -> Result<(), Refusal>
 {
     match mutation {
         Mutation::Insert(_) => {
-            if ends_in_list(cursor.path.as_slice()) {
+            if cursor.path.ends_in_list() {
                 Ok(())
             } else {
                 Err(Refusal::NotInList)
@@ -144,25 +144,10 @@ fn place_cause(cursor: &Cursor, mutation: &Mutation) -> Result<(), Refusal>
 fn no_head(key: &Key) -> Result<(), Refusal>
     ensures { result ≡ (if shape.is_head key.now then Err Refusal.AtHead else Ok tt) }
 {
-    match key {
-        Key::Head => Err(Refusal::AtHead),
-        Key::Doc | Key::Text(_) | Key::Element(_) => Ok(()),
+    if key.is_head() {
+        return Err(Refusal::AtHead);
     }
-}
-
-fn ends_in_list(path: &[Tagged]) -> bool
-    ensures { result ≡ shape.ends_in_list path.now }
-{
-    match path {
-        [] => false,
-        [.., last] => is_list(last),
-    }
-}
-
-fn is_list(tagged: &Tagged) -> bool
-    ensures { result ≡ shape.is_list tagged.now }
-{
-    matches!(tagged, Tagged::List(_))
+    Ok(())
 }
 
 // One's own next operation, which fits. It is refused for want of memory alone.

@@ -1,4 +1,4 @@
-use Rattle.std.proofs.Common.{◌≡◌, ◌<◌, ◌∙◌, [], ◌∷◌, length, sym, ap, subst, Option, Some, arith}
+use Rattle.std.proofs.Common.{◌≡◌, ◌∙◌, [], ◌∷◌, length, sym, ap, subst, Option, Some, arith}
 use Rattle.std.specs.Prelude.{IsSome}
 use Rattle.std.proofs.lemmas.List.{nil_from_length}
 use Rattle.op_core.specs.Shape.{key_of}
@@ -49,7 +49,7 @@ clear_below-requires t c =
     let rest = keys_below c.in-Some.rest.now c.args.key.now in
     let below = c.known_child-below.result in
     let keys : keys_below c.args.way.now c.args.key.now ≡ key ∷ rest = ap (λ w. keys_below w c.args.key.now) c.in-Some.ensures.cases.0 in
-    let down : child_of nodes c.args.at key ≡ Some below = ap (child_of nodes c.args.at) (sym c.key_in.ensures) ∙ c.known_child-below.ensures in
+    let down : child_of nodes c.args.at key ≡ Some below = ap (child_of nodes c.args.at) (sym c.key.ensures) ∙ c.known_child-below.ensures in
     let first = first_step nodes c.args.at key rest (subst (λ l. IsSome (walk (child_of nodes) c.args.at l)) keys c.requires.reached) in
     let both : ◌≡◌ {A = Option NodeNumber} (Some first.0) (Some below) = sym first.1 ∙ down in
     let same : first.0 ≡ below = cc in (
@@ -63,6 +63,6 @@ returns-in-Some-clause-clears t c = λ m way.
     let key = key_of c.in-Some.next.now in
     let rest = keys_below c.in-Some.rest.now c.args.key.now in
     let keys : keys_below c.args.way.now c.args.key.now ≡ key ∷ rest = ap (λ w. keys_below w c.args.key.now) c.in-Some.ensures.cases.0 in
-    let down : child_of nodes c.args.at key ≡ Some c.known_child-below.result = ap (child_of nodes c.args.at) (sym c.key_in.ensures) ∙ c.known_child-below.ensures in
+    let down : child_of nodes c.args.at key ≡ Some c.known_child-below.result = ap (child_of nodes c.args.at) (sym c.key.ensures) ∙ c.known_child-below.ensures in
     c.clear_below.ensures.clears m
     (walk_on (child_of nodes) c.args.at c.known_child-below.result m key rest down (subst (λ l. walk (child_of nodes) c.args.at l ≡ Some m) keys way))

@@ -32,7 +32,7 @@ returns-in_ok-below-in-Some-clause-ok t c =
     let keys : keys_below c.args.way.now c.args.key.now ≡ key_of c.in-Some.next.now ∷ keys_below c.in-Some.rest.now c.args.key.now =
     ap (λ w. keys_below w c.args.key.now) c.in-Some.ensures.cases.0 in
     let child : child_of second c.args.at (key_of c.in-Some.next.now) ≡ Some c.in_ok-below-in-Some.below =
-    ap (child_of second c.args.at) (sym c.key_in.ensures) ∙ c.in_ok-below-in-Some.ensures.child in
+    ap (child_of second c.args.at) (sym c.key.ensures) ∙ c.in_ok-below-in-Some.ensures.child in
     on_ok c.prepare_below.result
     (λ made. subst (IsMade last c.args.at) (sym keys)
     (made_step last c.args.at c.in_ok-below-in-Some.below (key_of c.in-Some.next.now) (keys_below c.in-Some.rest.now c.args.key.now)

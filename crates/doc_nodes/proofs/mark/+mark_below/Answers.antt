@@ -31,7 +31,7 @@ mark_below-requires t c =
     let way : keys_below c.args.way.now c.args.key.now ≡ key_of c.in-Some.next.now ∷ keys_below c.in-Some.rest.now c.args.key.now =
     ap (λ w. keys_below w c.args.key.now) c.in-Some.ensures.cases.0 in
     let down : child_of c.mark.new.nodes c.args.at (key_of c.in-Some.next.now) ≡ Some c.known_child-below.result =
-    ap (child_of c.mark.new.nodes c.args.at) (sym c.key_in.ensures) ∙ c.known_child-below.ensures in
+    ap (child_of c.mark.new.nodes c.args.at) (sym c.key.ensures) ∙ c.known_child-below.ensures in
     let below = step_down c.args.id.now c.args.nodes.now c.mark.new.nodes c.args.at c.known_child-below.result (key_of c.in-Some.next.now) (keys_below c.in-Some.rest.now c.args.key.now)
     (subst (λ l. IsReady c.args.nodes.now c.args.at l) way ready) c.mark.ensures down in
     (omega (arith, c.in-Some.ensures.cases.1), (below.tree, (below.within, (below.reached, below.room))))
@@ -85,9 +85,9 @@ returns-in-Some-clause-marks t c =
     let rest = keys_below c.in-Some.rest.now c.args.key.now in
     let below = c.known_child-below.result in
     let way : keys_below c.args.way.now c.args.key.now ≡ key ∷ rest = ap (λ w. keys_below w c.args.key.now) c.in-Some.ensures.cases.0 in
-    let down : child_of mid c.args.at key ≡ Some below = ap (child_of mid c.args.at) (sym c.key_in.ensures) ∙ c.known_child-below.ensures in
+    let down : child_of mid c.args.at key ≡ Some below = ap (child_of mid c.args.at) (sym c.key.ensures) ∙ c.known_child-below.ensures in
     let is : c.tell-in-Some.new.nodes ≡ told last c.args.at (element_of key) below =
-    c.tell-in-Some.ensures ∙ ap (λ e. told last c.args.at e below) (c.element_in-in-Some.ensures ∙ ap element_of c.key_in-in-Some.ensures) in
+    c.tell-in-Some.ensures ∙ ap (λ e. told last c.args.at e below) (c.element_in-in-Some.ensures ∙ ap element_of c.key-in-Some.ensures) in
     subst (λ l. MarksAlong id c.args.role (plain nodes) (plain c.tell-in-Some.new.nodes) c.args.at l) (sym way)
     (marks_passed id c.args.role nodes mid last c.tell-in-Some.new.nodes c.args.at below key rest c.requires.tree c.requires.known c.mark.ensures down
     c.mark_below.ensures.marks is)
@@ -102,9 +102,9 @@ returns-in-Some-clause-flags t c = λ m reached n i doubted.
     let rest = keys_below c.in-Some.rest.now c.args.key.now in
     let below = c.known_child-below.result in
     let way : keys_below c.args.way.now c.args.key.now ≡ key ∷ rest = ap (λ w. keys_below w c.args.key.now) c.in-Some.ensures.cases.0 in
-    let down : child_of mid c.args.at key ≡ Some below = ap (child_of mid c.args.at) (sym c.key_in.ensures) ∙ c.known_child-below.ensures in
+    let down : child_of mid c.args.at key ≡ Some below = ap (child_of mid c.args.at) (sym c.key.ensures) ∙ c.known_child-below.ensures in
     let is : c.tell-in-Some.new.nodes ≡ told last c.args.at (element_of key) below =
-    c.tell-in-Some.ensures ∙ ap (λ e. told last c.args.at e below) (c.element_in-in-Some.ensures ∙ ap element_of c.key_in-in-Some.ensures) in
+    c.tell-in-Some.ensures ∙ ap (λ e. told last c.args.at e below) (c.element_in-in-Some.ensures ∙ ap element_of c.key-in-Some.ensures) in
     let before = child_before id nodes mid c.args.at below key c.requires.known c.mark.ensures down in
     let on = walk_on (child_of nodes) c.args.at below m key rest before (subst (λ l. walk (child_of nodes) c.args.at l ≡ Some m) way reached) in
     let shape : child_of mid ≡ child_of nodes = ap child_of c.mark.ensures ∙ shape-set nodes c.args.at (marked id Through (node_of nodes c.args.at)) c.requires.known refl in
