@@ -3,6 +3,7 @@ use Rattle.std.specs.Prelude.{List, length, Bool, true, false, nat_lt, Result, O
 use Rattle.lamport_id.specs.declared.id.Id.{Id}
 use Rattle.json_scalar.specs.declared.refusal.Refusal.{Refusal}
 use Rattle.json_scalar.specs.declared.refusal.Refusal.TheVariants.{IdConflict, HeldFull}
+use Rattle.op_core.specs.Limits.{most_held}
 use Rattle.op_core.specs.Op.{Op}
 use Rattle.crdt_rules.specs.Dependencies.{is_logged, missing}
 use Rattle.hold_buffer.specs.declared.wait.Wait.{Wait}
@@ -26,4 +27,4 @@ first_cause false false = Err HeldFull
 first_cause false true = Ok tt
 
 abbrev pub cause_of : Id → List Op → Result ⊤ Refusal
-cause_of id held = first_cause (is_logged held id) (nat_lt (length held) 256)
+cause_of id held = first_cause (is_logged held id) (nat_lt (length held) most_held)

@@ -1,6 +1,7 @@
 //! Whether an operation fits a log.
 ghost use Rattle.std.specs.Prelude.{◌≡◌, ◌↔◌, ◌&&◌, [], ◌∷◌, length, true, nat_le, IsOk};
 ghost use Rattle.std.specs.List.{list_any, list_all};
+ghost use Rattle.op_core.specs.Limits.{most_replicas};
 ghost use Rattle.op_core.specs.Front.{id_of, is_ascending, is_le};
 ghost use Rattle.op_core.specs.Op.{Op};
 ghost use Rattle.op_core.specs.Shape.{is_shaped};
@@ -69,7 +70,7 @@ impl OpLog {
 
     // Whether the replicas are few enough with this one.
     fn admits(&self, name: ReplicaName) -> bool
-        ensures { (op : Op) → op.id.replica ≡ name → result ≡ nat_le (length (replicas (op ∷ self.now.operations))) 256 }
+        ensures { (op : Op) → op.id.replica ≡ name → result ≡ nat_le (length (replicas (op ∷ self.now.operations))) most_replicas }
     {
         let count = self.replica_count();
         self.last_counter(name).is_some() || count < MAX_REPLICAS

@@ -2,6 +2,7 @@
 ghost use Rattle.std.specs.Prelude.{◌≡◌, ◌+◌, ◌≤◌, [], ◌∷◌, ◌++◌, length, take, drop, map, filter, not, ◌==◌, OnOk, IfOk, IfErr, Ok};
 ghost use Rattle.std.specs.Option.{option_copied};
 ghost use Rattle.json_scalar.specs.Refusal.{UnlessMemory};
+ghost use Rattle.op_core.specs.Limits.{most_replicas};
 ghost use Rattle.op_core.specs.Front.{id_of};
 ghost use Rattle.crdt_rules.specs.Dependencies.{is_logged, is_ready, missing};
 ghost use Rattle.crdt_rules.specs.Fits.{last_counter, Fits, replicas};
@@ -105,7 +106,7 @@ impl OpLog {
     /// How many replicas have operations: at most 256.
     pub fn replica_count(&self) -> usize
         ensures count { result ≡ length (replicas self.now.operations) }
-        ensures within { result ≤ 256 }
+        ensures within { result ≤ most_replicas }
     {
         self.front.len()
     }

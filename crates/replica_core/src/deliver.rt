@@ -1,5 +1,6 @@
 //! Operations that were made elsewhere and are handed in.
 ghost use Rattle.std.specs.Prelude.{◌≡◌, ◌≤◌, ℕ, suc, List, [], ◌∷◌, ◌++◌, length, nat_le, bytes_eq, OnErr, IfOk, IfErr, None, true, false, ◌<◌};
+ghost use Rattle.op_core.specs.Limits.{most_held};
 ghost use Rattle.op_core.specs.Op.{Op};
 ghost use Rattle.std.specs.Option.{option_map};
 ghost use Rattle.op_core.specs.Equality.{operation_eq};
@@ -37,7 +38,7 @@ pub fn log_and_drain(
     requires fits { Fits op log.old.operations }
     requires tells { Tells tree.old log.old.operations }
     requires current { IsCurrent held.old log.old.operations }
-    requires few { length held.old.held ≤ 256 }
+    requires few { length held.old.held ≤ most_held }
     ensures ok { (name : List ℕ) → IfOk result (λ a. (n : ℕ) × (a.count ≡ suc n) × (a.id ≡ op.id)
         × Drains (replica_of name (log.old.operations ++ op ∷ []) held.old.held) n a.dropped (replica_of name log.new.operations held.new.held)) }
     ensures err { IfErr result (λ e. e ≡ Refusal.NoMemory) }
@@ -70,7 +71,7 @@ pub fn deliver(
 ) -> Result<Delivered, Refusal>
     requires tells { Tells tree.old log.old.operations }
     requires current { IsCurrent held.old log.old.operations }
-    requires few { length held.old.held ≤ 256 }
+    requires few { length held.old.held ≤ most_held }
     ensures met { let r = replica_of name log.old.operations held.old.held in
         Meets r (due_handed r op (find_id log.old.operations op.id)) (told_delivered result) (replica_of name log.new.operations held.new.held) }
     ensures tells { Tells tree.new log.new.operations }
@@ -115,7 +116,7 @@ fn deliver_unlogged(
     requires new { find_id log.old.operations op.id ≡ None }
     requires tells { Tells tree.old log.old.operations }
     requires current { IsCurrent held.old log.old.operations }
-    requires few { length held.old.held ≤ 256 }
+    requires few { length held.old.held ≤ most_held }
     ensures met { let r = replica_of name log.old.operations held.old.held in
         Meets r (due_unlogged r op (find_id held.old.held op.id)) (told_delivered result) (replica_of name log.new.operations held.new.held) }
     ensures tells { Tells tree.new log.new.operations }
@@ -164,7 +165,7 @@ fn deliver_new(
     requires unheld { find_id held.old.held op.id ≡ None }
     requires tells { Tells tree.old log.old.operations }
     requires current { IsCurrent held.old log.old.operations }
-    requires few { length held.old.held ≤ 256 }
+    requires few { length held.old.held ≤ most_held }
     ensures met { let r = replica_of name log.old.operations held.old.held in
         Meets r (due_new r op) (told_delivered result) (replica_of name log.new.operations held.new.held) }
     ensures tells { Tells tree.new log.new.operations }
@@ -196,7 +197,7 @@ fn deliver_ready(
 ) -> Result<Delivered, Refusal>
     requires tells { Tells tree.old log.old.operations }
     requires current { IsCurrent held.old log.old.operations }
-    requires few { length held.old.held ≤ 256 }
+    requires few { length held.old.held ≤ most_held }
     ensures met { (name : List ℕ) → Meets (replica_of name log.old.operations held.old.held) (due_ready (cause_of op log.old.operations) op)
         (told_delivered result) (replica_of name log.new.operations held.new.held) }
     ensures tells { Tells tree.new log.new.operations }
@@ -219,7 +220,7 @@ fn deliver_waiting(log: &OpLog, held: &mut HoldBuffer, op: Operation) -> Result<
     requires new { find_id log.now.operations op.id ≡ None }
     requires unheld { find_id held.old.held op.id ≡ None }
     requires current { IsCurrent held.old log.now.operations }
-    ensures met { (name : List ℕ) → Meets (replica_of name log.now.operations held.old.held) (due_waiting (nat_le 256 (length held.old.held)) op)
+    ensures met { (name : List ℕ) → Meets (replica_of name log.now.operations held.old.held) (due_waiting (nat_le most_held (length held.old.held)) op)
         (told_delivered result) (replica_of name log.now.operations held.new.held) }
     ensures current { IsCurrent held.new log.now.operations }
 {
@@ -246,7 +247,7 @@ fn hold(
     requires waits { is_ready op log.now.operations ≡ false }
     requires new { find_id log.now.operations op.id ≡ None }
     requires unheld { find_id held.old.held op.id ≡ None }
-    requires room { length held.old.held < 256 }
+    requires room { length held.old.held < most_held }
     requires missed { missing ≡ deps.missing op log.now.operations }
     requires current { IsCurrent held.old log.now.operations }
     ensures met { (name : List ℕ) → Meets (replica_of name log.now.operations held.old.held) (due.held op)

@@ -1,7 +1,9 @@
 //! Changes of one's own.
 ghost use Rattle.std.specs.Prelude.{◌≡◌, ◌+◌, ◌<◌, ◌≤◌, [], length, Ok, Err, true, if◌then◌else◌};
+ghost use Rattle.lamport_id.specs.Limits.{greatest_counter};
 ghost use Rattle.lamport_id.specs.Name.{is_name};
 ghost use Rattle.json_scalar.specs.Refusal.{UnlessMemory, and_then};
+ghost use Rattle.op_core.specs.Limits.{most_held};
 ghost use Rattle.op_core.specs.Front.{max_counter};
 ghost use Rattle.op_core.specs.Shape as shape;
 ghost use Rattle.crdt_rules.specs.Fits.{Fits};
@@ -38,7 +40,7 @@ pub fn change(
     requires place { IsPlaceOf log.old.operations resolved }
     requires tells { Tells tree.old log.old.operations }
     requires current { IsCurrent held.old log.old.operations }
-    requires few { length held.old.held ≤ 256 }
+    requires few { length held.old.held ≤ most_held }
     ensures met { let r = replica_of name log.old.operations held.old.held in
         Meets r (due_own (own_change r mutation resolved)) (told_applied result) (replica_of name log.new.operations held.new.held) }
     ensures tells { Tells tree.new log.new.operations }
@@ -65,7 +67,7 @@ fn change_at(
     requires place { IsPlaceOf log.old.operations (Ok cursor) }
     requires tells { Tells tree.old log.old.operations }
     requires current { IsCurrent held.old log.old.operations }
-    requires few { length held.old.held ≤ 256 }
+    requires few { length held.old.held ≤ most_held }
     ensures met { let r = replica_of name log.old.operations held.old.held in
         Meets r (due_own (own_change r mutation (Ok cursor))) (told_applied result) (replica_of name log.new.operations held.new.held) }
     ensures tells { Tells tree.new log.new.operations }
@@ -96,7 +98,7 @@ fn log_own(
     requires room { let r = replica_of name log.old.operations held.old.held in room_cause (own_op r cursor mutation) log.old.operations ≡ Ok tt }
     requires tells { Tells tree.old log.old.operations }
     requires current { IsCurrent held.old log.old.operations }
-    requires few { length held.old.held ≤ 256 }
+    requires few { length held.old.held ≤ most_held }
     ensures met { let r = replica_of name log.old.operations held.old.held in
         Meets r (due.logged (own_op r cursor mutation)) (told_applied result) (replica_of name log.new.operations held.new.held) }
     ensures tells { Tells tree.new log.new.operations }
@@ -168,7 +170,7 @@ fn own_operation(
 
 // One's own next id: behind all that a front covers, of whatever replica.
 fn next_id(front: &Front, name: &ReplicaName) -> Id
-    requires { max_counter front.now < 100000 }
+    requires { max_counter front.now < greatest_counter }
     ensures { (result.counter ≡ max_counter front.now + 1) × (result.replica ≡ name.now) }
 {
     Id {
