@@ -12,7 +12,8 @@ use Rattle.op_core.specs.declared.cursor.Key.{Key}
 use Rattle.op_core.specs.declared.cursor.Key.TheVariants.{Doc, Text, Element, Head}
 use Rattle.crdt_rules.specs.Same.{key_eq}
 use Rattle.crdt_rules.proofs.SameLaws.{key_decides}
-use Rattle.presence_set.proofs.Ascending.{id_order, is_eq-id_cmp}
+use Rattle.crdt_rules.proofs.IdOrder.{is_eq-id_cmp}
+use Rattle.presence_set.proofs.Ascending.{id_order}
 use Rattle.sorted_lists.specs.Sorted.{IsKeyOrder}
 use Rattle.doc_nodes.specs.KeyOrder.{kind_of, text_of, id_of, key_cmp}
 

@@ -14,11 +14,11 @@ use Rattle.crdt_rules.proofs.SameLaws.{key_decides, tagged_decides, eq_from}
 use Rattle.doc_nodes.specs.Walk.{trail, trail_below, list_trail, list_trail_below}
 
 -- what a chosen Some comes from
-some_if : {X : Type 0} (b : Bool) (o : Option X) (x : X) → (if b then o else None) ≡ Some x → (b ≡ true) × (o ≡ Some x)
+pub some_if : {X : Type 0} (b : Bool) (o : Option X) (x : X) → (if b then o else None) ≡ Some x → (b ≡ true) × (o ≡ Some x)
 some_if true o x e = (refl, e)
 some_if false o x e = cc
 
-mapped : {X Y : Type 0} (f : X → Y) (o : Option X) (y : Y) → option_map f o ≡ Some y → (x : X) × (o ≡ Some x) × (f x ≡ y)
+pub mapped : {X Y : Type 0} (f : X → Y) (o : Option X) (y : Y) → option_map f o ≡ Some y → (x : X) × (o ≡ Some x) × (f x ≡ y)
 mapped f None y e = cc
 mapped f (Some x) y e = (x, refl, cc)
 

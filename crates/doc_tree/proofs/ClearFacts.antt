@@ -1,29 +1,27 @@
 -- What the clearing of nodes does to the facts.
 use Rattle.std.proofs.Common.{◌≡◌, ℕ, List, Bool, true, false, ◌&&◌, not, if◌then◌else◌, Option, Some, None, ⊎_elim, refl, sym, ap, ◌∙◌, subst, true≢false}
-use Rattle.std.specs.Prelude.{is_some, option_and_then}
+use Rattle.std.specs.Prelude.{is_some}
 use Rattle.lamport_id.specs.declared.id.Id.{Id}
 use Rattle.op_core.specs.declared.cursor.Key.{Key}
 use Rattle.op_core.specs.declared.cursor.Tagged.{Tagged}
 use Rattle.op_core.specs.Front.{covers}
 use Rattle.crdt_rules.specs.Place.{is_within}
+use Rattle.crdt_rules.proofs.StepFacts.{none_either}
 use Rattle.doc_words.specs.declared.role.Role.{Role}
 use Rattle.presence_set.specs.ById.{get, uncovered}
 use Rattle.presence_set.proofs.ByIdLaws.{get-uncovered}
-use Rattle.list_order.specs.Entries.{ids_of}
 use Rattle.doc_nodes.specs.declared.node.NodeNumber.{NodeNumber}
 use Rattle.doc_nodes.specs.declared.node.Node.{Node}
-use Rattle.doc_nodes.specs.Walk.{walk, root, trail, list_trail}
+use Rattle.doc_nodes.specs.Walk.{walk}
 use Rattle.doc_nodes.specs.Nodes.{node_of, child_of, node_at, list_node_at, role_in, value_in, ids_in, role_at, facts_of, AreTree, ClearsUnder, cleared, clear_facts_at}
 use Rattle.doc_nodes.proofs.Clearing.{same_children}
 use Rattle.doc_nodes.proofs.Places.{node_above, same_node, within_from_walk}
+use Rattle.doc_tree.proofs.SameShape.{same_node_at, same_ids}
 
 module _ (front : List (List ℕ × ℕ)) (old new : List Node) (tree : AreTree old) (p : List Tagged) (k : Key) (m : NodeNumber)
     (at : node_at old p k ≡ Some m) (clears : ClearsUnder front old new m) where
   shape : child_of new ≡ child_of old
   shape = same_children front old new clears.each
-
-  same_node_at : (q : List Tagged) (j : Key) → node_at new q j ≡ node_at old q j
-  same_node_at q j = ap (λ f. option_and_then (walk f root) (trail q j)) shape
 
   -- a node within the place is cleared, and any other stays
   inside : (q : List Tagged) (j : Key) (c : NodeNumber) → node_at old q j ≡ Some c → is_within q j p k ≡ true → node_of new c ≡ cleared front (node_of old c)
@@ -36,36 +34,24 @@ module _ (front : List (List ℕ × ℕ)) (old new : List Node) (tree : AreTree 
 
   pub role-cleared : (q : List Tagged) (j : Key) (i : Id) → role_at new q j i ≡ (if is_within q j p k && covers front i then None else role_at old q j i)
   unfolding role_at
-  role-cleared q j i = ap (λ o. role_in new o i) (same_node_at q j) ∙ go (node_at old q j) refl (is_within q j p k) refl
+  role-cleared q j i = ap (λ o. role_in new o i) (same_node_at old new shape q j) ∙ go (node_at old q j) refl (is_within q j p k) refl
     where
       go : (o : Option NodeNumber) → node_at old q j ≡ o → (w : Bool) → is_within q j p k ≡ w → role_in new o i ≡ (if w && covers front i then None else role_in old o i)
-      go None e w is = none_either (w && covers front i)
-        where
-          none_either : (b : Bool) → ◌≡◌ {A = Option Role} None (if b then None else None)
-          none_either true = refl
-          none_either false = refl
+      go None e w is = sym (none_either (w && covers front i))
       go (Some c) e true is = ap (λ z. get z.presence.0 i) (inside q j c e is) ∙ get-uncovered front (node_of old c).presence.0 i
       go (Some c) e false is = ap (λ z. get z.presence.0 i) (outside q j c e is)
 
   value-cleared : {X : Type 0} (part : Node → List (Id × X)) → ((node : Node) → part (cleared front node) ≡ uncovered front (part node)) → (q : List Tagged) (j : Key) (i : Id)
       → value_in part new (node_at new q j) i ≡ (if is_within q j p k && covers front i then None else value_in part old (node_at old q j) i)
-  value-cleared {X} part drops q j i = ap (λ o. value_in part new o i) (same_node_at q j) ∙ go (node_at old q j) refl (is_within q j p k) refl
+  value-cleared {X} part drops q j i = ap (λ o. value_in part new o i) (same_node_at old new shape q j) ∙ go (node_at old q j) refl (is_within q j p k) refl
     where
       go : (o : Option NodeNumber) → node_at old q j ≡ o → (w : Bool) → is_within q j p k ≡ w → value_in part new o i ≡ (if w && covers front i then None else value_in part old o i)
-      go None e w is = none_either (w && covers front i)
-        where
-          none_either : (b : Bool) → ◌≡◌ {A = Option X} None (if b then None else None)
-          none_either true = refl
-          none_either false = refl
+      go None e w is = sym (none_either (w && covers front i))
       go (Some c) e true is = ap (λ z. get (part z) i) (inside q j c e is) ∙ ap (λ l. get l i) (drops (node_of old c)) ∙ get-uncovered front (part (node_of old c)) i
       go (Some c) e false is = ap (λ z. get (part z) i) (outside q j c e is)
 
-  ids-cleared : (q : List Tagged) → ids_in new (list_node_at new q) ≡ ids_in old (list_node_at old q)
-  ids-cleared q = ap (λ f. ids_in new (option_and_then (walk f root) (list_trail q))) shape ∙ go (list_node_at old q)
-    where
-      go : (o : Option NodeNumber) → ids_in new o ≡ ids_in old o
-      go None = refl
-      go (Some c) = ⊎_elim (λ e. ap (λ z. ids_of z.order.0) e) (λ e. ap (λ z. ids_of z.order.0) e) (clears.each c)
+  same_order : (c : NodeNumber) → (node_of new c).order ≡ (node_of old c).order
+  same_order c = ⊎_elim (λ e. ap (λ z. z.order) e) (λ e. ap (λ z. z.order) e) (clears.each c)
 
   is_some-if : (b : Bool) (o : Option Role) → is_some (if b then None else o) ≡ (is_some o && not b)
   is_some-if true None = refl
@@ -81,7 +67,7 @@ module _ (front : List (List ℕ × ℕ)) (old new : List Node) (tree : AreTree 
         present = λ q j i. (ap is_some (role-cleared q j i) ∙ is_some-if (is_within q j p k && covers front i) (role_at old q j i)) x;
         register = λ q j i. value-cleared (λ z. z.register.0) (λ z. refl) q j i x;
         counter = λ q j i. value-cleared (λ z. z.counter.0) (λ z. refl) q j i x;
-        order = λ q. ids-cleared q x;
+        order = λ q. same_ids old new shape same_order q x;
       }
 
 -- where a place has no node, nothing stands there or below
@@ -111,11 +97,7 @@ facts-unchanged front nodes p k none =
 
     value_stays : {X : Type 0} (part : Node → List (Id × X)) (q : List Tagged) (j : Key) (i : Id) (o : Option NodeNumber) → node_at nodes q j ≡ o → (w : Bool) → is_within q j p k ≡ w
         → value_in part nodes o i ≡ (if w && covers front i then None else value_in part nodes o i)
-    value_stays {X} part q j i None e w is = none_either (w && covers front i)
-      where
-        none_either : (b : Bool) → ◌≡◌ {A = Option X} None (if b then None else None)
-        none_either true = refl
-        none_either false = refl
+    value_stays {X} part q j i None e w is = sym (none_either (w && covers front i))
     value_stays {X} part q j i (Some c) e true is = absurd (apart q j c e is)
     value_stays {X} part q j i (Some c) e false is = refl
 
@@ -125,12 +107,8 @@ pub role-unchanged : (front : List (List ℕ × ℕ)) (nodes : List Node) (p : L
 unfolding role_at
 role-unchanged front nodes p k none q j i = go (node_at nodes q j) refl (is_within q j p k) refl
   where
-    none_either : (b : Bool) → ◌≡◌ {A = Option Role} None (if b then None else None)
-    none_either true = refl
-    none_either false = refl
-
     go : (o : Option NodeNumber) → node_at nodes q j ≡ o → (w : Bool) → is_within q j p k ≡ w → role_in nodes o i ≡ (if w && covers front i then None else role_in nodes o i)
-    go None e w is = none_either (w && covers front i)
+    go None e w is = sym (none_either (w && covers front i))
     go (Some c) e true is =
         let up = node_above nodes q j p k c e is in
         let other : ◌≡◌ {A = Option NodeNumber} None (Some up.0) = sym none ∙ up.2 in

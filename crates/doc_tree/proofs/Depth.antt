@@ -1,5 +1,5 @@
 -- No place that is present lies deeper than there are nodes.
-use Rattle.std.proofs.Common.{◌≡◌, ℕ, ◌<◌, ◌≤◌, ◌+◌, List, [], ◌∷◌, length, Bool, true, false, if◌then◌else◌, Option, Some, None, is_some, refl, sym, ap, arith, true≢false}
+use Rattle.std.proofs.Common.{◌≡◌, ℕ, ◌<◌, ◌≤◌, ◌+◌, List, [], ◌∷◌, length, true, Option, Some, None, is_some, refl, sym, ap, arith, true≢false}
 use Rattle.std.specs.Option.{option_map}
 use Rattle.lamport_id.specs.declared.id.Id.{Id}
 use Rattle.op_core.specs.declared.cursor.Key.{Key}
@@ -12,6 +12,7 @@ use Rattle.doc_nodes.specs.declared.node.Node.{Node}
 use Rattle.doc_nodes.specs.Walk.{trail, trail_below, walk, root, IsTree}
 use Rattle.doc_nodes.specs.Nodes.{AreTree, child_of, node_at, role_in, role_at, facts_of}
 use Rattle.doc_nodes.proofs.Walks.{parts_of, walk_within}
+use Rattle.doc_nodes.proofs.Trails.{some_if, mapped}
 
 module _ (child : NodeNumber → Key → Option NodeNumber) {size : ℕ} (tree : IsTree child size) where
   -- a walk of so many keys goes so far up in the numbers
@@ -21,28 +22,20 @@ module _ (child : NodeNumber → Key → Option NodeNumber) {size : ℕ} (tree :
       let step = parts_of child (λ m. walk child m keys) (child n k) c e in
       omega (arith, tree.rising n k step.0 step.1, walk_long step.0 c keys step.2)
 
-some_if : {X : Type 0} (b : Bool) (o : Option X) (x : X) → (if b then o else None) ≡ Some x → o ≡ Some x
-some_if true o x e = e
-some_if false o x e = cc
-
-mapped : {X Y : Type 0} (f : X → Y) (o : Option X) (y : Y) → option_map f o ≡ Some y → (x : X) × (o ≡ Some x) × (f x ≡ y)
-mapped f None y e = cc
-mapped f (Some x) y e = (x, refl, cc)
-
 length-below : (t : Tagged) (p : List Tagged) (k : Key) (keys : List Key) → trail_below t p k ≡ Some keys → length keys ≡ length p + 1
 length-below t [] k keys e =
-    let one : k ∷ [] ≡ keys = (let h = some_if (may_follow t k) (Some (k ∷ [])) keys e in cc) in ap length (sym one)
+    let one : k ∷ [] ≡ keys = (let h = (some_if (may_follow t k) (Some (k ∷ [])) keys e).1 in cc) in ap length (sym one)
 length-below t (s ∷ p) k keys e =
-    let h = some_if (may_follow t (key_of s)) (option_map (λ xs. key_of s ∷ xs) (trail_below s p k)) keys e in
+    let h = (some_if (may_follow t (key_of s)) (option_map (λ xs. key_of s ∷ xs) (trail_below s p k)) keys e).1 in
     let m = mapped (λ xs. key_of s ∷ xs) (trail_below s p k) keys h in
     omega (arith, ap length m.2, length-below s p k m.0 m.1)
 
 -- as many keys lead to a place as its path has
 length-trail : (p : List Tagged) (k : Key) (keys : List Key) → trail p k ≡ Some keys → length keys ≡ length p
 length-trail [] k keys e =
-    let none : [] ≡ keys = (let h = some_if (key_eq k Doc) (Some []) keys e in cc) in ap length (sym none)
+    let none : [] ≡ keys = (let h = (some_if (key_eq k Doc) (Some []) keys e).1 in cc) in ap length (sym none)
 length-trail (t ∷ p) k keys e =
-    let h = some_if (key_eq (key_of t) Doc) (trail_below t p k) keys e in omega (arith, length-below t p k keys h)
+    let h = (some_if (key_eq (key_of t) Doc) (trail_below t p k) keys e).1 in omega (arith, length-below t p k keys h)
 
 node_deep : (nodes : List Node) → AreTree nodes → (p : List Tagged) (k : Key) (n : NodeNumber) → node_at nodes p k ≡ Some n → length p < length nodes
 node_deep nodes tree p k n e =

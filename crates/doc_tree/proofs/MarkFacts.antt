@@ -12,21 +12,18 @@ use Rattle.doc_words.specs.declared.role.Role.{Role}
 use Rattle.doc_words.specs.declared.role.Role.TheVariants.{Through}
 use Rattle.presence_set.specs.ById.{get}
 use Rattle.presence_set.proofs.ByIdLaws.{get-put}
-use Rattle.list_order.specs.Entries.{ids_of}
 use Rattle.doc_nodes.specs.declared.node.NodeNumber.{NodeNumber}
 use Rattle.doc_nodes.specs.declared.node.Node.{Node}
-use Rattle.doc_nodes.specs.Walk.{walk, root, trail, list_trail}
-use Rattle.doc_nodes.specs.Nodes.{node_of, child_of, node_at, list_node_at, role_in, value_in, ids_in, role_at, facts_of, AreTree}
+use Rattle.doc_nodes.specs.Walk.{walk, root, trail}
+use Rattle.doc_nodes.specs.Nodes.{node_of, child_of, node_at, role_in, value_in, role_at, facts_of, AreTree}
 use Rattle.doc_nodes.specs.Marks.{marked, role_before, MarksAlong, mark_facts}
 use Rattle.doc_nodes.proofs.Walks.{one_way}
 use Rattle.doc_nodes.proofs.Trails.{above, within, one_place}
 use Rattle.doc_nodes.proofs.Places.{way_to, node_above}
+use Rattle.doc_tree.proofs.SameShape.{same_node_at, same_ids}
 
 module _ (id : Id) (role : Role) (old new : List Node) (tree : AreTree old) (p : List Tagged) (k : Key) (keys : List Key) (m : NodeNumber)
     (way : trail p k ≡ Some keys) (at : walk (child_of old) root keys ≡ Some m) (marks : MarksAlong id role old new root keys) where
-  same_node_at : (q : List Tagged) (j : Key) → node_at new q j ≡ node_at old q j
-  same_node_at q j = ap (λ f. option_and_then (walk f root) (trail q j)) marks.shape
-
   -- the role at a place on the way
   role_of : (q : List Tagged) (j : Key) (front rest : List Key) → trail q j ≡ Some front → keys ≡ front ++ rest
       → role_before rest role ≡ (if path_eq p q && key_eq k j then role else Through)
@@ -69,7 +66,7 @@ module _ (id : Id) (role : Role) (old new : List Node) (tree : AreTree old) (p :
   pub role-marked : (q : List Tagged) (j : Key) (i : Id)
       → role_at new q j i ≡ (if is_within p k q j && id_eq id i then Some (if path_eq p q && key_eq k j then role else Through) else role_at old q j i)
   unfolding role_at
-  role-marked q j i = ap (λ o. role_in new o i) (same_node_at q j) ∙ go (node_at old q j) refl (is_within p k q j) refl
+  role-marked q j i = ap (λ o. role_in new o i) (same_node_at old new marks.shape q j) ∙ go (node_at old q j) refl (is_within p k q j) refl
     where
       go : (o : Option NodeNumber) → node_at old q j ≡ o → (w : Bool) → is_within p k q j ≡ w
           → role_in new o i ≡ (if w && id_eq id i then Some (if path_eq p q && key_eq k j then role else Through) else role_in old o i)
@@ -91,18 +88,11 @@ module _ (id : Id) (role : Role) (old new : List Node) (tree : AreTree old) (p :
 
   value-marked : {X : Type 0} (part : Node → List (Id × X)) → ((c : NodeNumber) → part (node_of new c) ≡ part (node_of old c)) → (q : List Tagged) (j : Key) (i : Id)
       → value_in part new (node_at new q j) i ≡ value_in part old (node_at old q j) i
-  value-marked {X} part same q j i = ap (λ o. value_in part new o i) (same_node_at q j) ∙ go (node_at old q j)
+  value-marked {X} part same q j i = ap (λ o. value_in part new o i) (same_node_at old new marks.shape q j) ∙ go (node_at old q j)
     where
       go : (o : Option NodeNumber) → value_in part new o i ≡ value_in part old o i
       go None = refl
       go (Some c) = ap (λ l. get l i) (same c)
-
-  ids-marked : (q : List Tagged) → ids_in new (list_node_at new q) ≡ ids_in old (list_node_at old q)
-  ids-marked q = ap (λ f. ids_in new (option_and_then (walk f root) (list_trail q))) marks.shape ∙ go (list_node_at old q)
-    where
-      go : (o : Option NodeNumber) → ids_in new o ≡ ids_in old o
-      go None = refl
-      go (Some c) = ap (λ o. ids_of o.0) (marks.kept c).2
 
   -- the place, and those above it, are present by the id
   pub facts-marked : facts_of new ≡ mark_facts (facts_of old) p k id
@@ -112,5 +102,5 @@ module _ (id : Id) (role : Role) (old new : List Node) (tree : AreTree old) (p :
         present = λ q j i. (ap is_some (role-marked q j i) ∙ is_some-if (is_within p k q j && id_eq id i) (if path_eq p q && key_eq k j then role else Through) (role_at old q j i)) x;
         register = λ q j i. value-marked (λ z. z.register.0) (λ c. ap (λ r. r.0) (marks.kept c).0) q j i x;
         counter = λ q j i. value-marked (λ z. z.counter.0) (λ c. ap (λ r. r.0) (marks.kept c).1) q j i x;
-        order = λ q. ids-marked q x;
+        order = λ q. same_ids old new marks.shape (λ c. (marks.kept c).2) q x;
       }

@@ -2,22 +2,17 @@
 use Rattle.std.proofs.Common.{◌≡◌, List, [], ◌∷◌, Bool, true, false, Option, Some, if◌then◌else◌, inl, inr, Contains, refl, sym, ap, subst, ◌∙◌, true≢false}
 use Rattle.std.proofs.lemmas.Bool.{false_from_ne_true}
 use Rattle.std.specs.Ordering.{is_lt}
-use Rattle.std.specs.declared.cmp.Ordering.{Ordering}
-use Rattle.std.specs.declared.cmp.Ordering.TheVariants.{Less, Equal, Greater}
+use Rattle.std.specs.declared.cmp.Ordering.TheVariants.{Less}
 use Rattle.lamport_id.specs.declared.id.Id.{Id}
 use Rattle.lamport_id.specs.Order.{id_cmp}
 use Rattle.list_laws.proofs.Members.{Contains-nil, Contains-here, Contains-there, Contains-cases}
+use Rattle.op_core.proofs.Fronts.{is_Less}
 use Rattle.crdt_rules.specs.Same.{id_eq}
 use Rattle.crdt_rules.proofs.SameLaws.{id_decides}
 use Rattle.crdt_rules.proofs.Tests.{some_same, some≢none}
 use Rattle.presence_set.specs.ById.{get, IsBelow, IsAscending}
 use Rattle.presence_set.proofs.ByIdLaws.{not_less_itself}
 use Rattle.doc_rules.specs.Sorted.{IsRising, AreAll}
-
-pub less_is : (o : Ordering) → is_lt o ≡ true → o ≡ Less
-less_is Less e = refl
-less_is Equal e = absurd (true≢false (sym e))
-less_is Greater e = absurd (true≢false (sym e))
 
 -- an id that is less than another isn't the same
 less_differs : (a b : Id) → id_cmp a b ≡ Less → id_eq a b ≡ false
@@ -28,7 +23,7 @@ module _ {X : Type 0} where
   below-Contains : (i : Id) (es : List (Id × X)) → IsBelow i es → (e : Id × X) → Contains es e → id_cmp i e.0 ≡ Less
   below-Contains i [] below e c = absurd (Contains-nil c)
   below-Contains i (x ∷ es) below e c = elim (Contains-cases x es c) [
-    | inl is ↦ subst (λ z. id_cmp i z.0 ≡ Less) is (less_is (id_cmp i x.0) below.0)
+    | inl is ↦ subst (λ z. id_cmp i z.0 ≡ Less) is (is_Less (id_cmp i x.0) below.0)
     | inr there ↦ below-Contains i es below.1 e there
   ]
 

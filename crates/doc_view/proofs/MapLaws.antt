@@ -17,7 +17,7 @@ use Rattle.doc_rules.specs.Reads.{AreKeys, IsPresent, into_map}
 use Rattle.doc_rules.specs.Sorted.{IsRising, AreThose}
 use Rattle.doc_rules.specs.Sorted.AreThose.{none, keep, skip}
 use Rattle.doc_view.specs.Members.{texts_at, texts_in}
-use Rattle.doc_view.proofs.Entries.{less_is}
+use Rattle.op_core.proofs.Fronts.{is_Less}
 use Rattle.doc_view.proofs.Lists.{take_read}
 
 -- ---- those of a list for which something holds
@@ -92,7 +92,7 @@ below_text : (s t : List ℕ) (n : NodeNumber) (children : List (Key × NodeNumb
 below_text s t n [] below c = absurd (Contains-nil c)
 below_text s t n (child ∷ children) below c =
     elim (Contains-cases child children c) [
-      | inl is ↦ less_is (name_cmp s t) (text_lt s t ∙ subst (λ (x : Key × NodeNumber). is_lt (key_order.key_cmp (Text s) x.0) ≡ true) is below.0)
+      | inl is ↦ is_Less (name_cmp s t) (text_lt s t ∙ subst (λ (x : Key × NodeNumber). is_lt (key_order.key_cmp (Text s) x.0) ≡ true) is below.0)
       | inr there ↦ below_text s t n children below.1 there
     ]
 

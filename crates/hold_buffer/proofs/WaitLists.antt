@@ -10,6 +10,7 @@ use Rattle.std.proofs.lemmas.List.Sorted.{sum_by-IsPermutation, sorted_far, rank
 use Rattle.std.proofs.lemmas.List.Sums.{length-filter}
 use Rattle.lamport_id.specs.Order.{id_cmp}
 use Rattle.lamport_id.specs.declared.id.Id.{Id}
+use Rattle.op_core.proofs.Fronts.{is_Less}
 use Rattle.crdt_rules.specs.Same.{id_eq}
 use Rattle.list_laws.proofs.Members.{Contains-here}
 use Rattle.crdt_rules.proofs.SameLaws.{id_decides, eq_from}
@@ -21,11 +22,6 @@ use Rattle.hold_buffer.specs.declared.wait.Wait.{Wait}
 
 -- ---- the order
 
-pub less_is : (r : Ordering) → is_lt r ≡ true → r ≡ Less
-less_is Less h = refl
-less_is Equal h = absurd (true≢false (sym h))
-less_is Greater h = absurd (true≢false (sym h))
-
 pub less_lt : (a b : Id) → id_cmp a b ≡ Less → is_lt (id_cmp a b) ≡ true
 less_lt a b h = ap is_lt h
 
@@ -36,7 +32,7 @@ less_below v w k none less = by (id_cmp w k) refl
     by : (r : Ordering) → id_cmp w k ≡ r → is_lt r ≡ true
     by Less e = refl
     by Equal e = absurd (true≢false (sym (subst (λ z. is_lt (id_cmp v z) ≡ true) (sym (id_order.tied w k e)) less) ∙ none))
-    by Greater e = absurd (true≢false (sym (less_lt v w (id_order.total.trans v k w (less_is (id_cmp v k) less) (less_back id_order w k e))) ∙ none))
+    by Greater e = absurd (true≢false (sym (less_lt v w (id_order.total.trans v k w (is_Less (id_cmp v k) less) (less_back id_order w k e))) ∙ none))
 
 pub more_above : (v w k : Id) → is_lt (id_cmp v w) ≡ false → is_lt (id_cmp k w) ≡ true → is_lt (id_cmp k v) ≡ true
 more_above v w k none less = by (id_cmp k v) refl
@@ -44,7 +40,7 @@ more_above v w k none less = by (id_cmp k v) refl
     by : (r : Ordering) → id_cmp k v ≡ r → is_lt r ≡ true
     by Less e = refl
     by Equal e = absurd (true≢false (sym (subst (λ z. is_lt (id_cmp z w) ≡ true) (id_order.tied k v e) less) ∙ none))
-    by Greater e = absurd (true≢false (sym (less_lt v w (id_order.total.trans v k w (less_back id_order k v e) (less_is (id_cmp k w) less))) ∙ none))
+    by Greater e = absurd (true≢false (sym (less_lt v w (id_order.total.trans v k w (less_back id_order k v e) (is_Less (id_cmp k w) less))) ∙ none))
 
 pub not_true : (b : Bool) → not b ≡ true → b ≡ false
 not_true true h = sym h
@@ -127,7 +123,7 @@ cut_is p (x ∷ xs) (suc s) (suc e) le within before run behind =
 
 less_apart : (a b : Id) → is_lt (id_cmp a b) ≡ true → a ≢ b
 less_apart a b less same =
-    let back : is_lt (id_cmp b a) ≡ false = not_less_back id_order a b (less_is (id_cmp a b) less) in
+    let back : is_lt (id_cmp b a) ≡ false = not_less_back id_order a b (is_Less (id_cmp a b) less) in
     true≢false (sym less ∙ (λ i. is_lt (id_cmp (same i) (sym same i))) ∙ back)
 
 neither_less : (a b : Id) → is_lt (id_cmp a b) ≡ false → is_lt (id_cmp b a) ≡ false → a ≡ b
@@ -151,7 +147,7 @@ module _ (id : Id) (waits : List Wait) (s e : ℕ) (low : s ≤ length waits) (h
           let below = start.0 e d (omega arith) less in
           let above = end.1 e d (omega arith) (omega (arith, low, less)) in
           both_ways (is_lt (id_cmp id (get_or waits e d).awaited))
-          (not_less_back id_order (get_or waits e d).awaited id (less_is (id_cmp (get_or waits e d).awaited id) below)) above
+          (not_less_back id_order (get_or waits e d).awaited id (is_Less (id_cmp (get_or waits e d).awaited id) below)) above
 
   -- without them
   pub without_run : take s waits ++ drop e waits ≡ filter (λ w. not (id_eq w.awaited id)) waits

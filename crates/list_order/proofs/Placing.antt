@@ -7,7 +7,7 @@ use Rattle.lamport_id.specs.declared.id.Id.{Id}
 use Rattle.crdt_rules.specs.Same.{id_eq}
 use Rattle.lamport_id.specs.Order.{id_cmp}
 use Rattle.list_laws.specs.Order.{place, place_behind, insert_after}
-use Rattle.presence_set.proofs.Ascending.{is_eq-id_cmp}
+use Rattle.crdt_rules.proofs.IdOrder.{is_eq-id_cmp}
 use Rattle.list_order.specs.declared.slots.Slot.{Slot}
 use Rattle.list_order.specs.declared.slots.SlotNumber.{SlotNumber}
 use Rattle.list_order.specs.declared.marks.Mark.{Mark}

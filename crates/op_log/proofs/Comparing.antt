@@ -1,7 +1,7 @@
 -- Fronts that ascend, compared entry by entry.
-use Rattle.std.proofs.Common.{◌≡◌, ◌≢◌, ℕ, ◌<◌, ◌≤◌, zero, suc, inl, inr, List, [], ◌∷◌, Bool, true, false, ◌&&◌, ◌||◌, ◌==◌, ◌+◌, nat_le, bytes_eq, Contains, length, take, drop, get_or, ◌-◌, arith, refl, sym, ap, subst, ◌∙◌, Less, Equal, Greater}
+use Rattle.std.proofs.Common.{◌≡◌, ◌≢◌, ℕ, ◌<◌, ◌≤◌, zero, suc, inl, inr, List, [], ◌∷◌, Bool, true, false, ◌&&◌, ◌||◌, ◌==◌, ◌+◌, nat_le, Contains, length, take, drop, get_or, ◌-◌, arith, refl, sym, ap, subst, ◌∙◌, Less, Equal, Greater}
 use Rattle.std.proofs.Math.Dec.{eqb-suc-zero}
-use Rattle.std.proofs.lemmas.Bool.{and_parts, false_from_ne_true}
+use Rattle.std.proofs.lemmas.Bool.{and_parts}
 use Rattle.std.proofs.lemmas.List.{take_all}
 use Rattle.op_core.specs.Front.{max_counter}
 use lib.Pointwise.{bytes_decides}
@@ -12,12 +12,9 @@ use Rattle.op_core.specs.Shape.{is_shaped, is_shallow, has_form, has_front}
 use Rattle.list_laws.proofs.Members.{Contains-here, Contains-there, Contains-cases}
 use Rattle.crdt_rules.proofs.Tests.{any_none}
 use Rattle.op_log.proofs.Cursors.{drop_at}
-use Rattle.op_log.proofs.Fronts.{NamesRise, rising_from_ascending}
+use Rattle.op_log.proofs.Fronts.{NamesRise, rising_from_ascending, names_differ}
 use Rattle.op_log.proofs.KeyOrders.{name_order}
 use Rattle.op_log.proofs.Sorted.{less≢equal, less_back}
-
-other_name : (a b : List ℕ) → a ≢ b → bytes_eq a b ≡ false
-other_name a b other = false_from_ne_true (bytes_eq a b) (λ h. other ((bytes_decides a b).0 h))
 
 -- an entry whose name is less than all of a front
 pub below_all : (e : List ℕ × ℕ) (n : List ℕ × ℕ) (others : List (List ℕ × ℕ)) → NamesRise (n ∷ others) → name_cmp e.0 n.0 ≡ Less
@@ -32,14 +29,14 @@ below_all e n others rise less m c =
 below_uncovered : (e : List ℕ × ℕ) (front : List (List ℕ × ℕ)) → ((m : List ℕ × ℕ) → Contains front m → name_cmp e.0 m.0 ≡ Less) → covers front (id_of e) ≡ false
 below_uncovered e front below =
     any_none (reaches (id_of e)) front
-    (λ m c. (λ i. (other_name m.0 e.0 (λ same. less≢equal name_order e.0 m.0 (below m c) (sym same)) i && nat_le e.1 m.1)))
+    (λ m c. (λ i. (names_differ m.0 e.0 (λ same. less≢equal name_order e.0 m.0 (below m c) (sym same)) i && nat_le e.1 m.1)))
 
 -- entries of other names do not need the first of a front
 skip : (front : List (List ℕ × ℕ)) (n : List ℕ × ℕ) (others : List (List ℕ × ℕ)) → ((e : List ℕ × ℕ) → Contains front e → n.0 ≢ e.0)
     → is_le front (n ∷ others) ≡ is_le front others
 skip [] n others other = refl
 skip (e ∷ front) n others other =
-    (λ i. (((other_name n.0 e.0 (other e (Contains-here front refl)) i && nat_le e.1 n.1) || covers others (id_of e)) && is_le front (n ∷ others)))
+    (λ i. (((names_differ n.0 e.0 (other e (Contains-here front refl)) i && nat_le e.1 n.1) || covers others (id_of e)) && is_le front (n ∷ others)))
     ∙ ap (λ b. covers others (id_of e) && b) (skip front n others (λ f c. other f (Contains-there e front c)))
 
 pub le_none : (e : List ℕ × ℕ) (rest : List (List ℕ × ℕ)) → is_le (e ∷ rest) [] ≡ false

@@ -1,5 +1,5 @@
 -- Fronts: their order, and what one says of a replica after a change.
-use Rattle.std.proofs.Common.{◌≡◌, ◌≢◌, ℕ, ◌<◌, ◌⊎◌, inl, inr, zero, suc, List, [], ◌∷◌, ◌++◌, length, take, drop, get_or, set, Bool, true, false, bytes_eq, Some, None, if◌then◌else◌, Contains, refl, sym, ap, subst, ◌∙◌, arith, Ordering, Less}
+use Rattle.std.proofs.Common.{◌≡◌, ◌≢◌, ℕ, ◌<◌, ◌⊎◌, inl, inr, zero, suc, List, [], ◌∷◌, ◌++◌, length, take, drop, get_or, set, Bool, true, false, bytes_eq, Some, None, if◌then◌else◌, Contains, refl, sym, ap, subst, ◌∙◌, arith, Less}
 use Rattle.std.specs.Prelude.{insert}
 use Rattle.std.specs.Ordering.{is_lt}
 use Rattle.std.proofs.lemmas.Bool.{and_parts, and_from, false_from_ne_true}
@@ -12,16 +12,13 @@ use Rattle.crdt_rules.specs.Dependencies.{entry_of}
 use Rattle.op_log.specs.Front.{PutsEntry}
 use Rattle.doc_rules.specs.Sorted.{IsRising}
 use Rattle.op_log.specs.Sorted.{IsPlace, IsGap}
+use Rattle.op_core.proofs.Fronts.{is_Less}
 use Rattle.list_laws.proofs.Members.{Contains-nil, Contains-here, Contains-there, Contains-cases}
 use Rattle.op_log.proofs.Sorted.{less≢equal, gap_none, Contains-take, IsRising-insert}
 use Rattle.op_log.proofs.KeyOrders.{name_order}
 
 abbrev pub NamesRise : List (List ℕ × ℕ) → Type 0
 NamesRise = IsRising name_cmp (λ e. e.0)
-
-is_lt-Less : (r : Ordering) → is_lt r ≡ true → r ≡ Less
-is_lt-Less Less h = refl
-is_lt-Less _ h = absurd (cc)
 
 -- the test of neighbours says it of all
 pub rising_from_ascending : (front : List (List ℕ × ℕ)) → is_ascending front ≡ true → NamesRise front
@@ -30,7 +27,7 @@ rising_from_ascending (e ∷ []) h = ((λ y c. absurd (Contains-nil c)), tt)
 rising_from_ascending (e ∷ f ∷ rest) h =
     let p = and_parts (is_lt (name_cmp e.0 f.0)) (is_ascending (f ∷ rest)) h in
     let later = rising_from_ascending (f ∷ rest) p.1 in
-    let next : name_cmp e.0 f.0 ≡ Less = is_lt-Less (name_cmp e.0 f.0) p.0 in (
+    let next : name_cmp e.0 f.0 ≡ Less = is_Less (name_cmp e.0 f.0) p.0 in (
       (λ y c.
           elim (Contains-cases f rest c) [
             | inl here ↦ subst (λ z. name_cmp e.0 z.0 ≡ Less) here next
@@ -45,7 +42,7 @@ ascending_from_rising (e ∷ []) r = refl
 ascending_from_rising (e ∷ f ∷ rest) r =
     and_from (is_lt (name_cmp e.0 f.0)) (is_ascending (f ∷ rest)) (ap is_lt (r.0 f (Contains-here rest refl))) (ascending_from_rising (f ∷ rest) r.1)
 
-names_differ : (a b : List ℕ) → a ≢ b → bytes_eq a b ≡ false
+pub names_differ : (a b : List ℕ) → a ≢ b → bytes_eq a b ≡ false
 names_differ a b other = false_from_ne_true (bytes_eq a b) (λ h. other ((bytes_decides a b).0 h))
 
 -- an entry of a front is found by its name

@@ -1,9 +1,8 @@
 -- In a good log no id stands twice, so an id names one operation.
-use Rattle.std.proofs.Common.{◌≡◌, ◌≢◌, inl, inr, List, [], ◌∷◌, ◌++◌, map, Bool, true, false, ◌&&◌, ◌||◌, cond, Some, None, Contains, refl, sym, ap, subst, ◌∙◌}
+use Rattle.std.proofs.Common.{◌≡◌, ◌≢◌, inl, inr, List, [], ◌∷◌, map, Bool, true, false, ◌&&◌, ◌||◌, cond, Some, None, Contains, refl, sym, ap, subst, ◌∙◌}
 use Rattle.std.specs.Prelude.{is_some}
 use Rattle.std.specs.List.{list_any}
 use Rattle.std.proofs.lemmas.Bool.{and_parts, false_from_ne_true}
-use Rattle.std.proofs.lemmas.List.Elements.{Contains-push_cases}
 use Rattle.lamport_id.specs.declared.id.Id.{Id}
 use Rattle.op_core.specs.Op.{Op}
 use Rattle.list_laws.specs.Order.{EachOnce}
@@ -14,48 +13,15 @@ use Rattle.crdt_rules.specs.Fits.{is_element}
 use Rattle.crdt_rules.specs.Same.{id_eq, path_eq}
 use Rattle.doc_rules.specs.Replica.{find_id}
 use Rattle.crdt_rules.specs.Dependencies.{is_logged}
-use Rattle.crdt_rules.specs.Log.{IsGood}
 use Rattle.list_laws.proofs.Members.{Contains-nil, Contains-here, Contains-there, Contains-cases}
 use Rattle.crdt_rules.proofs.SameLaws.{id_decides}
+use Rattle.crdt_rules.proofs.GoodLogs.{ids-at}
 use Rattle.crdt_rules.proofs.Tests.{any_none}
-use Rattle.crdt_rules.proofs.Logs.{by_fits}
-use Rattle.crdt_rules.proofs.Chain.{fits_new}
 use Rattle.crdt_rules.proofs.Tests.{some_same, some≢none}
 
 -- the ids of a log, each once
 abbrev pub IdsOnce : List Op → Type 0
 IdsOnce log = EachOnce (map (λ o. o.id) log)
-
-ids-at : (log : List Op) {o : Op} → Contains log o → Contains (map (λ z. z.id) log) o.id
-ids-at [] c = absurd (Contains-nil c)
-ids-at (z ∷ log) c =
-    elim (Contains-cases z log c) [
-      | inl here ↦ Contains-here (map (λ o. o.id) log) (ap (λ o. o.id) here)
-      | inr there ↦ Contains-there z.id (map (λ o. o.id) log) (ids-at log there)
-    ]
-
-ids-from : (log : List Op) {i : Id} → Contains (map (λ o. o.id) log) i → (o : Op) × Contains log o × (o.id ≡ i)
-ids-from [] c = absurd (Contains-nil c)
-ids-from (z ∷ log) c =
-    elim (Contains-cases z.id (map (λ o. o.id) log) c) [
-      | inl here ↦ (z, Contains-here log refl, here)
-      | inr there ↦ let r = ids-from log there in (r.0, Contains-there z log r.1, r.2)
-    ]
-
-ids_once-push : (log : List Op) (op : Op) → IdsOnce log → ((o : Op) → Contains log o → o.id ≢ op.id) → IdsOnce (log ++ op ∷ [])
-ids_once-push [] op once new = (λ c. Contains-nil c, tt)
-ids_once-push (z ∷ log) op once new = (first, ids_once-push log op once.1 (λ o c. new o (Contains-there z log c)))
-  where
-    first : ¬ (Contains (map (λ o. o.id) (log ++ op ∷ [])) z.id)
-    first c =
-        let r = ids-from (log ++ op ∷ []) c in
-        elim (Contains-push_cases log op r.0 r.1) [
-          | inl old ↦ once.0 (subst (Contains (map (λ o. o.id) log)) r.2 (ids-at log old))
-          | inr e ↦ new z (Contains-here log refl) (sym (ap (λ o. o.id) e ∙ r.2))
-        ]
-
-pub ids_once : (log : List Op) → IsGood log → IdsOnce log
-ids_once = by_fits IdsOnce tt (λ log op good fits ih. ids_once-push log op ih (λ o c. fits_new fits o c))
 
 ids_differ : (a b : Id) → a ≢ b → id_eq a b ≡ false
 ids_differ a b other = false_from_ne_true (id_eq a b) (λ h. other (id_decides.same a b h))

@@ -13,7 +13,8 @@ use Rattle.crdt_rules.proofs.Chain.{chain_covers, covered_less}
 use Rattle.crdt_rules.proofs.Logs.{by_fits}
 use Rattle.crdt_rules.proofs.Tests.{some_same, some≢none}
 use Rattle.doc_rules.specs.Replica.{find_id}
-use Rattle.op_log.proofs.Ids.{ids_once, find_id-Contains, find_id-none, is_logged-find_id}
+use Rattle.crdt_rules.proofs.GoodLogs.{ids_once}
+use Rattle.op_log.proofs.Ids.{find_id-Contains, find_id-none, is_logged-find_id}
 use Rattle.op_log.specs.Index.{StandsAt, IsLink, IsLast, IsFirstFrom}
 use Rattle.op_log.specs.declared.index.Link.{Link}
 

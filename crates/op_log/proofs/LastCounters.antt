@@ -3,7 +3,6 @@ use Rattle.std.proofs.Common.{◌≡◌, ℕ, ◌+◌, ◌≤◌, max, inl, inr,
 use Rattle.std.specs.Prelude.{is_some}
 use Rattle.std.specs.List.{list_any}
 use Rattle.std.proofs.lemmas.List.{length-map}
-use Rattle.std.proofs.lemmas.Bool.{both_ways}
 use lib.Pointwise.{bytes_decides}
 use Rattle.op_core.specs.Front.{max_counter}
 use Rattle.op_core.specs.Op.{Op}
@@ -14,31 +13,13 @@ use Rattle.crdt_rules.specs.Fits.{last_counter}
 use Rattle.crdt_rules.specs.Fits.{Fits, replicas}
 use Rattle.list_laws.proofs.Members.{Contains-nil, Contains-here, Contains-there, Contains-cases}
 use Rattle.crdt_rules.proofs.Tests.{any_at, any_none}
-use Rattle.crdt_rules.proofs.Fronts.{shaped_counter, entry_of-Contains}
+use Rattle.crdt_rules.proofs.Fronts.{entry-max_counter, shaped_counter, entry_of-Contains}
 use Rattle.crdt_rules.proofs.LastCounter.{below_last}
 use Rattle.crdt_rules.proofs.Tests.{some≢none}
 use Rattle.op_log.proofs.Fronts.{NamesRise, rising_from_ascending, entry_of-at}
 use Rattle.op_log.proofs.KeyOrders.{name_order}
 use Rattle.op_log.proofs.Sorted.{less≢equal}
-use Rattle.crdt_rules.proofs.Room.{length-among, replicas-at, replicas-from}
-
--- an entry is at most the greatest counter
-entry-max_counter : (front : List (List ℕ × ℕ)) {e : List ℕ × ℕ} → Contains front e → e.1 ≤ max_counter front
-entry-max_counter [] c = absurd (Contains-nil c)
-entry-max_counter (f ∷ front) {e} c =
-    elim (Contains-cases f front c) [
-      | inl here ↦ subst (λ z. z.1 ≤ max f.1 (max_counter front)) here (omega arith)
-      | inr there ↦ let ih : e.1 ≤ max_counter front = entry-max_counter front there in omega arith
-    ]
-
--- a name stands once among those of a log
-replicas-once : (log : List Op) → EachOnce (replicas log)
-replicas-once [] = tt
-replicas-once (z ∷ log) = by (list_any (bytes_eq z.id.replica) (replicas log)) refl (replicas-once log)
-  where
-    by : (b : Bool) → list_any (bytes_eq z.id.replica) (replicas log) ≡ b → EachOnce (replicas log) → EachOnce (if b then replicas log else z.id.replica ∷ replicas log)
-    by true e once = once
-    by false e once = ((λ c. both_ways _ e (any_at (bytes_eq z.id.replica) (replicas log) c ((bytes_decides z.id.replica z.id.replica).1 refl))), once)
+use Rattle.crdt_rules.proofs.Room.{length-among, replicas-at, replicas-from, replicas-once}
 
 -- after one more operation
 pub last_counter-push : (log : List Op) (op : Op) (name : List ℕ)

@@ -1,6 +1,5 @@
 -- The kept front is the front of the log.
 use Rattle.std.proofs.Common.{◌≡◌, ◌≢◌, ℕ, List, [], ◌∷◌, Bool, true, false, bytes_eq, Some, None, if◌then◌else◌, Contains, refl, sym, ap, subst, ◌∙◌, Ordering, Less, Equal, Greater}
-use Rattle.std.proofs.lemmas.Bool.{false_from_ne_true}
 use lib.Pointwise.{bytes_decides}
 use Rattle.lamport_id.specs.Order.{name_cmp}
 use Rattle.op_core.specs.Op.{Op}
@@ -15,9 +14,6 @@ use Rattle.op_log.proofs.Fronts.{NamesRise, rising_from_ascending, entry_of-at, 
 use Rattle.op_log.proofs.Comparing.{below_all}
 use Rattle.op_log.proofs.KeyOrders.{name_order}
 use Rattle.op_log.proofs.Sorted.{less≢equal, less_back}
-
-other_name : (a b : List ℕ) → a ≢ b → bytes_eq a b ≡ false
-other_name a b other = false_from_ne_true (bytes_eq a b) (λ h. other ((bytes_decides a b).0 h))
 
 -- what a front does not begin with, where the other's first name is less, it does not have
 first_not_less : (e : List ℕ × ℕ) (xs : List (List ℕ × ℕ)) (f : List ℕ × ℕ) (ys : List (List ℕ × ℕ)) → NamesRise (e ∷ xs) → NamesRise (f ∷ ys)

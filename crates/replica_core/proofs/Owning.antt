@@ -83,10 +83,3 @@ event_change r s place m answer (Ok c) h met =
 event_change r s place m answer (Err NoMemory) h met = elim met [ inl does ↦ inr does | inr lacks ↦ inr lacks.1 ]
 event_change r s place m answer (Err e) h met =
     elim met [ inl does ↦ inl (Err e, h (λ f. cc), does) | inr lacks ↦ inr lacks.1 ]
-
--- an answer that is due, and is another, lacks memory
-pub lacks : {A : Type 0} (r : Result A Refusal) (e : Refusal) (x : A) → (r ≢ Err NoMemory → r ≡ Ok x) → r ≡ Err e → e ≢ NoMemory → ⊥
-lacks {A} r e x h is other =
-    let due : r ≡ Ok x = h (λ f. other (let same : ◌≡◌ {A = Result A Refusal} (Err e) (Err NoMemory) = sym is ∙ f in cc)) in
-    let no : ◌≡◌ {A = Result A Refusal} (Err e) (Ok x) = sym is ∙ due in
-    cc

@@ -13,9 +13,10 @@ use Rattle.crdt_rules.specs.Same.{id_eq, key_eq, path_eq}
 use Rattle.crdt_rules.specs.Effect.{path_of, end_key, marks, clears}
 use Rattle.std.specs.Prelude.{is_some}
 use Rattle.crdt_rules.specs.Context.{empty, present}
-use Rattle.crdt_rules.specs.Facts.{Facts, facts, context_at, step_facts, ends_here}
+use Rattle.crdt_rules.specs.Facts.{Facts, facts, step_facts, ends_here}
 use Rattle.crdt_rules.specs.Fits.{Fits}
 use Rattle.crdt_rules.specs.Log.{IsGood}
+use Rattle.crdt_rules.proofs.ReplayFacts.{empty_at}
 use Rattle.crdt_rules.proofs.NextStep.{facts_push, reference_stands, id_is_new}
 use Rattle.crdt_rules.proofs.SameLaws.{id_decides}
 use Rattle.doc_words.specs.declared.role.Role.{Role}
@@ -90,12 +91,8 @@ none_from : {X : Type 0} (o : Option X) → is_some o ≡ false → o ≡ None
 none_from None h = refl
 none_from (Some x) h = absurd (true≢false h)
 
-context_empty : (p : List Tagged) → context_at empty p ≡ empty
-context_empty [] = refl
-context_empty (t ∷ p) = context_empty p
-
 none_present : (p : List Tagged) (k : Key) (i : Id) → (facts empty).present p k i ≡ false
-none_present p k i = ap (λ c. present c k i) (context_empty p)
+none_present p k i = ap (λ c. present c k i) (empty_at p)
 
 no_role : (tree : List Node × Option Scalar) → tree_facts tree ≡ facts empty → (p : List Tagged) (k : Key) (i : Id) → tree_role tree p k i ≡ None
 unfolding facts_of

@@ -9,7 +9,8 @@ use Rattle.doc_rules.specs.Replica.{own_op}
 use Rattle.doc_rules.proofs.Resolved.{ok_same}
 use Rattle.doc_rules.proofs.WholeFront.{max_counter_below}
 use Rattle.replica_core.specs.Whole.{replica_of}
-use Rattle.replica_core.proofs.Owning.{shaped_ok, lacks}
+use Rattle.hold_buffer.proofs.Waiting.{lacks}
+use Rattle.replica_core.proofs.Owning.{shaped_ok}
 use Rattle.replica_core.proofs.own.own_operation.Goals as goal
 
 pub returns-in_err-front : goal.returns-in_err-front

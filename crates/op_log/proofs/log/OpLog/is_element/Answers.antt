@@ -1,5 +1,6 @@
 use Rattle.std.proofs.Common.{sym, ◌∙◌}
-use Rattle.op_log.proofs.Ids.{ids_once, is_element-found, is_element-none}
+use Rattle.crdt_rules.proofs.GoodLogs.{ids_once}
+use Rattle.op_log.proofs.Ids.{is_element-found, is_element-none}
 use Rattle.op_log.proofs.log.OpLog.is_element.Goals as goal
 
 pub returns-in-Some : goal.returns-in-Some
