@@ -1,37 +1,32 @@
 -- Each event keeps what a replica keeps.
-use Rattle.std.proofs.Common.{◌≡◌, ◌≢◌, inl, inr, ℕ, ◌<◌, nat_le, length, Bool, true, false, not, bytes_eq, Option, Some, None, Result, Ok, Err, Contains, if◌then◌else◌, refl, sym, ap, subst, arith}
-use Rattle.std.specs.Prelude.{⊤}
+use Rattle.std.proofs.Common.{◌≡◌, ◌≢◌, inl, inr, ℕ, ◌<◌, nat_le, List, length, Bool, true, false, true≢false, ◌&&◌, not, bytes_eq, Option, Some, None, Result, Ok, Err, Contains, refl, sym, ap, subst, arith}
+use Rattle.std.specs.Prelude.{⊤, is_some}
 use Rattle.std.proofs.lemmas.Bool.{both_ways}
 use lib.Pointwise.{bytes_decides}
 use Rattle.lamport_id.specs.declared.id.Id.{Id}
 use Rattle.lamport_id.specs.Name.{is_name}
 use Rattle.json_scalar.specs.declared.refusal.Refusal.{Refusal}
-use Rattle.op_core.specs.Equality.{operation_eq}
 use Rattle.op_core.specs.Op.{Op}
 use Rattle.op_core.specs.Shape.{is_mutation, is_shaped}
 use Rattle.op_core.specs.declared.cursor.Cursor.{Cursor}
 use Rattle.op_core.specs.declared.mutation.Mutation.{Mutation}
 use Rattle.crdt_rules.specs.Same.{id_eq}
-use Rattle.crdt_rules.specs.Dependencies.{is_logged, is_ready, missing}
+use Rattle.crdt_rules.specs.Dependencies.{is_logged, is_ready}
 use Rattle.crdt_rules.specs.Fits.{Fits}
 use Rattle.crdt_rules.proofs.SameLaws.{id_decides, eq_from}
 use Rattle.crdt_rules.proofs.Tests.{any_none}
 use Rattle.doc_rules.specs.Cause.{cause_of}
-use Rattle.doc_rules.specs.Events.{Due, told, held, logged, Settles, own_change, due_own, known_or_not, due_waiting, due_ready, due_new, due_unlogged, due_handed, Forgets, Does, Event, IsWellMade}
+use Rattle.doc_rules.specs.Events.{Due, told, held, logged, Settles, due_by_cause, stands, changed_rows, due_placed, delivered_rows, due_delivered, Forgets, Does, Event, IsWellMade}
 use Rattle.doc_rules.specs.Replica.{Replica, facts_of, find_id, hold, let_go, own_op, IsKept}
 use Rattle.doc_rules.specs.Resolve.{Resolves}
-use Rattle.json_scalar.specs.Refusal.{and_then}
 use Rattle.doc_words.specs.declared.place.Place.{Place}
 use Rattle.doc_words.specs.declared.ask.Command.{Command}
 use Rattle.doc_words.specs.declared.ask.Command.TheVariants.{Change, Deliver, Forget}
 use Rattle.doc_words.specs.declared.reply.Reply.{Reply}
-use Rattle.doc_words.specs.declared.reply.Reply.TheVariants.{Known, Held, Refused}
 use Rattle.doc_rules.proofs.Causes.{fits_from}
 use Rattle.doc_rules.proofs.Held.{find_none, filter_from, put_among_from, length-put_among, rising-put_among}
-use Rattle.doc_rules.specs.Cause.{room_cause}
-use Rattle.doc_rules.specs.Events.{cause_at}
-use Rattle.doc_rules.proofs.OwnFits.{own_fits}
-use Rattle.doc_rules.proofs.Resolved.{and_then_from, ok_same}
+use Rattle.doc_rules.proofs.OwnFits.{unopposed_fits}
+use Rattle.doc_rules.proofs.Tables.{by_rows}
 use Rattle.doc_rules.proofs.Drained.{tidy_from, kept_from, append_tidy, let_go_tidy, drain_keeps}
 
 -- an operation that may be held
@@ -70,55 +65,68 @@ settles_keeps reply (logged op) k safe h = drain_keeps h.drains (append_tidy op 
 
 -- ---- operations handed in
 
-known_safe : (r : Replica) (b : Bool) (answer : Reply) → IsSafe r (known_or_not b answer)
-known_safe r true answer = tt
-known_safe r false answer = tt
+by_cause_safe : (r : Replica) (op : Op) (cause : Result ⊤ Refusal) → cause_of op r.log ≡ cause → is_shaped op ≡ true
+    → ((o : Op) → Contains r.held o → op.id ≢ o.id) → IsSafe r (due_by_cause cause op)
+by_cause_safe r op (Ok tt) e shaped unheld = record { fits = fits_from op r.log shaped e; unheld = unheld }
+by_cause_safe r op (Err cause) e shaped unheld = tt
 
-ready_safe : (r : Replica) (op : Op) (cause : Result ⊤ Refusal) → cause_of op r.log ≡ cause → is_shaped op ≡ true
-    → ((o : Op) → Contains r.held o → op.id ≢ o.id) → IsSafe r (due_ready cause op)
-ready_safe r op (Ok tt) e shaped unheld = record { fits = fits_from op r.log shaped e; unheld = unheld }
-ready_safe r op (Err cause) e shaped unheld = tt
+-- no operation of its id is among them
+none_found : (ops : List Op) (op : Op) → stands ops op ≡ false → (o : Op) → Contains ops o → id_eq o.id op.id ≡ false
+none_found ops op h = find_none (λ o. id_eq o.id op.id) ops (by (find_id ops op.id) h)
+  where
+    by : (found : Option Op) → is_some found ≡ false → found ≡ None
+    by None h = refl
+    by (Some o) h = absurd (true≢false h)
 
-waiting_safe : (r : Replica) (op : Op) (full : Bool) → nat_le 256 (length r.held) ≡ full → (length r.held < 256 → MayHold r op) → IsSafe r (due_waiting full op)
-waiting_safe r op true e h = tt
-waiting_safe r op false e h = h (few (length r.held) e)
+none_stands : (ops : List Op) (op : Op) → stands ops op ≡ false → (o : Op) → Contains ops o → o.id ≢ op.id
+none_stands ops op h o c same = both_ways (id_eq o.id op.id) (none_found ops op h o c) (eq_from id_decides o.id op.id same)
+
+has_room : (ready : Bool) (n : ℕ) → not ready ≡ true → (not ready && nat_le 256 n) ≡ false → n < 256
+has_room true n waits h = absurd (true≢false (sym waits))
+has_room false n waits h = few n h
   where
     few : (n : ℕ) → nat_le 256 n ≡ false → n < 256
     few n e = grind arith
 
-new_safe : (r : Replica) (op : Op) → is_shaped op ≡ true → is_logged r.log op.id ≡ false → ((o : Op) → Contains r.held o → o.id ≢ op.id) → IsSafe r (due_new r op)
-new_safe r op shaped unlogged unheld = by (bytes_eq op.id.replica r.name) refl
-  where
-    by_ready : (b : Bool) → is_ready op r.log ≡ b → bytes_eq op.id.replica r.name ≡ false
-        → IsSafe r (if b then due_ready (cause_of op r.log) op else due_waiting (nat_le 256 (length r.held)) op)
-    by_ready true e foreign = ready_safe r op (cause_of op r.log) refl shaped (λ o c same. unheld o c (sym same))
-    by_ready false e foreign =
-        waiting_safe r op (nat_le 256 (length r.held)) refl
-        (λ room. record {
-          unlogged = unlogged;
-          unheld = unheld;
-          foreign = λ same. both_ways (bytes_eq op.id.replica r.name) foreign ((bytes_decides op.id.replica r.name).1 same);
-          waits = e;
-          room = room;
-        })
+not_ready : (ready : Bool) → not ready ≡ true → ready ≡ false
+not_ready true h = absurd (true≢false (sym h))
+not_ready false h = refl
 
-    by : (b : Bool) → bytes_eq op.id.replica r.name ≡ b
-        → IsSafe r (if b then told (Refused Refusal.OwnName) else (if is_ready op r.log then due_ready (cause_of op r.log) op else due_waiting (nat_le 256 (length r.held)) op))
-    by true e = tt
-    by false e = by_ready (is_ready op r.log) refl e
+may_hold : (r : Replica) (op : Op) → stands r.log op ≡ false → stands r.held op ≡ false → bytes_eq op.id.replica r.name ≡ false
+    → not (is_ready op r.log) ≡ true → (not (is_ready op r.log) && nat_le 256 (length r.held)) ≡ false → MayHold r op
+may_hold r op unlogged unheld foreign waits room = record {
+  unlogged = any_none (λ o. id_eq o.id op.id) r.log (none_found r.log op unlogged);
+  unheld = none_stands r.held op unheld;
+  foreign = λ same. both_ways (bytes_eq op.id.replica r.name) foreign ((bytes_decides op.id.replica r.name).1 same);
+  waits = not_ready (is_ready op r.log) waits;
+  room = has_room (is_ready op r.log) (length r.held) waits room;
+}
 
-unlogged_safe : (r : Replica) (op : Op) (found : Option Op) → find_id r.held op.id ≡ found → is_shaped op ≡ true → is_logged r.log op.id ≡ false
-    → IsSafe r (due_unlogged r op found)
-unlogged_safe r op (Some o) e shaped unlogged = known_safe r (operation_eq o op) (Held (missing op r.log))
-unlogged_safe r op None e shaped unlogged =
-    new_safe r op shaped unlogged
-    (λ o c same. both_ways (id_eq o.id op.id) (find_none (λ o. id_eq o.id op.id) r.held e o c) (eq_from id_decides o.id op.id same))
-
-handed_safe : (r : Replica) (op : Op) (found : Option Op) → find_id r.log op.id ≡ found → is_shaped op ≡ true → IsSafe r (due_handed r op found)
-handed_safe r op (Some o) e shaped = known_safe r (operation_eq o op) Known
-handed_safe r op None e shaped =
-    unlogged_safe r op (find_id r.held op.id) refl shaped
-    (any_none (λ o. id_eq o.id op.id) r.log (λ o c. find_none (λ o. id_eq o.id op.id) r.log e o c))
+delivered_safe : (r : Replica) (op : Op) → is_shaped op ≡ true → IsSafe r (due_delivered r op)
+delivered_safe r op shaped =
+    by_rows (IsSafe r) (delivered_rows r op) (due_by_cause (cause_of op r.log) op) (
+      (λ is. tt),
+      λ other. (
+        (λ is. tt),
+        λ unlogged. (
+          (λ is. tt),
+          λ other. (
+            (λ is. tt),
+            λ unheld. (
+              (λ is. tt),
+              λ foreign. (
+                (λ is. tt),
+                λ room. (
+                  (λ waits. may_hold r op unlogged unheld foreign waits room),
+                  λ ready.
+                      by_cause_safe r op (cause_of op r.log) refl shaped (λ o c same. none_stands r.held op unheld o c (sym same)),
+                ),
+              ),
+            ),
+          ),
+        ),
+      ),
+    )
 
 forgets_keeps : (r s : Replica) (i : Id) (found : Option Op) (reply : Reply) → IsKept r → Forgets r i found reply s → IsKept s
 forgets_keeps r s i None reply k h = subst IsKept (sym h.1) k
@@ -130,25 +138,34 @@ forgets_keeps r s i (Some o) reply k h =
 
 -- ---- changes of one's own
 
-own_safe : (r : Replica) (place : Place) (m : Mutation) (c : Result Cursor Refusal) → is_name r.name ≡ true → is_mutation m ≡ true → IsKept r
-    → Resolves (facts_of r) place.start place.steps c → (op : Result Op Refusal) → own_change r m c ≡ op → IsSafe r (due_own op)
-own_safe r place m c named value k resolves (Err cause) e = tt
-own_safe r place m c named value k resolves (Ok op) e =
-    let first = and_then_from c (λ c. and_then (cause_at m c) (λ _. and_then (room_cause (own_op r c m) r.log) (λ _. Ok (own_op r c m)))) e in
-    let second = and_then_from (cause_at m first.0) (λ _. and_then (room_cause (own_op r first.0 m) r.log) (λ _. Ok (own_op r first.0 m))) first.2 in
-    let third = and_then_from (room_cause (own_op r first.0 m) r.log) (λ _. Ok (own_op r first.0 m)) second.2 in
-    subst (MayLog r) (ok_same third.2)
-    (record {
-      fits = own_fits r place.start place.steps first.0 m named value k.good (subst (Resolves (facts_of r) place.start place.steps) first.1 resolves) second.1 third.1;
-      unheld = λ o held same. k.foreign o held (sym (ap (λ (i : Id). i.replica) same));
-    })
+placed_safe : (r : Replica) (place : Place) (m : Mutation) (c : Result Cursor Refusal) → is_name r.name ≡ true → is_mutation m ≡ true → IsKept r
+    → Resolves (facts_of r) place.start place.steps c → IsSafe r (due_placed r c m)
+placed_safe r place m (Err cause) named value k resolves = tt
+placed_safe r place m (Ok c) named value k resolves =
+    by_rows (IsSafe r) (changed_rows r c m) (logged (own_op r c m)) (
+      (λ is. tt),
+      λ listed. (
+        (λ is. tt),
+        λ below. (
+          (λ is. tt),
+          λ operations. (
+            (λ is. tt),
+            λ replicas.
+                record {
+                  fits = unopposed_fits r place.start place.steps c m named value k.good resolves (record { listed = listed; below = below; operations = operations; replicas = replicas });
+                  unheld = λ o held same. k.foreign o held (sym (ap (λ (i : Id). i.replica) same));
+                },
+          ),
+        ),
+      ),
+    )
 
 -- ---- commands
 
 does_keeps : (r s : Replica) (command : Command) (reply : Reply) → is_name r.name ≡ true → IsWellMade command → IsKept r → Does r command reply s → IsKept s
 does_keeps r s (Change place m) reply named value k h =
-    settles_keeps reply (due_own (own_change r m h.0)) k (own_safe r place m h.0 named value k h.1 (own_change r m h.0) refl) h.2
-does_keeps r s (Deliver op) reply named shaped k h = settles_keeps reply (due_handed r op (find_id r.log op.id)) k (handed_safe r op (find_id r.log op.id) refl shaped) h
+    settles_keeps reply (due_placed r h.0 m) k (placed_safe r place m h.0 named value k h.1) h.2
+does_keeps r s (Deliver op) reply named shaped k h = settles_keeps reply (due_delivered r op) k (delivered_safe r op shaped) h
 does_keeps r s (Forget i) reply named made k h = forgets_keeps r s i (find_id r.held i) reply k h
 
 pub event_keeps : (r s : Replica) (command : Command) (reply : Reply) → is_name r.name ≡ true → IsWellMade command → IsKept r → Event r command reply s → IsKept s

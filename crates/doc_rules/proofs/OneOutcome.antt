@@ -8,7 +8,7 @@ use Rattle.doc_words.specs.declared.reply.Reply.{Reply}
 use Rattle.doc_words.specs.declared.reply.Reply.TheVariants.{Applied}
 use Rattle.crdt_rules.specs.Fits.{Fits}
 use Rattle.crdt_rules.proofs.Tests.{some_same, some≢none}
-use Rattle.doc_rules.specs.Events.{Due, told, held, logged, Settles, own_change, due_own, due_handed, Forgets}
+use Rattle.doc_rules.specs.Events.{Due, told, held, logged, Settles, due_placed, due_delivered, Forgets}
 use Rattle.doc_rules.specs.Memory.{DropsMisfits, SettlesAll, DoesFully}
 use Rattle.doc_rules.specs.Replica.{Replica, Drains, facts_of, find_id, append, let_go}
 use Rattle.doc_rules.specs.Replica.Drains.{done, logs, drops}
@@ -58,8 +58,8 @@ one_forgetting r s t i None x y a b = (a.0 ∙ sym b.0, a.1 ∙ sym b.1)
 pub one_outcome : (r s t : Replica) (command : Command) (x y : Reply) → DoesFully r command x s → DoesFully r command y t → (x ≡ y) × (s ≡ t)
 one_outcome r s t (Change place m) x y (a, p) (b, q) =
     let same = one_place (facts_of r) place.start place.steps b.0 a.0 b.1 a.1 in
-    let other : (h : Settles r (due_own (own_change r m a.0)) y t) × SettlesAll r (due_own (own_change r m a.0)) y t h =
-    subst (λ c. (h : Settles r (due_own (own_change r m c)) y t) × SettlesAll r (due_own (own_change r m c)) y t h) same (b.2, q) in
-    one_settling r s t (due_own (own_change r m a.0)) x y a.2 other.0 p other.1
-one_outcome r s t (Deliver op) x y (a, p) (b, q) = one_settling r s t (due_handed r op (find_id r.log op.id)) x y a b p q
+    let other : (h : Settles r (due_placed r a.0 m) y t) × SettlesAll r (due_placed r a.0 m) y t h =
+    subst (λ c. (h : Settles r (due_placed r c m) y t) × SettlesAll r (due_placed r c m) y t h) same (b.2, q) in
+    one_settling r s t (due_placed r a.0 m) x y a.2 other.0 p other.1
+one_outcome r s t (Deliver op) x y (a, p) (b, q) = one_settling r s t (due_delivered r op) x y a b p q
 one_outcome r s t (Forget i) x y (a, p) (b, q) = one_forgetting r s t i (find_id r.held i) x y a b

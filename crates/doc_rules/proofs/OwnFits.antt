@@ -1,12 +1,9 @@
 -- A replica's own operation fits its log, where no cause stands against it.
-use Rattle.std.proofs.Common.{◌≡◌, inl, inr, ◌+◌, ◌≤◌, nat_le, List, [], ◌∷◌, ◌++◌, length, Bool, true, false, ◌&&◌, ◌==◌, not, Option, Result, Ok, Err, if◌then◌else◌, Contains, refl, sym, ap, subst, ◌∙◌, arith, le-leb, leb-true, eq-eqb}
-use Rattle.std.specs.Prelude.{⊤}
+use Rattle.std.proofs.Common.{◌≡◌, inl, inr, ◌+◌, ◌≤◌, nat_le, List, [], ◌∷◌, ◌++◌, length, Bool, true, false, true≢false, ◌&&◌, ◌==◌, not, Option, Ok, Contains, refl, sym, ap, subst, ◌∙◌, arith, le-leb, leb-true, eq-eqb}
 use Rattle.std.specs.List.{list_all}
 use Rattle.std.proofs.lemmas.Bool.{and_parts, and_from}
 use Rattle.lamport_id.specs.declared.id.Id.{Id}
 use Rattle.lamport_id.specs.Name.{is_name}
-use Rattle.json_scalar.specs.declared.refusal.Refusal.{Refusal}
-use Rattle.json_scalar.specs.declared.refusal.Refusal.TheVariants.{AtHead, NotInList}
 use Rattle.op_core.specs.Front.{covers, max_counter, is_ascending}
 use Rattle.op_core.specs.Op.{Op}
 use Rattle.op_core.specs.Shape.{is_id, is_entry, is_key, is_tagged, is_mutation, is_head, is_placed, is_shallow, is_allowed, ends_in_list, has_parts, has_form, has_front, key_of}
@@ -33,12 +30,11 @@ use Rattle.crdt_rules.proofs.ReplayOrder.{replay_order, insertion_from, insertio
 use Rattle.crdt_rules.proofs.SameLaws.{id_decides, path_decides}
 use Rattle.crdt_rules.proofs.Tests.{any_from, all_from}
 use Rattle.crdt_rules.proofs.WalkLaws.{id_order}
-use Rattle.doc_rules.specs.Cause.{room_cause}
-use Rattle.doc_rules.specs.Events.{cause_at}
+use Rattle.doc_rules.specs.Events.{logged, changed_rows, due_changed, is_past_operations, is_past_replicas}
+use Rattle.doc_rules.proofs.Tables.{by_rows}
 use Rattle.doc_rules.specs.Replica.{Replica, facts_of, next_id, own_op}
 use Rattle.doc_words.specs.declared.place.Step.{Step}
 use Rattle.doc_rules.specs.Resolve.{is_short, stands_in, stands, Resolves}
-use Rattle.doc_rules.proofs.Causes.{no_cause}
 use Rattle.doc_rules.proofs.Resolved.{ok≢err, resolved_is_at}
 use Rattle.doc_rules.proofs.WholeFront.{front_rising, rising_ascends, front_from, front_last, knows_whole_front, max_counter_below}
 
@@ -113,27 +109,29 @@ cursor_known log before (t ∷ path) k good h =
 
 -- ---- the operation
 
-not_at_head : (b : Bool) → ◌≡◌ {A = Result ⊤ Refusal} (if b then Err AtHead else Ok tt) (Ok tt) → not b ≡ true
-not_at_head true h = absurd (ok≢err h)
-not_at_head false h = refl
+-- no test of the table of changes holds
+pub record IsUnopposed (r : Replica) (c : Cursor) (m : Mutation) : Type 0 where
+  pub listed : (is_insertion m && not (ends_in_list c.path)) ≡ false
+  pub below : (not (is_insertion m) && is_head c.key) ≡ false
+  pub operations : is_past_operations (own_op r c m) r.log ≡ false
+  pub replicas : is_past_replicas (own_op r c m) r.log ≡ false
 
-allowed : (m : Mutation) (c : Cursor) → cause_at m c ≡ Ok tt → is_allowed m c ≡ true
-allowed (Insert v) c h = by (ends_in_list c.path) h
-  where
-    by : (b : Bool) → ◌≡◌ {A = Result ⊤ Refusal} (if b then Ok tt else Err NotInList) (Ok tt) → b ≡ true
-    by true h = refl
-    by false h = absurd (ok≢err h)
-allowed (Assign v) c h = not_at_head (is_head c.key) h
-allowed Delete c h = not_at_head (is_head c.key) h
-allowed (Add n) c h = not_at_head (is_head c.key) h
+not_false : (b : Bool) → not b ≡ false → b ≡ true
+not_false true h = refl
+not_false false h = absurd (true≢false h)
 
-own_room : (r : Replica) (c : Cursor) (m : Mutation) → room_cause (own_op r c m) r.log ≡ Ok tt → HasRoom (own_op r c m ∷ r.log)
+allowed : (r : Replica) (c : Cursor) (m : Mutation) → IsUnopposed r c m → is_allowed m c ≡ true
+allowed r c (Insert v) h = not_false (ends_in_list c.path) h.listed
+allowed r c (Assign v) h = ap not h.below
+allowed r c Delete h = ap not h.below
+allowed r c (Add n) h = ap not h.below
+
+own_room : (r : Replica) (c : Cursor) (m : Mutation) → IsUnopposed r c m → HasRoom (own_op r c m ∷ r.log)
 own_room r c m h =
     let op = own_op r c m in
-    let all = no_cause true true true (nat_le (length (op ∷ r.log)) 100000) (nat_le (length (replicas (op ∷ r.log))) 256) 0 h in
     record {
-      operations = leb-true (length (op ∷ r.log)) 100000 all.operations_hold;
-      replicas = leb-true (length (replicas (op ∷ r.log))) 256 all.replicas_hold;
+      operations = leb-true (length (op ∷ r.log)) 100000 (not_false (nat_le (length (op ∷ r.log)) 100000) h.operations);
+      replicas = leb-true (length (replicas (op ∷ r.log))) 256 (not_false (nat_le (length (replicas (op ∷ r.log))) 256) h.replicas);
     }
 
 next_is_id : (r : Replica) → is_name r.name ≡ true → IsGood r.log → length r.log + 1 ≤ 100000 → is_id (next_id r) ≡ true
@@ -143,18 +141,18 @@ next_is_id r named good room =
     (and_from (is_name r.name) (nat_le 1 (max_counter (front_of r.log) + 1)) named (le-leb 1 (max_counter (front_of r.log) + 1) (omega arith)))
     (le-leb (max_counter (front_of r.log) + 1) 100000 (omega (arith, most, room)))
 
-pub own_fits : (r : Replica) (start : Cursor) (steps : List Step) (c : Cursor) (m : Mutation) → is_name r.name ≡ true → is_mutation m ≡ true → IsGood r.log
-    → Resolves (facts_of r) start steps (Ok c) → cause_at m c ≡ Ok tt → room_cause (own_op r c m) r.log ≡ Ok tt → Fits (own_op r c m) r.log
-own_fits r start steps c m named value good resolves here roomy =
+pub unopposed_fits : (r : Replica) (start : Cursor) (steps : List Step) (c : Cursor) (m : Mutation) → is_name r.name ≡ true → is_mutation m ≡ true → IsGood r.log
+    → Resolves (facts_of r) start steps (Ok c) → IsUnopposed r c m → Fits (own_op r c m) r.log
+unopposed_fits r start steps c m named value good resolves h =
     let is_at = resolved_is_at (facts_of r) start steps c resolves in
     let known = cursor_known r.log [] c.path c.key good is_at.stands in
-    let room = own_room r c m roomy in
+    let room = own_room r c m h in
     let parts = and_from (is_id (next_id r) && list_all is_entry (front_of r.log) && (list_all is_tagged c.path && is_key c.key)) (is_mutation m)
     (and_from (is_id (next_id r) && list_all is_entry (front_of r.log)) (list_all is_tagged c.path && is_key c.key)
     (and_from (is_id (next_id r)) (list_all is_entry (front_of r.log)) (next_is_id r named good (let few = room.operations in few_more few)) (front_entries r.log good))
     (and_from (list_all is_tagged c.path) (is_key c.key) known.tags known.key)) value in
     let form = and_from (has_parts (own_op r c m) && is_placed c.path c.key) (is_allowed m c)
-    (and_from (has_parts (own_op r c m)) (is_placed c.path c.key) parts is_at.placed) (allowed m c here) in
+    (and_from (has_parts (own_op r c m)) (is_placed c.path c.key) parts is_at.placed) (allowed r c m h) in
     let front = and_from (is_ascending (front_of r.log)) (max_counter (front_of r.log) + 1 == max_counter (front_of r.log) + 1)
     (rising_ascends (front_of r.log) (front_rising r.log)) (eq-eqb (max_counter (front_of r.log) + 1) (max_counter (front_of r.log) + 1) refl) in
     record {
@@ -168,3 +166,22 @@ own_fits r start steps c m named value good resolves here roomy =
   where
     few_more : length (own_op r c m ∷ r.log) ≤ 100000 → length r.log + 1 ≤ 100000
     few_more h = omega arith
+
+-- so it fits where the table says that it is logged
+pub own_fits : (r : Replica) (start : Cursor) (steps : List Step) (c : Cursor) (m : Mutation) → is_name r.name ≡ true → is_mutation m ≡ true → IsGood r.log
+    → Resolves (facts_of r) start steps (Ok c) → due_changed r c m ≡ logged (own_op r c m) → Fits (own_op r c m) r.log
+own_fits r start steps c m named value good resolves =
+    by_rows (λ due. due ≡ logged (own_op r c m) → Fits (own_op r c m) r.log) (changed_rows r c m) (logged (own_op r c m)) (
+      (λ is e. absurd (cc)),
+      λ listed. (
+        (λ is e. absurd (cc)),
+        λ below. (
+          (λ is e. absurd (cc)),
+          λ operations. (
+            (λ is e. absurd (cc)),
+            λ replicas e.
+                unopposed_fits r start steps c m named value good resolves (record { listed = listed; below = below; operations = operations; replicas = replicas }),
+          ),
+        ),
+      ),
+    )

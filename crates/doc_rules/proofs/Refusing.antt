@@ -10,7 +10,7 @@ use Rattle.doc_words.specs.declared.ask.Command.TheVariants.{Change, Deliver, Fo
 use Rattle.doc_words.specs.declared.ask.Query.{Query}
 use Rattle.doc_words.specs.declared.reply.Reply.TheVariants.{Refused}
 use Rattle.doc_rules.specs.Document.{Document, for_seat, Acts, opens}
-use Rattle.doc_rules.specs.Events.{Due, told, held, logged, Settles, due_own, own_change, due_handed, Forgets, Does, Event}
+use Rattle.doc_rules.specs.Events.{Due, told, held, logged, Settles, due_placed, due_delivered, Forgets, Does, Event}
 use Rattle.doc_rules.specs.Replica.{Replica, find_id}
 use Rattle.doc_rules.specs.Seats.{Seat, Answer, ids_of, IsAnswerTo, ActsFor, AnswersFor}
 use Rattle.doc_rules.specs.Unchanged.{called}
@@ -25,8 +25,8 @@ forgets_same r s i (Some o) cause h = let is = h.0 in cc
 forgets_same r s i None cause h = h.1
 
 does_same : (r s : Replica) (command : Command) (cause : Refusal) → Does r command (Refused cause) s → s ≡ r
-does_same r s (Change place m) cause (c, resolves, settles) = settles_same r s (due_own (own_change r m c)) cause settles
-does_same r s (Deliver op) cause settles = settles_same r s (due_handed r op (find_id r.log op.id)) cause settles
+does_same r s (Change place m) cause (c, resolves, settles) = settles_same r s (due_placed r c m) cause settles
+does_same r s (Deliver op) cause settles = settles_same r s (due_delivered r op) cause settles
 does_same r s (Forget i) cause forgets = forgets_same r s i (find_id r.held i) cause forgets
 
 pub event_same : (r s : Replica) (command : Command) (cause : Refusal) → Event r command (Refused cause) s → s ≡ r

@@ -1,5 +1,5 @@
 -- Each event of a document keeps it sound, and gives to its seat just what it tells.
-use Rattle.std.proofs.Common.{◌≡◌, ◌≢◌, inl, inr, ℕ, suc, ◌+◌, ◌-◌, ◌≤◌, List, [], ◌∷◌, ◌++◌, length, replicate, length-append, append_assoc, append-nil, bytes_eq, nat_le, nat_lt, ◌&&◌, Bool, true, false, Option, Some, None, Result, Ok, Err, if◌then◌else◌, refl, sym, ap, subst, ◌∙◌, arith, leb-true}
+use Rattle.std.proofs.Common.{◌≡◌, ◌≢◌, inl, inr, ℕ, suc, ◌+◌, ◌-◌, ◌≤◌, List, [], ◌∷◌, ◌++◌, length, replicate, length-append, append_assoc, append-nil, nat_le, nat_lt, ◌&&◌, Bool, true, false, Option, Some, None, Result, Ok, Err, if◌then◌else◌, refl, sym, ap, subst, ◌∙◌, arith, leb-true}
 use Rattle.std.specs.Prelude.{⊤}
 use Rattle.std.proofs.lemmas.List.{length-replicate}
 use Rattle.std.proofs.lemmas.List.Elements.{All-replicate, All-append}
@@ -7,21 +7,21 @@ use Rattle.std.proofs.lemmas.Bool.{and_parts}
 use Rattle.lamport_id.specs.Name.{is_name}
 use Rattle.lamport_id.specs.declared.id.Id.{Id}
 use Rattle.json_scalar.specs.declared.refusal.Refusal.{Refusal}
-use Rattle.op_core.specs.Equality.{operation_eq}
 use Rattle.op_core.specs.Op.{Op}
+use Rattle.op_core.specs.declared.cursor.Cursor.{Cursor}
+use Rattle.op_core.specs.declared.mutation.Mutation.{Mutation}
 use Rattle.list_laws.proofs.Members.{Contains-nil}
-use Rattle.crdt_rules.specs.Dependencies.{is_ready, missing}
 use Rattle.crdt_rules.specs.Log.{IsGood}
 use Rattle.doc_rules.specs.Cause.{cause_of}
 use Rattle.doc_rules.specs.Document.{Document, by, logged_by, count_of, total_of, count_in, for_seat, Acts, opens, copied_to, new_document, GivesTo, IsSound}
-use Rattle.doc_rules.specs.Events.{Due, told, held, logged, Settles, own_change, due_own, known_or_not, due_waiting, due_ready, due_new, due_unlogged, due_handed, Forgets, Does, Event, IsWellMade}
-use Rattle.doc_rules.specs.Replica.{Replica, find_id, GoesOn}
+use Rattle.doc_rules.specs.Events.{Due, told, held, logged, Settles, due_by_cause, changed_rows, due_placed, delivered_rows, due_delivered, Forgets, Does, Event, IsWellMade}
+use Rattle.doc_rules.specs.Replica.{Replica, find_id, own_op, GoesOn}
 use Rattle.doc_words.specs.declared.ask.Command.{Command}
 use Rattle.doc_words.specs.declared.ask.Command.TheVariants.{Change, Deliver, Forget}
 use Rattle.doc_words.specs.declared.reply.Reply.{Reply}
-use Rattle.doc_words.specs.declared.reply.Reply.TheVariants.{Known, Held, Refused}
 use Rattle.doc_rules.proofs.Drained.{drain_goes_on}
 use Rattle.doc_rules.proofs.Kept.{event_keeps}
+use Rattle.doc_rules.proofs.Tables.{by_rows}
 use Rattle.doc_rules.proofs.Shares.{length-by, by-append, by-replicate_same, by-replicate_other, total_of-all}
 
 -- ---- the log goes on by what is told
@@ -31,38 +31,41 @@ abbrev TellsNone : Due → Type 0
 TellsNone (told answer) = count_in answer ≡ 0
 TellsNone _ = Unit {0}
 
-known_tells : (b : Bool) (answer : Reply) → count_in answer ≡ 0 → TellsNone (known_or_not b answer)
-known_tells true answer h = h
-known_tells false answer h = refl
+by_cause_tells : (cause : Result ⊤ Refusal) (op : Op) → TellsNone (due_by_cause cause op)
+by_cause_tells (Ok x) op = tt
+by_cause_tells (Err cause) op = refl
 
-ready_tells : (cause : Result ⊤ Refusal) (op : Op) → TellsNone (due_ready cause op)
-ready_tells (Ok x) op = tt
-ready_tells (Err cause) op = refl
+delivered_tells : (r : Replica) (op : Op) → TellsNone (due_delivered r op)
+delivered_tells r op =
+    by_rows TellsNone (delivered_rows r op) (due_by_cause (cause_of op r.log) op) (
+      (λ is. refl),
+      λ other. (
+        (λ is. refl),
+        λ other. (
+          (λ is. refl),
+          λ other. (
+            (λ is. refl),
+            λ other. (
+              (λ is. refl),
+              λ other. (
+                (λ is. refl),
+                λ other. (
+                  (λ is. tt),
+                  λ other.
+                      by_cause_tells (cause_of op r.log) op,
+                ),
+              ),
+            ),
+          ),
+        ),
+      ),
+    )
 
-waiting_tells : (full : Bool) (op : Op) → TellsNone (due_waiting full op)
-waiting_tells true op = refl
-waiting_tells false op = tt
-
-new_tells : (r : Replica) (op : Op) → TellsNone (due_new r op)
-new_tells r op = by (bytes_eq op.id.replica r.name) (is_ready op r.log)
-  where
-    by : (own ready : Bool)
-        → TellsNone (if own then told (Refused Refusal.OwnName) else (if ready then due_ready (cause_of op r.log) op else due_waiting (nat_le 256 (length r.held)) op))
-    by true ready = refl
-    by false true = ready_tells (cause_of op r.log) op
-    by false false = waiting_tells (nat_le 256 (length r.held)) op
-
-unlogged_tells : (r : Replica) (op : Op) (found : Option Op) → TellsNone (due_unlogged r op found)
-unlogged_tells r op (Some o) = known_tells (operation_eq o op) (Held (missing op r.log)) refl
-unlogged_tells r op None = new_tells r op
-
-handed_tells : (r : Replica) (op : Op) (found : Option Op) → TellsNone (due_handed r op found)
-handed_tells r op (Some o) = known_tells (operation_eq o op) Known refl
-handed_tells r op None = unlogged_tells r op (find_id r.held op.id)
-
-own_tells : (op : Result Op Refusal) → TellsNone (due_own op)
-own_tells (Ok op) = tt
-own_tells (Err cause) = refl
+placed_tells : (r : Replica) (c : Result Cursor Refusal) (m : Mutation) → TellsNone (due_placed r c m)
+placed_tells r (Err cause) m = refl
+placed_tells r (Ok c) m =
+    by_rows TellsNone (changed_rows r c m) (logged (own_op r c m))
+    ((λ is. refl), λ other. ((λ is. refl), λ other. ((λ is. refl), λ other. ((λ is. refl), λ other. tt))))
 
 -- the log stays
 stays : {r s : Replica} (n : ℕ) → n ≡ 0 → s.name ≡ r.name → s.log ≡ r.log → GoesOn r n s
@@ -85,8 +88,8 @@ forgets_on r s i None reply h = stays (count_in reply) (ap count_in h.0) (ap (λ
 forgets_on r s i (Some o) reply h = stays (count_in reply) (ap count_in h.0) (ap (λ x. x.name) h.1) (ap (λ x. x.log) h.1)
 
 does_on : (r s : Replica) (command : Command) (reply : Reply) → Does r command reply s → GoesOn r (count_in reply) s
-does_on r s (Change place m) reply h = settles_on r s (due_own (own_change r m h.0)) reply (own_tells (own_change r m h.0)) h.2
-does_on r s (Deliver op) reply h = settles_on r s (due_handed r op (find_id r.log op.id)) reply (handed_tells r op (find_id r.log op.id)) h
+does_on r s (Change place m) reply h = settles_on r s (due_placed r h.0 m) reply (placed_tells r h.0 m) h.2
+does_on r s (Deliver op) reply h = settles_on r s (due_delivered r op) reply (delivered_tells r op) h
 does_on r s (Forget i) reply h = forgets_on r s i (find_id r.held i) reply h
 
 pub event_on : (r s : Replica) (command : Command) (reply : Reply) → Event r command reply s → GoesOn r (count_in reply) s

@@ -1,30 +1,103 @@
--- What a command does to a replica, and what it answers.
-use Rattle.std.specs.Prelude.{◌≡◌, ◌⊎◌, ℕ, suc, nat_le, length, bytes_eq, Bool, true, false, Option, Some, None, Result, Ok, Err, if◌then◌else◌, ⊤}
+-- What a command does to a replica, and what it answers. The tables have the rows of docs/FORMATS.md, "The order of causes".
+use Rattle.std.specs.Prelude.{◌≡◌, ◌⊎◌, ℕ, suc, nat_le, length, bytes_eq, ◌&&◌, not, Bool, true, false, List, [], ◌∷◌, Option, Some, None, is_some, Result, Ok, Err, if◌then◌else◌, ⊤}
 use Rattle.lamport_id.specs.declared.id.Id.{Id}
-use Rattle.json_scalar.specs.Refusal.{and_then}
 use Rattle.json_scalar.specs.declared.refusal.Refusal.{Refusal}
-use Rattle.json_scalar.specs.declared.refusal.Refusal.TheVariants.{AtHead, NotInList, IdConflict, OwnName, HeldFull, NotHeld, NoMemory}
+use Rattle.json_scalar.specs.declared.refusal.Refusal.TheVariants.{AtHead, NotInList, LogFull, TooManyReplicas, IdConflict, OwnName, HeldFull, NotHeld, NoMemory}
 use Rattle.op_core.specs.Equality.{operation_eq}
+use Rattle.op_core.specs.Limits.{most_held, most_operations, most_replicas}
 use Rattle.op_core.specs.Op.{Op}
 use Rattle.op_core.specs.Shape.{is_head, ends_in_list, is_mutation, is_shaped}
 use Rattle.op_core.specs.declared.cursor.Cursor.{Cursor}
 use Rattle.op_core.specs.declared.mutation.Mutation.{Mutation}
-use Rattle.op_core.specs.declared.mutation.Mutation.TheVariants.{Insert}
 use Rattle.doc_words.specs.declared.ask.Command.{Command}
 use Rattle.doc_words.specs.declared.ask.Command.TheVariants.{Change, Deliver, Forget}
 use Rattle.doc_words.specs.declared.reply.Reply.{Reply}
 use Rattle.doc_words.specs.declared.reply.Reply.TheVariants.{Applied, Known, Held, Forgotten, Refused}
 use Rattle.crdt_rules.specs.Dependencies.{is_ready, missing}
-use Rattle.doc_rules.specs.Cause.{cause_of, room_cause}
+use Rattle.crdt_rules.specs.Effect.{is_insertion}
+use Rattle.crdt_rules.specs.Fits.{replicas}
+use Rattle.doc_rules.specs.Cause.{cause_of}
 use Rattle.doc_rules.specs.Replica.{Replica, facts_of, find_id, hold, let_go, append, Drains, own_op}
 use Rattle.doc_rules.specs.Resolve.{Resolves}
 
--- what an operation handed in, or one of one's own, is due
+-- what a change of one's own, or an operation that is handed in, is due
 pub data Due : Type 0 where
   -- this answer, with nothing changed
   told : Reply → Due
+  -- the operation is held
   held : Op → Due
+  -- it is logged, and all that it releases
   logged : Op → Due
+
+abbrev pub no : Refusal → Due
+no cause = told (Refused cause)
+
+-- by the first row whose test holds, or else this
+abbrev pub first_row : List (Bool × Due) → Due → Due
+first_row [] due = due
+first_row (row ∷ rows) due = if row.0 then row.1 else first_row rows due
+
+-- by the cause against it
+abbrev pub due_by_cause : Result ⊤ Refusal → Op → Due
+due_by_cause (Ok _) op = logged op
+due_by_cause (Err cause) op = no cause
+
+-- ---- the tests of the tables
+
+-- an operation of this id stands among these
+abbrev pub stands : List Op → Op → Bool
+stands ops op = is_some (find_id ops op.id)
+
+abbrev pub is_same : Op → Option Op → Bool
+is_same op (Some o) = operation_eq o op
+is_same op None = false
+
+-- and it is this very operation
+abbrev pub stands_equal : List Op → Op → Bool
+stands_equal ops op = is_same op (find_id ops op.id)
+
+-- with this one the log has more than it may
+abbrev pub is_past_operations : Op → List Op → Bool
+is_past_operations op log = not (nat_le (length (op ∷ log)) most_operations)
+
+abbrev pub is_past_replicas : Op → List Op → Bool
+is_past_replicas op log = not (nat_le (length (replicas (op ∷ log))) most_replicas)
+
+-- ---- the tables
+
+-- a change of one's own at a cursor
+abbrev pub changed_rows : Replica → Cursor → Mutation → List (Bool × Due)
+changed_rows r c m =
+    (is_insertion m && not (ends_in_list c.path), no NotInList)
+    ∷ (not (is_insertion m) && is_head c.key, no AtHead)
+    ∷ (is_past_operations (own_op r c m) r.log, no LogFull)
+    ∷ (is_past_replicas (own_op r c m) r.log, no TooManyReplicas)
+    ∷ []
+
+abbrev pub due_changed : Replica → Cursor → Mutation → Due
+due_changed r c m = first_row (changed_rows r c m) (logged (own_op r c m))
+
+-- the same where the steps of its place led, if they led anywhere
+abbrev pub due_placed : Replica → Result Cursor Refusal → Mutation → Due
+due_placed r (Ok c) m = due_changed r c m
+due_placed r (Err cause) m = no cause
+
+-- an operation that is handed in
+abbrev pub delivered_rows : Replica → Op → List (Bool × Due)
+delivered_rows r op =
+    (stands_equal r.log op, told Known)
+    ∷ (stands r.log op, no IdConflict)
+    ∷ (stands_equal r.held op, told (Held (missing op r.log)))
+    ∷ (stands r.held op, no IdConflict)
+    ∷ (bytes_eq op.id.replica r.name, no OwnName)
+    ∷ (not (is_ready op r.log) && nat_le most_held (length r.held), no HeldFull)
+    ∷ (not (is_ready op r.log), held op)
+    ∷ []
+
+abbrev pub due_delivered : Replica → Op → Due
+due_delivered r op = first_row (delivered_rows r op) (due_by_cause (cause_of op r.log) op)
+
+-- ---- what comes of it
 
 -- it is logged, and all that it releases
 pub record Logs (r : Replica) (op : Op) (reply : Reply) (s : Replica) : Type 0 where
@@ -38,50 +111,6 @@ Settles r (told answer) reply s = (reply ≡ answer) × (s ≡ r)
 Settles r (held op) reply s = (reply ≡ Held (missing op r.log)) × (s ≡ hold op r)
 Settles r (logged op) reply s = Logs r op reply s
 
--- ---- changes of one's own
-
--- an insertion is in a list, and nothing else is at a head
-abbrev pub cause_at : Mutation → Cursor → Result ⊤ Refusal
-cause_at (Insert v) c = if ends_in_list c.path then Ok tt else Err NotInList
-cause_at _ c = if is_head c.key then Err AtHead else Ok tt
-
--- the operation of a change at the place where its steps led, or the first cause against it
-abbrev pub own_change : Replica → Mutation → Result Cursor Refusal → Result Op Refusal
-own_change r m c = and_then c (λ c. and_then (cause_at m c) (λ _. and_then (room_cause (own_op r c m) r.log) (λ _. Ok (own_op r c m))))
-
-abbrev pub due_own : Result Op Refusal → Due
-due_own (Ok op) = logged op
-due_own (Err cause) = told (Refused cause)
-
--- ---- operations handed in
-
--- known, if it is the one that has its id
-abbrev pub known_or_not : Bool → Reply → Due
-known_or_not true answer = told answer
-known_or_not false answer = told (Refused IdConflict)
-
-abbrev pub due_waiting : Bool → Op → Due
-due_waiting true op = told (Refused HeldFull)
-due_waiting false op = held op
-
-abbrev pub due_ready : Result ⊤ Refusal → Op → Due
-due_ready (Ok _) op = logged op
-due_ready (Err cause) op = told (Refused cause)
-
--- an operation of a new id
-abbrev pub due_new : Replica → Op → Due
-due_new r op =
-    if bytes_eq op.id.replica r.name then told (Refused OwnName)
-    else (if is_ready op r.log then due_ready (cause_of op r.log) op else due_waiting (nat_le 256 (length r.held)) op)
-
-abbrev pub due_unlogged : Replica → Op → Option Op → Due
-due_unlogged r op (Some o) = known_or_not (operation_eq o op) (Held (missing op r.log))
-due_unlogged r op None = due_new r op
-
-abbrev pub due_handed : Replica → Op → Option Op → Due
-due_handed r op (Some o) = known_or_not (operation_eq o op) Known
-due_handed r op None = due_unlogged r op (find_id r.held op.id)
-
 -- ---- operations given up
 
 abbrev pub Forgets : Replica → Id → Option Op → Reply → Replica → Type 0
@@ -93,8 +122,8 @@ Forgets r i None reply s = (reply ≡ Refused NotHeld) × (s ≡ r)
 -- with memory at hand before the first change
 abbrev pub Does : Replica → Command → Reply → Replica → Type 0
 Does r (Change place m) reply s =
-    (c : Result Cursor Refusal) × Resolves (facts_of r) place.start place.steps c × Settles r (due_own (own_change r m c)) reply s
-Does r (Deliver op) reply s = Settles r (due_handed r op (find_id r.log op.id)) reply s
+    (c : Result Cursor Refusal) × Resolves (facts_of r) place.start place.steps c × Settles r (due_placed r c m) reply s
+Does r (Deliver op) reply s = Settles r (due_delivered r op) reply s
 Does r (Forget i) reply s = Forgets r i (find_id r.held i) reply s
 
 -- memory is wanting, and nothing has changed

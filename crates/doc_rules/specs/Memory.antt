@@ -4,8 +4,8 @@ use Rattle.doc_words.specs.declared.ask.Command.{Command}
 use Rattle.doc_words.specs.declared.ask.Command.TheVariants.{Change, Deliver, Forget}
 use Rattle.doc_words.specs.declared.reply.Reply.{Reply}
 use Rattle.crdt_rules.specs.Fits.{Fits}
-use Rattle.doc_rules.specs.Events.{Due, told, held, logged, Settles, own_change, due_own, due_handed, Does}
-use Rattle.doc_rules.specs.Replica.{Replica, Drains, find_id}
+use Rattle.doc_rules.specs.Events.{Due, told, held, logged, Settles, due_placed, due_delivered, Does}
+use Rattle.doc_rules.specs.Replica.{Replica, Drains}
 use Rattle.doc_rules.specs.Replica.Drains.{done, logs, drops}
 
 -- nothing that fits is dropped
@@ -20,8 +20,8 @@ SettlesAll r (held op) reply s h = Unit {0}
 SettlesAll r (logged op) reply s h = DropsMisfits h.drains
 
 abbrev pub DoesAll : (r : Replica) (command : Command) (reply : Reply) (s : Replica) → Does r command reply s → Type 0
-DoesAll r (Change place m) reply s h = SettlesAll r (due_own (own_change r m h.0)) reply s h.2
-DoesAll r (Deliver op) reply s h = SettlesAll r (due_handed r op (find_id r.log op.id)) reply s h
+DoesAll r (Change place m) reply s h = SettlesAll r (due_placed r h.0 m) reply s h.2
+DoesAll r (Deliver op) reply s h = SettlesAll r (due_delivered r op) reply s h
 DoesAll r (Forget i) reply s h = Unit {0}
 
 -- a command done with memory at hand

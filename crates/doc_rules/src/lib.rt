@@ -27,9 +27,9 @@ ghost use Rattle.crdt_rules.specs.Fits.{Fits};
 ghost use Rattle.crdt_rules.specs.Log.{IsGood, replay};
 ghost use Rattle.crdt_rules.specs.Pull.{front_of};
 ghost use Rattle.doc_rules.specs.Answers.{LooksHere, Reads, IsOfOperations};
-ghost use Rattle.doc_rules.specs.Cause.{IsFirstMisfit, cause_of, room_cause};
+ghost use Rattle.doc_rules.specs.Cause.{IsFirstMisfit, cause_of};
 ghost use Rattle.doc_rules.specs.Document.{Document, Acts, GivesTo, IsSound, copied_to, count_in, count_of, logged_by, new_document, opens, total_of};
-ghost use Rattle.doc_rules.specs.Events.{Event, IsWellMade, cause_at};
+ghost use Rattle.doc_rules.specs.Events.{Event, IsWellMade, due_changed, logged};
 ghost use Rattle.doc_rules.specs.Memory.{DoesFully};
 ghost use Rattle.doc_rules.specs.Reads.{AgreeOnPresent, AreConflicts, Values};
 ghost use Rattle.doc_rules.specs.Replica.{Replica, GoesOn, IsKept, facts_of, own_op};
@@ -51,14 +51,14 @@ pub fn one_outcome()
     ensures { (r s t : Replica) (command : Command) (x y : Reply) → DoesFully r command x s → DoesFully r command y t → (x ≡ y) × (s ≡ t) }
 {}
 
-/// An operation of right shape fits a log just where no cause stands against it; and where none stands against a change of
-/// one's own, its operation fits.
+/// An operation of right shape fits a log just where no cause stands against it; and where a change of
+/// one's own is to be logged, its operation fits.
 pub fn causes_decide()
     ensures fits { (op : Op) (log : List Op) → is_shaped op ≡ true → cause_of op log ≡ Ok tt → Fits op log }
     ensures no_cause { (op : Op) (log : List Op) → Fits op log → cause_of op log ≡ Ok tt }
     ensures own { (r : Replica) (start : Cursor) (steps : List Step) (c : Cursor) (m : Mutation) → is_name r.name ≡ true
-        → is_mutation m ≡ true → IsGood r.log → Resolves (facts_of r) start steps (Ok c) → cause_at m c ≡ Ok tt
-        → room_cause (own_op r c m) r.log ≡ Ok tt → Fits (own_op r c m) r.log }
+        → is_mutation m ≡ true → IsGood r.log → Resolves (facts_of r) start steps (Ok c)
+        → due_changed r c m ≡ logged (own_op r c m) → Fits (own_op r c m) r.log }
 {}
 
 /// Roles after one more operation: its own is what it does at the place, and the others stay; so each present id has its role

@@ -1,5 +1,5 @@
 -- How what is due comes about.
-use Rattle.std.proofs.Common.{◌≡◌, ◌<◌, ◌≤◌, inl, inr, ℕ, suc, Contains, le-leb, leb-true, arith, List, length, nat_le, Bool, true, false, bytes_eq, Option, Some, None, Result, Ok, Err, if◌then◌else◌, refl, sym, ap, subst, ◌∙◌}
+use Rattle.std.proofs.Common.{◌≡◌, ◌<◌, ◌≤◌, inl, inr, ℕ, suc, Contains, le-leb, leb-true, arith, List, [], ◌∷◌, length, nat_le, Bool, true, false, true≢false, not, ◌&&◌, bytes_eq, Option, Some, None, Result, Ok, Err, if◌then◌else◌, refl, sym, ap, subst, ◌∙◌}
 use Rattle.std.specs.Prelude.{⊤, IfOk, IfErr, OnErr, is_some}
 use Rattle.std.proofs.lemmas.Bool.{false_from_ne_true, both_ways}
 use Rattle.lamport_id.specs.declared.id.Id.{Id}
@@ -10,14 +10,15 @@ use Rattle.op_log.proofs.Ids.{is_logged-find_id}
 use Rattle.doc_rules.proofs.Held.{find_none}
 use Rattle.std.specs.Option.{option_map}
 use Rattle.json_scalar.specs.declared.refusal.Refusal.{Refusal}
-use Rattle.json_scalar.specs.declared.refusal.Refusal.TheVariants.{NoMemory, OwnName, HeldFull}
+use Rattle.json_scalar.specs.declared.refusal.Refusal.TheVariants.{NoMemory, IdConflict, OwnName, HeldFull}
 use Rattle.op_core.specs.Equality.{operation_eq}
+use Rattle.op_core.specs.Limits.{most_held}
 use Rattle.op_core.specs.Op.{Op}
 use Rattle.doc_words.specs.declared.reply.Reply.{Reply}
 use Rattle.doc_words.specs.declared.reply.Reply.TheVariants as reply
 use Rattle.crdt_rules.specs.Dependencies.{is_ready, missing}
 use Rattle.doc_rules.specs.Cause.{cause_of}
-use Rattle.doc_rules.specs.Events.{Due, told, held, logged, Settles, known_or_not, due_waiting, due_ready, due_new, due_unlogged, due_handed}
+use Rattle.doc_rules.specs.Events.{Due, told, held, logged, Settles, no, first_row, is_same, due_by_cause, due_delivered}
 use Rattle.doc_rules.specs.Replica.{Replica, Drains, append, find_id}
 use Rattle.replica_core.specs.declared.outcome.Applied.{Applied}
 use Rattle.replica_core.specs.Memory.{Grows}
@@ -43,49 +44,86 @@ meets_lacking r due e s grows memory same = inr (grows, (ap reply.Refused memory
 
 -- a ready operation is logged, or refused
 pub meets_ready : (r : Replica) (op : Op) (cause : Result ⊤ Refusal) (answer : Reply) (s : Replica) → Ok tt ≡ cause → Meets r (logged op) answer s
-    → Meets r (due_ready cause op) answer s
-meets_ready r op cause answer s is h = subst (λ (c : Result ⊤ Refusal). Meets r (due_ready c op) answer s) is h
+    → Meets r (due_by_cause cause op) answer s
+meets_ready r op cause answer s is h = subst (λ (c : Result ⊤ Refusal). Meets r (due_by_cause c op) answer s) is h
 
 pub meets_refused : (r : Replica) (op : Op) (cause : Result ⊤ Refusal) (e : Refusal) (s : Replica) → Err e ≡ cause → s ≡ r
-    → Meets r (due_ready cause op) (reply.Refused e) s
-meets_refused r op cause e s is same = subst (λ (c : Result ⊤ Refusal). Meets r (due_ready c op) (reply.Refused e) s) is (inl (refl, same))
+    → Meets r (due_by_cause cause op) (reply.Refused e) s
+meets_refused r op cause e s is same = subst (λ (c : Result ⊤ Refusal). Meets r (due_by_cause c op) (reply.Refused e) s) is (inl (refl, same))
 
--- by the tests of an operation of a new id
-pub new_own : (r : Replica) (op : Op) → true ≡ bytes_eq op.id.replica r.name → told (reply.Refused OwnName) ≡ due_new r op
-new_own r op own =
-    ap (λ b. if b then told (reply.Refused OwnName) else (if is_ready op r.log then due_ready (cause_of op r.log) op else due_waiting (nat_le 256 (length r.held)) op)) own
+-- ---- the table of operations that are handed in, a few rows at a time
 
-pub new_ready : (r : Replica) (op : Op) → false ≡ bytes_eq op.id.replica r.name → true ≡ is_ready op r.log → due_ready (cause_of op r.log) op ≡ due_new r op
-new_ready r op other ready =
-    λ i. if other i then told (reply.Refused OwnName) else (if ready i then due_ready (cause_of op r.log) op else due_waiting (nat_le 256 (length r.held)) op)
+-- the rows that look for its id, with what stands there
+abbrev by_id : Op → Option Op → Due → Due → Due
+by_id op found known due = first_row ((is_same op found, known) ∷ (is_some found, no IdConflict) ∷ []) due
 
-pub new_waiting : (r : Replica) (op : Op) → false ≡ bytes_eq op.id.replica r.name → false ≡ is_ready op r.log → due_waiting (nat_le 256 (length r.held)) op ≡ due_new r op
-new_waiting r op other waits =
-    λ i. if other i then told (reply.Refused OwnName) else (if waits i then due_ready (cause_of op r.log) op else due_waiting (nat_le 256 (length r.held)) op)
-
--- by whether the id is taken
+-- the rows of a new id
+abbrev by_tests : Bool → Bool → Bool → Op → Due → Due
+by_tests own ready full op due = first_row ((own, no OwnName) ∷ (not ready && full, no HeldFull) ∷ (not ready, held op) ∷ []) due
 
 pub none_found : (op : Op) (o : Option Op) → None ≡ option_map (λ x. operation_eq x op) o → o ≡ None
 none_found op None h = refl
 none_found op (Some x) h = absurd (cc)
 
-pub unlogged_taken : (r : Replica) (op : Op) (o : Option Op) (b : Bool) → Some b ≡ option_map (λ x. operation_eq x op) o
-    → known_or_not b (reply.Held (missing op r.log)) ≡ due_unlogged r op o
-unlogged_taken r op None b h = absurd (cc)
-unlogged_taken r op (Some x) b h = let same : b ≡ operation_eq x op = cc in ap (λ c. known_or_not c (reply.Held (missing op r.log))) same
+id_taken : (op : Op) (o : Option Op) (b : Bool) (known due : Due) → Some b ≡ option_map (λ x. operation_eq x op) o
+    → (if b then known else no IdConflict) ≡ by_id op o known due
+id_taken op None b known due h = absurd (cc)
+id_taken op (Some x) b known due h = let same : b ≡ operation_eq x op = cc in ap (λ c. if c then known else no IdConflict) same
 
-pub unlogged_new : (r : Replica) (op : Op) (o : Option Op) → None ≡ option_map (λ x. operation_eq x op) o → due_new r op ≡ due_unlogged r op o
-unlogged_new r op None h = refl
-unlogged_new r op (Some x) h = absurd (cc)
+id_free : (op : Op) (o : Option Op) (known due : Due) → o ≡ None → due ≡ by_id op o known due
+id_free op None known due h = refl
+id_free op (Some x) known due h = absurd (cc)
 
-pub handed_taken : (r : Replica) (op : Op) (o : Option Op) (b : Bool) → Some b ≡ option_map (λ x. operation_eq x op) o → known_or_not b reply.Known ≡ due_handed r op o
-handed_taken r op None b h = absurd (cc)
-handed_taken r op (Some x) b h = let same : b ≡ operation_eq x op = cc in ap (λ c. known_or_not c reply.Known) same
+abbrev new_due : Replica → Op → Due
+new_due r op = by_tests (bytes_eq op.id.replica r.name) (is_ready op r.log) (nat_le most_held (length r.held)) op (due_by_cause (cause_of op r.log) op)
 
-pub handed_new : (r : Replica) (op : Op) (o : Option Op) → None ≡ option_map (λ x. operation_eq x op) o
-    → due_unlogged r op (find_id r.held op.id) ≡ due_handed r op o
-handed_new r op None h = refl
-handed_new r op (Some x) h = absurd (cc)
+abbrev unlogged_due : Replica → Op → Due
+unlogged_due r op = by_id op (find_id r.held op.id) (told (reply.Held (missing op r.log))) (new_due r op)
+
+-- its id is logged
+pub delivered_logged : (r : Replica) (op : Op) (b : Bool) → Some b ≡ option_map (λ x. operation_eq x op) (find_id r.log op.id)
+    → (if b then told reply.Known else no IdConflict) ≡ due_delivered r op
+delivered_logged r op b h = id_taken op (find_id r.log op.id) b (told reply.Known) (unlogged_due r op) h
+
+-- its id is held
+pub delivered_held : (r : Replica) (op : Op) (b : Bool) → find_id r.log op.id ≡ None → Some b ≡ option_map (λ x. operation_eq x op) (find_id r.held op.id)
+    → (if b then told (reply.Held (missing op r.log)) else no IdConflict) ≡ due_delivered r op
+delivered_held r op b new h =
+    id_taken op (find_id r.held op.id) b (told (reply.Held (missing op r.log))) (new_due r op) h
+    ∙ id_free op (find_id r.log op.id) (told reply.Known) (unlogged_due r op) new
+
+-- its id is new
+module _ (r : Replica) (op : Op) (new : find_id r.log op.id ≡ None) (unheld : find_id r.held op.id ≡ None) where
+  delivered_new : new_due r op ≡ due_delivered r op
+  delivered_new =
+      id_free op (find_id r.held op.id) (told (reply.Held (missing op r.log))) (new_due r op) unheld
+      ∙ id_free op (find_id r.log op.id) (told reply.Known) (unlogged_due r op) new
+
+  pub delivered_own : true ≡ bytes_eq op.id.replica r.name → no OwnName ≡ due_delivered r op
+  delivered_own own = by (bytes_eq op.id.replica r.name) own ∙ delivered_new
+    where
+      by : (b : Bool) → true ≡ b → no OwnName ≡ by_tests b (is_ready op r.log) (nat_le most_held (length r.held)) op (due_by_cause (cause_of op r.log) op)
+      by true h = refl
+      by false h = absurd (true≢false h)
+
+  pub delivered_ready : false ≡ bytes_eq op.id.replica r.name → true ≡ is_ready op r.log → due_by_cause (cause_of op r.log) op ≡ due_delivered r op
+  delivered_ready other ready = by (bytes_eq op.id.replica r.name) (is_ready op r.log) other ready ∙ delivered_new
+    where
+      by : (own ready : Bool) → false ≡ own → true ≡ ready
+          → due_by_cause (cause_of op r.log) op ≡ by_tests own ready (nat_le most_held (length r.held)) op (due_by_cause (cause_of op r.log) op)
+      by true ready h e = absurd (true≢false (sym h))
+      by false true h e = refl
+      by false false h e = absurd (true≢false e)
+
+  pub delivered_waiting : false ≡ bytes_eq op.id.replica r.name → false ≡ is_ready op r.log
+      → (if nat_le most_held (length r.held) then no HeldFull else held op) ≡ due_delivered r op
+  delivered_waiting other waits = by (bytes_eq op.id.replica r.name) (is_ready op r.log) other waits ∙ delivered_new
+    where
+      by : (own ready : Bool) → false ≡ own → false ≡ ready
+          → (if nat_le most_held (length r.held) then no HeldFull else held op) ≡ by_tests own ready (nat_le most_held (length r.held)) op (due_by_cause (cause_of op r.log) op)
+      by true ready h e = absurd (true≢false (sym h))
+      by false true h e = absurd (true≢false (sym e))
+      by false false h e = refl
 
 -- what is due, under another name
 pub meets_as : (r : Replica) (due other : Due) (answer : Reply) (s : Replica) → due ≡ other → Meets r due answer s → Meets r other answer s
@@ -101,11 +139,12 @@ meets_outcome name log log' waiting waiting' op (Err e) ok err l h =
     meets_lacking (replica_of name log waiting) (logged op) e (replica_of name log' waiting') tt err (same_replica name l h)
 
 -- a waiting operation
-pub waiting_full : (op : Op) (n : ℕ) → 256 ≤ n → told (reply.Refused HeldFull) ≡ due_waiting (nat_le 256 n) op
-waiting_full op n h = ap (λ b. due_waiting b op) (sym (le-leb 256 n h))
+pub waiting_full : (op : Op) (n : ℕ) → 256 ≤ n → no HeldFull ≡ (if nat_le most_held n then no HeldFull else held op)
+waiting_full op n h = ap (λ b. if b then no HeldFull else held op) (sym (le-leb 256 n h))
 
-pub waiting_held : (op : Op) (n : ℕ) → n < 256 → held op ≡ due_waiting (nat_le 256 n) op
-waiting_held op n h = ap (λ b. due_waiting b op) (sym (false_from_ne_true (nat_le 256 n) (λ e. let many : 256 ≤ n = leb-true 256 n e in omega arith)))
+pub waiting_held : (op : Op) (n : ℕ) → n < 256 → held op ≡ (if nat_le most_held n then no HeldFull else held op)
+waiting_held op n h =
+    ap (λ b. if b then no HeldFull else held op) (sym (false_from_ne_true (nat_le 256 n) (λ e. let many : 256 ≤ n = leb-true 256 n e in omega arith)))
 
 -- an operation whose id is not held is not held
 pub not_held : (ops : List Op) (op : Op) → find_id ops op.id ≡ None → ¬ (Contains ops op)

@@ -6,7 +6,7 @@ use Rattle.std.proofs.Common.{[], ◌∷◌, Bool, false, not, filter, if◌then
 use Rattle.std.specs.Prelude.{⊤}
 use Rattle.json_scalar.specs.Refusal.{and_then}
 use Rattle.json_scalar.specs.declared.refusal.Refusal.{Refusal}
-use Rattle.json_scalar.specs.declared.refusal.Refusal.TheVariants.{NoMemory, NotHeld}
+use Rattle.json_scalar.specs.declared.refusal.Refusal.TheVariants.{NoMemory, NotHeld, NotInList, AtHead, LogFull, TooManyReplicas}
 use Rattle.lamport_id.specs.declared.id.Id.{Id}
 use Rattle.op_core.specs.declared.cursor.Cursor.{Cursor}
 use Rattle.op_core.specs.declared.mutation.Mutation.{Mutation}
@@ -17,31 +17,21 @@ use Rattle.doc_words.specs.declared.reply.Reply.{Reply}
 use Rattle.doc_words.specs.declared.reply.Reply.TheVariants as reply
 use Rattle.doc_words.specs.declared.ask.Command.TheVariants as command
 use Rattle.doc_words.specs.declared.place.Place.{Place}
-use Rattle.doc_rules.specs.Events.{told, logged, due_own, own_change, Does, Event, Forgets}
+use Rattle.doc_rules.specs.Cause.{first_cause}
+use Rattle.doc_rules.specs.Events.{logged, no, first_row, due_by_cause, due_placed, Does, Event, Forgets}
 use Rattle.doc_rules.specs.Resolve.{Resolves}
-use Rattle.replica_core.specs.Told.{Meets, told_forgotten}
+use Rattle.replica_core.specs.Told.{Meets, place_told, told_forgotten}
 use Rattle.doc_rules.specs.Replica.{Replica, facts_of, find_id}
 
--- the first cause against a change is told
-pub own_told : (a b : Result ⊤ Refusal) (op : Op) (e : Refusal) → Err e ≡ and_then a (λ _. b)
-    → told (reply.Refused e) ≡ due_own (and_then a (λ _. and_then b (λ _. Ok op)))
-own_told (Err x) b op e h = let same : e ≡ x = cc in ap (λ z. told (reply.Refused z)) same
-own_told (Ok u) (Err x) op e h = let same : e ≡ x = cc in ap (λ z. told (reply.Refused z)) same
-own_told (Ok u) (Ok v) op e h = absurd (cc)
-
--- and where there is none, its operation is logged
-pub own_logged : (a b : Result ⊤ Refusal) (op : Op) → Ok tt ≡ and_then a (λ _. b) → logged op ≡ due_own (and_then a (λ _. and_then b (λ _. Ok op)))
-own_logged (Err x) b op h = absurd (cc)
-own_logged (Ok u) (Err x) op h = absurd (cc)
-own_logged (Ok u) (Ok v) op h = refl
-
-pub first_ok : (a b : Result ⊤ Refusal) → Ok tt ≡ and_then a (λ _. b) → a ≡ Ok tt
-first_ok (Err x) b h = absurd (cc)
-first_ok (Ok u) b h = refl
-
-pub second_ok : (a b : Result ⊤ Refusal) → Ok tt ≡ and_then a (λ _. b) → b ≡ Ok tt
-second_ok (Err x) b h = absurd (cc)
-second_ok (Ok u) b h = sym h
+-- the first cause against a change, by the place and then by the room
+pub changed_by_causes : (listed at_head operations replicas : Bool) (op : Op)
+    → first_row ((listed, no NotInList) ∷ (at_head, no AtHead) ∷ (not operations, no LogFull) ∷ (not replicas, no TooManyReplicas) ∷ []) (logged op)
+    ≡ due_by_cause (and_then (place_told listed at_head) (λ _. first_cause true true true operations replicas 0)) op
+changed_by_causes true at_head operations replicas op = refl
+changed_by_causes false true operations replicas op = refl
+changed_by_causes false false false replicas op = refl
+changed_by_causes false false true false op = refl
+changed_by_causes false false true true op = refl
 
 pub shaped_ok : (op : Op) → is_shaped op ≡ true → and_then (shape_of op) (λ _. Ok op) ≡ Ok op
 shaped_ok op h = ap (λ (r : Result ⊤ Refusal). and_then r (λ _. Ok op)) (shape_of-shaped op h)
@@ -77,7 +67,7 @@ forgets_none name log waiting waiting' i answer answered is same =
 -- ---- a change at a place
 
 pub event_change : (r s : Replica) (place : Place) (m : Mutation) (answer : Reply) (c : Result Cursor Refusal)
-    → (c ≢ Err NoMemory → Resolves (facts_of r) place.start place.steps c) → Meets r (due_own (own_change r m c)) answer s → Event r (command.Change place m) answer s
+    → (c ≢ Err NoMemory → Resolves (facts_of r) place.start place.steps c) → Meets r (due_placed r c m) answer s → Event r (command.Change place m) answer s
 event_change r s place m answer (Ok c) h met =
     elim met [ inl does ↦ inl (Ok c, h (λ e. cc), does) | inr lacks ↦ inr lacks.1 ]
 event_change r s place m answer (Err NoMemory) h met = elim met [ inl does ↦ inr does | inr lacks ↦ inr lacks.1 ]

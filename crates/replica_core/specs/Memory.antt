@@ -2,8 +2,8 @@
 use Rattle.doc_words.specs.declared.ask.Command.{Command}
 use Rattle.doc_words.specs.declared.ask.Command.TheVariants.{Change, Deliver, Forget}
 use Rattle.doc_words.specs.declared.reply.Reply.TheVariants.{Held}
-use Rattle.doc_rules.specs.Events.{Due, told, held, logged, due_handed}
-use Rattle.doc_rules.specs.Replica.{Replica, find_id}
+use Rattle.doc_rules.specs.Events.{Due, told, held, logged, due_delivered}
+use Rattle.doc_rules.specs.Replica.{Replica}
 
 -- something grows: an operation is logged or held, or a list of ids is made for the answer
 abbrev pub Grows : Due → Type 0
@@ -15,5 +15,5 @@ Grows (logged op) = Unit {0}
 -- A command may lack memory only where something grows. The way to a place is made before its change is looked at.
 abbrev pub MayLack : Replica → Command → Type 0
 MayLack r (Change place m) = Unit {0}
-MayLack r (Deliver op) = Grows (due_handed r op (find_id r.log op.id))
+MayLack r (Deliver op) = Grows (due_delivered r op)
 MayLack r (Forget i) = ⊥

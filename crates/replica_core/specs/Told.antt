@@ -1,6 +1,7 @@
 -- What a replica's answers are told as.
-use Rattle.std.specs.Prelude.{◌⊎◌, Result, Ok, Err, ⊤}
+use Rattle.std.specs.Prelude.{◌⊎◌, Bool, true, false, Result, Ok, Err, ⊤}
 use Rattle.json_scalar.specs.declared.refusal.Refusal.{Refusal}
+use Rattle.json_scalar.specs.declared.refusal.Refusal.TheVariants.{AtHead, NotInList}
 use Rattle.doc_words.specs.declared.reply.Reply.{Reply}
 use Rattle.doc_words.specs.declared.reply.Reply.TheVariants as reply
 use Rattle.doc_rules.specs.Events.{Due, Settles, Lacks}
@@ -23,6 +24,12 @@ told_delivered (Err cause) = reply.Refused cause
 abbrev pub told_forgotten : Result ⊤ Refusal → Reply
 told_forgotten (Ok _) = reply.Forgotten
 told_forgotten (Err cause) = reply.Refused cause
+
+-- whether a change is refused at its cursor: an insertion outside a list, or anything else at a head
+abbrev pub place_told : Bool → Bool → Result ⊤ Refusal
+place_told true at_head = Err NotInList
+place_told false true = Err AtHead
+place_told false false = Ok tt
 
 -- what is due comes about, or, where something grows, memory is wanting and nothing has changed
 abbrev pub Meets : Replica → Due → Reply → Replica → Type 0

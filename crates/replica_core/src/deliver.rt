@@ -1,5 +1,5 @@
 //! Operations that were made elsewhere and are handed in.
-ghost use Rattle.std.specs.Prelude.{◌≡◌, ◌≤◌, ℕ, suc, List, [], ◌∷◌, ◌++◌, length, nat_le, bytes_eq, OnErr, IfOk, IfErr, None, true, false, ◌<◌};
+ghost use Rattle.std.specs.Prelude.{◌≡◌, ◌≤◌, ℕ, suc, List, [], ◌∷◌, ◌++◌, length, nat_le, bytes_eq, OnErr, IfOk, IfErr, None, true, false, ◌<◌, if◌then◌else◌};
 ghost use Rattle.op_core.specs.Limits.{most_held};
 ghost use Rattle.op_core.specs.Op.{Op};
 ghost use Rattle.std.specs.Option.{option_map};
@@ -9,7 +9,7 @@ ghost use Rattle.crdt_rules.specs.Dependencies.{is_ready, missing};
 ghost use Rattle.crdt_rules.specs.Fits.{Fits};
 ghost use Rattle.doc_rules.specs.Cause.{cause_of};
 ghost use Rattle.doc_rules.specs.Events as due;
-ghost use Rattle.doc_rules.specs.Events.{due_handed, due_new, due_ready, due_unlogged, due_waiting};
+ghost use Rattle.doc_rules.specs.Events.{due_by_cause, due_delivered};
 ghost use Rattle.doc_rules.specs.Replica.{Replica, Drains, find_id};
 ghost use Rattle.hold_buffer.specs.Held.{IsCurrent};
 ghost use Rattle.replica_core.specs.Tells.{Tells};
@@ -73,7 +73,7 @@ pub fn deliver(
     requires current { IsCurrent held.old log.old.operations }
     requires few { length held.old.held ≤ most_held }
     ensures met { let r = replica_of name log.old.operations held.old.held in
-        Meets r (due_handed r op (find_id log.old.operations op.id)) (told_delivered result) (replica_of name log.new.operations held.new.held) }
+        Meets r (due_delivered r op) (told_delivered result) (replica_of name log.new.operations held.new.held) }
     ensures tells { Tells tree.new log.new.operations }
     ensures current { IsCurrent held.new log.new.operations }
 {
@@ -97,7 +97,7 @@ fn is_same_logged(log: &OpLog, op: &Operation) -> Option<bool>
 }
 
 fn known_or_not(is_same: bool) -> Result<Delivered, Refusal>
-    ensures { (r : Replica) → Meets r (due.known_or_not is_same Reply.Known) (told_delivered result) r }
+    ensures { (r : Replica) → Meets r (if is_same then due.told Reply.Known else due.no Refusal.IdConflict) (told_delivered result) r }
 {
     if is_same {
         Ok(Delivered::Known)
@@ -118,7 +118,7 @@ fn deliver_unlogged(
     requires current { IsCurrent held.old log.old.operations }
     requires few { length held.old.held ≤ most_held }
     ensures met { let r = replica_of name log.old.operations held.old.held in
-        Meets r (due_unlogged r op (find_id held.old.held op.id)) (told_delivered result) (replica_of name log.new.operations held.new.held) }
+        Meets r (due_delivered r op) (told_delivered result) (replica_of name log.new.operations held.new.held) }
     ensures tells { Tells tree.new log.new.operations }
     ensures current { IsCurrent held.new log.new.operations }
 {
@@ -143,7 +143,8 @@ fn is_same_held(held: &HoldBuffer, op: &Operation) -> Option<bool>
 }
 
 fn waits_or_not(log: &OpLog, op: &Operation, is_same: bool) -> Result<Delivered, Refusal>
-    ensures { (r : Replica) → Meets r (due.known_or_not is_same (Reply.Held (missing op.now log.now.operations))) (told_delivered result) r }
+    ensures { (r : Replica) →
+        Meets r (if is_same then due.told (Reply.Held (missing op.now log.now.operations)) else due.no Refusal.IdConflict) (told_delivered result) r }
 {
     if !is_same {
         return Err(Refusal::IdConflict);
@@ -167,7 +168,7 @@ fn deliver_new(
     requires current { IsCurrent held.old log.old.operations }
     requires few { length held.old.held ≤ most_held }
     ensures met { let r = replica_of name log.old.operations held.old.held in
-        Meets r (due_new r op) (told_delivered result) (replica_of name log.new.operations held.new.held) }
+        Meets r (due_delivered r op) (told_delivered result) (replica_of name log.new.operations held.new.held) }
     ensures tells { Tells tree.new log.new.operations }
     ensures current { IsCurrent held.new log.new.operations }
 {
@@ -198,7 +199,7 @@ fn deliver_ready(
     requires tells { Tells tree.old log.old.operations }
     requires current { IsCurrent held.old log.old.operations }
     requires few { length held.old.held ≤ most_held }
-    ensures met { (name : List ℕ) → Meets (replica_of name log.old.operations held.old.held) (due_ready (cause_of op log.old.operations) op)
+    ensures met { (name : List ℕ) → Meets (replica_of name log.old.operations held.old.held) (due_by_cause (cause_of op log.old.operations) op)
         (told_delivered result) (replica_of name log.new.operations held.new.held) }
     ensures tells { Tells tree.new log.new.operations }
     ensures current { IsCurrent held.new log.new.operations }
@@ -220,8 +221,8 @@ fn deliver_waiting(log: &OpLog, held: &mut HoldBuffer, op: Operation) -> Result<
     requires new { find_id log.now.operations op.id ≡ None }
     requires unheld { find_id held.old.held op.id ≡ None }
     requires current { IsCurrent held.old log.now.operations }
-    ensures met { (name : List ℕ) → Meets (replica_of name log.now.operations held.old.held) (due_waiting (nat_le most_held (length held.old.held)) op)
-        (told_delivered result) (replica_of name log.now.operations held.new.held) }
+    ensures met { (name : List ℕ) → Meets (replica_of name log.now.operations held.old.held)
+        (if nat_le most_held (length held.old.held) then due.no Refusal.HeldFull else due.held op) (told_delivered result) (replica_of name log.now.operations held.new.held) }
     ensures current { IsCurrent held.new log.now.operations }
 {
     if held.len() >= MAX_HELD {

@@ -1,20 +1,21 @@
 //! Changes of one's own.
-ghost use Rattle.std.specs.Prelude.{◌≡◌, ◌+◌, ◌<◌, ◌≤◌, [], length, Ok, Err, true, if◌then◌else◌};
+ghost use Rattle.std.specs.Prelude.{◌≡◌, ◌+◌, ◌<◌, ◌≤◌, List, [], length, Ok, Err, true, not, ◌&&◌, if◌then◌else◌};
 ghost use Rattle.lamport_id.specs.Limits.{greatest_counter};
 ghost use Rattle.lamport_id.specs.Name.{is_name};
-ghost use Rattle.json_scalar.specs.Refusal.{UnlessMemory, and_then};
+ghost use Rattle.json_scalar.specs.Refusal.{UnlessMemory};
 ghost use Rattle.op_core.specs.Limits.{most_held};
 ghost use Rattle.op_core.specs.Front.{max_counter};
+ghost use Rattle.op_core.specs.Op.{Op};
 ghost use Rattle.op_core.specs.Shape as shape;
+ghost use Rattle.crdt_rules.specs.Effect.{is_insertion};
 ghost use Rattle.crdt_rules.specs.Fits.{Fits};
-ghost use Rattle.doc_rules.specs.Cause.{room_cause};
 ghost use Rattle.doc_rules.specs.Events as due;
-ghost use Rattle.doc_rules.specs.Events.{cause_at, due_own, own_change};
-ghost use Rattle.doc_rules.specs.Replica.{Replica, own_op};
+ghost use Rattle.doc_rules.specs.Events.{due_by_cause, due_changed, due_placed};
+ghost use Rattle.doc_rules.specs.Replica.{own_op};
 ghost use Rattle.hold_buffer.specs.Held.{IsCurrent};
 ghost use Rattle.replica_core.specs.Resolved.{IsPlaceOf};
 ghost use Rattle.replica_core.specs.Tells.{Tells};
-ghost use Rattle.replica_core.specs.Told.{Meets, told_applied};
+ghost use Rattle.replica_core.specs.Told.{Meets, place_told, told_applied};
 ghost use Rattle.replica_core.specs.Whole.{replica_of};
 
 use crate::deliver::log_and_drain;
@@ -42,7 +43,7 @@ pub fn change(
     requires current { IsCurrent held.old log.old.operations }
     requires few { length held.old.held ≤ most_held }
     ensures met { let r = replica_of name log.old.operations held.old.held in
-        Meets r (due_own (own_change r mutation resolved)) (told_applied result) (replica_of name log.new.operations held.new.held) }
+        Meets r (due_placed r resolved mutation) (told_applied result) (replica_of name log.new.operations held.new.held) }
     ensures tells { Tells tree.new log.new.operations }
     ensures current { IsCurrent held.new log.new.operations }
 {
@@ -69,7 +70,7 @@ fn change_at(
     requires current { IsCurrent held.old log.old.operations }
     requires few { length held.old.held ≤ most_held }
     ensures met { let r = replica_of name log.old.operations held.old.held in
-        Meets r (due_own (own_change r mutation (Ok cursor))) (told_applied result) (replica_of name log.new.operations held.new.held) }
+        Meets r (due_changed r cursor mutation) (told_applied result) (replica_of name log.new.operations held.new.held) }
     ensures tells { Tells tree.new log.new.operations }
     ensures current { IsCurrent held.new log.new.operations }
 {
@@ -94,8 +95,7 @@ fn log_own(
 ) -> Result<Applied, Refusal>
     requires named { is_name name ≡ true }
     requires place { IsPlaceOf log.old.operations (Ok cursor) }
-    requires here { cause_at mutation cursor ≡ Ok tt }
-    requires room { let r = replica_of name log.old.operations held.old.held in room_cause (own_op r cursor mutation) log.old.operations ≡ Ok tt }
+    requires unopposed { let r = replica_of name log.old.operations held.old.held in due_changed r cursor mutation ≡ due.logged (own_op r cursor mutation) }
     requires tells { Tells tree.old log.old.operations }
     requires current { IsCurrent held.old log.old.operations }
     requires few { length held.old.held ≤ most_held }
@@ -119,7 +119,8 @@ fn own_cause(
     cursor: &Cursor,
     mutation: &Mutation,
 ) -> Result<(), Refusal>
-    ensures { (r : Replica) → r.name ≡ name.now → result ≡ and_then (cause_at mutation.now cursor.now) (λ _. room_cause (own_op r cursor.now mutation.now) log.now.operations) }
+    ensures { (waiting : List Op) → let r = replica_of name.now log.now.operations waiting in
+        due_changed r cursor.now mutation.now ≡ due_by_cause result (own_op r cursor.now mutation.now) }
 {
     match place_cause(cursor, mutation) {
         Ok(()) => log.check_room(*name),
@@ -129,7 +130,8 @@ fn own_cause(
 
 // An insertion is in a list, and nothing else is at a head.
 fn place_cause(cursor: &Cursor, mutation: &Mutation) -> Result<(), Refusal>
-    ensures { result ≡ cause_at mutation.now cursor.now }
+    ensures { result ≡ place_told (is_insertion mutation.now && not (shape.ends_in_list cursor.now.path))
+        (not (is_insertion mutation.now) && shape.is_head cursor.now.key) }
 {
     match mutation {
         Mutation::Insert(_) => {

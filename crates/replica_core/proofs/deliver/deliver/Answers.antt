@@ -1,6 +1,6 @@
 use Rattle.doc_rules.specs.Replica.{find_id}
 use Rattle.replica_core.specs.Whole.{replica_of}
-use Rattle.replica_core.proofs.Meeting.{meets_as, none_found, handed_taken, handed_new}
+use Rattle.replica_core.proofs.Meeting.{meets_as, none_found, delivered_logged}
 use Rattle.replica_core.proofs.deliver.deliver.Goals as goal
 
 pub deliver_unlogged-requires-clause-new : goal.deliver_unlogged-requires-clause-new
@@ -9,9 +9,4 @@ deliver_unlogged-requires-clause-new c = none_found c.args.op (find_id c.args.lo
 pub returns-in-Some-clause-met : goal.returns-in-Some-clause-met
 returns-in-Some-clause-met c =
     let r = replica_of c.args.name c.args.log.now.operations c.args.held.now.held in
-    meets_as r _ _ _ r (handed_taken r c.args.op (find_id c.args.log.now.operations c.args.op.id) c.in-Some.is_same c.in-Some.ensures) (c.known_or_not.ensures r)
-
-pub returns-in-None-clause-met : goal.returns-in-None-clause-met
-returns-in-None-clause-met c =
-    let r = replica_of c.args.name c.args.log.now.operations c.args.held.now.held in
-    meets_as r _ _ _ _ (handed_new r c.args.op (find_id c.args.log.now.operations c.args.op.id) c.in-None.ensures) c.deliver_unlogged.ensures.met
+    meets_as r _ _ _ r (delivered_logged r c.args.op c.in-Some.is_same c.in-Some.ensures) (c.known_or_not.ensures r)

@@ -1,17 +1,38 @@
-use Rattle.std.proofs.Common.{Result, ap, ◌∙◌}
+use Rattle.std.proofs.Common.{◌≡◌, nat_le, not, ◌&&◌, ◌∷◌, length, Result, refl, sym, ap, ◌∙◌}
 use Rattle.std.specs.Prelude.{⊤}
 use Rattle.json_scalar.specs.Refusal.{and_then}
 use Rattle.json_scalar.specs.declared.refusal.Refusal.{Refusal}
+use Rattle.op_core.specs.Shape.{is_head, ends_in_list}
+use Rattle.op_core.specs.declared.cursor.Cursor.{Cursor}
+use Rattle.op_core.specs.declared.mutation.Mutation.{Mutation}
+use Rattle.crdt_rules.specs.Effect.{is_insertion}
+use Rattle.crdt_rules.specs.Fits.{replicas}
+use Rattle.op_core.specs.Limits.{most_operations, most_replicas}
 use Rattle.doc_rules.specs.Cause.{room_cause}
-use Rattle.doc_rules.specs.Replica.{own_op}
+use Rattle.doc_rules.specs.Events.{due_by_cause, due_changed}
+use Rattle.doc_rules.specs.Replica.{Replica, own_op}
+use Rattle.replica_core.specs.Told.{place_told}
+use Rattle.replica_core.specs.Whole.{replica_of}
+use Rattle.replica_core.proofs.Owning.{changed_by_causes}
 use Rattle.replica_core.proofs.own.own_cause.Goals as goal
 
+-- what a change is due, by the causes against its place and its room
+due_by_both : (r : Replica) (c : Cursor) (m : Mutation) (place : Result ⊤ Refusal)
+    → place ≡ place_told (is_insertion m && not (ends_in_list c.path)) (not (is_insertion m) && is_head c.key)
+    → due_changed r c m ≡ due_by_cause (and_then place (λ _. room_cause (own_op r c m) r.log)) (own_op r c m)
+due_by_both r c m place is =
+    let op = own_op r c m in
+    changed_by_causes (is_insertion m && not (ends_in_list c.path)) (not (is_insertion m) && is_head c.key) (nat_le (length (op ∷ r.log)) most_operations)
+    (nat_le (length (replicas (op ∷ r.log))) most_replicas) op
+    ∙ ap (λ (a : Result ⊤ Refusal). due_by_cause (and_then a (λ _. room_cause op r.log)) op) (sym is)
+
 pub returns-in-Ok : goal.returns-in-Ok
-returns-in-Ok c r named =
-    let room = room_cause (own_op r c.args.cursor.now c.args.mutation.now) c.args.log.now.operations in
-    c.check_room.ensures (own_op r c.args.cursor.now c.args.mutation.now) named ∙ ap (λ (a : Result ⊤ Refusal). and_then a (λ _. room)) c.in-Ok.ensures
+returns-in-Ok c waiting =
+    let r = replica_of c.args.name.now c.args.log.now.operations waiting in
+    let op = own_op r c.args.cursor.now c.args.mutation.now in
+    due_by_both r c.args.cursor.now c.args.mutation.now _ c.in-Ok.ensures
+    ∙ ap (λ (a : Result ⊤ Refusal). due_by_cause a op) (sym (c.check_room.ensures op refl))
 
 pub returns-in-Err : goal.returns-in-Err
-returns-in-Err c r named =
-    let room = room_cause (own_op r c.args.cursor.now c.args.mutation.now) c.args.log.now.operations in
-    ap (λ (a : Result ⊤ Refusal). and_then a (λ _. room)) c.in-Err.ensures
+returns-in-Err c waiting =
+    due_by_both (replica_of c.args.name.now c.args.log.now.operations waiting) c.args.cursor.now c.args.mutation.now _ c.in-Err.ensures
