@@ -97,11 +97,11 @@ front_from (o ∷ log) {e} c =
 
 -- ---- the last operation of each replica
 
-entry_none : (front : List Entry) (name : List ℕ) → ((e : Entry) → Contains front e → e.0 ≢ name) → entry_of front name ≡ None
-entry_none [] name other = refl
-entry_none (e ∷ front) name other =
+pub entry_of-none : (front : List Entry) (name : List ℕ) → ((e : Entry) → Contains front e → e.0 ≢ name) → entry_of front name ≡ None
+entry_of-none [] name other = refl
+entry_of-none (e ∷ front) name other =
     rw (false_from_ne_true (bytes_eq e.0 name) (λ h. other e (Contains-here front refl) ((bytes_decides e.0 name).0 h)))
-    (entry_none front name (λ f c. other f (Contains-there e front c)))
+    (entry_of-none front name (λ f c. other f (Contains-there e front c)))
 
 -- a raised entry, from the one before
 abbrev raised : Bool → ℕ → Option ℕ → Option ℕ
@@ -125,7 +125,7 @@ entry-raise i (f ∷ front) name h = by (name_cmp i.replica f.0) refl (entry-rai
         → (if b then Some i.counter else entry_of (f ∷ front) name) ≡ raised b i.counter (entry_of (f ∷ front) name)
     before false e less = refl
     before true e less =
-        rw (entry_none (f ∷ front) name (λ y c same. elim (Contains-cases f front c) [
+        rw (entry_of-none (f ∷ front) name (λ y c same. elim (Contains-cases f front c) [
           | inl is ↦ less_other i.replica f.0 less ((bytes_decides i.replica name).0 e ∙ sym same ∙ ap (λ (z : Entry). z.0) (sym is))
           | inr later ↦ less_other i.replica y.0 (transitive name_order {x = i.replica} {y = f.0} {z = y.0} less (h.0 y later)) ((bytes_decides i.replica name).0 e ∙ sym same)
         ]))
@@ -163,16 +163,16 @@ front_last (o ∷ log) name =
     by false = refl
 
 -- each entry of a rising front is its replica's
-entry_of-at : (front : List Entry) {e : Entry} → IsRising name_cmp (λ e. e.0) front → Contains front e → entry_of front e.0 ≡ Some e.1
-entry_of-at [] h c = absurd (Contains-nil c)
-entry_of-at (f ∷ front) {e} h c =
+pub entry_of-at : (front : List Entry) (e : Entry) → IsRising name_cmp (λ e. e.0) front → Contains front e → entry_of front e.0 ≡ Some e.1
+entry_of-at [] e h c = absurd (Contains-nil c)
+entry_of-at (f ∷ front) e h c =
     elim (Contains-cases f front c) [
       | inl is ↦
           let same : bytes_eq f.0 e.0 ≡ true = (bytes_decides f.0 e.0).1 (ap (λ (z : Entry). z.0) is) in
           rw same (ap (λ (z : Entry). Some z.1) is)
       | inr behind ↦
           rw (false_from_ne_true (bytes_eq f.0 e.0) (λ same. less_other f.0 e.0 (h.0 e behind) ((bytes_decides f.0 e.0).0 same)))
-          (entry_of-at front h.1 behind)
+          (entry_of-at front e h.1 behind)
     ]
 
 -- fronts that rise and say the same of each replica are one
@@ -181,7 +181,7 @@ fronts_same xs ys rising other_rising same =
     rising_same (λ (e : Entry). e.0) name_order xs ys rising other_rising (within xs ys rising same) (within ys xs other_rising (λ name. sym (same name)))
   where
     within : (xs ys : List Entry) → IsRising name_cmp (λ e. e.0) xs → ((name : List ℕ) → entry_of xs name ≡ entry_of ys name) → (e : Entry) → Contains xs e → Contains ys e
-    within xs ys rising same e c = entry_of-Contains ys e.0 e.1 (sym (same e.0) ∙ entry_of-at xs rising c)
+    within xs ys rising same e c = entry_of-Contains ys e.0 e.1 (sym (same e.0) ∙ entry_of-at xs e rising c)
 
 -- ---- in a good log
 

@@ -11,6 +11,7 @@ use Rattle.op_core.specs.Front.{is_ascending}
 use Rattle.crdt_rules.specs.Dependencies.{entry_of}
 use Rattle.op_log.specs.Front.{PutsEntry}
 use Rattle.doc_rules.specs.Sorted.{IsRising}
+use Rattle.doc_rules.proofs.WholeFront.{entry_of-at, entry_of-none}
 use Rattle.op_log.specs.Sorted.{IsPlace, IsGap}
 use Rattle.op_core.proofs.Fronts.{is_Less}
 use Rattle.list_laws.proofs.Members.{Contains-nil, Contains-here, Contains-there, Contains-cases}
@@ -36,28 +37,8 @@ rising_from_ascending (e ∷ f ∷ rest) h =
       later,
     )
 
-pub ascending_from_rising : (front : List (List ℕ × ℕ)) → NamesRise front → is_ascending front ≡ true
-ascending_from_rising [] r = refl
-ascending_from_rising (e ∷ []) r = refl
-ascending_from_rising (e ∷ f ∷ rest) r =
-    and_from (is_lt (name_cmp e.0 f.0)) (is_ascending (f ∷ rest)) (ap is_lt (r.0 f (Contains-here rest refl))) (ascending_from_rising (f ∷ rest) r.1)
-
 pub names_differ : (a b : List ℕ) → a ≢ b → bytes_eq a b ≡ false
 names_differ a b other = false_from_ne_true (bytes_eq a b) (λ h. other ((bytes_decides a b).0 h))
-
--- an entry of a front is found by its name
-pub entry_of-at : (front : List (List ℕ × ℕ)) (e : List ℕ × ℕ) → NamesRise front → Contains front e → entry_of front e.0 ≡ Some e.1
-entry_of-at [] e r c = absurd (Contains-nil c)
-entry_of-at (f ∷ front) e r c =
-    elim (Contains-cases f front c) [
-      | inl here ↦ rw ((bytes_decides f.0 e.0).1 (ap (λ z. z.0) here)) (ap (λ (z : List ℕ × ℕ). Some z.1) here)
-      | inr behind ↦ rw (names_differ f.0 e.0 (less≢equal name_order f.0 e.0 (r.0 e behind))) (entry_of-at front e r.1 behind)
-    ]
-
-pub entry_of-none : (front : List (List ℕ × ℕ)) (name : List ℕ) → ((e : List ℕ × ℕ) → Contains front e → e.0 ≢ name) → entry_of front name ≡ None
-entry_of-none [] name none = refl
-entry_of-none (e ∷ front) name none =
-    rw (names_differ e.0 name (none e (Contains-here front refl))) (entry_of-none front name (λ f c. none f (Contains-there e front c)))
 
 pub entry_of-place : (front : List (List ℕ × ℕ)) (name : List ℕ) (i : ℕ) (d : List ℕ × ℕ) → NamesRise front → IsPlace name_cmp (λ e. e.0) front name i
     → entry_of front name ≡ Some (get_or front i d).1

@@ -16,7 +16,8 @@ use Rattle.crdt_rules.proofs.Tests.{any_at, any_none}
 use Rattle.crdt_rules.proofs.Fronts.{entry-max_counter, shaped_counter, entry_of-Contains}
 use Rattle.crdt_rules.proofs.LastCounter.{below_last}
 use Rattle.crdt_rules.proofs.Tests.{some≢none}
-use Rattle.op_log.proofs.Fronts.{NamesRise, rising_from_ascending, entry_of-at}
+use Rattle.doc_rules.proofs.WholeFront.{entry_of-at}
+use Rattle.op_log.proofs.Fronts.{NamesRise, rising_from_ascending}
 use Rattle.op_log.proofs.KeyOrders.{name_order}
 use Rattle.op_log.proofs.Sorted.{less≢equal}
 use Rattle.crdt_rules.proofs.Room.{length-among, replicas-at, replicas-from, replicas-once}

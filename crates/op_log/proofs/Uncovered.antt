@@ -10,7 +10,8 @@ use Rattle.crdt_rules.proofs.Fronts.{covers_at, entry_of-Contains}
 use Rattle.doc_rules.specs.Answers.{since}
 use Rattle.op_log.specs.Index.{StandsAt, AreLasts, IsLast, IsFirstFrom, CoversChain, CoversBefore}
 use Rattle.op_log.proofs.Cursors.{take_at}
-use Rattle.op_log.proofs.Fronts.{rising_from_ascending, entry_of-at}
+use Rattle.doc_rules.proofs.WholeFront.{entry_of-at}
+use Rattle.op_log.proofs.Fronts.{rising_from_ascending}
 use Rattle.op_log.proofs.Indexes.{rises_up_to}
 
 -- up to a counter that the front has for the replica, its operations are covered
