@@ -9,6 +9,7 @@ use Rattle.op_core.specs.Shape.{key_of}
 use Rattle.crdt_rules.specs.Same.{id_eq, key_eq, tagged_eq}
 use Rattle.crdt_rules.specs.Context.{Context, empty, node, clear_all, clear_elem}
 use Rattle.crdt_rules.proofs.SameLaws.{key_decides, id_decides, tagged_decides}
+use Rattle.crdt_rules.proofs.StepFacts.{none_either}
 use Rattle.plain_rules.specs.Plain.{present_in, value_in, child_in, clear_each, whole}
 
 -- an entry that is of a key and an id has the test's answer for them
@@ -54,11 +55,7 @@ module _ (test : Key → Id → Bool) (k : Key) (i : Id) where
 
   pub value_in-without : {X : Type 0} (entries : List (Key × Id × X))
       → value_in (filter (λ e. not (test e.0 e.1)) entries) k i ≡ (if test k i then None else value_in entries k i)
-  value_in-without {X = X} [] = none (test k i)
-    where
-      none : (b : Bool) → ◌≡◌ {A = Option X} None (if b then None else None)
-      none true = refl
-      none false = refl
+  value_in-without [] = sym (none_either (test k i))
   value_in-without (e ∷ entries) =
       by (test e.0 e.1) (key_eq e.0 k && id_eq e.1 i) refl refl (test_here test e.0 k e.1 i) (value_in-without entries)
     where
