@@ -1,4 +1,3 @@
 pub mod Pulls
 pub mod Sets
 pub mod Replays
-pub mod Growing

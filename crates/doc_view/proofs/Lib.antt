@@ -8,3 +8,4 @@ pub mod MapLaws
 pub mod NoFloat
 pub mod ShowLaws
 pub mod ByNumber
+pub mod Growing

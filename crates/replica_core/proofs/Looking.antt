@@ -21,8 +21,7 @@ use Rattle.doc_view.specs.Readings as view
 use Rattle.doc_view.specs.Told.{tree_values}
 use Rattle.doc_rules.specs.Answers.{Answers, ReadsHere, LooksHere, told_as}
 use Rattle.doc_rules.specs.Resolve.{Resolves}
-use Rattle.doc_rules.specs.Role.{roles_of}
-use Rattle.doc_rules.proofs.Looks.{AreOf, look_answers}
+use Rattle.doc_rules.proofs.Looks.{look_answers}
 use Rattle.replica_core.specs.Tells.{Tells}
 use Rattle.replica_core.specs.Whole.{replica_of}
 
@@ -37,13 +36,6 @@ told_here {X} reads tell c r h = by (is_head c.key) refl r h
     by false e (Ok x) h = inr (Ok x, (e, h), refl)
     by false e (Err cause) h = inl (ap reply.Refused h)
 
--- the tree's facts and roles are the log's
-are_of : {tree : List Node × Option Scalar} {log : List Op} → Tells tree log → AreOf log (tree_facts tree) (tree_role tree)
-are_of {tree} {log} tells = record {
-  facts_are = tells.facts_are;
-  roles_are = λ p k i. tells.roles_are p k i ∙ ap (λ f. roles_of f log p k i) (sym tells.facts_are);
-}
-
 -- a look where the steps lead
 pub look_told : (name : List ℕ) (log held : List Op) (mine : ℕ) (tree : List Node × Option Scalar) → Tells tree log → IsGood log → (look : Look) (place : Place) (c : Cursor)
     (answer : Reply) → Resolves (tree_facts tree) place.start place.steps (Ok c)
@@ -51,7 +43,7 @@ pub look_told : (name : List ℕ) (log held : List Op) (mine : ℕ) (tree : List
     → Answers (replica_of name log held) mine (query.Look look place) answer
 look_told name log held mine tree tells good look place c answer leads (inl memory) = inr memory
 look_told name log held mine tree tells good look place c answer leads (inr here) =
-    inl (look_answers (replica_of name log held) mine (tree_facts tree) (tree_role tree) good (are_of tells) look place (Ok c) answer leads here)
+    inl (look_answers (replica_of name log held) mine (tree_facts tree) (tree_role tree) good tells look place (Ok c) answer leads here)
 
 -- where the steps lead
 pub resolve_told : (name : List ℕ) (log held : List Op) (mine : ℕ) (tree : List Node × Option Scalar) → Tells tree log → (place : Place) (c : Cursor)

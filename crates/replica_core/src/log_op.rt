@@ -3,6 +3,7 @@ ghost use Rattle.std.specs.Prelude.{◌≡◌, [], ◌∷◌, ◌++◌, OnOk, On
 ghost use Rattle.crdt_rules.specs.Fits.{Fits};
 ghost use Rattle.replica_core.specs.Tells.{Tells};
 
+use crate::limits::keeps_good;
 use doc_tree::Tree;
 use json_scalar::Refusal;
 use op_core::Operation;
@@ -18,7 +19,7 @@ pub fn log_op(tree: &mut Tree, log: &mut OpLog, op: Operation) -> Result<(), Ref
     ensures kept { OnErr result (log.new.operations ≡ log.old.operations) }
     ensures tells { Tells tree.new log.new.operations }
 {
-    let _length = log.len();
+    keeps_good(log);
     if tree.prepare(&op).is_err() || log.reserve(1).is_err() {
         drop(op);
         return Err(Refusal::NoMemory);

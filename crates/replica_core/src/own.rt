@@ -19,7 +19,7 @@ ghost use Rattle.replica_core.specs.Told.{Meets, place_told, told_applied};
 ghost use Rattle.replica_core.specs.Whole.{replica_of};
 
 use crate::deliver::log_and_drain;
-use crate::limits::keeps_limits;
+use crate::limits::{keeps_good, keeps_limits};
 use crate::outcome::Applied;
 use doc_tree::Tree;
 use hold_buffer::HoldBuffer;
@@ -105,7 +105,7 @@ fn log_own(
     ensures current { IsCurrent held.new log.new.operations }
 {
     keeps_limits(&mutation);
-    let _length = log.len();
+    keeps_good(log);
     match own_operation(name, log, cursor, mutation) {
         Ok(op) => log_and_drain(tree, log, held, op),
         Err(_) => Err(Refusal::NoMemory),
@@ -164,7 +164,7 @@ fn own_operation(
     requires { Fits (own_op (replica_of name log.now.operations []) cursor mutation) log.now.operations }
     ensures { UnlessMemory result (Ok (own_op (replica_of name log.now.operations []) cursor mutation)) }
 {
-    let _length = log.len();
+    keeps_good(log);
     let front = log.front()?;
     let id = next_id(&front, &name);
     Operation::shaped(id, front, cursor, mutation)

@@ -9,6 +9,7 @@ ghost use Rattle.hold_buffer.specs.Held.{IsCurrent};
 ghost use Rattle.replica_core.specs.Tells.{Tells};
 ghost use Rattle.replica_core.specs.Whole.{replica_of};
 
+use crate::limits::keeps_good;
 use doc_tree::Tree;
 use doc_view::{conflicts, items, keys, resolve, show, sum, values};
 use doc_words::{Conflicts, Items, Look, Place, Query, Reply, Scalars, ShownText, Texts};
@@ -48,7 +49,7 @@ fn look_at_place(alloc: Global, tree: &Tree, log: &OpLog, look: Look, place: Pla
     requires { Tells tree.now log.now.operations }
     ensures { (name : List ℕ) (held : List Op) (mine : ℕ) → Answers (replica_of name log.now.operations held) mine (query.Look look place) result }
 {
-    let _length = log.len();
+    keeps_good(log);
     let Place { start, steps } = place;
     match resolve(alloc, tree, start, steps.as_slice()) {
         Ok(cursor) => look_at(alloc, tree, look, &cursor),

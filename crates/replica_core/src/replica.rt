@@ -13,7 +13,7 @@ ghost use Rattle.replica_core.specs.Told.{told_applied, told_delivered, told_for
 ghost use Rattle.replica_core.specs.Whole.{replica_of};
 
 use crate::deliver::deliver;
-use crate::limits::keeps_limits;
+use crate::limits::{keeps_limits, keeps_name, keeps_shape};
 use crate::outcome::{Applied, Delivered};
 use crate::own::change;
 use crate::read::read;
@@ -57,7 +57,7 @@ impl Replica {
         ensures ok { IfOk result (λ r. r ≡ replica_of name [] []) }
         ensures err { IfErr result (λ e. e ≡ Refusal.NoMemory) }
     {
-        let _name = name.as_bytes();
+        keeps_name(&name);
         match Tree::new(alloc) {
             Ok(tree) => Ok(Replica {
                 name,
@@ -81,7 +81,7 @@ impl Replica {
         ensures good { OnOk result (IsGood operations.now) }
         ensures err { IfErr result (IsMisfitOf operations.now) }
     {
-        let _name = name.as_bytes();
+        keeps_name(&name);
         match logged(alloc, operations) {
             Ok((tree, log)) => Ok(Replica {
                 name,
@@ -144,7 +144,7 @@ impl Replica {
         ensures event { Event self.old (command.Deliver op) (told_delivered result) self.new }
         ensures memory { result ≡ Err NoMemory → MayLack self.old (command.Deliver op) }
     {
-        let _id = op.id();
+        keeps_shape(&op);
         deliver(self.name, &mut self.tree, &mut self.log, &mut self.held, op)
     }
 

@@ -6,6 +6,7 @@ ghost use Rattle.doc_rules.specs.Cause.{misfit_of};
 ghost use Rattle.replica_core.specs.Misfits.{IsMisfitOf};
 ghost use Rattle.replica_core.specs.Tells.{Tells};
 
+use crate::limits::keeps_good;
 use crate::log_op::log_op;
 use doc_tree::Tree;
 use json_scalar::Refusal;
@@ -48,7 +49,7 @@ fn logged_in(tree: Tree, log: OpLog, operations: &[Operation]) -> Result<(Tree, 
     let mut log = log;
     match log_all(&mut tree, &mut log, operations) {
         Ok(()) => {
-            let _length = log.len();
+            keeps_good(&log);
             Ok((tree, log))
         }
         Err(misfit) => Err(misfit),
@@ -82,7 +83,7 @@ fn log_next(tree: &mut Tree, log: &mut OpLog, op: &Operation) -> Result<(), Opti
     ensures err { IfErr result (λ e. IfSome e (λ cause. misfit_of op.now log.old.operations ≡ Err cause)) }
     ensures tells { Tells tree.new log.new.operations }
 {
-    let _length = log.len();
+    keeps_good(log);
     if log.contains(op.id()) {
         return Err(Some(Refusal::IdConflict));
     }

@@ -5,7 +5,7 @@ use Rattle.crdt_rules.specs.Effect.{path_of}
 use Rattle.crdt_rules.proofs.NextStep.{reference_stands, id_is_new}
 use Rattle.doc_rules.proofs.Roles.{are_of_same}
 use Rattle.doc_tree.proofs.ShapeLaws.{shaped_has_place}
-use Rattle.converge_laws.proofs.Growing.{next_tree}
+use Rattle.doc_view.proofs.Growing.{next_tree}
 use Rattle.converge_laws.proofs.replay.grow.Goals as goal
 
 pub prepare-requires : goal.prepare-requires

@@ -1,6 +1,6 @@
 use Rattle.std.proofs.Common.{rules, ◌<◌, length, take, sym, subst}
 use Rattle.crdt_rules.specs.Fits.{Fits}
-use Rattle.converge_laws.proofs.Growing.{new_tree}
+use Rattle.doc_view.proofs.Growing.{new_tree}
 use Rattle.converge_laws.proofs.Replays.{fits_at}
 use Rattle.converge_laws.proofs.replay.grown.Goals as goal
 

@@ -2,9 +2,11 @@ use Rattle.std.proofs.Common.{◌≡◌, ap, subst, sym, ◌∙◌, ◌++◌, �
 use Rattle.op_core.specs.Op.{Op}
 use Rattle.crdt_rules.specs.Fits.{Fits}
 use Rattle.op_log.specs.Log.{Log}
+use Rattle.doc_rules.proofs.Roles.{are_of_same}
 use Rattle.doc_tree.proofs.ShapeLaws.{shaped_has_place}
+use Rattle.doc_view.proofs.Growing.{next_tree}
 use Rattle.replica_core.specs.Tells.{Tells}
-use Rattle.replica_core.proofs.Telling.{tells_same, tells_next, knows_reference, is_new_element}
+use Rattle.replica_core.proofs.Telling.{knows_reference, is_new_element}
 use Rattle.replica_core.proofs.log_op.log_op.Goals as goal
 use Rattle.replica_core.proofs.log_op.log_op.Goals.{then-is_err-via-then-is_err, then-is_err-via-else-is_err+then-is_err-2}
 
@@ -23,15 +25,15 @@ returns-then-is_err-clause-kept c = kept c
 
 pub returns-then-is_err-clause-tells : goal.returns-then-is_err-clause-tells
 returns-then-is_err-clause-tells c =
-    subst (Tells c.prepare.new.self) (sym (kept c)) (tells_same {old = c.args.tree.now} {new = c.prepare.new.self} c.requires.tells c.prepare.ensures.facts c.prepare.ensures.roles)
+    subst (Tells c.prepare.new.self) (sym (kept c)) (are_of_same c.requires.tells c.prepare.ensures.facts c.prepare.ensures.roles)
 
 pub commit-requires-clause-reference : goal.commit-requires-clause-reference
 commit-requires-clause-reference c =
-    knows_reference (tells_same {old = c.args.tree.now} {new = c.prepare.new.self} c.requires.tells c.prepare.ensures.facts c.prepare.ensures.roles) c.args.op c.len-length.ensures.good c.requires.fits
+    knows_reference c.prepare.new.self (are_of_same c.requires.tells c.prepare.ensures.facts c.prepare.ensures.roles) c.args.op c.keeps_good.ensures c.requires.fits
 
 pub commit-requires-clause-new : goal.commit-requires-clause-new
 commit-requires-clause-new c =
-    is_new_element (tells_same {old = c.args.tree.now} {new = c.prepare.new.self} c.requires.tells c.prepare.ensures.facts c.prepare.ensures.roles) c.args.op c.len-length.ensures.good c.requires.fits
+    is_new_element c.prepare.new.self (are_of_same c.requires.tells c.prepare.ensures.facts c.prepare.ensures.roles) c.args.op c.keeps_good.ensures c.requires.fits
 
 pub append-requires-clause-fits : goal.append-requires-clause-fits
 append-requires-clause-fits c = subst (Fits c.args.op) (sym c.reserve.ensures.operations) c.requires.fits
@@ -41,6 +43,6 @@ returns-clause-ok c = c.append.ensures.operations ∙ ap (λ (l : List Op). l ++
 
 pub returns-clause-tells : goal.returns-clause-tells
 returns-clause-tells c =
-    let next = tells_next (tells_same {old = c.args.tree.now} {new = c.prepare.new.self} c.requires.tells c.prepare.ensures.facts c.prepare.ensures.roles) c.args.op c.len-length.ensures.good c.requires.fits
+    let next = next_tree c.prepare.new.self c.commit.new.self c.args.log.now.operations c.args.op (are_of_same c.requires.tells c.prepare.ensures.facts c.prepare.ensures.roles) c.keeps_good.ensures c.requires.fits
     c.commit.ensures.facts c.commit.ensures.roles in
     subst (Tells c.commit.new.self) (sym (c.append.ensures.operations ∙ ap (λ (l : List Op). l ++ c.args.op ∷ []) c.reserve.ensures.operations)) next

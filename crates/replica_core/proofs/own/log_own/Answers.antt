@@ -23,7 +23,7 @@ pub own_operation-requires : goal.own_operation-requires
 own_operation-requires c =
     let at = c.requires.place (λ e. cc) in
     own_fits (replica_of c.args.name c.args.log.now.operations c.args.held.now.held) at.0 at.1 c.args.cursor c.args.mutation c.requires.named c.keeps_limits.ensures
-    c.len-length.ensures.good at.2 c.requires.unopposed
+    c.keeps_good.ensures at.2 c.requires.unopposed
 
 pub log_and_drain-requires-clause-fits : goal.log_and_drain-requires-clause-fits
 log_and_drain-requires-clause-fits c =
@@ -31,7 +31,7 @@ log_and_drain-requires-clause-fits c =
     let same : c.in-Ok.op ≡ own_op (replica_of c.args.name c.args.log.now.operations c.args.held.now.held) c.args.cursor c.args.mutation = ok_same (c.in-Ok.ensures (λ e. cc)) in
     subst (λ (o : Op). Fits o c.args.log.now.operations) (sym same)
     (own_fits (replica_of c.args.name c.args.log.now.operations c.args.held.now.held) at.0 at.1 c.args.cursor c.args.mutation c.requires.named c.keeps_limits.ensures
-    c.len-length.ensures.good at.2 c.requires.unopposed)
+    c.keeps_good.ensures at.2 c.requires.unopposed)
 
 pub returns-in-Ok-clause-met : goal.returns-in-Ok-clause-met
 returns-in-Ok-clause-met c =

@@ -27,7 +27,7 @@ pub next_id-id-requires : goal.next_id-id-requires
 next_id-id-requires c =
     let front : c.in_ok-front.front ≡ front_of c.args.log.now.operations = ok_same (c.in_ok-front.ensures (λ e. cc)) in
     let few : length c.args.log.now.operations + 1 ≤ 100000 = few_more (own_op (replica_of c.args.name c.args.log.now.operations []) c.args.cursor c.args.mutation) c.args.log.now.operations c.requires.room.operations in
-    omega (arith, ap max_counter front, max_counter_below c.args.log.now.operations c.len-length.ensures.good, few)
+    omega (arith, ap max_counter front, max_counter_below c.args.log.now.operations c.keeps_good.ensures, few)
 
 pub returns : goal.returns
 returns c other =

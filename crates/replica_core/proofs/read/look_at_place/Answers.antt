@@ -6,5 +6,5 @@ use Rattle.replica_core.proofs.read.look_at_place.Goals as goal
 
 pub returns-in-Ok : goal.returns-in-Ok
 returns-in-Ok c name held mine =
-    look_told name c.args.log.now.operations held mine c.args.tree.now c.requires c.len-length.ensures.good c.args.look c.args.place c.in-Ok.cursor c.look_at.result
+    look_told name c.args.log.now.operations held mine c.args.tree.now c.requires c.keeps_good.ensures c.args.look c.args.place c.in-Ok.cursor c.look_at.result
     (subst (λ l. Resolves (tree_facts c.args.tree.now) c.args.place.start l (Ok c.in-Ok.cursor)) c.as_slice.ensures (c.in-Ok.ensures (λ e. cc))) c.look_at.ensures

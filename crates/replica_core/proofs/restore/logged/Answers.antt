@@ -1,5 +1,5 @@
-use Rattle.replica_core.proofs.Telling.{tells_new}
+use Rattle.doc_view.proofs.Growing.{new_tree}
 use Rattle.replica_core.proofs.restore.logged.Goals as goal
 
 pub logged_in-requires-clause-tells : goal.logged_in-requires-clause-tells
-logged_in-requires-clause-tells c = tells_new c.in-Ok.tree c.in-Ok.ensures.ok
+logged_in-requires-clause-tells c = new_tree c.in-Ok.tree c.in-Ok.ensures.ok

@@ -18,7 +18,7 @@ deliver-requires-clause-few c = c.self.invariant.kept.few
 pub invariant_of-self : goal.invariant_of-self
 invariant_of-self c =
     whole_next c.self.inside.name c.self.inside.tree c.deliver.new.tree c.self.inside.log.operations c.deliver.new.log.operations c.self.inside.held c.deliver.new.held
-    (command.Deliver c.args.op) (told_delivered c.deliver.result) c.self.invariant c.deliver.ensures.tells c.deliver.ensures.current c.id-id.ensures.shaped
+    (command.Deliver c.args.op) (told_delivered c.deliver.result) c.self.invariant c.deliver.ensures.tells c.deliver.ensures.current c.keeps_shape.ensures
     (event_from (replica_of c.self.inside.name c.self.inside.log.operations c.self.inside.held.held) c.args.op (told_delivered c.deliver.result)
     (replica_of c.self.inside.name c.deliver.new.log.operations c.deliver.new.held.held) c.deliver.ensures.met)
 
