@@ -5,6 +5,7 @@ use Rattle.lamport_id.specs.declared.id.Id.{Id}
 use Rattle.json_scalar.specs.declared.refusal.Refusal.{Refusal}
 use Rattle.json_scalar.specs.declared.refusal.Refusal.TheVariants.{BadCursor, IndexPastEnd, AtHead, TooDeep}
 use Rattle.json_scalar.specs.Refusal.{and_then}
+use Rattle.op_core.specs.Limits.{longest_key, longest_path}
 use Rattle.op_core.specs.declared.cursor.Cursor.{Cursor}
 use Rattle.op_core.specs.declared.cursor.Key.{Key}
 use Rattle.op_core.specs.declared.cursor.Key.TheVariants.{Text, Element, Head}
@@ -20,7 +21,7 @@ use Rattle.doc_rules.specs.Reads.{into_map, into_list, AreElements}
 
 -- a text has at most 128 bytes
 abbrev pub is_short : Key → Bool
-is_short (Text text) = nat_le (length text) 128
+is_short (Text text) = nat_le (length text) longest_key
 is_short _ = true
 
 -- an element, as the key after the path p, stands in the list there
@@ -42,7 +43,7 @@ start_of f c =
 
 -- a step goes neither from a head nor below 30 keys
 abbrev pub may_go_on : Cursor → Result ⊤ Refusal
-may_go_on c = if is_head c.key then Err AtHead else (if nat_le 30 (length c.path) then Err TooDeep else Ok tt)
+may_go_on c = if is_head c.key then Err AtHead else (if nat_le longest_path (length c.path) then Err TooDeep else Ok tt)
 
 abbrev pub at_text : Cursor → List ℕ → Result Cursor Refusal
 at_text c text = if is_short (Text text) then Ok (record { path = into_map c.path c.key; key = Text text }) else Err BadCursor
