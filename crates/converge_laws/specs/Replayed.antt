@@ -1,9 +1,6 @@
 -- What a list of operations says, however it is replayed.
 use Rattle.std.specs.Prelude.{◌≡◌, List, Bool, false, Option, Some, None}
-use Rattle.lamport_id.specs.declared.id.Id.{Id}
-use Rattle.op_core.specs.declared.cursor.Key.{Key}
-use Rattle.op_core.specs.declared.cursor.Tagged.{Tagged}
-use Rattle.op_core.specs.Op.{Op}
+use Rattle.doc_words.specs.Words.{Id, Key, Tagged, Op}
 use Rattle.op_core.specs.Equality.{operation_eq}
 use Rattle.doc_words.specs.declared.role.Role.{Role}
 use Rattle.list_laws.specs.Walk.{SameMembers}

@@ -19,21 +19,15 @@ use Rattle.serde_json.specs.Find.{of_integer}
 use Rattle.serde_json.specs.View.{items_of}
 use Rattle.lamport_id.specs.Limits.{greatest_counter}
 use Rattle.lamport_id.specs.Name.{is_name}
-use Rattle.lamport_id.specs.declared.id.Id.{Id}
+use Rattle.doc_words.specs.Words.{Id, Val, Op, Key, Tagged, Mutation, Assign, Insert, Delete, Add}
 use Rattle.json_scalar.specs.Scalar.{val_data, is_val}
 use Rattle.json_scalar.specs.declared.scalar.Scalar.TheVariants.{Int, Text as Words, Bool as Truth, Null}
-use Rattle.json_scalar.specs.declared.scalar.Val.{Val}
 use Rattle.json_scalar.specs.declared.scalar.Val.TheVariants.{Scalar as Plain, EmptyMap, EmptyList}
 use Rattle.op_core.specs.Front.{id_of}
-use Rattle.op_core.specs.Op.{Op}
 use Rattle.op_core.specs.Shape.{is_id, is_entry, is_key, is_tagged, is_mutation, is_placed, is_allowed, is_shallow, has_parts, has_form, has_front, is_shaped}
 use Rattle.op_core.specs.Wire.{entry_data, key_data, tagged_data, mutation_data, wire}
-use Rattle.op_core.specs.declared.cursor.Key.{Key}
 use Rattle.op_core.specs.declared.cursor.Key.TheVariants.{Doc, Text, Element, Head}
-use Rattle.op_core.specs.declared.cursor.Tagged.{Tagged}
 use Rattle.op_core.specs.declared.cursor.Tagged.TheVariants as tagged
-use Rattle.op_core.specs.declared.mutation.Mutation.{Mutation}
-use Rattle.op_core.specs.declared.mutation.Mutation.TheVariants.{Assign, Insert, Delete, Add}
 use Rattle.op_core.proofs.Wires.{both}
 
 abbrev pub IsWhole : Num → Type 0

@@ -1,8 +1,7 @@
 -- Places and their nodes.
 use Rattle.std.proofs.Common.{◌≡◌, ◌<◌, List, ◌++◌, length, true, Option, Some, sym, ap, ◌∙◌}
 use Rattle.std.specs.Prelude.{option_and_then}
-use Rattle.op_core.specs.declared.cursor.Key.{Key}
-use Rattle.op_core.specs.declared.cursor.Tagged.{Tagged}
+use Rattle.doc_words.specs.Words.{Key, Tagged}
 use Rattle.crdt_rules.specs.Place.{is_within}
 use Rattle.doc_nodes.specs.declared.node.NodeNumber.{NodeNumber}
 use Rattle.doc_nodes.specs.declared.node.Node.{Node}

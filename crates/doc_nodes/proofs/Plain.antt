@@ -3,9 +3,7 @@ use Rattle.std.proofs.Common.{◌≡◌, ◌<◌, ℕ, zero, suc, List, [], ◌�
 use Rattle.std.proofs.lemmas.List.{length-map, map-set, set-get_or}
 use Rattle.std.specs.Prelude.{IsSome, is_some, option_and_then}
 use mathlib.Core.Path.{fun_ext}
-use Rattle.lamport_id.specs.declared.id.Id.{Id}
-use Rattle.op_core.specs.declared.cursor.Key.{Key}
-use Rattle.op_core.specs.declared.cursor.Tagged.{Tagged}
+use Rattle.doc_words.specs.Words.{Id, Key, Tagged}
 use Rattle.presence_set.specs.ById.{get}
 use Rattle.list_order.specs.Entries.{ids_of}
 use Rattle.list_order.proofs.Entries.{ids_of-all_absent, all_absent-with}

@@ -2,10 +2,7 @@
 use Rattle.std.proofs.Common.{◌≡◌, ◌<◌, ℤ, List, length, set, Bool, true, false, ◌&&◌, if◌then◌else◌, Option, Some, None, ⊎_elim, refl, sym, ap, ◌∙◌, subst, true≢false}
 use Rattle.std.specs.Prelude.{is_some, option_and_then}
 use Rattle.std.proofs.lemmas.Bool.{and_parts, and_from, cases_eq}
-use Rattle.lamport_id.specs.declared.id.Id.{Id}
-use Rattle.json_scalar.specs.declared.scalar.Scalar.{Scalar}
-use Rattle.op_core.specs.declared.cursor.Key.{Key}
-use Rattle.op_core.specs.declared.cursor.Tagged.{Tagged}
+use Rattle.doc_words.specs.Words.{Id, Scalar, Key, Tagged, id_cmp}
 use Rattle.crdt_rules.specs.Same.{id_eq, key_eq, path_eq}
 use Rattle.crdt_rules.proofs.SameLaws.{key_decides, path_decides, eq_from}
 use Rattle.presence_set.specs.ById.{get, put}
@@ -13,7 +10,6 @@ use Rattle.presence_set.proofs.ByIdLaws.{get-put}
 use Rattle.doc_nodes.specs.declared.node.NodeNumber.{NodeNumber}
 use Rattle.doc_nodes.specs.declared.node.Node.{Node}
 use Rattle.doc_nodes.specs.Walk.{walk, root, trail, list_trail}
-use Rattle.lamport_id.specs.Order.{id_cmp}
 use Rattle.list_laws.specs.Order.{insert_after}
 use Rattle.list_order.specs.Entries.{ids_of}
 use Rattle.list_order.proofs.Entries.{ids_of-insert}

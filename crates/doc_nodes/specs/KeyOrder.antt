@@ -3,10 +3,8 @@ use Rattle.std.specs.Prelude.{ℕ, List, []}
 use Rattle.std.specs.Ordering.{nat_cmp, ordering_then}
 use Rattle.std.specs.Cmp.Lexicographic.{slice_cmp}
 use Rattle.std.specs.declared.cmp.Ordering.{Ordering}
-use Rattle.lamport_id.specs.declared.id.Id.{Id}
-use Rattle.op_core.specs.declared.cursor.Key.{Key}
+use Rattle.doc_words.specs.Words.{Id, Key, id_cmp}
 use Rattle.op_core.specs.declared.cursor.Key.TheVariants.{Doc, Text, Element, Head}
-use Rattle.lamport_id.specs.Order.{id_cmp}
 use Rattle.sorted_lists.specs.Sorted.{rank_by, IsBelowBy, IsRisingBy}
 use Rattle.doc_nodes.specs.declared.node.NodeNumber.{NodeNumber}
 

@@ -1,9 +1,6 @@
 -- What numbered nodes say of a document.
 use Rattle.std.specs.Prelude.{◌≡◌, ◌≢◌, ℕ, ℤ, List, [], Bool, ◌&&◌, not, Option, Some, None, is_some, option_and_then, slice_index_or, if◌then◌else◌, ◌⊎◌, length}
-use Rattle.lamport_id.specs.declared.id.Id.{Id}
-use Rattle.json_scalar.specs.declared.scalar.Scalar.{Scalar}
-use Rattle.op_core.specs.declared.cursor.Key.{Key}
-use Rattle.op_core.specs.declared.cursor.Tagged.{Tagged}
+use Rattle.doc_words.specs.Words.{Id, Scalar, Key, Tagged}
 use Rattle.crdt_rules.specs.Place.{is_within}
 use Rattle.crdt_rules.specs.Facts.{Facts}
 use Rattle.doc_words.specs.declared.role.Role.{Role}

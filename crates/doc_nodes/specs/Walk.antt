@@ -1,9 +1,8 @@
 -- The way to a place, as keys from the root down, and where it leads in a tree of numbered nodes.
 use Rattle.std.specs.Prelude.{◌≡◌, ℕ, ◌<◌, List, [], ◌∷◌, Option, Some, None, option_and_then, if◌then◌else◌}
 use Rattle.std.specs.Option.{option_map}
-use Rattle.op_core.specs.declared.cursor.Key.{Key}
+use Rattle.doc_words.specs.Words.{Key, Tagged}
 use Rattle.op_core.specs.declared.cursor.Key.TheVariants.{Doc}
-use Rattle.op_core.specs.declared.cursor.Tagged.{Tagged}
 use Rattle.crdt_rules.specs.Same.{key_eq}
 use Rattle.op_core.specs.Shape.{key_of, is_list, may_follow}
 use Rattle.doc_nodes.specs.declared.node.NodeNumber.{NodeNumber}

@@ -1,9 +1,6 @@
 -- Writes to one node, and what they say of the facts.
 use Rattle.std.specs.Prelude.{◌≡◌, ◌<◌, ℤ, List, length, Bool, Option, Some, None, IsSome, ◌&&◌, if◌then◌else◌}
-use Rattle.lamport_id.specs.declared.id.Id.{Id}
-use Rattle.json_scalar.specs.declared.scalar.Scalar.{Scalar}
-use Rattle.op_core.specs.declared.cursor.Key.{Key}
-use Rattle.op_core.specs.declared.cursor.Tagged.{Tagged}
+use Rattle.doc_words.specs.Words.{Id, Scalar, Key, Tagged}
 use Rattle.crdt_rules.specs.Same.{id_eq, key_eq, path_eq}
 use Rattle.crdt_rules.specs.Place.{is_within}
 use Rattle.crdt_rules.specs.Facts.{Facts}

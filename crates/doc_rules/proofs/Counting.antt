@@ -1,16 +1,10 @@
 -- The sum of a counter to which two replicas added, and what an assignment that knows of one of them leaves of it, computed.
 use Rattle.std.proofs.Common.{◌≡◌, ◌⊎◌, inl, inr, ℕ, ℤ, pos, negsuc, List, [], ◌∷◌, Some, Ok, refl, sym, ap, subst, ◌∙◌, codes, Contains, Less}
-use Rattle.lamport_id.specs.declared.id.Id.{Id}
-use Rattle.lamport_id.specs.Order.{id_cmp}
+use Rattle.doc_words.specs.Words.{Id, id_cmp, Key, Tagged, Mutation, Assign, Add, Op}
 use Rattle.json_scalar.specs.declared.scalar.Scalar.TheVariants.{Text as TextValue}
 use Rattle.json_scalar.specs.declared.scalar.Val.TheVariants.{Scalar as ScalarVal}
-use Rattle.op_core.specs.declared.cursor.Key.{Key}
 use Rattle.op_core.specs.declared.cursor.Key.TheVariants.{Doc, Text}
-use Rattle.op_core.specs.declared.cursor.Tagged.{Tagged}
 use Rattle.op_core.specs.declared.cursor.Tagged.TheVariants.{Map as MapAt}
-use Rattle.op_core.specs.declared.mutation.Mutation.{Mutation}
-use Rattle.op_core.specs.declared.mutation.Mutation.TheVariants.{Assign, Add}
-use Rattle.op_core.specs.Op.{Op}
 use Rattle.doc_words.specs.declared.ask.Look.TheVariants.{Sum}
 use Rattle.doc_words.specs.declared.ask.Query.TheVariants.{Look}
 use Rattle.doc_words.specs.declared.place.Step.TheVariants.{Get}

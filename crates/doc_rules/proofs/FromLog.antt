@@ -2,13 +2,8 @@
 use Rattle.std.proofs.Common.{◌≡◌, ℕ, ℤ, List, [], ◌∷◌, Bool, true, false, not, Option, Some, None, if◌then◌else◌, Contains, refl, sym, ap, ◌∙◌, map, filter}
 use Rattle.std.specs.List.{list_all}
 use Rattle.std.proofs.lemmas.Bool.{and_from, both_ways}
-use Rattle.lamport_id.specs.declared.id.Id.{Id}
-use Rattle.json_scalar.specs.declared.scalar.Scalar.{Scalar}
-use Rattle.json_scalar.specs.declared.scalar.Val.{Val}
+use Rattle.doc_words.specs.Words.{Id, Scalar, Val, Op, Key, Tagged}
 use Rattle.op_core.specs.Front.{id_of}
-use Rattle.op_core.specs.Op.{Op}
-use Rattle.op_core.specs.declared.cursor.Key.{Key}
-use Rattle.op_core.specs.declared.cursor.Tagged.{Tagged}
 use Rattle.list_laws.proofs.Members.{Contains-here, Contains-there}
 use Rattle.crdt_rules.specs.Dependencies.{is_logged, is_ready, missing}
 use Rattle.crdt_rules.specs.Effect.{number_added, scalar_put, value_put}

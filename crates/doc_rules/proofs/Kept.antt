@@ -3,13 +3,9 @@ use Rattle.std.proofs.Common.{◌≡◌, ◌≢◌, inl, inr, ℕ, ◌<◌, nat_
 use Rattle.std.specs.Prelude.{⊤, is_some}
 use Rattle.std.proofs.lemmas.Bool.{both_ways}
 use lib.Pointwise.{bytes_decides}
-use Rattle.lamport_id.specs.declared.id.Id.{Id}
+use Rattle.doc_words.specs.Words.{Id, Refusal, Op, Cursor, Mutation}
 use Rattle.lamport_id.specs.Name.{is_name}
-use Rattle.json_scalar.specs.declared.refusal.Refusal.{Refusal}
-use Rattle.op_core.specs.Op.{Op}
 use Rattle.op_core.specs.Shape.{is_mutation, is_shaped}
-use Rattle.op_core.specs.declared.cursor.Cursor.{Cursor}
-use Rattle.op_core.specs.declared.mutation.Mutation.{Mutation}
 use Rattle.crdt_rules.specs.Same.{id_eq}
 use Rattle.crdt_rules.specs.Dependencies.{is_logged, is_ready}
 use Rattle.crdt_rules.specs.Fits.{Fits}

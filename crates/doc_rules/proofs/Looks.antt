@@ -1,12 +1,7 @@
 -- A look at a tree that has the facts and the roles of a log is a look at what the log makes.
 use Rattle.std.proofs.Common.{◌≡◌, ℕ, List, Option, Result, Ok, Err, sym, ap, subst, ◌∙◌}
 use Rattle.std.specs.Prelude.{MatchResult, option_and_then}
-use Rattle.lamport_id.specs.declared.id.Id.{Id}
-use Rattle.json_scalar.specs.declared.refusal.Refusal.{Refusal}
-use Rattle.op_core.specs.Op.{Op}
-use Rattle.op_core.specs.declared.cursor.Cursor.{Cursor}
-use Rattle.op_core.specs.declared.cursor.Key.{Key}
-use Rattle.op_core.specs.declared.cursor.Tagged.{Tagged}
+use Rattle.doc_words.specs.Words.{Id, Refusal, Op, Cursor, Key, Tagged}
 use Rattle.doc_words.specs.declared.ask.Look.{Look}
 use Rattle.doc_words.specs.declared.ask.Query.TheVariants as query
 use Rattle.doc_words.specs.declared.place.Place.{Place}

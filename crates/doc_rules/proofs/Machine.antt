@@ -1,18 +1,11 @@
 -- The events of a replica on a few histories, computed.
 use Rattle.std.proofs.Common.{◌≡◌, inl, ℕ, pos, List, [], ◌∷◌, Ok, Err, refl, codes}
-use Rattle.lamport_id.specs.declared.id.Id.{Id}
+use Rattle.doc_words.specs.Words.{Id, Val, Cursor, Key, Tagged, Mutation, Assign, Insert, Delete, Op}
 use Rattle.json_scalar.specs.declared.refusal.Refusal.TheVariants.{BadFront, Forked, BadCursor, IdConflict, OwnName, AtHead, IndexPastEnd, NotInList}
 use Rattle.json_scalar.specs.declared.scalar.Scalar.TheVariants.{Text as TextValue, Int}
-use Rattle.json_scalar.specs.declared.scalar.Val.{Val}
 use Rattle.json_scalar.specs.declared.scalar.Val.TheVariants.{Scalar as ScalarVal, EmptyList}
-use Rattle.op_core.specs.declared.cursor.Cursor.{Cursor}
-use Rattle.op_core.specs.declared.cursor.Key.{Key}
 use Rattle.op_core.specs.declared.cursor.Key.TheVariants.{Doc, Text, Element, Head}
-use Rattle.op_core.specs.declared.cursor.Tagged.{Tagged}
 use Rattle.op_core.specs.declared.cursor.Tagged.TheVariants.{Map as MapAt, List as ListAt}
-use Rattle.op_core.specs.declared.mutation.Mutation.{Mutation}
-use Rattle.op_core.specs.declared.mutation.Mutation.TheVariants.{Assign, Insert, Delete}
-use Rattle.op_core.specs.Op.{Op}
 use Rattle.doc_rules.specs.Replica.{Replica}
 use Rattle.doc_rules.specs.Replica.Drains.{done, logs}
 use Rattle.doc_rules.specs.Events.{Event}

@@ -1,7 +1,6 @@
 -- Where memory is at hand, a command has one outcome.
 use Rattle.std.proofs.Common.{◌≡◌, ℕ, suc, Option, Some, None, refl, sym, ap, subst, ◌∙◌}
-use Rattle.lamport_id.specs.declared.id.Id.{Id}
-use Rattle.op_core.specs.Op.{Op}
+use Rattle.doc_words.specs.Words.{Id, Op}
 use Rattle.doc_words.specs.declared.ask.Command.{Command}
 use Rattle.doc_words.specs.declared.ask.Command.TheVariants.{Change, Deliver, Forget}
 use Rattle.doc_words.specs.declared.reply.Reply.{Reply}

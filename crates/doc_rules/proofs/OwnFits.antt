@@ -2,17 +2,11 @@
 use Rattle.std.proofs.Common.{◌≡◌, inl, inr, ◌+◌, ◌≤◌, nat_le, List, [], ◌∷◌, ◌++◌, length, Bool, true, false, true≢false, ◌&&◌, ◌==◌, not, Option, Ok, Contains, refl, sym, ap, subst, ◌∙◌, arith, le-leb, leb-true, eq-eqb}
 use Rattle.std.specs.List.{list_all}
 use Rattle.std.proofs.lemmas.Bool.{and_parts, and_from}
-use Rattle.lamport_id.specs.declared.id.Id.{Id}
+use Rattle.doc_words.specs.Words.{Id, Op, Cursor, Key, Tagged, Mutation, Assign, Insert, Delete, Add}
 use Rattle.lamport_id.specs.Name.{is_name}
 use Rattle.op_core.specs.Front.{covers, max_counter, is_ascending}
-use Rattle.op_core.specs.Op.{Op}
 use Rattle.op_core.specs.Shape.{is_id, is_entry, is_key, is_tagged, is_mutation, is_head, is_placed, is_shallow, is_allowed, ends_in_list, has_parts, has_form, has_front, key_of}
-use Rattle.op_core.specs.declared.cursor.Cursor.{Cursor}
-use Rattle.op_core.specs.declared.cursor.Key.{Key}
 use Rattle.op_core.specs.declared.cursor.Key.TheVariants.{Doc, Text, Element, Head}
-use Rattle.op_core.specs.declared.cursor.Tagged.{Tagged}
-use Rattle.op_core.specs.declared.mutation.Mutation.{Mutation}
-use Rattle.op_core.specs.declared.mutation.Mutation.TheVariants.{Assign, Insert, Delete, Add}
 use Rattle.list_laws.specs.Order.{ids}
 use Rattle.list_laws.proofs.Histories.{order_of_history}
 use Rattle.list_laws.proofs.Members.{Contains-nil, Contains-here, Contains-there, Contains-cases}

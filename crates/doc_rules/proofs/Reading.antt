@@ -1,16 +1,10 @@
 -- What is read where two assignments did not know of each other, computed.
 use Rattle.std.proofs.Common.{◌≡◌, ◌⊎◌, inl, inr, ℕ, List, [], ◌∷◌, Some, Ok, refl, sym, ap, subst, ◌∙◌, codes, Contains, Less}
-use Rattle.lamport_id.specs.declared.id.Id.{Id}
-use Rattle.lamport_id.specs.Order.{id_cmp}
-use Rattle.json_scalar.specs.declared.scalar.Scalar.{Scalar}
+use Rattle.doc_words.specs.Words.{Id, id_cmp, Scalar, Key, Tagged, Assign, Op}
 use Rattle.json_scalar.specs.declared.scalar.Scalar.TheVariants.{Text as TextValue}
 use Rattle.json_scalar.specs.declared.scalar.Val.TheVariants.{Scalar as ScalarVal}
-use Rattle.op_core.specs.declared.cursor.Key.{Key}
 use Rattle.op_core.specs.declared.cursor.Key.TheVariants.{Doc, Text}
-use Rattle.op_core.specs.declared.cursor.Tagged.{Tagged}
 use Rattle.op_core.specs.declared.cursor.Tagged.TheVariants.{Map as MapAt}
-use Rattle.op_core.specs.declared.mutation.Mutation.TheVariants.{Assign}
-use Rattle.op_core.specs.Op.{Op}
 use Rattle.list_laws.proofs.Members.{Contains-nil, Contains-here, Contains-there, Contains-cases}
 use Rattle.crdt_rules.specs.Effect.{scalar_put}
 use Rattle.crdt_rules.specs.Facts.{facts}

@@ -1,10 +1,8 @@
 -- What is refused changes nothing.
 use Rattle.std.proofs.Common.{◌≡◌, inl, inr, ℕ, ◌+◌, ◌-◌, nat_lt, List, ◌++◌, length, drop, replicate, Bool, true, false, Option, Some, None, Result, Ok, Err, if◌then◌else◌, refl, ap, subst, ◌∙◌, append-nil, arith}
 use Rattle.std.proofs.Math.Seq.{drop-length}
-use Rattle.json_scalar.specs.declared.refusal.Refusal.{Refusal}
+use Rattle.doc_words.specs.Words.{Refusal, Id, Op}
 use Rattle.json_scalar.specs.declared.refusal.Refusal.TheVariants.{SeatsFull}
-use Rattle.lamport_id.specs.declared.id.Id.{Id}
-use Rattle.op_core.specs.Op.{Op}
 use Rattle.doc_words.specs.declared.ask.Command.{Command}
 use Rattle.doc_words.specs.declared.ask.Command.TheVariants.{Change, Deliver, Forget}
 use Rattle.doc_words.specs.declared.ask.Query.{Query}

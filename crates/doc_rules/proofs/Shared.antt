@@ -5,11 +5,7 @@ use Rattle.std.proofs.lemmas.List.{length-replicate}
 use Rattle.std.proofs.lemmas.List.Elements.{All-replicate, All-append}
 use Rattle.std.proofs.lemmas.Bool.{and_parts}
 use Rattle.lamport_id.specs.Name.{is_name}
-use Rattle.lamport_id.specs.declared.id.Id.{Id}
-use Rattle.json_scalar.specs.declared.refusal.Refusal.{Refusal}
-use Rattle.op_core.specs.Op.{Op}
-use Rattle.op_core.specs.declared.cursor.Cursor.{Cursor}
-use Rattle.op_core.specs.declared.mutation.Mutation.{Mutation}
+use Rattle.doc_words.specs.Words.{Id, Refusal, Op, Cursor, Mutation}
 use Rattle.list_laws.proofs.Members.{Contains-nil}
 use Rattle.crdt_rules.specs.Log.{IsGood}
 use Rattle.doc_rules.specs.Cause.{cause_of}

@@ -4,10 +4,8 @@ use Rattle.std.specs.Ordering.{is_lt}
 use Rattle.std.proofs.lemmas.Bool.{and_from, cases_lt, false_from_ne_true}
 use Rattle.std.proofs.lemmas.List.Elements.{Contains-push_cases}
 use lib.Pointwise.{bytes_decides}
-use Rattle.lamport_id.specs.declared.id.Id.{Id}
-use Rattle.lamport_id.specs.Order.{name_cmp}
+use Rattle.doc_words.specs.Words.{Id, name_cmp, Op}
 use Rattle.op_core.specs.Front.{id_of, covers, max_counter, is_le, is_ascending}
-use Rattle.op_core.specs.Op.{Op}
 use Rattle.list_laws.proofs.IdOrder.{transitive, irreflexive}
 use Rattle.list_laws.proofs.Members.{Contains-nil, Contains-here, Contains-there, Contains-cases}
 use Rattle.crdt_rules.specs.Dependencies.{entry_of}

@@ -1,12 +1,7 @@
 -- What a replica answers where it is only read.
 use Rattle.std.specs.Prelude.{◌≡◌, ◌⊎◌, ℕ, List, map, filter, take, not, Result, Ok, Err, MatchResult}
-use Rattle.json_scalar.specs.declared.refusal.Refusal.{Refusal}
-use Rattle.json_scalar.specs.declared.refusal.Refusal.TheVariants.{NoMemory}
-use Rattle.op_core.specs.declared.cursor.Cursor.{Cursor}
-use Rattle.op_core.specs.declared.cursor.Key.{Key}
-use Rattle.op_core.specs.declared.cursor.Tagged.{Tagged}
+use Rattle.doc_words.specs.Words.{Refusal, NoMemory, Cursor, Key, Tagged, Op}
 use Rattle.op_core.specs.Front.{covers}
-use Rattle.op_core.specs.Op.{Op}
 use Rattle.doc_words.specs.declared.ask.Look.{Look}
 use Rattle.doc_words.specs.declared.ask.Look.TheVariants as look
 use Rattle.doc_words.specs.declared.ask.Query.{Query}

@@ -1,9 +1,8 @@
 -- A document that many seats share, and its events.
 use Rattle.std.specs.Prelude.{◌≡◌, ◌≢◌, ℕ, zero, suc, ◌+◌, ◌-◌, ◌≤◌, nat_lt, nat_le, ◌==◌, ◌&&◌, List, [], ◌∷◌, ◌++◌, length, replicate, take, drop, Result, Ok, Err, if◌then◌else◌}
 use Rattle.std.specs.List.{All}
-use Rattle.json_scalar.specs.declared.refusal.Refusal.{Refusal}
+use Rattle.doc_words.specs.Words.{Refusal, Op}
 use Rattle.json_scalar.specs.declared.refusal.Refusal.TheVariants.{SeatsFull}
-use Rattle.op_core.specs.Op.{Op}
 use Rattle.doc_words.specs.declared.ask.Command.{Command}
 use Rattle.doc_words.specs.declared.ask.Query.{Query}
 use Rattle.doc_words.specs.declared.reply.Reply.{Reply}

@@ -1,15 +1,11 @@
 -- Where a cursor's steps lead.
 use Rattle.std.specs.Prelude.{◌≡◌, ℕ, zero, suc, List, [], ◌∷◌, ◌++◌, length, nat_le, Bool, true, ◌&&◌, Option, Some, option_map, slice_get, Result, Ok, Err, ok_or, MatchResult, if◌then◌else◌, ⊤}
 use Rattle.std.specs.List.{list_any}
-use Rattle.lamport_id.specs.declared.id.Id.{Id}
-use Rattle.json_scalar.specs.declared.refusal.Refusal.{Refusal}
+use Rattle.doc_words.specs.Words.{Id, Refusal, Cursor, Key, Tagged}
 use Rattle.json_scalar.specs.declared.refusal.Refusal.TheVariants.{BadCursor, IndexPastEnd, AtHead, TooDeep}
 use Rattle.json_scalar.specs.Refusal.{and_then}
 use Rattle.op_core.specs.Limits.{longest_key, longest_path}
-use Rattle.op_core.specs.declared.cursor.Cursor.{Cursor}
-use Rattle.op_core.specs.declared.cursor.Key.{Key}
 use Rattle.op_core.specs.declared.cursor.Key.TheVariants.{Text, Element, Head}
-use Rattle.op_core.specs.declared.cursor.Tagged.{Tagged}
 use Rattle.op_core.specs.Shape.{is_head, is_placed, is_shallow, key_of}
 use Rattle.crdt_rules.specs.Same.{id_eq}
 use Rattle.crdt_rules.specs.Facts.{Facts}

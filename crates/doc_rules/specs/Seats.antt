@@ -1,8 +1,7 @@
 -- Seats of a document: what each was told, and what all of them were told at the end.
 use Rattle.std.specs.Prelude.{◌≡◌, ℕ, suc, ◌+◌, ◌<◌, ◌≤◌, List, [], ◌∷◌, ◌++◌, length, map, drop, sum}
-use Rattle.lamport_id.specs.declared.id.Id.{Id}
+use Rattle.doc_words.specs.Words.{Id, Op}
 use Rattle.json_scalar.specs.declared.refusal.Refusal.TheVariants.{NotOpen}
-use Rattle.op_core.specs.Op.{Op}
 use Rattle.doc_words.specs.declared.ask.Command.{Command}
 use Rattle.doc_words.specs.declared.ask.Query.{Query}
 use Rattle.doc_words.specs.declared.reply.Reply.{Reply}

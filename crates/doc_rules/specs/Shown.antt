@@ -3,14 +3,10 @@ use Rattle.std.specs.Prelude.{◌≡◌, ◌⊎◌, ℕ, ℤ, List, [], ◌∷�
 use Rattle.std.specs.Fmt.{signed_decimal}
 use Rattle.serde_json.specs.Data.{Data, string, array, Items, no_items, item}
 use Rattle.serde_json.specs.Written.{compact_text}
-use Rattle.lamport_id.specs.declared.id.Id.{Id}
+use Rattle.doc_words.specs.Words.{Id, Scalar, Val, Key, Tagged}
 use Rattle.json_scalar.specs.Scalar.{scalar_data}
-use Rattle.json_scalar.specs.declared.scalar.Scalar.{Scalar}
-use Rattle.json_scalar.specs.declared.scalar.Val.{Val}
 use Rattle.json_scalar.specs.declared.scalar.Val.TheVariants.{EmptyMap, EmptyList}
-use Rattle.op_core.specs.declared.cursor.Key.{Key}
 use Rattle.op_core.specs.declared.cursor.Key.TheVariants.{Text, Element}
-use Rattle.op_core.specs.declared.cursor.Tagged.{Tagged}
 use Rattle.op_core.specs.Wire.{list_data, id_data}
 use Rattle.crdt_rules.specs.Facts.{Facts}
 use Rattle.doc_rules.specs.Reads.{Values, into_map, into_list, IsPresent, AreKeys, AreElements, AreEntries, AreTerms, total}

@@ -4,15 +4,8 @@
 
 ghost use Rattle.std.specs.Prelude.{◌≡◌, ◌≢◌, ◌⊎◌, ℕ, ◌+◌, ◌≤◌, true, false, List, [], ◌∷◌, ◌++◌, length, sum, Contains, Result, Ok, Err};
 ghost use Rattle.lamport_id.specs.Name.{is_name};
-ghost use Rattle.lamport_id.specs.declared.id.Id.{Id};
-ghost use Rattle.json_scalar.specs.declared.refusal.Refusal.{Refusal};
-ghost use Rattle.json_scalar.specs.declared.scalar.Val.{Val};
-ghost use Rattle.op_core.specs.declared.cursor.Cursor.{Cursor};
-ghost use Rattle.op_core.specs.declared.cursor.Key.{Key};
-ghost use Rattle.op_core.specs.declared.cursor.Tagged.{Tagged};
-ghost use Rattle.op_core.specs.declared.mutation.Mutation.{Mutation};
+ghost use Rattle.doc_words.specs.Words.{Id, Refusal, Val, Cursor, Key, Tagged, Mutation, Op};
 ghost use Rattle.op_core.specs.Front.{covers};
-ghost use Rattle.op_core.specs.Op.{Op};
 ghost use Rattle.op_core.specs.Shape.{is_mutation, is_shaped};
 ghost use Rattle.doc_words.specs.declared.ask.Command.{Command};
 ghost use Rattle.doc_words.specs.declared.ask.Look.{Look};

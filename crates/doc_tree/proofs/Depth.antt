@@ -1,10 +1,8 @@
 -- No place that is present lies deeper than there are nodes.
 use Rattle.std.proofs.Common.{◌≡◌, ℕ, ◌<◌, ◌≤◌, ◌+◌, List, [], ◌∷◌, length, true, Option, Some, None, is_some, refl, sym, ap, arith, true≢false}
 use Rattle.std.specs.Option.{option_map}
-use Rattle.lamport_id.specs.declared.id.Id.{Id}
-use Rattle.op_core.specs.declared.cursor.Key.{Key}
+use Rattle.doc_words.specs.Words.{Id, Key, Tagged}
 use Rattle.op_core.specs.declared.cursor.Key.TheVariants.{Doc}
-use Rattle.op_core.specs.declared.cursor.Tagged.{Tagged}
 use Rattle.op_core.specs.Shape.{key_of, may_follow}
 use Rattle.crdt_rules.specs.Same.{key_eq}
 use Rattle.doc_nodes.specs.declared.node.NodeNumber.{NodeNumber}

@@ -2,10 +2,8 @@
 use Rattle.std.proofs.Common.{◌≡◌, ℕ, ℤ, ◌<◌, ◌≤◌, List, [], ◌∷◌, length, set, Option, Some, None, Bool, true, false, if◌then◌else◌, not, ◌&&◌, inl, ⊎_elim, refl, sym, ap, ◌∙◌, subst, arith}
 use Rattle.std.specs.Prelude.{IsSome, option_and_then}
 use Rattle.std.specs.Option.{option_map}
-use Rattle.lamport_id.specs.declared.id.Id.{Id}
-use Rattle.op_core.specs.declared.cursor.Key.{Key}
+use Rattle.doc_words.specs.Words.{Id, Key, Tagged, Scalar}
 use Rattle.op_core.specs.declared.cursor.Key.TheVariants.{Doc, Element}
-use Rattle.op_core.specs.declared.cursor.Tagged.{Tagged}
 use Rattle.op_core.specs.Front.{covers}
 use Rattle.op_core.specs.Shape.{key_of, may_follow}
 use Rattle.crdt_rules.specs.Same.{key_eq, id_eq, path_eq}
@@ -19,7 +17,6 @@ use Rattle.doc_nodes.specs.Marks.{keys_below, keys_to, HasRoomAlong, IsReady, Ma
 use Rattle.doc_nodes.proofs.Clearing.{IsPartCleared, same_children, tree-cleared}
 use Rattle.doc_nodes.specs.Writes.{put_facts, put_role, enter_facts, with_scalar, with_number, add_facts, add_role, count_facts}
 use Rattle.crdt_rules.specs.Place.{is_within}
-use Rattle.json_scalar.specs.declared.scalar.Scalar.{Scalar}
 use Rattle.doc_words.specs.declared.role.Role.TheVariants.{Through}
 use Rattle.doc_nodes.proofs.Places.{way_to, node_within}
 use Rattle.doc_tree.proofs.ClearFacts.{facts-cleared, role-cleared}

@@ -1,9 +1,6 @@
 -- What is read at a place.
 use Rattle.std.proofs.Common.{◌≡◌, ℤ, List, [], Some, None, sym, ap}
-use Rattle.lamport_id.specs.declared.id.Id.{Id}
-use Rattle.json_scalar.specs.declared.scalar.Scalar.{Scalar}
-use Rattle.op_core.specs.declared.cursor.Key.{Key}
-use Rattle.op_core.specs.declared.cursor.Tagged.{Tagged}
+use Rattle.doc_words.specs.Words.{Id, Scalar, Key, Tagged}
 use Rattle.doc_words.specs.declared.role.Role.{Role}
 use Rattle.presence_set.specs.ById.{get}
 use Rattle.list_order.specs.Entries.{ids_of}

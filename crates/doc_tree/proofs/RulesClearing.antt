@@ -1,10 +1,6 @@
 -- The clearing of the rules, told by the facts.
 use Rattle.std.proofs.Common.{◌≡◌, List, [], ◌∷◌, Bool, true, false, ◌||◌, if◌then◌else◌, refl, sym, ap, ◌∙◌}
-use Rattle.lamport_id.specs.declared.id.Id.{Id}
-use Rattle.op_core.specs.declared.cursor.Key.{Key}
-use Rattle.op_core.specs.declared.cursor.Tagged.{Tagged}
-use Rattle.op_core.specs.declared.mutation.Mutation.TheVariants.{Delete}
-use Rattle.op_core.specs.Op.{Op}
+use Rattle.doc_words.specs.Words.{Id, Key, Tagged, Delete, Op}
 use Rattle.crdt_rules.specs.Same.{tagged_eq}
 use Rattle.crdt_rules.specs.Context.{Context, node, child, register, counter, present, order, descend}
 use Rattle.crdt_rules.specs.Facts.{Facts, facts}

@@ -1,17 +1,9 @@
 -- The step of an operation, from what it does at one place.
 use Rattle.std.proofs.Common.{◌≡◌, ◌<◌, ℤ, List, length, set, Bool, true, false, ◌&&◌, ◌||◌, not, if◌then◌else◌, Option, Some, None, refl, sym, ap, ◌∙◌, subst}
 use Rattle.std.specs.Prelude.{IsSome, option_and_then}
-use Rattle.lamport_id.specs.declared.id.Id.{Id}
-use Rattle.json_scalar.specs.declared.scalar.Scalar.{Scalar}
-use Rattle.json_scalar.specs.declared.scalar.Val.{Val}
-use Rattle.op_core.specs.declared.cursor.Key.{Key}
+use Rattle.doc_words.specs.Words.{Id, Scalar, Val, Key, Tagged, Mutation, Assign, Insert, Delete, Add, Op, id_cmp}
 use Rattle.op_core.specs.declared.cursor.Key.TheVariants.{Element}
-use Rattle.op_core.specs.declared.cursor.Tagged.{Tagged}
-use Rattle.op_core.specs.declared.mutation.Mutation.{Mutation}
-use Rattle.op_core.specs.declared.mutation.Mutation.TheVariants.{Assign, Insert, Delete, Add}
-use Rattle.op_core.specs.Op.{Op}
 use Rattle.crdt_rules.specs.Same.{id_eq, key_eq, path_eq}
-use Rattle.lamport_id.specs.Order.{id_cmp}
 use Rattle.crdt_rules.specs.Place.{is_within}
 use Rattle.list_laws.specs.Order.{insert_after}
 use Rattle.crdt_rules.specs.Effect.{scalar_in, path_of}

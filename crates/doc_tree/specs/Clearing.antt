@@ -1,8 +1,6 @@
 -- The clearing of the rules at any place of a document.
 use Rattle.std.specs.Prelude.{List, [], ◌∷◌, Bool, if◌then◌else◌}
-use Rattle.lamport_id.specs.declared.id.Id.{Id}
-use Rattle.op_core.specs.declared.cursor.Key.{Key}
-use Rattle.op_core.specs.declared.cursor.Tagged.{Tagged}
+use Rattle.doc_words.specs.Words.{Id, Key, Tagged}
 use Rattle.crdt_rules.specs.Same.{tagged_eq}
 use Rattle.crdt_rules.specs.Context.{Context, node, child, register, counter, present, order, clear_elem}
 

@@ -1,9 +1,6 @@
 -- What the tree of a document says.
 use Rattle.std.specs.Prelude.{List, Option, Bool}
-use Rattle.lamport_id.specs.declared.id.Id.{Id}
-use Rattle.json_scalar.specs.declared.scalar.Scalar.{Scalar}
-use Rattle.op_core.specs.declared.cursor.Key.{Key}
-use Rattle.op_core.specs.declared.cursor.Tagged.{Tagged}
+use Rattle.doc_words.specs.Words.{Id, Scalar, Key, Tagged}
 use Rattle.crdt_rules.specs.Facts.{Facts}
 use Rattle.doc_words.specs.declared.role.Role.{Role}
 use Rattle.doc_nodes.specs.declared.node.Node.{Node}

@@ -1,15 +1,8 @@
 -- When the tree has all that an operation needs, and what the operation then does to roles.
 use Rattle.std.specs.Prelude.{◌≡◌, ◌<◌, List, length, Bool, true, false, ◌&&◌, Option, Some, None, IsSome, Contains, if◌then◌else◌}
 use Rattle.std.specs.Option.{ForSome}
-use Rattle.lamport_id.specs.declared.id.Id.{Id}
-use Rattle.json_scalar.specs.declared.scalar.Scalar.{Scalar}
-use Rattle.json_scalar.specs.declared.scalar.Val.{Val}
+use Rattle.doc_words.specs.Words.{Id, Scalar, Val, Key, Tagged, Mutation, Assign, Insert, Delete, Add, Op}
 use Rattle.json_scalar.specs.declared.scalar.Val.TheVariants.{Scalar as ScalarVal, EmptyMap, EmptyList}
-use Rattle.op_core.specs.declared.cursor.Key.{Key}
-use Rattle.op_core.specs.declared.cursor.Tagged.{Tagged}
-use Rattle.op_core.specs.declared.mutation.Mutation.{Mutation}
-use Rattle.op_core.specs.declared.mutation.Mutation.TheVariants.{Assign, Insert, Delete, Add}
-use Rattle.op_core.specs.Op.{Op}
 use Rattle.crdt_rules.specs.Same.{id_eq, key_eq, path_eq}
 use Rattle.crdt_rules.specs.Effect.{marks, clears, is_delete, is_insertion, scalar_put, path_of, end_key}
 use Rattle.crdt_rules.specs.Context.{reference}

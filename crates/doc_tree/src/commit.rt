@@ -1,11 +1,8 @@
 //! What an operation does to the nodes.
 ghost use Rattle.std.specs.Prelude.{◌≡◌, ◌<◌, length, List, ◌&&◌, Some, None, slice_set, Contains, if◌then◌else◌};
 ghost use Rattle.std.specs.Option.{ForSome};
-ghost use Rattle.lamport_id.specs.declared.id.Id.{Id};
-ghost use Rattle.op_core.specs.declared.cursor.Key.{Key};
-ghost use Rattle.op_core.specs.declared.cursor.Tagged.{Tagged};
+ghost use Rattle.doc_words.specs.Words.{Id, Key, Tagged, id_cmp};
 ghost use Rattle.op_core.specs.Front.{covers};
-ghost use Rattle.lamport_id.specs.Order.{id_cmp};
 ghost use Rattle.op_core.specs.declared.cursor.Key.TheVariants.{Element};
 ghost use Rattle.list_laws.specs.Order.{insert_after};
 ghost use Rattle.crdt_rules.specs.Place.{is_within};

@@ -3,8 +3,7 @@ use Rattle.std.proofs.Common.{◌≡◌, List, [], ◌∷◌, Bool, true, false,
 use Rattle.std.proofs.lemmas.Bool.{false_from_ne_true}
 use Rattle.std.specs.Ordering.{is_lt}
 use Rattle.std.specs.declared.cmp.Ordering.TheVariants.{Less}
-use Rattle.lamport_id.specs.declared.id.Id.{Id}
-use Rattle.lamport_id.specs.Order.{id_cmp}
+use Rattle.doc_words.specs.Words.{Id, id_cmp}
 use Rattle.list_laws.proofs.Members.{Contains-nil, Contains-here, Contains-there, Contains-cases}
 use Rattle.op_core.proofs.Fronts.{is_Less}
 use Rattle.crdt_rules.specs.Same.{id_eq}

@@ -1,14 +1,8 @@
 -- A tree that grows with a log has the facts of the log, and each present id its role.
 use Rattle.std.proofs.Common.{◌≡◌, List, [], ◌∷◌, ◌++◌, Bool, true, false, ◌&&◌, Option, Some, None, if◌then◌else◌, refl, sym, ◌∙◌}
-use Rattle.lamport_id.specs.declared.id.Id.{Id}
-use Rattle.json_scalar.specs.declared.scalar.Scalar.{Scalar}
+use Rattle.doc_words.specs.Words.{Id, Scalar, Key, Tagged, Mutation, Assign, Insert, Delete, Add, Op}
 use Rattle.json_scalar.specs.declared.scalar.Val.TheVariants.{Scalar as Plain, EmptyMap, EmptyList}
-use Rattle.op_core.specs.declared.cursor.Key.{Key}
-use Rattle.op_core.specs.declared.cursor.Tagged.{Tagged}
-use Rattle.op_core.specs.declared.mutation.Mutation.{Mutation}
-use Rattle.op_core.specs.declared.mutation.Mutation.TheVariants.{Assign, Insert, Delete, Add}
 use Rattle.op_core.specs.Front.{covers}
-use Rattle.op_core.specs.Op.{Op}
 use Rattle.crdt_rules.specs.Context.{empty}
 use Rattle.crdt_rules.specs.Effect.{path_of, end_key, marks, clears}
 use Rattle.crdt_rules.specs.Facts.{facts, step_facts, ends_here}

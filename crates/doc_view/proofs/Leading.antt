@@ -1,7 +1,6 @@
 -- Steps of a cursor, one after another.
 use Rattle.std.proofs.Common.{◌≡◌, ℕ, ◌+◌, ◌<◌, List, [], ◌∷◌, length, get_or, drop, Result, Ok, Err, refl, sym, subst}
-use Rattle.json_scalar.specs.declared.refusal.Refusal.{Refusal}
-use Rattle.op_core.specs.declared.cursor.Cursor.{Cursor}
+use Rattle.doc_words.specs.Words.{Refusal, Cursor}
 use Rattle.crdt_rules.specs.Facts.{Facts}
 use Rattle.doc_words.specs.declared.place.Step.{Step}
 use Rattle.doc_rules.specs.Resolve.{Goes, Leads}

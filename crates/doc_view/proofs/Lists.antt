@@ -1,10 +1,8 @@
 -- Elements of a list, one more at the end.
 use Rattle.std.proofs.Common.{◌≡◌, ℕ, ◌+◌, ◌<◌, List, [], ◌∷◌, ◌++◌, length, get_or, take, drop, Bool, true, false, true≢false, Decides, if◌then◌else◌, refl, sym, ap, append-nil, subst, ◌∙◌}
 use Rattle.std.proofs.lemmas.List.{take_more, drop_more}
-use Rattle.lamport_id.specs.declared.id.Id.{Id}
-use Rattle.json_scalar.specs.declared.scalar.Scalar.{Scalar}
+use Rattle.doc_words.specs.Words.{Id, Scalar, Tagged}
 use Rattle.op_core.specs.declared.cursor.Key.TheVariants.{Element}
-use Rattle.op_core.specs.declared.cursor.Tagged.{Tagged}
 use Rattle.crdt_rules.specs.Facts.{Facts}
 use Rattle.doc_rules.specs.Reads.{AreValues, HaveValues}
 use Rattle.doc_rules.specs.Sorted.{AreThose}

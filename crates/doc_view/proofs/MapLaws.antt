@@ -3,16 +3,13 @@ use Rattle.std.proofs.Common.{◌≡◌, ℕ, ◌+◌, ◌<◌, List, [], ◌∷
 use Rattle.std.specs.Ordering.{is_lt}
 use Rattle.std.specs.declared.cmp.Ordering.TheVariants.{Less}
 use Rattle.std.proofs.lemmas.List.Elements.{Contains-append_left, Contains-append_right}
-use Rattle.lamport_id.specs.declared.id.Id.{Id}
-use Rattle.lamport_id.specs.Order.{name_cmp}
-use Rattle.op_core.specs.declared.cursor.Key.{Key}
+use Rattle.doc_words.specs.Words.{Id, name_cmp, Key, Tagged}
 use Rattle.op_core.specs.declared.cursor.Key.TheVariants.{Doc, Text, Element, Head}
 use Rattle.list_laws.proofs.Members.{Contains-nil, Contains-here, Contains-there, Contains-cases}
 use Rattle.crdt_rules.specs.Facts.{Facts}
 use Rattle.doc_nodes.specs.declared.node.NodeNumber.{NodeNumber}
 use Rattle.doc_nodes.specs.KeyOrder as key_order
 use Rattle.doc_nodes.proofs.KeyOrder.{text_lt}
-use Rattle.op_core.specs.declared.cursor.Tagged.{Tagged}
 use Rattle.doc_rules.specs.Reads.{AreKeys, IsPresent, into_map}
 use Rattle.doc_rules.specs.Sorted.{IsRising, AreThose}
 use Rattle.doc_rules.specs.Sorted.AreThose.{none, keep, skip}

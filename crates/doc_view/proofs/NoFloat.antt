@@ -3,9 +3,8 @@ use Rattle.std.proofs.Common.{◌≡◌, ℤ, pos, negsuc, List, [], ◌∷◌, 
 use Rattle.serde_json.specs.Data.{Data}
 use Rattle.serde_json.specs.View.{items_of}
 use Rattle.serde_json.specs.Written.{has_float, items_have_float}
-use Rattle.lamport_id.specs.declared.id.Id.{Id}
+use Rattle.doc_words.specs.Words.{Id, Scalar}
 use Rattle.json_scalar.specs.Scalar.{scalar_data}
-use Rattle.json_scalar.specs.declared.scalar.Scalar.{Scalar}
 use Rattle.json_scalar.specs.declared.scalar.Scalar.TheVariants.{Int, Text, Bool, Null}
 use Rattle.doc_rules.specs.Shown.{Shown, MapShown, ListShown, Fields, Elements, shown, no_map, a_map, no_list, a_list, no_fields, field, no_elements, element, entry_data, count_branch, shown_data, map_branch, list_branch, fields_data, elements_data}
 

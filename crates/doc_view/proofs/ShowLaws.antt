@@ -5,15 +5,10 @@ use Rattle.std.proofs.lemmas.List.{map-append}
 use Rattle.serde_json.specs.Data.{Data, string, array}
 use Rattle.serde_json.specs.View.{items_of, view}
 use Rattle.serde_json.specs.declared.value.Value.{Value}
-use Rattle.lamport_id.specs.declared.id.Id.{Id}
+use Rattle.doc_words.specs.Words.{Id, Refusal, Scalar, Val, Key, Tagged}
 use Rattle.json_scalar.specs.Writing.{Writes}
-use Rattle.json_scalar.specs.declared.refusal.Refusal.{Refusal}
-use Rattle.json_scalar.specs.declared.scalar.Scalar.{Scalar}
-use Rattle.json_scalar.specs.declared.scalar.Val.{Val}
 use Rattle.json_scalar.specs.declared.scalar.Val.TheVariants.{EmptyMap, EmptyList}
-use Rattle.op_core.specs.declared.cursor.Key.{Key}
 use Rattle.op_core.specs.declared.cursor.Key.TheVariants.{Doc, Text, Element, Head}
-use Rattle.op_core.specs.declared.cursor.Tagged.{Tagged}
 use Rattle.op_core.specs.Wire.{list_data}
 use Rattle.list_laws.proofs.Members.{Contains-nil, Contains-here, Contains-cases}
 use Rattle.crdt_rules.proofs.Tests.{any_at, any_from}

@@ -1,10 +1,7 @@
 -- What is read by the number of a node.
 use Rattle.std.specs.Prelude.{◌≡◌, ℕ, List, Option, Some, None, Contains}
-use Rattle.lamport_id.specs.declared.id.Id.{Id}
-use Rattle.json_scalar.specs.declared.scalar.Scalar.{Scalar}
-use Rattle.op_core.specs.declared.cursor.Key.{Key}
+use Rattle.doc_words.specs.Words.{Id, Scalar, Key, Tagged}
 use Rattle.op_core.specs.declared.cursor.Key.TheVariants.{Text, Element}
-use Rattle.op_core.specs.declared.cursor.Tagged.{Tagged}
 use Rattle.crdt_rules.specs.Facts.{Facts}
 use Rattle.doc_nodes.specs.declared.node.Node.{Node}
 use Rattle.doc_nodes.specs.declared.node.NodeNumber.{NodeNumber}

@@ -1,10 +1,7 @@
 -- What a reader of a tree answers.
 use Rattle.std.specs.Prelude.{◌≡◌, ℕ, List, Option, slice_get, Result, Err, MatchBool, MatchResult}
-use Rattle.json_scalar.specs.declared.refusal.Refusal.{Refusal}
-use Rattle.json_scalar.specs.declared.refusal.Refusal.TheVariants.{AtHead, NoMemory}
-use Rattle.op_core.specs.declared.cursor.Cursor.{Cursor}
-use Rattle.op_core.specs.declared.cursor.Key.{Key}
-use Rattle.op_core.specs.declared.cursor.Tagged.{Tagged}
+use Rattle.doc_words.specs.Words.{Refusal, NoMemory, Cursor, Key, Tagged}
+use Rattle.json_scalar.specs.declared.refusal.Refusal.TheVariants.{AtHead}
 use Rattle.op_core.specs.Shape.{is_head}
 use Rattle.doc_rules.specs.Sorted.{AreThose}
 

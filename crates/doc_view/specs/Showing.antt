@@ -1,11 +1,8 @@
 -- What the parts of a shown element stand for, and their JSON.
 use Rattle.std.specs.Prelude.{◌≡◌, ℕ, List, [], ◌∷◌, map, Bool, true, false, Option}
 use Rattle.serde_json.specs.Data.{Data, string}
-use Rattle.lamport_id.specs.declared.id.Id.{Id}
-use Rattle.json_scalar.specs.declared.scalar.Scalar.{Scalar}
-use Rattle.op_core.specs.declared.cursor.Key.{Key}
+use Rattle.doc_words.specs.Words.{Id, Scalar, Key, Tagged}
 use Rattle.op_core.specs.declared.cursor.Key.TheVariants.{Text, Element}
-use Rattle.op_core.specs.declared.cursor.Tagged.{Tagged}
 use Rattle.op_core.specs.Wire.{list_data}
 use Rattle.doc_words.specs.declared.role.Role.{Role}
 use Rattle.doc_words.specs.declared.role.Role.TheVariants as role

@@ -1,8 +1,6 @@
 -- The values that the roles and registers of a tree tell.
 use Rattle.std.specs.Prelude.{List, [], ◌∷◌, Option, Some, None, option_and_then}
-use Rattle.lamport_id.specs.declared.id.Id.{Id}
-use Rattle.json_scalar.specs.declared.scalar.Scalar.{Scalar}
-use Rattle.json_scalar.specs.declared.scalar.Val.{Val}
+use Rattle.doc_words.specs.Words.{Id, Scalar, Val}
 use Rattle.doc_words.specs.declared.role.Role.{Role}
 use Rattle.presence_set.specs.ById.{get}
 use Rattle.doc_nodes.specs.declared.node.Node.{Node}

@@ -1,11 +1,10 @@
 //! Where cursors lead.
 ghost use Rattle.std.specs.Prelude.{◌≡◌, ◌≢◌, ◌&&◌, List, [], Ok, Err, ok_or};
 ghost use Rattle.std.specs.List.{list_any};
-ghost use Rattle.lamport_id.specs.declared.id.Id.{Id};
-ghost use Rattle.json_scalar.specs.declared.refusal.Refusal.TheVariants.{NoMemory, IndexPastEnd};
-ghost use Rattle.json_scalar.specs.Refusal.{UnlessMemory, and_then};
+ghost use Rattle.doc_words.specs.Words.{Id, NoMemory, UnlessMemory, Cursor};
+ghost use Rattle.json_scalar.specs.declared.refusal.Refusal.TheVariants.{IndexPastEnd};
+ghost use Rattle.json_scalar.specs.Refusal.{and_then};
 ghost use Rattle.op_core.specs.Shape.{is_placed};
-ghost use Rattle.op_core.specs.declared.cursor.Cursor.{Cursor};
 ghost use Rattle.op_core.specs.declared.cursor.Key.TheVariants.{Text};
 ghost use Rattle.doc_words.specs.declared.place.Step.TheVariants.{Index};
 ghost use Rattle.doc_rules.specs.Reads.{into_map, into_list, AreElements};

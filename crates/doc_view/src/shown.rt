@@ -1,8 +1,7 @@
 //! Whole elements.
 ghost use Rattle.std.specs.Prelude.{◌≡◌, ◌<◌, ◌∷◌, [], List, length, Contains, map, option_map};
 ghost use Rattle.serde_json.specs.View.{view};
-ghost use Rattle.op_core.specs.declared.cursor.Key.{Key};
-ghost use Rattle.op_core.specs.declared.cursor.Tagged.{Tagged};
+ghost use Rattle.doc_words.specs.Words.{Key, Tagged};
 ghost use Rattle.doc_nodes.specs.declared.node.NodeNumber.{NodeNumber};
 ghost use Rattle.doc_nodes.specs.KeyOrder.{IsRising};
 ghost use Rattle.doc_nodes.specs.Nodes.{node_of};

@@ -9,9 +9,7 @@ use Rattle.std.proofs.lemmas.List.{length-append, length-map, map-append, take-a
 use Rattle.std.proofs.lemmas.List.Elements.{filter-append, Contains-get_or, Contains-append_left, Contains-append_right, Contains-append_cases}
 use Rattle.std.proofs.lemmas.List.Sorted.{IsPermutation-sym, Contains-permutation}
 use Rattle.slab.specs.Slab.{Slab, get}
-use Rattle.lamport_id.specs.Order.{id_cmp}
-use Rattle.lamport_id.specs.declared.id.Id.{Id}
-use Rattle.op_core.specs.Op.{Op}
+use Rattle.doc_words.specs.Words.{id_cmp, Id, Op}
 use Rattle.crdt_rules.specs.Same.{id_eq}
 use Rattle.doc_rules.specs.Sorted.{IsRising}
 use Rattle.op_log.specs.Sorted.{IsPlace, IsGap}

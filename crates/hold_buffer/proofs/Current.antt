@@ -6,9 +6,8 @@ use Rattle.std.proofs.lemmas.List.Elements.{Contains-append_left, Contains-appen
 use Rattle.std.proofs.lemmas.List.Folds.{list_any-append}
 use Rattle.std.proofs.lemmas.List.Sorted.{IsPermutation-sym, Contains-permutation}
 use Rattle.slab.specs.Slab.{Slab, get}
-use Rattle.lamport_id.specs.declared.id.Id.{Id}
+use Rattle.doc_words.specs.Words.{Id, Op}
 use Rattle.op_core.specs.Front.{id_of}
-use Rattle.op_core.specs.Op.{Op}
 use Rattle.crdt_rules.specs.Same.{id_eq}
 use Rattle.crdt_rules.specs.Dependencies.{is_logged, is_ready, missing}
 use Rattle.doc_rules.specs.Replica.{put_among}

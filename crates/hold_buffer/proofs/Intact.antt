@@ -5,9 +5,7 @@ use Rattle.std.specs.Ordering.{is_lt}
 use Rattle.std.specs.List.Sorted.{IsPartitionPoint}
 use Rattle.std.proofs.lemmas.List.{length-append, take-append-drop}
 use Rattle.slab.specs.Slab.{Slab}
-use Rattle.lamport_id.specs.Order.{id_cmp}
-use Rattle.lamport_id.specs.declared.id.Id.{Id}
-use Rattle.op_core.specs.Op.{Op}
+use Rattle.doc_words.specs.Words.{id_cmp, Id, Op}
 use Rattle.crdt_rules.specs.Same.{id_eq}
 use Rattle.crdt_rules.specs.Dependencies.{is_ready, missing}
 use Rattle.doc_rules.specs.Replica.{put_among}

@@ -8,8 +8,7 @@ use Rattle.std.proofs.lemmas.List.{length-append, length-take, get_or-take, get_
 use Rattle.std.proofs.lemmas.List.Elements.{filter-append, Contains-get_or}
 use Rattle.std.proofs.lemmas.List.Sorted.{sum_by-IsPermutation, sorted_far, ranks_by}
 use Rattle.std.proofs.lemmas.List.Sums.{length-filter}
-use Rattle.lamport_id.specs.Order.{id_cmp}
-use Rattle.lamport_id.specs.declared.id.Id.{Id}
+use Rattle.doc_words.specs.Words.{id_cmp, Id}
 use Rattle.op_core.proofs.Fronts.{is_Less}
 use Rattle.crdt_rules.specs.Same.{id_eq}
 use Rattle.list_laws.proofs.Members.{Contains-here}

@@ -8,12 +8,9 @@ use Rattle.std.proofs.lemmas.Bool.{false_from_ne_true}
 use Rattle.std.proofs.lemmas.List.{length-map, take-append-drop}
 use Rattle.std.proofs.lemmas.List.Elements.{filter_map-append, filter-append, Contains-get_or, Contains-append_left, Contains-append_right, Contains-append_cases}
 use Rattle.std.proofs.lemmas.Bool.Decides.{nat_tests}
-use Rattle.json_scalar.specs.declared.refusal.Refusal.{Refusal}
-use Rattle.json_scalar.specs.declared.refusal.Refusal.TheVariants.{IdConflict, HeldFull, NoMemory}
+use Rattle.doc_words.specs.Words.{Refusal, NoMemory, id_cmp, Id, Op}
+use Rattle.json_scalar.specs.declared.refusal.Refusal.TheVariants.{IdConflict, HeldFull}
 use Rattle.slab.specs.Slab.{Slab, get, Updates}
-use Rattle.lamport_id.specs.Order.{id_cmp}
-use Rattle.lamport_id.specs.declared.id.Id.{Id}
-use Rattle.op_core.specs.Op.{Op}
 use Rattle.crdt_rules.specs.Same.{id_eq}
 use Rattle.doc_rules.specs.Replica.{find_id}
 use Rattle.crdt_rules.specs.Dependencies.{is_logged}

@@ -1,10 +1,8 @@
 -- What a buffer shows of itself.
 use Rattle.std.specs.Prelude.{List, length, Bool, true, false, nat_lt, Result, Ok, Err, ⊤, Contains, ◌↔◌}
-use Rattle.lamport_id.specs.declared.id.Id.{Id}
-use Rattle.json_scalar.specs.declared.refusal.Refusal.{Refusal}
+use Rattle.doc_words.specs.Words.{Id, Refusal, Op}
 use Rattle.json_scalar.specs.declared.refusal.Refusal.TheVariants.{IdConflict, HeldFull}
 use Rattle.op_core.specs.Limits.{most_held}
-use Rattle.op_core.specs.Op.{Op}
 use Rattle.crdt_rules.specs.Dependencies.{is_logged, missing}
 use Rattle.hold_buffer.specs.declared.wait.Wait.{Wait}
 

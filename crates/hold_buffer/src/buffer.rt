@@ -1,9 +1,7 @@
 //! The buffer.
 ghost use Rattle.std.specs.Prelude.{◌≡◌, ◌↔◌, List, [], ◌∷◌, ◌++◌, ◌+◌, length, ◌==◌, map, filter, find, not, true, false, IsTrue, OnOk, OnErr, OnSome, Some, IfSome, Ok, Contains};
 ghost use Rattle.std.specs.Option.{option_map, option_copied};
-ghost use Rattle.lamport_id.specs.Order.{id_cmp};
-ghost use Rattle.json_scalar.specs.Refusal.{UnlessMemory};
-ghost use Rattle.op_core.specs.Op.{Op};
+ghost use Rattle.doc_words.specs.Words.{id_cmp, UnlessMemory, Op};
 ghost use Rattle.crdt_rules.specs.Same.{id_eq};
 ghost use Rattle.doc_rules.specs.Sorted.{IsRising};
 ghost use Rattle.doc_rules.specs.Replica.{find_id};

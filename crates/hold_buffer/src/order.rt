@@ -2,8 +2,7 @@
 ghost use Rattle.std.specs.Prelude.{◌≡◌, ◌≢◌, ◌<◌, ◌+◌, ◌++◌, not, length, filter, map, vec_len, ◌≤◌, ℕ, insert, IsPermutation, OnOk, OnErr, OnSome, IfOk, IfErr, Ok, Err, MatchResult};
 ghost use Rattle.std.specs.Vec.{vec_capacity};
 ghost use Rattle.slab.specs.Slab.{HasRoomFor};
-ghost use Rattle.lamport_id.specs.Order.{id_cmp};
-ghost use Rattle.json_scalar.specs.Refusal.{UnlessMemory};
+ghost use Rattle.doc_words.specs.Words.{id_cmp, UnlessMemory};
 ghost use Rattle.crdt_rules.specs.Same.{id_eq};
 ghost use Rattle.doc_rules.specs.Sorted.{IsRising};
 ghost use Rattle.op_log.specs.Sorted.{IsPlace, IsGap};

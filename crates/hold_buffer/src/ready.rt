@@ -2,8 +2,7 @@
 ghost use Rattle.std.specs.Prelude.{◌≡◌, ◌≢◌, ◌<◌, ◌≤◌, ◌++◌, ◌∷◌, List, Contains, not, length, filter, map, vec_len, take, drop, MatchResult};
 ghost use Rattle.std.specs.Vec.{vec_capacity};
 ghost use Rattle.std.specs.declared.cmp.Ordering.TheVariants.{Less};
-ghost use Rattle.lamport_id.specs.Order.{id_cmp};
-ghost use Rattle.lamport_id.specs.declared.id.Id.{Id};
+ghost use Rattle.doc_words.specs.Words.{id_cmp, Id};
 ghost use Rattle.crdt_rules.specs.Same.{id_eq};
 ghost use Rattle.doc_rules.specs.Sorted.{IsRising};
 ghost use Rattle.op_log.specs.Sorted.{IsPlace, IsGap};

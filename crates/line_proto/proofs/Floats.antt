@@ -3,21 +3,13 @@ use Rattle.std.proofs.Common.{◌≡◌, ℕ, pos, negsuc, false, List, [], ◌�
 use Rattle.serde_json.specs.Data.{Data, string}
 use Rattle.serde_json.specs.View.{items_of}
 use Rattle.serde_json.specs.Written.{has_float, items_have_float}
-use Rattle.lamport_id.specs.declared.id.Id.{Id}
+use Rattle.doc_words.specs.Words.{Id, Scalar, Val, Op, Cursor, Key, Tagged, Mutation, Assign, Insert, Delete, Add}
 use Rattle.json_scalar.specs.Scalar.{scalar_data, val_data}
-use Rattle.json_scalar.specs.declared.scalar.Scalar.{Scalar}
 use Rattle.json_scalar.specs.declared.scalar.Scalar.TheVariants.{Int, Text as Words, Bool as Truth, Null}
-use Rattle.json_scalar.specs.declared.scalar.Val.{Val}
 use Rattle.json_scalar.specs.declared.scalar.Val.TheVariants.{Scalar as Plain, EmptyMap, EmptyList}
-use Rattle.op_core.specs.Op.{Op}
 use Rattle.op_core.specs.Wire.{list_data, id_data, entry_data, front_data, key_data, tagged_data, cursor_data, mutation_data, wire}
-use Rattle.op_core.specs.declared.cursor.Cursor.{Cursor}
-use Rattle.op_core.specs.declared.cursor.Key.{Key}
 use Rattle.op_core.specs.declared.cursor.Key.TheVariants.{Doc, Text, Element, Head}
-use Rattle.op_core.specs.declared.cursor.Tagged.{Tagged}
 use Rattle.op_core.specs.declared.cursor.Tagged.TheVariants as tagged
-use Rattle.op_core.specs.declared.mutation.Mutation.{Mutation}
-use Rattle.op_core.specs.declared.mutation.Mutation.TheVariants.{Assign, Insert, Delete, Add}
 use Rattle.line_proto.specs.Told.{ids_data, scalars_data, item_data, conflict_data, waiting_data}
 
 -- no item has one, if none of what they are made of has

@@ -5,18 +5,16 @@ use Rattle.std.proofs.lemmas.Slice.Eq.{bytes_eq-Decides}
 use Rattle.serde_json.specs.Data.{Num, unsigned, negative, float, Data, null, boolean, number, string, array, object, Items, no_items, item, no_members, member}
 use Rattle.serde_json.specs.Find.{as_u64, as_str, as_array}
 use Rattle.serde_json.specs.View.{items_of}
-use Rattle.json_scalar.specs.Refusal.{UnlessMemory, and_then}
+use Rattle.doc_words.specs.Words.{UnlessMemory, Refusal, Val, Assign, Insert, Delete, Add}
+use Rattle.json_scalar.specs.Refusal.{and_then}
 use Rattle.json_scalar.specs.Scalar.{val_of, text_of, int_of}
-use Rattle.json_scalar.specs.declared.refusal.Refusal.{Refusal}
 use Rattle.json_scalar.specs.declared.refusal.Refusal.TheVariants.{NotJson, BadRequest, BadOperation, BadValue, BadFront}
-use Rattle.json_scalar.specs.declared.scalar.Val.{Val}
 use Rattle.json_scalar.specs.declared.scalar.Val.TheVariants.{Scalar, EmptyMap, EmptyList}
 use Rattle.json_scalar.specs.declared.scalar.Scalar.TheVariants.{Int, Text, Bool as Truth, Null}
 use Rattle.json_scalar.proofs.Readings.{val_of-Ok}
 use Rattle.op_core.specs.Front.{is_ascending}
 use Rattle.op_core.specs.Reading.{some_if, id_from, front_of, op_from}
 use Rattle.op_core.specs.Wire.{list_data}
-use Rattle.op_core.specs.declared.mutation.Mutation.TheVariants.{Assign, Insert, Delete, Add}
 use Rattle.op_core.proofs.Wires.{some_step, some_if-Some, as_array-Some, as_str-Some, both_items, ReadsId-from_answer, ReadsFront-from_answer}
 use Rattle.op_core.proofs.Operations.{ReadsOp-from_answer}
 use Rattle.doc_words.specs.declared.place.Step.{Step}

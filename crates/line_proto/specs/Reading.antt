@@ -6,11 +6,10 @@ use Rattle.serde_json.specs.Find.{as_u64, as_number, as_str, as_array}
 use Rattle.serde_json.specs.Read.{read}
 use Rattle.json_scalar.specs.Refusal.{and_then}
 use Rattle.json_scalar.specs.Scalar.{val_of, int_of}
-use Rattle.json_scalar.specs.declared.refusal.Refusal.{Refusal}
+use Rattle.doc_words.specs.Words.{Refusal, Assign, Insert, Delete, Add}
 use Rattle.json_scalar.specs.declared.refusal.Refusal.TheVariants.{NotJson, BadRequest, BadValue, BadFront}
 use Rattle.op_core.specs.Front.{is_ascending}
 use Rattle.op_core.specs.Reading.{◌>>=◌, some_if, u64_of, id_from, front_of, op_from}
-use Rattle.op_core.specs.declared.mutation.Mutation.TheVariants.{Assign, Insert, Delete, Add}
 use Rattle.doc_words.specs.declared.place.Step.{Step}
 use Rattle.doc_words.specs.declared.place.Step.TheVariants.{Get, Index}
 use Rattle.doc_words.specs.declared.ask.Look.{Look}

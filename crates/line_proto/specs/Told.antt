@@ -3,12 +3,9 @@ use Rattle.std.specs.Prelude.{ℕ, List, [], ◌∷◌, ◌++◌, map, codes}
 use Rattle.std.specs.Fmt.{signed_decimal}
 use Rattle.serde_json.specs.Data.{Data, null, number, unsigned, string}
 use Rattle.serde_json.specs.Written.{compact_text}
-use Rattle.lamport_id.specs.declared.id.Id.{Id}
+use Rattle.doc_words.specs.Words.{Id, Scalar, Val, Refusal}
 use Rattle.json_scalar.specs.Refusal.{number_of, name_of}
 use Rattle.json_scalar.specs.Scalar.{scalar_data, val_data}
-use Rattle.json_scalar.specs.declared.scalar.Scalar.{Scalar}
-use Rattle.json_scalar.specs.declared.scalar.Val.{Val}
-use Rattle.json_scalar.specs.declared.refusal.Refusal.{Refusal}
 use Rattle.json_scalar.specs.declared.refusal.Refusal.TheVariants as refusal
 use Rattle.op_core.specs.Wire.{list_data, id_data, front_data, cursor_data, wire}
 use Rattle.doc_words.specs.declared.reply.Reply.{Reply}

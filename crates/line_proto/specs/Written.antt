@@ -3,15 +3,13 @@ use Rattle.std.specs.Prelude.{ℕ, ℤ, pos, negsuc, ◌^◌, ◌&&◌, nat_le, 
 use Rattle.serde_json.specs.Data.{Data, number, unsigned, string}
 use Rattle.serde_json.specs.Find.{of_integer}
 use Rattle.json_scalar.specs.Scalar.{is_val, val_data}
-use Rattle.json_scalar.specs.declared.scalar.Val.{Val}
+use Rattle.doc_words.specs.Words.{Val, Mutation, Assign, Insert, Delete, Add}
 use Rattle.json_scalar.specs.declared.scalar.Val.TheVariants.{Scalar}
 use Rattle.json_scalar.specs.declared.scalar.Scalar.TheVariants.{Int}
 use Rattle.op_core.specs.Front.{is_ascending}
 use Rattle.op_core.specs.Shape.{is_id, is_entry, is_shaped}
 use Rattle.op_core.specs.Wire.{list_data, id_data, front_data, wire}
 use Rattle.std.specs.List.{list_all}
-use Rattle.op_core.specs.declared.mutation.Mutation.{Mutation}
-use Rattle.op_core.specs.declared.mutation.Mutation.TheVariants.{Assign, Insert, Delete, Add}
 use Rattle.doc_words.specs.declared.place.Step.{Step}
 use Rattle.doc_words.specs.declared.place.Step.TheVariants.{Get, Index}
 use Rattle.doc_words.specs.declared.ask.Look.{Look}

@@ -1,9 +1,8 @@
 -- Linked slots: what the links lead through, and what an insertion makes of them.
 use Rattle.std.specs.Prelude.{◌≡◌, ◌<◌, ℕ, zero, suc, List, [], ◌∷◌, ◌++◌, map, length, Option, Some, None, slice_index_or, slice_set, if◌then◌else◌}
 use Rattle.std.specs.Ordering.{is_lt}
-use Rattle.lamport_id.specs.declared.id.Id.{Id}
+use Rattle.doc_words.specs.Words.{Id, id_cmp}
 use Rattle.crdt_rules.specs.Same.{id_eq}
-use Rattle.lamport_id.specs.Order.{id_cmp}
 use Rattle.presence_set.specs.ById.{get, IsAscending}
 use Rattle.list_order.specs.declared.slots.Slot.{Slot}
 use Rattle.list_order.specs.declared.slots.SlotNumber.{SlotNumber}

@@ -1,10 +1,7 @@
 -- What is read at a place is the same for all causal orders of a log, and for its set.
 use Rattle.std.proofs.Common.{◌≡◌, ◌⊎◌, inl, inr, ℕ, List, [], ◌∷◌, Bool, true, false, None, if◌then◌else◌, Contains, refl, sym, ap, subst, ◌∙◌, true≢false}
 use mathlib.Core.Path.{fun_ext}
-use Rattle.lamport_id.specs.declared.id.Id.{Id}
-use Rattle.op_core.specs.declared.cursor.Key.{Key}
-use Rattle.op_core.specs.declared.cursor.Tagged.{Tagged}
-use Rattle.op_core.specs.Op.{Op}
+use Rattle.doc_words.specs.Words.{Id, Key, Tagged, Op}
 use Rattle.doc_words.specs.declared.ask.Query.{Query}
 use Rattle.doc_words.specs.declared.ask.Query.TheVariants as query
 use Rattle.doc_words.specs.declared.reply.Reply.{Reply}

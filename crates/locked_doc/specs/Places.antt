@@ -1,9 +1,6 @@
 -- What is read at a place of a document: it is read of the facts that the logged operations make, and of the values that they put.
 use Rattle.std.specs.Prelude.{◌≡◌, ◌⊎◌, List, Result, MatchResult}
-use Rattle.json_scalar.specs.declared.refusal.Refusal.{Refusal}
-use Rattle.json_scalar.specs.declared.refusal.Refusal.TheVariants.{NoMemory}
-use Rattle.op_core.specs.declared.cursor.Cursor.{Cursor}
-use Rattle.op_core.specs.Op.{Op}
+use Rattle.doc_words.specs.Words.{Refusal, NoMemory, Cursor, Op}
 use Rattle.doc_words.specs.declared.ask.Query.{Query}
 use Rattle.doc_words.specs.declared.ask.Query.TheVariants as query
 use Rattle.doc_words.specs.declared.place.Place.{Place}

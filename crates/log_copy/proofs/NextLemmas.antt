@@ -6,8 +6,7 @@ use Rattle.std.specs.Str.{bytes_eq}
 use Rattle.sqlite.specs.Order.{Row}
 use Rattle.sqlite_keyed.proofs.ListLemmas.{all-append, all_weaker}
 use Rattle.lamport_id.specs.Name.{is_name}
-use Rattle.lamport_id.specs.Order.{name_cmp}
-use Rattle.op_core.specs.Op.{Op}
+use Rattle.doc_words.specs.Words.{name_cmp, Op}
 use Rattle.op_core.specs.Shape.{is_shaped}
 use Rattle.list_laws.proofs.IdOrder.{irreflexive, asymmetric}
 use Rattle.list_laws.proofs.Members.{Contains-here, Contains-there}

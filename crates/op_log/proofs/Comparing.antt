@@ -5,9 +5,8 @@ use Rattle.std.proofs.lemmas.Bool.{and_parts}
 use Rattle.std.proofs.lemmas.List.{take_all}
 use Rattle.op_core.specs.Front.{max_counter}
 use lib.Pointwise.{bytes_decides}
-use Rattle.lamport_id.specs.Order.{name_cmp}
+use Rattle.doc_words.specs.Words.{name_cmp, Op}
 use Rattle.op_core.specs.Front.{covers, id_of, is_ascending, is_le, reaches}
-use Rattle.op_core.specs.Op.{Op}
 use Rattle.op_core.specs.Shape.{is_shaped, is_shallow, has_form, has_front}
 use Rattle.list_laws.proofs.Members.{Contains-here, Contains-there, Contains-cases}
 use Rattle.crdt_rules.proofs.Tests.{any_none}

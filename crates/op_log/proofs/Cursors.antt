@@ -1,9 +1,7 @@
 -- A cursor, one key after another.
 use Rattle.std.proofs.Common.{◌≡◌, ℕ, ◌<◌, zero, suc, List, [], ◌∷◌, ◌++◌, length, take, drop, get_or, ◌&&◌, sym, ap, ◌∙◌, arith}
-use Rattle.op_core.specs.Op.{Op}
+use Rattle.doc_words.specs.Words.{Op, Key, Tagged}
 use Rattle.op_core.specs.Shape.{key_of}
-use Rattle.op_core.specs.declared.cursor.Key.{Key}
-use Rattle.op_core.specs.declared.cursor.Tagged.{Tagged}
 use Rattle.crdt_rules.specs.Fits.{knows_cursor, knows_key}
 
 pub drop_at : {X : Type 0} (xs : List X) (i : ℕ) (x : X) → i < length xs → x ≡ get_or xs i x → drop i xs ≡ x ∷ drop (suc i) xs

@@ -1,9 +1,8 @@
 -- What the first cause against an operation tells.
 use Rattle.std.proofs.Common.{◌≡◌, ℕ, suc, ◌<◌, ◌≤◌, List, ◌∷◌, length, Bool, true, false, nat_le, Result, Ok, Err, refl, sym, subst, ◌∙◌, arith, leb-true, le-leb}
 use Rattle.std.specs.Prelude.{⊤, IsOk, ◌↔◌}
-use Rattle.json_scalar.specs.declared.refusal.Refusal.{Refusal}
+use Rattle.doc_words.specs.Words.{Refusal, Op}
 use Rattle.json_scalar.specs.declared.refusal.Refusal.TheVariants.{LogFull, TooManyReplicas}
-use Rattle.op_core.specs.Op.{Op}
 use Rattle.op_core.specs.Shape.{is_shaped}
 use Rattle.crdt_rules.specs.Fits.{Fits, replicas}
 use Rattle.doc_rules.specs.Cause.{first_cause, cause_of, room_cause}

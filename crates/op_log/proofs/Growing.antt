@@ -7,12 +7,11 @@ use Rattle.std.proofs.lemmas.List.{length-append}
 use Rattle.std.proofs.lemmas.Option.{slice_get_within, slice_get-get_or}
 use lib.Pointwise.{bytes_decides}
 use Rattle.op_core.specs.Front.{is_ascending}
-use Rattle.op_core.specs.Op.{Op}
+use Rattle.doc_words.specs.Words.{Op, Id}
 use Rattle.crdt_rules.specs.Dependencies.{entry_of}
 use Rattle.crdt_rules.specs.Fits.{Fits}
 use Rattle.crdt_rules.specs.Log.{IsGood}
 use Rattle.doc_rules.specs.Replica.{find_id}
-use Rattle.lamport_id.specs.declared.id.Id.{Id}
 use Rattle.crdt_rules.proofs.Logs.{good_push}
 use Rattle.crdt_rules.proofs.Tests.{some_same, some≢none}
 use Rattle.op_log.specs.Front.{PutsEntry}

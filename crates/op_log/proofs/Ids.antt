@@ -3,10 +3,8 @@ use Rattle.std.proofs.Common.{◌≡◌, ◌≢◌, inl, inr, List, [], ◌∷�
 use Rattle.std.specs.Prelude.{is_some}
 use Rattle.std.specs.List.{list_any}
 use Rattle.std.proofs.lemmas.Bool.{and_parts, false_from_ne_true}
-use Rattle.lamport_id.specs.declared.id.Id.{Id}
-use Rattle.op_core.specs.Op.{Op}
+use Rattle.doc_words.specs.Words.{Id, Op, Tagged}
 use Rattle.list_laws.specs.Order.{EachOnce}
-use Rattle.op_core.specs.declared.cursor.Tagged.{Tagged}
 use Rattle.crdt_rules.specs.Effect.{is_insertion}
 use Rattle.crdt_rules.specs.Facts.{inserts}
 use Rattle.crdt_rules.specs.Fits.{is_element}

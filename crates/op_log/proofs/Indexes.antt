@@ -4,8 +4,7 @@ use Rattle.std.specs.Prelude.{is_some, MatchOption}
 use Rattle.std.specs.List.{slice_get}
 use Rattle.std.proofs.lemmas.Bool.{cases_lt}
 use Rattle.std.proofs.lemmas.Option.{slice_get_within, get_or_from_slice_get, slice_get-get_or}
-use Rattle.lamport_id.specs.declared.id.Id.{Id}
-use Rattle.op_core.specs.Op.{Op}
+use Rattle.doc_words.specs.Words.{Id, Op}
 use Rattle.crdt_rules.specs.Dependencies.{is_logged}
 use Rattle.crdt_rules.specs.Fits.{Fits}
 use Rattle.crdt_rules.specs.Log.{IsGood}

@@ -2,9 +2,8 @@
 use Rattle.std.proofs.Common.{◌≡◌, ℕ, ◌<◌, zero, suc, List, [], ◌∷◌, ◌++◌, length, take, drop, get_or, true, false, Option, Some, None, Result, Ok, Err, if◌then◌else◌, sym, ap, subst, ◌∙◌, arith}
 use Rattle.std.specs.Prelude.{⊤, IfErr, IfSome}
 use Rattle.std.proofs.lemmas.List.{length-take}
-use Rattle.json_scalar.specs.declared.refusal.Refusal.{Refusal}
+use Rattle.doc_words.specs.Words.{Refusal, Op}
 use Rattle.json_scalar.specs.declared.refusal.Refusal.TheVariants.{IdConflict}
-use Rattle.op_core.specs.Op.{Op}
 use Rattle.crdt_rules.specs.Dependencies.{is_logged}
 use Rattle.crdt_rules.specs.Log.{IsGood}
 use Rattle.op_log.proofs.Sorted.{split_at}

@@ -1,7 +1,6 @@
 -- Where a replica tells want of memory.
 use Rattle.std.proofs.Common.{◌≡◌, ◌≢◌, inl, inr, Bool, true, false, sym, ◌∙◌}
-use Rattle.json_scalar.specs.declared.refusal.Refusal.TheVariants.{NoMemory}
-use Rattle.op_core.specs.Op.{Op}
+use Rattle.doc_words.specs.Words.{NoMemory, Op}
 use Rattle.doc_words.specs.declared.ask.Command.TheVariants as command
 use Rattle.doc_words.specs.declared.reply.Reply.{Reply}
 use Rattle.doc_words.specs.declared.reply.Reply.TheVariants as reply

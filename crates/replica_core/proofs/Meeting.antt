@@ -2,18 +2,16 @@
 use Rattle.std.proofs.Common.{◌≡◌, ◌<◌, ◌≤◌, inl, inr, ℕ, suc, Contains, le-leb, leb-true, arith, List, [], ◌∷◌, length, nat_le, Bool, true, false, true≢false, not, ◌&&◌, bytes_eq, Option, Some, None, Result, Ok, Err, if◌then◌else◌, refl, sym, ap, subst, ◌∙◌}
 use Rattle.std.specs.Prelude.{⊤, IfOk, IfErr, OnErr, is_some}
 use Rattle.std.proofs.lemmas.Bool.{false_from_ne_true, both_ways}
-use Rattle.lamport_id.specs.declared.id.Id.{Id}
+use Rattle.doc_words.specs.Words.{Id, Refusal, NoMemory, Op}
 use Rattle.crdt_rules.specs.Same.{id_eq}
 use Rattle.crdt_rules.specs.Dependencies.{is_logged}
 use Rattle.crdt_rules.proofs.SameLaws.{id_decides}
 use Rattle.op_log.proofs.Ids.{is_logged-find_id}
 use Rattle.doc_rules.proofs.Held.{find_none}
 use Rattle.std.specs.Option.{option_map}
-use Rattle.json_scalar.specs.declared.refusal.Refusal.{Refusal}
-use Rattle.json_scalar.specs.declared.refusal.Refusal.TheVariants.{NoMemory, IdConflict, OwnName, HeldFull}
+use Rattle.json_scalar.specs.declared.refusal.Refusal.TheVariants.{IdConflict, OwnName, HeldFull}
 use Rattle.op_core.specs.Equality.{operation_eq}
 use Rattle.op_core.specs.Limits.{most_held}
-use Rattle.op_core.specs.Op.{Op}
 use Rattle.doc_words.specs.declared.reply.Reply.{Reply}
 use Rattle.doc_words.specs.declared.reply.Reply.TheVariants as reply
 use Rattle.crdt_rules.specs.Dependencies.{is_ready, missing}

@@ -5,12 +5,8 @@ use Rattle.replica_core.specs.Whole.{replica_of}
 use Rattle.std.proofs.Common.{[], ◌∷◌, Bool, false, not, filter, if◌then◌else◌, ◌≡◌, ◌≢◌, inl, inr, ℕ, List, Option, Some, None, Result, Ok, Err, true, refl, sym, ap, subst, ◌∙◌}
 use Rattle.std.specs.Prelude.{⊤}
 use Rattle.json_scalar.specs.Refusal.{and_then}
-use Rattle.json_scalar.specs.declared.refusal.Refusal.{Refusal}
-use Rattle.json_scalar.specs.declared.refusal.Refusal.TheVariants.{NoMemory, NotHeld, NotInList, AtHead, LogFull, TooManyReplicas}
-use Rattle.lamport_id.specs.declared.id.Id.{Id}
-use Rattle.op_core.specs.declared.cursor.Cursor.{Cursor}
-use Rattle.op_core.specs.declared.mutation.Mutation.{Mutation}
-use Rattle.op_core.specs.Op.{Op}
+use Rattle.doc_words.specs.Words.{Refusal, NoMemory, Id, Cursor, Mutation, Op}
+use Rattle.json_scalar.specs.declared.refusal.Refusal.TheVariants.{NotHeld, NotInList, AtHead, LogFull, TooManyReplicas}
 use Rattle.op_core.specs.Shape.{is_shaped, shape_of}
 use Rattle.op_core.proofs.Shapes.{shape_of-shaped}
 use Rattle.doc_words.specs.declared.reply.Reply.{Reply}

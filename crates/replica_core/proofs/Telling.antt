@@ -1,7 +1,6 @@
 -- What a tree that says what the log makes knows of an operation that fits.
 use Rattle.std.proofs.Common.{List, Option, sym, subst}
-use Rattle.json_scalar.specs.declared.scalar.Scalar.{Scalar}
-use Rattle.op_core.specs.Op.{Op}
+use Rattle.doc_words.specs.Words.{Scalar, Op}
 use Rattle.crdt_rules.specs.Fits.{Fits}
 use Rattle.crdt_rules.specs.Log.{IsGood}
 use Rattle.crdt_rules.proofs.NextStep.{reference_stands, id_is_new}

@@ -1,9 +1,6 @@
 -- Where the steps of a place led.
 use Rattle.std.specs.Prelude.{◌≢◌, List, Result, Err}
-use Rattle.json_scalar.specs.declared.refusal.Refusal.{Refusal}
-use Rattle.json_scalar.specs.declared.refusal.Refusal.TheVariants.{NoMemory}
-use Rattle.op_core.specs.declared.cursor.Cursor.{Cursor}
-use Rattle.op_core.specs.Op.{Op}
+use Rattle.doc_words.specs.Words.{Refusal, NoMemory, Cursor, Op}
 use Rattle.doc_words.specs.declared.place.Step.{Step}
 use Rattle.crdt_rules.specs.Facts.{facts}
 use Rattle.crdt_rules.specs.Log.{replay}

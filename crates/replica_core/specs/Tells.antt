@@ -1,7 +1,6 @@
 -- A tree that says what a log makes.
 use Rattle.std.specs.Prelude.{List, Option}
-use Rattle.json_scalar.specs.declared.scalar.Scalar.{Scalar}
-use Rattle.op_core.specs.Op.{Op}
+use Rattle.doc_words.specs.Words.{Scalar, Op}
 use Rattle.doc_nodes.specs.declared.node.Node.{Node}
 use Rattle.doc_tree.specs.Nodes.{tree_facts, tree_role}
 use Rattle.doc_rules.specs.Role.{AreOf}

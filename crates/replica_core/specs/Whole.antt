@@ -1,8 +1,7 @@
 -- What a replica keeps.
 use Rattle.std.specs.Prelude.{◌≡◌, ℕ, List, Option, true}
 use Rattle.lamport_id.specs.Name.{is_name}
-use Rattle.json_scalar.specs.declared.scalar.Scalar.{Scalar}
-use Rattle.op_core.specs.Op.{Op}
+use Rattle.doc_words.specs.Words.{Scalar, Op}
 use Rattle.doc_nodes.specs.declared.node.Node.{Node}
 use Rattle.doc_rules.specs.Replica.{Replica, IsKept}
 use Rattle.hold_buffer.specs.Held.{Buffer, IsCurrent}

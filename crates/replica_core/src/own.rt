@@ -2,10 +2,9 @@
 ghost use Rattle.std.specs.Prelude.{◌≡◌, ◌+◌, ◌<◌, ◌≤◌, List, [], length, Ok, Err, true, not, ◌&&◌, if◌then◌else◌};
 ghost use Rattle.lamport_id.specs.Limits.{greatest_counter};
 ghost use Rattle.lamport_id.specs.Name.{is_name};
-ghost use Rattle.json_scalar.specs.Refusal.{UnlessMemory};
+ghost use Rattle.doc_words.specs.Words.{UnlessMemory, Op};
 ghost use Rattle.op_core.specs.Limits.{most_held};
 ghost use Rattle.op_core.specs.Front.{max_counter};
-ghost use Rattle.op_core.specs.Op.{Op};
 ghost use Rattle.op_core.specs.Shape as shape;
 ghost use Rattle.crdt_rules.specs.Effect.{is_insertion};
 ghost use Rattle.crdt_rules.specs.Fits.{Fits};

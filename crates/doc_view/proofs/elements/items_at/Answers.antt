@@ -1,6 +1,5 @@
 use Rattle.std.proofs.Common.{List, sym, subst, ◌∙◌}
-use Rattle.lamport_id.specs.declared.id.Id.{Id}
-use Rattle.json_scalar.specs.declared.scalar.Scalar.{Scalar}
+use Rattle.doc_words.specs.Words.{Id, Scalar}
 use Rattle.doc_tree.specs.Nodes.{tree_facts}
 use Rattle.doc_rules.specs.Reads.{AreItems}
 use Rattle.doc_view.proofs.ByNumber.{gives_at, no_items}

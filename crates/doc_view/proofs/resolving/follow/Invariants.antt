@@ -1,6 +1,5 @@
 use Rattle.std.proofs.Common.{drop, Result, Ok}
-use Rattle.json_scalar.specs.declared.refusal.Refusal.{Refusal}
-use Rattle.op_core.specs.declared.cursor.Cursor.{Cursor}
+use Rattle.doc_words.specs.Words.{Refusal, Cursor}
 use Rattle.doc_tree.specs.Nodes.{tree_facts}
 use Rattle.doc_rules.specs.Resolve.{Leads}
 use Rattle.doc_view.proofs.resolving.follow.Given as goal

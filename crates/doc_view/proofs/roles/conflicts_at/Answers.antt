@@ -1,6 +1,5 @@
 use Rattle.std.proofs.Common.{List, subst, sym, ◌∙◌}
-use Rattle.lamport_id.specs.declared.id.Id.{Id}
-use Rattle.json_scalar.specs.declared.scalar.Val.{Val}
+use Rattle.doc_words.specs.Words.{Id, Val}
 use Rattle.doc_tree.specs.Nodes.{tree_facts}
 use Rattle.doc_rules.specs.Reads.{AreConflicts}
 use Rattle.doc_view.specs.Told.{tree_values}

@@ -1,6 +1,5 @@
 use Rattle.std.proofs.Common.{List, Contains, length, sym, ap, subst, ◌∙◌, arith}
-use Rattle.lamport_id.specs.Order.{id_cmp}
-use Rattle.lamport_id.specs.declared.id.Id.{Id}
+use Rattle.doc_words.specs.Words.{id_cmp, Id}
 use Rattle.doc_rules.specs.Sorted.{IsRising}
 use Rattle.hold_buffer.specs.Order.{ready_ids}
 use Rattle.hold_buffer.proofs.Counting.{member, name, some_test, other_test, zero_test, rising-ready, not_ready, room_for, set_record, ready_now, ready_stays, none_counted}

@@ -1,7 +1,6 @@
 use Rattle.std.proofs.Common.{List, ap, subst, ◌∙◌}
 use Rattle.std.specs.Prelude.{insert}
-use Rattle.lamport_id.specs.Order.{id_cmp}
-use Rattle.lamport_id.specs.declared.id.Id.{Id}
+use Rattle.doc_words.specs.Words.{id_cmp, Id}
 use Rattle.op_log.specs.Sorted.{IsGap}
 use Rattle.hold_buffer.proofs.Counting.{insert_between}
 use Rattle.hold_buffer.proofs.ready.put.Goals as goal

@@ -1,7 +1,6 @@
 use Rattle.std.proofs.Common.{◌≡◌, List, ◌++◌, ◌∷◌, [], Result, Ok, Err, refl}
 use Rattle.std.specs.Prelude.{⊤, MatchBool, OnOk, OnErr, is_ok}
-use Rattle.json_scalar.specs.declared.refusal.Refusal.{Refusal}
-use Rattle.op_core.specs.Op.{Op}
+use Rattle.doc_words.specs.Words.{Refusal, Op}
 use Rattle.crdt_rules.specs.Fits.{Fits}
 use Rattle.replica_core.proofs.drain.release.Goals as goal
 

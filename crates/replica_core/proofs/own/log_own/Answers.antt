@@ -1,8 +1,7 @@
 use Rattle.std.specs.Prelude.{OnErr}
-use Rattle.json_scalar.specs.declared.refusal.Refusal.{Refusal}
+use Rattle.doc_words.specs.Words.{Refusal, Op}
 use Rattle.replica_core.specs.declared.outcome.Applied.{Applied}
 use Rattle.std.proofs.Common.{◌≡◌, Result, Ok, Err, inr, refl, sym, ap, subst}
-use Rattle.op_core.specs.Op.{Op}
 use Rattle.crdt_rules.specs.Fits.{Fits}
 use Rattle.doc_rules.specs.Events.{logged}
 use Rattle.doc_rules.specs.Replica.{own_op}

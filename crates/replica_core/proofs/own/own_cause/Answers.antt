@@ -1,10 +1,8 @@
 use Rattle.std.proofs.Common.{◌≡◌, nat_le, not, ◌&&◌, ◌∷◌, length, Result, refl, sym, ap, ◌∙◌}
 use Rattle.std.specs.Prelude.{⊤}
 use Rattle.json_scalar.specs.Refusal.{and_then}
-use Rattle.json_scalar.specs.declared.refusal.Refusal.{Refusal}
+use Rattle.doc_words.specs.Words.{Refusal, Cursor, Mutation}
 use Rattle.op_core.specs.Shape.{is_head, ends_in_list}
-use Rattle.op_core.specs.declared.cursor.Cursor.{Cursor}
-use Rattle.op_core.specs.declared.mutation.Mutation.{Mutation}
 use Rattle.crdt_rules.specs.Effect.{is_insertion}
 use Rattle.crdt_rules.specs.Fits.{replicas}
 use Rattle.op_core.specs.Limits.{most_operations, most_replicas}

@@ -1,8 +1,6 @@
 use Rattle.std.proofs.Common.{List, sym, ap, subst, ◌∙◌}
 use Rattle.std.specs.Prelude.{slice_get}
-use Rattle.lamport_id.specs.declared.id.Id.{Id}
-use Rattle.lamport_id.specs.Order.{id_cmp}
-use Rattle.op_core.specs.Op.{Op}
+use Rattle.doc_words.specs.Words.{Id, id_cmp, Op}
 use Rattle.crdt_rules.specs.Dependencies.{is_ready}
 use Rattle.doc_rules.specs.Sorted.{IsRising}
 use Rattle.hold_buffer.specs.Held.{Buffer, IsCurrent}
