@@ -8,6 +8,7 @@ use Rattle.list_laws.specs.Order.{EachOnce}
 use Rattle.crdt_rules.specs.Facts.{facts}
 use Rattle.crdt_rules.specs.Log.{IsGood, replay}
 use Rattle.list_laws.proofs.Members.{Contains-cases}
+use Rattle.crdt_rules.proofs.GoodLogs.{ids_once}
 use Rattle.crdt_rules.proofs.Orders.{good_causal}
 use Rattle.crdt_rules.proofs.Room.{length-among}
 use Rattle.crdt_rules.proofs.SameSet.{same_set_same_facts}
@@ -27,7 +28,7 @@ holds-Contains ops good op h = by (find_id ops op.id) refl h
 
 pub Contains-holds : (ops : List Op) → IsGood ops → (op : Op) → Contains ops op → holds ops op ≡ true
 Contains-holds ops good op c =
-    ap (is_it op) (Ids.find_id-Contains ops op.id (Ids.ids_once ops good) c refl) ∙ (operation_eq-Decides op op).1 refl
+    ap (is_it op) (Ids.find_id-Contains ops op.id (ids_once ops good) c refl) ∙ (operation_eq-Decides op op).1 refl
 
 module _ (ops others : List Op) (good : IsGood ops) (other_good : IsGood others) where
   -- as many operations, each of which is in the other list, are the same

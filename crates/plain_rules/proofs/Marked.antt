@@ -4,16 +4,9 @@ use Rattle.std.specs.List.{list_any}
 use Rattle.std.proofs.lemmas.Bool.{and_parts, or_cases, or_left, or_right}
 use Rattle.lamport_id.specs.declared.id.Id.{Id}
 use Rattle.op_core.specs.declared.cursor.Key.{Key}
-use Rattle.op_core.specs.declared.cursor.Tagged.{Tagged}
 use Rattle.crdt_rules.specs.Same.{id_eq, key_eq}
-use Rattle.crdt_rules.specs.Context.{empty}
-use Rattle.crdt_rules.specs.Facts.{context_at}
 use Rattle.crdt_rules.proofs.SameLaws.{id_decides}
 use Rattle.plain_rules.specs.Plain.{present_in}
-
-pub empty_at : (p : List Tagged) → context_at empty p ≡ empty
-empty_at [] = refl
-empty_at (t ∷ p) = empty_at p
 
 module _ (k : Key) where
   pub marked-any : (marks : List (Key × Id)) (i : Id) → list_any (λ m. key_eq m.0 k && id_eq m.1 i) marks ≡ present_in marks k i

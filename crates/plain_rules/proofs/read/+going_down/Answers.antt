@@ -3,7 +3,7 @@ use Rattle.crdt_rules.specs.Context.{child}
 use Rattle.crdt_rules.specs.Facts.{context_at}
 use Rattle.plain_rules.specs.Plain.{contexts_of, child_in}
 use Rattle.plain_rules.proofs.Contexts.{context_of-out}
-use Rattle.plain_rules.proofs.Marked.{empty_at}
+use Rattle.crdt_rules.proofs.ReplayFacts.{empty_at}
 use Rattle.plain_rules.proofs.read.+going_down.Goals as goal
 
 pub below_first-returns-in-None : goal.below_first-returns-in-None
