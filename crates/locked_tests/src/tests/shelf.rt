@@ -1,14 +1,15 @@
-//! Two documents on a shelf, one of them asked through its lock.
-ghost use Rattle.std.specs.Prelude.{◌≡◌, ◌<◌, IfOk};
+//! Two documents on a shelf, asked through their locks, and what their seats did, added up.
+ghost use Rattle.std.specs.Prelude.{◌≡◌, ◌<◌, ◌≤◌, IfOk};
+ghost use Rattle.share_ledger.specs.Counters.{place_of};
 
 use super::samples::{Deed, Told, are_numbers, command, document, told_by, values_at};
 use json_scalar::Refusal;
-use locked_doc::{LockedDoc, Seat, Shelf};
-use share_ledger::{Blank, Marker};
+use locked_doc::{LockedDoc, Seat, SeatEnd, Shelf, Totals};
+use share_ledger::{Blank, Marker, Table};
 use std::alloc::Global;
 use std::marker::Brand;
 use std::process::Abort;
-use std::sync::Wait;
+use std::sync::{Mutex, Wait};
 use std::test::*;
 
 const ASSIGNMENT: &str = r#"["op",[1,"srv-1"],[],[[["m",0]],"k"],["assign",7]]"#;
@@ -18,17 +19,57 @@ fn asks_through_the_lock(rt: HostRuntime) -> Result<(), Fail> {
     asks::<Brand, _>(&rt, rt.alloc(), Blank::new())
 }
 
+// A document with one seat, and one with two, of which one stays free.
 fn asks<M: Marker, R: Abort + Wait>(rt: &R, alloc: Global, blank: Blank) -> Result<(), Fail>
     requires { blank ≡ M.name }
 {
     let mut table = blank.named::<M>();
-    let first = document(alloc, &mut table, 0, 1)?;
-    let second = document(alloc, &mut table, 1, 1)?;
-    let shelf = both(alloc, first, second)?;
+    let shelf = shelf_of_two(alloc, &mut table)?;
+    let first = seated(rt, &shelf)?;
+    let second = seated_and_asking(rt, alloc, &shelf)?;
+    assert!(rt; add_up(alloc, shelf, first, second));
+    Ok(())
+}
+
+// The documents of number 0 with one seat and of number 1 with two, in this order.
+fn shelf_of_two<M: Marker>(alloc: Global, table: &mut Table<M>) -> Result<Shelf<M>, Refusal>
+    requires { table.old ≤ place_of 0 0 }
+    ensures { IfOk result (λ shelf. shelf ≡ 2) }
+{
+    let first = document(alloc, table, 0, 1)?;
+    let second = document(alloc, table, 1, 2)?;
+    both(alloc, first, second)
+}
+
+// The only seat of the first document, given back with nothing done.
+fn seated<M: Marker, R: Abort + Wait>(rt: &R, shelf: &Shelf<M>) -> Result<SeatEnd<M>, Refusal>
+    requires { shelf.now ≡ 2 }
+{
+    let seat = shelf.open_seat(rt, 0)?;
+    assert_eq!(rt; seat.number(), 0);
+    assert!(rt; is_full(rt, shelf, 0));
+    Ok(seat.end())
+}
+
+// The first seat of the second document, given back after it assigned and read.
+fn seated_and_asking<M: Marker, R: Abort + Wait>(
+    rt: &R,
+    alloc: Global,
+    shelf: &Shelf<M>,
+) -> Result<SeatEnd<M>, Fail>
+    requires { shelf.now ≡ 2 }
+{
     let mut seat = shelf.open_seat(rt, 1)?;
     assert_eq!(rt; seat.number(), 1);
-    assert!(rt; matches!(shelf.open_seat(rt, 1), Err(Refusal::SeatsFull)));
-    assigns_and_reads(rt, alloc, &shelf, &mut seat)
+    assigns_and_reads(rt, alloc, shelf, &mut seat)?;
+    Ok(seat.end())
+}
+
+// Whether no seat of the document in this place is free.
+fn is_full<M: Marker, R: Wait>(rt: &R, shelf: &Shelf<M>, place: usize) -> bool
+    requires { place < shelf.now }
+{
+    matches!(shelf.open_seat(rt, place), Err(Refusal::SeatsFull))
 }
 
 // Two documents on one shelf, in this order.
@@ -69,4 +110,52 @@ fn assigns_and_reads<M: Marker, R: Abort + Wait>(
     assert!(rt; are_numbers(values, &[7]));
     assert_eq!(rt; seat.account(), 1);
     Ok(())
+}
+
+// Whether the first document's seat logged nothing, and the second's one operation.
+fn add_up<M: Marker>(
+    alloc: Global,
+    shelf: Shelf<M>,
+    first: SeatEnd<M>,
+    second: SeatEnd<M>,
+) -> bool {
+    let mut docs = shelf.into_docs();
+    let of_second = added_up(alloc, docs.pop(), second);
+    let of_first = added_up(alloc, docs.pop(), first);
+    are_totals(&of_first, 0) && are_totals(&of_second, 1)
+}
+
+// What the end of a document's one opened seat adds up to.
+fn added_up<M: Marker>(
+    alloc: Global,
+    lock: Option<Mutex<LockedDoc<M>>>,
+    end: SeatEnd<M>,
+) -> Option<Totals> {
+    match lock {
+        Some(lock) => gathered(alloc, lock.into_inner(), end),
+        None => {
+            drop(end);
+            None
+        }
+    }
+}
+
+fn gathered<M: Marker>(alloc: Global, doc: LockedDoc<M>, end: SeatEnd<M>) -> Option<Totals> {
+    if doc.opened() != 1 {
+        return None;
+    }
+    let mut ends = Vec::new(alloc);
+    ends.push(end).ok()?;
+    doc.gather(alloc, ends).ok()
+}
+
+// Whether one seat did all that is logged, so many operations, none of them copied.
+fn are_totals(totals: &Option<Totals>, logged: u64) -> bool {
+    match totals {
+        Some(totals) => {
+            *totals.by_seat.as_slice() == *[logged].as_slice()
+                && (totals.accepted, totals.logged, totals.copied) == (logged, logged, 0)
+        }
+        None => false,
+    }
 }
