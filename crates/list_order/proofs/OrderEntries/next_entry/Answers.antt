@@ -1,6 +1,7 @@
 use Rattle.std.proofs.Common.{◌<◌, ◌∙◌, ◌∷◌, sym, ap, subst}
 use Rattle.list_order.specs.Slots.{path_from, IsWalk}
 use Rattle.list_order.specs.Marks.{entries_along}
+use Rattle.list_order.proofs.Paths.{walk-None}
 use Rattle.list_order.proofs.Scanning.{step}
 use Rattle.list_order.proofs.OrderEntries.next_entry.Goals as goal
 
@@ -17,10 +18,16 @@ invariant_of-self c = record {
   marked = c.self.invariant.marked;
 }
 
-pub returns-in-Some : goal.returns-in-Some
-returns-in-Some c =
+pub returns-in-Some-clause-taken : goal.returns-in-Some-clause-taken
+returns-in-Some-clause-taken c =
     let slots = c.self.inside.slots.now in
     let marks = c.self.inside.marks.now in
     let s = step slots c.self.inside.at c.in-Some.n c.in-Some.is c.self.invariant.walk in
     sym c.self.view_is ∙ ap (entries_along slots marks) s.path
     ∙ (λ i. ((sym c.slot_at-slot.ensures i).id, (sym c.mark_at-is_present.ensures i).is_present) ∷ entries_along slots marks (path_from slots (sym c.slot_at-slot.ensures i).next))
+
+pub returns-in-None-clause-ended : goal.returns-in-None-clause-ended
+returns-in-None-clause-ended c = λ none.
+    let slots = c.self.inside.slots.now in
+    let marks = c.self.inside.marks.now in
+    sym c.self.view_is ∙ ap (λ at. entries_along slots marks (path_from slots at)) c.in-None.is ∙ ap (entries_along slots marks) (walk-None slots)
