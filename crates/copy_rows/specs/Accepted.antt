@@ -8,7 +8,7 @@ use Rattle.crdt_rules.specs.Effect.{is_add}
 use Rattle.crdt_rules.specs.Log.{IsGood}
 use Rattle.copy_tables.specs.Content.{Content, entry_row}
 use Rattle.copy_docs.specs.Docs.{Doc, AreInOrder, AreGood, op_text, log_of, add_log}
-use Rattle.log_copy.specs.Rows.{rows_of}
+use Rattle.copy_rows.specs.Rows.{rows_of}
 
 -- its text is UTF-8, and the old format has no additions
 abbrev pub IsWritable : ℕ → Op → Type 0

@@ -18,9 +18,9 @@ use Rattle.copy_docs.specs.Docs.{Doc, AreInOrder, AreGood, is_named, op_text, lo
 use Rattle.copy_docs.proofs.DocLemmas.{differ}
 use Rattle.copy_docs.specs.declared.fault.Fault.{Fault}
 use Rattle.copy_docs.specs.declared.fault.Fault.TheVariants.{Refused, Store, Memory}
-use Rattle.log_copy.proofs.SoundLemmas.{few_rows}
-use Rattle.log_copy.specs.Rows.{rows_of}
-use Rattle.log_copy.specs.Accepted.{IsWritable, AreWritable, IsNext, AreNext}
+use Rattle.copy_rows.proofs.RowLemmas.{few_rows}
+use Rattle.copy_rows.specs.Rows.{rows_of}
+use Rattle.copy_rows.specs.Accepted.{IsWritable, AreWritable, IsNext, AreNext}
 
 abbrev IsBefore : List ℕ → Doc → Type 0
 IsBefore name d = name_cmp d.name name ≡ Less

@@ -19,7 +19,7 @@ use Rattle.lamport_id.specs.Order.{name_cmp}
 use Rattle.list_laws.proofs.Members.{Contains-here, Contains-there}
 use Rattle.copy_tables.specs.Content.{Content, Holds, meta_row, entry_row, rows_from, meta_columns, entry_columns, meta_tree, entry_tree, meta_cmp, entry_cmp, rising}
 use Rattle.copy_docs.specs.Docs.{Doc, AreInOrder, op_text}
-use Rattle.log_copy.specs.Rows.{doc_rows, rows_of}
+use Rattle.copy_rows.specs.Rows.{doc_rows, rows_of}
 
 abbrev IsLess : Row → Row → Type 0
 IsLess a b = entry_cmp a b ≡ Less
