@@ -1,9 +1,10 @@
 -- What is looked up in clap's matches.
-use Rattle.std.proofs.Common.{◌≡◌, List, [], map, Option, Some, None, unwrap_or, option_map, refl, ap, ap₂, ◌∙◌}
+use Rattle.std.proofs.Common.{◌≡◌, List, [], map, Option, Some, None, unwrap_or, option_map, refl, ap, ap₂, subst, ◌∙◌}
 use Rattle.std.specs.Borrow.{Bor}
 use Rattle.clap.specs.Words.{Text, all_of, first_of, first_value, found_of, matched_of, raw_values, rows_of}
 use Rattle.clap.proofs.WalkLemmas.{first_value-rows, raw_values-rows}
 use Rattle.clap.specs.declared.parser.matches.ArgMatches.{ArgMatches}
+use Rattle.jcrdt.specs.CommandLine.{IsCount, IsServer, WantedServer}
 
 unwrap_or-map : {A B : Type 0} (f : A → B) (o : Option A) (d : A) → f (unwrap_or o d) ≡ unwrap_or (option_map f o) (f d)
 unwrap_or-map f None d = refl
@@ -21,3 +22,15 @@ pub texts_are : (m : ArgMatches) (id : Text) (texts d : Bor (List (Bor Text))) (
     → map (λ v. v.now) texts.now ≡ unwrap_or (all_of id (rows_of (found_of m))) []
 texts_are m id texts d o is p none =
     ap (λ s. map (λ v. v.now) s.now) is ∙ unwrap_or-map (λ s. map (λ v. v.now) s.now) o d ∙ ap₂ unwrap_or (p ∙ raw_values-rows (found_of m) id) none
+
+-- the same server, asked for by the same texts
+pub same_server : {name other : Text} {documents others : List Text} {address there count so_many : Text} → name ≡ other → documents ≡ others → address ≡ there → count ≡ so_many
+    → (wanted : WantedServer) → IsServer name documents address count wanted → IsServer other others there so_many wanted
+same_server {name} {other} {documents} {others} {address} {there} {count} {so_many} same_name same_documents same_address same_count wanted asked =
+    record {
+      named = asked.named ∙ same_name;
+      listed = asked.listed ∙ same_documents;
+      at = asked.at ∙ same_address;
+      sessions = subst (λ t. IsCount t wanted.sessions) same_count asked.sessions;
+      good = asked.good;
+    }

@@ -1,11 +1,26 @@
 -- The totals of documents, one after another.
-use Rattle.std.proofs.Common.{◌≡◌, ℕ, suc, ◌+◌, List, [], ◌∷◌, ◌++◌, length, subst, arith}
+use Rattle.std.proofs.Common.{◌≡◌, ℕ, zero, suc, ◌+◌, List, [], ◌∷◌, ◌++◌, length, map, Option, refl, subst, arith}
+use Rattle.std.specs.List.{flat_map}
+use Rattle.doc_rules.specs.Seats.{Seat}
 use Rattle.locked_doc.specs.declared.gather.Totals.{Totals}
-use Rattle.server_core.specs.Sums.{AreTotals, AreTotalsFrom}
+use Rattle.server_core.specs.Sums.{AreTotals, AreTotalsFrom, first_end, later_ends}
+
+-- what sessions gave back behind so many documents
+abbrev pub behind : ℕ → List (List (Option Seat)) → List (List (Option Seat))
+behind zero sessions = sessions
+behind (suc k) sessions = behind k (map later_ends sessions)
+
+pub behind-next : (k : ℕ) (sessions : List (List (Option Seat))) → map later_ends (behind k sessions) ≡ behind (suc k) sessions
+behind-next zero sessions = refl
+behind-next (suc k) sessions = behind-next k (map later_ends sessions)
 
 -- one more behind them
-pub one_more : (n : ℕ) (totals : List Totals) (t : Totals) → AreTotalsFrom n totals → AreTotals (n + length totals) t → AreTotalsFrom n (totals ++ t ∷ [])
-one_more n [] t are next = let here : n + 0 ≡ n = omega arith in (subst (λ k. AreTotals k t) here next, tt)
-one_more n (x ∷ totals) t are next =
-    let there : n + length (x ∷ totals) ≡ suc n + length totals = omega arith in
-    (are.0, one_more (suc n) totals t are.1 (subst (λ k. AreTotals k t) there next))
+pub one_more : (n : ℕ) (sessions : List (List (Option Seat))) (totals : List Totals) (t : Totals) → AreTotalsFrom n sessions totals
+    → AreTotals (n + length totals) (flat_map first_end (behind (length totals) sessions)) t → AreTotalsFrom n sessions (totals ++ t ∷ [])
+one_more n sessions [] t are next = let here : n + 0 ≡ n = omega arith in (subst (λ k. AreTotals k (flat_map first_end sessions) t) here next, tt)
+one_more n sessions (x ∷ totals) t are next =
+    let there : n + length (x ∷ totals) ≡ suc n + length totals = omega arith in (
+      are.0,
+      one_more (suc n) (map later_ends sessions) totals t are.1
+          (subst (λ k. AreTotals k (flat_map first_end (behind (length totals) (map later_ends sessions))) t) there next),
+    )

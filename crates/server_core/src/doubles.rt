@@ -1,5 +1,5 @@
 //! Connections for tests.
-ghost use Rattle.std.specs.Prelude.{◌≡◌, None};
+ghost use Rattle.std.specs.Prelude.{◌≡◌, None, Some};
 
 use crate::sessions::Connect;
 use line_feed::doubles::FailAfter;
@@ -70,6 +70,8 @@ impl<'a, R: Wait + Sync> Connect for Script<'a, R> {
     type Source = FailAfter<Reader<&'a [u8]>>;
 
     type Sink = FailAfter<Kept<'a, R>>;
+
+    ghost requests = { λ s. Some s.input.now };
 
     fn open(self) -> Result<(FailAfter<Reader<&'a [u8]>>, FailAfter<Kept<'a, R>>), DeviceFault> {
         if !self.opens {

@@ -3,9 +3,9 @@ ghost use Rattle.std.specs.Prelude.{◌≡◌};
 
 use super::samples::{first_did, two_documents};
 use crate::doubles::Script;
-use crate::{Idle, OpenGate, run_sessions};
+use crate::{Gathered, Idle, OpenGate, run_sessions};
 use json_scalar::Refusal;
-use locked_doc::Totals;
+use session_rules::Ending;
 use share_ledger::{Blank, Marker};
 use std::alloc::Global;
 use std::marker::Brand;
@@ -27,13 +27,13 @@ struct Fault {
     opens: bool,
 }
 
-/// The totals of two sessions of the same lines, the first of which fails, and what both were told.
-fn totals_with<M: Marker + Send + Sync, R: Threads + Wait + Sync>(
+/// What two sessions of the same lines did, the first of which fails, and what that one was told.
+fn gathered_with<M: Marker + Send + Sync, R: Threads + Wait + Sync>(
     rt: &R,
     alloc: Global,
     blank: Blank,
     fault: Fault,
-) -> Result<(Vec<Totals>, Vec<u8>), Refusal>
+) -> Result<(Gathered, Vec<u8>), Refusal>
     requires { blank ≡ M.name }
 {
     let library = two_documents::<M>(alloc, blank, 2)?;
@@ -50,30 +50,33 @@ fn totals_with<M: Marker + Send + Sync, R: Threads + Wait + Sync>(
     })?;
     scripts.push(Script::new(rt, TWO, &whole))?;
     match run_sessions(rt, alloc, library, scripts, &OpenGate, &mut Idle) {
-        Ok(totals) => Ok((totals, failing.into_inner())),
+        Ok(gathered) => Ok((gathered, failing.into_inner())),
         Err(ungathered) => Err(ungathered.refusal),
     }
 }
 
-/// The other session does both of its assignments, and the one that fails this many.
+/// The session that fails does this many of its assignments, and ends so; the other one does both of them, up to the end.
 fn fails_alone<M: Marker + Send + Sync, R: Threads + Wait + Abort + Sync>(
     rt: &R,
     alloc: Global,
     blank: Blank,
     fault: Fault,
     done: u64,
+    why: Option<Ending>,
 ) -> Result<(), Fail>
     requires { blank ≡ M.name }
 {
-    let (totals, told) = totals_with::<M, R>(rt, alloc, blank, fault)?;
+    let (gathered, told) = gathered_with::<M, R>(rt, alloc, blank, fault)?;
+    let totals = gathered.totals.as_slice();
+    assert_eq!(rt; gathered.endings.as_slice(), &[why, Some(Ending::End)]);
     if !fault.opens {
         assert!(rt; told.is_empty());
-        return first_did(rt, totals.as_slice(), 2, &[2]);
+        return first_did(rt, totals, 2, &[2]);
     }
     if told.as_slice().starts_with(b"[\"opened\",1]\n") {
-        first_did(rt, totals.as_slice(), done.saturating_add(2), &[done, 2])
+        first_did(rt, totals, done.saturating_add(2), &[done, 2])
     } else {
-        first_did(rt, totals.as_slice(), done.saturating_add(2), &[2, done])
+        first_did(rt, totals, done.saturating_add(2), &[2, done])
     }
 }
 
@@ -84,7 +87,8 @@ fn source_fails_in_mid_line(rt: HostRuntime) -> Result<(), Fail> {
         write_after: usize::MAX,
         opens: true,
     };
-    fails_alone::<Brand, _>(&rt, rt.alloc(), Blank::new(), fault, 1)
+    let why = Some(Ending::ReadFault);
+    fails_alone::<Brand, _>(&rt, rt.alloc(), Blank::new(), fault, 1, why)
 }
 
 #[test]
@@ -94,7 +98,8 @@ fn sink_fails_in_mid_reply(rt: HostRuntime) -> Result<(), Fail> {
         write_after: 20,
         opens: true,
     };
-    fails_alone::<Brand, _>(&rt, rt.alloc(), Blank::new(), fault, 1)
+    let why = Some(Ending::WriteFault);
+    fails_alone::<Brand, _>(&rt, rt.alloc(), Blank::new(), fault, 1, why)
 }
 
 #[test]
@@ -104,5 +109,5 @@ fn connection_cannot_be_opened(rt: HostRuntime) -> Result<(), Fail> {
         write_after: usize::MAX,
         opens: false,
     };
-    fails_alone::<Brand, _>(&rt, rt.alloc(), Blank::new(), fault, 0)
+    fails_alone::<Brand, _>(&rt, rt.alloc(), Blank::new(), fault, 0, None)
 }

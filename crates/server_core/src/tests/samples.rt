@@ -108,8 +108,8 @@ pub fn run_two<M: Marker + Send + Sync, R: Threads + Wait + Sync, G: Gate + Sync
     scripts.push(Script::new(rt, first, &one))?;
     scripts.push(Script::new(rt, second, &two))?;
     match run_sessions(rt, alloc, library, scripts, gate, &mut Idle) {
-        Ok(totals) => Ok(Ran {
-            totals,
+        Ok(gathered) => Ok(Ran {
+            totals: gathered.totals,
             first: one.into_inner(),
             second: two.into_inner(),
         }),

@@ -65,7 +65,7 @@ fn totals_of_many<M: Marker + Send + Sync, R: Threads + Wait + Sync, S: Side<M>>
         scripts.push(Script::new(rt, THREE, &replies))?;
     }
     match run_sessions(rt, alloc, library, scripts, &OpenGate, side) {
-        Ok(totals) => Ok(totals),
+        Ok(gathered) => Ok(gathered.totals),
         Err(ungathered) => Err(ungathered.refusal),
     }
 }

@@ -1,0 +1,10 @@
+use Rattle.std.proofs.Common.{◌≡◌, ◌+◌, ◌-◌, ◌≤◌, [], length, map, replicate}
+use Rattle.doc_rules.specs.Document.{new_document}
+use Rattle.jcrdt.proofs.shelving.new_documents.Given as goal
+
+abbrev pub invariant-loop : goal.invariant-loop
+invariant-loop g l = record {
+  room : l.count ≤ (65535 - l.ledger.next) + l.counter;
+  documents : map (λ d. d.document) l.docs.items ≡ replicate l.counter (new_document l.replica [] l.seats);
+  each : length l.docs.items ≡ l.counter;
+}

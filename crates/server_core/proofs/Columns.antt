@@ -1,0 +1,80 @@
+-- Ends that are taken out of what sessions gave back, the first of each session.
+use Rattle.std.proofs.Common.{◌≡◌, ℕ, zero, suc, ◌+◌, ◌<◌, ◌≤◌, List, [], ◌∷◌, ◌++◌, length, map, drop, Option, Some, None, refl, sym, ap, ◌∙◌, arith, append_assoc, append-nil, length-append}
+use Rattle.std.specs.Prelude.{slice_index_or}
+use Rattle.std.proofs.lemmas.List.{map-append}
+use Rattle.std.specs.List.{flat_map}
+use Rattle.std.proofs.lemmas.Grind.{flat_map-append}
+use Rattle.std.proofs.lemmas.List.Concat.{flat_map-cons}
+use Rattle.doc_rules.specs.Seats.{Seat}
+use Rattle.server_core.specs.Sums.{first_end, later_ends}
+
+-- what is taken out of the front of a list, and what is left
+pub head_is : {X : Type 0} (xs : List X) (x : X) → 0 < length xs → x ≡ slice_index_or xs 0 x → xs ≡ x ∷ drop 1 xs
+head_is [] x some is = absurd (omega arith)
+head_is (y ∷ xs) x some is = ap (λ z. z ∷ xs) (sym is)
+
+pub first_of-None : (xs : List (Option Seat)) (x : Option Seat) → xs ≡ x ∷ drop 1 xs → x ≡ None → first_end xs ≡ []
+first_of-None xs x is none = ap first_end is ∙ ap (λ y. first_end (y ∷ drop 1 xs)) none
+
+pub first_of-Some : (xs : List (Option Seat)) (x : Option Seat) (end : Seat) → xs ≡ x ∷ drop 1 xs → x ≡ Some end → first_end xs ≡ end ∷ []
+first_of-Some xs x end is some = ap first_end is ∙ ap (λ y. first_end (y ∷ drop 1 xs)) some
+
+pub later_is : (xs : List (Option Seat)) → drop 1 xs ≡ later_ends xs
+later_is [] = refl
+later_is (x ∷ xs) = refl
+
+pub none_left : {X : Type 0} (xs : List X) → length xs ≡ 0 → xs ≡ []
+none_left [] none = refl
+none_left (x ∷ xs) none = absurd (omega (arith, none))
+
+-- So many sessions were gone through: what is left of them stands behind those to come.
+pub record IsThrough (sessions now : List (List (Option Seat))) (i : ℕ) (before column : List Seat) : Type 0 where
+  pub done : List (List (Option Seat))
+  pub rest : List (List (Option Seat))
+  pub all : sessions ≡ done ++ rest
+  pub so_many : length done ≡ i
+  pub rotated : now ≡ rest ++ map later_ends done
+  pub taken : column ≡ before ++ flat_map first_end done
+
+pub begun : (sessions : List (List (Option Seat))) (before : List Seat) → IsThrough sessions sessions 0 before before
+begun sessions before = record { done = []; rest = sessions; all = refl; so_many = refl; rotated = sym (append-nil sessions); taken = sym (append-nil before) }
+
+-- the first of them goes to the end, without what was taken of it
+pub one_through : {sessions now : List (List (Option Seat))} {i : ℕ} {before column : List Seat} → IsThrough sessions now i before column → i < length sessions
+    → (first : List (Option Seat)) (rest new : List (List (Option Seat))) (grown : List Seat) → now ≡ first ∷ rest → new ≡ rest ++ later_ends first ∷ []
+    → grown ≡ column ++ first_end first → IsThrough sessions new (i + 1) before grown
+one_through {sessions} {now} {i} {before} {column} so_far within first rest new grown is moved more =
+    by so_far.rest refl
+  where
+    by : (left : List (List (Option Seat))) → so_far.rest ≡ left → IsThrough sessions new (i + 1) before grown
+    by [] none =
+        let lengths : length sessions ≡ length so_far.done + 0 = ap length so_far.all ∙ length-append so_far.done so_far.rest ∙ ap (λ xs. length so_far.done + length xs) none in
+        absurd (omega (arith, lengths, so_far.so_many, within))
+    by (x ∷ left) are =
+        let here : first ∷ rest ≡ x ∷ (left ++ map later_ends so_far.done) = sym is ∙ so_far.rotated ∙ ap (λ xs. xs ++ map later_ends so_far.done) are in
+        let same : first ≡ x = cc in
+        let others : rest ≡ left ++ map later_ends so_far.done = cc in
+        record {
+          done = so_far.done ++ x ∷ [];
+          rest = left;
+          all = so_far.all ∙ ap (λ xs. so_far.done ++ xs) are ∙ sym (append_assoc so_far.done (x ∷ []) left);
+          so_many = length-append so_far.done (x ∷ []) ∙ ap (λ k. k + 1) so_far.so_many;
+          rotated =
+              moved ∙ ap (λ xs. xs ++ later_ends first ∷ []) others ∙ ap (λ y. (left ++ map later_ends so_far.done) ++ later_ends y ∷ []) same
+              ∙ append_assoc left (map later_ends so_far.done) (later_ends x ∷ []) ∙ ap (λ xs. left ++ xs) (sym (map-append later_ends so_far.done (x ∷ [])));
+          taken =
+              more ∙ ap (λ xs. xs ++ first_end first) so_far.taken ∙ ap (λ y. (before ++ flat_map first_end so_far.done) ++ first_end y) same
+              ∙ append_assoc before (flat_map first_end so_far.done) (first_end x)
+              ∙ ap (λ xs. before ++ xs) (sym (flat_map-append first_end so_far.done (x ∷ []) ∙ ap (λ ys. flat_map first_end so_far.done ++ ys) (flat_map-cons first_end x [] ∙ append-nil (first_end x))));
+        }
+
+-- at the end all of them
+pub all_through : {sessions now : List (List (Option Seat))} {i : ℕ} {before column : List Seat} → IsThrough sessions now i before column → length sessions ≤ i
+    → (now ≡ map later_ends sessions) × (column ≡ before ++ flat_map first_end sessions)
+all_through {sessions} {now} {i} {before} {column} so_far past =
+    let lengths : length sessions ≡ length so_far.done + length so_far.rest = ap length so_far.all ∙ length-append so_far.done so_far.rest in
+    let none : so_far.rest ≡ [] = none_left so_far.rest (omega (arith, lengths, so_far.so_many, past)) in
+    let same : sessions ≡ so_far.done = so_far.all ∙ ap (λ xs. so_far.done ++ xs) none ∙ append-nil so_far.done in (
+      so_far.rotated ∙ ap (λ xs. xs ++ map later_ends so_far.done) none ∙ ap (map later_ends) (sym same),
+      so_far.taken ∙ ap (λ xs. before ++ flat_map first_end xs) (sym same),
+    )

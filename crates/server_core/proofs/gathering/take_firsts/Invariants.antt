@@ -1,0 +1,12 @@
+use Rattle.std.proofs.Common.{◌≡◌, ◌≤◌, ◌+◌, vec_len, vec_capacity, map}
+use Rattle.server_core.proofs.Columns.{IsThrough}
+use Rattle.server_core.proofs.gathering.take_firsts.Given as goal
+
+abbrev pub invariant-loop : goal.invariant-loop
+invariant-loop g l =
+    record {
+      through : IsThrough (map (λ s. s.items) l.fn.sessions.items) (map (λ s. s.items) l.sessions.items) l.counter l.fn.ends.items l.ends.items;
+      as_many : vec_len l.sessions ≡ vec_len l.fn.sessions;
+      place : vec_len l.sessions ≤ vec_capacity l.sessions;
+      room : vec_len l.ends + vec_len l.fn.sessions ≤ vec_capacity l.ends + l.counter;
+    }

@@ -1,0 +1,14 @@
+use Rattle.std.proofs.Common.{◌≡◌, ◌≤◌, ◌+◌, vec_len, vec_capacity, length, map, IfSome}
+use Rattle.std.specs.Vec.Iter.{into_iter_items, into_iter_len}
+use Rattle.server_core.proofs.Attending.{IsJoined}
+use Rattle.server_core.proofs.sessions.join_all.Given as goal
+
+abbrev pub invariant-loop-one : goal.invariant-loop-one
+invariant-loop-one g l =
+    record {
+      joined : IsJoined g.C.Connect.requests (λ c r. IfSome r (λ thread. (thread.promise.names.value ≡ l.names.value) × (thread.promise.connection.value ≡ c)))
+          l.names.value.items l.connections.value.items (into_iter_items l.one-iterator) l.attended.endings.items (map (λ s. s.items) l.attended.sessions.items);
+      left : into_iter_len l.one-iterator ≡ length (into_iter_items l.one-iterator);
+      endings : vec_len l.attended.endings + into_iter_len l.one-iterator ≤ vec_capacity l.attended.endings;
+      sessions : vec_len l.attended.sessions + into_iter_len l.one-iterator ≤ vec_capacity l.attended.sessions;
+    }
