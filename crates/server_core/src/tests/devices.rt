@@ -68,7 +68,10 @@ fn fails_alone<M: Marker + Send + Sync, R: Threads + Wait + Abort + Sync>(
 {
     let (gathered, told) = gathered_with::<M, R>(rt, alloc, blank, fault)?;
     let totals = gathered.totals.as_slice();
-    assert_eq!(rt; gathered.endings.as_slice(), &[why, Some(Ending::End)]);
+    assert_eq!(rt;
+        gathered.endings.as_slice(),
+        [why, Some(Ending::End)].as_slice()
+    );
     if !fault.opens {
         assert!(rt; told.is_empty());
         return first_did(rt, totals, 2, &[2]);
