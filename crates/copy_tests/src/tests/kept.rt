@@ -1,0 +1,212 @@
+//! What is kept, and what is refused and changes nothing.
+use super::samples;
+use super::steps::{REFUSED, Step, Told, first_other};
+use json_scalar::Refusal;
+use op_core::Operation;
+use sqlite::Connection;
+use std::alloc::Global;
+use std::test::Fail;
+
+// Over an empty database in memory.
+fn told_otherwise(
+    alloc: Global,
+    log: &[Operation],
+    steps: &[(Step<'_>, Told)],
+) -> Result<Option<(usize, Told)>, Refusal> {
+    let conn = Connection::open_in_memory(alloc)?;
+    Ok(first_other(alloc, conn, log, steps))
+}
+
+// The document is restored under another name, and its next change comes after what was copied.
+const RESTART_FROM_COPY: [(Step<'static>, Told); 9] = [
+    (Step::Open, Told::Done),
+    (Step::Check("[\"epoch\",0]\n"), Told::Done),
+    (Step::Up, Told::Number(1)),
+    (Step::Add("d", 0, 0, 1), Told::Done),
+    (
+        Step::Check("[\"doc\",\"d\",1,[[\"srv-1\",1]]]\n[\"epoch\",1]\n"),
+        Told::Done,
+    ),
+    (Step::Open, Told::Done),
+    (Step::Epoch, Told::Number(1)),
+    (Step::Up, Told::Number(2)),
+    (
+        Step::Edit(
+            "d",
+            r#"["op",[2,"srv-2"],[["srv-1",1]],[[["m",0]],"k"],["assign",1]]"#,
+        ),
+        Told::Done,
+    ),
+];
+
+#[test]
+fn restart_from_copy(rt: HostRuntime) -> Result<(), Fail> {
+    let log = samples::operations(rt.alloc(), &samples::FIRST_RUN)?;
+    assert_eq!(rt;
+        told_otherwise(rt.alloc(), log.as_slice(), &RESTART_FROM_COPY)?,
+        None
+    );
+    Ok(())
+}
+
+const COPY_REFUSALS: [(Step<'static>, Told); 7] = [
+    (Step::Open, Told::Done),
+    (Step::Add("d", 0, 0, 3), Told::Done),
+    (Step::Add("d", 2, 2, 3), REFUSED),
+    (Step::Add("d", 3, 3, 4), REFUSED),
+    (Step::Load("d"), Told::Rows(3)),
+    (Step::Open, Told::Done),
+    (Step::Load("d"), Told::Rows(3)),
+];
+
+#[test]
+fn copy_refusals(rt: HostRuntime) -> Result<(), Fail> {
+    let mut log = samples::operations(rt.alloc(), &samples::CONCURRENT_REGISTER)?;
+    log.push(samples::operation(rt.alloc(), samples::COLORS)?)?;
+    assert_eq!(rt;
+        told_otherwise(rt.alloc(), log.as_slice(), &COPY_REFUSALS)?,
+        None
+    );
+    Ok(())
+}
+
+// Batches behind one another, empty ones, and ones that are refused.
+const BATCHES: [(Step<'static>, Told); 16] = [
+    (Step::Open, Told::Done),
+    (Step::Add("d", 0, 0, 3), Told::Done),
+    (Step::Add("d", 3, 0, 0), Told::Done),
+    (Step::Add("e", 0, 0, 0), Told::Done),
+    (Step::Add("d", 4, 3, 4), REFUSED),
+    (Step::Add("d", 2, 0, 0), REFUSED),
+    (Step::Add("e", 1, 0, 0), REFUSED),
+    (Step::Add("D", 0, 0, 1), REFUSED),
+    (Step::Add("", 0, 0, 0), REFUSED),
+    (Step::Load("d"), Told::Rows(3)),
+    (Step::Add("d", 3, 3, 5), Told::Done),
+    (Step::Docs, Told::Rows(1)),
+    (Step::Open, Told::Done),
+    (Step::Docs, Told::Rows(1)),
+    (Step::Load("d"), Told::Rows(5)),
+    (Step::Load("e"), Told::Rows(0)),
+];
+
+#[test]
+fn batches(rt: HostRuntime) -> Result<(), Fail> {
+    let log = samples::log(rt.alloc(), 5)?;
+    assert_eq!(rt; told_otherwise(rt.alloc(), log.as_slice(), &BATCHES)?, None);
+    Ok(())
+}
+
+// A check prints the documents in the order of their names, in whatever order they came.
+const DOCUMENTS_IN_ORDER: [(Step<'static>, Told); 7] = [
+    (Step::Open, Told::Done),
+    (Step::Add("m", 0, 0, 1), Told::Done),
+    (Step::Add("z", 0, 0, 1), Told::Done),
+    (Step::Add("a", 0, 0, 2), Told::Done),
+    (Step::Add("mm", 0, 0, 1), Told::Done),
+    (Step::Open, Told::Done),
+    (
+        Step::Check(
+            "[\"doc\",\"a\",2,[[\"p\",2]]]\n[\"doc\",\"m\",1,[[\"p\",1]]]\n[\"doc\",\"mm\",1,[[\"p\",1]]]\n[\"doc\",\"z\",1,[[\"p\",1]]]\n[\"epoch\",0]\n",
+        ),
+        Told::Done,
+    ),
+];
+
+#[test]
+fn documents_in_order(rt: HostRuntime) -> Result<(), Fail> {
+    let log = samples::log(rt.alloc(), 2)?;
+    assert_eq!(rt;
+        told_otherwise(rt.alloc(), log.as_slice(), &DOCUMENTS_IN_ORDER)?,
+        None
+    );
+    Ok(())
+}
+
+// The log has 1, 2, 3, 5. The first entry of the batch 3, 5 fits and the second does not: nothing of it stays, and 3 may come again.
+const REFUSED_IN_THE_MIDDLE: [(Step<'static>, Told); 9] = [
+    (Step::Open, Told::Done),
+    (Step::Add("d", 0, 0, 2), Told::Done),
+    (Step::Add("d", 2, 2, 4), REFUSED),
+    (Step::Add("e", 0, 2, 4), REFUSED),
+    (Step::Load("d"), Told::Rows(2)),
+    (Step::Docs, Told::Rows(1)),
+    (Step::Add("d", 2, 2, 3), Told::Done),
+    (Step::Open, Told::Done),
+    (Step::Load("d"), Told::Rows(3)),
+];
+
+#[test]
+fn refused_in_the_middle(rt: HostRuntime) -> Result<(), Fail> {
+    let log = samples::log_without(rt.alloc(), 5, 4)?;
+    assert_eq!(rt;
+        told_otherwise(rt.alloc(), log.as_slice(), &REFUSED_IN_THE_MIDDLE)?,
+        None
+    );
+    Ok(())
+}
+
+const BATCH_TOO_LONG: [(Step<'static>, Told); 6] = [
+    (Step::Open, Told::Done),
+    (Step::Add("d", 0, 0, 257), REFUSED),
+    (Step::Add("d", 0, 0, 256), Told::Done),
+    (Step::Add("d", 256, 256, 257), Told::Done),
+    (Step::Open, Told::Done),
+    (Step::Load("d"), Told::Rows(257)),
+];
+
+#[test]
+fn batch_too_long(rt: HostRuntime) -> Result<(), Fail> {
+    let log = samples::log(rt.alloc(), 257)?;
+    assert_eq!(rt;
+        told_otherwise(rt.alloc(), log.as_slice(), &BATCH_TOO_LONG)?,
+        None
+    );
+    Ok(())
+}
+
+const LAST_EPOCH: [(Step<'static>, Told); 8] = [
+    (Step::Open, Told::Done),
+    (
+        Step::Run("UPDATE meta SET value = 9999998 WHERE name = 'epoch'"),
+        Told::Done,
+    ),
+    (Step::Open, Told::Done),
+    (Step::Up, Told::Number(9_999_999)),
+    (Step::Up, REFUSED),
+    (Step::Epoch, Told::Number(9_999_999)),
+    (Step::Open, Told::Done),
+    (Step::Epoch, Told::Number(9_999_999)),
+];
+
+#[test]
+fn last_epoch(rt: HostRuntime) -> Result<(), Fail> {
+    assert_eq!(rt; told_otherwise(rt.alloc(), &[], &LAST_EPOCH)?, None);
+    Ok(())
+}
+
+// Tables that are not the copy's stay, and the copy lives beside them.
+const FURTHER_TABLES: [(Step<'static>, Told); 9] = [
+    (
+        Step::Run("CREATE TABLE note (id INTEGER PRIMARY KEY, size INTEGER) STRICT"),
+        Told::Done,
+    ),
+    (Step::Run("INSERT INTO note (size) VALUES (41)"), Told::Done),
+    (Step::Open, Told::Done),
+    (Step::Up, Told::Number(1)),
+    (Step::Add("d", 0, 0, 3), Told::Done),
+    (Step::Open, Told::Done),
+    (Step::Epoch, Told::Number(1)),
+    (Step::Load("d"), Told::Rows(3)),
+    (Step::Ask("SELECT size FROM note"), Told::Number(41)),
+];
+
+#[test]
+fn further_tables(rt: HostRuntime) -> Result<(), Fail> {
+    let log = samples::log(rt.alloc(), 3)?;
+    assert_eq!(rt;
+        told_otherwise(rt.alloc(), log.as_slice(), &FURTHER_TABLES)?,
+        None
+    );
+    Ok(())
+}

@@ -1,0 +1,61 @@
+//! Operations by their written forms.
+use json_scalar::Refusal;
+use op_core::{Operation, read_wire};
+use serde_json::Value;
+use std::alloc::Global;
+
+/// One that makes the document.
+pub const FIRST_RUN: [&str; 1] = [r#"["op",[1,"srv-1"],[],[[],0],["assign",{}]]"#];
+
+/// Two assignments that know only one before them.
+pub const CONCURRENT_REGISTER: [&str; 3] = [
+    r#"["op",[1,"p"],[],[[["m",0]],"k"],["assign","A"]]"#,
+    r#"["op",[2,"p"],[["p",1]],[[["m",0]],"k"],["assign","B"]]"#,
+    r#"["op",[2,"q"],[["p",1]],[[["m",0]],"k"],["assign","C"]]"#,
+];
+
+/// Another operation under the id of the first of those.
+pub const COLORS: &str = r#"["op",[1,"p"],[],[[["m",0]],"colors"],["assign",{}]]"#;
+
+pub fn operation(alloc: Global, text: &str) -> Result<Operation, Refusal> {
+    match Value::from_str(alloc, text) {
+        Ok(value) => read_wire(alloc, &value),
+        Err(_) => Err(Refusal::NoMemory),
+    }
+}
+
+/// The operations of these texts.
+pub fn operations(alloc: Global, texts: &[&str]) -> Result<Vec<Operation>, Refusal> {
+    let mut ops = Vec::new(alloc);
+    for text in texts {
+        ops.push(operation(alloc, text)?)?;
+    }
+    Ok(ops)
+}
+
+fn text_of(alloc: Global, i: u64) -> Result<String, Refusal> {
+    if i <= 1 {
+        return Ok(String::from_str(alloc, r#"["op",[1,"p"],[],[[["m",0]],"k"],["assign",1]]"#)?);
+    }
+    let before = i - 1;
+    Ok(format!(in alloc;
+        "[\"op\",[{i},\"p\"],[[\"p\",{before}]],[[[\"m\",0]],\"k\"],[\"assign\",{i}]]"
+    )?)
+}
+
+/// Operations of the replica p with the counters from 1 to n, but for the one left out. Each needs the one before it.
+pub fn log_without(alloc: Global, n: u64, left_out: u64) -> Result<Vec<Operation>, Refusal> {
+    let mut ops = Vec::new(alloc);
+    for i in 1..=n {
+        if i != left_out {
+            let text = text_of(alloc, i)?;
+            ops.push(operation(alloc, text.as_str())?)?;
+        }
+    }
+    Ok(ops)
+}
+
+/// All of them.
+pub fn log(alloc: Global, n: u64) -> Result<Vec<Operation>, Refusal> {
+    log_without(alloc, n, 0)
+}

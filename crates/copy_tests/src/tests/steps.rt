@@ -1,0 +1,232 @@
+//! Steps over one database. Each call of the copy stands in a function of its own that promises nothing, so that the proof of a
+//! list of steps carries none of its clauses.
+use super::restored::is_edited_after;
+use copy_report::check_over;
+use line_feed::Writer;
+use log_copy::{Fault, LogCopy};
+use op_core::Operation;
+use sqlite::{Alter, Connection};
+use std::alloc::Global;
+
+/// What is done with the database.
+#[derive(Clone, Copy)]
+pub enum Step<'a> {
+    /// The copy takes the tables over, once more if it has them.
+    Open,
+    /// The epoch is raised.
+    Up,
+    Epoch,
+    /// The entries of the log between two places are added to the document, behind so many rows.
+    Add(&'a str, usize, usize, usize),
+    Load(&'a str),
+    Docs,
+    /// What a check of the copy prints.
+    Check(&'a str),
+    /// A replica is restored from the document, and its next change is this operation.
+    Edit(&'a str, &'a str),
+    /// The copy gives the tables back, and these statements run over them.
+    Run(&'a str),
+    /// The copy gives the tables back, and this query finds a number in them.
+    Ask(&'a str),
+}
+
+/// What a step tells.
+#[derive(Clone, Copy, Debug, PartialEq, Eq)]
+pub enum Told {
+    Done,
+    Number(u64),
+    /// The document has so many entries, the first ones of the log.
+    Rows(usize),
+    /// There are other entries, or other words are printed.
+    Other,
+    Fault(Fault),
+    /// The statement was refused.
+    NoSql,
+    /// There is no copy that could be asked.
+    NoCopy,
+}
+
+pub const REFUSED: Told = Told::Fault(Fault::Refused);
+
+/// A copy, or a connection that is none.
+#[derive(Drop)]
+enum Held<S: Alter> {
+    Copy(LogCopy<S>),
+    Tables(Connection<S>),
+}
+
+// ---- the calls of the copy
+
+fn told_number(answer: Result<u64, Fault>) -> Told {
+    match answer {
+        Ok(number) => Told::Number(number),
+        Err(fault) => Told::Fault(fault),
+    }
+}
+
+fn up<S: Alter>(copy: &mut LogCopy<S>) -> Told {
+    told_number(copy.epoch_up())
+}
+
+fn epoch<S: Alter>(copy: &LogCopy<S>) -> Told {
+    told_number(copy.epoch())
+}
+
+fn add<S: Alter>(copy: &mut LogCopy<S>, doc: &str, from: usize, entries: &[Operation]) -> Told {
+    match copy.add_batch(doc, from, entries) {
+        Ok(()) => Told::Done,
+        Err(fault) => Told::Fault(fault),
+    }
+}
+
+fn check<S: Alter>(alloc: Global, copy: &LogCopy<S>, due: &str) -> Told {
+    let mut out = Vec::<u8>::new(alloc);
+    let status = check_over(alloc, copy, &mut Writer::new(&mut out));
+    if status == 0 && out.as_slice() == due.as_bytes() {
+        Told::Done
+    } else {
+        Told::Other
+    }
+}
+
+fn edit<S: Alter>(alloc: Global, copy: &LogCopy<S>, doc: &str, due: &str) -> Told {
+    match copy.load(alloc, doc) {
+        Ok(loaded) => told_edit(is_edited_after(alloc, loaded.as_slice(), due)),
+        Err(fault) => Told::Fault(fault),
+    }
+}
+
+fn told_edit(is_so: bool) -> Told {
+    if is_so { Told::Done } else { Told::Other }
+}
+
+fn docs<S: Alter>(copy: &LogCopy<S>) -> Told {
+    match copy.docs() {
+        Ok(docs) => Told::Rows(docs.len()),
+        Err(fault) => Told::Fault(fault),
+    }
+}
+
+fn load<S: Alter>(alloc: Global, copy: &LogCopy<S>, doc: &str, log: &[Operation]) -> Told {
+    match copy.load(alloc, doc) {
+        Ok(loaded) => told_rows(loaded.as_slice(), log),
+        Err(fault) => Told::Fault(fault),
+    }
+}
+
+fn told_rows(loaded: &[Operation], log: &[Operation]) -> Told {
+    if loaded.len() <= log.len() && loaded == &log[..loaded.len()] {
+        Told::Rows(loaded.len())
+    } else {
+        Told::Other
+    }
+}
+
+fn adopt<S: Alter + Drop>(alloc: Global, conn: Connection<S>) -> (Held<S>, Told) {
+    match LogCopy::adopt(alloc, conn) {
+        Ok(copy) => (Held::Copy(copy), Told::Done),
+        Err((fault, conn)) => (Held::Tables(conn), Told::Fault(fault)),
+    }
+}
+
+// ---- the calls of the connection
+
+fn run<S: Alter>(conn: &mut Connection<S>, sql: &str) -> Told {
+    match conn.execute_batch(sql) {
+        Ok(()) => Told::Done,
+        Err(_) => Told::NoSql,
+    }
+}
+
+fn ask<S: Alter>(conn: &mut Connection<S>, sql: &str) -> Told {
+    match conn.query_row(sql, &[]) {
+        Ok(row) => {
+            let number: u64 = row.get(0).unwrap_or(u64::MAX);
+            Told::Number(number)
+        }
+        Err(_) => Told::NoSql,
+    }
+}
+
+// ---- steps
+
+fn asked<S: Alter>(
+    alloc: Global,
+    copy: &mut LogCopy<S>,
+    log: &[Operation],
+    step: Step<'_>,
+) -> Told {
+    match step {
+        Step::Up => up(copy),
+        Step::Epoch => epoch(copy),
+        Step::Add(doc, from, start, end) => {
+            if start <= end && end <= log.len() {
+                add(copy, doc, from, &log[start..end])
+            } else {
+                Told::Other
+            }
+        }
+        Step::Load(doc) => load(alloc, copy, doc, log),
+        Step::Docs => docs(copy),
+        Step::Check(due) => check(alloc, copy, due),
+        Step::Edit(doc, due) => edit(alloc, copy, doc, due),
+        _ => Told::NoCopy,
+    }
+}
+
+fn over_tables<S: Alter + Drop>(
+    alloc: Global,
+    mut conn: Connection<S>,
+    step: Step<'_>,
+) -> (Held<S>, Told) {
+    let told = match step {
+        Step::Open => return adopt(alloc, conn),
+        Step::Run(sql) => run(&mut conn, sql),
+        Step::Ask(sql) => ask(&mut conn, sql),
+        _ => Told::NoCopy,
+    };
+    (Held::Tables(conn), told)
+}
+
+fn over_copy<S: Alter + Drop>(
+    alloc: Global,
+    mut copy: LogCopy<S>,
+    log: &[Operation],
+    step: Step<'_>,
+) -> (Held<S>, Told) {
+    if matches!(step, Step::Open | Step::Run(_) | Step::Ask(_)) {
+        return over_tables(alloc, copy.into_connection(), step);
+    }
+    let told = asked(alloc, &mut copy, log, step);
+    (Held::Copy(copy), told)
+}
+
+fn take<S: Alter + Drop>(
+    alloc: Global,
+    held: Held<S>,
+    log: &[Operation],
+    step: Step<'_>,
+) -> (Held<S>, Told) {
+    match held {
+        Held::Copy(copy) => over_copy(alloc, copy, log, step),
+        Held::Tables(conn) => over_tables(alloc, conn, step),
+    }
+}
+
+/// The place of the first step that tells something else than is due, and what it tells. Each is handed what the one before it left.
+pub fn first_other<S: Alter + Drop>(
+    alloc: Global,
+    conn: Connection<S>,
+    log: &[Operation],
+    steps: &[(Step<'_>, Told)],
+) -> Option<(usize, Told)> {
+    let mut held = Held::Tables(conn);
+    for (at, (step, due)) in steps.iter().enumerate() {
+        let (next, told) = take(alloc, held, log, *step);
+        if told != *due {
+            return Some((at, told));
+        }
+        held = next;
+    }
+    None
+}
