@@ -1,15 +1,18 @@
 //! Operations handed in out of order, twice, and against the rules, also against several at once; held ones given up, and
-//! released by changes of one's own; and want of memory.
+//! released by changes of one's own; documents behind locks, on a shelf, and what their seats add up to; and want of memory.
 mod causes;
 mod foreign;
+mod gathering;
+mod released;
 mod samples;
 mod scarce;
+mod shelf;
 
-use doc_words::{Place, Steps};
 use json_scalar::{Refusal, Scalar, Val};
 use lamport_id::{Id, ReplicaName};
 use op_core::{Cursor, Front, Key, Mutation, Operation, Path};
 use replica_core::{Applied, Delivered, Misfit, Replica};
+use samples::whole;
 use std::alloc::Global;
 use std::process::Abort;
 use std::test::Fail;
@@ -83,19 +86,6 @@ fn is_known(answer: Result<Delivered, Refusal>) -> bool {
 }
 
 #[test]
-fn buffer_release(rt: HostRuntime) -> Result<(), Fail> {
-    let mut replica = Replica::new(rt.alloc(), name(b"srv-1")?).expect(&rt, "memory");
-    assert!(rt; is_held(replica.deliver(assignment(&rt, rt.alloc(), 3)?)));
-    assert!(rt; is_held(replica.deliver(assignment(&rt, rt.alloc(), 2)?)));
-    assert_eq!(rt;
-        counts(replica.deliver(assignment(&rt, rt.alloc(), 1)?)),
-        (3, 0)
-    );
-    assert_eq!(rt; replica.log().len(), 3);
-    Ok(())
-}
-
-#[test]
 fn delivered_twice(rt: HostRuntime) -> Result<(), Fail> {
     let mut replica = Replica::new(rt.alloc(), name(b"srv-1")?).expect(&rt, "memory");
     assert_eq!(rt;
@@ -121,25 +111,13 @@ fn forget_held(rt: HostRuntime) -> Result<(), Fail> {
     Ok(())
 }
 
-// The place of the whole document.
-fn document(alloc: Global) -> Place {
-    let start = Cursor {
-        path: Path::new(alloc),
-        key: Key::Doc,
-    };
-    Place {
-        start,
-        steps: Steps::from(Vec::new(alloc)),
-    }
-}
-
 #[test]
 fn local_releases_held(rt: HostRuntime) -> Result<(), Fail> {
     let mut replica = Replica::new(rt.alloc(), name(b"p")?).expect(&rt, "memory");
     let later = made(&rt, rt.alloc(), 2, b"q", Some((name(b"p")?, 1)))?;
     assert!(rt; is_held(replica.deliver(later)));
     let first = replica
-        .local(document(rt.alloc()), Mutation::Delete)
+        .local(whole(rt.alloc()), Mutation::Delete)
         .expect(&rt, "change");
     assert_eq!(rt; (first.count, first.dropped, first.id.counter), (2, 0, 1));
     Ok(())

@@ -1,20 +1,39 @@
-//! Operations by their written forms, and what the changes of a replica tell.
-use doc_words::{Place, Steps};
-use json_scalar::Refusal;
+//! Operations and commands by their written forms, what is told of them, and a replica and a document to try them on.
+ghost use Rattle.std.specs.Prelude.{◌≡◌, ◌+◌, ◌≤◌, IfOk, OnOk};
+ghost use Rattle.share_ledger.specs.Counters.{place_of};
+
+use doc_words::{Command, Look, Place, Query, Reply, Steps};
+use json_scalar::{Refusal, Scalar};
 use lamport_id::{Id, ReplicaName};
+use locked_doc::{Ledgers, LockedDoc};
 use op_core::{Cursor, Front, Key, KeyText, Mutation, Operation, Path, Tagged, read_wire};
 use replica_core::{Applied, Delivered, Replica};
 use serde_json::Value;
+use share_ledger::{Marker, Table};
 use std::alloc::Global;
 
-/// What a change tells: of an operation that was logged how many were logged and how many dropped, and its counter.
+/// What an answer tells, but for lists: of an operation that was logged how many were logged and how many dropped, and its counter.
 #[derive(Clone, Copy, Debug, PartialEq, Eq)]
 pub enum Told {
     Applied(u64, u64, u64),
     Known,
     Held,
     Forgotten,
+    Account(u64),
     Refused(Refusal),
+    Other,
+}
+
+pub fn told_by(reply: Reply) -> Told {
+    match &reply {
+        Reply::Applied { count, dropped, id } => Told::Applied(*count, *dropped, id.counter),
+        Reply::Known => Told::Known,
+        Reply::Held(_) => Told::Held,
+        Reply::Forgotten => Told::Forgotten,
+        Reply::Account(count) => Told::Account(*count),
+        Reply::Refused(refusal) => Told::Refused(*refusal),
+        _ => Told::Other,
+    }
 }
 
 pub fn delivered(answer: Result<Delivered, Refusal>) -> Told {
@@ -44,11 +63,39 @@ pub fn given_up(answer: Result<(), Refusal>) -> Told {
     }
 }
 
+/// What is done with an operation that is given by its written form.
+#[derive(Clone, Copy, Debug, PartialEq, Eq)]
+pub enum Deed {
+    /// It is handed in.
+    Deliver,
+    /// The change that makes it is asked for.
+    Make,
+    /// It is given up.
+    Forget,
+}
+
 pub fn operation(alloc: Global, text: &str) -> Result<Operation, Refusal> {
     match Value::from_str(alloc, text) {
         Ok(value) => read_wire(alloc, &value),
         Err(_) => Err(Refusal::NoMemory),
     }
+}
+
+pub fn command(alloc: Global, deed: Deed, text: &str) -> Result<Command, Refusal> {
+    let op = operation(alloc, text)?;
+    match deed {
+        Deed::Deliver => Ok(Command::Deliver(op)),
+        Deed::Make => change(alloc, &op),
+        Deed::Forget => Ok(Command::Forget(op.id())),
+    }
+}
+
+// The change that makes an operation, at its cursor.
+fn change(alloc: Global, op: &Operation) -> Result<Command, Refusal> {
+    let start = op.cursor().try_clone()?;
+    let mutation = op.mutation().try_clone()?;
+    let steps = Steps::from(Vec::new(alloc));
+    Ok(Command::Change(Place { start, steps }, mutation))
 }
 
 /// The place of the whole document.
@@ -74,6 +121,42 @@ pub fn member(alloc: Global, name: &str) -> Result<Place, Refusal> {
     })
 }
 
+/// The query for the values at this member.
+pub fn values_at(alloc: Global, name: &str) -> Result<Query, Refusal> {
+    Ok(Query::Look(Look::Values, member(alloc, name)?))
+}
+
+/// Whether these are the scalars, each a number.
+pub fn are_numbers(reply: Reply, due: &[i64]) -> bool {
+    match &reply {
+        Reply::Values(scalars) => scalars.as_slice().len() == due.len()
+            && all_numbers(scalars.as_slice(), due),
+        _ => false,
+    }
+}
+
+fn all_numbers(scalars: &[Scalar], due: &[i64]) -> bool {
+    for (scalar, number) in scalars.iter().zip(due) {
+        if *scalar != Scalar::Int(*number) {
+            return false;
+        }
+    }
+    true
+}
+
+/// Whether these are the ids.
+pub fn are_ids(ids: &[Id], due: &[(u64, &str)]) -> bool {
+    if ids.len() != due.len() {
+        return false;
+    }
+    for (id, (counter, name)) in ids.iter().zip(due) {
+        if id.counter != *counter || *id.replica.as_bytes() != *name.as_bytes() {
+            return false;
+        }
+    }
+    true
+}
+
 /// A replica named srv-1 whose log is empty.
 pub fn server(alloc: Global) -> Result<Replica, Refusal> {
     let name = ReplicaName::read(b"srv-1").ok_or(Refusal::BadRequest)?;
@@ -95,4 +178,21 @@ pub fn later(alloc: Global, counter: u64) -> Result<Operation, Refusal> {
         cursor,
         Mutation::Delete,
     )
+}
+
+/// A document of the replica `srv-1` with so many seats.
+pub fn document<M: Marker>(
+    alloc: Global,
+    table: &mut Table<M>,
+    number: u16,
+    seats: u16,
+) -> Result<LockedDoc<M>, Refusal>
+    requires { table.old ≤ place_of number 0 }
+    ensures ok { IfOk result (λ d. d.number ≡ number) }
+    ensures table { OnOk result (table.new ≤ place_of number seats + 1) }
+{
+    let ledgers = Ledgers::make(alloc, table, number, seats)?;
+    LockedDoc::new(alloc, server(alloc)?, ledgers)
+        .ok()
+        .ok_or(Refusal::NoMemory)
 }

@@ -4,16 +4,22 @@
 //! `rt test` refuses none. `bench/each-allocation replica_tests TEST..` runs a test of this file once for each of its allocations,
 //! with that one refused. `rt try --test --fail-alloc N` refuses the Nth of each test, for one N a run, and the tests of the other
 //! files fail under it, since they expect ample memory.
+ghost use Rattle.std.specs.Prelude.{◌≡◌, ◌≤◌, IfOk};
+ghost use Rattle.share_ledger.specs.Counters.{place_of};
+
 use super::is_conflict_at;
-use super::samples::{Told, changed, delivered, given_up, member, operation, server, whole};
-use doc_words::{Look, Place, Query, Reply, Steps};
+use super::samples::{Deed, Told, command, member, operation, server, told_by, whole};
+use doc_words::{Command, Look, Query, Reply};
 use json_scalar::Refusal;
 use lamport_id::ReplicaName;
+use locked_doc::{Gathering, Ledgers, LockedDoc, Seat, SeatEnd, Shelf, Totals};
 use op_core::{Front, Operation};
 use replica_core::{Misfit, Replica};
+use share_ledger::{Blank, Marker, Table};
 use std::alloc::Global;
+use std::marker::Brand;
 use std::process::Abort;
-use std::test::Fail;
+use std::test::*;
 
 const RESTORED: [&str; 2] = [
     r#"["op",[1,"o"],[],[[],0],["assign",{}]]"#,
@@ -24,18 +30,7 @@ const SECOND: &str = r#"["op",[2,"p"],[["p",1]],[[["m",0]],"k"],["assign",2]]"#;
 
 const THIRD: &str = r#"["op",[3,"p"],[["p",2]],[[["m",0]],"k"],["assign",3]]"#;
 
-/// What is done with an operation that is given by its written form.
-#[derive(Clone, Copy, Debug, PartialEq, Eq)]
-enum Deed {
-    /// It is handed in.
-    Deliver,
-    /// The change that makes it is asked for.
-    Make,
-    /// It is given up.
-    Forget,
-}
-
-// What is asked of the replica, and what is due where memory is ample.
+// What is asked of the document, and what is due where memory is ample.
 const STEPS: [(Deed, &str, Told); 12] = [
     (
         Deed::Make,
@@ -79,35 +74,15 @@ const STEPS: [(Deed, &str, Told); 12] = [
 const SHOWN: &str =
     r#"[["map",[["k",[["val",[3,"p"],3]]],["l",[["list",[[["val",[3,"srv-1"],"eggs"]]]]]],["n",[["cnt","5"]]]]]]"#;
 
-fn operation_again(alloc: Global, text: &str) -> Result<Operation, Refusal> {
-    match operation(alloc, text) {
-        Ok(op) => Ok(op),
-        Err(_) => operation(alloc, text),
+fn command_again(alloc: Global, deed: Deed, text: &str) -> Result<Command, Refusal> {
+    match command(alloc, deed, text) {
+        Ok(made) => Ok(made),
+        Err(_) => command(alloc, deed, text),
     }
-}
-
-fn does(alloc: Global, replica: &mut Replica, deed: Deed, op: Operation) -> Told {
-    match deed {
-        Deed::Deliver => delivered(replica.deliver(op)),
-        Deed::Make => makes(alloc, replica, &op),
-        Deed::Forget => given_up(replica.forget(op.id())),
-    }
-}
-
-// Asks for the change that makes an operation, at its cursor.
-fn makes(alloc: Global, replica: &mut Replica, op: &Operation) -> Told {
-    let Ok(start) = op.cursor().try_clone() else {
-        return Told::Refused(Refusal::NoMemory);
-    };
-    let Ok(mutation) = op.mutation().try_clone() else {
-        return Told::Refused(Refusal::NoMemory);
-    };
-    let steps = Steps::from(Vec::new(alloc));
-    changed(replica.local(Place { start, steps }, mutation))
 }
 
 // How many readings there are.
-const READINGS: usize = 10;
+const READINGS: usize = 11;
 
 fn query(alloc: Global, which: usize) -> Result<Query, Refusal> {
     Ok(match which {
@@ -120,14 +95,20 @@ fn query(alloc: Global, which: usize) -> Result<Query, Refusal> {
         6 => Query::Resolve(member(alloc, "k")?),
         7 => Query::Operations(Front::from(Vec::new(alloc)), 100),
         8 => Query::Front,
-        _ => Query::Held,
+        9 => Query::Held,
+        _ => Query::Account,
     })
 }
 
 // The text of a reading, which is refused for want of memory alone.
-fn reading(alloc: Global, replica: &Replica, which: usize) -> Result<String, Refusal> {
+fn reading<M: Marker>(
+    alloc: Global,
+    doc: &LockedDoc<M>,
+    seat: &mut Seat<M>,
+    which: usize,
+) -> Result<String, Refusal> {
     let asked = query(alloc, which)?;
-    let reply = replica.read(0, asked);
+    let reply = doc.read(seat, asked).into_reply();
     if let Reply::Refused(refusal) = &reply {
         return Err(*refusal);
     }
@@ -135,47 +116,66 @@ fn reading(alloc: Global, replica: &Replica, which: usize) -> Result<String, Ref
     Ok(text)
 }
 
-fn reading_again(alloc: Global, replica: &Replica, which: usize) -> Result<String, Refusal> {
-    match reading(alloc, replica, which) {
+fn reading_again<M: Marker>(
+    alloc: Global,
+    doc: &LockedDoc<M>,
+    seat: &mut Seat<M>,
+    which: usize,
+) -> Result<String, Refusal> {
+    match reading(alloc, doc, seat, which) {
         Ok(text) => Ok(text),
-        Err(_) => reading(alloc, replica, which),
+        Err(_) => reading(alloc, doc, seat, which),
     }
 }
 
-// All readings of a replica.
-fn picture(alloc: Global, replica: &Replica) -> Result<Vec<String>, Refusal> {
+// All readings of a document.
+fn picture<M: Marker>(
+    alloc: Global,
+    doc: &LockedDoc<M>,
+    seat: &mut Seat<M>,
+) -> Result<Vec<String>, Refusal> {
     let mut texts = Vec::new(alloc);
     for which in 0..READINGS {
-        texts.push(reading(alloc, replica, which)?)?;
+        texts.push(reading(alloc, doc, seat, which)?)?;
     }
     Ok(texts)
 }
 
-fn picture_again(alloc: Global, replica: &Replica) -> Result<Vec<String>, Refusal> {
-    match picture(alloc, replica) {
+fn picture_again<M: Marker>(
+    alloc: Global,
+    doc: &LockedDoc<M>,
+    seat: &mut Seat<M>,
+) -> Result<Vec<String>, Refusal> {
+    match picture(alloc, doc, seat) {
         Ok(texts) => Ok(texts),
-        Err(_) => picture(alloc, replica),
+        Err(_) => picture(alloc, doc, seat),
     }
 }
 
 // Does one step. Where memory is wanting nothing has changed, and the step succeeds when it is done again.
-fn obeys<R: Abort>(
+fn obeys<M: Marker, R: Abort>(
     rt: &R,
     alloc: Global,
-    replica: &mut Replica,
+    doc: &mut LockedDoc<M>,
+    seat: &mut Seat<M>,
     step: &(Deed, &str, Told),
 ) -> Result<(), Fail> {
-    let before = picture_again(alloc, replica)?;
-    let first = operation_again(alloc, step.1)?;
-    let answer = does(alloc, replica, step.0, first);
+    let before = picture_again(alloc, doc, seat)?;
+    let first = command_again(alloc, step.0, step.1)?;
+    let answer = told_by(doc.act(seat, first).into_reply());
     if answer != Told::Refused(Refusal::NoMemory) {
         assert!(rt; answer == step.2 || lets_go(answer, step.2), "{}", step.1);
         return Ok(());
     }
-    let after = picture_again(alloc, replica)?;
+    let after = picture_again(alloc, doc, seat)?;
     assert!(rt; after == before, "{}", step.1);
-    let second = operation_again(alloc, step.1)?;
-    assert_eq!(rt; does(alloc, replica, step.0, second), step.2, "{}", step.1);
+    let second = command_again(alloc, step.0, step.1)?;
+    assert_eq!(rt;
+        told_by(doc.act(seat, second).into_reply()),
+        step.2,
+        "{}",
+        step.1
+    );
     Ok(())
 }
 
@@ -190,13 +190,18 @@ fn lets_go(answer: Told, due: Told) -> bool {
 }
 
 // Hands in again what may have been dropped.
-fn makes_up<R: Abort>(rt: &R, alloc: Global, replica: &mut Replica) -> Result<(), Fail> {
+fn makes_up<M: Marker, R: Abort>(
+    rt: &R,
+    alloc: Global,
+    doc: &mut LockedDoc<M>,
+    seat: &mut Seat<M>,
+) -> Result<(), Fail> {
     for text in [SECOND, THIRD] {
-        let op = operation_again(alloc, text)?;
-        let mut answer = delivered(replica.deliver(op));
+        let delivery = command_again(alloc, Deed::Deliver, text)?;
+        let mut answer = told_by(doc.act(seat, delivery).into_reply());
         if answer == Told::Refused(Refusal::NoMemory) {
-            let again = operation_again(alloc, text)?;
-            answer = delivered(replica.deliver(again));
+            let again = command_again(alloc, Deed::Deliver, text)?;
+            answer = told_by(doc.act(seat, again).into_reply());
         }
         assert!(rt;
             matches!(&answer, Told::Known | Told::Applied(_, 0, _)),
@@ -207,19 +212,24 @@ fn makes_up<R: Abort>(rt: &R, alloc: Global, replica: &mut Replica) -> Result<()
 }
 
 // Each reading tells the same three times over, of which one at most met want of memory.
-fn reads_alike<R: Abort>(rt: &R, alloc: Global, replica: &Replica) -> Result<(), Fail> {
+fn reads_alike<M: Marker, R: Abort>(
+    rt: &R,
+    alloc: Global,
+    doc: &LockedDoc<M>,
+    seat: &mut Seat<M>,
+) -> Result<(), Fail> {
     for which in 0..READINGS {
-        let one = reading_again(alloc, replica, which)?;
-        let two = reading_again(alloc, replica, which)?;
-        let three = reading_again(alloc, replica, which)?;
+        let one = reading_again(alloc, doc, seat, which)?;
+        let two = reading_again(alloc, doc, seat, which)?;
+        let three = reading_again(alloc, doc, seat, which)?;
         assert!(rt; one == two && two == three, "reading {which}");
     }
     Ok(())
 }
 
-fn shows(alloc: Global, replica: &Replica, due: &str) -> bool {
+fn shows<M: Marker>(alloc: Global, doc: &LockedDoc<M>, seat: &mut Seat<M>, due: &str) -> bool {
     let asked = Query::Look(Look::Show, whole(alloc));
-    match &replica.read(0, asked) {
+    match &doc.read(seat, asked).into_reply() {
         Reply::Show(text) => text.as_str() == due,
         _ => false,
     }
@@ -233,24 +243,56 @@ fn operations(alloc: Global, texts: &[&str]) -> Result<Vec<Operation>, Refusal> 
     Ok(ops)
 }
 
-fn operations_again(alloc: Global, texts: &[&str]) -> Result<Vec<Operation>, Refusal> {
+// The replica `srv-1` with these in its log.
+fn restored(alloc: Global, texts: &[&str]) -> Result<Replica, Misfit> {
+    let Some(name) = ReplicaName::read(b"srv-1") else {
+        return Err(Misfit::NoMemory);
+    };
     match operations(alloc, texts) {
-        Ok(ops) => Ok(ops),
-        Err(_) => operations(alloc, texts),
+        Ok(ops) => Replica::restore(alloc, name, ops.as_slice()),
+        Err(_) => Err(Misfit::NoMemory),
     }
 }
 
-fn restored(alloc: Global, ops: &[Operation]) -> Result<Replica, Misfit> {
-    match ReplicaName::read(b"srv-1") {
-        Some(name) => Replica::restore(alloc, name, ops),
-        None => Err(Misfit::NoMemory),
-    }
-}
-
-fn restored_again(alloc: Global, ops: &[Operation]) -> Result<Replica, Misfit> {
-    match restored(alloc, ops) {
-        Err(Misfit::NoMemory) => restored(alloc, ops),
+fn restored_again(alloc: Global, texts: &[&str]) -> Result<Replica, Misfit> {
+    match restored(alloc, texts) {
+        Err(Misfit::NoMemory) => restored(alloc, texts),
         other => other,
+    }
+}
+
+// The replica with the restored operations, which is made at the second try at the latest.
+fn replica_again(alloc: Global) -> Result<Replica, Refusal> {
+    restored_again(alloc, &RESTORED)
+        .ok()
+        .ok_or(Refusal::NoMemory)
+}
+
+fn ledgers_again<M: Marker>(alloc: Global, table: &mut Table<M>) -> Result<Ledgers<M>, Refusal>
+    requires { table.old ≤ place_of 0 0 }
+    ensures { IfOk result (λ l. l.number ≡ 0) }
+{
+    match Ledgers::make(alloc, table, 0, 2) {
+        Ok(ledgers) => Ok(ledgers),
+        Err(_) => Ledgers::make(alloc, table, 0, 2),
+    }
+}
+
+// Where memory is wanting, a second document is made of what is handed back.
+fn document_again<M: Marker, R: Abort>(
+    rt: &R,
+    alloc: Global,
+    replica: Replica,
+    ledgers: Ledgers<M>,
+) -> Result<LockedDoc<M>, Refusal> {
+    match LockedDoc::new(alloc, replica, ledgers) {
+        Ok(doc) => Ok(doc),
+        Err((replica, ledgers)) => {
+            assert_eq!(rt; replica.log().len(), 2);
+            LockedDoc::new(alloc, replica, ledgers)
+                .ok()
+                .ok_or(Refusal::NoMemory)
+        }
     }
 }
 
@@ -265,26 +307,110 @@ fn new_with_memory_wanting(rt: HostRuntime) -> Result<(), Fail> {
     Ok(())
 }
 
-#[test]
-fn memory_wanting(rt: HostRuntime) -> Result<(), Fail> {
-    let alloc = rt.alloc();
-    let ops = operations_again(alloc, &RESTORED)?;
-    let mut replica = restored_again(alloc, ops.as_slice())?;
-    for step in &STEPS {
-        obeys(&rt, alloc, &mut replica, step)?;
-    }
-    makes_up(&rt, alloc, &mut replica)?;
-    reads_alike(&rt, alloc, &replica)?;
-    assert!(rt; shows(alloc, &replica, SHOWN) || shows(alloc, &replica, SHOWN));
-    assert_eq!(rt; replica.log().len(), 8);
-    Ok(())
-}
-
 // A list whose last operation has the id of one before it is told so, whatever allocation is refused.
 #[test]
 fn misfit_with_memory_wanting(rt: HostRuntime) -> Result<(), Fail> {
-    let alloc = rt.alloc();
-    let ops = operations_again(alloc, &[RESTORED[0], RESTORED[1], RESTORED[1]])?;
-    assert!(rt; is_conflict_at(restored_again(alloc, ops.as_slice()), 2));
+    let twice = [RESTORED[0], RESTORED[1], RESTORED[1]];
+    assert!(rt; is_conflict_at(restored_again(rt.alloc(), &twice), 2));
+    Ok(())
+}
+
+#[test]
+fn memory_wanting(rt: HostRuntime) -> Result<(), Fail> {
+    wants::<Brand, _>(&rt, rt.alloc(), Blank::new())
+}
+
+fn wants<M: Marker, R: Abort>(rt: &R, alloc: Global, blank: Blank) -> Result<(), Fail>
+    requires { blank ≡ M.name }
+{
+    let mut table = blank.named::<M>();
+    let ledgers = ledgers_again(alloc, &mut table)?;
+    let replica = replica_again(alloc)?;
+    let mut doc = document_again(rt, alloc, replica, ledgers)?;
+    let mut seat = doc.open_seat()?;
+    for step in &STEPS {
+        obeys(rt, alloc, &mut doc, &mut seat, step)?;
+    }
+    ends_well(rt, alloc, doc, seat)
+}
+
+fn ends_well<M: Marker, R: Abort>(
+    rt: &R,
+    alloc: Global,
+    doc: LockedDoc<M>,
+    seat: Seat<M>,
+) -> Result<(), Fail> {
+    let mut doc = doc;
+    let mut seat = seat;
+    makes_up(rt, alloc, &mut doc, &mut seat)?;
+    reads_alike(rt, alloc, &doc, &mut seat)?;
+    assert!(rt; shows(alloc, &doc, &mut seat, SHOWN) || shows(alloc, &doc, &mut seat, SHOWN));
+    assert_eq!(rt; tail_again(&doc)?, 8);
+    assert_eq!(rt; seat.account(), 6);
+    gathers(rt, alloc, doc, seat.end())
+}
+
+fn tail_again<M: Marker>(doc: &LockedDoc<M>) -> Result<usize, Refusal> {
+    match doc.tail(0, 100) {
+        Ok(operations) => Ok(operations.as_slice().len()),
+        Err(_) => Ok(doc.tail(0, 100)?.as_slice().len()),
+    }
+}
+
+// Gathers, and once more with what is handed back where memory is wanting.
+fn gathers<M: Marker, R: Abort>(
+    rt: &R,
+    alloc: Global,
+    doc: LockedDoc<M>,
+    end: SeatEnd<M>,
+) -> Result<(), Fail> {
+    let mut ends = Vec::new(alloc);
+    if ends.reserve(1).is_err() {
+        ends.reserve(1)?;
+    }
+    ends.push_reserved(end);
+    match doc.gather(alloc, ends) {
+        Ok(totals) => adds_up(rt, &totals),
+        Err(back) => gathers_again(rt, alloc, back),
+    }
+}
+
+fn gathers_again<M: Marker, R: Abort>(
+    rt: &R,
+    alloc: Global,
+    back: Gathering<M>,
+) -> Result<(), Fail> {
+    assert_eq!(rt; back.refusal, Refusal::NoMemory);
+    assert_eq!(rt; back.ends.len(), 1);
+    let totals = back.doc.gather(alloc, back.ends).ok().ok_or("gathered")?;
+    adds_up(rt, &totals)
+}
+
+fn adds_up<R: Abort>(rt: &R, totals: &Totals) -> Result<(), Fail> {
+    assert_eq!(rt; (totals.accepted, totals.logged, totals.copied), (6, 8, 2));
+    assert_eq!(rt; totals.by_seat.as_slice(), [6].as_slice());
+    Ok(())
+}
+
+// A document that finds no room on a shelf is handed back.
+#[test]
+fn shelf_wanting(rt: HostRuntime) -> Result<(), Fail> {
+    puts::<Brand, _>(&rt, rt.alloc(), Blank::new())
+}
+
+fn puts<M: Marker, R: Abort>(rt: &R, alloc: Global, blank: Blank) -> Result<(), Fail>
+    requires { blank ≡ M.name }
+{
+    let mut table = blank.named::<M>();
+    let ledgers = ledgers_again(alloc, &mut table)?;
+    let replica = replica_again(alloc)?;
+    let doc = document_again(rt, alloc, replica, ledgers)?;
+    let mut shelf = Shelf::new(alloc);
+    if let Err(doc) = shelf.put(doc) {
+        assert_eq!(rt; shelf.len(), 0);
+        assert_eq!(rt; tail_again(&doc)?, 2);
+        assert!(rt; shelf.put(doc).is_ok());
+    }
+    assert_eq!(rt; shelf.len(), 1);
     Ok(())
 }

@@ -1,4 +1,4 @@
-use Rattle.locked_tests.proofs.tests.gathering.gather_totals.Given as goal
+use Rattle.replica_tests.proofs.tests.gathering.gather_totals.Given as goal
 
 abbrev pub ghosts-gathers : goal.ghosts-gathers
 ghosts-gathers g a = record { name = a.blank }

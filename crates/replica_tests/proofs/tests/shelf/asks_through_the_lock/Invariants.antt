@@ -1,4 +1,4 @@
-use Rattle.locked_tests.proofs.tests.shelf.asks_through_the_lock.Given as goal
+use Rattle.replica_tests.proofs.tests.shelf.asks_through_the_lock.Given as goal
 
 abbrev pub ghosts-asks : goal.ghosts-asks
 ghosts-asks g a = record { name = a.blank }

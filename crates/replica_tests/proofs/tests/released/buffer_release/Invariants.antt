@@ -1,4 +1,4 @@
-use Rattle.locked_tests.proofs.tests.gathering.release_counts_for_releaser.Given as goal
+use Rattle.replica_tests.proofs.tests.released.buffer_release.Given as goal
 
 abbrev pub ghosts-releases : goal.ghosts-releases
 ghosts-releases g a = record { name = a.blank }

@@ -1,0 +1,80 @@
+//! The worked row on operations that are handed in out of order, on a document behind a lock.
+ghost use Rattle.std.specs.Prelude.{◌≡◌};
+
+use super::samples::{Deed, Told, are_ids, are_numbers, command, document, told_by, values_at};
+use doc_words::{Query, Reply};
+use json_scalar::Refusal;
+use locked_doc::{LockedDoc, Seat};
+use share_ledger::{Blank, Marker};
+use std::alloc::Global;
+use std::marker::Brand;
+use std::process::Abort;
+use std::test::*;
+
+// Hands in operations one after another; each is answered as is due.
+fn delivers<M: Marker, R: Abort>(
+    rt: &R,
+    alloc: Global,
+    doc: &mut LockedDoc<M>,
+    seat: &mut Seat<M>,
+    due: &[(&str, Told)],
+) -> Result<(), Refusal> {
+    for (text, answer) in due {
+        let command = command(alloc, Deed::Deliver, text)?;
+        let reply = doc.act(seat, command).into_reply();
+        assert_eq!(rt; told_by(reply), *answer, "{text}");
+    }
+    Ok(())
+}
+
+const OUT_OF_ORDER: [(&str, Told); 2] = [
+    (
+        r#"["op",[3,"p"],[["p",2]],[[["m",0]],"k"],["assign",3]]"#,
+        Told::Held,
+    ),
+    (
+        r#"["op",[2,"p"],[["p",1]],[[["m",0]],"k"],["assign",2]]"#,
+        Told::Held,
+    ),
+];
+
+const FIRST: [(&str, Told); 1] = [(
+    r#"["op",[1,"p"],[],[[["m",0]],"k"],["assign",1]]"#,
+    Told::Applied(3, 0, 1),
+)];
+
+// Whether the second of p waits for its first, and the third for the second.
+fn are_waiting(reply: Reply) -> bool {
+    match &reply {
+        Reply::Waiting(waiting) => match waiting.as_slice() {
+            [second, third] => {
+                are_ids(&[second.0, third.0], &[(2, "p"), (3, "p")])
+                    && are_ids(second.1.as_slice(), &[(1, "p")])
+                    && are_ids(third.1.as_slice(), &[(2, "p")])
+            }
+            _ => false,
+        },
+        _ => false,
+    }
+}
+
+#[test]
+fn buffer_release(rt: HostRuntime) -> Result<(), Fail> {
+    releases::<Brand, _>(&rt, rt.alloc(), Blank::new())
+}
+
+fn releases<M: Marker, R: Abort>(rt: &R, alloc: Global, blank: Blank) -> Result<(), Fail>
+    requires { blank ≡ M.name }
+{
+    let mut table = blank.named::<M>();
+    let mut doc = document(alloc, &mut table, 0, 1)?;
+    let mut seat = doc.open_seat()?;
+    delivers(rt, alloc, &mut doc, &mut seat, &OUT_OF_ORDER)?;
+    assert!(rt; are_waiting(doc.read(&mut seat, Query::Held).into_reply()));
+    delivers(rt, alloc, &mut doc, &mut seat, &FIRST)?;
+    let account = doc.read(&mut seat, Query::Account).into_reply();
+    assert_eq!(rt; told_by(account), Told::Account(3));
+    let values = doc.read(&mut seat, values_at(alloc, "k")?).into_reply();
+    assert!(rt; are_numbers(values, &[3]));
+    Ok(())
+}
