@@ -9,7 +9,7 @@ use Rattle.json_scalar.specs.Scalar.{val_of, int_of}
 use Rattle.doc_words.specs.Words.{Refusal, Assign, Insert, Delete, Add}
 use Rattle.json_scalar.specs.declared.refusal.Refusal.TheVariants.{NotJson, BadRequest, BadValue, BadFront}
 use Rattle.op_core.specs.Front.{is_ascending}
-use Rattle.op_core.specs.Reading.{◌>>=◌, some_if, u64_of, id_from, front_of, op_from}
+use Rattle.op_core.specs.Reading.{◌>>=◌, some_if, u64_of, id_from, front_of_json, op_from}
 use Rattle.doc_words.specs.declared.place.Step.{Step}
 use Rattle.doc_words.specs.declared.place.Step.TheVariants.{Get, Index}
 use Rattle.doc_words.specs.declared.ask.Look.{Look}
@@ -129,7 +129,7 @@ in_order front = if is_ascending front then Ok front else Err BadFront
 
 abbrev pub ops_from : Data → Data → Result Ask Refusal
 ops_from f n =
-    and_then (ok_or (limit_from n) BadRequest) (λ limit. and_then (and_then (ok_or (front_of f) BadRequest) in_order) (λ front. Ok (ask.Operations front limit)))
+    and_then (ok_or (limit_from n) BadRequest) (λ limit. and_then (and_then (ok_or (front_of_json f) BadRequest) in_order) (λ front. Ok (ask.Operations front limit)))
 
 abbrev pub assignment_from : Data → Data → Result Ask Refusal
 assignment_from c d =

@@ -7,11 +7,11 @@ mod name;
 mod read;
 mod request;
 mod text;
-mod told;
+mod line_reply;
 mod told_json;
 mod write;
 
 pub use name::Name;
 pub use request::{Ask, CursorExpr, Request, Start};
-pub use told::{Told, VERSION};
+pub use line_reply::{LineReply, VERSION};
 pub use write::WriteFault;

@@ -30,7 +30,7 @@ impl OpLog {
         ensures cause { result ≡ cause_of op.now self.now.operations }
         ensures fits { IsOk result ↔ Fits op.now self.now.operations }
     {
-        self.first_cause(op)
+        self.first_fit_cause(op)
     }
 
     /// Whether the log takes one more operation of this replica: log-full from 100,000 operations on, too-many-replicas for
@@ -48,7 +48,7 @@ impl OpLog {
     }
 
     #[tactic(auto, using(crate::proofs::Comparing::shaped_ascending))]
-    fn first_cause(&self, op: &Operation) -> Result<(), Refusal>
+    fn first_fit_cause(&self, op: &Operation) -> Result<(), Refusal>
         ensures cause { result ≡ cause_of op.now self.now.operations }
         ensures shaped { is_shaped op.now ≡ true }
     {

@@ -10,7 +10,7 @@ mod own;
 mod read;
 mod replica;
 mod restore;
-mod told;
+mod outcome_reply;
 
 pub use outcome::{Applied, Delivered};
 pub use replica::Replica;

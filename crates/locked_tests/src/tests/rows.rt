@@ -1,7 +1,7 @@
 //! The worked rows on operations that are handed in, on a document behind a lock.
 ghost use Rattle.std.specs.Prelude.{◌≡◌};
 
-use super::samples::{Deed, Told, are_ids, are_numbers, command, document, told_by, values_at};
+use super::samples::{Deed, Digest, are_ids, are_numbers, command, document, told_by, values_at};
 use doc_words::{Command, Query, Reply};
 use json_scalar::Refusal;
 use lamport_id::{Id, ReplicaName};
@@ -19,7 +19,7 @@ fn delivers<M: Marker, R: Abort>(
     alloc: Global,
     doc: &mut LockedDoc<M>,
     seat: &mut Seat<M>,
-    due: &[(&str, Told)],
+    due: &[(&str, Digest)],
 ) -> Result<(), Refusal> {
     for (text, answer) in due {
         let command = command(alloc, Deed::Deliver, text)?;
@@ -29,20 +29,20 @@ fn delivers<M: Marker, R: Abort>(
     Ok(())
 }
 
-const OUT_OF_ORDER: [(&str, Told); 2] = [
+const OUT_OF_ORDER: [(&str, Digest); 2] = [
     (
         r#"["op",[3,"p"],[["p",2]],[[["m",0]],"k"],["assign",3]]"#,
-        Told::Held,
+        Digest::Held,
     ),
     (
         r#"["op",[2,"p"],[["p",1]],[[["m",0]],"k"],["assign",2]]"#,
-        Told::Held,
+        Digest::Held,
     ),
 ];
 
-const FIRST: [(&str, Told); 1] = [(
+const FIRST: [(&str, Digest); 1] = [(
     r#"["op",[1,"p"],[],[[["m",0]],"k"],["assign",1]]"#,
-    Told::Applied(3, 0, 1),
+    Digest::Applied(3, 0, 1),
 )];
 
 // Whether the second of p waits for its first, and the third for the second.
@@ -75,45 +75,45 @@ fn releases<M: Marker, R: Abort>(rt: &R, alloc: Global, blank: Blank) -> Result<
     assert!(rt; are_waiting(doc.read(&mut seat, Query::Held).into_reply()));
     delivers(rt, alloc, &mut doc, &mut seat, &FIRST)?;
     let account = doc.read(&mut seat, Query::Account).into_reply();
-    assert_eq!(rt; told_by(account), Told::Account(3));
+    assert_eq!(rt; told_by(account), Digest::Account(3));
     let values = doc.read(&mut seat, values_at(alloc, "k")?).into_reply();
     assert!(rt; are_numbers(values, &[3]));
     Ok(())
 }
 
-const FOREIGN: [(&str, Told); 8] = [
+const FOREIGN: [(&str, Digest); 8] = [
     (
         r#"["op",[1,"o"],[],[[["m",0]],"l"],["assign",[]]]"#,
-        Told::Applied(1, 0, 1),
+        Digest::Applied(1, 0, 1),
     ),
     (
         r#"["op",[2,"o"],[["o",1]],[[["m",0],["l","l"]],1],["insert","a"]]"#,
-        Told::Applied(1, 0, 2),
+        Digest::Applied(1, 0, 2),
     ),
     (
         r#"["op",[3,"q"],[["o",2]],[[["m",0]],"k"],["assign",1]]"#,
-        Told::Applied(1, 0, 3),
+        Digest::Applied(1, 0, 3),
     ),
     (
         r#"["op",[4,"p"],[["q",3]],[[["m",0]],"k"],["assign",2]]"#,
-        Told::Refused(Refusal::BadFront),
+        Digest::Refused(Refusal::BadFront),
     ),
     (
         r#"["op",[2,"q"],[["o",1]],[[["m",0]],"k"],["assign",3]]"#,
-        Told::Refused(Refusal::Forked { last: 3 }),
+        Digest::Refused(Refusal::Forked { last: 3 }),
     ),
     (
         r#"["op",[2,"p"],[["o",1]],[[["m",0],["l","l"]],[2,"o"]],["assign","b"]]"#,
-        Told::Refused(Refusal::BadCursor),
+        Digest::Refused(Refusal::BadCursor),
     ),
     (
         r#"["op",[1,"srv-1"],[],[[["m",0]],"k"],["assign",2]]"#,
-        Told::Refused(Refusal::OwnName),
+        Digest::Refused(Refusal::OwnName),
     ),
     // Again: it is known, and nothing is logged twice.
     (
         r#"["op",[3,"q"],[["o",2]],[[["m",0]],"k"],["assign",1]]"#,
-        Told::Known,
+        Digest::Known,
     ),
 ];
 
@@ -152,7 +152,7 @@ fn refuses<M: Marker, R: Abort>(rt: &R, alloc: Global, blank: Blank) -> Result<(
     let front = doc.read(&mut seat, Query::Front).into_reply();
     assert!(rt; is_front(front, ("o", 2), ("q", 3)));
     let account = doc.read(&mut seat, Query::Account).into_reply();
-    assert_eq!(rt; told_by(account), Told::Account(3));
+    assert_eq!(rt; told_by(account), Digest::Account(3));
     Ok(())
 }
 
@@ -186,12 +186,12 @@ fn fills<M: Marker, R: Abort>(rt: &R, alloc: Global, blank: Blank) -> Result<(),
     let mut seat = doc.open_seat()?;
     for counter in 2..258 {
         let held = Command::Deliver(later(alloc, counter)?);
-        assert_eq!(rt; told_by(doc.act(&mut seat, held).into_reply()), Told::Held);
+        assert_eq!(rt; told_by(doc.act(&mut seat, held).into_reply()), Digest::Held);
     }
     let last = Command::Deliver(later(alloc, 258)?);
     assert_eq!(rt;
         told_by(doc.act(&mut seat, last).into_reply()),
-        Told::Refused(Refusal::HeldFull)
+        Digest::Refused(Refusal::HeldFull)
     );
     Ok(())
 }

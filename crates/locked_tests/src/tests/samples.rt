@@ -14,7 +14,7 @@ use std::alloc::Global;
 
 /// What a reply tells, but for lists: of an operation that was logged how many were logged and how many dropped, and its counter.
 #[derive(Clone, Copy, Debug, PartialEq, Eq)]
-pub enum Told {
+pub enum Digest {
     Applied(u64, u64, u64),
     Known,
     Held,
@@ -24,15 +24,15 @@ pub enum Told {
     Other,
 }
 
-pub fn told_by(reply: Reply) -> Told {
+pub fn told_by(reply: Reply) -> Digest {
     match &reply {
-        Reply::Applied { count, dropped, id } => Told::Applied(*count, *dropped, id.counter),
-        Reply::Known => Told::Known,
-        Reply::Held(_) => Told::Held,
-        Reply::Forgotten => Told::Forgotten,
-        Reply::Account(count) => Told::Account(*count),
-        Reply::Refused(refusal) => Told::Refused(*refusal),
-        _ => Told::Other,
+        Reply::Applied { count, dropped, id } => Digest::Applied(*count, *dropped, id.counter),
+        Reply::Known => Digest::Known,
+        Reply::Held(_) => Digest::Held,
+        Reply::Forgotten => Digest::Forgotten,
+        Reply::Account(count) => Digest::Account(*count),
+        Reply::Refused(refusal) => Digest::Refused(*refusal),
+        _ => Digest::Other,
     }
 }
 

@@ -5,7 +5,7 @@
 //! with that one refused. `rt try --test --fail-alloc N` refuses the Nth of each test, for one N a run, and the tests of the other
 //! files fail under it, since they expect ample memory.
 use super::is_conflict_at;
-use super::samples::{Told, changed, delivered, given_up, member, operation, server, whole};
+use super::samples::{Digest, changed, delivered, given_up, member, operation, server, whole};
 use doc_words::{Look, Place, Query, Reply, Steps};
 use json_scalar::Refusal;
 use lamport_id::ReplicaName;
@@ -36,42 +36,42 @@ enum Deed {
 }
 
 // What is asked of the replica, and what is due where memory is ample.
-const STEPS: [(Deed, &str, Told); 12] = [
+const STEPS: [(Deed, &str, Digest); 12] = [
     (
         Deed::Make,
         r#"["op",[3,"srv-1"],[["o",2]],[[["m",0],["l","l"]],1],["insert","eggs"]]"#,
-        Told::Applied(1, 0, 3),
+        Digest::Applied(1, 0, 3),
     ),
     (
         Deed::Make,
         r#"["op",[4,"srv-1"],[["o",2],["srv-1",3]],[[["m",0]],"n"],["add",5]]"#,
-        Told::Applied(1, 0, 4),
+        Digest::Applied(1, 0, 4),
     ),
     (
         Deed::Make,
         r#"["op",[5,"srv-1"],[["o",2],["srv-1",4]],[[["m",0]],"k"],["delete"]]"#,
-        Told::Applied(1, 0, 5),
+        Digest::Applied(1, 0, 5),
     ),
-    (Deed::Deliver, THIRD, Told::Held),
-    (Deed::Deliver, THIRD, Told::Held),
-    (Deed::Forget, THIRD, Told::Forgotten),
-    (Deed::Forget, THIRD, Told::Refused(Refusal::NotHeld)),
-    (Deed::Deliver, THIRD, Told::Held),
-    (Deed::Deliver, SECOND, Told::Held),
+    (Deed::Deliver, THIRD, Digest::Held),
+    (Deed::Deliver, THIRD, Digest::Held),
+    (Deed::Forget, THIRD, Digest::Forgotten),
+    (Deed::Forget, THIRD, Digest::Refused(Refusal::NotHeld)),
+    (Deed::Deliver, THIRD, Digest::Held),
+    (Deed::Deliver, SECOND, Digest::Held),
     (
         Deed::Deliver,
         r#"["op",[1,"p"],[],[[["m",0]],"k"],["assign",1]]"#,
-        Told::Applied(3, 0, 1),
+        Digest::Applied(3, 0, 1),
     ),
     (
         Deed::Deliver,
         r#"["op",[1,"p"],[],[[["m",0]],"k"],["assign",1]]"#,
-        Told::Known,
+        Digest::Known,
     ),
     (
         Deed::Deliver,
         r#"["op",[1,"p"],[],[[["m",0]],"k"],["assign","Z"]]"#,
-        Told::Refused(Refusal::IdConflict),
+        Digest::Refused(Refusal::IdConflict),
     ),
 ];
 
@@ -86,7 +86,7 @@ fn operation_again(alloc: Global, text: &str) -> Result<Operation, Refusal> {
     }
 }
 
-fn does(alloc: Global, replica: &mut Replica, deed: Deed, op: Operation) -> Told {
+fn does(alloc: Global, replica: &mut Replica, deed: Deed, op: Operation) -> Digest {
     match deed {
         Deed::Deliver => delivered(replica.deliver(op)),
         Deed::Make => makes(alloc, replica, &op),
@@ -95,12 +95,12 @@ fn does(alloc: Global, replica: &mut Replica, deed: Deed, op: Operation) -> Told
 }
 
 // Asks for the change that makes an operation, at its cursor.
-fn makes(alloc: Global, replica: &mut Replica, op: &Operation) -> Told {
+fn makes(alloc: Global, replica: &mut Replica, op: &Operation) -> Digest {
     let Ok(start) = op.cursor().try_clone() else {
-        return Told::Refused(Refusal::NoMemory);
+        return Digest::Refused(Refusal::NoMemory);
     };
     let Ok(mutation) = op.mutation().try_clone() else {
-        return Told::Refused(Refusal::NoMemory);
+        return Digest::Refused(Refusal::NoMemory);
     };
     let steps = Steps::from(Vec::new(alloc));
     changed(replica.local(Place { start, steps }, mutation))
@@ -163,12 +163,12 @@ fn obeys<R: Abort>(
     rt: &R,
     alloc: Global,
     replica: &mut Replica,
-    step: &(Deed, &str, Told),
+    step: &(Deed, &str, Digest),
 ) -> Result<(), Fail> {
     let before = picture_again(alloc, replica)?;
     let first = operation_again(alloc, step.1)?;
     let answer = does(alloc, replica, step.0, first);
-    if answer != Told::Refused(Refusal::NoMemory) {
+    if answer != Digest::Refused(Refusal::NoMemory) {
         assert!(rt; answer == step.2 || lets_go(answer, step.2), "{}", step.1);
         return Ok(());
     }
@@ -180,9 +180,9 @@ fn obeys<R: Abort>(
 }
 
 // Whether fewer were logged than is due, since a held one was dropped.
-fn lets_go(answer: Told, due: Told) -> bool {
+fn lets_go(answer: Digest, due: Digest) -> bool {
     match (answer, due) {
-        (Told::Applied(count, dropped, counter), Told::Applied(all, _, first)) => {
+        (Digest::Applied(count, dropped, counter), Digest::Applied(all, _, first)) => {
             0 < count && count < all && dropped == 1 && counter == first
         }
         _ => false,
@@ -194,12 +194,12 @@ fn makes_up<R: Abort>(rt: &R, alloc: Global, replica: &mut Replica) -> Result<()
     for text in [SECOND, THIRD] {
         let op = operation_again(alloc, text)?;
         let mut answer = delivered(replica.deliver(op));
-        if answer == Told::Refused(Refusal::NoMemory) {
+        if answer == Digest::Refused(Refusal::NoMemory) {
             let again = operation_again(alloc, text)?;
             answer = delivered(replica.deliver(again));
         }
         assert!(rt;
-            matches!(&answer, Told::Known | Told::Applied(_, 0, _)),
+            matches!(&answer, Digest::Known | Digest::Applied(_, 0, _)),
             "{text}"
         );
     }
