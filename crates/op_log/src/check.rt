@@ -14,7 +14,7 @@ use crate::front::{self, Entry};
 use crate::log::OpLog;
 use json_scalar::Refusal;
 use lamport_id::{Id, ReplicaName};
-use op_core::{Cursor, Front, Key, Mutation, Operation, Tagged, id_of};
+use op_core::{Cursor, Front, Key, Mutation, Operation, Tagged, id_of, keeps_shape};
 
 /// The most operations of a log.
 pub const MAX_OPERATIONS: usize = 100_000;
@@ -151,6 +151,6 @@ fn is_front_at_most(op: &Operation, front: &[Entry]) -> bool
     requires { is_ascending front.now ≡ true }
     ensures { result ≡ is_le op.now.front front.now }
 {
-    let _id = op.id();
+    keeps_shape(op);
     front::is_at_most(op.front().as_slice(), front)
 }

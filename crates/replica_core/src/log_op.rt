@@ -3,11 +3,10 @@ ghost use Rattle.std.specs.Prelude.{◌≡◌, [], ◌∷◌, ◌++◌, OnOk, On
 ghost use Rattle.crdt_rules.specs.Fits.{Fits};
 ghost use Rattle.replica_core.specs.AgreesWith.{AgreesWith};
 
-use crate::limits::keeps_good;
 use doc_tree::Tree;
 use json_scalar::Refusal;
 use op_core::Operation;
-use op_log::OpLog;
+use op_log::{OpLog, keeps_good};
 
 /// Logs an operation that fits, and applies it to the tree of the log. It is refused for want of memory alone, and the log
 /// is then as it was, and the tree says what it said.

@@ -18,14 +18,14 @@ ghost use Rattle.replica_core.specs.Outcomes.{Meets, place_told, told_applied};
 ghost use Rattle.replica_core.specs.Whole.{replica_of};
 
 use crate::deliver::log_and_drain;
-use crate::limits::{keeps_good, keeps_limits};
+use crate::limits::keeps_limits;
 use crate::outcome::Applied;
 use doc_tree::Tree;
 use hold_buffer::HoldBuffer;
 use json_scalar::Refusal;
 use lamport_id::{Id, ReplicaName};
 use op_core::{Cursor, Front, Key, Mutation, Operation};
-use op_log::OpLog;
+use op_log::{OpLog, keeps_good};
 
 /// Makes a change where the steps of its place led, or tells why they led nowhere.
 pub fn change(

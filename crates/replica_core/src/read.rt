@@ -9,14 +9,13 @@ ghost use Rattle.hold_buffer.specs.Held.{IsCurrent};
 ghost use Rattle.replica_core.specs.AgreesWith.{AgreesWith};
 ghost use Rattle.replica_core.specs.Whole.{replica_of};
 
-use crate::limits::keeps_good;
 use doc_tree::Tree;
 use doc_view::{conflicts, items, keys, resolve, show, sum, values};
 use doc_words::{Conflicts, Items, Look, Place, Query, Reply, Scalars, ShownText, Texts};
 use hold_buffer::HoldBuffer;
 use json_scalar::Refusal;
 use op_core::{Cursor, Front};
-use op_log::OpLog;
+use op_log::{OpLog, keeps_good};
 use std::alloc::Global;
 
 /// What a replica answers to a query. `mine` is what it tells of an account. Of any other query it may tell that memory is

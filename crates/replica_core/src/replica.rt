@@ -13,7 +13,7 @@ ghost use Rattle.replica_core.specs.Outcomes.{told_applied, told_delivered, told
 ghost use Rattle.replica_core.specs.Whole.{replica_of};
 
 use crate::deliver::deliver;
-use crate::limits::{keeps_limits, keeps_name, keeps_shape};
+use crate::limits::keeps_limits;
 use crate::outcome::{Applied, Delivered};
 use crate::own::change;
 use crate::read::read;
@@ -24,8 +24,8 @@ use doc_view::resolve;
 use doc_words::{Command, Place, Query, Reply};
 use hold_buffer::HoldBuffer;
 use json_scalar::Refusal;
-use lamport_id::{Id, ReplicaName};
-use op_core::{Mutation, Operation};
+use lamport_id::{Id, ReplicaName, keeps_name};
+use op_core::{Mutation, Operation, keeps_shape};
 use op_log::OpLog;
 use std::alloc::Global;
 use std::marker::Model;

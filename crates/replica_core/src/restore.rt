@@ -6,12 +6,11 @@ ghost use Rattle.doc_rules.specs.Cause.{misfit_of};
 ghost use Rattle.replica_core.specs.Misfits.{IsMisfitOf};
 ghost use Rattle.replica_core.specs.AgreesWith.{AgreesWith};
 
-use crate::limits::keeps_good;
 use crate::log_op::log_op;
 use doc_tree::Tree;
 use json_scalar::Refusal;
 use op_core::Operation;
-use op_log::OpLog;
+use op_log::{OpLog, keeps_good};
 use std::alloc::Global;
 
 /// Why a list of operations makes no log.
