@@ -11,8 +11,8 @@ ghost use Rattle.line_proto.specs.Writing.{is_lengthy, may_lack, is_device};
 ghost use Rattle.line_proto.specs.declared.line_reply.LineReply.TheVariants.{Answered};
 
 use crate::lengthy::lengthy_line;
-use crate::text::{Line, Piece, account, applied, fixed, no, opened, put_id, version};
 use crate::line_reply::{LineReply, VERSION};
+use crate::text::{Line, Piece, account, applied, fixed, no, opened, put_id, version};
 use doc_words::Reply;
 use lamport_id::Id;
 use line_feed::{DeviceFault, Sink, write_all};

@@ -5,7 +5,7 @@ use json_scalar::{Refusal, Scalar, Val};
 use lamport_id::{Id, ReplicaName};
 use line_feed::Writer;
 use line_feed::doubles::FailAfter;
-use line_proto::{Ask, Request, LineReply, WriteFault};
+use line_proto::{Ask, LineReply, Request, WriteFault};
 use op_core::{Front, KeyText, Mutation, read_wire};
 use serde_json::Value;
 use std::alloc::Global;
@@ -261,7 +261,13 @@ fn tells_what_takes_no_memory(rt: HostRuntime) -> Result<(), Fail> {
 
 #[test]
 fn tells_replies_of_one_part(rt: HostRuntime) {
-    assert!(rt; tells(rt.alloc(), LineReply::Answered(Reply::Known), "[\"known\"]\n"));
+    assert!(rt;
+        tells(
+            rt.alloc(),
+            LineReply::Answered(Reply::Known),
+            "[\"known\"]\n"
+        )
+    );
     assert!(rt;
         tells(
             rt.alloc(),
@@ -287,7 +293,11 @@ fn tells_refusals(rt: HostRuntime) {
     ];
     for (refusal, line) in rows {
         assert!(rt;
-            tells(rt.alloc(), LineReply::Answered(Reply::Refused(refusal)), line),
+            tells(
+                rt.alloc(),
+                LineReply::Answered(Reply::Refused(refusal)),
+                line
+            ),
             "{line}"
         );
     }

@@ -59,7 +59,10 @@ const OLD_FORMAT_HAS_NO_ADDITIONS: [(Step<'static>, StepAnswer); 9] = [
     ),
     (Step::Open, REFUSED),
     (Step::Ask(FORMAT), StepAnswer::Number(1)),
-    (Step::Ask("SELECT count(*) FROM entry"), StepAnswer::Number(1)),
+    (
+        Step::Ask("SELECT count(*) FROM entry"),
+        StepAnswer::Number(1),
+    ),
     (
         Step::Run("UPDATE meta SET value = 2 WHERE name = 'format'"),
         StepAnswer::Done,

@@ -191,7 +191,10 @@ const FURTHER_TABLES: [(Step<'static>, StepAnswer); 9] = [
         Step::Run("CREATE TABLE note (id INTEGER PRIMARY KEY, size INTEGER) STRICT"),
         StepAnswer::Done,
     ),
-    (Step::Run("INSERT INTO note (size) VALUES (41)"), StepAnswer::Done),
+    (
+        Step::Run("INSERT INTO note (size) VALUES (41)"),
+        StepAnswer::Done,
+    ),
     (Step::Open, StepAnswer::Done),
     (Step::Up, StepAnswer::Number(1)),
     (Step::Add("d", 0, 0, 3), StepAnswer::Done),

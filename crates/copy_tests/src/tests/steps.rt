@@ -72,7 +72,12 @@ fn epoch<S: Alter>(copy: &LogCopy<S>) -> StepAnswer {
     told_number(copy.epoch())
 }
 
-fn add<S: Alter>(copy: &mut LogCopy<S>, doc: &str, from: usize, entries: &[Operation]) -> StepAnswer {
+fn add<S: Alter>(
+    copy: &mut LogCopy<S>,
+    doc: &str,
+    from: usize,
+    entries: &[Operation],
+) -> StepAnswer {
     match copy.add_batch(doc, from, entries) {
         Ok(()) => StepAnswer::Done,
         Err(fault) => StepAnswer::Fault(fault),
@@ -97,7 +102,11 @@ fn edit<S: Alter>(alloc: Global, copy: &LogCopy<S>, doc: &str, due: &str) -> Ste
 }
 
 fn told_edit(is_so: bool) -> StepAnswer {
-    if is_so { StepAnswer::Done } else { StepAnswer::Other }
+    if is_so {
+        StepAnswer::Done
+    } else {
+        StepAnswer::Other
+    }
 }
 
 fn docs<S: Alter>(copy: &LogCopy<S>) -> StepAnswer {

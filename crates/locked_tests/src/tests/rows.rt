@@ -186,7 +186,10 @@ fn fills<M: Marker, R: Abort>(rt: &R, alloc: Global, blank: Blank) -> Result<(),
     let mut seat = doc.open_seat()?;
     for counter in 2..258 {
         let held = Command::Deliver(later(alloc, counter)?);
-        assert_eq!(rt; told_by(doc.act(&mut seat, held).into_reply()), Digest::Held);
+        assert_eq!(rt;
+            told_by(doc.act(&mut seat, held).into_reply()),
+            Digest::Held
+        );
     }
     let last = Command::Deliver(later(alloc, 258)?);
     assert_eq!(rt;

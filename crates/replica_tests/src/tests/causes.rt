@@ -124,7 +124,10 @@ fn held_once_more_before_held_full(rt: HostRuntime) -> Result<(), Fail> {
     let alloc = rt.alloc();
     let mut replica = holding(alloc)?;
     assert_eq!(rt; delivered(replica.deliver(later(alloc, 2)?)), Digest::Held);
-    assert_eq!(rt; delivered(replica.deliver(later(alloc, 257)?)), Digest::Held);
+    assert_eq!(rt;
+        delivered(replica.deliver(later(alloc, 257)?)),
+        Digest::Held
+    );
     assert_eq!(rt;
         delivered(replica.deliver(later(alloc, 258)?)),
         Digest::Refused(Refusal::HeldFull)
