@@ -8,7 +8,7 @@ use Rattle.op_core.specs.declared.cursor.Key.TheVariants.{Doc, Text, Element, He
 use Rattle.op_core.specs.declared.cursor.Tagged.TheVariants.{Map as MapAt, List as ListAt}
 use Rattle.crdt_rules.specs.Same.{key_eq, tagged_eq}
 use Rattle.op_core.specs.Shape.{key_of, is_list, may_follow}
-use Rattle.crdt_rules.specs.Place.{is_within}
+use Rattle.crdt_rules.specs.Within.{is_within}
 use Rattle.crdt_rules.proofs.SameLaws.{key_decides, tagged_decides, eq_from}
 use Rattle.doc_nodes.specs.Walk.{trail, trail_below, list_trail, list_trail_below}
 

@@ -3,7 +3,7 @@ use Rattle.std.specs.Prelude.{◌≡◌, ◌≢◌, ◌<◌, List, [], ◌∷◌
 use Rattle.doc_words.specs.Words.{Id, Key, Tagged}
 use Rattle.op_core.specs.Shape.{key_of}
 use Rattle.crdt_rules.specs.Same.{id_eq}
-use Rattle.crdt_rules.specs.Place.{is_within}
+use Rattle.crdt_rules.specs.Within.{is_within}
 use Rattle.crdt_rules.specs.Facts.{Facts}
 use Rattle.doc_words.specs.declared.role.Role.{Role}
 use Rattle.doc_words.specs.declared.role.Role.TheVariants.{Through}

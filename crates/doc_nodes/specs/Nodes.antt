@@ -1,7 +1,7 @@
 -- What numbered nodes say of a document.
 use Rattle.std.specs.Prelude.{◌≡◌, ◌≢◌, ℕ, ℤ, List, [], Bool, ◌&&◌, not, Option, Some, None, is_some, option_and_then, slice_index_or, if◌then◌else◌, ◌⊎◌, length}
 use Rattle.doc_words.specs.Words.{Id, Scalar, Key, Tagged}
-use Rattle.crdt_rules.specs.Place.{is_within}
+use Rattle.crdt_rules.specs.Within.{is_within}
 use Rattle.crdt_rules.specs.Facts.{Facts}
 use Rattle.doc_words.specs.declared.role.Role.{Role}
 use Rattle.presence_set.specs.ById.{get, uncovered}

@@ -16,7 +16,7 @@ use Rattle.crdt_rules.specs.Log.{IsGood, replay}
 use Rattle.crdt_rules.proofs.Readings.{here_from}
 use Rattle.crdt_rules.proofs.Tests.{some_same, some≢none}
 use Rattle.doc_rules.specs.Answers.{Reads}
-use Rattle.doc_rules.specs.Reads.{AreTerms}
+use Rattle.doc_rules.specs.Views.{AreTerms}
 use Rattle.doc_rules.specs.Replica.{Replica}
 use Rattle.doc_rules.proofs.Causes.{fits_from}
 use Rattle.doc_rules.proofs.FromLog.{counter_from}

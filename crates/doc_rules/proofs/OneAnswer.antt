@@ -27,8 +27,8 @@ use Rattle.doc_words.specs.declared.reply.Reply.TheVariants as reply
 use Rattle.doc_rules.specs.Resolve.{may_go_on, at_index, Goes, Leads, start_of, Resolves}
 use Rattle.doc_rules.specs.Replica.{Replica, facts_of}
 use Rattle.doc_rules.specs.Answers.{told_as, ReadsHere, LooksHere, ReadsAt, Reads}
-use Rattle.doc_rules.specs.Role.{value_at}
-use Rattle.doc_rules.specs.Reads.{Values, IsPresent, into_map, into_list, AreKeys, AreEntries, AreValues, HaveValues, AreItems, AreTerms, total, IsSum, AreConflicts, ReadsPlace}
+use Rattle.doc_rules.specs.Role.{value_put_at}
+use Rattle.doc_rules.specs.Views.{Values, IsPresent, into_map, into_list, AreKeys, AreEntries, AreValues, HaveValues, AreItems, AreTerms, total, IsSum, AreConflicts, ReadsPlace}
 use Rattle.doc_rules.specs.Shown.{Shown, MapShown, ListShown, Fields, Elements, shown, no_map, a_map, no_list, a_list, no_fields, field, no_elements, element, names, HasList, total_shown, ShowsCount, Shows, ShowsMap, ShowsList, ShowsFields, ShowsElements, shown_data, ShowsText}
 
 -- ---- lists that hold exactly these
@@ -220,7 +220,7 @@ one_at r place reads one x y a b =
 pub one_answer : (r : Replica) (mine : ℕ) (q : Query) (x y : Reply) → Reads r mine q x → Reads r mine q y → x ≡ y
 one_answer r mine (query.Resolve place) x y = one_at r place (λ c a. a ≡ reply.Resolved c) (λ c x y a b. a ∙ sym b) x y
 one_answer r mine (query.Look l place) x y =
-    one_at r place (LooksHere (facts_of r) (value_at r.log) l) (one_look (facts_of r) (value_at r.log) l) x y
+    one_at r place (LooksHere (facts_of r) (value_put_at r.log) l) (one_look (facts_of r) (value_put_at r.log) l) x y
 one_answer r mine (query.Operations front limit) x y = λ a b. a ∙ sym b
 one_answer r mine query.Front x y = λ a b. a ∙ sym b
 one_answer r mine query.Held x y = λ a b. a ∙ sym b

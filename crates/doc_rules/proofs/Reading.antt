@@ -12,7 +12,7 @@ use Rattle.crdt_rules.specs.Log.{IsGood, replay}
 use Rattle.crdt_rules.proofs.Readings.{here_from}
 use Rattle.crdt_rules.proofs.Tests.{some_same, some≢none}
 use Rattle.doc_rules.specs.Answers.{Reads}
-use Rattle.doc_rules.specs.Reads.{AreEntries}
+use Rattle.doc_rules.specs.Views.{AreEntries}
 use Rattle.doc_rules.specs.Replica.{Replica}
 use Rattle.doc_words.specs.declared.ask.Look.TheVariants.{Values}
 use Rattle.doc_words.specs.declared.ask.Query.TheVariants.{Look}

@@ -16,7 +16,7 @@ use Rattle.crdt_rules.proofs.SameLaws.{id_decides}
 use Rattle.crdt_rules.proofs.Tests.{any_at}
 use Rattle.doc_rules.specs.Sorted.{AreThose}
 use Rattle.doc_rules.specs.Sorted.AreThose.{none, keep, skip}
-use Rattle.doc_rules.specs.Reads.{into_list, AreElements}
+use Rattle.doc_rules.specs.Views.{into_list, AreElements}
 use Rattle.doc_words.specs.declared.place.Step.{Step}
 use Rattle.doc_words.specs.declared.place.Step.TheVariants.{Get, Index}
 use Rattle.doc_rules.specs.Resolve.{is_short, stands_in, stands, start_of, may_go_on, at_text, at_index, Goes, Leads, Resolves}

@@ -24,8 +24,8 @@ use Rattle.op_core.specs.Front.{covers}
 use Rattle.doc_words.specs.declared.role.Role.{Role}
 use Rattle.doc_words.specs.declared.role.Role.TheVariants as role
 use Rattle.std.specs.Prelude.{option_and_then, is_some}
-use Rattle.doc_rules.specs.Reads.{AgreeOnPresent}
-use Rattle.doc_rules.specs.Role.{value_at, value_in, role_put, role_at, role_here, roles_of, AreOf, values_in, step_roles}
+use Rattle.doc_rules.specs.Views.{AgreeOnPresent}
+use Rattle.doc_rules.specs.Role.{value_put_at, value_in, role_put, role_at, role_here, roles_of, AreOf, values_in, step_roles}
 
 module _ (p : List Tagged) (k : Key) (i : Id) where
   -- behind operations of which none ends here
@@ -49,12 +49,12 @@ module _ (p : List Tagged) (k : Key) (i : Id) where
   put_value Delete before = refl
   put_value (Add n) before = refl
 
-  value_told : (log : List Op) → value_at log p k i ≡ value_in (role_at log p k i) (free.value_at scalar_put log p k i)
+  value_told : (log : List Op) → value_put_at log p k i ≡ value_in (role_at log p k i) (free.value_at scalar_put log p k i)
   value_told [] = refl
   value_told (o ∷ log) = by (ends_here o p k i) (value_told log)
     where
-      by : (b : Bool) → value_at log p k i ≡ value_in (role_at log p k i) (free.value_at scalar_put log p k i)
-          → (if b then value_put o.mutation else value_at log p k i)
+      by : (b : Bool) → value_put_at log p k i ≡ value_in (role_at log p k i) (free.value_at scalar_put log p k i)
+          → (if b then value_put o.mutation else value_put_at log p k i)
           ≡ value_in (if b then role_put o.mutation else role_at log p k i) (entered b (scalar_put o.mutation) (free.value_at scalar_put log p k i))
       by true ih = put_value o.mutation (free.value_at scalar_put log p k i)
       by false ih = ih ∙ ap (value_in (role_at log p k i)) (sym (entered-false (scalar_put o.mutation) (free.value_at scalar_put log p k i)))
@@ -69,7 +69,7 @@ role_old log op p k i other = role-before p k i log op (false_from_ne_true (ends
 
 -- of a present id, the role and the register's entry tell the value that was put
 pub present_value : (log : List Op) (p : List Tagged) (k : Key) (i : Id) → IsGood log → (facts (replay log)).present p k i ≡ true
-    → value_at log p k i ≡ value_in (role_at log p k i) ((facts (replay log)).register p k i)
+    → value_put_at log p k i ≡ value_in (role_at log p k i) ((facts (replay log)).register p k i)
 present_value log p k i good here =
     let kept = not-true (is_cleared log p k i)
     (and_parts (list_any (λ o. id_eq o.id i && marks o p k) log) (not (is_cleared log p k i)) (ap (λ f. f p k i) (sym (replay_present log good)) ∙ here)).1 in
@@ -78,7 +78,7 @@ present_value log p k i good here =
     value_told p k i log ∙ ap (value_in (role_at log p k i)) (sym entry)
 
 -- the roles of a good log and its registers tell what was put
-pub values_told : (log : List Op) → IsGood log → AgreeOnPresent (facts (replay log)) (values_in (facts (replay log)) (roles_of (facts (replay log)) log)) (value_at log)
+pub values_told : (log : List Op) → IsGood log → AgreeOnPresent (facts (replay log)) (values_in (facts (replay log)) (roles_of (facts (replay log)) log)) (value_put_at log)
 values_told log good p k i here =
     ap (λ b. option_and_then (λ r. value_in r ((facts (replay log)).register p k i)) (if◌then◌else◌ {A = Option Role} b (Some (role_at log p k i)) None)) here
     ∙ sym (present_value log p k i good here)

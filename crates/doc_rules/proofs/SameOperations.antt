@@ -22,7 +22,7 @@ use Rattle.crdt_rules.proofs.Tests.{any_at, any_from}
 use Rattle.doc_rules.specs.Answers.{LooksHere, Reads, IsOfOperations}
 use Rattle.doc_rules.specs.Replica.{Replica, facts_of}
 use Rattle.doc_rules.specs.Resolve.{Resolves}
-use Rattle.doc_rules.specs.Role.{value_at, role_put, role_at, roles_of}
+use Rattle.doc_rules.specs.Role.{value_put_at, role_put, role_at, roles_of}
 use Rattle.doc_rules.proofs.SameValues.{looks_same}
 use Rattle.doc_rules.proofs.WholeFront.{fronts_same, front_rising, front_last}
 
@@ -71,9 +71,9 @@ module _ (log other : List Op) (good : IsGood log) (other_good : IsGood other) (
     one_ends : (ops : List Op) → HasOneEach ops → (a b : Op) → Contains ops a → Contains ops b → ends_here a p k i ≡ true → ends_here b p k i ≡ true → a ≡ b
     one_ends ops one a b c d e f = one a b c d ((here_from a p k i e).id ∙ sym (here_from b p k i f).id)
 
-    pub value_at-same : value_at log p k i ≡ value_at other p k i
+    pub value_at-same : value_put_at log p k i ≡ value_put_at other p k i
     value_at-same =
-        first-same (λ o. ends_here o p k i) (λ o. value_put o.mutation) (λ ops. value_at ops p k i) (λ o ops. refl) log other same
+        first-same (λ o. ends_here o p k i) (λ o. value_put o.mutation) (λ ops. value_put_at ops p k i) (λ o ops. refl) log other same
         (one_ends log (good_one_each log good)) (one_ends other (good_one_each other other_good))
 
     pub role_at-same : role_at log p k i ≡ role_at other p k i
@@ -100,11 +100,11 @@ module _ (r s : Replica) (good : IsGood r.log) (other_good : IsGood s.log) (same
   answers_same mine theirs (query.Look l place) answer of h =
       (h.0, subst (λ f. Resolves f place.start place.steps h.0) same_facts h.1, by h.0 h.2)
     where
-      by : (c : Result Cursor Refusal) → MatchResult c (λ c. LooksHere (facts_of r) (value_at r.log) l c answer) (λ e. answer ≡ reply.Refused e)
-          → MatchResult c (λ c. LooksHere (facts_of s) (value_at s.log) l c answer) (λ e. answer ≡ reply.Refused e)
+      by : (c : Result Cursor Refusal) → MatchResult c (λ c. LooksHere (facts_of r) (value_put_at r.log) l c answer) (λ e. answer ≡ reply.Refused e)
+          → MatchResult c (λ c. LooksHere (facts_of s) (value_put_at s.log) l c answer) (λ e. answer ≡ reply.Refused e)
       by (Ok c) looks =
-          looks_same (facts_of s) (value_at r.log) (value_at s.log) (λ p k i here. value_at-same r.log s.log good other_good same p k i) l c answer
-          (subst (λ f. LooksHere f (value_at r.log) l c answer) same_facts looks)
+          looks_same (facts_of s) (value_put_at r.log) (value_put_at s.log) (λ p k i here. value_at-same r.log s.log good other_good same p k i) l c answer
+          (subst (λ f. LooksHere f (value_put_at r.log) l c answer) same_facts looks)
       by (Err e) refused = refused
   answers_same mine theirs query.Front answer of h = h ∙ ap reply.Front (front_of-same r.log s.log good other_good same)
   answers_same mine theirs (query.Operations front limit) answer of h = absurd of

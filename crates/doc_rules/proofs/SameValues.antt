@@ -10,7 +10,7 @@ use Rattle.doc_words.specs.declared.reply.Reply.{Reply}
 use Rattle.doc_words.specs.declared.reply.Reply.TheVariants as reply
 use Rattle.op_core.specs.declared.cursor.Key.TheVariants.{Text, Element}
 use Rattle.crdt_rules.specs.Facts.{Facts}
-use Rattle.doc_rules.specs.Reads.{Values, AgreeOnPresent, into_map, into_list, AreConflicts, ReadsPlace}
+use Rattle.doc_rules.specs.Views.{Values, AgreeOnPresent, into_map, into_list, AreConflicts, ReadsPlace}
 use Rattle.doc_rules.specs.Answers.{ReadsHere, LooksHere}
 use Rattle.doc_rules.proofs.Resolved.{ok≢err}
 use Rattle.doc_rules.specs.Shown.{ShowsText, IsPut, HasMap, HasList, Shown, MapShown, ListShown, Fields, Elements, shown, no_map, a_map, no_list, a_list, no_fields, field, no_elements, element, Shows, ShowsMap, ShowsList, ShowsFields, ShowsElements}

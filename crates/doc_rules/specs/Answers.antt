@@ -12,10 +12,10 @@ use Rattle.doc_words.specs.declared.reply.Reply.TheVariants as reply
 use Rattle.crdt_rules.specs.Dependencies.{missing}
 use Rattle.crdt_rules.specs.Facts.{Facts}
 use Rattle.crdt_rules.specs.Pull.{front_of}
-use Rattle.doc_rules.specs.Reads.{Values, AreKeys, AreValues, AreItems, AreConflicts, IsSum, ReadsPlace}
+use Rattle.doc_rules.specs.Views.{Values, AreKeys, AreValues, AreItems, AreConflicts, IsSum, ReadsPlace}
 use Rattle.doc_rules.specs.Replica.{Replica, facts_of}
 use Rattle.doc_rules.specs.Resolve.{Resolves}
-use Rattle.doc_rules.specs.Role.{value_at}
+use Rattle.doc_rules.specs.Role.{value_put_at}
 use Rattle.doc_rules.specs.Shown.{ShowsText}
 
 -- what a reading is told as, or the cause against it
@@ -48,7 +48,7 @@ since front log = filter (λ o. not (covers front o.id)) log
 -- how many of the entries are the seat's, the replica does not know
 abbrev pub Reads : Replica → ℕ → Query → Reply → Type 0
 Reads r mine (query.Resolve place) answer = ReadsAt r place (λ c a. a ≡ reply.Resolved c) answer
-Reads r mine (query.Look look place) answer = ReadsAt r place (LooksHere (facts_of r) (value_at r.log) look) answer
+Reads r mine (query.Look look place) answer = ReadsAt r place (LooksHere (facts_of r) (value_put_at r.log) look) answer
 Reads r mine (query.Operations front limit) answer = answer ≡ reply.Operations (take limit (since front r.log))
 Reads r mine query.Front answer = answer ≡ reply.Front (front_of r.log)
 Reads r mine query.Held answer = answer ≡ reply.Waiting (map (λ o. (o.id, missing o r.log)) r.held)

@@ -1,6 +1,6 @@
 pub mod Sorted
 pub mod Role
-pub mod Reads
+pub mod Views
 pub mod Shown
 pub mod Resolve
 pub mod Cause

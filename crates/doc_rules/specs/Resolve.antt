@@ -11,7 +11,7 @@ use Rattle.crdt_rules.specs.Same.{id_eq}
 use Rattle.crdt_rules.specs.Facts.{Facts}
 use Rattle.doc_words.specs.declared.place.Step.{Step}
 use Rattle.doc_words.specs.declared.place.Step.TheVariants.{Get, Index}
-use Rattle.doc_rules.specs.Reads.{into_map, into_list, AreElements}
+use Rattle.doc_rules.specs.Views.{into_map, into_list, AreElements}
 
 -- ---- where the steps start
 

@@ -10,9 +10,9 @@ use Rattle.crdt_rules.specs.Facts.{Facts, facts, ends_here}
 use Rattle.crdt_rules.specs.Log.{replay}
 
 -- the value that the operation of this id put at this very place
-abbrev pub value_at : List Op → List Tagged → Key → Id → Option Val
-value_at [] p k i = None
-value_at (o ∷ log) p k i = if ends_here o p k i then value_put o.mutation else value_at log p k i
+abbrev pub value_put_at : List Op → List Tagged → Key → Id → Option Val
+value_put_at [] p k i = None
+value_put_at (o ∷ log) p k i = if ends_here o p k i then value_put o.mutation else value_put_at log p k i
 
 abbrev pub role_of : Val → Role
 role_of (Plain s) = role.Scalar

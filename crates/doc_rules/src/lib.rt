@@ -24,10 +24,10 @@ ghost use Rattle.doc_rules.specs.Cause.{IsFirstMisfit, cause_of};
 ghost use Rattle.doc_rules.specs.Document.{Document, Acts, GivesTo, IsSound, copied_to, count_in, count_of, logged_by, new_document, opens, total_of};
 ghost use Rattle.doc_rules.specs.Events.{Event, IsWellMade, due_changed, logged};
 ghost use Rattle.doc_rules.specs.Memory.{DoesFully};
-ghost use Rattle.doc_rules.specs.Reads.{AgreeOnPresent, AreConflicts, Values};
+ghost use Rattle.doc_rules.specs.Views.{AgreeOnPresent, AreConflicts, Values};
 ghost use Rattle.doc_rules.specs.Replica.{Replica, GoesOn, IsKept, facts_of, own_op};
 ghost use Rattle.doc_rules.specs.Resolve.{Resolves};
-ghost use Rattle.doc_rules.specs.Role.{role_at, role_here, roles_of, step_roles, value_at, value_in, values_in};
+ghost use Rattle.doc_rules.specs.Role.{role_at, role_here, roles_of, step_roles, value_put_at, value_in, values_in};
 ghost use Rattle.doc_rules.specs.Seats.{Seat, Answer, ActsFor, AnswersFor, AreEndsOf, told_counts};
 ghost use Rattle.doc_rules.specs.Shown.{Shown, Shows};
 ghost use Rattle.doc_rules.specs.Unchanged.{RefusalsKeep, called};
@@ -73,9 +73,9 @@ pub fn roles_tell()
     ensures conflicts { (f : Facts) (v w : Values) → AgreeOnPresent f v w → (p : List Tagged) (k : Key) (xs : List (Id × Val))
         → AreConflicts f v p k xs → AreConflicts f w p k xs }
     ensures values { (log : List Op) (p : List Tagged) (k : Key) (i : Id) → IsGood log → (facts (replay log)).present p k i ≡ true
-        → value_at log p k i ≡ value_in (role_at log p k i) ((facts (replay log)).register p k i) }
+        → value_put_at log p k i ≡ value_in (role_at log p k i) ((facts (replay log)).register p k i) }
     ensures told { (log : List Op) → IsGood log
-        → AgreeOnPresent (facts (replay log)) (values_in (facts (replay log)) (roles_of (facts (replay log)) log)) (value_at log) }
+        → AgreeOnPresent (facts (replay log)) (values_in (facts (replay log)) (roles_of (facts (replay log)) log)) (value_put_at log) }
     ensures looks { (f : Facts) (v w : Values) → AgreeOnPresent f v w → (look : Look) (c : Cursor) (answer : Reply)
         → LooksHere f v look c answer → LooksHere f w look c answer }
 {}

@@ -4,7 +4,7 @@ use Rattle.std.specs.Prelude.{is_some, option_and_then}
 use Rattle.std.proofs.lemmas.Bool.{and_parts, and_from}
 use Rattle.doc_words.specs.Words.{Id, Key, Tagged}
 use Rattle.crdt_rules.specs.Same.{id_eq, key_eq, path_eq}
-use Rattle.crdt_rules.specs.Place.{is_within}
+use Rattle.crdt_rules.specs.Within.{is_within}
 use Rattle.crdt_rules.proofs.SameLaws.{key_decides, path_decides, eq_from}
 use Rattle.doc_words.specs.declared.role.Role.{Role}
 use Rattle.doc_words.specs.declared.role.Role.TheVariants.{Through}

@@ -16,7 +16,7 @@ use Rattle.doc_nodes.specs.Nodes.{node_of, child_of, node_at, AreTree, ClearsUnd
 use Rattle.doc_nodes.specs.Marks.{keys_below, keys_to, HasRoomAlong, IsReady, MarksAlong, mark_facts}
 use Rattle.doc_nodes.proofs.Clearing.{IsPartCleared, same_children, tree-cleared}
 use Rattle.doc_nodes.specs.Writes.{put_facts, put_role, enter_facts, with_scalar, with_number, add_facts, add_role, count_facts}
-use Rattle.crdt_rules.specs.Place.{is_within}
+use Rattle.crdt_rules.specs.Within.{is_within}
 use Rattle.doc_words.specs.declared.role.Role.TheVariants.{Through}
 use Rattle.doc_nodes.proofs.Places.{way_to, node_within}
 use Rattle.doc_tree.proofs.ClearFacts.{facts-cleared, role-cleared}

@@ -4,7 +4,7 @@ use Rattle.std.specs.Prelude.{IsSome, option_and_then}
 use Rattle.doc_words.specs.Words.{Id, Scalar, Val, Key, Tagged, Mutation, Assign, Insert, Delete, Add, Op, id_cmp}
 use Rattle.op_core.specs.declared.cursor.Key.TheVariants.{Element}
 use Rattle.crdt_rules.specs.Same.{id_eq, key_eq, path_eq}
-use Rattle.crdt_rules.specs.Place.{is_within}
+use Rattle.crdt_rules.specs.Within.{is_within}
 use Rattle.list_laws.specs.Order.{insert_after}
 use Rattle.crdt_rules.specs.Effect.{scalar_in, path_of}
 use Rattle.crdt_rules.specs.Context.{reference, entered}

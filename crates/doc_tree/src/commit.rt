@@ -5,7 +5,7 @@ ghost use Rattle.doc_words.specs.Words.{Id, Key, Tagged, id_cmp};
 ghost use Rattle.op_core.specs.Front.{covers};
 ghost use Rattle.op_core.specs.declared.cursor.Key.TheVariants.{Element};
 ghost use Rattle.list_laws.specs.Order.{insert_after};
-ghost use Rattle.crdt_rules.specs.Place.{is_within};
+ghost use Rattle.crdt_rules.specs.Within.{is_within};
 ghost use Rattle.crdt_rules.specs.Effect.{scalar_put};
 ghost use Rattle.crdt_rules.specs.Context.{reference};
 ghost use Rattle.crdt_rules.specs.Facts.{step_facts};

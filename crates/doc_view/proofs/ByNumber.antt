@@ -23,7 +23,7 @@ use Rattle.doc_nodes.proofs.Places.{same_node}
 use Rattle.doc_tree.specs.Nodes.{tree_facts, tree_number}
 use Rattle.doc_tree.proofs.Below.{entry_found, entry_in, list-into, number-into, present_child}
 use Rattle.doc_tree.proofs.Reading.{role_read, role_absent, scalar_read, scalar_absent, number_read, number_absent, ids_read, ids_absent}
-use Rattle.doc_rules.specs.Reads.{AreElements, AreEntries, AreItems, AreTerms, HaveValues, IsPresent, into_map, into_list}
+use Rattle.doc_rules.specs.Views.{AreElements, AreEntries, AreItems, AreTerms, HaveValues, IsPresent, into_map, into_list}
 use Rattle.doc_rules.specs.Shown.{Shown, shown_data, no_map, no_list, total_shown, entry_data, count_branch}
 use Rattle.doc_rules.specs.Sorted.{AreThose}
 use Rattle.doc_rules.specs.Sorted.AreThose.{none}

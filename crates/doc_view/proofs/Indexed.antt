@@ -4,7 +4,7 @@ use Rattle.doc_words.specs.Words.{Id, Scalar, Key, Tagged}
 use Rattle.op_core.specs.declared.cursor.Key.TheVariants.{Element}
 use Rattle.doc_nodes.specs.declared.node.Node.{Node}
 use Rattle.doc_tree.specs.Nodes.{tree_facts}
-use Rattle.doc_rules.specs.Reads.{AreElements, into_list}
+use Rattle.doc_rules.specs.Views.{AreElements, into_list}
 use Rattle.doc_rules.specs.Sorted.{AreThose}
 use Rattle.doc_rules.specs.Sorted.AreThose.{none, keep, skip}
 use Rattle.doc_view.proofs.Presence.{present_or_not}

@@ -10,7 +10,7 @@ use Rattle.crdt_rules.specs.Facts.{Facts}
 use Rattle.doc_nodes.specs.declared.node.NodeNumber.{NodeNumber}
 use Rattle.doc_nodes.specs.KeyOrder as key_order
 use Rattle.doc_nodes.proofs.KeyOrder.{text_lt}
-use Rattle.doc_rules.specs.Reads.{AreKeys, IsPresent, into_map}
+use Rattle.doc_rules.specs.Views.{AreKeys, IsPresent, into_map}
 use Rattle.doc_rules.specs.Sorted.{IsRising, AreThose}
 use Rattle.doc_rules.specs.Sorted.AreThose.{none, keep, skip}
 use Rattle.doc_view.specs.Members.{texts_at, texts_in}

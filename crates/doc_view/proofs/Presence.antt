@@ -12,7 +12,7 @@ use Rattle.doc_nodes.specs.Nodes.{facts_of, node_at, node_of}
 use Rattle.doc_nodes.specs.Flags.{is_some_entry, stands}
 use Rattle.doc_tree.specs.Nodes.{tree_facts, tree_present, tree_role}
 use Rattle.doc_tree.proofs.Reading.{role_read, role_absent}
-use Rattle.doc_rules.specs.Reads.{IsPresent}
+use Rattle.doc_rules.specs.Views.{IsPresent}
 use Rattle.doc_view.proofs.Entries.{get-Contains, Contains-get}
 
 pub present_role : (tree : List Node × Option Scalar) (p : List Tagged) (k : Key) (i : Id)

@@ -18,14 +18,14 @@ use Rattle.doc_nodes.specs.declared.node.Node.{Node}
 use Rattle.doc_nodes.specs.declared.node.NodeNumber.{NodeNumber}
 use Rattle.doc_nodes.specs.KeyOrder as key_order
 use Rattle.doc_tree.specs.Nodes.{tree_facts}
-use Rattle.doc_rules.specs.Reads.{AreKeys, AreEntries, AreTerms, AreElements, IsPresent, into_map, into_list}
+use Rattle.doc_rules.specs.Views.{AreKeys, AreEntries, AreTerms, AreElements, IsPresent, into_map, into_list}
 use Rattle.doc_rules.specs.Role.{value_in}
 use Rattle.doc_rules.specs.Shown.{Shown, Fields, Elements, shown, no_map, a_map, no_list, a_list, no_fields, field, no_elements, element, names, IsPut, HasMap, HasList, total_shown, Shows, ShowsFields, ShowsElements, entry_data, count_branch, shown_data, fields_data, elements_data}
 use Rattle.doc_rules.specs.Sorted.{AreThose}
 use Rattle.doc_view.specs.Members.{texts_at, texts_in}
 use Rattle.doc_view.specs.Readings.{Gives}
 use Rattle.doc_view.specs.Showing.{is_map, is_list, branch_of, field_data, IsShown, IsMapShown, IsListShown, EachField, AreFields, EachElement, AreShown}
-use Rattle.doc_view.specs.Told.{tree_values}
+use Rattle.doc_view.specs.TreeValues.{tree_values}
 use Rattle.doc_view.proofs.Presence.{AreRoles, role_of, present_from, entry_from}
 use Rattle.doc_view.proofs.Lists.{take_read}
 use Rattle.doc_view.proofs.MapLaws.{those_append, those_among, those_hold, are_keys, texts_in-push}

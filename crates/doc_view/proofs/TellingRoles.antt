@@ -7,10 +7,10 @@ use Rattle.doc_words.specs.declared.role.Role.{Role}
 use Rattle.presence_set.specs.ById.{get}
 use Rattle.doc_nodes.specs.declared.node.Node.{Node}
 use Rattle.doc_tree.specs.Nodes.{tree_facts, tree_role}
-use Rattle.doc_rules.specs.Reads.{AreConflicts}
+use Rattle.doc_rules.specs.Views.{AreConflicts}
 use Rattle.doc_rules.specs.Role.{value_in}
 use Rattle.doc_rules.specs.Sorted.{IsRising}
-use Rattle.doc_view.specs.Told.{tree_values, with_value, values_told}
+use Rattle.doc_view.specs.TreeValues.{tree_values, with_value, values_told}
 use Rattle.doc_view.proofs.Entries.{rising}
 use Rattle.doc_view.proofs.Presence.{AreRoles, role_of, present_from, entry_from}
 

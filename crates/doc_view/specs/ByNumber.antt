@@ -6,7 +6,7 @@ use Rattle.crdt_rules.specs.Facts.{Facts}
 use Rattle.doc_nodes.specs.declared.node.Node.{Node}
 use Rattle.doc_nodes.specs.declared.node.NodeNumber.{NodeNumber}
 use Rattle.doc_tree.specs.Nodes.{tree_facts, tree_number}
-use Rattle.doc_rules.specs.Reads.{HaveValues, IsPresent}
+use Rattle.doc_rules.specs.Views.{HaveValues, IsPresent}
 use Rattle.doc_rules.specs.Sorted.{AreThose}
 use Rattle.serde_json.specs.Data.{Data}
 use Rattle.doc_view.specs.Showing.{AreShown}

@@ -1,5 +1,5 @@
 pub mod Readings
-pub mod Told
+pub mod TreeValues
 pub mod Members
 pub mod Showing
 pub mod ByNumber

@@ -8,10 +8,10 @@ use Rattle.doc_words.specs.declared.role.Role.{Role}
 use Rattle.doc_words.specs.declared.role.Role.TheVariants as role
 use Rattle.doc_nodes.specs.declared.node.Node.{Node}
 use Rattle.doc_tree.specs.Nodes.{tree_facts}
-use Rattle.doc_rules.specs.Reads.{IsPresent}
+use Rattle.doc_rules.specs.Views.{IsPresent}
 use Rattle.doc_rules.specs.Shown.{Shown, MapShown, ListShown, Shows, ShowsMap, ShowsList, shown_data, map_branch, list_branch}
 use Rattle.doc_rules.specs.Sorted.{AreThose}
-use Rattle.doc_view.specs.Told.{tree_values}
+use Rattle.doc_view.specs.TreeValues.{tree_values}
 
 abbrev pub is_map : Role → Bool
 is_map role.Map = true

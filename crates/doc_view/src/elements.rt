@@ -3,8 +3,8 @@ ghost use Rattle.std.specs.Prelude.{◌≡◌, ◌<◌, Decides, ◌++◌, ◌�
 ghost use Rattle.std.specs.Option.{ForSome};
 ghost use Rattle.doc_tree.specs.Nodes.{tree_facts};
 ghost use Rattle.op_core.specs.declared.cursor.Key.TheVariants.{Element};
-ghost use Rattle.doc_rules.specs.Reads as reads;
-ghost use Rattle.doc_rules.specs.Reads.{AreItems, IsPresent};
+ghost use Rattle.doc_rules.specs.Views as reads;
+ghost use Rattle.doc_rules.specs.Views.{AreItems, IsPresent};
 ghost use Rattle.doc_view.specs.ByNumber.{AtNode, HasItems, IsElementAt};
 ghost use Rattle.doc_view.specs.Members.{listed};
 ghost use Rattle.doc_view.specs.Readings.{Gives, IsNth, ReadsHere};

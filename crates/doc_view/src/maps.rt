@@ -3,7 +3,7 @@ ghost use Rattle.std.specs.Prelude.{◌≡◌, ◌++◌, List, option_map};
 ghost use Rattle.op_core.specs.declared.cursor.Tagged.{Tagged};
 ghost use Rattle.op_core.specs.declared.cursor.Key.TheVariants.{Text};
 ghost use Rattle.doc_tree.specs.Nodes.{tree_facts};
-ghost use Rattle.doc_rules.specs.Reads.{AreKeys, IsPresent};
+ghost use Rattle.doc_rules.specs.Views.{AreKeys, IsPresent};
 ghost use Rattle.doc_rules.specs.Sorted.{AreThose};
 ghost use Rattle.doc_view.specs.ByNumber.{AreIn, IsTextAt};
 ghost use Rattle.doc_view.specs.Members.{listed, texts_at, texts_in};

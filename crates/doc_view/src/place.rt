@@ -1,6 +1,6 @@
 //! The paths below places.
 ghost use Rattle.std.specs.Prelude.{◌≡◌, ◌++◌, ◌∷◌, []};
-ghost use Rattle.doc_rules.specs.Reads as reads;
+ghost use Rattle.doc_rules.specs.Views as reads;
 ghost use Rattle.doc_view.specs.Readings.{Gives};
 
 use json_scalar::Refusal;

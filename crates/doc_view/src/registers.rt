@@ -2,7 +2,7 @@
 ghost use Rattle.std.specs.Prelude.{◌≡◌, ◌≢◌, map, Err};
 ghost use Rattle.json_scalar.specs.declared.refusal.Refusal.TheVariants.{NoMemory};
 ghost use Rattle.doc_tree.specs.Nodes.{tree_facts};
-ghost use Rattle.doc_rules.specs.Reads.{AreValues, IsSum, total};
+ghost use Rattle.doc_rules.specs.Views.{AreValues, IsSum, total};
 ghost use Rattle.doc_view.specs.ByNumber.{AtNode};
 ghost use Rattle.doc_view.specs.Readings.{Gives, ReadsHere};
 

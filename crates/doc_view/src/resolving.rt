@@ -7,7 +7,7 @@ ghost use Rattle.json_scalar.specs.Refusal.{and_then};
 ghost use Rattle.op_core.specs.Shape.{is_placed};
 ghost use Rattle.op_core.specs.declared.cursor.Key.TheVariants.{Text};
 ghost use Rattle.doc_words.specs.declared.place.Step.TheVariants.{Index};
-ghost use Rattle.doc_rules.specs.Reads.{into_map, into_list, AreElements};
+ghost use Rattle.doc_rules.specs.Views.{into_map, into_list, AreElements};
 ghost use Rattle.crdt_rules.specs.Same.{id_eq};
 ghost use Rattle.doc_tree.specs.Nodes.{tree_facts};
 ghost use Rattle.doc_rules.specs.Resolve as rules;

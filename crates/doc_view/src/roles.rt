@@ -3,12 +3,12 @@ ghost use Rattle.std.specs.Prelude.{◌≡◌, ◌++◌, [], option_map};
 ghost use Rattle.json_scalar.specs.declared.scalar.Val.TheVariants.{Scalar as Plain};
 ghost use Rattle.presence_set.specs.ById.{get};
 ghost use Rattle.doc_tree.specs.Nodes.{tree_facts};
-ghost use Rattle.doc_rules.specs.Reads.{AreConflicts};
+ghost use Rattle.doc_rules.specs.Views.{AreConflicts};
 ghost use Rattle.doc_rules.specs.Role.{value_in};
 ghost use Rattle.doc_view.specs.Readings.{Gives, ReadsHere};
 ghost use Rattle.std.specs.List.{list_any};
 ghost use Rattle.doc_view.specs.Showing as showing;
-ghost use Rattle.doc_view.specs.Told.{tree_values, values_told, with_value};
+ghost use Rattle.doc_view.specs.TreeValues.{tree_values, values_told, with_value};
 
 use doc_tree::Tree;
 use doc_words::{Conflicts, Role};

@@ -6,13 +6,13 @@ ghost use Rattle.doc_nodes.specs.declared.node.NodeNumber.{NodeNumber};
 ghost use Rattle.doc_nodes.specs.KeyOrder.{IsRising};
 ghost use Rattle.doc_nodes.specs.Nodes.{node_of};
 ghost use Rattle.doc_tree.specs.Nodes.{tree_facts};
-ghost use Rattle.doc_rules.specs.Reads.{into_list, into_map};
+ghost use Rattle.doc_rules.specs.Views.{into_list, into_map};
 ghost use Rattle.doc_rules.specs.Shown.{ShowsText};
 ghost use Rattle.doc_view.specs.ByNumber.{AtNode, IsTextAt, ShowsThose};
 ghost use Rattle.doc_view.specs.Members.{listed, texts_at, texts_in};
 ghost use Rattle.doc_view.specs.Readings.{Gives, ReadsHere};
 ghost use Rattle.doc_view.specs.Showing.{AreFields, IsListShown, IsMapShown, IsShown};
-ghost use Rattle.doc_view.specs.Told.{tree_values};
+ghost use Rattle.doc_view.specs.TreeValues.{tree_values};
 
 use crate::elements::present_element;
 use crate::maps::present_text;

@@ -4,7 +4,7 @@ ghost use Rattle.serde_json.specs.Data.{string};
 ghost use Rattle.serde_json.specs.View.{view};
 ghost use Rattle.json_scalar.specs.Writing.{Writes};
 ghost use Rattle.op_core.specs.Wire.{list_data};
-ghost use Rattle.doc_rules.specs.Reads.{total};
+ghost use Rattle.doc_rules.specs.Views.{total};
 ghost use Rattle.doc_rules.specs.Shown.{entry_data, count_branch, total_shown};
 ghost use Rattle.doc_view.specs.Members.{listed};
 ghost use Rattle.doc_view.specs.Readings.{Gives};

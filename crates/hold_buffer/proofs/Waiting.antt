@@ -24,7 +24,7 @@ use Rattle.op_log.proofs.KeyOrders.{id_order}
 use Rattle.op_log.proofs.Sorted.{less≢equal, not_less_back, gap_none, keys_once, IsRising-insert, IsRising-split, Contains-take, Contains-drop, Contains-insert_cases}
 use Rattle.op_log.proofs.Ids.{find_id-Contains, find_id-Some, find_id-none, is_logged-find_id}
 use Rattle.doc_rules.specs.Replica.{put_among}
-use Rattle.hold_buffer.specs.Held.{cause_of}
+use Rattle.hold_buffer.specs.Held.{hold_cause}
 use Rattle.hold_buffer.specs.Order.{operations_of, IsOrdered}
 use Rattle.hold_buffer.specs.declared.ticket.Ticket.{Ticket}
 
@@ -275,16 +275,16 @@ no_ticket_removed order id i gap = sym (others_kept (λ (u : Ticket). u.id) id o
 
 -- ---- the cause against holding an operation
 
-pub cause_of-taken : (id : Id) (held : List Op) → is_logged held id ≡ true → cause_of id held ≡ Err IdConflict
-cause_of-taken id held taken = rw taken refl
+pub hold_cause-taken : (id : Id) (held : List Op) → is_logged held id ≡ true → hold_cause id held ≡ Err IdConflict
+hold_cause-taken id held taken = rw taken refl
 
-pub cause_of-full : (id : Id) (held : List Op) → is_logged held id ≡ false → 256 ≤ length held → cause_of id held ≡ Err HeldFull
-cause_of-full id held free full =
+pub hold_cause-full : (id : Id) (held : List Op) → is_logged held id ≡ false → 256 ≤ length held → hold_cause id held ≡ Err HeldFull
+hold_cause-full id held free full =
     let no_room : nat_lt (length held) 256 ≡ false = grind (arith, nat_tests) in
     rw (free, no_room) refl
 
-pub cause_of-none : (id : Id) (held : List Op) → is_logged held id ≡ false → length held < 256 → cause_of id held ≡ Ok tt
-cause_of-none id held free room =
+pub hold_cause-none : (id : Id) (held : List Op) → is_logged held id ≡ false → length held < 256 → hold_cause id held ≡ Ok tt
+hold_cause-none id held free room =
     let some_room : nat_lt (length held) 256 ≡ true = grind (arith, nat_tests) in
     rw (free, some_room) refl
 

@@ -19,10 +19,10 @@ IsCurrent buffer log =
     (op : Op) → Contains buffer.held op → (i : Id) → Contains buffer.waits (record { awaited = i; waiter = op.id }) ↔ Contains (missing op log) i
 
 -- the first cause against holding an operation: another one is held under its id, or there is no room
-abbrev pub first_cause : Bool → Bool → Result ⊤ Refusal
-first_cause true room = Err IdConflict
-first_cause false false = Err HeldFull
-first_cause false true = Ok tt
+abbrev pub first_hold_cause : Bool → Bool → Result ⊤ Refusal
+first_hold_cause true room = Err IdConflict
+first_hold_cause false false = Err HeldFull
+first_hold_cause false true = Ok tt
 
-abbrev pub cause_of : Id → List Op → Result ⊤ Refusal
-cause_of id held = first_cause (is_logged held id) (nat_lt (length held) most_held)
+abbrev pub hold_cause : Id → List Op → Result ⊤ Refusal
+hold_cause id held = first_hold_cause (is_logged held id) (nat_lt (length held) most_held)

@@ -6,7 +6,7 @@ ghost use Rattle.crdt_rules.specs.Same.{id_eq};
 ghost use Rattle.doc_rules.specs.Sorted.{IsRising};
 ghost use Rattle.doc_rules.specs.Replica.{find_id};
 ghost use Rattle.crdt_rules.specs.Dependencies.{is_logged, is_ready, missing};
-ghost use Rattle.hold_buffer.specs.Held.{IsCurrent, cause_of};
+ghost use Rattle.hold_buffer.specs.Held.{IsCurrent, hold_cause};
 ghost use Rattle.doc_rules.specs.Replica.{put_among};
 
 use crate::order::{admit, ids_of, search, store, take, waiting_of};
@@ -127,7 +127,7 @@ impl HoldBuffer {
         requires new_id { is_logged log.now.operations op.id ≡ false }
         requires other { ¬ (Contains self.old.held op) }
         requires current { IsCurrent self.old log.now.operations }
-        ensures cause { UnlessMemory result (cause_of op.id self.old.held) }
+        ensures cause { UnlessMemory result (hold_cause op.id self.old.held) }
         ensures ok { OnOk result (self.new.held ≡ put_among op self.old.held) }
         ensures err { OnErr result (self.new ≡ self.old) }
         ensures current { IsCurrent self.new log.now.operations }

@@ -8,7 +8,7 @@ ghost use Rattle.doc_rules.specs.Sorted.{IsRising};
 ghost use Rattle.op_log.specs.Sorted.{IsPlace, IsGap};
 ghost use Rattle.crdt_rules.specs.Dependencies.{missing};
 ghost use Rattle.doc_rules.specs.Replica.{find_id, put_among};
-ghost use Rattle.hold_buffer.specs.Held.{cause_of};
+ghost use Rattle.hold_buffer.specs.Held.{hold_cause};
 ghost use Rattle.hold_buffer.specs.Order.{operations_of, IsOrdered, AreSorted, waits_for};
 
 use crate::ticket::Ticket;
@@ -52,8 +52,8 @@ pub fn prepare(
     ensures gap { IfOk result (IsGap id_cmp (λ t. t.id) order.old.items id) }
     ensures slot { OnOk result (HasRoomFor slots.new 1) }
     ensures ticket { OnOk result (vec_len order.new < vec_capacity order.new) }
-    ensures cause { MatchResult result (λ _. cause_of id (operations_of slots.old order.old.items) ≡ Ok tt)
-        (λ e. e ≢ Refusal.NoMemory → cause_of id (operations_of slots.old order.old.items) ≡ Err e) }
+    ensures cause { MatchResult result (λ _. hold_cause id (operations_of slots.old order.old.items) ≡ Ok tt)
+        (λ e. e ≢ Refusal.NoMemory → hold_cause id (operations_of slots.old order.old.items) ≡ Err e) }
 {
     match search(order, id) {
         Ok(_) => Err(Refusal::IdConflict),
@@ -120,8 +120,8 @@ pub fn admit(
     ensures ticket { OnOk result (vec_len order.new < vec_capacity order.new) }
     ensures enough { OnOk result (length order.old.items + 1 ≤ vec_capacity ready.new) }
     ensures keeps { vec_capacity ready.old ≤ vec_capacity ready.new }
-    ensures cause { MatchResult result (λ _. cause_of op.now.id (operations_of slots.old order.old.items) ≡ Ok tt)
-        (λ e. e ≢ Refusal.NoMemory → cause_of op.now.id (operations_of slots.old order.old.items) ≡ Err e) }
+    ensures cause { MatchResult result (λ _. hold_cause op.now.id (operations_of slots.old order.old.items) ≡ Ok tt)
+        (λ e. e ≢ Refusal.NoMemory → hold_cause op.now.id (operations_of slots.old order.old.items) ≡ Err e) }
 {
     match prepare(slots, order, op.id()) {
         Ok(at) => match add_missing(log, op, order.capacity(), waits, ready) {

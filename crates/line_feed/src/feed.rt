@@ -12,8 +12,8 @@ use std::marker::Model;
 /// The most bytes of a line, without its newline.
 pub const MAX_LINE_BYTES: usize = 65_536;
 
-/// Room for a line of the most bytes and its newline.
-const ROOM: usize = 65_537;
+/// Room for a line of the most bytes and its newline; so many reads at most fill it.
+pub const LINE_ROOM: usize = 65_537;
 
 /// What the next line is.
 #[derive(Clone, Copy, Debug, PartialEq, Eq)]
@@ -145,6 +145,7 @@ pub struct LineFeed {
 impl Model for LineFeed {
     ghost use Rattle.std.specs.Prelude.{◌≡◌, ◌-◌, ◌≤◌, true, slice_range, vec_len};
     ghost use Rattle.line_feed.specs.Feed.{Feed, IsSpan};
+    ghost use Rattle.line_feed.specs.declared.feed.TheConstants.{LINE_ROOM};
 
     ghost Value = { Feed };
 
@@ -154,7 +155,7 @@ impl Model for LineFeed {
       ended = f.ended;
     } };
 
-    ghost invariant = { λ f. (vec_len f.buffer ≡ 65537)
+    ghost invariant = { λ f. (vec_len f.buffer ≡ LINE_ROOM)
         × IsSpan f.line_start f.line_end × IsSpan f.start f.end × (f.ended ≡ true → f.start ≡ f.end) };
 }
 
@@ -164,7 +165,7 @@ impl LineFeed {
         ensures { IfOk result (λ feed. (feed.held ≡ []) × (feed.ended ≡ false)) }
     {
         Ok(LineFeed {
-            buffer: vec![in alloc; 0; ROOM]?,
+            buffer: vec![in alloc; 0; LINE_ROOM]?,
             line_start: 0,
             line_end: 0,
             start: 0,
@@ -195,7 +196,7 @@ impl LineFeed {
         ensures at_end { (self.old.ended ≡ true → IsAtEnd (R.remaining source.old))
             → self.new.ended ≡ true → IsAtEnd (R.remaining source.new) }
         ensures failed { IsTrue (R.has_failed source.new) ↔ (result ≡ Outcome.Fault) }
-        ensures reads { R.reads source.new ≤ R.reads source.old + 65537 }
+        ensures reads { R.reads source.new ≤ R.reads source.old + LINE_ROOM }
     {
         self.advance(source)
     }
@@ -209,7 +210,7 @@ impl LineFeed {
         ensures at_end { (self.old.ended ≡ true → IsAtEnd (R.remaining source.old))
             → self.new.ended ≡ true → IsAtEnd (R.remaining source.new) }
         ensures failed { IsTrue (R.has_failed source.new) ↔ (result ≡ Outcome.Fault) }
-        ensures reads { R.reads source.new ≤ R.reads source.old + 65537 }
+        ensures reads { R.reads source.new ≤ R.reads source.old + LINE_ROOM }
     {
         if self.ended {
             return Outcome::End;

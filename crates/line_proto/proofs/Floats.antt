@@ -10,7 +10,7 @@ use Rattle.json_scalar.specs.declared.scalar.Val.TheVariants.{Scalar as Plain, E
 use Rattle.op_core.specs.Wire.{list_data, id_data, entry_data, front_data, key_data, tagged_data, cursor_data, mutation_data, wire}
 use Rattle.op_core.specs.declared.cursor.Key.TheVariants.{Doc, Text, Element, Head}
 use Rattle.op_core.specs.declared.cursor.Tagged.TheVariants as tagged
-use Rattle.line_proto.specs.Told.{ids_data, scalars_data, item_data, conflict_data, waiting_data}
+use Rattle.line_proto.specs.Replies.{ids_data, scalars_data, item_data, conflict_data, waiting_data}
 
 -- no item has one, if none of what they are made of has
 none_in : {A : Type 0} (f : A → Data) → ((x : A) → has_float (f x) ≡ false) → (xs : List A) → items_have_float (items_of (map f xs)) ≡ false

@@ -13,7 +13,7 @@ use Rattle.json_scalar.specs.declared.scalar.Val.TheVariants.{Scalar, EmptyMap, 
 use Rattle.json_scalar.specs.declared.scalar.Scalar.TheVariants.{Int, Text, Bool as Truth, Null}
 use Rattle.json_scalar.proofs.Readings.{val_of-Ok}
 use Rattle.op_core.specs.Front.{is_ascending}
-use Rattle.op_core.specs.Reading.{some_if, id_from, front_of, op_from}
+use Rattle.op_core.specs.Reading.{some_if, id_from, front_of_json, op_from}
 use Rattle.op_core.specs.Wire.{list_data}
 use Rattle.op_core.proofs.Wires.{some_step, some_if-Some, as_array-Some, as_str-Some, both_items, ReadsId-from_answer, ReadsFront-from_answer}
 use Rattle.op_core.proofs.Operations.{ReadsOp-from_answer}
@@ -268,8 +268,8 @@ limit_from-Some (object ms) limit h = cc
 ops-Ok : (verb document : List ℕ) (a b : Data) → verb ≡ codes "ops" → OkWrites verb document (a ∷ b ∷ []) (ops_from a b)
 ops-Ok verb document a b is asked h =
     let limit = found_step (limit_from b) BadRequest _ asked h in
-    let front = ok_step (and_then (ok_or (front_of a) BadRequest) in_order) _ asked limit.2 in
-    let entries = found_step (front_of a) BadRequest in_order front.0 front.1 in
+    let front = ok_step (and_then (ok_or (front_of_json a) BadRequest) in_order) _ asked limit.2 in
+    let entries = found_step (front_of_json a) BadRequest in_order front.0 front.1 in
     let order = if_Ok (is_ascending entries.0) BadFront entries.0 front.0 entries.2 in
     let same : asked ≡ ask.Operations front.0 limit.0 = cc in
     let read = ReadsFront-from_answer a (Ok entries.0) (λ _. sym (ap (λ o. ok_or o BadOperation) entries.1)) in

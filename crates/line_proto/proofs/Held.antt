@@ -11,7 +11,7 @@ use Rattle.lamport_id.specs.declared.id.Id.{Id}
 use Rattle.op_core.specs.Wire.{id_data}
 use Rattle.line_feed.specs.Cut.{AppendsCut}
 use Rattle.doc_words.specs.declared.reply.Reply.TheVariants.{Held}
-use Rattle.line_proto.specs.Told.{line_text, reply_data}
+use Rattle.line_proto.specs.Replies.{line_text, reply_data}
 
 -- the ids that are left, to the line's end
 abbrev pub ids_rest : Bool → List Id → List ℕ

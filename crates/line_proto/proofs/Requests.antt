@@ -9,7 +9,7 @@ use Rattle.json_scalar.specs.declared.scalar.Scalar.TheVariants.{Int, Text, Bool
 use Rattle.json_scalar.proofs.Readings.{val_of-val_data}
 use Rattle.op_core.specs.Front.{is_ascending}
 use Rattle.op_core.specs.Shape.{is_entry}
-use Rattle.op_core.proofs.Wires.{both, id_from-id_data, front_of-front_data}
+use Rattle.op_core.proofs.Wires.{both, id_from-id_data, front_of_json-front_data}
 use Rattle.op_core.proofs.Operations.{op_from-wire}
 use Rattle.std.specs.List.{list_all}
 use Rattle.line_proto.specs.Reading.{steps_from, expr_from, request_from}
@@ -81,7 +81,7 @@ reads_ask document (ask.Deliver op) h = rw (op_from-wire op h) refl
 reads_ask document (ask.Operations front limit) h =
     let parts = both (list_all is_entry front && is_ascending front) (nat_le 1 limit && nat_le limit 64) h in
     let order = both (list_all is_entry front) (is_ascending front) parts.0 in
-    rw (parts.1, front_of-front_data front order.0, order.1) refl
+    rw (parts.1, front_of_json-front_data front order.0, order.1) refl
 reads_ask document (ask.Forget id) h = rw (id_from-id_data id h) refl
 
 pub request_from-request_data : (r : Request) → is_request r ≡ true → request_from (request_data r) ≡ Ok r

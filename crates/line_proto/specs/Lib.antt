@@ -1,5 +1,5 @@
 pub mod Reading
 pub mod Written
-pub mod Told
+pub mod Replies
 pub mod Loading
 pub mod Writing

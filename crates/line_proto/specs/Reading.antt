@@ -9,7 +9,7 @@ use Rattle.json_scalar.specs.Scalar.{val_of, int_of}
 use Rattle.doc_words.specs.Words.{Refusal, Assign, Insert, Delete, Add}
 use Rattle.json_scalar.specs.declared.refusal.Refusal.TheVariants.{NotJson, BadRequest, BadValue, BadFront}
 use Rattle.op_core.specs.Front.{is_ascending}
-use Rattle.op_core.specs.Reading.{◌>>=◌, some_if, u64_of, id_from, front_of, op_from}
+use Rattle.op_core.specs.Reading.{◌>>=◌, some_if, u64_of, id_from, front_of_json, op_from}
 use Rattle.doc_words.specs.declared.place.Step.{Step}
 use Rattle.doc_words.specs.declared.place.Step.TheVariants.{Get, Index}
 use Rattle.doc_words.specs.declared.ask.Look.{Look}
@@ -21,6 +21,8 @@ use Rattle.line_proto.specs.declared.request.Ask.{Ask}
 use Rattle.line_proto.specs.declared.request.Ask.TheVariants as ask
 use Rattle.line_proto.specs.declared.request.Request.{Request}
 use Rattle.line_proto.specs.declared.request.Request.TheVariants.{Quit, Version, Of}
+use Rattle.line_proto.specs.declared.cursor.TheConstants.{MAX_VARIABLE_LEN}
+use Rattle.line_proto.specs.declared.read.TheConstants.{MAX_LIMIT}
 
 -- ---- cursor expressions
 
@@ -41,7 +43,7 @@ steps_from (item d ds) = do
 
 -- the name of a variable has at most 128 bytes
 abbrev pub variable_of : List ℕ → Option (List ℕ)
-variable_of s = some_if (nat_le (length s) 128) s
+variable_of s = some_if (nat_le (length s) MAX_VARIABLE_LEN) s
 
 abbrev pub variable_from : Data → Option (List ℕ)
 variable_from d = as_str d >>= variable_of
@@ -116,7 +118,7 @@ naming_from n d =
 
 -- 1 to 64
 abbrev pub limit_of : ℕ → Option ℕ
-limit_of n = some_if (nat_le 1 n && nat_le n 64) n
+limit_of n = some_if (nat_le 1 n && nat_le n MAX_LIMIT) n
 
 abbrev pub limit_from : Data → Option ℕ
 limit_from d = u64_of d >>= limit_of
@@ -127,7 +129,7 @@ in_order front = if is_ascending front then Ok front else Err BadFront
 
 abbrev pub ops_from : Data → Data → Result Ask Refusal
 ops_from f n =
-    and_then (ok_or (limit_from n) BadRequest) (λ limit. and_then (and_then (ok_or (front_of f) BadRequest) in_order) (λ front. Ok (ask.Operations front limit)))
+    and_then (ok_or (limit_from n) BadRequest) (λ limit. and_then (and_then (ok_or (front_of_json f) BadRequest) in_order) (λ front. Ok (ask.Operations front limit)))
 
 abbrev pub assignment_from : Data → Data → Result Ask Refusal
 assignment_from c d =

@@ -2,8 +2,8 @@
 use Rattle.std.specs.Prelude.{Bool, true, false, Result, Ok, Err, ⊤}
 use Rattle.doc_words.specs.declared.reply.Reply.{Reply}
 use Rattle.doc_words.specs.declared.reply.Reply.TheVariants.{Applied, Known, Held, Forgotten, Account, Refused}
-use Rattle.line_proto.specs.declared.told.Told.{Told}
-use Rattle.line_proto.specs.declared.told.Told.TheVariants.{Answered}
+use Rattle.line_proto.specs.declared.line_reply.LineReply.{LineReply}
+use Rattle.line_proto.specs.declared.line_reply.LineReply.TheVariants.{Answered}
 use Rattle.line_proto.specs.declared.write.WriteFault.{WriteFault}
 use Rattle.line_proto.specs.declared.write.WriteFault.TheVariants.{NoMemory, Device}
 
@@ -17,7 +17,7 @@ is_lengthy (Account n) = false
 is_lengthy (Refused r) = false
 is_lengthy _ = true
 
-abbrev pub may_lack : Told → Bool
+abbrev pub may_lack : LineReply → Bool
 may_lack (Answered reply) = is_lengthy reply
 may_lack _ = false
 

@@ -3,7 +3,7 @@ ghost use Rattle.std.specs.Prelude.{◌≡◌, [], ◌∷◌, true, false, IfOk,
 ghost use Rattle.serde_json.specs.View.{view};
 ghost use Rattle.serde_json.specs.Written.{has_float};
 ghost use Rattle.line_feed.specs.Cut.{line_of};
-ghost use Rattle.line_proto.specs.Told.{line_text, worded, shown_text, reply_text};
+ghost use Rattle.line_proto.specs.Replies.{line_text, worded, shown_text, reply_text};
 ghost use Rattle.line_proto.specs.Writing.{is_lengthy};
 
 use crate::told_json::{

@@ -3,15 +3,15 @@
 
 mod cursor;
 mod lengthy;
+mod line_reply;
 mod name;
 mod read;
 mod request;
 mod text;
-mod told;
 mod told_json;
 mod write;
 
+pub use line_reply::{LineReply, VERSION};
 pub use name::Name;
 pub use request::{Ask, CursorExpr, Request, Start};
-pub use told::{Told, VERSION};
 pub use write::WriteFault;

@@ -4,7 +4,7 @@ ghost use Rattle.serde_json.specs.Read.{read};
 ghost use Rattle.serde_json.specs.View.{view, items_view};
 ghost use Rattle.json_scalar.specs.Refusal.{UnlessMemory, and_then};
 ghost use Rattle.json_scalar.specs.declared.refusal.Refusal.TheVariants.{BadRequest, BadValue, NotJson, NoMemory};
-ghost use Rattle.op_core.specs.Reading.{front_of};
+ghost use Rattle.op_core.specs.Reading.{front_of_json};
 ghost use Rattle.line_proto.specs.Reading.{bare_request, plain_ask, look_of, look_from, deletion_from, delivery_from, forgetting_from, short_ask, naming_from, limit_of, limit_from, in_order, ops_from, assignment_from, insertion_from, amount_of, addition_from, change_from, long_ask, bare_from, plain_from, short_from, long_from, request_items, request_from, line_data, request_of};
 ghost use Rattle.line_proto.specs.Loading.{Loads};
 
@@ -276,7 +276,7 @@ fn limit_of(limit: u64) -> Option<u64>
 }
 
 fn read_ascending(alloc: Global, value: &Value) -> Result<Front, Refusal>
-    ensures { UnlessMemory result (and_then (ok_or (front_of (view value.now)) BadRequest) in_order) }
+    ensures { UnlessMemory result (and_then (ok_or (front_of_json (view value.now)) BadRequest) in_order) }
 {
     in_order(read_any_front(alloc, value)?)
 }
@@ -292,7 +292,7 @@ fn in_order(front: Front) -> Result<Front, Refusal>
 }
 
 fn read_any_front(alloc: Global, value: &Value) -> Result<Front, Refusal>
-    ensures { UnlessMemory result (ok_or (front_of (view value.now)) BadRequest) }
+    ensures { UnlessMemory result (ok_or (front_of_json (view value.now)) BadRequest) }
 {
     match read_front(alloc, value) {
         Ok(front) => Ok(front),

@@ -6,8 +6,8 @@ ghost use Rattle.serde_json.specs.Written.{compact_text};
 ghost use Rattle.serde_json.specs.Data.{string};
 ghost use Rattle.op_core.specs.Wire.{id_data};
 ghost use Rattle.doc_words.specs.declared.reply.Reply.TheVariants.{Applied, Account, Refused};
-ghost use Rattle.line_proto.specs.Told.{line_text, told_data, reply_data, worded, count_data};
-ghost use Rattle.line_proto.specs.declared.told.Told.TheVariants.{Opened};
+ghost use Rattle.line_proto.specs.Replies.{line_text, told_data, reply_data, worded, count_data};
+ghost use Rattle.line_proto.specs.declared.line_reply.LineReply.TheVariants.{Opened};
 
 use arrayvec::ArrayString;
 use itoa::Buffer;

@@ -5,7 +5,7 @@ ghost use Rattle.serde_json.specs.Data.{string};
 ghost use Rattle.serde_json.specs.View.{view};
 ghost use Rattle.json_scalar.specs.Writing.{Writes};
 ghost use Rattle.op_core.specs.Wire.{list_data, wire};
-ghost use Rattle.line_proto.specs.Told.{worded, pair_data, ids_data, scalars_data, item_data, conflict_data, waiting_data};
+ghost use Rattle.line_proto.specs.Replies.{worded, pair_data, ids_data, scalars_data, item_data, conflict_data, waiting_data};
 
 use doc_words::{Ids, Scalars};
 use itoa::Buffer;

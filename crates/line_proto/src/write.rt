@@ -6,13 +6,13 @@ ghost use Rattle.serde_json.specs.Written.{comma_if, compact_text};
 ghost use Rattle.op_core.specs.Wire.{id_data};
 ghost use Rattle.doc_words.specs.declared.reply.Reply.TheVariants.{Held, Show};
 ghost use Rattle.line_feed.specs.Cut.{AppendsCut, line_of};
-ghost use Rattle.line_proto.specs.Told.{line_text, reply_data, reply_text, told_text, line_told, worded};
+ghost use Rattle.line_proto.specs.Replies.{line_text, reply_data, reply_text, told_text, line_told, worded};
 ghost use Rattle.line_proto.specs.Writing.{is_lengthy, may_lack, is_device};
-ghost use Rattle.line_proto.specs.declared.told.Told.TheVariants.{Answered};
+ghost use Rattle.line_proto.specs.declared.line_reply.LineReply.TheVariants.{Answered};
 
 use crate::lengthy::lengthy_line;
+use crate::line_reply::{LineReply, VERSION};
 use crate::text::{Line, Piece, account, applied, fixed, no, opened, put_id, version};
-use crate::told::{Told, VERSION};
 use doc_words::Reply;
 use lamport_id::Id;
 use line_feed::{DeviceFault, Sink, write_all};
@@ -38,7 +38,7 @@ impl From<DeviceFault> for WriteFault {
     }
 }
 
-impl Told {
+impl LineReply {
     /// Writes the line that is told, with its newline.
     ///
     /// `Device` where the sink fails; then it has taken a part of the line that is less than all. `NoMemory` where
@@ -54,11 +54,11 @@ impl Told {
         ensures failed { W.has_failed sink.new ≡ is_device result }
     {
         match self {
-            Told::Opened(seat) => write_short(sink, &opened(*seat)),
-            Told::Bound => write_short(sink, &fixed("[\"bound\"]\n")),
-            Told::Version => write_short(sink, &version(VERSION)),
-            Told::Bye => write_short(sink, &fixed("[\"bye\"]\n")),
-            Told::Answered(reply) => write_reply(alloc, reply, sink),
+            LineReply::Opened(seat) => write_short(sink, &opened(*seat)),
+            LineReply::Bound => write_short(sink, &fixed("[\"bound\"]\n")),
+            LineReply::Version => write_short(sink, &version(VERSION)),
+            LineReply::Bye => write_short(sink, &fixed("[\"bye\"]\n")),
+            LineReply::Answered(reply) => write_reply(alloc, reply, sink),
         }
     }
 

@@ -5,7 +5,7 @@ use json_scalar::{Refusal, Scalar, Val};
 use lamport_id::{Id, ReplicaName};
 use line_feed::Writer;
 use line_feed::doubles::FailAfter;
-use line_proto::{Ask, Request, Told, WriteFault};
+use line_proto::{Ask, LineReply, Request, WriteFault};
 use op_core::{Front, KeyText, Mutation, read_wire};
 use serde_json::Value;
 use std::alloc::Global;
@@ -225,7 +225,7 @@ fn reads_down_to_the_deepest_array(rt: HostRuntime) -> Result<(), Fail> {
 }
 
 /// Whether this is told by that line.
-fn tells(alloc: Global, told: Told, line: &str) -> bool {
+fn tells(alloc: Global, told: LineReply, line: &str) -> bool {
     let mut sink = Writer::new(Vec::<u8>::new(alloc));
     told.write(alloc, &mut sink) == Ok(()) && sink.into_inner().as_slice() == line.as_bytes()
 }
@@ -240,10 +240,10 @@ fn own_id() -> Result<Id, Refusal> {
 
 #[test]
 fn tells_what_takes_no_memory(rt: HostRuntime) -> Result<(), Fail> {
-    assert!(rt; tells(rt.alloc(), Told::Opened(1), "[\"opened\",1]\n"));
-    assert!(rt; tells(rt.alloc(), Told::Bound, "[\"bound\"]\n"));
-    assert!(rt; tells(rt.alloc(), Told::Version, "[\"version\",2]\n"));
-    assert!(rt; tells(rt.alloc(), Told::Bye, "[\"bye\"]\n"));
+    assert!(rt; tells(rt.alloc(), LineReply::Opened(1), "[\"opened\",1]\n"));
+    assert!(rt; tells(rt.alloc(), LineReply::Bound, "[\"bound\"]\n"));
+    assert!(rt; tells(rt.alloc(), LineReply::Version, "[\"version\",2]\n"));
+    assert!(rt; tells(rt.alloc(), LineReply::Bye, "[\"bye\"]\n"));
     let applied = Reply::Applied {
         count: 1,
         dropped: 0,
@@ -252,7 +252,7 @@ fn tells_what_takes_no_memory(rt: HostRuntime) -> Result<(), Fail> {
     assert!(rt;
         tells(
             rt.alloc(),
-            Told::Answered(applied),
+            LineReply::Answered(applied),
             "[\"applied\",1,0,[3,\"srv-1\"]]\n"
         )
     );
@@ -261,18 +261,24 @@ fn tells_what_takes_no_memory(rt: HostRuntime) -> Result<(), Fail> {
 
 #[test]
 fn tells_replies_of_one_part(rt: HostRuntime) {
-    assert!(rt; tells(rt.alloc(), Told::Answered(Reply::Known), "[\"known\"]\n"));
     assert!(rt;
         tells(
             rt.alloc(),
-            Told::Answered(Reply::Forgotten),
+            LineReply::Answered(Reply::Known),
+            "[\"known\"]\n"
+        )
+    );
+    assert!(rt;
+        tells(
+            rt.alloc(),
+            LineReply::Answered(Reply::Forgotten),
             "[\"forgotten\"]\n"
         )
     );
     assert!(rt;
         tells(
             rt.alloc(),
-            Told::Answered(Reply::Account(18_446_744_073_709_551_615)),
+            LineReply::Answered(Reply::Account(18_446_744_073_709_551_615)),
             "[\"account\",18446744073709551615]\n"
         )
     );
@@ -287,7 +293,11 @@ fn tells_refusals(rt: HostRuntime) {
     ];
     for (refusal, line) in rows {
         assert!(rt;
-            tells(rt.alloc(), Told::Answered(Reply::Refused(refusal)), line),
+            tells(
+                rt.alloc(),
+                LineReply::Answered(Reply::Refused(refusal)),
+                line
+            ),
             "{line}"
         );
     }
@@ -299,7 +309,7 @@ fn tells_what_is_missing(rt: HostRuntime) -> Result<(), Fail> {
     assert!(rt;
         tells(
             rt.alloc(),
-            Told::Answered(Reply::Held(none)),
+            LineReply::Answered(Reply::Held(none)),
             "[\"held\",[]]\n"
         )
     );
@@ -307,7 +317,7 @@ fn tells_what_is_missing(rt: HostRuntime) -> Result<(), Fail> {
     assert!(rt;
         tells(
             rt.alloc(),
-            Told::Answered(Reply::Held(two)),
+            LineReply::Answered(Reply::Held(two)),
             "[\"held\",[[3,\"srv-1\"],[3,\"srv-1\"]]]\n"
         )
     );
@@ -323,7 +333,7 @@ fn tells_readings(rt: HostRuntime) -> Result<(), Fail> {
     assert!(rt;
         tells(
             rt.alloc(),
-            Told::Answered(Reply::Keys(Texts::from(texts))),
+            LineReply::Answered(Reply::Keys(Texts::from(texts))),
             "[\"keys\",[\"\",\"a\\\"b\"]]\n"
         )
     );
@@ -331,14 +341,14 @@ fn tells_readings(rt: HostRuntime) -> Result<(), Fail> {
     assert!(rt;
         tells(
             rt.alloc(),
-            Told::Answered(Reply::Values(Scalars::from(scalars))),
+            LineReply::Answered(Reply::Values(Scalars::from(scalars))),
             "[\"values\",[-1,true,null]]\n"
         )
     );
     assert!(rt;
         tells(
             rt.alloc(),
-            Told::Answered(Reply::Sum(-18_446_744_073_709_551_614)),
+            LineReply::Answered(Reply::Sum(-18_446_744_073_709_551_614)),
             "[\"sum\",\"-18446744073709551614\"]\n"
         )
     );
@@ -352,7 +362,7 @@ fn tells_elements(rt: HostRuntime) -> Result<(), Fail> {
     assert!(rt;
         tells(
             rt.alloc(),
-            Told::Answered(Reply::Items(Items::from(items))),
+            LineReply::Answered(Reply::Items(Items::from(items))),
             "[\"items\",[[[3,\"srv-1\"],[1]]]]\n"
         )
     );
@@ -360,7 +370,7 @@ fn tells_elements(rt: HostRuntime) -> Result<(), Fail> {
     assert!(rt;
         tells(
             rt.alloc(),
-            Told::Answered(Reply::Show(ShownText::from(shown))),
+            LineReply::Answered(Reply::Show(ShownText::from(shown))),
             "[\"show\",[[\"val\",[2,\"p\"],\"x\"]]]\n"
         )
     );
@@ -373,7 +383,7 @@ fn tells_conflicts(rt: HostRuntime) -> Result<(), Fail> {
     assert!(rt;
         tells(
             rt.alloc(),
-            Told::Answered(Reply::Conflicts(Conflicts::from(vals))),
+            LineReply::Answered(Reply::Conflicts(Conflicts::from(vals))),
             "[\"conflicts\",[[[3,\"srv-1\"],{}],[[3,\"srv-1\"],[]]]]\n"
         )
     );
@@ -391,7 +401,7 @@ fn tells_the_log(rt: HostRuntime) -> Result<(), Fail> {
     assert!(rt;
         tells(
             rt.alloc(),
-            Told::Answered(Reply::Operations(operations)),
+            LineReply::Answered(Reply::Operations(operations)),
             "[\"ops\",[[\"op\",[1,\"p\"],[],[[[\"m\",0]],\"n\"],[\"add\",-7]]]]\n"
         )
     );
@@ -404,7 +414,7 @@ fn tells_fronts_and_what_waits(rt: HostRuntime) -> Result<(), Fail> {
     assert!(rt;
         tells(
             rt.alloc(),
-            Told::Answered(Reply::Front(front)),
+            LineReply::Answered(Reply::Front(front)),
             "[\"front\",[[\"srv-1\",3]]]\n"
         )
     );
@@ -413,7 +423,7 @@ fn tells_fronts_and_what_waits(rt: HostRuntime) -> Result<(), Fail> {
     assert!(rt;
         tells(
             rt.alloc(),
-            Told::Answered(Reply::Waiting(waiting)),
+            LineReply::Answered(Reply::Waiting(waiting)),
             "[\"waiting\",[[[3,\"srv-1\"],[[3,\"srv-1\"]]]]]\n"
         )
     );
@@ -424,7 +434,7 @@ fn tells_fronts_and_what_waits(rt: HostRuntime) -> Result<(), Fail> {
 fn a_sink_that_fails_has_a_front_of_the_line(rt: HostRuntime) -> Result<(), Fail> {
     let missing = Ids::from(vec![in rt.alloc(); own_id()?, own_id()?]?);
     let mut sink = FailAfter::new(Writer::new(Vec::<u8>::new(rt.alloc())), 20);
-    let told = Told::Answered(Reply::Held(missing));
+    let told = LineReply::Answered(Reply::Held(missing));
     assert!(rt; told.write(rt.alloc(), &mut sink) == Err(WriteFault::Device));
     let FailAfter { device, .. } = sink;
     assert!(rt; device.into_inner().as_slice() == b"[\"held\",[[3,\"srv-1\"]".as_slice());

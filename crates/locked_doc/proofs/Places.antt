@@ -15,28 +15,28 @@ use Rattle.crdt_rules.proofs.Orders as Laws
 use Rattle.crdt_rules.proofs.SameSet.{HasOneEach, good_one_each, replay_free, facts_of_one_set}
 use Rattle.doc_rules.specs.Answers.{Answers}
 use Rattle.doc_rules.specs.Replica.{Replica, facts_of}
-use Rattle.doc_rules.specs.Role.{value_at}
+use Rattle.doc_rules.specs.Role.{value_put_at}
 use Rattle.locked_doc.specs.Places.{IsReadOf, IsReadInEachOrder, IsReadOfSet}
 
 -- ---- the values that a set of operations puts
 
 -- what an operation puts here is what its set puts here
 put_by : (set : List Op) → HasOneEach set → (p : List Tagged) (k : Key) (i : Id) (o : Op) → Contains set o → ends_here o p k i ≡ true
-    → value_at set p k i ≡ value_put o.mutation
+    → value_put_at set p k i ≡ value_put o.mutation
 put_by [] one p k i o c h = absurd (Contains-nil c)
 put_by (z ∷ set) one p k i o c h =
     by (ends_here z p k i) refl (Contains-cases z set c)
     (λ c. put_by set (λ a b x y. one a b (Contains-there z set x) (Contains-there z set y)) p k i o c h)
   where
-    by : (b : Bool) → ends_here z p k i ≡ b → (z ≡ o) ⊎ Contains set o → (Contains set o → value_at set p k i ≡ value_put o.mutation)
-        → (if b then value_put z.mutation else value_at set p k i) ≡ value_put o.mutation
+    by : (b : Bool) → ends_here z p k i ≡ b → (z ≡ o) ⊎ Contains set o → (Contains set o → value_put_at set p k i ≡ value_put o.mutation)
+        → (if b then value_put z.mutation else value_put_at set p k i) ≡ value_put o.mutation
     by true e place ih =
         ap (λ x. value_put x.mutation) (one z o (Contains-here set refl) c ((here_from z p k i e).id ∙ sym (here_from o p k i h).id))
     by false e (inl here) ih = absurd (true≢false (sym h ∙ ap (λ y. ends_here y p k i) (sym here) ∙ e))
     by false e (inr there) ih = ih there
 
 -- and where none ends here, nothing
-put_by_none : (set : List Op) (p : List Tagged) (k : Key) (i : Id) → ((o : Op) → Contains set o → ends_here o p k i ≡ false) → value_at set p k i ≡ None
+put_by_none : (set : List Op) (p : List Tagged) (k : Key) (i : Id) → ((o : Op) → Contains set o → ends_here o p k i ≡ false) → value_put_at set p k i ≡ None
 put_by_none [] p k i none = refl
 put_by_none (z ∷ set) p k i none =
     rw (none z (Contains-here set refl)) (put_by_none set p k i (λ o c. none o (Contains-there z set c)))
@@ -58,18 +58,18 @@ ends (z ∷ set) p k i = by (ends_here z p k i) refl (ends set p k i)
         at o (inl here) = ap (λ y. ends_here y p k i) (sym here) ∙ e
         at o (inr there) = none o there
 
-value_at-same : (set set' : List Op) → HasOneEach set → HasOneEach set' → SameMembers set set' → value_at set ≡ value_at set'
+value_at-same : (set set' : List Op) → HasOneEach set → HasOneEach set' → SameMembers set set' → value_put_at set ≡ value_put_at set'
 value_at-same set set' one one' same = fun_ext (λ p. fun_ext (λ k. fun_ext (λ i. at p k i (ends set p k i))))
   where
     at : (p : List Tagged) (k : Key) (i : Id) → ((o : Op) × Contains set o × (ends_here o p k i ≡ true)) ⊎ ((o : Op) → Contains set o → ends_here o p k i ≡ false)
-        → value_at set p k i ≡ value_at set' p k i
+        → value_put_at set p k i ≡ value_put_at set' p k i
     at p k i (inl found) =
         put_by set one p k i found.0 found.1 found.2 ∙ sym (put_by set' one' p k i found.0 ((same found.0).0 found.1) found.2)
     at p k i (inr none) = put_by_none set p k i none ∙ sym (put_by_none set' p k i (λ o c. none o ((same o).1 c)))
 
 -- ---- what is read
 
-read_of : (r : Replica) (mine : ℕ) (q : Query) (answer : Reply) → Answers r mine q answer → IsReadOf (facts_of r) (value_at r.log) q answer
+read_of : (r : Replica) (mine : ℕ) (q : Query) (answer : Reply) → Answers r mine q answer → IsReadOf (facts_of r) (value_put_at r.log) q answer
 read_of r mine (query.Resolve place) answer h = h
 read_of r mine (query.Look look place) answer h = h
 read_of r mine (query.Operations front limit) answer h = tt
@@ -80,10 +80,10 @@ read_of r mine query.Account answer h = tt
 pub in_each_order : (r : Replica) (mine : ℕ) (q : Query) (answer : Reply) → IsGood r.log → Answers r mine q answer → IsReadInEachOrder r.log q answer
 in_each_order r mine q answer good h = λ order causal.
     let other = Laws.all_orders r.log good order causal in
-    let values : value_at r.log ≡ value_at order = value_at-same r.log order (good_one_each r.log good) (good_one_each order other.0) causal.same in
-    subst (λ f. IsReadOf f (value_at order) q answer) (sym other.1) (subst (λ v. IsReadOf (facts_of r) v q answer) values (read_of r mine q answer h))
+    let values : value_put_at r.log ≡ value_put_at order = value_at-same r.log order (good_one_each r.log good) (good_one_each order other.0) causal.same in
+    subst (λ f. IsReadOf f (value_put_at order) q answer) (sym other.1) (subst (λ v. IsReadOf (facts_of r) v q answer) values (read_of r mine q answer h))
 
 pub of_the_set : (r : Replica) (mine : ℕ) (q : Query) (answer : Reply) → IsGood r.log → Answers r mine q answer → IsReadOfSet r.log q answer
 of_the_set r mine q answer good h = λ f free.
     let one : facts_of r ≡ f = facts_of_one_set r.log r.log (facts_of r) f (λ o. ((λ c. c), (λ c. c))) (good_one_each r.log good) (replay_free r.log good) free in
-    subst (λ f. IsReadOf f (value_at r.log) q answer) one (read_of r mine q answer h)
+    subst (λ f. IsReadOf f (value_put_at r.log) q answer) one (read_of r mine q answer h)

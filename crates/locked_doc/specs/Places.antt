@@ -10,9 +10,9 @@ use Rattle.crdt_rules.specs.Facts.{Facts, facts}
 use Rattle.crdt_rules.specs.Free.{AreFactsOf}
 use Rattle.crdt_rules.specs.Log.{IsCausalOrder, replay}
 use Rattle.doc_rules.specs.Answers.{LooksHere}
-use Rattle.doc_rules.specs.Reads.{Values}
+use Rattle.doc_rules.specs.Views.{Values}
 use Rattle.doc_rules.specs.Resolve.{Resolves}
-use Rattle.doc_rules.specs.Role.{value_at}
+use Rattle.doc_rules.specs.Role.{value_put_at}
 
 -- a reading where the steps lead in these facts, the cause against the steps, or that memory is wanting
 abbrev pub IsReadWhere : Facts → Place → (Cursor → Reply → Type 0) → Reply → Type 0
@@ -29,8 +29,8 @@ IsReadOf f values _ answer = Unit {0}
 -- whatever the causal order in which the operations are taken
 abbrev pub IsReadInEachOrder : List Op → Query → Reply → Type 0
 IsReadInEachOrder log query answer =
-    (order : List Op) → IsCausalOrder log order → IsReadOf (facts (replay order)) (value_at order) query answer
+    (order : List Op) → IsCausalOrder log order → IsReadOf (facts (replay order)) (value_put_at order) query answer
 
 -- and with no order at all, of the facts of their set
 abbrev pub IsReadOfSet : List Op → Query → Reply → Type 0
-IsReadOfSet log query answer = (f : Facts) → AreFactsOf log f → IsReadOf f (value_at log) query answer
+IsReadOfSet log query answer = (f : Facts) → AreFactsOf log f → IsReadOf f (value_put_at log) query answer

@@ -5,7 +5,7 @@ use Rattle.doc_words.specs.Words.{Refusal, Op}
 use Rattle.json_scalar.specs.declared.refusal.Refusal.TheVariants.{LogFull, TooManyReplicas}
 use Rattle.op_core.specs.Shape.{is_shaped}
 use Rattle.crdt_rules.specs.Fits.{Fits, replicas}
-use Rattle.doc_rules.specs.Cause.{first_cause, cause_of, room_cause}
+use Rattle.doc_rules.specs.Cause.{first_fit_cause, cause_of, room_cause}
 use Rattle.doc_rules.proofs.Causes.{fits_from, cause_none}
 
 ok_alone : (r : Result ⊤ Refusal) → IsOk r → r ≡ Ok tt
@@ -20,7 +20,7 @@ decides op log answer shaped is = (
 )
 
 -- where only the room is in question, the last counter is not told
-pub room_alone : (a b : Bool) (last other : ℕ) → first_cause true true true a b last ≡ first_cause true true true a b other
+pub room_alone : (a b : Bool) (last other : ℕ) → first_fit_cause true true true a b last ≡ first_fit_cause true true true a b other
 room_alone false b last other = refl
 room_alone true false last other = refl
 room_alone true true last other = refl
@@ -31,7 +31,7 @@ room_full log op h = by (nat_le (length (op ∷ log)) 100000) refl
     full : (n : ℕ) → 100000 ≤ n → nat_le (suc n) 100000 ≡ true → ⊥
     full n h e = let few : suc n ≤ 100000 = leb-true (suc n) 100000 e in omega arith
 
-    by : (b : Bool) → nat_le (length (op ∷ log)) 100000 ≡ b → Err LogFull ≡ first_cause true true true b (nat_le (length (replicas (op ∷ log))) 256) 0
+    by : (b : Bool) → nat_le (length (op ∷ log)) 100000 ≡ b → Err LogFull ≡ first_fit_cause true true true b (nat_le (length (replicas (op ∷ log))) 256) 0
     by true e = absurd (full (length log) h e)
     by false e = refl
 
@@ -40,8 +40,8 @@ few_enough n h = le-leb (suc n) 100000 (omega arith)
 
 pub room_replicas : (log : List Op) (op : Op) → length log < 100000 → false ≡ nat_le (length (replicas (op ∷ log))) 256 → Err TooManyReplicas ≡ room_cause op log
 room_replicas log op h none =
-    (λ i. first_cause true true true (sym (few_enough (length log) h) i) (none i) 0)
+    (λ i. first_fit_cause true true true (sym (few_enough (length log) h) i) (none i) 0)
 
 pub room_left : (log : List Op) (op : Op) → length log < 100000 → true ≡ nat_le (length (replicas (op ∷ log))) 256 → Ok tt ≡ room_cause op log
 room_left log op h some =
-    (λ i. first_cause true true true (sym (few_enough (length log) h) i) (some i) 0)
+    (λ i. first_fit_cause true true true (sym (few_enough (length log) h) i) (some i) 0)

@@ -14,7 +14,7 @@ use crate::front::{self, Entry};
 use crate::log::OpLog;
 use json_scalar::Refusal;
 use lamport_id::{Id, ReplicaName};
-use op_core::{Cursor, Front, Key, Mutation, Operation, Tagged, id_of};
+use op_core::{Cursor, Front, Key, Mutation, Operation, Tagged, id_of, keeps_shape};
 
 /// The most operations of a log.
 pub const MAX_OPERATIONS: usize = 100_000;
@@ -30,7 +30,7 @@ impl OpLog {
         ensures cause { result ≡ cause_of op.now self.now.operations }
         ensures fits { IsOk result ↔ Fits op.now self.now.operations }
     {
-        self.first_cause(op)
+        self.first_fit_cause(op)
     }
 
     /// Whether the log takes one more operation of this replica: log-full from 100,000 operations on, too-many-replicas for
@@ -48,7 +48,7 @@ impl OpLog {
     }
 
     #[tactic(auto, using(crate::proofs::Comparing::shaped_ascending))]
-    fn first_cause(&self, op: &Operation) -> Result<(), Refusal>
+    fn first_fit_cause(&self, op: &Operation) -> Result<(), Refusal>
         ensures cause { result ≡ cause_of op.now self.now.operations }
         ensures shaped { is_shaped op.now ≡ true }
     {
@@ -151,6 +151,6 @@ fn is_front_at_most(op: &Operation, front: &[Entry]) -> bool
     requires { is_ascending front.now ≡ true }
     ensures { result ≡ is_le op.now.front front.now }
 {
-    let _id = op.id();
+    keeps_shape(op);
     front::is_at_most(op.front().as_slice(), front)
 }

@@ -8,4 +8,4 @@ mod index;
 mod log;
 
 pub use check::{MAX_OPERATIONS, MAX_REPLICAS};
-pub use log::OpLog;
+pub use log::{OpLog, keeps_good};

@@ -11,11 +11,11 @@ use Rattle.doc_rules.specs.Replica.{IsKept}
 use Rattle.doc_rules.proofs.Kept.{event_keeps}
 use Rattle.crdt_rules.specs.Log.{IsGood}
 use Rattle.hold_buffer.specs.Held.{Buffer, IsCurrent}
-use Rattle.replica_core.specs.Tells.{Tells}
+use Rattle.replica_core.specs.AgreesWith.{AgreesWith}
 use Rattle.replica_core.specs.Whole.{IsWhole, replica_of}
 
 -- with a good log, and nothing held
-pub whole_log : (name : List ℕ) (tree : List Node × Option Scalar) (log : List Op) (buffer : Buffer) → is_name name ≡ true → Tells tree log → IsCurrent buffer log
+pub whole_log : (name : List ℕ) (tree : List Node × Option Scalar) (log : List Op) (buffer : Buffer) → is_name name ≡ true → AgreesWith tree log → IsCurrent buffer log
     → IsGood log → buffer.held ≡ [] → IsWhole name tree log buffer
 whole_log name tree log buffer named tells current good none = record {
   named = named;
@@ -34,7 +34,7 @@ whole_log name tree log buffer named tells current good none = record {
 
 -- and after an event
 pub whole_next : (name : List ℕ) (tree tree' : List Node × Option Scalar) (log log' : List Op) (buffer buffer' : Buffer) (command : Command) (answer : Reply)
-    → IsWhole name tree log buffer → Tells tree' log' → IsCurrent buffer' log' → IsWellMade command
+    → IsWhole name tree log buffer → AgreesWith tree' log' → IsCurrent buffer' log' → IsWellMade command
     → Event (replica_of name log buffer.held) command answer (replica_of name log' buffer'.held) → IsWhole name tree' log' buffer'
 whole_next name tree tree' log log' buffer buffer' command answer whole tells current made event = record {
   named = whole.named;
@@ -43,7 +43,7 @@ whole_next name tree tree' log log' buffer buffer' command answer whole tells cu
   kept = event_keeps (replica_of name log buffer.held) (replica_of name log' buffer'.held) command answer whole.named made whole.kept event;
 }
 
-pub whole_empty : (name : List ℕ) (tree : List Node × Option Scalar) (log : List Op) (buffer : Buffer) → is_name name ≡ true → Tells tree [] → log ≡ []
+pub whole_empty : (name : List ℕ) (tree : List Node × Option Scalar) (log : List Op) (buffer : Buffer) → is_name name ≡ true → AgreesWith tree [] → log ≡ []
     → IsCurrent buffer [] → buffer.held ≡ [] → IsWhole name tree log buffer
 whole_empty name tree log buffer named tells empty current none =
     subst (λ l. IsWhole name tree l buffer) (sym empty) (whole_log name tree [] buffer named tells current tt none)

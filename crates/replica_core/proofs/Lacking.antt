@@ -4,12 +4,12 @@ use Rattle.doc_words.specs.Words.{NoMemory, Op}
 use Rattle.doc_words.specs.declared.ask.Command.TheVariants as command
 use Rattle.doc_words.specs.declared.reply.Reply.{Reply}
 use Rattle.doc_words.specs.declared.reply.Reply.TheVariants as reply
-use Rattle.doc_rules.specs.Cause.{cause_of, first_cause}
+use Rattle.doc_rules.specs.Cause.{cause_of, first_fit_cause}
 use Rattle.doc_rules.specs.Events.{Due, told, held, logged, Event, due_by_cause, delivered_rows, due_delivered}
 use Rattle.doc_rules.specs.Replica.{Replica}
 use Rattle.doc_rules.proofs.Tables.{by_rows}
 use Rattle.replica_core.specs.Memory.{Grows, MayLack}
-use Rattle.replica_core.specs.Told.{Meets}
+use Rattle.replica_core.specs.Outcomes.{Meets}
 
 pub event_from : (r : Replica) (op : Op) (answer : Reply) (s : Replica) → Meets r (due_delivered r op) answer s → Event r (command.Deliver op) answer s
 event_from r op answer s (inl does) = inl does
@@ -17,7 +17,7 @@ event_from r op answer s (inr lacks) = inr lacks.1
 
 -- no want of memory is due
 by_cause_told : (knows chain cursor operations replicas : Bool) (last : _) (op : Op)
-    → due_by_cause (first_cause knows chain cursor operations replicas last) op ≢ told (reply.Refused NoMemory)
+    → due_by_cause (first_fit_cause knows chain cursor operations replicas last) op ≢ told (reply.Refused NoMemory)
 by_cause_told false chain cursor operations replicas last op e = absurd (cc)
 by_cause_told true false cursor operations replicas last op e = absurd (cc)
 by_cause_told true true false operations replicas last op e = absurd (cc)

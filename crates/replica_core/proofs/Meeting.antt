@@ -20,7 +20,7 @@ use Rattle.doc_rules.specs.Events.{Due, told, held, logged, Settles, no, first_r
 use Rattle.doc_rules.specs.Replica.{Replica, Drains, append, find_id}
 use Rattle.replica_core.specs.declared.outcome.Applied.{Applied}
 use Rattle.replica_core.specs.Memory.{Grows}
-use Rattle.replica_core.specs.Told.{Meets, told_applied}
+use Rattle.replica_core.specs.Outcomes.{Meets, told_applied}
 use Rattle.replica_core.specs.Whole.{replica_of}
 
 pub same_replica : (name : List ℕ) {log log' waiting waiting' : List Op} → log' ≡ log → waiting' ≡ waiting → replica_of name log' waiting' ≡ replica_of name log waiting

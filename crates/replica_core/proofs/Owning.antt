@@ -13,16 +13,16 @@ use Rattle.doc_words.specs.declared.reply.Reply.{Reply}
 use Rattle.doc_words.specs.declared.reply.Reply.TheVariants as reply
 use Rattle.doc_words.specs.declared.ask.Command.TheVariants as command
 use Rattle.doc_words.specs.declared.place.Place.{Place}
-use Rattle.doc_rules.specs.Cause.{first_cause}
+use Rattle.doc_rules.specs.Cause.{first_fit_cause}
 use Rattle.doc_rules.specs.Events.{logged, no, first_row, due_by_cause, due_placed, Does, Event, Forgets}
 use Rattle.doc_rules.specs.Resolve.{Resolves}
-use Rattle.replica_core.specs.Told.{Meets, place_told, told_forgotten}
+use Rattle.replica_core.specs.Outcomes.{Meets, place_told, told_forgotten}
 use Rattle.doc_rules.specs.Replica.{Replica, facts_of, find_id}
 
 -- the first cause against a change, by the place and then by the room
 pub changed_by_causes : (listed at_head operations replicas : Bool) (op : Op)
     → first_row ((listed, no NotInList) ∷ (at_head, no AtHead) ∷ (not operations, no LogFull) ∷ (not replicas, no TooManyReplicas) ∷ []) (logged op)
-    ≡ due_by_cause (and_then (place_told listed at_head) (λ _. first_cause true true true operations replicas 0)) op
+    ≡ due_by_cause (and_then (place_told listed at_head) (λ _. first_fit_cause true true true operations replicas 0)) op
 changed_by_causes true at_head operations replicas op = refl
 changed_by_causes false true operations replicas op = refl
 changed_by_causes false false false replicas op = refl

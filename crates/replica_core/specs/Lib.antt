@@ -1,6 +1,6 @@
-pub mod Tells
+pub mod AgreesWith
 pub mod Whole
 pub mod Memory
-pub mod Told
+pub mod Outcomes
 pub mod Resolved
 pub mod Misfits

@@ -12,8 +12,8 @@ ghost use Rattle.doc_rules.specs.Events as due;
 ghost use Rattle.doc_rules.specs.Events.{due_by_cause, due_delivered};
 ghost use Rattle.doc_rules.specs.Replica.{Replica, Drains, find_id};
 ghost use Rattle.hold_buffer.specs.Held.{IsCurrent};
-ghost use Rattle.replica_core.specs.Tells.{Tells};
-ghost use Rattle.replica_core.specs.Told.{Meets, told_delivered};
+ghost use Rattle.replica_core.specs.AgreesWith.{AgreesWith};
+ghost use Rattle.replica_core.specs.Outcomes.{Meets, told_delivered};
 ghost use Rattle.replica_core.specs.Whole.{replica_of};
 
 use crate::drain::drain;
@@ -36,7 +36,7 @@ pub fn log_and_drain(
     op: Operation,
 ) -> Result<Applied, Refusal>
     requires fits { Fits op log.old.operations }
-    requires tells { Tells tree.old log.old.operations }
+    requires tells { AgreesWith tree.old log.old.operations }
     requires current { IsCurrent held.old log.old.operations }
     requires few { length held.old.held ≤ most_held }
     ensures ok { (name : List ℕ) → IfOk result (λ a. (n : ℕ) × (a.count ≡ suc n) × (a.id ≡ op.id)
@@ -44,7 +44,7 @@ pub fn log_and_drain(
     ensures err { IfErr result (λ e. e ≡ Refusal.NoMemory) }
     ensures log { OnErr result (log.new.operations ≡ log.old.operations) }
     ensures held { OnErr result (held.new ≡ held.old) }
-    ensures tells { Tells tree.new log.new.operations }
+    ensures tells { AgreesWith tree.new log.new.operations }
     ensures current { IsCurrent held.new log.new.operations }
 {
     let id = op.id();
@@ -69,12 +69,12 @@ pub fn deliver(
     held: &mut HoldBuffer,
     op: Operation,
 ) -> Result<Delivered, Refusal>
-    requires tells { Tells tree.old log.old.operations }
+    requires tells { AgreesWith tree.old log.old.operations }
     requires current { IsCurrent held.old log.old.operations }
     requires few { length held.old.held ≤ most_held }
     ensures met { let r = replica_of name log.old.operations held.old.held in
         Meets r (due_delivered r op) (told_delivered result) (replica_of name log.new.operations held.new.held) }
-    ensures tells { Tells tree.new log.new.operations }
+    ensures tells { AgreesWith tree.new log.new.operations }
     ensures current { IsCurrent held.new log.new.operations }
 {
     match is_same_logged(log, &op) {
@@ -114,12 +114,12 @@ fn deliver_unlogged(
     op: Operation,
 ) -> Result<Delivered, Refusal>
     requires new { find_id log.old.operations op.id ≡ None }
-    requires tells { Tells tree.old log.old.operations }
+    requires tells { AgreesWith tree.old log.old.operations }
     requires current { IsCurrent held.old log.old.operations }
     requires few { length held.old.held ≤ most_held }
     ensures met { let r = replica_of name log.old.operations held.old.held in
         Meets r (due_delivered r op) (told_delivered result) (replica_of name log.new.operations held.new.held) }
-    ensures tells { Tells tree.new log.new.operations }
+    ensures tells { AgreesWith tree.new log.new.operations }
     ensures current { IsCurrent held.new log.new.operations }
 {
     match is_same_held(held, &op) {
@@ -164,12 +164,12 @@ fn deliver_new(
 ) -> Result<Delivered, Refusal>
     requires new { find_id log.old.operations op.id ≡ None }
     requires unheld { find_id held.old.held op.id ≡ None }
-    requires tells { Tells tree.old log.old.operations }
+    requires tells { AgreesWith tree.old log.old.operations }
     requires current { IsCurrent held.old log.old.operations }
     requires few { length held.old.held ≤ most_held }
     ensures met { let r = replica_of name log.old.operations held.old.held in
         Meets r (due_delivered r op) (told_delivered result) (replica_of name log.new.operations held.new.held) }
-    ensures tells { Tells tree.new log.new.operations }
+    ensures tells { AgreesWith tree.new log.new.operations }
     ensures current { IsCurrent held.new log.new.operations }
 {
     if is_by(&op, &name) {
@@ -196,12 +196,12 @@ fn deliver_ready(
     held: &mut HoldBuffer,
     op: Operation,
 ) -> Result<Delivered, Refusal>
-    requires tells { Tells tree.old log.old.operations }
+    requires tells { AgreesWith tree.old log.old.operations }
     requires current { IsCurrent held.old log.old.operations }
     requires few { length held.old.held ≤ most_held }
     ensures met { (name : List ℕ) → Meets (replica_of name log.old.operations held.old.held) (due_by_cause (cause_of op log.old.operations) op)
         (told_delivered result) (replica_of name log.new.operations held.new.held) }
-    ensures tells { Tells tree.new log.new.operations }
+    ensures tells { AgreesWith tree.new log.new.operations }
     ensures current { IsCurrent held.new log.new.operations }
 {
     match log.check(&op) {

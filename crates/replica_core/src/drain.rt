@@ -3,7 +3,7 @@ ghost use Rattle.std.specs.Prelude.{◌≡◌, ℕ, List, [], ◌∷◌, ◌++�
 ghost use Rattle.crdt_rules.specs.Fits.{Fits};
 ghost use Rattle.doc_rules.specs.Replica.{Drains};
 ghost use Rattle.hold_buffer.specs.Held.{IsCurrent};
-ghost use Rattle.replica_core.specs.Tells.{Tells};
+ghost use Rattle.replica_core.specs.AgreesWith.{AgreesWith};
 
 use crate::log_op::log_op;
 use doc_tree::Tree;
@@ -21,12 +21,12 @@ pub struct Drained {
 /// Takes the ready operations out of the buffer, the least id first, until none is ready. Each is logged if it fits and
 /// there is memory, and else dropped.
 pub fn drain(tree: &mut Tree, log: &mut OpLog, held: &mut HoldBuffer) -> Drained
-    requires tells { Tells tree.old log.old.operations }
+    requires tells { AgreesWith tree.old log.old.operations }
     requires current { IsCurrent held.old log.old.operations }
     ensures drained { (name : List ℕ) → Drains (record { name = name; log = log.old.operations; held = held.old.held }) result.logged result.dropped
         (record { name = name; log = log.new.operations; held = held.new.held }) }
     ensures few { result.logged + result.dropped ≤ length held.old.held }
-    ensures tells { Tells tree.new log.new.operations }
+    ensures tells { AgreesWith tree.new log.new.operations }
     ensures current { IsCurrent held.new log.new.operations }
 {
     let mut logged = 0;
@@ -50,9 +50,9 @@ pub fn drain(tree: &mut Tree, log: &mut OpLog, held: &mut HoldBuffer) -> Drained
 
 // Logs an operation if it fits and there is memory, and says whether it did.
 fn release(tree: &mut Tree, log: &mut OpLog, op: Operation) -> bool
-    requires { Tells tree.old log.old.operations }
+    requires { AgreesWith tree.old log.old.operations }
     ensures logs { MatchBool result (Fits op log.old.operations × (log.new.operations ≡ log.old.operations ++ op ∷ [])) (log.new.operations ≡ log.old.operations) }
-    ensures tells { Tells tree.new log.new.operations }
+    ensures tells { AgreesWith tree.new log.new.operations }
 {
     match log.check(&op) {
         Ok(()) => log_op(tree, log, op).is_ok(),

@@ -6,11 +6,11 @@ mod drain;
 mod limits;
 mod log_op;
 mod outcome;
+mod outcome_reply;
 mod own;
 mod read;
 mod replica;
 mod restore;
-mod told;
 
 pub use outcome::{Applied, Delivered};
 pub use replica::Replica;

@@ -1,37 +1,13 @@
-//! What types keep. These functions do nothing at run time: by a call a caller's proof knows of a value what its type says.
+//! The limits that the types of a mutation keep. These functions do nothing at run time: by a call a caller's proof knows of a value what
+//! its type says.
 ghost use Rattle.std.specs.Prelude.{◌≡◌, true};
-ghost use Rattle.lamport_id.specs.Name.{is_name};
 ghost use Rattle.json_scalar.specs.Scalar.{is_val};
 ghost use Rattle.json_scalar.specs.declared.scalar.Scalar.TheVariants.{Int};
 ghost use Rattle.json_scalar.specs.declared.scalar.Val.TheVariants.{Scalar as Plain};
-ghost use Rattle.op_core.specs.Shape.{is_mutation, is_shaped};
-ghost use Rattle.crdt_rules.specs.Log.{IsGood};
+ghost use Rattle.op_core.specs.Shape.{is_mutation};
 
 use json_scalar::{Scalar, Val};
-use lamport_id::ReplicaName;
-use op_core::{Mutation, Operation};
-use op_log::OpLog;
-
-/// Each log is good.
-pub fn keeps_good(log: &OpLog)
-    ensures { IsGood log.now.operations }
-{
-    let _length = log.len();
-}
-
-/// Each name has the form of one.
-pub fn keeps_name(name: &ReplicaName)
-    ensures { is_name name.now ≡ true }
-{
-    let _bytes = name.as_bytes();
-}
-
-/// Each operation is of right shape.
-pub fn keeps_shape(op: &Operation)
-    ensures { is_shaped op.now ≡ true }
-{
-    let _id = op.id();
-}
+use op_core::Mutation;
 
 /// Each mutation is within the limits.
 pub fn keeps_limits(mutation: &Mutation)

@@ -1,23 +1,22 @@
 //! One more operation of a log, in its tree too.
 ghost use Rattle.std.specs.Prelude.{◌≡◌, [], ◌∷◌, ◌++◌, OnOk, OnErr, IfErr};
 ghost use Rattle.crdt_rules.specs.Fits.{Fits};
-ghost use Rattle.replica_core.specs.Tells.{Tells};
+ghost use Rattle.replica_core.specs.AgreesWith.{AgreesWith};
 
-use crate::limits::keeps_good;
 use doc_tree::Tree;
 use json_scalar::Refusal;
 use op_core::Operation;
-use op_log::OpLog;
+use op_log::{OpLog, keeps_good};
 
 /// Logs an operation that fits, and applies it to the tree of the log. It is refused for want of memory alone, and the log
 /// is then as it was, and the tree says what it said.
 pub fn log_op(tree: &mut Tree, log: &mut OpLog, op: Operation) -> Result<(), Refusal>
     requires fits { Fits op log.old.operations }
-    requires tells { Tells tree.old log.old.operations }
+    requires tells { AgreesWith tree.old log.old.operations }
     ensures ok { OnOk result (log.new.operations ≡ log.old.operations ++ op ∷ []) }
     ensures err { IfErr result (λ e. e ≡ Refusal.NoMemory) }
     ensures kept { OnErr result (log.new.operations ≡ log.old.operations) }
-    ensures tells { Tells tree.new log.new.operations }
+    ensures tells { AgreesWith tree.new log.new.operations }
 {
     keeps_good(log);
     if tree.prepare(&op).is_err() || log.reserve(1).is_err() {

@@ -13,19 +13,19 @@ ghost use Rattle.doc_rules.specs.Events.{due_by_cause, due_changed, due_placed};
 ghost use Rattle.doc_rules.specs.Replica.{own_op};
 ghost use Rattle.hold_buffer.specs.Held.{IsCurrent};
 ghost use Rattle.replica_core.specs.Resolved.{IsPlaceOf};
-ghost use Rattle.replica_core.specs.Tells.{Tells};
-ghost use Rattle.replica_core.specs.Told.{Meets, place_told, told_applied};
+ghost use Rattle.replica_core.specs.AgreesWith.{AgreesWith};
+ghost use Rattle.replica_core.specs.Outcomes.{Meets, place_told, told_applied};
 ghost use Rattle.replica_core.specs.Whole.{replica_of};
 
 use crate::deliver::log_and_drain;
-use crate::limits::{keeps_good, keeps_limits};
+use crate::limits::keeps_limits;
 use crate::outcome::Applied;
 use doc_tree::Tree;
 use hold_buffer::HoldBuffer;
 use json_scalar::Refusal;
 use lamport_id::{Id, ReplicaName};
 use op_core::{Cursor, Front, Key, Mutation, Operation};
-use op_log::OpLog;
+use op_log::{OpLog, keeps_good};
 
 /// Makes a change where the steps of its place led, or tells why they led nowhere.
 pub fn change(
@@ -38,12 +38,12 @@ pub fn change(
 ) -> Result<Applied, Refusal>
     requires named { is_name name ≡ true }
     requires place { IsPlaceOf log.old.operations resolved }
-    requires tells { Tells tree.old log.old.operations }
+    requires tells { AgreesWith tree.old log.old.operations }
     requires current { IsCurrent held.old log.old.operations }
     requires few { length held.old.held ≤ most_held }
     ensures met { let r = replica_of name log.old.operations held.old.held in
         Meets r (due_placed r resolved mutation) (told_applied result) (replica_of name log.new.operations held.new.held) }
-    ensures tells { Tells tree.new log.new.operations }
+    ensures tells { AgreesWith tree.new log.new.operations }
     ensures current { IsCurrent held.new log.new.operations }
 {
     match resolved {
@@ -65,12 +65,12 @@ fn change_at(
 ) -> Result<Applied, Refusal>
     requires named { is_name name ≡ true }
     requires place { IsPlaceOf log.old.operations (Ok cursor) }
-    requires tells { Tells tree.old log.old.operations }
+    requires tells { AgreesWith tree.old log.old.operations }
     requires current { IsCurrent held.old log.old.operations }
     requires few { length held.old.held ≤ most_held }
     ensures met { let r = replica_of name log.old.operations held.old.held in
         Meets r (due_changed r cursor mutation) (told_applied result) (replica_of name log.new.operations held.new.held) }
-    ensures tells { Tells tree.new log.new.operations }
+    ensures tells { AgreesWith tree.new log.new.operations }
     ensures current { IsCurrent held.new log.new.operations }
 {
     match own_cause(&name, log, &cursor, &mutation) {
@@ -95,12 +95,12 @@ fn log_own(
     requires named { is_name name ≡ true }
     requires place { IsPlaceOf log.old.operations (Ok cursor) }
     requires unopposed { let r = replica_of name log.old.operations held.old.held in due_changed r cursor mutation ≡ due.logged (own_op r cursor mutation) }
-    requires tells { Tells tree.old log.old.operations }
+    requires tells { AgreesWith tree.old log.old.operations }
     requires current { IsCurrent held.old log.old.operations }
     requires few { length held.old.held ≤ most_held }
     ensures met { let r = replica_of name log.old.operations held.old.held in
         Meets r (due.logged (own_op r cursor mutation)) (told_applied result) (replica_of name log.new.operations held.new.held) }
-    ensures tells { Tells tree.new log.new.operations }
+    ensures tells { AgreesWith tree.new log.new.operations }
     ensures current { IsCurrent held.new log.new.operations }
 {
     keeps_limits(&mutation);

@@ -3,20 +3,19 @@ ghost use Rattle.std.specs.Prelude.{◌≡◌, ◌⊎◌, ℕ, List};
 ghost use Rattle.op_core.specs.Op.{Op};
 ghost use Rattle.doc_tree.specs.Nodes.{tree_facts};
 ghost use Rattle.doc_rules.specs.Answers.{Answers, LooksHere, told_as};
-ghost use Rattle.doc_view.specs.Told.{tree_values};
+ghost use Rattle.doc_view.specs.TreeValues.{tree_values};
 ghost use Rattle.doc_words.specs.declared.ask.Query.TheVariants as query;
 ghost use Rattle.hold_buffer.specs.Held.{IsCurrent};
-ghost use Rattle.replica_core.specs.Tells.{Tells};
+ghost use Rattle.replica_core.specs.AgreesWith.{AgreesWith};
 ghost use Rattle.replica_core.specs.Whole.{replica_of};
 
-use crate::limits::keeps_good;
 use doc_tree::Tree;
 use doc_view::{conflicts, items, keys, resolve, show, sum, values};
 use doc_words::{Conflicts, Items, Look, Place, Query, Reply, Scalars, ShownText, Texts};
 use hold_buffer::HoldBuffer;
 use json_scalar::Refusal;
 use op_core::{Cursor, Front};
-use op_log::OpLog;
+use op_log::{OpLog, keeps_good};
 use std::alloc::Global;
 
 /// What a replica answers to a query. `mine` is what it tells of an account. Of any other query it may tell that memory is
@@ -29,7 +28,7 @@ pub fn read(
     mine: u64,
     query: Query,
 ) -> Reply
-    requires tells { Tells tree.now log.now.operations }
+    requires tells { AgreesWith tree.now log.now.operations }
     requires current { IsCurrent held.now log.now.operations }
     ensures answer { (name : List ℕ) → Answers (replica_of name log.now.operations held.now.held) mine query result }
     ensures account { query ≡ Query.Account → result ≡ Reply.Account mine }
@@ -46,7 +45,7 @@ pub fn read(
 
 // The answer of a look at a place, or what stood against its steps.
 fn look_at_place(alloc: Global, tree: &Tree, log: &OpLog, look: Look, place: Place) -> Reply
-    requires { Tells tree.now log.now.operations }
+    requires { AgreesWith tree.now log.now.operations }
     ensures { (name : List ℕ) (held : List Op) (mine : ℕ) → Answers (replica_of name log.now.operations held) mine (query.Look look place) result }
 {
     keeps_good(log);
@@ -59,7 +58,7 @@ fn look_at_place(alloc: Global, tree: &Tree, log: &OpLog, look: Look, place: Pla
 
 // Where the steps of a place lead.
 fn resolve_place(alloc: Global, tree: &Tree, log: &OpLog, place: Place) -> Reply
-    requires { Tells tree.now log.now.operations }
+    requires { AgreesWith tree.now log.now.operations }
     ensures { (name : List ℕ) (held : List Op) (mine : ℕ) → Answers (replica_of name log.now.operations held) mine (query.Resolve place) result }
 {
     let Place { start, steps } = place;

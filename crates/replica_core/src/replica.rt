@@ -8,24 +8,24 @@ ghost use Rattle.doc_rules.specs.Replica.{IsKept};
 ghost use Rattle.doc_words.specs.declared.ask.Command.TheVariants as command;
 ghost use Rattle.replica_core.specs.Memory.{MayLack};
 ghost use Rattle.replica_core.specs.Misfits.{IsMisfitOf};
-ghost use Rattle.replica_core.specs.Tells.{Tells};
-ghost use Rattle.replica_core.specs.Told.{told_applied, told_delivered, told_forgotten};
+ghost use Rattle.replica_core.specs.AgreesWith.{AgreesWith};
+ghost use Rattle.replica_core.specs.Outcomes.{told_applied, told_delivered, told_forgotten};
 ghost use Rattle.replica_core.specs.Whole.{replica_of};
 
 use crate::deliver::deliver;
-use crate::limits::{keeps_limits, keeps_name, keeps_shape};
+use crate::limits::keeps_limits;
 use crate::outcome::{Applied, Delivered};
+use crate::outcome_reply::{applied_reply, delivered_reply, forgotten_reply};
 use crate::own::change;
 use crate::read::read;
 use crate::restore::{Misfit, logged};
-use crate::told::{applied_reply, delivered_reply, forgotten_reply};
 use doc_tree::Tree;
 use doc_view::resolve;
 use doc_words::{Command, Place, Query, Reply};
 use hold_buffer::HoldBuffer;
 use json_scalar::Refusal;
-use lamport_id::{Id, ReplicaName};
-use op_core::{Mutation, Operation};
+use lamport_id::{Id, ReplicaName, keeps_name};
+use op_core::{Mutation, Operation, keeps_shape};
 use op_log::OpLog;
 use std::alloc::Global;
 use std::marker::Model;
@@ -111,7 +111,7 @@ impl Replica {
 
     /// The tree of its log.
     pub fn tree(&self) -> &Tree
-        ensures { Tells result.now self.now.log }
+        ensures { AgreesWith result.now self.now.log }
     {
         &self.tree
     }

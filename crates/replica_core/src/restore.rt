@@ -4,14 +4,13 @@ ghost use Rattle.crdt_rules.specs.Fits.{Fits};
 ghost use Rattle.crdt_rules.specs.Log.{IsGood};
 ghost use Rattle.doc_rules.specs.Cause.{misfit_of};
 ghost use Rattle.replica_core.specs.Misfits.{IsMisfitOf};
-ghost use Rattle.replica_core.specs.Tells.{Tells};
+ghost use Rattle.replica_core.specs.AgreesWith.{AgreesWith};
 
-use crate::limits::keeps_good;
 use crate::log_op::log_op;
 use doc_tree::Tree;
 use json_scalar::Refusal;
 use op_core::Operation;
-use op_log::OpLog;
+use op_log::{OpLog, keeps_good};
 use std::alloc::Global;
 
 /// Why a list of operations makes no log.
@@ -26,7 +25,7 @@ pub enum Misfit {
 
 /// The log of these operations, with its tree; or the first that does not fit.
 pub fn logged(alloc: Global, operations: &[Operation]) -> Result<(Tree, OpLog), Misfit>
-    ensures tells { IfOk result (λ parts. Tells parts.0 operations.now) }
+    ensures tells { IfOk result (λ parts. AgreesWith parts.0 operations.now) }
     ensures log { IfOk result (λ parts. parts.1.operations ≡ operations.now) }
     ensures good { OnOk result (IsGood operations.now) }
     ensures err { IfErr result (IsMisfitOf operations.now) }
@@ -39,8 +38,8 @@ pub fn logged(alloc: Global, operations: &[Operation]) -> Result<(Tree, OpLog), 
 
 fn logged_in(tree: Tree, log: OpLog, operations: &[Operation]) -> Result<(Tree, OpLog), Misfit>
     requires empty { log.operations ≡ [] }
-    requires tells { Tells tree [] }
-    ensures tells { IfOk result (λ parts. Tells parts.0 operations.now) }
+    requires tells { AgreesWith tree [] }
+    ensures tells { IfOk result (λ parts. AgreesWith parts.0 operations.now) }
     ensures log { IfOk result (λ parts. parts.1.operations ≡ operations.now) }
     ensures good { OnOk result (IsGood operations.now) }
     ensures err { IfErr result (IsMisfitOf operations.now) }
@@ -60,10 +59,10 @@ fn logged_in(tree: Tree, log: OpLog, operations: &[Operation]) -> Result<(Tree, 
 // logged by then stays.
 fn log_all(tree: &mut Tree, log: &mut OpLog, operations: &[Operation]) -> Result<(), Misfit>
     requires empty { log.old.operations ≡ [] }
-    requires tells { Tells tree.old log.old.operations }
+    requires tells { AgreesWith tree.old log.old.operations }
     ensures ok { OnOk result (log.new.operations ≡ operations.now) }
     ensures err { IfErr result (IsMisfitOf operations.now) }
-    ensures tells { Tells tree.new log.new.operations }
+    ensures tells { AgreesWith tree.new log.new.operations }
 {
     for place in 0..operations.len() {
         match log_next(tree, log, &operations[place]) {
@@ -77,11 +76,11 @@ fn log_all(tree: &mut Tree, log: &mut OpLog, operations: &[Operation]) -> Result
 
 // Logs a copy of an operation if it fits and its id is new, or tells the cause against it, or none for want of memory.
 fn log_next(tree: &mut Tree, log: &mut OpLog, op: &Operation) -> Result<(), Option<Refusal>>
-    requires tells { Tells tree.old log.old.operations }
+    requires tells { AgreesWith tree.old log.old.operations }
     ensures good { IsGood log.old.operations }
     ensures ok { OnOk result (log.new.operations ≡ log.old.operations ++ op.now ∷ []) }
     ensures err { IfErr result (λ e. IfSome e (λ cause. misfit_of op.now log.old.operations ≡ Err cause)) }
-    ensures tells { Tells tree.new log.new.operations }
+    ensures tells { AgreesWith tree.new log.new.operations }
 {
     keeps_good(log);
     if log.contains(op.id()) {
@@ -96,10 +95,10 @@ fn log_next(tree: &mut Tree, log: &mut OpLog, op: &Operation) -> Result<(), Opti
 // Logs a copy of an operation that fits; tells no cause for want of memory.
 fn log_copy(tree: &mut Tree, log: &mut OpLog, op: &Operation) -> Result<(), Option<Refusal>>
     requires fits { Fits op.now log.old.operations }
-    requires tells { Tells tree.old log.old.operations }
+    requires tells { AgreesWith tree.old log.old.operations }
     ensures ok { OnOk result (log.new.operations ≡ log.old.operations ++ op.now ∷ []) }
     ensures err { IfErr result (λ e. e ≡ None) }
-    ensures tells { Tells tree.new log.new.operations }
+    ensures tells { AgreesWith tree.new log.new.operations }
 {
     let Ok(copy) = op.try_clone() else {
         return Err(None);

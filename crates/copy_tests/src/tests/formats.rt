@@ -1,6 +1,6 @@
 //! The format from before there were additions: raised where it is opened, and refused with an addition in it.
 use super::samples;
-use super::steps::{REFUSED, Step, Told, first_other};
+use super::steps::{REFUSED, Step, StepAnswer, first_other};
 use sqlite::Connection;
 use std::test::Fail;
 
@@ -11,30 +11,30 @@ const TABLES: &str =
 
 const FORMAT: &str = "SELECT value FROM meta WHERE name = 'format'";
 
-const OLD_FORMAT_RAISED: [(Step<'static>, Told); 13] = [
-    (Step::Run(TABLES), Told::Done),
+const OLD_FORMAT_RAISED: [(Step<'static>, StepAnswer); 13] = [
+    (Step::Run(TABLES), StepAnswer::Done),
     (
         Step::Run(
             r#"INSERT INTO entry (doc, place, text) VALUES ('d', 1, '["op",[1,"p"],[],[[["m",0]],"k"],["assign",1]]')"#,
         ),
-        Told::Done,
+        StepAnswer::Done,
     ),
-    (Step::Open, Told::Done),
-    (Step::Epoch, Told::Number(7)),
-    (Step::Load("d"), Told::Rows(1)),
-    (Step::Ask(FORMAT), Told::Number(2)),
+    (Step::Open, StepAnswer::Done),
+    (Step::Epoch, StepAnswer::Number(7)),
+    (Step::Load("d"), StepAnswer::Rows(1)),
+    (Step::Ask(FORMAT), StepAnswer::Number(2)),
     (
         Step::Ask(
             r#"SELECT count(*) FROM entry WHERE doc = 'd' AND place = 1 AND text = '["op",[1,"p"],[],[[["m",0]],"k"],["assign",1]]'"#,
         ),
-        Told::Number(1),
+        StepAnswer::Number(1),
     ),
-    (Step::Open, Told::Done),
-    (Step::Up, Told::Number(8)),
-    (Step::Add("d", 1, 1, 3), Told::Done),
-    (Step::Open, Told::Done),
-    (Step::Epoch, Told::Number(8)),
-    (Step::Load("d"), Told::Rows(3)),
+    (Step::Open, StepAnswer::Done),
+    (Step::Up, StepAnswer::Number(8)),
+    (Step::Add("d", 1, 1, 3), StepAnswer::Done),
+    (Step::Open, StepAnswer::Done),
+    (Step::Epoch, StepAnswer::Number(8)),
+    (Step::Load("d"), StepAnswer::Rows(3)),
 ];
 
 #[test]
@@ -49,24 +49,27 @@ fn old_format_raised(rt: HostRuntime) -> Result<(), Fail> {
 }
 
 // The refused database is as it was; with the new format written by hand it is a copy.
-const OLD_FORMAT_HAS_NO_ADDITIONS: [(Step<'static>, Told); 9] = [
-    (Step::Run(TABLES), Told::Done),
+const OLD_FORMAT_HAS_NO_ADDITIONS: [(Step<'static>, StepAnswer); 9] = [
+    (Step::Run(TABLES), StepAnswer::Done),
     (
         Step::Run(
             r#"INSERT INTO entry (doc, place, text) VALUES ('d', 1, '["op",[1,"p"],[],[[["m",0]],"k"],["add",1]]')"#,
         ),
-        Told::Done,
+        StepAnswer::Done,
     ),
     (Step::Open, REFUSED),
-    (Step::Ask(FORMAT), Told::Number(1)),
-    (Step::Ask("SELECT count(*) FROM entry"), Told::Number(1)),
+    (Step::Ask(FORMAT), StepAnswer::Number(1)),
+    (
+        Step::Ask("SELECT count(*) FROM entry"),
+        StepAnswer::Number(1),
+    ),
     (
         Step::Run("UPDATE meta SET value = 2 WHERE name = 'format'"),
-        Told::Done,
+        StepAnswer::Done,
     ),
-    (Step::Open, Told::Done),
-    (Step::Epoch, Told::Number(7)),
-    (Step::Docs, Told::Rows(1)),
+    (Step::Open, StepAnswer::Done),
+    (Step::Epoch, StepAnswer::Number(7)),
+    (Step::Docs, StepAnswer::Rows(1)),
 ];
 
 #[test]

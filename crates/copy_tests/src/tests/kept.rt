@@ -1,6 +1,6 @@
 //! What is kept, and what is refused and changes nothing.
 use super::samples;
-use super::steps::{REFUSED, Step, Told, first_other};
+use super::steps::{REFUSED, Step, StepAnswer, first_other};
 use json_scalar::Refusal;
 use op_core::Operation;
 use sqlite::Connection;
@@ -11,31 +11,31 @@ use std::test::Fail;
 fn told_otherwise(
     alloc: Global,
     log: &[Operation],
-    steps: &[(Step<'_>, Told)],
-) -> Result<Option<(usize, Told)>, Refusal> {
+    steps: &[(Step<'_>, StepAnswer)],
+) -> Result<Option<(usize, StepAnswer)>, Refusal> {
     let conn = Connection::open_in_memory(alloc)?;
     Ok(first_other(alloc, conn, log, steps))
 }
 
 // The document is restored under another name, and its next change comes after what was copied.
-const RESTART_FROM_COPY: [(Step<'static>, Told); 9] = [
-    (Step::Open, Told::Done),
-    (Step::Check("[\"epoch\",0]\n"), Told::Done),
-    (Step::Up, Told::Number(1)),
-    (Step::Add("d", 0, 0, 1), Told::Done),
+const RESTART_FROM_COPY: [(Step<'static>, StepAnswer); 9] = [
+    (Step::Open, StepAnswer::Done),
+    (Step::Check("[\"epoch\",0]\n"), StepAnswer::Done),
+    (Step::Up, StepAnswer::Number(1)),
+    (Step::Add("d", 0, 0, 1), StepAnswer::Done),
     (
         Step::Check("[\"doc\",\"d\",1,[[\"srv-1\",1]]]\n[\"epoch\",1]\n"),
-        Told::Done,
+        StepAnswer::Done,
     ),
-    (Step::Open, Told::Done),
-    (Step::Epoch, Told::Number(1)),
-    (Step::Up, Told::Number(2)),
+    (Step::Open, StepAnswer::Done),
+    (Step::Epoch, StepAnswer::Number(1)),
+    (Step::Up, StepAnswer::Number(2)),
     (
         Step::Edit(
             "d",
             r#"["op",[2,"srv-2"],[["srv-1",1]],[[["m",0]],"k"],["assign",1]]"#,
         ),
-        Told::Done,
+        StepAnswer::Done,
     ),
 ];
 
@@ -49,14 +49,14 @@ fn restart_from_copy(rt: HostRuntime) -> Result<(), Fail> {
     Ok(())
 }
 
-const COPY_REFUSALS: [(Step<'static>, Told); 7] = [
-    (Step::Open, Told::Done),
-    (Step::Add("d", 0, 0, 3), Told::Done),
+const COPY_REFUSALS: [(Step<'static>, StepAnswer); 7] = [
+    (Step::Open, StepAnswer::Done),
+    (Step::Add("d", 0, 0, 3), StepAnswer::Done),
     (Step::Add("d", 2, 2, 3), REFUSED),
     (Step::Add("d", 3, 3, 4), REFUSED),
-    (Step::Load("d"), Told::Rows(3)),
-    (Step::Open, Told::Done),
-    (Step::Load("d"), Told::Rows(3)),
+    (Step::Load("d"), StepAnswer::Rows(3)),
+    (Step::Open, StepAnswer::Done),
+    (Step::Load("d"), StepAnswer::Rows(3)),
 ];
 
 #[test]
@@ -71,23 +71,23 @@ fn copy_refusals(rt: HostRuntime) -> Result<(), Fail> {
 }
 
 // Batches behind one another, empty ones, and ones that are refused.
-const BATCHES: [(Step<'static>, Told); 16] = [
-    (Step::Open, Told::Done),
-    (Step::Add("d", 0, 0, 3), Told::Done),
-    (Step::Add("d", 3, 0, 0), Told::Done),
-    (Step::Add("e", 0, 0, 0), Told::Done),
+const BATCHES: [(Step<'static>, StepAnswer); 16] = [
+    (Step::Open, StepAnswer::Done),
+    (Step::Add("d", 0, 0, 3), StepAnswer::Done),
+    (Step::Add("d", 3, 0, 0), StepAnswer::Done),
+    (Step::Add("e", 0, 0, 0), StepAnswer::Done),
     (Step::Add("d", 4, 3, 4), REFUSED),
     (Step::Add("d", 2, 0, 0), REFUSED),
     (Step::Add("e", 1, 0, 0), REFUSED),
     (Step::Add("D", 0, 0, 1), REFUSED),
     (Step::Add("", 0, 0, 0), REFUSED),
-    (Step::Load("d"), Told::Rows(3)),
-    (Step::Add("d", 3, 3, 5), Told::Done),
-    (Step::Docs, Told::Rows(1)),
-    (Step::Open, Told::Done),
-    (Step::Docs, Told::Rows(1)),
-    (Step::Load("d"), Told::Rows(5)),
-    (Step::Load("e"), Told::Rows(0)),
+    (Step::Load("d"), StepAnswer::Rows(3)),
+    (Step::Add("d", 3, 3, 5), StepAnswer::Done),
+    (Step::Docs, StepAnswer::Rows(1)),
+    (Step::Open, StepAnswer::Done),
+    (Step::Docs, StepAnswer::Rows(1)),
+    (Step::Load("d"), StepAnswer::Rows(5)),
+    (Step::Load("e"), StepAnswer::Rows(0)),
 ];
 
 #[test]
@@ -98,18 +98,18 @@ fn batches(rt: HostRuntime) -> Result<(), Fail> {
 }
 
 // A check prints the documents in the order of their names, in whatever order they came.
-const DOCUMENTS_IN_ORDER: [(Step<'static>, Told); 7] = [
-    (Step::Open, Told::Done),
-    (Step::Add("m", 0, 0, 1), Told::Done),
-    (Step::Add("z", 0, 0, 1), Told::Done),
-    (Step::Add("a", 0, 0, 2), Told::Done),
-    (Step::Add("mm", 0, 0, 1), Told::Done),
-    (Step::Open, Told::Done),
+const DOCUMENTS_IN_ORDER: [(Step<'static>, StepAnswer); 7] = [
+    (Step::Open, StepAnswer::Done),
+    (Step::Add("m", 0, 0, 1), StepAnswer::Done),
+    (Step::Add("z", 0, 0, 1), StepAnswer::Done),
+    (Step::Add("a", 0, 0, 2), StepAnswer::Done),
+    (Step::Add("mm", 0, 0, 1), StepAnswer::Done),
+    (Step::Open, StepAnswer::Done),
     (
         Step::Check(
             "[\"doc\",\"a\",2,[[\"p\",2]]]\n[\"doc\",\"m\",1,[[\"p\",1]]]\n[\"doc\",\"mm\",1,[[\"p\",1]]]\n[\"doc\",\"z\",1,[[\"p\",1]]]\n[\"epoch\",0]\n",
         ),
-        Told::Done,
+        StepAnswer::Done,
     ),
 ];
 
@@ -124,16 +124,16 @@ fn documents_in_order(rt: HostRuntime) -> Result<(), Fail> {
 }
 
 // The log has 1, 2, 3, 5. The first entry of the batch 3, 5 fits and the second does not: nothing of it stays, and 3 may come again.
-const REFUSED_IN_THE_MIDDLE: [(Step<'static>, Told); 9] = [
-    (Step::Open, Told::Done),
-    (Step::Add("d", 0, 0, 2), Told::Done),
+const REFUSED_IN_THE_MIDDLE: [(Step<'static>, StepAnswer); 9] = [
+    (Step::Open, StepAnswer::Done),
+    (Step::Add("d", 0, 0, 2), StepAnswer::Done),
     (Step::Add("d", 2, 2, 4), REFUSED),
     (Step::Add("e", 0, 2, 4), REFUSED),
-    (Step::Load("d"), Told::Rows(2)),
-    (Step::Docs, Told::Rows(1)),
-    (Step::Add("d", 2, 2, 3), Told::Done),
-    (Step::Open, Told::Done),
-    (Step::Load("d"), Told::Rows(3)),
+    (Step::Load("d"), StepAnswer::Rows(2)),
+    (Step::Docs, StepAnswer::Rows(1)),
+    (Step::Add("d", 2, 2, 3), StepAnswer::Done),
+    (Step::Open, StepAnswer::Done),
+    (Step::Load("d"), StepAnswer::Rows(3)),
 ];
 
 #[test]
@@ -146,13 +146,13 @@ fn refused_in_the_middle(rt: HostRuntime) -> Result<(), Fail> {
     Ok(())
 }
 
-const BATCH_TOO_LONG: [(Step<'static>, Told); 6] = [
-    (Step::Open, Told::Done),
+const BATCH_TOO_LONG: [(Step<'static>, StepAnswer); 6] = [
+    (Step::Open, StepAnswer::Done),
     (Step::Add("d", 0, 0, 257), REFUSED),
-    (Step::Add("d", 0, 0, 256), Told::Done),
-    (Step::Add("d", 256, 256, 257), Told::Done),
-    (Step::Open, Told::Done),
-    (Step::Load("d"), Told::Rows(257)),
+    (Step::Add("d", 0, 0, 256), StepAnswer::Done),
+    (Step::Add("d", 256, 256, 257), StepAnswer::Done),
+    (Step::Open, StepAnswer::Done),
+    (Step::Load("d"), StepAnswer::Rows(257)),
 ];
 
 #[test]
@@ -165,18 +165,18 @@ fn batch_too_long(rt: HostRuntime) -> Result<(), Fail> {
     Ok(())
 }
 
-const LAST_EPOCH: [(Step<'static>, Told); 8] = [
-    (Step::Open, Told::Done),
+const LAST_EPOCH: [(Step<'static>, StepAnswer); 8] = [
+    (Step::Open, StepAnswer::Done),
     (
         Step::Run("UPDATE meta SET value = 9999998 WHERE name = 'epoch'"),
-        Told::Done,
+        StepAnswer::Done,
     ),
-    (Step::Open, Told::Done),
-    (Step::Up, Told::Number(9_999_999)),
+    (Step::Open, StepAnswer::Done),
+    (Step::Up, StepAnswer::Number(9_999_999)),
     (Step::Up, REFUSED),
-    (Step::Epoch, Told::Number(9_999_999)),
-    (Step::Open, Told::Done),
-    (Step::Epoch, Told::Number(9_999_999)),
+    (Step::Epoch, StepAnswer::Number(9_999_999)),
+    (Step::Open, StepAnswer::Done),
+    (Step::Epoch, StepAnswer::Number(9_999_999)),
 ];
 
 #[test]
@@ -186,19 +186,22 @@ fn last_epoch(rt: HostRuntime) -> Result<(), Fail> {
 }
 
 // Tables that are not the copy's stay, and the copy lives beside them.
-const FURTHER_TABLES: [(Step<'static>, Told); 9] = [
+const FURTHER_TABLES: [(Step<'static>, StepAnswer); 9] = [
     (
         Step::Run("CREATE TABLE note (id INTEGER PRIMARY KEY, size INTEGER) STRICT"),
-        Told::Done,
+        StepAnswer::Done,
     ),
-    (Step::Run("INSERT INTO note (size) VALUES (41)"), Told::Done),
-    (Step::Open, Told::Done),
-    (Step::Up, Told::Number(1)),
-    (Step::Add("d", 0, 0, 3), Told::Done),
-    (Step::Open, Told::Done),
-    (Step::Epoch, Told::Number(1)),
-    (Step::Load("d"), Told::Rows(3)),
-    (Step::Ask("SELECT size FROM note"), Told::Number(41)),
+    (
+        Step::Run("INSERT INTO note (size) VALUES (41)"),
+        StepAnswer::Done,
+    ),
+    (Step::Open, StepAnswer::Done),
+    (Step::Up, StepAnswer::Number(1)),
+    (Step::Add("d", 0, 0, 3), StepAnswer::Done),
+    (Step::Open, StepAnswer::Done),
+    (Step::Epoch, StepAnswer::Number(1)),
+    (Step::Load("d"), StepAnswer::Rows(3)),
+    (Step::Ask("SELECT size FROM note"), StepAnswer::Number(41)),
 ];
 
 #[test]

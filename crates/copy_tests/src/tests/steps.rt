@@ -32,7 +32,7 @@ pub enum Step<'a> {
 
 /// What a step tells.
 #[derive(Clone, Copy, Debug, PartialEq, Eq)]
-pub enum Told {
+pub enum StepAnswer {
     Done,
     Number(u64),
     /// The document has so many entries, the first ones of the log.
@@ -46,7 +46,7 @@ pub enum Told {
     NoCopy,
 }
 
-pub const REFUSED: Told = Told::Fault(Fault::Refused);
+pub const REFUSED: StepAnswer = StepAnswer::Fault(Fault::Refused);
 
 /// A copy, or a connection that is none.
 #[derive(Drop)]
@@ -57,94 +57,103 @@ enum Held<S: Alter> {
 
 // ---- the calls of the copy
 
-fn told_number(answer: Result<u64, Fault>) -> Told {
+fn told_number(answer: Result<u64, Fault>) -> StepAnswer {
     match answer {
-        Ok(number) => Told::Number(number),
-        Err(fault) => Told::Fault(fault),
+        Ok(number) => StepAnswer::Number(number),
+        Err(fault) => StepAnswer::Fault(fault),
     }
 }
 
-fn up<S: Alter>(copy: &mut LogCopy<S>) -> Told {
+fn up<S: Alter>(copy: &mut LogCopy<S>) -> StepAnswer {
     told_number(copy.epoch_up())
 }
 
-fn epoch<S: Alter>(copy: &LogCopy<S>) -> Told {
+fn epoch<S: Alter>(copy: &LogCopy<S>) -> StepAnswer {
     told_number(copy.epoch())
 }
 
-fn add<S: Alter>(copy: &mut LogCopy<S>, doc: &str, from: usize, entries: &[Operation]) -> Told {
+fn add<S: Alter>(
+    copy: &mut LogCopy<S>,
+    doc: &str,
+    from: usize,
+    entries: &[Operation],
+) -> StepAnswer {
     match copy.add_batch(doc, from, entries) {
-        Ok(()) => Told::Done,
-        Err(fault) => Told::Fault(fault),
+        Ok(()) => StepAnswer::Done,
+        Err(fault) => StepAnswer::Fault(fault),
     }
 }
 
-fn check<S: Alter>(alloc: Global, copy: &LogCopy<S>, due: &str) -> Told {
+fn check<S: Alter>(alloc: Global, copy: &LogCopy<S>, due: &str) -> StepAnswer {
     let mut out = Vec::<u8>::new(alloc);
     let status = check_over(alloc, copy, &mut Writer::new(&mut out));
     if status == 0 && out.as_slice() == due.as_bytes() {
-        Told::Done
+        StepAnswer::Done
     } else {
-        Told::Other
+        StepAnswer::Other
     }
 }
 
-fn edit<S: Alter>(alloc: Global, copy: &LogCopy<S>, doc: &str, due: &str) -> Told {
+fn edit<S: Alter>(alloc: Global, copy: &LogCopy<S>, doc: &str, due: &str) -> StepAnswer {
     match copy.load(alloc, doc) {
         Ok(loaded) => told_edit(is_edited_after(alloc, loaded.as_slice(), due)),
-        Err(fault) => Told::Fault(fault),
+        Err(fault) => StepAnswer::Fault(fault),
     }
 }
 
-fn told_edit(is_so: bool) -> Told {
-    if is_so { Told::Done } else { Told::Other }
+fn told_edit(is_so: bool) -> StepAnswer {
+    if is_so {
+        StepAnswer::Done
+    } else {
+        StepAnswer::Other
+    }
 }
 
-fn docs<S: Alter>(copy: &LogCopy<S>) -> Told {
+fn docs<S: Alter>(copy: &LogCopy<S>) -> StepAnswer {
     match copy.docs() {
-        Ok(docs) => Told::Rows(docs.len()),
-        Err(fault) => Told::Fault(fault),
+        Ok(docs) => StepAnswer::Rows(docs.len()),
+        Err(fault) => StepAnswer::Fault(fault),
     }
 }
 
-fn load<S: Alter>(alloc: Global, copy: &LogCopy<S>, doc: &str, log: &[Operation]) -> Told {
+fn load<S: Alter>(alloc: Global, copy: &LogCopy<S>, doc: &str, log: &[Operation]) -> StepAnswer {
     match copy.load(alloc, doc) {
         Ok(loaded) => told_rows(loaded.as_slice(), log),
-        Err(fault) => Told::Fault(fault),
+        Err(fault) => StepAnswer::Fault(fault),
     }
 }
 
-fn told_rows(loaded: &[Operation], log: &[Operation]) -> Told {
+fn told_rows(loaded: &[Operation], log: &[Operation]) -> StepAnswer {
     if loaded.len() <= log.len() && loaded == &log[..loaded.len()] {
-        Told::Rows(loaded.len())
+        StepAnswer::Rows(loaded.len())
     } else {
-        Told::Other
+        StepAnswer::Other
     }
 }
 
-fn adopt<S: Alter + Drop>(alloc: Global, conn: Connection<S>) -> (Held<S>, Told) {
+fn adopt<S: Alter + Drop>(alloc: Global, conn: Connection<S>) -> (Held<S>, StepAnswer) {
     match LogCopy::adopt(alloc, conn) {
-        Ok(copy) => (Held::Copy(copy), Told::Done),
-        Err((fault, conn)) => (Held::Tables(conn), Told::Fault(fault)),
+        Ok(copy) => (Held::Copy(copy), StepAnswer::Done),
+        Err((fault, conn)) => (Held::Tables(conn), StepAnswer::Fault(fault)),
     }
 }
 
 // ---- the calls of the connection
 
-fn run<S: Alter>(conn: &mut Connection<S>, sql: &str) -> Told {
+fn run<S: Alter>(conn: &mut Connection<S>, sql: &str) -> StepAnswer {
     match conn.execute_batch(sql) {
-        Ok(()) => Told::Done,
-        Err(_) => Told::NoSql,
+        Ok(()) => StepAnswer::Done,
+        Err(_) => StepAnswer::NoSql,
     }
 }
 
-fn ask<S: Alter>(conn: &mut Connection<S>, sql: &str) -> Told {
+fn ask<S: Alter>(conn: &mut Connection<S>, sql: &str) -> StepAnswer {
     match conn.query_row(sql, &[]) {
         Ok(row) => {
             let number: u64 = row.get(0).unwrap_or(u64::MAX);
-            Told::Number(number)
+            StepAnswer::Number(number)
         }
-        Err(_) => Told::NoSql,
+        Err(_) => StepAnswer::NoSql,
     }
 }
 
@@ -155,7 +164,7 @@ fn asked<S: Alter>(
     copy: &mut LogCopy<S>,
     log: &[Operation],
     step: Step<'_>,
-) -> Told {
+) -> StepAnswer {
     match step {
         Step::Up => up(copy),
         Step::Epoch => epoch(copy),
@@ -163,14 +172,14 @@ fn asked<S: Alter>(
             if start <= end && end <= log.len() {
                 add(copy, doc, from, &log[start..end])
             } else {
-                Told::Other
+                StepAnswer::Other
             }
         }
         Step::Load(doc) => load(alloc, copy, doc, log),
         Step::Docs => docs(copy),
         Step::Check(due) => check(alloc, copy, due),
         Step::Edit(doc, due) => edit(alloc, copy, doc, due),
-        _ => Told::NoCopy,
+        _ => StepAnswer::NoCopy,
     }
 }
 
@@ -178,12 +187,12 @@ fn over_tables<S: Alter + Drop>(
     alloc: Global,
     mut conn: Connection<S>,
     step: Step<'_>,
-) -> (Held<S>, Told) {
+) -> (Held<S>, StepAnswer) {
     let told = match step {
         Step::Open => return adopt(alloc, conn),
         Step::Run(sql) => run(&mut conn, sql),
         Step::Ask(sql) => ask(&mut conn, sql),
-        _ => Told::NoCopy,
+        _ => StepAnswer::NoCopy,
     };
     (Held::Tables(conn), told)
 }
@@ -193,7 +202,7 @@ fn over_copy<S: Alter + Drop>(
     mut copy: LogCopy<S>,
     log: &[Operation],
     step: Step<'_>,
-) -> (Held<S>, Told) {
+) -> (Held<S>, StepAnswer) {
     if matches!(step, Step::Open | Step::Run(_) | Step::Ask(_)) {
         return over_tables(alloc, copy.into_connection(), step);
     }
@@ -206,7 +215,7 @@ fn take<S: Alter + Drop>(
     held: Held<S>,
     log: &[Operation],
     step: Step<'_>,
-) -> (Held<S>, Told) {
+) -> (Held<S>, StepAnswer) {
     match held {
         Held::Copy(copy) => over_copy(alloc, copy, log, step),
         Held::Tables(conn) => over_tables(alloc, conn, step),
@@ -218,8 +227,8 @@ pub fn first_other<S: Alter + Drop>(
     alloc: Global,
     conn: Connection<S>,
     log: &[Operation],
-    steps: &[(Step<'_>, Told)],
-) -> Option<(usize, Told)> {
+    steps: &[(Step<'_>, StepAnswer)],
+) -> Option<(usize, StepAnswer)> {
     let mut held = Held::Tables(conn);
     for (at, (step, due)) in steps.iter().enumerate() {
         let (next, told) = take(alloc, held, log, *step);

@@ -1,5 +1,5 @@
 //! Deliveries against which two causes stand, and what is told of them. The log or the held operations decide one cause at least.
-use super::samples::{Told, changed, delivered, given_up, later, member, operation, server};
+use super::samples::{Digest, changed, delivered, given_up, later, member, operation, server};
 use json_scalar::Refusal;
 use op_core::{Mutation, Operation};
 use replica_core::Replica;
@@ -28,7 +28,7 @@ fn knowing(alloc: Global) -> Result<Replica, Refusal> {
 }
 
 // What is told of an operation when these three are logged.
-fn handed_in(alloc: Global, text: &str) -> Result<Told, Refusal> {
+fn handed_in(alloc: Global, text: &str) -> Result<Digest, Refusal> {
     let mut replica = knowing(alloc)?;
     let op = operation(alloc, text)?;
     Ok(delivered(replica.deliver(op)))
@@ -66,12 +66,12 @@ fn known_before_own_name(rt: HostRuntime) -> Result<(), Fail> {
     let alloc = rt.alloc();
     let mut replica = knowing(alloc)?;
     let made = changed(replica.local(member(alloc, "k")?, Mutation::Delete));
-    assert_eq!(rt; made, Told::Applied(1, 0, 4));
+    assert_eq!(rt; made, Digest::Applied(1, 0, 4));
     let same = operation(
         alloc,
         r#"["op",[4,"srv-1"],[["o",2],["q",3]],[[["m",0]],"k"],["delete"]]"#,
     )?;
-    assert_eq!(rt; delivered(replica.deliver(same)), Told::Known);
+    assert_eq!(rt; delivered(replica.deliver(same)), Digest::Known);
     Ok(())
 }
 
@@ -80,14 +80,14 @@ fn id_conflict_before_own_name(rt: HostRuntime) -> Result<(), Fail> {
     let alloc = rt.alloc();
     let mut replica = knowing(alloc)?;
     let made = changed(replica.local(member(alloc, "k")?, Mutation::Delete));
-    assert_eq!(rt; made, Told::Applied(1, 0, 4));
+    assert_eq!(rt; made, Digest::Applied(1, 0, 4));
     let other = operation(
         alloc,
         r#"["op",[4,"srv-1"],[["o",2],["q",3]],[[["m",0]],"k"],["assign",2]]"#,
     )?;
     assert_eq!(rt;
         delivered(replica.deliver(other)),
-        Told::Refused(Refusal::IdConflict)
+        Digest::Refused(Refusal::IdConflict)
     );
     Ok(())
 }
@@ -97,7 +97,7 @@ fn id_conflict_before_forked(rt: HostRuntime) -> Result<(), Fail> {
     let text = r#"["op",[2,"o"],[["o",1]],[[["m",0],["l","l"]],1],["insert","b"]]"#;
     assert_eq!(rt;
         handed_in(rt.alloc(), text)?,
-        Told::Refused(Refusal::IdConflict)
+        Digest::Refused(Refusal::IdConflict)
     );
     Ok(())
 }
@@ -110,11 +110,11 @@ fn own_name_before_missing_front_id(rt: HostRuntime) -> Result<(), Fail> {
     let id = op.id();
     assert_eq!(rt;
         delivered(replica.deliver(op)),
-        Told::Refused(Refusal::OwnName)
+        Digest::Refused(Refusal::OwnName)
     );
     assert_eq!(rt;
         given_up(replica.forget(id)),
-        Told::Refused(Refusal::NotHeld)
+        Digest::Refused(Refusal::NotHeld)
     );
     Ok(())
 }
@@ -123,11 +123,14 @@ fn own_name_before_missing_front_id(rt: HostRuntime) -> Result<(), Fail> {
 fn held_once_more_before_held_full(rt: HostRuntime) -> Result<(), Fail> {
     let alloc = rt.alloc();
     let mut replica = holding(alloc)?;
-    assert_eq!(rt; delivered(replica.deliver(later(alloc, 2)?)), Told::Held);
-    assert_eq!(rt; delivered(replica.deliver(later(alloc, 257)?)), Told::Held);
+    assert_eq!(rt; delivered(replica.deliver(later(alloc, 2)?)), Digest::Held);
+    assert_eq!(rt;
+        delivered(replica.deliver(later(alloc, 257)?)),
+        Digest::Held
+    );
     assert_eq!(rt;
         delivered(replica.deliver(later(alloc, 258)?)),
-        Told::Refused(Refusal::HeldFull)
+        Digest::Refused(Refusal::HeldFull)
     );
     Ok(())
 }
@@ -142,7 +145,7 @@ fn id_conflict_before_held_full(rt: HostRuntime) -> Result<(), Fail> {
     )?;
     assert_eq!(rt;
         delivered(replica.deliver(other)),
-        Told::Refused(Refusal::IdConflict)
+        Digest::Refused(Refusal::IdConflict)
     );
     Ok(())
 }
@@ -154,7 +157,7 @@ fn own_name_before_held_full(rt: HostRuntime) -> Result<(), Fail> {
     let own = operation(alloc, OWN_AND_WAITING)?;
     assert_eq!(rt;
         delivered(replica.deliver(own)),
-        Told::Refused(Refusal::OwnName)
+        Digest::Refused(Refusal::OwnName)
     );
     Ok(())
 }
@@ -163,7 +166,7 @@ fn own_name_before_held_full(rt: HostRuntime) -> Result<(), Fail> {
 #[test]
 fn missing_front_id_before_forked(rt: HostRuntime) -> Result<(), Fail> {
     let text = r#"["op",[3,"o"],[["z",2]],[[["m",0]],"k"],["assign",2]]"#;
-    assert_eq!(rt; handed_in(rt.alloc(), text)?, Told::Held);
+    assert_eq!(rt; handed_in(rt.alloc(), text)?, Digest::Held);
     Ok(())
 }
 
@@ -172,7 +175,7 @@ fn bad_front_before_forked(rt: HostRuntime) -> Result<(), Fail> {
     let text = r#"["op",[4,"o"],[["q",3]],[[["m",0]],"k"],["assign",2]]"#;
     assert_eq!(rt;
         handed_in(rt.alloc(), text)?,
-        Told::Refused(Refusal::BadFront)
+        Digest::Refused(Refusal::BadFront)
     );
     Ok(())
 }
@@ -182,7 +185,7 @@ fn bad_front_before_bad_cursor(rt: HostRuntime) -> Result<(), Fail> {
     let text = r#"["op",[4,"p"],[["q",3]],[[["m",0],["l","l"]],[2,"o"]],["assign","b"]]"#;
     assert_eq!(rt;
         handed_in(rt.alloc(), text)?,
-        Told::Refused(Refusal::BadFront)
+        Digest::Refused(Refusal::BadFront)
     );
     Ok(())
 }
@@ -192,7 +195,7 @@ fn forked_before_bad_cursor(rt: HostRuntime) -> Result<(), Fail> {
     let text = r#"["op",[2,"q"],[["o",1]],[[["m",0],["l","l"]],[2,"o"]],["assign","b"]]"#;
     assert_eq!(rt;
         handed_in(rt.alloc(), text)?,
-        Told::Refused(Refusal::Forked { last: 3 })
+        Digest::Refused(Refusal::Forked { last: 3 })
     );
     Ok(())
 }
@@ -207,11 +210,11 @@ fn bad_cursor_before_too_many_replicas(rt: HostRuntime) -> Result<(), Fail> {
     )?;
     assert_eq!(rt;
         delivered(replica.deliver(astray)),
-        Told::Refused(Refusal::BadCursor)
+        Digest::Refused(Refusal::BadCursor)
     );
     assert_eq!(rt;
         delivered(replica.deliver(first_of(alloc, 256)?)),
-        Told::Refused(Refusal::TooManyReplicas)
+        Digest::Refused(Refusal::TooManyReplicas)
     );
     Ok(())
 }
@@ -227,11 +230,11 @@ fn log_full_before_too_many_replicas(rt: HostRuntime) -> Result<(), Fail> {
     assert_eq!(rt; replica.log().len(), 100_000);
     assert_eq!(rt;
         delivered(replica.deliver(first_of(alloc, 256)?)),
-        Told::Refused(Refusal::LogFull)
+        Digest::Refused(Refusal::LogFull)
     );
     assert_eq!(rt;
         changed(replica.local(member(alloc, "k")?, Mutation::Delete)),
-        Told::Refused(Refusal::LogFull)
+        Digest::Refused(Refusal::LogFull)
     );
     Ok(())
 }

@@ -1,43 +1,43 @@
 //! The worked row on what is refused of operations that are handed in.
-use super::samples::{Told, delivered, later, operation, server};
+use super::samples::{Digest, delivered, later, operation, server};
 use doc_words::{Query, Reply};
 use json_scalar::Refusal;
 use lamport_id::ReplicaName;
 use std::test::Fail;
 
-const FOREIGN: [(&str, Told); 8] = [
+const FOREIGN: [(&str, Digest); 8] = [
     (
         r#"["op",[1,"o"],[],[[["m",0]],"l"],["assign",[]]]"#,
-        Told::Applied(1, 0, 1),
+        Digest::Applied(1, 0, 1),
     ),
     (
         r#"["op",[2,"o"],[["o",1]],[[["m",0],["l","l"]],1],["insert","a"]]"#,
-        Told::Applied(1, 0, 2),
+        Digest::Applied(1, 0, 2),
     ),
     (
         r#"["op",[3,"q"],[["o",2]],[[["m",0]],"k"],["assign",1]]"#,
-        Told::Applied(1, 0, 3),
+        Digest::Applied(1, 0, 3),
     ),
     (
         r#"["op",[4,"p"],[["q",3]],[[["m",0]],"k"],["assign",2]]"#,
-        Told::Refused(Refusal::BadFront),
+        Digest::Refused(Refusal::BadFront),
     ),
     (
         r#"["op",[2,"q"],[["o",1]],[[["m",0]],"k"],["assign",3]]"#,
-        Told::Refused(Refusal::Forked { last: 3 }),
+        Digest::Refused(Refusal::Forked { last: 3 }),
     ),
     (
         r#"["op",[2,"p"],[["o",1]],[[["m",0],["l","l"]],[2,"o"]],["assign","b"]]"#,
-        Told::Refused(Refusal::BadCursor),
+        Digest::Refused(Refusal::BadCursor),
     ),
     (
         r#"["op",[1,"srv-1"],[],[[["m",0]],"k"],["assign",2]]"#,
-        Told::Refused(Refusal::OwnName),
+        Digest::Refused(Refusal::OwnName),
     ),
     // Again: it is known, and nothing is logged twice.
     (
         r#"["op",[3,"q"],[["o",2]],[[["m",0]],"k"],["assign",1]]"#,
-        Told::Known,
+        Digest::Known,
     ),
 ];
 
@@ -80,12 +80,12 @@ fn foreign_refusals_held_full(rt: HostRuntime) -> Result<(), Fail> {
     let mut replica = server(alloc)?;
     for counter in 2..258 {
         let op = later(alloc, counter)?;
-        assert_eq!(rt; delivered(replica.deliver(op)), Told::Held);
+        assert_eq!(rt; delivered(replica.deliver(op)), Digest::Held);
     }
     let last = later(alloc, 258)?;
     assert_eq!(rt;
         delivered(replica.deliver(last)),
-        Told::Refused(Refusal::HeldFull)
+        Digest::Refused(Refusal::HeldFull)
     );
     Ok(())
 }

@@ -2,7 +2,7 @@
 ghost use Rattle.std.specs.Prelude.{◌≡◌, ◌≤◌};
 ghost use Rattle.share_ledger.specs.Counters.{place_of};
 
-use super::samples::{Deed, Told, command, document, told_by};
+use super::samples::{Deed, Digest, command, document, told_by};
 use doc_words::Query;
 use json_scalar::Refusal;
 use lamport_id::Id;
@@ -28,7 +28,7 @@ fn assigns<M: Marker>(
 ) -> Result<bool, Refusal> {
     for counter in counters {
         let assignment = command(alloc, Deed::Make, ASSIGNMENT)?;
-        if told_by(doc.act(seat, assignment).into_reply()) != Told::Applied(1, 0, *counter) {
+        if told_by(doc.act(seat, assignment).into_reply()) != Digest::Applied(1, 0, *counter) {
             return Ok(false);
         }
     }
@@ -176,10 +176,10 @@ fn releases<M: Marker, R: Abort>(rt: &R, alloc: Global, blank: Blank) -> Result<
     let mut other = document(alloc, &mut table, 1, 1)?;
     let mut one = doc.open_seat()?;
     let mut two = doc.open_seat()?;
-    assert_eq!(rt; delivers(alloc, &mut doc, &mut one, SECOND)?, Told::Held);
+    assert_eq!(rt; delivers(alloc, &mut doc, &mut one, SECOND)?, Digest::Held);
     assert_eq!(rt;
         delivers(alloc, &mut doc, &mut two, FIRST)?,
-        Told::Applied(2, 0, 1)
+        Digest::Applied(2, 0, 1)
     );
     assert_eq!(rt; accounts(&doc, &mut one, &mut two), (0, 2));
     assert!(rt; matches!(&doc.open_seat(), Err(Refusal::SeatsFull)));
@@ -195,7 +195,7 @@ fn delivers<M: Marker>(
     doc: &mut LockedDoc<M>,
     seat: &mut Seat<M>,
     text: &str,
-) -> Result<Told, Refusal> {
+) -> Result<Digest, Refusal> {
     let delivery = command(alloc, Deed::Deliver, text)?;
     Ok(told_by(doc.act(seat, delivery).into_reply()))
 }
@@ -204,7 +204,7 @@ fn delivers<M: Marker>(
 fn accounts<M: Marker>(doc: &LockedDoc<M>, one: &mut Seat<M>, two: &mut Seat<M>) -> (u64, u64) {
     let first = told_by(doc.read(one, Query::Account).into_reply());
     let second = told_by(doc.read(two, Query::Account).into_reply());
-    if first == Told::Account(one.account()) && second == Told::Account(two.account()) {
+    if first == Digest::Account(one.account()) && second == Digest::Account(two.account()) {
         (one.account(), two.account())
     } else {
         (1000, 1000)
@@ -217,7 +217,7 @@ fn is_turned_away<M: Marker>(
     doc: &mut LockedDoc<M>,
     seat: &mut Seat<M>,
 ) -> Result<bool, Refusal> {
-    let away = Told::Refused(Refusal::NotOpen);
+    let away = Digest::Refused(Refusal::NotOpen);
     let before = seat.account();
     let acted = delivers(alloc, doc, seat, FIRST)?;
     let read = told_by(doc.read(seat, Query::Account).into_reply());

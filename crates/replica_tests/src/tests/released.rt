@@ -1,7 +1,7 @@
 //! The worked row on operations that are handed in out of order, on a document behind a lock.
 ghost use Rattle.std.specs.Prelude.{◌≡◌};
 
-use super::samples::{Deed, Told, are_ids, are_numbers, command, document, told_by, values_at};
+use super::samples::{Deed, Digest, are_ids, are_numbers, command, document, told_by, values_at};
 use doc_words::{Query, Reply};
 use json_scalar::Refusal;
 use locked_doc::{LockedDoc, Seat};
@@ -17,7 +17,7 @@ fn delivers<M: Marker, R: Abort>(
     alloc: Global,
     doc: &mut LockedDoc<M>,
     seat: &mut Seat<M>,
-    due: &[(&str, Told)],
+    due: &[(&str, Digest)],
 ) -> Result<(), Refusal> {
     for (text, answer) in due {
         let command = command(alloc, Deed::Deliver, text)?;
@@ -27,20 +27,20 @@ fn delivers<M: Marker, R: Abort>(
     Ok(())
 }
 
-const OUT_OF_ORDER: [(&str, Told); 2] = [
+const OUT_OF_ORDER: [(&str, Digest); 2] = [
     (
         r#"["op",[3,"p"],[["p",2]],[[["m",0]],"k"],["assign",3]]"#,
-        Told::Held,
+        Digest::Held,
     ),
     (
         r#"["op",[2,"p"],[["p",1]],[[["m",0]],"k"],["assign",2]]"#,
-        Told::Held,
+        Digest::Held,
     ),
 ];
 
-const FIRST: [(&str, Told); 1] = [(
+const FIRST: [(&str, Digest); 1] = [(
     r#"["op",[1,"p"],[],[[["m",0]],"k"],["assign",1]]"#,
-    Told::Applied(3, 0, 1),
+    Digest::Applied(3, 0, 1),
 )];
 
 // Whether the second of p waits for its first, and the third for the second.
@@ -73,7 +73,7 @@ fn releases<M: Marker, R: Abort>(rt: &R, alloc: Global, blank: Blank) -> Result<
     assert!(rt; are_waiting(doc.read(&mut seat, Query::Held).into_reply()));
     delivers(rt, alloc, &mut doc, &mut seat, &FIRST)?;
     let account = doc.read(&mut seat, Query::Account).into_reply();
-    assert_eq!(rt; told_by(account), Told::Account(3));
+    assert_eq!(rt; told_by(account), Digest::Account(3));
     let values = doc.read(&mut seat, values_at(alloc, "k")?).into_reply();
     assert!(rt; are_numbers(values, &[3]));
     Ok(())

@@ -14,7 +14,7 @@ use std::alloc::Global;
 
 /// What an answer tells, but for lists: of an operation that was logged how many were logged and how many dropped, and its counter.
 #[derive(Clone, Copy, Debug, PartialEq, Eq)]
-pub enum Told {
+pub enum Digest {
     Applied(u64, u64, u64),
     Known,
     Held,
@@ -24,42 +24,42 @@ pub enum Told {
     Other,
 }
 
-pub fn told_by(reply: Reply) -> Told {
+pub fn told_by(reply: Reply) -> Digest {
     match &reply {
-        Reply::Applied { count, dropped, id } => Told::Applied(*count, *dropped, id.counter),
-        Reply::Known => Told::Known,
-        Reply::Held(_) => Told::Held,
-        Reply::Forgotten => Told::Forgotten,
-        Reply::Account(count) => Told::Account(*count),
-        Reply::Refused(refusal) => Told::Refused(*refusal),
-        _ => Told::Other,
+        Reply::Applied { count, dropped, id } => Digest::Applied(*count, *dropped, id.counter),
+        Reply::Known => Digest::Known,
+        Reply::Held(_) => Digest::Held,
+        Reply::Forgotten => Digest::Forgotten,
+        Reply::Account(count) => Digest::Account(*count),
+        Reply::Refused(refusal) => Digest::Refused(*refusal),
+        _ => Digest::Other,
     }
 }
 
-pub fn delivered(answer: Result<Delivered, Refusal>) -> Told {
+pub fn delivered(answer: Result<Delivered, Refusal>) -> Digest {
     match &answer {
         Ok(Delivered::Applied(applied)) => logged(applied),
-        Ok(Delivered::Known) => Told::Known,
-        Ok(Delivered::Held(_)) => Told::Held,
-        Err(refusal) => Told::Refused(*refusal),
+        Ok(Delivered::Known) => Digest::Known,
+        Ok(Delivered::Held(_)) => Digest::Held,
+        Err(refusal) => Digest::Refused(*refusal),
     }
 }
 
-pub fn changed(answer: Result<Applied, Refusal>) -> Told {
+pub fn changed(answer: Result<Applied, Refusal>) -> Digest {
     match &answer {
         Ok(applied) => logged(applied),
-        Err(refusal) => Told::Refused(*refusal),
+        Err(refusal) => Digest::Refused(*refusal),
     }
 }
 
-fn logged(applied: &Applied) -> Told {
-    Told::Applied(applied.count, applied.dropped, applied.id.counter)
+fn logged(applied: &Applied) -> Digest {
+    Digest::Applied(applied.count, applied.dropped, applied.id.counter)
 }
 
-pub fn given_up(answer: Result<(), Refusal>) -> Told {
+pub fn given_up(answer: Result<(), Refusal>) -> Digest {
     match &answer {
-        Ok(()) => Told::Forgotten,
-        Err(refusal) => Told::Refused(*refusal),
+        Ok(()) => Digest::Forgotten,
+        Err(refusal) => Digest::Refused(*refusal),
     }
 }
 

@@ -8,7 +8,7 @@ ghost use Rattle.std.specs.Prelude.{◌≡◌, ◌≤◌, IfOk};
 ghost use Rattle.share_ledger.specs.Counters.{place_of};
 
 use super::is_conflict_at;
-use super::samples::{Deed, Told, command, member, operation, server, told_by, whole};
+use super::samples::{Deed, Digest, command, member, operation, server, told_by, whole};
 use doc_words::{Command, Look, Query, Reply};
 use json_scalar::Refusal;
 use lamport_id::ReplicaName;
@@ -31,42 +31,42 @@ const SECOND: &str = r#"["op",[2,"p"],[["p",1]],[[["m",0]],"k"],["assign",2]]"#;
 const THIRD: &str = r#"["op",[3,"p"],[["p",2]],[[["m",0]],"k"],["assign",3]]"#;
 
 // What is asked of the document, and what is due where memory is ample.
-const STEPS: [(Deed, &str, Told); 12] = [
+const STEPS: [(Deed, &str, Digest); 12] = [
     (
         Deed::Make,
         r#"["op",[3,"srv-1"],[["o",2]],[[["m",0],["l","l"]],1],["insert","eggs"]]"#,
-        Told::Applied(1, 0, 3),
+        Digest::Applied(1, 0, 3),
     ),
     (
         Deed::Make,
         r#"["op",[4,"srv-1"],[["o",2],["srv-1",3]],[[["m",0]],"n"],["add",5]]"#,
-        Told::Applied(1, 0, 4),
+        Digest::Applied(1, 0, 4),
     ),
     (
         Deed::Make,
         r#"["op",[5,"srv-1"],[["o",2],["srv-1",4]],[[["m",0]],"k"],["delete"]]"#,
-        Told::Applied(1, 0, 5),
+        Digest::Applied(1, 0, 5),
     ),
-    (Deed::Deliver, THIRD, Told::Held),
-    (Deed::Deliver, THIRD, Told::Held),
-    (Deed::Forget, THIRD, Told::Forgotten),
-    (Deed::Forget, THIRD, Told::Refused(Refusal::NotHeld)),
-    (Deed::Deliver, THIRD, Told::Held),
-    (Deed::Deliver, SECOND, Told::Held),
+    (Deed::Deliver, THIRD, Digest::Held),
+    (Deed::Deliver, THIRD, Digest::Held),
+    (Deed::Forget, THIRD, Digest::Forgotten),
+    (Deed::Forget, THIRD, Digest::Refused(Refusal::NotHeld)),
+    (Deed::Deliver, THIRD, Digest::Held),
+    (Deed::Deliver, SECOND, Digest::Held),
     (
         Deed::Deliver,
         r#"["op",[1,"p"],[],[[["m",0]],"k"],["assign",1]]"#,
-        Told::Applied(3, 0, 1),
+        Digest::Applied(3, 0, 1),
     ),
     (
         Deed::Deliver,
         r#"["op",[1,"p"],[],[[["m",0]],"k"],["assign",1]]"#,
-        Told::Known,
+        Digest::Known,
     ),
     (
         Deed::Deliver,
         r#"["op",[1,"p"],[],[[["m",0]],"k"],["assign","Z"]]"#,
-        Told::Refused(Refusal::IdConflict),
+        Digest::Refused(Refusal::IdConflict),
     ),
 ];
 
@@ -158,12 +158,12 @@ fn obeys<M: Marker, R: Abort>(
     alloc: Global,
     doc: &mut LockedDoc<M>,
     seat: &mut Seat<M>,
-    step: &(Deed, &str, Told),
+    step: &(Deed, &str, Digest),
 ) -> Result<(), Fail> {
     let before = picture_again(alloc, doc, seat)?;
     let first = command_again(alloc, step.0, step.1)?;
     let answer = told_by(doc.act(seat, first).into_reply());
-    if answer != Told::Refused(Refusal::NoMemory) {
+    if answer != Digest::Refused(Refusal::NoMemory) {
         assert!(rt; answer == step.2 || lets_go(answer, step.2), "{}", step.1);
         return Ok(());
     }
@@ -180,9 +180,9 @@ fn obeys<M: Marker, R: Abort>(
 }
 
 // Whether fewer were logged than is due, since a held one was dropped.
-fn lets_go(answer: Told, due: Told) -> bool {
+fn lets_go(answer: Digest, due: Digest) -> bool {
     match (answer, due) {
-        (Told::Applied(count, dropped, counter), Told::Applied(all, _, first)) => {
+        (Digest::Applied(count, dropped, counter), Digest::Applied(all, _, first)) => {
             0 < count && count < all && dropped == 1 && counter == first
         }
         _ => false,
@@ -199,12 +199,12 @@ fn makes_up<M: Marker, R: Abort>(
     for text in [SECOND, THIRD] {
         let delivery = command_again(alloc, Deed::Deliver, text)?;
         let mut answer = told_by(doc.act(seat, delivery).into_reply());
-        if answer == Told::Refused(Refusal::NoMemory) {
+        if answer == Digest::Refused(Refusal::NoMemory) {
             let again = command_again(alloc, Deed::Deliver, text)?;
             answer = told_by(doc.act(seat, again).into_reply());
         }
         assert!(rt;
-            matches!(&answer, Told::Known | Told::Applied(_, 0, _)),
+            matches!(&answer, Digest::Known | Digest::Applied(_, 0, _)),
             "{text}"
         );
     }

@@ -2,7 +2,7 @@
 ghost use Rattle.std.specs.Prelude.{◌≡◌, ◌<◌, ◌≤◌, IfOk};
 ghost use Rattle.share_ledger.specs.Counters.{place_of};
 
-use super::samples::{Deed, Told, are_numbers, command, document, told_by, values_at};
+use super::samples::{Deed, Digest, are_numbers, command, document, told_by, values_at};
 use json_scalar::Refusal;
 use locked_doc::{LockedDoc, Seat, SeatEnd, Shelf, Totals};
 use share_ledger::{Blank, Marker, Table};
@@ -101,10 +101,10 @@ fn assigns_and_reads<M: Marker, R: Abort + Wait>(
 {
     let elsewhere = command(alloc, Deed::Make, ASSIGNMENT)?;
     let reply = shelf.act(rt, 0, seat, elsewhere).into_reply();
-    assert_eq!(rt; told_by(reply), Told::Refused(Refusal::NotOpen));
+    assert_eq!(rt; told_by(reply), Digest::Refused(Refusal::NotOpen));
     let assignment = command(alloc, Deed::Make, ASSIGNMENT)?;
     let reply = shelf.act(rt, 1, seat, assignment).into_reply();
-    assert_eq!(rt; told_by(reply), Told::Applied(1, 0, 1));
+    assert_eq!(rt; told_by(reply), Digest::Applied(1, 0, 1));
     let asked = values_at(alloc, "k")?;
     let values = shelf.read(rt, 1, seat, asked).into_reply();
     assert!(rt; are_numbers(values, &[7]));

@@ -1,6 +1,6 @@
 use Rattle.std.proofs.Common.{[], ◌∷◌, refl}
 use Rattle.op_core.specs.declared.cursor.Key.TheVariants.{Element}
-use Rattle.doc_rules.specs.Reads.{into_list}
+use Rattle.doc_rules.specs.Views.{into_list}
 use Rattle.doc_rules.specs.Sorted.AreThose.{none, keep, skip}
 use Rattle.doc_view.proofs.elements.item_at.Goals as goal
 

@@ -1,7 +1,7 @@
 use Rattle.std.proofs.Common.{List, sym, subst, ◌∙◌}
 use Rattle.doc_words.specs.Words.{Id, Scalar}
 use Rattle.doc_tree.specs.Nodes.{tree_facts}
-use Rattle.doc_rules.specs.Reads.{AreItems}
+use Rattle.doc_rules.specs.Views.{AreItems}
 use Rattle.doc_view.proofs.ByNumber.{gives_at, no_items}
 use Rattle.doc_view.proofs.elements.items_at.Goals as goal
 

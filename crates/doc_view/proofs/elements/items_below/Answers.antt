@@ -1,7 +1,7 @@
 use Rattle.std.proofs.Common.{List, sym, subst, ◌∙◌}
 use Rattle.doc_words.specs.Words.{Id, Scalar}
 use Rattle.doc_tree.specs.Nodes.{tree_facts}
-use Rattle.doc_rules.specs.Reads.{AreItems, into_list}
+use Rattle.doc_rules.specs.Views.{AreItems, into_list}
 use Rattle.doc_view.specs.ByNumber.{HasItems}
 use Rattle.doc_view.proofs.ByNumber.{order_by_number}
 use Rattle.doc_view.proofs.elements.items_below.Goals as goal

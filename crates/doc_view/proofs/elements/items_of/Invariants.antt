@@ -1,6 +1,6 @@
 use Rattle.std.proofs.Common.{take}
 use Rattle.doc_tree.specs.Nodes.{tree_facts}
-use Rattle.doc_rules.specs.Reads.{into_list}
+use Rattle.doc_rules.specs.Views.{into_list}
 use Rattle.doc_view.specs.ByNumber.{AtNode, HasItems}
 use Rattle.doc_view.proofs.elements.items_of.Given as goal
 

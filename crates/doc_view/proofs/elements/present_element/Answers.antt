@@ -1,6 +1,6 @@
 use Rattle.std.proofs.Common.{sym, ◌∙◌, true≢false}
 use Rattle.op_core.specs.declared.cursor.Key.TheVariants.{Element}
-use Rattle.doc_rules.specs.Reads.{into_list}
+use Rattle.doc_rules.specs.Views.{into_list}
 use Rattle.doc_view.proofs.ByNumber.{absent_place, element_number}
 use Rattle.doc_view.proofs.elements.present_element.Goals as goal
 

@@ -2,7 +2,7 @@ use Rattle.std.proofs.Common.{List, ℕ, sym, subst, ◌∙◌}
 use Rattle.op_core.specs.declared.cursor.Key.TheVariants.{Text}
 use Rattle.doc_tree.specs.Nodes.{tree_facts}
 use Rattle.doc_tree.proofs.Below.{entry_found}
-use Rattle.doc_rules.specs.Reads.{AreKeys, into_map}
+use Rattle.doc_rules.specs.Views.{AreKeys, into_map}
 use Rattle.doc_view.proofs.MapLaws.{are_keys}
 use Rattle.doc_view.proofs.maps.keys_at.Goals as goal
 

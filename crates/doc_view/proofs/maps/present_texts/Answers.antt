@@ -5,7 +5,7 @@ use Rattle.op_core.specs.declared.cursor.Key.TheVariants.{Text}
 use Rattle.doc_nodes.specs.declared.node.NodeNumber.{NodeNumber}
 use Rattle.std.specs.Prelude.{Contains}
 use Rattle.doc_tree.specs.Nodes.{tree_facts}
-use Rattle.doc_rules.specs.Reads.{IsPresent}
+use Rattle.doc_rules.specs.Views.{IsPresent}
 use Rattle.doc_rules.specs.Sorted.{AreThose}
 use Rattle.doc_rules.specs.Sorted.AreThose.{none}
 use Rattle.doc_view.specs.Members.{texts_in}

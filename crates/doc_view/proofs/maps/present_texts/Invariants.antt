@@ -2,7 +2,7 @@ use Rattle.std.proofs.Common.{take, List}
 use Rattle.op_core.specs.declared.cursor.Key.TheVariants.{Text}
 use Rattle.op_core.specs.declared.cursor.Tagged.{Tagged}
 use Rattle.doc_tree.specs.Nodes.{tree_facts}
-use Rattle.doc_rules.specs.Reads.{IsPresent}
+use Rattle.doc_rules.specs.Views.{IsPresent}
 use Rattle.doc_rules.specs.Sorted.{AreThose}
 use Rattle.doc_view.specs.ByNumber.{AreIn}
 use Rattle.doc_view.specs.Members.{texts_in}

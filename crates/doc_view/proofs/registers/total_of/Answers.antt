@@ -1,7 +1,7 @@
 use Rattle.std.proofs.Common.{◌≡◌, ◌+◌, ◌+ℤ◌, drop, ap, ◌∙◌, sym, arith}
 use Rattle.std.proofs.lemmas.Int.{ints}
 use Rattle.std.proofs.lemmas.List.{at_drop_more}
-use Rattle.doc_rules.specs.Reads.{total}
+use Rattle.doc_rules.specs.Views.{total}
 use Rattle.doc_view.proofs.registers.total_of.Goals as goal
 
 pub loop-entry-preserved : goal.loop-entry-preserved

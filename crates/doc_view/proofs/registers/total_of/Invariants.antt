@@ -1,5 +1,5 @@
 use Rattle.std.proofs.Common.{◌≡◌, ◌*◌, drop, pos, ◌+ℤ◌, neg_ℤ, ◌≤ℤ◌}
-use Rattle.doc_rules.specs.Reads.{total}
+use Rattle.doc_rules.specs.Views.{total}
 use Rattle.doc_view.proofs.registers.total_of.Given as goal
 
 abbrev pub invariant-loop-entry : goal.invariant-loop-entry

@@ -1,8 +1,8 @@
 use Rattle.std.proofs.Common.{List, subst, sym, ◌∙◌}
 use Rattle.doc_words.specs.Words.{Id, Val}
 use Rattle.doc_tree.specs.Nodes.{tree_facts}
-use Rattle.doc_rules.specs.Reads.{AreConflicts}
-use Rattle.doc_view.specs.Told.{tree_values}
+use Rattle.doc_rules.specs.Views.{AreConflicts}
+use Rattle.doc_view.specs.TreeValues.{tree_values}
 use Rattle.doc_view.proofs.TellingRoles.{are_conflicts}
 use Rattle.doc_view.proofs.roles.conflicts_at.Goals as goal
 

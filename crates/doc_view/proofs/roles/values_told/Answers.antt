@@ -1,7 +1,7 @@
 use Rattle.std.proofs.Common.{◌≡◌, ◌++◌, [], refl}
 use Rattle.presence_set.specs.ById.{get}
 use Rattle.doc_rules.specs.Role.{value_in}
-use Rattle.doc_view.specs.Told.{with_value}
+use Rattle.doc_view.specs.TreeValues.{with_value}
 use Rattle.doc_view.proofs.Lists.{take_read}
 use Rattle.doc_view.proofs.TellingRoles.{values_told-push}
 use Rattle.doc_view.proofs.roles.values_told.Goals as goal

@@ -1,5 +1,5 @@
 use Rattle.std.proofs.Common.{◌≡◌, take}
-use Rattle.doc_view.specs.Told.{values_told}
+use Rattle.doc_view.specs.TreeValues.{values_told}
 use Rattle.doc_view.proofs.roles.values_told.Given as goal
 
 abbrev pub invariant-loop-entry : goal.invariant-loop-entry

@@ -8,14 +8,14 @@ use Rattle.doc_words.specs.Words.{Id, Key}
 use Rattle.op_core.specs.declared.cursor.Key.TheVariants.{Text, Element}
 use Rattle.doc_nodes.specs.declared.node.NodeNumber.{NodeNumber}
 use Rattle.doc_tree.specs.Nodes.{tree_facts}
-use Rattle.doc_rules.specs.Reads.{IsPresent, into_list, into_map}
+use Rattle.doc_rules.specs.Views.{IsPresent, into_list, into_map}
 use Rattle.doc_rules.specs.Shown.{IsPut}
 use Rattle.doc_rules.specs.Sorted.{AreThose}
 use Rattle.doc_rules.specs.Sorted.AreThose.{none, keep, skip}
 use Rattle.doc_view.specs.ByNumber.{AtNode, ShowsThose}
 use Rattle.doc_view.specs.Members.{listed, texts_at, texts_in}
 use Rattle.doc_view.specs.Showing.{branch_of, AreFields, IsMapShown, IsListShown}
-use Rattle.doc_view.specs.Told.{tree_values}
+use Rattle.doc_view.specs.TreeValues.{tree_values}
 use Rattle.json_scalar.specs.declared.scalar.Val.TheVariants.{EmptyMap, EmptyList}
 use Rattle.doc_view.proofs.ByNumber.{roles_by_number, entries_by_number, terms_by_number, order_by_number, text_place, has_child, shows_step, shown_by_number}
 use Rattle.doc_view.proofs.ShowLaws.{gives_moved, puts_map_decides, puts_list_decides, no_field, one_field, one_text, fields_step, map_from, list_from}

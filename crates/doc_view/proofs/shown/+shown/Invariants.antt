@@ -1,6 +1,6 @@
 use Rattle.std.proofs.Common.{◌+◌, ◌*◌, ◌-◌, length, map, take}
 use Rattle.serde_json.specs.View.{view}
-use Rattle.doc_rules.specs.Reads.{into_list, into_map}
+use Rattle.doc_rules.specs.Views.{into_list, into_map}
 use Rattle.doc_view.specs.ByNumber.{AtNode, ShowsThose}
 use Rattle.doc_view.specs.Members.{texts_in}
 use Rattle.doc_view.specs.Showing.{AreFields}

@@ -1,6 +1,6 @@
 use Rattle.std.proofs.Common.{◌≡◌, map, take}
 use Rattle.serde_json.specs.View.{view}
-use Rattle.line_proto.specs.Told.{conflict_data}
+use Rattle.line_proto.specs.Replies.{conflict_data}
 use Rattle.line_proto.proofs.told_json.conflicts_json.Given as goal
 
 abbrev pub invariant-loop-conflict : goal.invariant-loop-conflict

@@ -2,7 +2,7 @@ use Rattle.std.proofs.Common.{◌≡◌, ℕ, List, ◌++◌, ◌+◌, nat_lt, f
 use Rattle.std.proofs.lemmas.Result.{err_from_is_err_and, on_ok_weaker, on_err_weaker}
 use Rattle.std.proofs.KnownBytes.{Appends-nil, Appends-trans}
 use Rattle.doc_words.specs.declared.reply.Reply.TheVariants.{Held}
-use Rattle.line_proto.specs.Told.{line_text, reply_data}
+use Rattle.line_proto.specs.Replies.{line_text, reply_data}
 use Rattle.line_proto.proofs.Held.{ids_rest, held_text, ids_rest-end, item_split, cut_within, last_piece}
 use Rattle.line_proto.proofs.write.write_held.Goals as goal
 

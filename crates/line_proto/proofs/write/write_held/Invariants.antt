@@ -1,7 +1,7 @@
 use Rattle.std.proofs.Common.{◌≡◌, ◌≤◌, nat_lt, false, List, ℕ, ◌++◌, length, drop}
 use Rattle.std.specs.Io.KnownBytes.{Appends}
 use Rattle.doc_words.specs.declared.reply.Reply.TheVariants.{Held}
-use Rattle.line_proto.specs.Told.{line_text, reply_data}
+use Rattle.line_proto.specs.Replies.{line_text, reply_data}
 use Rattle.line_proto.proofs.Held.{ids_rest}
 use Rattle.line_proto.proofs.write.write_held.Given as goal
 

@@ -5,7 +5,7 @@ use Rattle.op_log.specs.Log.{Log}
 use Rattle.doc_rules.proofs.Roles.{are_of_same}
 use Rattle.doc_tree.proofs.ShapeLaws.{shaped_has_place}
 use Rattle.doc_view.proofs.Growing.{next_tree}
-use Rattle.replica_core.specs.Tells.{Tells}
+use Rattle.replica_core.specs.AgreesWith.{AgreesWith}
 use Rattle.replica_core.proofs.Telling.{knows_reference, is_new_element}
 use Rattle.replica_core.proofs.log_op.log_op.Goals as goal
 use Rattle.replica_core.proofs.log_op.log_op.Goals.{then-is_err-via-then-is_err, then-is_err-via-else-is_err+then-is_err-2}
@@ -25,7 +25,7 @@ returns-then-is_err-clause-kept c = kept c
 
 pub returns-then-is_err-clause-tells : goal.returns-then-is_err-clause-tells
 returns-then-is_err-clause-tells c =
-    subst (Tells c.prepare.new.self) (sym (kept c)) (are_of_same c.requires.tells c.prepare.ensures.facts c.prepare.ensures.roles)
+    subst (AgreesWith c.prepare.new.self) (sym (kept c)) (are_of_same c.requires.tells c.prepare.ensures.facts c.prepare.ensures.roles)
 
 pub commit-requires-clause-reference : goal.commit-requires-clause-reference
 commit-requires-clause-reference c =
@@ -45,4 +45,4 @@ pub returns-clause-tells : goal.returns-clause-tells
 returns-clause-tells c =
     let next = next_tree c.prepare.new.self c.commit.new.self c.args.log.now.operations c.args.op (are_of_same c.requires.tells c.prepare.ensures.facts c.prepare.ensures.roles) c.keeps_good.ensures c.requires.fits
     c.commit.ensures.facts c.commit.ensures.roles in
-    subst (Tells c.commit.new.self) (sym (c.append.ensures.operations ∙ ap (λ (l : List Op). l ++ c.args.op ∷ []) c.reserve.ensures.operations)) next
+    subst (AgreesWith c.commit.new.self) (sym (c.append.ensures.operations ∙ ap (λ (l : List Op). l ++ c.args.op ∷ []) c.reserve.ensures.operations)) next

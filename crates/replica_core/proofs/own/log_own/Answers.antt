@@ -8,7 +8,7 @@ use Rattle.doc_rules.specs.Replica.{own_op}
 use Rattle.doc_rules.proofs.OwnFits.{own_fits}
 use Rattle.doc_rules.proofs.Resolved.{ok_same}
 use Rattle.hold_buffer.specs.Held.{Buffer}
-use Rattle.replica_core.specs.Told.{Meets, told_applied}
+use Rattle.replica_core.specs.Outcomes.{Meets, told_applied}
 use Rattle.replica_core.specs.Whole.{replica_of}
 use Rattle.replica_core.proofs.Meeting.{meets_outcome}
 use Rattle.replica_core.proofs.own.log_own.Goals as goal

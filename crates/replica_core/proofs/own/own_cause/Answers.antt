@@ -9,7 +9,7 @@ use Rattle.op_core.specs.Limits.{most_operations, most_replicas}
 use Rattle.doc_rules.specs.Cause.{room_cause}
 use Rattle.doc_rules.specs.Events.{due_by_cause, due_changed}
 use Rattle.doc_rules.specs.Replica.{Replica, own_op}
-use Rattle.replica_core.specs.Told.{place_told}
+use Rattle.replica_core.specs.Outcomes.{place_told}
 use Rattle.replica_core.specs.Whole.{replica_of}
 use Rattle.replica_core.proofs.Owning.{changed_by_causes}
 use Rattle.replica_core.proofs.own.own_cause.Goals as goal

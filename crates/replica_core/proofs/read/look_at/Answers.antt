@@ -4,9 +4,9 @@ use Rattle.doc_words.specs.declared.ask.Look.TheVariants as look
 use Rattle.doc_words.specs.declared.reply.Reply.{Reply}
 use Rattle.doc_words.specs.declared.reply.Reply.TheVariants as reply
 use Rattle.doc_tree.specs.Nodes.{tree_facts}
-use Rattle.doc_view.specs.Told.{tree_values}
+use Rattle.doc_view.specs.TreeValues.{tree_values}
 use Rattle.doc_rules.specs.Answers.{LooksHere}
-use Rattle.doc_rules.specs.Reads.{AreKeys, AreValues, AreItems, AreConflicts, IsSum}
+use Rattle.doc_rules.specs.Views.{AreKeys, AreValues, AreItems, AreConflicts, IsSum}
 use Rattle.doc_rules.specs.Shown.{ShowsText}
 use Rattle.replica_core.proofs.Looking.{told_here}
 use Rattle.replica_core.proofs.read.look_at.Goals as goal

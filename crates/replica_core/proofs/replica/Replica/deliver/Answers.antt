@@ -1,6 +1,6 @@
 use Rattle.std.proofs.Common.{ap}
 use Rattle.doc_words.specs.declared.ask.Command.TheVariants as command
-use Rattle.replica_core.specs.Told.{told_delivered}
+use Rattle.replica_core.specs.Outcomes.{told_delivered}
 use Rattle.replica_core.specs.Whole.{replica_of}
 use Rattle.replica_core.proofs.Keeping.{whole_next}
 use Rattle.replica_core.proofs.Lacking.{event_from, deliver_lacks}

@@ -1,7 +1,7 @@
 use Rattle.std.proofs.Common.{inl, sym, ◌∙◌}
 use Rattle.doc_words.specs.declared.ask.Command.TheVariants as command
 use Rattle.doc_rules.specs.Events.{Does}
-use Rattle.replica_core.specs.Told.{told_forgotten}
+use Rattle.replica_core.specs.Outcomes.{told_forgotten}
 use Rattle.replica_core.specs.Whole.{replica_of}
 use Rattle.replica_core.proofs.Keeping.{whole_next}
 use Rattle.replica_core.proofs.Owning.{forgets_held, forgets_none}

@@ -3,7 +3,7 @@ use Rattle.doc_words.specs.declared.ask.Command.TheVariants as command
 use Rattle.crdt_rules.specs.Facts.{facts}
 use Rattle.crdt_rules.specs.Log.{replay}
 use Rattle.doc_rules.specs.Resolve.{Resolves}
-use Rattle.replica_core.specs.Told.{told_applied}
+use Rattle.replica_core.specs.Outcomes.{told_applied}
 use Rattle.replica_core.specs.Whole.{replica_of}
 use Rattle.replica_core.proofs.Keeping.{whole_next}
 use Rattle.replica_core.proofs.Owning.{event_change}

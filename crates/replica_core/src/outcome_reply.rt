@@ -1,6 +1,6 @@
 //! Answers, as replies.
 ghost use Rattle.std.specs.Prelude.{◌≡◌};
-ghost use Rattle.replica_core.specs.Told.{told_applied, told_delivered, told_forgotten};
+ghost use Rattle.replica_core.specs.Outcomes.{told_applied, told_delivered, told_forgotten};
 
 use crate::outcome::{Applied, Delivered};
 use doc_words::Reply;

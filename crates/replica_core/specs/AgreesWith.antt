@@ -6,5 +6,5 @@ use Rattle.doc_tree.specs.Nodes.{tree_facts, tree_role}
 use Rattle.doc_rules.specs.Role.{AreOf}
 
 -- its facts are those of the log's replay, and each present id has the role of its operation
-abbrev pub Tells : List Node × Option Scalar → List Op → Type 0
-Tells tree log = AreOf log (tree_facts tree) (tree_role tree)
+abbrev pub AgreesWith : List Node × Option Scalar → List Op → Type 0
+AgreesWith tree log = AreOf log (tree_facts tree) (tree_role tree)

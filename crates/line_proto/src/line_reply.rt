@@ -6,7 +6,7 @@ pub const VERSION: u64 = 2;
 
 /// What is told in answer to a line.
 #[derive(Debug)]
-pub enum Told {
+pub enum LineReply {
     /// The session has this seat at the document.
     Opened(u64),
     /// The name is bound.
@@ -20,14 +20,14 @@ pub enum Told {
 }
 
 // One function for all the places where this is let go: a derived `drop` is written out at each.
-impl Drop for Told {
+impl Drop for LineReply {
     fn drop(self) {
         match self {
-            Told::Opened(_) => {}
-            Told::Bound => {}
-            Told::Version => {}
-            Told::Bye => {}
-            Told::Answered(_) => {}
+            LineReply::Opened(_) => {}
+            LineReply::Bound => {}
+            LineReply::Version => {}
+            LineReply::Bye => {}
+            LineReply::Answered(_) => {}
         }
     }
 }

@@ -5,7 +5,7 @@ use Rattle.doc_words.specs.declared.role.Role.{Role}
 use Rattle.presence_set.specs.ById.{get}
 use Rattle.doc_nodes.specs.declared.node.Node.{Node}
 use Rattle.doc_tree.specs.Nodes.{tree_facts, tree_role}
-use Rattle.doc_rules.specs.Reads.{Values}
+use Rattle.doc_rules.specs.Views.{Values}
 use Rattle.doc_rules.specs.Role.{value_in}
 
 -- what the operation of each id put at each place

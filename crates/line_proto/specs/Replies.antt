@@ -11,8 +11,8 @@ use Rattle.op_core.specs.Wire.{list_data, id_data, front_data, cursor_data, wire
 use Rattle.doc_words.specs.declared.reply.Reply.{Reply}
 use Rattle.doc_words.specs.declared.reply.Reply.TheVariants.{Applied, Known, Held, Forgotten, Resolved, Keys, Values, Items, Conflicts, Show, Sum, Operations, Front, Waiting, Account, Refused}
 use Rattle.line_feed.specs.Cut.{line_of}
-use Rattle.line_proto.specs.declared.told.Told.{Told}
-use Rattle.line_proto.specs.declared.told.Told.TheVariants.{Opened, Bound, Version, Bye, Answered}
+use Rattle.line_proto.specs.declared.line_reply.LineReply.{LineReply}
+use Rattle.line_proto.specs.declared.line_reply.LineReply.TheVariants.{Opened, Bound, Version, Bye, Answered}
 
 abbrev pub count_data : ℕ → Data
 count_data n = number (unsigned n)
@@ -63,7 +63,7 @@ reply_data (Waiting held) = worded (codes "waiting") (list_data (map waiting_dat
 reply_data (Account n) = worded (codes "account") (count_data n ∷ [])
 reply_data (Refused r) = worded (codes "no") (refusal_items r)
 
-abbrev pub told_data : Told → Data
+abbrev pub told_data : LineReply → Data
 told_data (Opened seat) = worded (codes "opened") (count_data seat ∷ [])
 told_data Bound = worded (codes "bound") []
 told_data Version = worded (codes "version") (count_data 2 ∷ [])
@@ -79,7 +79,7 @@ reply_text (Show text) = shown_text text
 reply_text reply = compact_text (reply_data reply)
 
 -- the compact text of what is told
-abbrev pub told_text : Told → List ℕ
+abbrev pub told_text : LineReply → List ℕ
 told_text (Answered reply) = reply_text reply
 told_text told = compact_text (told_data told)
 
@@ -88,5 +88,5 @@ abbrev pub line_text : Data → List ℕ
 line_text d = line_of (compact_text d)
 
 -- the line that is told
-abbrev pub line_told : Told → List ℕ
+abbrev pub line_told : LineReply → List ℕ
 line_told told = line_of (told_text told)
