@@ -48,6 +48,7 @@ stays front a b c j e second = go (second j)
 -- The node at is cleared, with its first children and all below them.
 pub record ClearsFirst (front : List (List ℕ × ℕ)) (old new : List Node) (at : NodeNumber) (count : ℕ) : Type 0 where
   pub each : IsPartCleared front old new
+  pub changed : (j : NodeNumber) → (node_of new j ≡ node_of old j) ⊎ ((keys : List Key) × (walk (child_of old) at keys ≡ Some j))
   pub here : node_of new at ≡ cleared front (node_of old at)
   pub below : (i : ℕ) → i < count → i < length (node_of old at).children → (d : Key × NodeNumber) (j : NodeNumber) (keys : List Key)
       → walk (child_of old) (get_or (node_of old at).children i d).1 keys ≡ Some j → node_of new j ≡ cleared front (node_of old j)
@@ -57,6 +58,7 @@ module _ (front : List (List ℕ × ℕ)) (old new : List Node) (at : NodeNumber
   pub none_yet : at.0 < length old → new ≡ set old at.0 (cleared front (node_of old at)) → ClearsFirst front old new at 0
   none_yet inside is = record {
     each = λ j. ⊎_elim (λ e. inr (at_node j (eq_number j e))) (λ e. inl (other j e)) (cases_eq j.0 at.0);
+    changed = λ j. ⊎_elim (λ e. inr ([], ap Some (sym (eq_number j e)))) (λ e. inl (other j e)) (cases_eq j.0 at.0);
     here = here;
     below = λ i none within d j keys e. absurd (omega arith);
     outside = λ j unreached. ⊎_elim (λ e. absurd (unreached [] (ap Some (sym (eq_number j e))))) (λ e. other j e) (cases_eq j.0 at.0);
@@ -79,6 +81,13 @@ module _ (front : List (List ℕ × ℕ)) (old new : List Node) (at : NodeNumber
       → ClearsUnder front new next c → ClearsFirst front old next at (i + 1)
   one_more next i c first within entry k found call = record {
     each = each-each front old new next first.each call.each;
+    changed = λ j. ⊎_elim
+        (λ still. ⊎_elim
+        (λ same. inl (same ∙ still))
+        (λ way. inr (k ∷ way.0, below_step way.0 j (ap (λ f. walk f c way.0) (sym shape) ∙ way.1)))
+        (call.changed j))
+        (λ way. inr way)
+        (first.changed j);
     here = stays front old new next at first.here call.each;
     below = λ m less inside d j keys e. ⊎_elim
         (λ earlier. stays front old new next j (first.below m earlier inside d j keys e) call.each)
@@ -104,6 +113,7 @@ module _ (front : List (List ℕ × ℕ)) (old new : List Node) (at : NodeNumber
   pub all_done : (count : ℕ) → ClearsFirst front old new at count → length (node_of old at).children ≤ count → ClearsUnder front old new at
   all_done count first enough = record {
     each = first.each;
+    changed = first.changed;
     inside = reached;
     outside = first.outside;
   }

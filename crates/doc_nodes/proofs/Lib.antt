@@ -3,6 +3,7 @@ pub mod Walks
 pub mod Trails
 pub mod ChildrenLaws
 pub mod Clearing
+pub mod Backing
 pub mod Places
 pub mod Marking
 pub mod WriteFacts

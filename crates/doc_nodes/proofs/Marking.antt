@@ -1,5 +1,5 @@
 -- What the marks on one node after another come to.
-use Rattle.std.proofs.Common.{◌≡◌, ◌≢◌, ◌<◌, List, [], ◌∷◌, ◌++◌, length, set, Option, Some, None, ⊎_elim, refl, sym, ap, ◌∙◌, subst, arith}
+use Rattle.std.proofs.Common.{◌≡◌, ◌≢◌, ◌<◌, List, [], ◌∷◌, ◌++◌, length, set, Option, Some, None, inl, inr, ⊎_elim, refl, sym, ap, ◌∙◌, subst, arith}
 use Rattle.std.proofs.lemmas.List.{get_or-set_same, get_or-set_other, length-set}
 use Rattle.std.proofs.lemmas.Bool.{cases_eq}
 use Rattle.std.specs.Prelude.{IsSome, option_and_then}
@@ -65,6 +65,7 @@ module _ (id : Id) (role : Role) (nodes : List Node) (n : NodeNumber) (within : 
   mark_end = record {
     along = at;
     outside = λ j off. other-set nodes n j (marked id role (node_of nodes n)) (λ e. off [] [] refl (ap Some (sym (eq_number j n e))));
+    changed = λ j. ⊎_elim (λ e. inr ([], [], refl, ap Some (sym (eq_number j n e)))) (λ e. inl (other-set nodes n j (marked id role (node_of nodes n)) e)) (cases_eq j.0 n.0);
     shape = shape-set nodes n (marked id role (node_of nodes n)) within refl;
     kept = kept-set nodes n (marked id role (node_of nodes n)) within refl refl refl;
   }
@@ -85,6 +86,13 @@ module _ (id : Id) (role : Role) (nodes : List Node) (n : NodeNumber) (within : 
     outside = λ j off.
         marks.outside j (λ front rest e w. off (k ∷ front) rest (ap (λ l. k ∷ l) e) (rw down (ap (λ f. walk f c front) (sym same_shape) ∙ w)))
         ∙ other-set nodes n j passed (λ e. off [] (k ∷ keys) refl (ap Some (sym (eq_number j n e))));
+    changed = λ j. ⊎_elim
+        (λ still. ⊎_elim
+        (λ e. inr ([], k ∷ keys, refl, ap Some (sym (eq_number j n e))))
+        (λ e. inl (still ∙ other-set nodes n j passed e))
+        (cases_eq j.0 n.0))
+        (λ way. inr (k ∷ way.0, way.1, ap (λ l. k ∷ l) way.2, rw down (ap (λ f. walk f c way.0) (sym same_shape) ∙ way.3)))
+        (marks.changed j);
     shape = marks.shape ∙ same_shape;
     kept = λ j.
         let one = kept-set nodes n (marked id Through (node_of nodes n)) within refl refl refl j in

@@ -6,3 +6,4 @@ pub mod Marks
 pub mod Writes
 pub mod Growth
 pub mod Flags
+pub mod Backing

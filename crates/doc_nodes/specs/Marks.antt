@@ -1,5 +1,5 @@
 -- The marks of an operation on the nodes that it passes, and where it ends.
-use Rattle.std.specs.Prelude.{◌≡◌, ◌≢◌, ◌<◌, List, [], ◌∷◌, ◌++◌, length, Some, ◌&&◌, ◌||◌, IsSome}
+use Rattle.std.specs.Prelude.{◌≡◌, ◌≢◌, ◌⊎◌, ◌<◌, List, [], ◌∷◌, ◌++◌, length, Some, ◌&&◌, ◌||◌, IsSome}
 use Rattle.doc_words.specs.Words.{Id, Key, Tagged}
 use Rattle.op_core.specs.Shape.{key_of}
 use Rattle.crdt_rules.specs.Same.{id_eq}
@@ -42,6 +42,7 @@ pub record MarksAlong (id : Id) (role : Role) (old new : List Node) (n : NodeNum
   pub along : (front rest : List Key) (j : NodeNumber) → keys ≡ front ++ rest → walk (child_of old) n front ≡ Some j
       → node_of new j ≡ marked id (role_before rest role) (node_of old j)
   pub outside : (j : NodeNumber) → ((front rest : List Key) → keys ≡ front ++ rest → walk (child_of old) n front ≢ Some j) → node_of new j ≡ node_of old j
+  pub changed : (j : NodeNumber) → (node_of new j ≡ node_of old j) ⊎ ((front : List Key) × (rest : List Key) × (keys ≡ front ++ rest) × (walk (child_of old) n front ≡ Some j))
   pub shape : child_of new ≡ child_of old
   pub kept : (j : NodeNumber) → ((node_of new j).register ≡ (node_of old j).register) × ((node_of new j).counter ≡ (node_of old j).counter) × ((node_of new j).order ≡ (node_of old j).order)
 

@@ -73,6 +73,7 @@ cleared front node = record node { presence = (uncovered front node.presence.0, 
 -- the nodes from n down are cleared, and no other
 pub record ClearsUnder (front : List (List ℕ × ℕ)) (old new : List Node) (n : NodeNumber) : Type 0 where
   pub each : (j : NodeNumber) → (node_of new j ≡ node_of old j) ⊎ (node_of new j ≡ cleared front (node_of old j))
+  pub changed : (j : NodeNumber) → (node_of new j ≡ node_of old j) ⊎ ((keys : List Key) × (walk (child_of old) n keys ≡ Some j))
   pub inside : (j : NodeNumber) (keys : List Key) → walk (child_of old) n keys ≡ Some j → node_of new j ≡ cleared front (node_of old j)
   pub outside : (j : NodeNumber) → ((keys : List Key) → walk (child_of old) n keys ≢ Some j) → node_of new j ≡ node_of old j
 

@@ -5,21 +5,27 @@ ghost use Rattle.doc_nodes.specs.declared.node.NodeNumber.{NodeNumber};
 ghost use Rattle.doc_nodes.specs.Walk.{walk, root};
 ghost use Rattle.doc_nodes.specs.Nodes.{AreTree, ClearsUnder, child_of};
 ghost use Rattle.doc_nodes.specs.Marks.{keys_below, keys_to};
+ghost use Rattle.doc_nodes.specs.Backing.{AreBacked, AreBackedFrom};
 ghost use Rattle.doc_nodes.specs.Flags.{plain, AreFlagged, IsFlagged, IsFlaggedBut};
 
 use crate::finding::root_number;
-use crate::flag::tell;
+use crate::flag::{stands, tell};
 use crate::mark::known_child;
 use crate::node::{Node, NodeNumber, element_in};
 use op_core::{Front, Key, Tagged};
 
-/// Clears a node and those below it. What its own list tells of it is left to the caller.
+/// Clears a node and those below it. What its own list tells of it is left to the caller. Where nothing makes a node
+/// present, nothing stands in it or below it, and it goes no further.
 pub fn clear_under(nodes: &mut [Node], at: NodeNumber, front: &Front)
     requires tree { AreTree nodes.old }
     requires known { at.0 < length nodes.old }
+    requires backed { AreBackedFrom nodes.old at.0 }
     ensures clears { ClearsUnder front.now (plain nodes.old) (plain nodes.new) at }
     ensures flags { (n : NodeNumber) (i : Id) → IsFlagged nodes.old n i → IsFlaggedBut nodes.new at n i }
 {
+    if !stands(nodes, at) {
+        return;
+    }
     let node = &mut nodes[at.0];
     node.clear(front);
     let count = nodes[at.0].children.len();
@@ -34,6 +40,7 @@ pub fn clear_under(nodes: &mut [Node], at: NodeNumber, front: &Front)
 /// Clears a place and what is below it.
 pub fn clear_way(nodes: &mut [Node], path: &[Tagged], key: &Key, front: &Front)
     requires tree { AreTree nodes.old }
+    requires backed { AreBacked nodes.old }
     requires reached { IsSome (walk (child_of nodes.old) root (keys_to path.now key.now)) }
     ensures clears { (m : NodeNumber) → walk (child_of nodes.old) root (keys_to path.now key.now) ≡ Some m
         → ClearsUnder front.now (plain nodes.old) (plain nodes.new) m }
@@ -49,6 +56,7 @@ pub fn clear_way(nodes: &mut [Node], path: &[Tagged], key: &Key, front: &Front)
 fn clear_below(nodes: &mut [Node], at: NodeNumber, way: &[Tagged], key: &Key, front: &Front)
     requires tree { AreTree nodes.old }
     requires known { at.0 < length nodes.old }
+    requires backed { AreBacked nodes.old }
     requires reached { IsSome (walk (child_of nodes.old) at (keys_below way.now key.now)) }
     ensures clears { (m : NodeNumber) → walk (child_of nodes.old) at (keys_below way.now key.now) ≡ Some m
         → ClearsUnder front.now (plain nodes.old) (plain nodes.new) m }

@@ -20,7 +20,7 @@ pub fn tell(nodes: &mut [Node], at: NodeNumber, element: Option<Id>, child: Node
 }
 
 /// Whether something makes a node present.
-fn stands(nodes: &[Node], at: NodeNumber) -> bool
+pub fn stands(nodes: &[Node], at: NodeNumber) -> bool
     requires { at.0 < length nodes.now }
     ensures { result ≡ Spec.stands nodes.now (Some at) }
 {

@@ -13,6 +13,7 @@ ghost use Rattle.doc_words.specs.declared.role.Role.TheVariants.{Counter};
 ghost use Rattle.doc_nodes.specs.declared.node.NodeNumber.{NodeNumber};
 ghost use Rattle.doc_nodes.specs.Nodes.{AreTree, node_of, node_at, facts_of, role_at, clear_facts_at};
 ghost use Rattle.doc_nodes.specs.Flags.{AreFlagged, AreFlaggedBut};
+ghost use Rattle.doc_nodes.specs.Backing.{AreBacked};
 ghost use Rattle.doc_nodes.specs.Writes.{with_scalar, with_number, add_facts, add_role, put_facts, put_role, order_facts, IsReadyFor};
 ghost use Rattle.doc_tree.specs.Prepared.{AreReady, IsNewElement, IsReadyList, KnowsReference, role_of, step_role};
 
@@ -28,6 +29,7 @@ use presence_set::Role;
 pub fn apply(nodes: &mut [Node], aside: Option<Scalar>, op: &Operation)
     requires tree { AreTree nodes.old }
     requires flags { AreFlagged nodes.old }
+    requires backed { AreBacked nodes.old }
     requires ready { AreReady nodes.old op.now }
     requires scalar { aside ≡ scalar_put op.now.mutation }
     requires reference { KnowsReference (facts_of nodes.old) op.now }
@@ -36,6 +38,7 @@ pub fn apply(nodes: &mut [Node], aside: Option<Scalar>, op: &Operation)
     ensures roles { (q : List Tagged) (j : Key) (i : Id) → role_at nodes.new q j i ≡ step_role (role_at nodes.old) op.now (covers op.now.front) q j i }
     ensures tree { AreTree nodes.new }
     ensures flags { AreFlagged nodes.new }
+    ensures backed { AreBacked nodes.new }
 {
     let cursor = op.cursor();
     let id = op.id();
@@ -95,10 +98,12 @@ pub fn element_key(id: &Id) -> Key
 pub fn clear_at(nodes: &mut [Node], path: &[Tagged], key: &Key, front: &Front)
     requires tree { AreTree nodes.old }
     requires flags { AreFlagged nodes.old }
+    requires backed { AreBacked nodes.old }
     ensures facts { facts_of nodes.new ≡ clear_facts_at (facts_of nodes.old) path.now key.now (covers front.now) }
     ensures roles { (q : List Tagged) (j : Key) (i : Id) → role_at nodes.new q j i ≡ (if is_within q j path.now key.now && covers front.now i then None else role_at nodes.old q j i) }
     ensures tree { AreTree nodes.new }
     ensures flags { AreFlagged nodes.new }
+    ensures backed { AreBacked nodes.new }
 {
     if let Some(_) = find(nodes, path, key) {
         clear_way(nodes, path, key, front);
@@ -117,6 +122,7 @@ pub fn insert_at(
 )
     requires tree { AreTree nodes.old }
     requires flags { AreFlagged nodes.old }
+    requires backed { AreBacked nodes.old }
     requires list { IsReadyList nodes.old path.now }
     requires reference { ForSome (reference after.now) (Contains ((facts_of nodes.old).order path.now)) }
     requires new { ¬ (Contains ((facts_of nodes.old).order path.now) id.now) }
@@ -125,6 +131,7 @@ pub fn insert_at(
     ensures roles { (q : List Tagged) (j : Key) (i : Id) → role_at nodes.new q j i ≡ put_role (role_at nodes.old) path.now (Element id.now) (covers front.now) id.now role q j i }
     ensures tree { AreTree nodes.new }
     ensures flags { AreFlagged nodes.new }
+    ensures backed { AreBacked nodes.new }
 {
     let at = known_list(nodes, path);
     link(nodes, at, reference_in(after), id);
@@ -144,11 +151,13 @@ pub fn put_at(
 )
     requires tree { AreTree nodes.old }
     requires flags { (m : NodeNumber) → node_at nodes.old path.now key.now ≡ Some m → AreFlaggedBut nodes.old m }
+    requires backed { AreBacked nodes.old }
     requires ready { IsReadyFor nodes.old path.now key.now }
     ensures facts { facts_of nodes.new ≡ put_facts (facts_of nodes.old) path.now key.now (covers front.now) id.now scalar }
     ensures roles { (q : List Tagged) (j : Key) (i : Id) → role_at nodes.new q j i ≡ put_role (role_at nodes.old) path.now key.now (covers front.now) id.now role q j i }
     ensures tree { AreTree nodes.new }
     ensures flags { AreFlagged nodes.new }
+    ensures backed { AreBacked nodes.new }
 {
     let end = known_node(nodes, path, key);
     clear_under(nodes, end, front);
@@ -162,11 +171,13 @@ pub fn put_at(
 pub fn add_at(nodes: &mut [Node], path: &[Tagged], key: &Key, id: &Id, n: i64)
     requires tree { AreTree nodes.old }
     requires flags { AreFlagged nodes.old }
+    requires backed { AreBacked nodes.old }
     requires ready { IsReadyFor nodes.old path.now key.now }
     ensures facts { facts_of nodes.new ≡ add_facts (facts_of nodes.old) path.now key.now id.now n }
     ensures roles { (q : List Tagged) (j : Key) (i : Id) → role_at nodes.new q j i ≡ add_role (role_at nodes.old) path.now key.now id.now Counter q j i }
     ensures tree { AreTree nodes.new }
     ensures flags { AreFlagged nodes.new }
+    ensures backed { AreBacked nodes.new }
 {
     let end = known_node(nodes, path, key);
     mark_way(nodes, path, key, id, Role::Counter);

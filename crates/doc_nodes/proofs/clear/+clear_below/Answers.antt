@@ -54,7 +54,7 @@ clear_below-requires t c =
     let both : ◌≡◌ {A = Option NodeNumber} (Some first.0) (Some below) = sym first.1 ∙ down in
     let same : first.0 ≡ below = cc in (
       omega (arith, c.in-Some.ensures.cases.1),
-      (c.requires.tree, (c.requires.tree.within c.args.at key below down, subst (λ z. IsSome (walk (child_of nodes) z rest)) same first.2)),
+      (c.requires.tree, (c.requires.tree.within c.args.at key below down, (c.requires.backed, subst (λ z. IsSome (walk (child_of nodes) z rest)) same first.2))),
     )
 
 pub returns-in-Some-clause-clears : goal.returns-in-Some-clause-clears

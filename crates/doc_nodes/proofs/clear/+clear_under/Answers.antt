@@ -1,4 +1,4 @@
-use Rattle.std.proofs.Common.{◌≡◌, ◌<◌, List, refl, ◌∙◌, inl, inr, ⊎_elim, sym, ap, subst, set, length, get_or, Some, arith}
+use Rattle.std.proofs.Common.{◌≡◌, ◌<◌, ◌+◌, List, false, rules, refl, ◌∙◌, inl, inr, ⊎_elim, sym, ap, subst, set, length, get_or, Some, arith}
 use Rattle.std.proofs.lemmas.List.{get_or_default, get_or-set_same, length-set}
 use Rattle.op_core.specs.declared.cursor.Key.{Key}
 use Rattle.op_core.specs.declared.cursor.Key.TheVariants.{Element, Head}
@@ -6,9 +6,11 @@ use Rattle.doc_nodes.specs.declared.node.NodeNumber.{NodeNumber}
 use Rattle.doc_nodes.specs.Children.{element_of, number_at}
 use Rattle.doc_nodes.specs.Walk.{IsTree}
 use Rattle.doc_nodes.specs.Nodes.{blank, node_of, child_of, cleared, ClearsUnder, AreTree}
+use Rattle.doc_nodes.specs.Backing.{AreBackedFrom}
 use Rattle.doc_nodes.specs.Flags.{plain, told, IsFlagged, IsFlaggedBut}
 use Rattle.doc_nodes.proofs.Clearing.{none_yet, one_more, all_done, same_children}
 use Rattle.doc_nodes.proofs.Plain.{node_of-plain, length-plain, shape_of-plain, write-plain, told-plain, tree_same}
+use Rattle.doc_nodes.proofs.Backing.{backed_from, backed-same, backed-first, backed-cleared, clears-absent}
 use Rattle.doc_nodes.proofs.Flagging.{flag-set, told-but, told-shape}
 use Rattle.doc_nodes.proofs.clear.+clear_under.Goals as goal
 
@@ -25,6 +27,8 @@ loop-i-init t c =
       λ n i right.
           subst (λ z. IsFlaggedBut (set nodes c.args.at.0 z) c.args.at n i) (sym is)
           (flag-set nodes c.args.at c.requires.known (cleared front (node_of nodes c.args.at)) refl refl n i right),
+      subst (λ z. AreBackedFrom (set nodes c.args.at.0 z) (c.args.at.0 + 1)) (sym is)
+          (backed-first front nodes c.args.at c.requires.known c.requires.tree c.requires.backed),
     )
 
 pub clear_under-requires : goal.clear_under-requires
@@ -39,7 +43,7 @@ clear_under-requires t c =
     ap (λ cs. number_at cs key) (sym kids) ∙ c.number-child.ensures.found (Head, c.number-child.result) in
     let rises = tree.rising c.args.at key c.number-child.result found in
     let within = tree.within c.args.at key c.number-child.result found in
-    (omega (arith, rises, within, same_length), (tree, within))
+    (omega (arith, rises, within, same_length), (tree, (within, backed_from now (c.args.at.0 + 1) c.number-child.result.0 (omega (arith, rises)) c.loop-i.invariant.3)))
 
 pub tell-requires-clause-child : goal.tell-requires-clause-child
 tell-requires-clause-child t c =
@@ -89,9 +93,17 @@ loop-i-preserved t c =
           (λ still. inr (subst (λ l. IsFlagged l n i) (sym is)
           (told-but mid at within child tree key (ap (λ f. f at key) shape ∙ found) n i (c.clear_under.ensures.flags n i still))))
           (c.loop-i.invariant.2 n i right),
+      backed-same mid c.tell.new.nodes (at.0 + 1) (ap plain is ∙ told-plain mid at (element_of key) child)
+          (backed-cleared front now mid child (at.0 + 1) c.loop-i.invariant.3 c.clear_under.ensures.clears),
     )
 
 pub returns-clause-clears : goal.returns-clause-clears
 returns-clause-clears t c =
     all_done c.args.front.now (plain c.args.nodes.now) (plain c.loop-i.nodes) c.args.at c.loop-i.i c.loop-i.invariant.0
     (omega (arith, c.loop-i.invariant.1, ap (λ z. length z.children) (node_of-plain c.args.nodes.now c.args.at)))
+
+pub returns-then-not-stands-clause-clears : goal.returns-then-not-stands-clause-clears
+returns-then-not-stands-clause-clears t c =
+    let nodes = c.args.nodes.now in
+    let absent : c.stands.result ≡ false = search rules in
+    clears-absent c.args.front.now nodes c.args.at c.requires.tree c.requires.backed (sym c.stands.ensures ∙ absent)
