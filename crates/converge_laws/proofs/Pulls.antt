@@ -1,5 +1,5 @@
 -- Pulls each way.
-use Rattle.std.proofs.Common.{◌≡◌, ◌⊎◌, inl, inr, List, [], ◌∷◌, ◌++◌, Bool, true, false, not, filter, if◌then◌else◌, Contains, refl, arith}
+use Rattle.std.proofs.Common.{◌≡◌, inl, inr, List, [], ◌∷◌, ◌++◌, Bool, true, false, not, filter, if◌then◌else◌, Contains, refl, arith}
 use Rattle.std.proofs.lemmas.Bool.{both_ways, not-true}
 use Rattle.op_core.specs.Op.{Op}
 use Rattle.op_core.specs.Front.{covers}
@@ -7,10 +7,10 @@ use Rattle.list_laws.specs.Order.{EachOnce}
 use Rattle.list_laws.proofs.Members.{Contains-here, Contains-there}
 use Rattle.crdt_rules.specs.Log.{IsGood}
 use Rattle.crdt_rules.specs.Pull.{front_of, pulled}
-use Rattle.crdt_rules.proofs.Filters.{filter-Contains}
+use Rattle.list_laws.proofs.Filters.{filter-Contains}
 use Rattle.crdt_rules.proofs.FrontOf.{front_of-covers}
-use Rattle.crdt_rules.proofs.Orders.{good_causal}
-use Rattle.crdt_rules.proofs.Pulling.{pulled_holds, pulled_only}
+use Rattle.crdt_rules.proofs.Orders.{good_once}
+use Rattle.crdt_rules.proofs.Pulling.{pulled_holds, pulled_only, turned}
 use Rattle.crdt_rules.proofs.Room.{length-among, room_among}
 use Rattle.std.proofs.lemmas.List.Elements.{Contains-append_cases}
 use Rattle.converge_laws.specs.Replayed.{MayPull}
@@ -33,23 +33,16 @@ once-append {X} (x ∷ xs) ys once others apart = (
   once-append xs ys once.1 others (λ z c. apart z (Contains-there x xs c)),
 )
 
-once_good : (log : List Op) → IsGood log → EachOnce log
-once_good log good = (good_causal log good).once
-
 -- an operation that is logged is covered by the front of its log
 covered_itself : (log : List Op) (o : Op) → Contains log o → covers (front_of log) o.id ≡ true
 covered_itself log o c = front_of-covers log o o.id c refl (omega arith)
 
 once_pulled : (log other : List Op) → IsGood log → IsGood other → EachOnce (pulled log other)
 once_pulled log other good other_good =
-    once-append log (filter (λ o. not (covers (front_of log) o.id)) other) (once_good log good)
-    (once-filter (λ o. not (covers (front_of log) o.id)) other (once_good other other_good))
+    once-append log (filter (λ o. not (covers (front_of log) o.id)) other) (good_once log good)
+    (once-filter (λ o. not (covers (front_of log) o.id)) other (good_once other other_good))
     (λ o mine theirs.
     both_ways (covers (front_of log) o.id) (not-true (covers (front_of log) o.id) (filter-Contains (λ o. not (covers (front_of log) o.id)) other theirs).1) (covered_itself log o mine))
-
-turned : {A B : Type 0} → A ⊎ B → B ⊎ A
-turned (inl a) = inr a
-turned (inr b) = inl b
 
 -- each way it is the same
 pub may_pull_back : (log other : List Op) → MayPull log other → MayPull other log

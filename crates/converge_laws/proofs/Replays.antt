@@ -1,5 +1,5 @@
 -- Trees that grow with a log.
-use Rattle.std.proofs.Common.{◌≡◌, ℕ, zero, suc, ◌+◌, ◌<◌, List, [], ◌∷◌, ◌++◌, length, take, drop, get_or, Option, Result, Ok, Err, sym, ap, subst, ◌∙◌, refl, arith}
+use Rattle.std.proofs.Common.{◌≡◌, ℕ, suc, ◌<◌, List, [], ◌∷◌, ◌++◌, length, take, drop, get_or, Option, Result, Ok, Err, sym, ap, subst, ◌∙◌, refl}
 use Rattle.std.specs.Prelude.{IfOk}
 use Rattle.std.proofs.Math.Seq.{drop-cons}
 use Rattle.std.proofs.lemmas.List.{take-append-drop}
@@ -24,14 +24,6 @@ facts_of_each ops f good is =
       set = subst (λ g. AreFactsOf ops g) (sym is) (replay_free ops good);
       orders = λ order causal. is ∙ sym (all_orders ops good order causal).1;
     }
-
-take_suc : {X : Type 0} (xs : List X) (i : ℕ) (d : X) → i < length xs → take (suc i) xs ≡ take i xs ++ get_or xs i d ∷ []
-take_suc [] i d h = absurd (omega arith)
-take_suc (x ∷ xs) zero d h = refl
-take_suc (x ∷ xs) (suc i) d h = ap (λ ys. x ∷ ys) (take_suc xs i d (omega arith))
-
-pub take_next : {X : Type 0} (xs : List X) (i : ℕ) (d : X) → i < length xs → take (i + 1) xs ≡ take i xs ++ get_or xs i d ∷ []
-take_next xs i d h = let one : i + 1 ≡ suc i = omega arith in rw one (take_suc xs i d h)
 
 -- each operation of a good list fits those before it, which are good
 pub fits_at : (ops : List Op) (i : ℕ) (d : Op) → IsGood ops → i < length ops → IsGood (take i ops) × Fits (get_or ops i d) (take i ops)

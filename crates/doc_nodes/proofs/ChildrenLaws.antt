@@ -1,27 +1,15 @@
 -- Laws of numbers by key.
-use Rattle.std.proofs.Common.{◌≡◌, ℕ, ◌<◌, suc, List, [], ◌∷◌, length, get_or, Bool, true, false, if◌then◌else◌, Some, None, refl, sym, ap, ◌∙◌, arith}
+use Rattle.std.proofs.Common.{◌≡◌, ◌<◌, List, [], ◌∷◌, length, get_or, Contains, true, false, if◌then◌else◌, Some, None, refl, sym, ap, ◌∙◌}
 use Rattle.op_core.specs.declared.cursor.Key.{Key}
 use Rattle.crdt_rules.specs.Same.{key_eq}
 use Rattle.std.specs.Prelude.{insert}
 use Rattle.doc_nodes.specs.declared.node.NodeNumber.{NodeNumber}
 use Rattle.sorted_lists.specs.Sorted.{get_by}
-use Rattle.sorted_lists.proofs.Bisection.{get-own, get-rank, get-missing}
+use Rattle.sorted_lists.proofs.Bisection.{get-own, get-Contains, get-rank, get-missing}
 use Rattle.sorted_lists.proofs.Insertion.{get-insert_rank, rising-insert}
 use Rattle.doc_nodes.specs.Children.{number_at}
 use Rattle.doc_nodes.specs.KeyOrder.{rank, IsRising}
 use Rattle.doc_nodes.proofs.KeyOrder.{keys_ordered}
-
--- each number that is found stands in an entry
-pub entry_of : (entries : List (Key × NodeNumber)) (k : Key) (c : NodeNumber) → number_at entries k ≡ Some c
-    → (i : ℕ) × (i < length entries) × ((d : Key × NodeNumber) → (get_or entries i d).1 ≡ c)
-entry_of [] k c e = cc
-entry_of (x ∷ entries) k c e = go (key_eq x.0 k) e (entry_of entries k c)
-  where
-    go : (b : Bool) → (if b then Some x.1 else number_at entries k) ≡ Some c
-        → (number_at entries k ≡ Some c → (i : ℕ) × (i < length entries) × ((d : Key × NodeNumber) → (get_or entries i d).1 ≡ c))
-        → (i : ℕ) × (i < length (x ∷ entries)) × ((d : Key × NodeNumber) → (get_or (x ∷ entries) i d).1 ≡ c)
-    go true f ih = (0, omega arith, λ d. cc)
-    go false f ih = let h = ih f in (suc h.0, omega (arith, h.1), h.2)
 
 -- the number at a key is what stands there
 pub number_at-get_by : (entries : List (Key × NodeNumber)) (k : Key) → number_at entries k ≡ get_by key_eq entries k
@@ -30,9 +18,12 @@ number_at-get_by (e ∷ entries) k = ap (λ o. if key_eq e.0 k then Some e.1 els
 
 module _ (entries : List (Key × NodeNumber)) where
   -- the number of each entry is found by its key
-  pub number_at-own : IsRising entries → (i : ℕ) (d : Key × NodeNumber) → i < length entries
-      → number_at entries (get_or entries i d).0 ≡ Some (get_or entries i d).1
-  number_at-own rising i d within = number_at-get_by entries (get_or entries i d).0 ∙ get-own keys_ordered entries rising i d within
+  pub number_at-own : IsRising entries → (e : Key × NodeNumber) → Contains entries e → number_at entries e.0 ≡ Some e.1
+  number_at-own rising e c = number_at-get_by entries e.0 ∙ get-own keys_ordered entries rising e c
+
+  -- and each number that is found stands in an entry
+  pub number_at-Contains : (k : Key) (n : NodeNumber) → number_at entries k ≡ Some n → Contains entries (k, n)
+  number_at-Contains k n e = get-Contains keys_ordered entries k n (sym (number_at-get_by entries k) ∙ e)
 
   -- so is one that is inserted at its rank
   pub number_at-insert_rank : (k : Key) (n : NodeNumber) (j : Key) → number_at entries k ≡ None

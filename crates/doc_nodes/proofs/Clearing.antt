@@ -10,7 +10,7 @@ use Rattle.doc_nodes.specs.declared.node.Node.{Node}
 use Rattle.doc_nodes.specs.Children.{number_at}
 use Rattle.doc_nodes.specs.Walk.{walk, IsTree}
 use Rattle.doc_nodes.specs.Nodes.{blank, node_of, child_of, cleared, ClearsUnder, AreTree}
-use Rattle.doc_nodes.proofs.ChildrenLaws.{entry_of}
+use Rattle.doc_nodes.proofs.ChildrenLaws.{number_at-Contains}
 use Rattle.doc_nodes.proofs.Walks.{parts_of}
 
 pub cleared-cleared : (front : List (List ℕ × ℕ)) (node : Node) → cleared front (cleared front node) ≡ cleared front node
@@ -122,8 +122,8 @@ module _ (front : List (List ℕ × ℕ)) (old new : List Node) (at : NodeNumber
       reached j [] e = let same : at ≡ j = cc in subst (λ z. node_of new z ≡ cleared front (node_of old z)) same first.here
       reached j (k ∷ keys) e =
           let step = parts_of (child_of old) (λ m. walk (child_of old) m keys) (child_of old at k) j e in
-          let entry = entry_of (node_of old at).children k step.0 step.1 in
-          first.below entry.0 (omega (arith, entry.1)) entry.1 (k, step.0) j keys (subst (λ z. walk (child_of old) z keys ≡ Some j) (sym (entry.2 (k, step.0))) step.2)
+          let entry = number_at-Contains (node_of old at).children k step.0 step.1 in
+          first.below entry.0 (omega (arith, entry.1)) entry.1 (k, step.0) j keys (subst (λ z. walk (child_of old) z keys ≡ Some j) (sym (ap (λ (e : Key × NodeNumber). e.1) entry.2)) step.2)
 
 -- the nodes stay a tree
 pub tree-cleared : (front : List (List ℕ × ℕ)) (old new : List Node) → IsPartCleared front old new → length new ≡ length old → AreTree old → AreTree new

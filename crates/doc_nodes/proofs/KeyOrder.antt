@@ -1,5 +1,5 @@
 -- Keys are totally ordered.
-use Rattle.std.proofs.Common.{◌≡◌, ℕ, List, refl, ◌∙◌}
+use Rattle.std.proofs.Common.{◌≡◌, ℕ, List, refl, sym, ap, ◌∙◌}
 use Rattle.std.specs.Ordering.{nat_cmp, is_lt, is_eq, ordering_then}
 use Rattle.std.specs.Cmp.{IsTotalOrder, nat_cmp_total, then_total}
 use Rattle.std.specs.Cmp.Lexicographic.{nat_list_cmp_total}
@@ -13,12 +13,12 @@ use Rattle.op_core.specs.declared.cursor.Key.TheVariants.{Doc, Text, Element, He
 use Rattle.crdt_rules.specs.Same.{key_eq}
 use Rattle.crdt_rules.proofs.SameLaws.{key_decides}
 use Rattle.crdt_rules.proofs.IdOrder.{is_eq-id_cmp}
-use Rattle.presence_set.proofs.Ascending.{id_order}
-use Rattle.sorted_lists.specs.Sorted.{IsKeyOrder}
+use Rattle.crdt_rules.proofs.WalkLaws.{id_order}
+use Rattle.sorted_lists.proofs.Keys.{IsKeyOrder}
 use Rattle.doc_nodes.specs.KeyOrder.{kind_of, text_of, id_of, key_cmp}
 
 pub key_order : IsTotalOrder key_cmp
-key_order = then_total (on_total kind_of nat_cmp_total) (then_total (on_total text_of nat_list_cmp_total) (on_total id_of id_order))
+key_order = then_total (on_total kind_of nat_cmp_total) (then_total (on_total text_of nat_list_cmp_total) (on_total id_of id_order.total))
 
 -- keys that compare alike are one
 pub is_eq-key_cmp : (a b : Key) → is_eq (key_cmp a b) ≡ key_eq a b
@@ -46,7 +46,10 @@ is_eq-key_cmp (Element a) (Element b) = is_eq-id_cmp a b
 
 -- keys go by their order and their test of equality
 pub keys_ordered : IsKeyOrder key_eq key_cmp
-keys_ordered = record { total = key_order; alike = is_eq-key_cmp; same = key_decides.same; itself = key_decides.itself }
+keys_ordered = record {
+  order = record { total = key_order; exact = λ a b e. key_decides.same a b (sym (is_eq-key_cmp a b) ∙ ap is_eq e) };
+  alike = is_eq-key_cmp;
+}
 
 -- texts are compared by their bytes
 pub text_lt : (s t : List ℕ) → is_lt (slice_cmp nat_cmp s t) ≡ is_lt (key_cmp (Text s) (Text t))

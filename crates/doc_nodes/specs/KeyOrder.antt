@@ -5,7 +5,7 @@ use Rattle.std.specs.Cmp.Lexicographic.{slice_cmp}
 use Rattle.std.specs.declared.cmp.Ordering.{Ordering}
 use Rattle.doc_words.specs.Words.{Id, Key, id_cmp}
 use Rattle.op_core.specs.declared.cursor.Key.TheVariants.{Doc, Text, Element, Head}
-use Rattle.sorted_lists.specs.Sorted.{rank_by, IsBelowBy, IsRisingBy}
+use Rattle.sorted_lists.specs.Sorted.{rank_by, KeysRise}
 use Rattle.doc_nodes.specs.declared.node.NodeNumber.{NodeNumber}
 
 abbrev pub kind_of : Key → ℕ
@@ -29,10 +29,6 @@ key_cmp a b = ordering_then (nat_cmp (kind_of a) (kind_of b)) (ordering_then (sl
 abbrev pub rank : List (Key × NodeNumber) → Key → ℕ
 rank = rank_by key_cmp
 
--- a key is less than each of these
-abbrev pub IsBelow : Key → List (Key × NodeNumber) → Type 0
-IsBelow = IsBelowBy key_cmp
-
 -- the keys rise
 abbrev pub IsRising : List (Key × NodeNumber) → Type 0
-IsRising = IsRisingBy key_cmp
+IsRising = KeysRise key_cmp

@@ -1,7 +1,7 @@
 -- Each event keeps what a replica keeps.
 use Rattle.std.proofs.Common.{◌≡◌, ◌≢◌, inl, inr, ℕ, ◌<◌, nat_le, List, length, Bool, true, false, true≢false, ◌&&◌, not, bytes_eq, Option, Some, None, Result, Ok, Err, Contains, refl, sym, ap, subst, arith}
 use Rattle.std.specs.Prelude.{⊤, is_some}
-use Rattle.std.proofs.lemmas.Bool.{both_ways}
+use Rattle.std.proofs.lemmas.Bool.{both_ways, not-true}
 use lib.Pointwise.{bytes_decides}
 use Rattle.doc_words.specs.Words.{Id, Refusal, Op, Cursor, Mutation}
 use Rattle.lamport_id.specs.Name.{is_name}
@@ -20,7 +20,8 @@ use Rattle.doc_words.specs.declared.ask.Command.{Command}
 use Rattle.doc_words.specs.declared.ask.Command.TheVariants.{Change, Deliver, Forget}
 use Rattle.doc_words.specs.declared.reply.Reply.{Reply}
 use Rattle.doc_rules.proofs.Causes.{fits_from}
-use Rattle.doc_rules.proofs.Held.{find_none, filter_from, put_among_from, length-put_among, rising-put_among}
+use Rattle.list_laws.proofs.Filters.{filter-Contains}
+use Rattle.doc_rules.proofs.Held.{find_none, put_among_from, length-put_among, rising-put_among}
 use Rattle.doc_rules.proofs.OwnFits.{unopposed_fits}
 use Rattle.doc_rules.proofs.Tables.{by_rows}
 use Rattle.doc_rules.proofs.Drained.{tidy_from, kept_from, append_tidy, let_go_tidy, drain_keeps}
@@ -84,17 +85,13 @@ has_room false n waits h = few n h
     few : (n : ℕ) → nat_le 256 n ≡ false → n < 256
     few n e = grind arith
 
-not_ready : (ready : Bool) → not ready ≡ true → ready ≡ false
-not_ready true h = absurd (true≢false (sym h))
-not_ready false h = refl
-
 may_hold : (r : Replica) (op : Op) → stands r.log op ≡ false → stands r.held op ≡ false → bytes_eq op.id.replica r.name ≡ false
     → not (is_ready op r.log) ≡ true → (not (is_ready op r.log) && nat_le 256 (length r.held)) ≡ false → MayHold r op
 may_hold r op unlogged unheld foreign waits room = record {
   unlogged = any_none (λ o. id_eq o.id op.id) r.log (none_found r.log op unlogged);
   unheld = none_stands r.held op unheld;
   foreign = λ same. both_ways (bytes_eq op.id.replica r.name) foreign ((bytes_decides op.id.replica r.name).1 same);
-  waits = not_ready (is_ready op r.log) waits;
+  waits = not-true (is_ready op r.log) waits;
   room = has_room (is_ready op r.log) (length r.held) waits room;
 }
 
@@ -130,7 +127,7 @@ forgets_keeps r s i (Some o) reply k h =
     subst IsKept (sym h.1) (kept_from (let_go_tidy i (tidy_from k)) (λ o c. k.waits o (held_before o c)))
   where
     held_before : (o : Op) → Contains (let_go i r).held o → Contains r.held o
-    held_before o c = (filter_from (λ o. not (id_eq o.id i)) r.held c).0
+    held_before o c = (filter-Contains (λ o. not (id_eq o.id i)) r.held c).0
 
 -- ---- changes of one's own
 

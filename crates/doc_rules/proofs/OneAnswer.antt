@@ -1,5 +1,5 @@
 -- What is read of a document is one answer: no reading has two.
-use Rattle.std.proofs.Common.{◌≡◌, inl, inr, ℕ, ℤ, List, [], ◌∷◌, map, Option, Some, Result, Ok, Err, Contains, refl, sym, ap, subst, ◌∙◌, Ordering, Less}
+use Rattle.std.proofs.Common.{◌≡◌, ℕ, ℤ, List, [], ◌∷◌, map, Option, Some, Result, Ok, Err, refl, sym, ap, subst, ◌∙◌, Ordering}
 use Rattle.std.proofs.lemmas.Cmp.{nat_list_cmp_total}
 use Rattle.std.proofs.lemmas.Map.Lookups.{exact_bytes}
 use Rattle.std.proofs.lemmas.Bool.{both_ways}
@@ -7,11 +7,11 @@ use Rattle.std.specs.Prelude.{MatchResult}
 use Rattle.serde_json.specs.Written.{compact_text}
 use Rattle.doc_words.specs.Words.{Id, name_cmp, Refusal, Scalar, Val, Cursor, Key, Tagged}
 use Rattle.op_core.specs.declared.cursor.Key.TheVariants.{Text, Element}
-use Rattle.list_laws.proofs.IdOrder.{IsIdOrder, asymmetric, irreflexive}
-use Rattle.list_laws.proofs.Members.{Contains-nil, Contains-here, Contains-there, Contains-cases}
+use Rattle.list_laws.proofs.IdOrder.{IsIdOrder}
+use Rattle.sorted_lists.proofs.Rising.{rising_same}
 use Rattle.crdt_rules.specs.Facts.{Facts}
 use Rattle.crdt_rules.proofs.WalkLaws.{id_order}
-use Rattle.doc_rules.specs.Sorted.{IsRising, AreAll, AreThose}
+use Rattle.doc_rules.specs.Sorted.{AreAll, AreThose}
 use Rattle.doc_rules.specs.Sorted.AreThose.{none, keep, skip}
 use Rattle.op_core.specs.Shape.{is_head}
 use Rattle.json_scalar.specs.Refusal.{and_then}
@@ -34,37 +34,9 @@ use Rattle.doc_rules.specs.Shown.{Shown, MapShown, ListShown, Fields, Elements, 
 -- ---- lists that hold exactly these
 
 module _ {X K : Type 0} {cmp : K → K → Ordering} (key : X → K) (o : IsIdOrder cmp) where
-  -- of two rising lists with the same members the first elements are one
-  first_same : (x y : X) (xs ys : List X) → IsRising cmp key (x ∷ xs) → IsRising cmp key (y ∷ ys)
-      → Contains (y ∷ ys) x → Contains (x ∷ xs) y → x ≡ y
-  first_same x y xs ys rx ry a b =
-      elim (Contains-cases y ys a) [
-        | inl e ↦ sym e
-        | inr behind ↦ elim (Contains-cases x xs b) [ inl e ↦ e | inr behind' ↦ absurd (asymmetric o (ry.0 x behind) (rx.0 y behind')) ]
-      ]
-
-  -- what stands behind the first is not the first
-  behind_same : (x y : X) (xs ys : List X) → x ≡ y → IsRising cmp key (x ∷ xs) → ((z : X) → Contains (x ∷ xs) z → Contains (y ∷ ys) z)
-      → (z : X) → Contains xs z → Contains ys z
-  behind_same x y xs ys e rx to z c =
-      elim (Contains-cases y ys (to z (Contains-there x xs c))) [
-        | inl is ↦ absurd (irreflexive o (subst (λ w. cmp (key x) (key w) ≡ Less) (sym is ∙ sym e) (rx.0 z c)))
-        | inr behind ↦ behind
-      ]
-
-  pub rising_same : (xs ys : List X) → IsRising cmp key xs → IsRising cmp key ys → ((z : X) → Contains xs z → Contains ys z)
-      → ((z : X) → Contains ys z → Contains xs z) → xs ≡ ys
-  rising_same [] [] rx ry to from = refl
-  rising_same [] (y ∷ ys) rx ry to from = absurd (Contains-nil (from y (Contains-here ys refl)))
-  rising_same (x ∷ xs) [] rx ry to from = absurd (Contains-nil (to x (Contains-here xs refl)))
-  rising_same (x ∷ xs) (y ∷ ys) rx ry to from =
-      let e : x ≡ y = first_same x y xs ys rx ry (to x (Contains-here xs refl)) (from y (Contains-here ys refl)) in
-      let rest : xs ≡ ys = rising_same xs ys rx.1 ry.1 (behind_same x y xs ys e rx to) (behind_same y x ys xs (sym e) ry from) in
-      λ i. e i ∷ rest i
-
   pub all_same : (holds : X → Type 0) (xs ys : List X) → AreAll cmp key holds xs → AreAll cmp key holds ys → xs ≡ ys
   all_same holds xs ys a b =
-      rising_same xs ys a.rising b.rising (λ z c. b.all z (a.each z c)) (λ z c. a.all z (b.each z c))
+      rising_same o key xs ys a.rising b.rising (λ z c. b.all z (a.each z c)) (λ z c. a.all z (b.each z c))
 
 pub those_same : {X : Type 0} {holds : X → Type 0} {xs ys zs : List X} → AreThose holds xs ys → AreThose holds xs zs → ys ≡ zs
 those_same none none = refl

@@ -1,5 +1,5 @@
 -- A replica's own operation fits its log, where no cause stands against it.
-use Rattle.std.proofs.Common.{◌≡◌, inl, inr, ◌+◌, ◌≤◌, nat_le, List, [], ◌∷◌, ◌++◌, length, Bool, true, false, true≢false, ◌&&◌, ◌==◌, not, Option, Ok, Contains, refl, sym, ap, subst, ◌∙◌, arith, le-leb, leb-true, eq-eqb}
+use Rattle.std.proofs.Common.{◌≡◌, ◌+◌, ◌≤◌, nat_le, List, [], ◌∷◌, ◌++◌, length, true, false, ◌&&◌, ◌==◌, not, Option, Ok, Contains, refl, sym, ap, subst, ◌∙◌, arith, le-leb, leb-true, eq-eqb}
 use Rattle.std.specs.List.{list_all}
 use Rattle.std.proofs.lemmas.Bool.{and_parts, and_from}
 use Rattle.doc_words.specs.Words.{Id, Op, Cursor, Key, Tagged, Mutation, Assign, Insert, Delete, Add}
@@ -7,9 +7,8 @@ use Rattle.lamport_id.specs.Name.{is_name}
 use Rattle.op_core.specs.Front.{covers, max_counter, is_ascending}
 use Rattle.op_core.specs.Shape.{is_id, is_entry, is_key, is_tagged, is_mutation, is_head, is_placed, is_shallow, is_allowed, ends_in_list, has_parts, has_form, has_front, key_of}
 use Rattle.op_core.specs.declared.cursor.Key.TheVariants.{Doc, Text, Element, Head}
-use Rattle.list_laws.specs.Order.{ids}
 use Rattle.list_laws.proofs.Histories.{order_of_history}
-use Rattle.list_laws.proofs.Members.{Contains-nil, Contains-here, Contains-there, Contains-cases}
+use Rattle.list_laws.proofs.Members.{map-from}
 use Rattle.crdt_rules.specs.Same.{id_eq, path_eq}
 use Rattle.crdt_rules.specs.Effect.{is_insertion, path_of}
 use Rattle.crdt_rules.specs.Facts.{facts, inserts}
@@ -22,14 +21,14 @@ use Rattle.crdt_rules.proofs.FrontOf.{front_of-covers}
 use Rattle.crdt_rules.proofs.Readings.{element_at}
 use Rattle.crdt_rules.proofs.ReplayOrder.{replay_order, insertion_from, insertions_formed}
 use Rattle.crdt_rules.proofs.SameLaws.{id_decides, path_decides}
-use Rattle.crdt_rules.proofs.Tests.{any_from, all_from}
+use Rattle.crdt_rules.proofs.Tests.{any_from, all_from, not-false}
 use Rattle.crdt_rules.proofs.WalkLaws.{id_order}
 use Rattle.doc_rules.specs.Events.{logged, changed_rows, due_changed, is_past_operations, is_past_replicas}
 use Rattle.doc_rules.proofs.Tables.{by_rows}
 use Rattle.doc_rules.specs.Replica.{Replica, facts_of, next_id, own_op}
 use Rattle.doc_words.specs.declared.place.Step.{Step}
 use Rattle.doc_rules.specs.Resolve.{is_short, stands_in, stands, Resolves}
-use Rattle.doc_rules.proofs.Resolved.{ok≢err, resolved_is_at}
+use Rattle.doc_rules.proofs.Resolved.{resolved_is_at}
 use Rattle.doc_rules.proofs.WholeFront.{front_rising, rising_ascends, front_from, front_last, knows_whole_front, max_counter_below}
 
 -- a logged id is within its limits
@@ -47,20 +46,12 @@ front_entries log good =
 
 -- ---- elements that stand in their lists
 
-ids_from : (history : List (Id × Option Id)) {n : Id} → Contains (ids history) n → (i : Id × Option Id) × Contains history i × (i.0 ≡ n)
-ids_from [] c = absurd (Contains-nil c)
-ids_from (j ∷ history) c =
-    elim (Contains-cases j.0 (ids history) c) [
-      | inl here ↦ (j, Contains-here history refl, here)
-      | inr there ↦ let r = ids_from history there in (r.0, Contains-there j history r.1, r.2)
-    ]
-
 -- a logged insertion made it
 pub element_of : (log : List Op) (p : List Tagged) (i : Id) → IsGood log → Contains ((facts (replay log)).order p) i
     → (o : Op) × Contains log o × (o.id ≡ i) × (inserts o p ≡ true)
 element_of log p i good c =
     let order = order_of_history id_order (insertions log p) (insertions_formed p log good) in
-    let r = ids_from (insertions log p) ((order.members i).0 (subst (λ l. Contains l i) (replay_order p log good) c)) in
+    let r = map-from (λ (j : Id × Option Id). j.0) (insertions log p) ((order.members i).0 (subst (λ l. Contains l i) (replay_order p log good) c)) in
     let s = insertion_from log p r.1 in
     (s.0, s.1, ap (λ e. e.0) s.2 ∙ r.2, s.3)
 
@@ -110,12 +101,8 @@ pub record IsUnopposed (r : Replica) (c : Cursor) (m : Mutation) : Type 0 where
   pub operations : is_past_operations (own_op r c m) r.log ≡ false
   pub replicas : is_past_replicas (own_op r c m) r.log ≡ false
 
-not_false : (b : Bool) → not b ≡ false → b ≡ true
-not_false true h = refl
-not_false false h = absurd (true≢false h)
-
 allowed : (r : Replica) (c : Cursor) (m : Mutation) → IsUnopposed r c m → is_allowed m c ≡ true
-allowed r c (Insert v) h = not_false (ends_in_list c.path) h.listed
+allowed r c (Insert v) h = not-false (ends_in_list c.path) h.listed
 allowed r c (Assign v) h = ap not h.below
 allowed r c Delete h = ap not h.below
 allowed r c (Add n) h = ap not h.below
@@ -124,8 +111,8 @@ own_room : (r : Replica) (c : Cursor) (m : Mutation) → IsUnopposed r c m → H
 own_room r c m h =
     let op = own_op r c m in
     record {
-      operations = leb-true (length (op ∷ r.log)) 100000 (not_false (nat_le (length (op ∷ r.log)) 100000) h.operations);
-      replicas = leb-true (length (replicas (op ∷ r.log))) 256 (not_false (nat_le (length (replicas (op ∷ r.log))) 256) h.replicas);
+      operations = leb-true (length (op ∷ r.log)) 100000 (not-false (nat_le (length (op ∷ r.log)) 100000) h.operations);
+      replicas = leb-true (length (replicas (op ∷ r.log))) 256 (not-false (nat_le (length (replicas (op ∷ r.log))) 256) h.replicas);
     }
 
 next_is_id : (r : Replica) → is_name r.name ≡ true → IsGood r.log → length r.log + 1 ≤ 100000 → is_id (next_id r) ≡ true

@@ -1,7 +1,7 @@
 -- Where steps lead, if they are not refused: a cursor that is placed, in limits, and each of whose elements stands in its list.
 use Rattle.std.proofs.Common.{◌≡◌, inl, inr, ℕ, zero, suc, ◌<◌, nat_le, List, [], ◌∷◌, ◌++◌, length, length-append, append_assoc, Bool, true, false, ◌&&◌, Option, Some, None, option_map, slice_get, Result, Ok, Err, ok_or, if◌then◌else◌, Contains, refl, sym, subst, arith, le-leb}
 use Rattle.std.specs.Prelude.{⊤, MatchResult}
-use Rattle.std.proofs.lemmas.Option.{slice_get_within, get_or_from_slice_get}
+use Rattle.list_laws.proofs.Scanning.{Contains-from_slice_get}
 use Rattle.std.proofs.lemmas.Bool.{and_parts, and_from, or_cases, both_ways}
 use Rattle.doc_words.specs.Words.{Id, Refusal, Cursor, Key, Tagged}
 use Rattle.json_scalar.specs.Refusal.{and_then}
@@ -106,9 +106,6 @@ those_from (keep {x = y} {xs} {kept} h rest) x c =
     elim (Contains-cases y kept c) [ inl is ↦ Contains-here xs is | inr behind ↦ Contains-there y xs (those_from rest x behind) ]
 those_from (skip {x = y} {xs} other rest) x c = Contains-there y xs (those_from rest x c)
 
-get_from : {X : Type 0} (xs : List X) (n : ℕ) {x : X} → slice_get xs n ≡ Some x → Contains xs x
-get_from xs n {x} h = (n, slice_get_within xs n x h, get_or_from_slice_get xs n x x h)
-
 text_is_at : (f : Facts) (c d : Cursor) (text : List ℕ) → IsAt f c → is_head c.key ≡ false → nat_le 30 (length c.path) ≡ false → at_text c text ≡ Ok d → IsAt f d
 text_is_at f c d text is_at on deep h = by (is_short (Text text)) refl h
   where
@@ -128,7 +125,7 @@ index_is_at f c d ids (suc n) is_at on deep those h = by (slice_get ids n) refl 
     by (Some i) e h =
         subst (IsAt f) (ok_same h)
         (moved f c.path (tagged.List c.key) (Element i) is_at on deep refl refl
-        (any_at (id_eq i) (f.order (into_list c.path c.key)) (those_from those i (get_from ids n e)) (id_decides.itself i)))
+        (any_at (id_eq i) (f.order (into_list c.path c.key)) (those_from those i (Contains-from_slice_get ids n _ e)) (id_decides.itself i)))
 
 goes_is_at : (f : Facts) (c d : Cursor) (step : Step) → IsAt f c → Goes f c step (Ok d) → IsAt f d
 goes_is_at f c d (Get text) is_at h =

@@ -5,8 +5,8 @@ use Rattle.std.proofs.lemmas.Bool.{and_parts, both_ways, false_from_ne_true, not
 use Rattle.doc_words.specs.Words.{Id, Scalar, Op, Key, Tagged, Mutation, Assign, Insert, Delete, Add}
 use Rattle.json_scalar.specs.declared.scalar.Val.TheVariants.{Scalar as Plain, EmptyMap, EmptyList}
 use Rattle.list_laws.proofs.Members.{Contains-here, Contains-there}
-use Rattle.crdt_rules.specs.Same.{id_eq}
-use Rattle.crdt_rules.specs.Effect.{clears, marks, scalar_put, value_put}
+use Rattle.crdt_rules.specs.Same.{id_eq, key_eq, path_eq}
+use Rattle.crdt_rules.specs.Effect.{clears, marks, scalar_put, value_put, path_of, end_key}
 use Rattle.crdt_rules.specs.Context.{empty, entered}
 use Rattle.crdt_rules.specs.Facts.{Facts, facts, step_facts, ends_here}
 use Rattle.crdt_rules.specs.Fits.{Fits}
@@ -59,10 +59,15 @@ module _ (p : List Tagged) (k : Key) (i : Id) where
       by true ih = put_value o.mutation (free.value_at scalar_put log p k i)
       by false ih = ih ∙ ap (value_in (role_at log p k i)) (sym (entered-false (scalar_put o.mutation) (free.value_at scalar_put log p k i)))
 
+and_true : (a b : Bool) → b ≡ true → (a && b) ≡ a
+and_true true b h = h
+and_true false b h = refl
+
 pub role_new : (log : List Op) (op : Op) (p : List Tagged) (k : Key) → Fits op log → role_at (log ++ op ∷ []) p k op.id ≡ role_here op p k
 role_new log op p k fits =
     role-behind p k op.id log (op ∷ [])
     (λ o c. false_from_ne_true (ends_here o p k op.id) (λ h. fits_new fits o c ((here_from o p k op.id h).id)))
+    ∙ ap (λ b. if b then role_put op.mutation else role.Through) (and_true (path_eq (path_of op) p && key_eq (end_key op) k) (id_eq op.id op.id) (id_decides.itself op.id))
 
 pub role_old : (log : List Op) (op : Op) (p : List Tagged) (k : Key) (i : Id) → op.id ≢ i → role_at (log ++ op ∷ []) p k i ≡ role_at log p k i
 role_old log op p k i other = role-before p k i log op (false_from_ne_true (ends_here op p k i) (λ h. other ((here_from op p k i h).id)))

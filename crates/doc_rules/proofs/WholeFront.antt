@@ -1,12 +1,12 @@
 -- The front of a whole log: it ascends, each entry is a logged id, and it names the last operation of each replica.
 use Rattle.std.proofs.Common.{◌≡◌, ◌≢◌, ◌⊎◌, inl, inr, ℕ, ◌+◌, ◌≤◌, max, List, [], ◌∷◌, ◌++◌, length, length-append, Bool, true, false, bytes_eq, Option, Some, None, unwrap_or, if◌then◌else◌, Contains, refl, sym, ap, subst, ◌∙◌, arith, Ordering, Less, Equal, Greater}
 use Rattle.std.specs.Ordering.{is_lt}
-use Rattle.std.proofs.lemmas.Bool.{and_from, cases_lt, false_from_ne_true}
+use Rattle.std.proofs.lemmas.Bool.{and_parts, and_from, cases_lt, false_from_ne_true}
 use Rattle.std.proofs.lemmas.List.Elements.{Contains-push_cases}
 use lib.Pointwise.{bytes_decides}
 use Rattle.doc_words.specs.Words.{Id, name_cmp, Op}
 use Rattle.op_core.specs.Front.{id_of, covers, max_counter, is_le, is_ascending}
-use Rattle.list_laws.proofs.IdOrder.{transitive, irreflexive}
+use Rattle.list_laws.proofs.IdOrder.{transitive}
 use Rattle.list_laws.proofs.Members.{Contains-nil, Contains-here, Contains-there, Contains-cases}
 use Rattle.crdt_rules.specs.Dependencies.{entry_of}
 use Rattle.crdt_rules.specs.Fits.{last_counter, knows_front}
@@ -17,8 +17,11 @@ use Rattle.crdt_rules.proofs.Logs.{by_fits, fits_inside}
 use Rattle.crdt_rules.proofs.FrontOf.{front_of-covers}
 use Rattle.crdt_rules.proofs.Readings.{known_from, known_at}
 use Rattle.crdt_rules.proofs.Tests.{all_from}
-use Rattle.doc_rules.specs.Sorted.{IsRising}
-use Rattle.doc_rules.proofs.OneAnswer.{name_order, rising_same}
+use Rattle.crdt_rules.proofs.Ascending.{front_of-ascending}
+use Rattle.sorted_lists.specs.Sorted.{KeysRise}
+use Rattle.sorted_lists.proofs.Keys.{is_Less, less≢equal, less_back}
+use Rattle.sorted_lists.proofs.Rising.{rising_same}
+use Rattle.doc_rules.proofs.OneAnswer.{name_order}
 
 abbrev Entry : Type 0
 Entry = List ℕ × ℕ
@@ -49,36 +52,26 @@ raise_from i (f ∷ front) {e} c = by (name_cmp i.replica f.0) refl c (λ c. rai
           | inr behind ↦ elim (ih behind) [ inl new ↦ inl new | inr old ↦ inr (Contains-there f front old) ]
         ]
 
-greater_back : (a b : List ℕ) → name_cmp a b ≡ Greater → name_cmp b a ≡ Less
-greater_back a b h = let back = name_order.total.antisymm b a in rw (back, h) refl
-
-raise_rising : (i : Id) (front : List Entry) → IsRising name_cmp (λ e. e.0) front → IsRising name_cmp (λ e. e.0) (raise i front)
-raise_rising i [] h = ((λ y c. absurd (Contains-nil c)), tt)
-raise_rising i (f ∷ front) h = by (name_cmp i.replica f.0) refl (raise_rising i front h.1)
-  where
-    by : (r : Ordering) → name_cmp i.replica f.0 ≡ r → IsRising name_cmp (λ e. e.0) (raise i front)
-        → IsRising name_cmp (λ e. e.0) (raise_first r i f front (raise i front))
-    by Less e ih = (
-      (λ y c. elim (Contains-cases f front c) [
-        | inl is ↦ subst (λ (z : Entry). name_cmp i.replica z.0 ≡ Less) is e
-        | inr later ↦ transitive name_order {x = i.replica} {y = f.0} {z = y.0} e (h.0 y later)
-      ]),
-      h,
-    )
-    by Equal e ih = ((λ y c. h.0 y c), h.1)
-    by Greater e ih = (
-      (λ y c. elim (raise_from i front c) [
-        | inl new ↦ subst (λ (z : Entry). name_cmp f.0 z.0 ≡ Less) (sym new) (greater_back i.replica f.0 e)
-        | inr old ↦ h.0 y old
-      ]),
-      ih,
+-- the test of neighbours says it of all
+pub rising_from_ascending : (front : List (List ℕ × ℕ)) → is_ascending front ≡ true → KeysRise name_cmp front
+rising_from_ascending [] h = tt
+rising_from_ascending (e ∷ []) h = ((λ y c. absurd (Contains-nil c)), tt)
+rising_from_ascending (e ∷ f ∷ rest) h =
+    let p = and_parts (is_lt (name_cmp e.0 f.0)) (is_ascending (f ∷ rest)) h in
+    let later = rising_from_ascending (f ∷ rest) p.1 in
+    let next : name_cmp e.0 f.0 ≡ Less = is_Less (name_cmp e.0 f.0) p.0 in (
+      (λ y c.
+          elim (Contains-cases f rest c) [
+            | inl here ↦ subst (λ z. name_cmp e.0 z.0 ≡ Less) here next
+            | inr behind ↦ name_order.total.trans e.0 f.0 y.0 next (later.0 y behind)
+          ]),
+      later,
     )
 
-pub front_rising : (log : List Op) → IsRising name_cmp (λ e. e.0) (front_of log)
-front_rising [] = tt
-front_rising (o ∷ log) = raise_rising o.id (front_of log) (front_rising log)
+pub front_rising : (log : List Op) → KeysRise name_cmp (front_of log)
+front_rising log = rising_from_ascending (front_of log) (front_of-ascending log)
 
-pub rising_ascends : (front : List Entry) → IsRising name_cmp (λ e. e.0) front → is_ascending front ≡ true
+pub rising_ascends : (front : List Entry) → KeysRise name_cmp front → is_ascending front ≡ true
 rising_ascends [] h = refl
 rising_ascends (e ∷ []) h = refl
 rising_ascends (e ∷ f ∷ front) h =
@@ -106,10 +99,7 @@ abbrev raised : Bool → ℕ → Option ℕ → Option ℕ
 raised true counter before = Some (max counter (unwrap_or before 0))
 raised false counter before = before
 
-less_other : (a b : List ℕ) → name_cmp a b ≡ Less → a ≢ b
-less_other a b h e = irreflexive name_order {x = b} (subst (λ z. name_cmp z b ≡ Less) e h)
-
-entry-raise : (i : Id) (front : List Entry) (name : List ℕ) → IsRising name_cmp (λ e. e.0) front
+entry-raise : (i : Id) (front : List Entry) (name : List ℕ) → KeysRise name_cmp front
     → entry_of (raise i front) name ≡ raised (bytes_eq i.replica name) i.counter (entry_of front name)
 entry-raise i [] name h = by (bytes_eq i.replica name)
   where
@@ -124,8 +114,8 @@ entry-raise i (f ∷ front) name h = by (name_cmp i.replica f.0) refl (entry-rai
     before false e less = refl
     before true e less =
         rw (entry_of-none (f ∷ front) name (λ y c same. elim (Contains-cases f front c) [
-          | inl is ↦ less_other i.replica f.0 less ((bytes_decides i.replica name).0 e ∙ sym same ∙ ap (λ (z : Entry). z.0) (sym is))
-          | inr later ↦ less_other i.replica y.0 (transitive name_order {x = i.replica} {y = f.0} {z = y.0} less (h.0 y later)) ((bytes_decides i.replica name).0 e ∙ sym same)
+          | inl is ↦ less≢equal name_order i.replica f.0 less ((bytes_decides i.replica name).0 e ∙ sym same ∙ ap (λ (z : Entry). z.0) (sym is))
+          | inr later ↦ less≢equal name_order i.replica y.0 (transitive name_order {x = i.replica} {y = f.0} {z = y.0} less (h.0 y later)) ((bytes_decides i.replica name).0 e ∙ sym same)
         ]))
         (let top : i.counter ≡ max i.counter 0 = omega arith in ap (λ n. Some n) top)
 
@@ -141,7 +131,7 @@ entry-raise i (f ∷ front) name h = by (name_cmp i.replica f.0) refl (entry-rai
     behind false e greater ih = ih
     behind true e greater ih =
         rw (false_from_ne_true (bytes_eq i.replica name)
-        (λ s. less_other f.0 i.replica (greater_back i.replica f.0 greater) ((bytes_decides f.0 name).0 e ∙ sym ((bytes_decides i.replica name).0 s)))) refl
+        (λ s. less≢equal name_order f.0 i.replica (less_back name_order i.replica f.0 greater) ((bytes_decides f.0 name).0 e ∙ sym ((bytes_decides i.replica name).0 s)))) refl
 
     by : (r : Ordering) → name_cmp i.replica f.0 ≡ r → entry_of (raise i front) name ≡ raised (bytes_eq i.replica name) i.counter (entry_of front name)
         → entry_of (raise_first r i f front (raise i front)) name ≡ raised (bytes_eq i.replica name) i.counter (entry_of (f ∷ front) name)
@@ -161,7 +151,7 @@ front_last (o ∷ log) name =
     by false = refl
 
 -- each entry of a rising front is its replica's
-pub entry_of-at : (front : List Entry) (e : Entry) → IsRising name_cmp (λ e. e.0) front → Contains front e → entry_of front e.0 ≡ Some e.1
+pub entry_of-at : (front : List Entry) (e : Entry) → KeysRise name_cmp front → Contains front e → entry_of front e.0 ≡ Some e.1
 entry_of-at [] e h c = absurd (Contains-nil c)
 entry_of-at (f ∷ front) e h c =
     elim (Contains-cases f front c) [
@@ -169,16 +159,16 @@ entry_of-at (f ∷ front) e h c =
           let same : bytes_eq f.0 e.0 ≡ true = (bytes_decides f.0 e.0).1 (ap (λ (z : Entry). z.0) is) in
           rw same (ap (λ (z : Entry). Some z.1) is)
       | inr behind ↦
-          rw (false_from_ne_true (bytes_eq f.0 e.0) (λ same. less_other f.0 e.0 (h.0 e behind) ((bytes_decides f.0 e.0).0 same)))
+          rw (false_from_ne_true (bytes_eq f.0 e.0) (λ same. less≢equal name_order f.0 e.0 (h.0 e behind) ((bytes_decides f.0 e.0).0 same)))
           (entry_of-at front e h.1 behind)
     ]
 
 -- fronts that rise and say the same of each replica are one
-pub fronts_same : (xs ys : List Entry) → IsRising name_cmp (λ e. e.0) xs → IsRising name_cmp (λ e. e.0) ys → ((name : List ℕ) → entry_of xs name ≡ entry_of ys name) → xs ≡ ys
+pub fronts_same : (xs ys : List Entry) → KeysRise name_cmp xs → KeysRise name_cmp ys → ((name : List ℕ) → entry_of xs name ≡ entry_of ys name) → xs ≡ ys
 fronts_same xs ys rising other_rising same =
-    rising_same (λ (e : Entry). e.0) name_order xs ys rising other_rising (within xs ys rising same) (within ys xs other_rising (λ name. sym (same name)))
+    rising_same name_order (λ (e : Entry). e.0) xs ys rising other_rising (within xs ys rising same) (within ys xs other_rising (λ name. sym (same name)))
   where
-    within : (xs ys : List Entry) → IsRising name_cmp (λ e. e.0) xs → ((name : List ℕ) → entry_of xs name ≡ entry_of ys name) → (e : Entry) → Contains xs e → Contains ys e
+    within : (xs ys : List Entry) → KeysRise name_cmp xs → ((name : List ℕ) → entry_of xs name ≡ entry_of ys name) → (e : Entry) → Contains xs e → Contains ys e
     within xs ys rising same e c = entry_of-Contains ys e.0 e.1 (sym (same e.0) ∙ entry_of-at xs e rising c)
 
 -- ---- in a good log

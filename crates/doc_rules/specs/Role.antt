@@ -4,8 +4,8 @@ use Rattle.doc_words.specs.Words.{Id, Scalar, Val, Key, Tagged, Mutation, Assign
 use Rattle.json_scalar.specs.declared.scalar.Val.TheVariants.{Scalar as Plain, EmptyMap, EmptyList}
 use Rattle.doc_words.specs.declared.role.Role.{Role}
 use Rattle.doc_words.specs.declared.role.Role.TheVariants as role
-use Rattle.crdt_rules.specs.Same.{id_eq}
-use Rattle.crdt_rules.specs.Effect.{value_put, clears, marks}
+use Rattle.crdt_rules.specs.Same.{id_eq, key_eq, path_eq}
+use Rattle.crdt_rules.specs.Effect.{value_put, clears, marks, path_of, end_key}
 use Rattle.crdt_rules.specs.Facts.{Facts, facts, ends_here}
 use Rattle.crdt_rules.specs.Log.{replay}
 
@@ -14,6 +14,7 @@ abbrev pub value_put_at : List Op → List Tagged → Key → Id → Option Val
 value_put_at [] p k i = None
 value_put_at (o ∷ log) p k i = if ends_here o p k i then value_put o.mutation else value_put_at log p k i
 
+-- the role of an operation where it puts a value
 abbrev pub role_of : Val → Role
 role_of (Plain s) = role.Scalar
 role_of EmptyMap = role.Map
@@ -33,7 +34,7 @@ role_at (o ∷ log) p k i = if ends_here o p k i then role_put o.mutation else r
 
 -- what an operation does at a place
 abbrev pub role_here : Op → List Tagged → Key → Role
-role_here op p k = if ends_here op p k op.id then role_put op.mutation else role.Through
+role_here op p k = if path_eq (path_of op) p && key_eq (end_key op) k then role_put op.mutation else role.Through
 
 -- the value that a role and a register's entry tell
 abbrev pub value_in : Role → Option Scalar → Option Val

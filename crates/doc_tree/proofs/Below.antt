@@ -1,19 +1,14 @@
 -- The children of a place, and the places below it.
-use Rattle.std.proofs.Common.{◌≡◌, ℕ, ◌<◌, length, List, [], ◌∷◌, ◌++◌, Bool, true, false, Option, Some, None, if◌then◌else◌, refl, sym, ap, ◌∙◌, arith, true≢false}
-use Rattle.std.specs.Prelude.{option_and_then, is_some, Contains}
+use Rattle.std.proofs.Common.{◌≡◌, ℕ, ◌<◌, length, List, [], ◌∷◌, ◌++◌, Bool, true, false, Option, Some, None, if◌then◌else◌, refl, sym, ap, ◌∙◌, true≢false}
+use Rattle.std.specs.Prelude.{option_and_then, is_some}
 use Rattle.std.specs.Option.{option_map}
 use Rattle.doc_words.specs.Words.{Id, Key, Tagged}
 use Rattle.op_core.specs.declared.cursor.Key.TheVariants.{Doc, Text}
 use Rattle.op_core.specs.declared.cursor.Tagged.TheVariants.{Map as MapAt, List as ListAt}
 use Rattle.op_core.specs.Shape.{key_of, may_follow}
 use Rattle.crdt_rules.specs.Same.{key_eq}
-use Rattle.crdt_rules.proofs.SameLaws.{key_decides}
-use Rattle.list_laws.proofs.Members.{Contains-there}
 use Rattle.doc_nodes.specs.declared.node.NodeNumber.{NodeNumber}
 use Rattle.doc_nodes.specs.declared.node.Node.{Node}
-use Rattle.doc_nodes.specs.Children.{number_at}
-use Rattle.doc_nodes.specs.KeyOrder.{IsRising}
-use Rattle.doc_nodes.proofs.ChildrenLaws.{number_at-own}
 use Rattle.doc_nodes.specs.Walk.{trail, trail_below, list_trail, list_trail_below, walk, root}
 use Rattle.doc_nodes.specs.Nodes.{AreTree, child_of, node_at, list_node_at, role_in, role_at, facts_of}
 use Rattle.doc_nodes.proofs.Walks.{parts_of, walk-append, walk_split}
@@ -81,21 +76,6 @@ list_trail-into (r ∷ p) k = ap (λ o. if◌then◌else◌ {A = Option (List Ke
 
 pub list-into : (nodes : List Node) (p : List Tagged) (k : Key) → list_node_at nodes (p ++ ListAt k ∷ []) ≡ node_at nodes p k
 list-into nodes p k = ap (option_and_then (walk (child_of nodes) root)) (list_trail-into p k)
-
--- what is found by a key is an entry
-pub entry_in : (entries : List (Key × NodeNumber)) (k : Key) (c : NodeNumber) → number_at entries k ≡ Some c → Contains entries (k, c)
-entry_in [] k c e = cc
-entry_in (x ∷ entries) k c e = go (key_eq x.0 k) refl e (entry_in entries k c)
-  where
-    go : (b : Bool) → key_eq x.0 k ≡ b → ◌≡◌ {A = Option NodeNumber} (if b then Some x.1 else number_at entries k) (Some c)
-        → (number_at entries k ≡ Some c → Contains entries (k, c)) → Contains (x ∷ entries) (k, c)
-    go true is f ih = let same : x.1 ≡ c = cc in (0, omega arith, λ i. (key_decides.same x.0 k is i, same i))
-    go false is f ih = Contains-there x entries (ih f)
-
--- and an entry is found by its key
-pub entry_found : (entries : List (Key × NodeNumber)) → IsRising entries → (k : Key) (c : NodeNumber) → Contains entries (k, c) → number_at entries k ≡ Some c
-entry_found entries rising k c h =
-    sym (ap (λ (e : Key × NodeNumber). number_at entries e.0) h.2) ∙ number_at-own entries rising h.0 (k, c) h.1 ∙ ap (λ (e : Key × NodeNumber). Some e.1) h.2
 
 -- the children of a node have greater numbers
 pub child_deeper : (nodes : List Node) → AreTree nodes → (n : NodeNumber) (k : Key) (c : NodeNumber) → child_of nodes n k ≡ Some c → (n.0 < c.0) × (c.0 < length nodes)

@@ -17,7 +17,7 @@ use Rattle.doc_nodes.specs.declared.node.Node.{Node}
 use Rattle.doc_nodes.specs.Walk.{root, walk, trail}
 use Rattle.doc_nodes.specs.Nodes.{node_of, child_of, node_at, list_node_at, ids_in, facts_of, clear_facts_at}
 use Rattle.doc_nodes.specs.Writes.{put_facts, put_role, add_facts, add_role, order_facts, with_entry, IsReadyFor}
-use Rattle.doc_tree.specs.Prepared.{step_role, role_of}
+use Rattle.doc_rules.specs.Role.{step_roles, role_of}
 use Rattle.doc_nodes.proofs.Marking.{shape-set}
 use Rattle.doc_nodes.proofs.WriteFacts.{unwritten}
 
@@ -81,17 +81,17 @@ add_step f op n deps e = told ∙ ap (λ o. step_facts f o deps) (sym (known_mut
     }
 
 module _ (before : List Tagged → Key → Id → Option Role) (op : Op) (deps : Id → Bool) (q : List Tagged) (j : Key) (i : Id) where
-  pub assign_role : (v : Val) → op.mutation ≡ Assign v → put_role before (path_of op) op.cursor.key deps op.id (role_of v) q j i ≡ step_role before op deps q j i
-  assign_role v e = ap (λ o. step_role before o deps q j i) (sym (known_mutation op (Assign v) e))
+  pub assign_role : (v : Val) → op.mutation ≡ Assign v → put_role before (path_of op) op.cursor.key deps op.id (role_of v) q j i ≡ step_roles before op deps q j i
+  assign_role v e = ap (λ o. step_roles before o deps q j i) (sym (known_mutation op (Assign v) e))
 
-  pub insert_role : (v : Val) → op.mutation ≡ Insert v → put_role before (path_of op) (Element op.id) deps op.id (role_of v) q j i ≡ step_role before op deps q j i
-  insert_role v e = ap (λ o. step_role before o deps q j i) (sym (known_mutation op (Insert v) e))
+  pub insert_role : (v : Val) → op.mutation ≡ Insert v → put_role before (path_of op) (Element op.id) deps op.id (role_of v) q j i ≡ step_roles before op deps q j i
+  insert_role v e = ap (λ o. step_roles before o deps q j i) (sym (known_mutation op (Insert v) e))
 
-  pub delete_role : op.mutation ≡ Delete → (if is_within q j (path_of op) op.cursor.key && deps i then None else before q j i) ≡ step_role before op deps q j i
-  delete_role e = ap (λ o. step_role before o deps q j i) (sym (known_mutation op Delete e))
+  pub delete_role : op.mutation ≡ Delete → (if is_within q j (path_of op) op.cursor.key && deps i then None else before q j i) ≡ step_roles before op deps q j i
+  delete_role e = ap (λ o. step_roles before o deps q j i) (sym (known_mutation op Delete e))
 
-  pub add_role_step : (n : ℤ) → op.mutation ≡ Add n → add_role before (path_of op) op.cursor.key op.id Counter q j i ≡ step_role before op deps q j i
-  add_role_step n e = ap (λ o. step_role before o deps q j i) (sym (known_mutation op (Add n) e))
+  pub add_role_step : (n : ℤ) → op.mutation ≡ Add n → add_role before (path_of op) op.cursor.key op.id Counter q j i ≡ step_roles before op deps q j i
+  add_role_step n e = ap (λ o. step_roles before o deps q j i) (sym (known_mutation op (Add n) e))
 
 -- a change of the order of a list leaves the room at a place
 pub ready-linked : (nodes : List Node) (n : NodeNumber) (after : Option Id) (id : Id) → n.0 < length nodes → (p : List Tagged) (k : Key)

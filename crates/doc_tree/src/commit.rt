@@ -15,7 +15,8 @@ ghost use Rattle.doc_nodes.specs.Nodes.{AreTree, node_of, node_at, facts_of, rol
 ghost use Rattle.doc_nodes.specs.Flags.{AreFlagged, AreFlaggedBut};
 ghost use Rattle.doc_nodes.specs.Backing.{AreBacked};
 ghost use Rattle.doc_nodes.specs.Writes.{with_scalar, with_number, add_facts, add_role, put_facts, put_role, order_facts, IsReadyFor};
-ghost use Rattle.doc_tree.specs.Prepared.{AreReady, IsNewElement, IsReadyList, KnowsReference, role_of, step_role};
+ghost use Rattle.doc_rules.specs.Role.{role_of, step_roles};
+ghost use Rattle.doc_tree.specs.Prepared.{AreReady, IsNewElement, IsReadyList, KnowsReference};
 
 use doc_nodes::{
     Node, clear_under, clear_way, count, enter, find, keys, known_list, known_node, link, mark_way,
@@ -35,7 +36,7 @@ pub fn apply(nodes: &mut [Node], aside: Option<Scalar>, op: &Operation)
     requires reference { KnowsReference (facts_of nodes.old) op.now }
     requires new { IsNewElement (facts_of nodes.old) op.now }
     ensures facts { facts_of nodes.new ≡ step_facts (facts_of nodes.old) op.now (covers op.now.front) }
-    ensures roles { (q : List Tagged) (j : Key) (i : Id) → role_at nodes.new q j i ≡ step_role (role_at nodes.old) op.now (covers op.now.front) q j i }
+    ensures roles { (q : List Tagged) (j : Key) (i : Id) → role_at nodes.new q j i ≡ step_roles (role_at nodes.old) op.now (covers op.now.front) q j i }
     ensures tree { AreTree nodes.new }
     ensures flags { AreFlagged nodes.new }
     ensures backed { AreBacked nodes.new }

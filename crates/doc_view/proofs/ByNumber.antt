@@ -19,9 +19,10 @@ use Rattle.doc_nodes.specs.declared.node.NodeNumber.{NodeNumber}
 use Rattle.doc_nodes.specs.Children.{number_at}
 use Rattle.doc_nodes.specs.KeyOrder.{IsRising}
 use Rattle.doc_nodes.specs.Nodes.{node_of, node_at, child_of}
+use Rattle.doc_nodes.proofs.ChildrenLaws.{number_at-own, number_at-Contains}
 use Rattle.doc_nodes.proofs.Places.{same_node}
 use Rattle.doc_tree.specs.Nodes.{tree_facts, tree_number}
-use Rattle.doc_tree.proofs.Below.{entry_found, entry_in, list-into, number-into, present_child}
+use Rattle.doc_tree.proofs.Below.{list-into, number-into, present_child}
 use Rattle.doc_tree.proofs.Reading.{role_read, role_absent, scalar_read, scalar_absent, number_read, number_absent, ids_read, ids_absent}
 use Rattle.doc_rules.specs.Views.{AreElements, AreEntries, AreItems, AreTerms, HaveValues, IsPresent, into_map, into_list}
 use Rattle.doc_rules.specs.Shown.{Shown, shown_data, no_map, no_list, total_shown, entry_data, count_branch}
@@ -81,7 +82,7 @@ module _ (tree : List Node × Option Scalar) (p : List Tagged) (k : Key) (n : No
         ∙ ap (option_and_then (λ m. child_of tree.0 m (Text text))) at
         ∙ ap (λ cs. number_at cs (Text text)) (sym these)
         ∙ ap (number_at children) (sym e)
-        ∙ entry_found children rising child.0 child.1 (i, within, sym is)
+        ∙ number_at-own children rising child (i, within, sym is)
 
     -- each present key of the map is among the children
     pub has_child : (text : List ℕ) (i : Id) → (tree_facts tree).present (into_map p k) (Text text) i ≡ true → (c : NodeNumber) × Contains children (Text text, c)
@@ -90,7 +91,7 @@ module _ (tree : List Node × Option Scalar) (p : List Tagged) (k : Key) (n : No
         let same = same_node tree.0 (node_at tree.0 p k) below.0 n below.2 at in (
           below.1,
           subst (λ (cs : List (Key × NodeNumber)). Contains cs (Text text, below.1)) (sym these)
-              (entry_in (node_of tree.0 n).children (Text text) below.1 (subst (λ m. child_of tree.0 m (Text text) ≡ Some below.1) same below.3)),
+              (number_at-Contains (node_of tree.0 n).children (Text text) below.1 (subst (λ m. child_of tree.0 m (Text text) ≡ Some below.1) same below.3)),
         )
 
 -- what is given at a node is given at its place

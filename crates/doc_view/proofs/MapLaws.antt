@@ -1,7 +1,6 @@
 -- The present texts among children are the keys of a map.
 use Rattle.std.proofs.Common.{◌≡◌, ℕ, ◌+◌, ◌<◌, List, [], ◌∷◌, ◌++◌, length, get_or, take, append-nil, append_assoc, inl, inr, true, refl, sym, ap, ◌∙◌, subst, Contains}
 use Rattle.std.specs.Ordering.{is_lt}
-use Rattle.std.specs.declared.cmp.Ordering.TheVariants.{Less}
 use Rattle.std.proofs.lemmas.List.Elements.{Contains-append_left, Contains-append_right}
 use Rattle.doc_words.specs.Words.{Id, name_cmp, Key, Tagged}
 use Rattle.op_core.specs.declared.cursor.Key.TheVariants.{Doc, Text, Element, Head}
@@ -84,19 +83,10 @@ text_within (child ∷ children) t n c =
       | inr there ↦ Contains-append_right (texts_at child.0) (texts_in children) t (text_within children t n there)
     ]
 
-below_text : (s t : List ℕ) (n : NodeNumber) (children : List (Key × NodeNumber)) → key_order.IsBelow (Text s) children → Contains children (Text t, n)
-    → name_cmp s t ≡ Less
-below_text s t n [] below c = absurd (Contains-nil c)
-below_text s t n (child ∷ children) below c =
-    elim (Contains-cases child children c) [
-      | inl is ↦ is_Less (name_cmp s t) (text_lt s t ∙ subst (λ (x : Key × NodeNumber). is_lt (key_order.key_cmp (Text s) x.0) ≡ true) is below.0)
-      | inr there ↦ below_text s t n children below.1 there
-    ]
-
 texts_rising : (children : List (Key × NodeNumber)) → key_order.IsRising children → IsRising name_cmp (λ (t : List ℕ). t) (texts_in children)
 texts_rising [] rising = tt
 texts_rising ((Text s, n) ∷ children) rising =
-    (λ t c. let at = text_from children t c in below_text s t at.0 children rising.0 at.1, texts_rising children rising.1)
+    (λ t c. let at = text_from children t c in is_Less (name_cmp s t) (text_lt s t ∙ ap is_lt (rising.0 (Text t, at.0) at.1)), texts_rising children rising.1)
 texts_rising ((Doc, n) ∷ children) rising = texts_rising children rising.1
 texts_rising ((Element i, n) ∷ children) rising = texts_rising children rising.1
 texts_rising ((Head, n) ∷ children) rising = texts_rising children rising.1

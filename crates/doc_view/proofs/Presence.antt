@@ -13,7 +13,8 @@ use Rattle.doc_nodes.specs.Flags.{is_some_entry, stands}
 use Rattle.doc_tree.specs.Nodes.{tree_facts, tree_present, tree_role}
 use Rattle.doc_tree.proofs.Reading.{role_read, role_absent}
 use Rattle.doc_rules.specs.Views.{IsPresent}
-use Rattle.doc_view.proofs.Entries.{get-Contains, Contains-get}
+use Rattle.sorted_lists.proofs.Bisection.{get-own, get-Contains}
+use Rattle.presence_set.proofs.Ascending.{ids_ordered}
 
 pub present_role : (tree : List Node × Option Scalar) (p : List Tagged) (k : Key) (i : Id)
     → (tree_facts tree).present p k i ≡ is_some (tree_role tree p k i)
@@ -27,7 +28,7 @@ pub record AreRoles (tree : List Node × Option Scalar) (p : List Tagged) (k : K
 
 module _ {tree : List Node × Option Scalar} {p : List Tagged} {k : Key} {roles : List (Id × Role)} (are : AreRoles tree p k roles) where
   pub role_of : (e : Id × Role) → Contains roles e → tree_role tree p k e.0 ≡ Some e.1
-  role_of e c = sym (are.value e.0) ∙ Contains-get roles are.ascending e c
+  role_of e c = sym (are.value e.0) ∙ get-own ids_ordered roles are.ascending e c
 
   pub present_from : (e : Id × Role) → Contains roles e → (tree_facts tree).present p k e.0 ≡ true
   present_from e c = present_role tree p k e.0 ∙ ap is_some (role_of e c)
@@ -37,7 +38,7 @@ module _ {tree : List Node × Option Scalar} {p : List Tagged} {k : Key} {roles 
     where
       go : (o : Option Role) → get roles i ≡ o → is_some o ≡ true → (role : Role) × Contains roles (i, role)
       go None is some = absurd (cc)
-      go (Some role) is some = (role, get-Contains roles i role is)
+      go (Some role) is some = (role, get-Contains ids_ordered roles i role is)
 
 -- a place is present just if some id stands there
 pub present_decides : (tree : List Node × Option Scalar) (p : List Tagged) (k : Key) (roles : List (Id × Role)) (none : Bool)

@@ -11,7 +11,6 @@ use Rattle.doc_rules.specs.Views.{AreConflicts}
 use Rattle.doc_rules.specs.Role.{value_in}
 use Rattle.doc_rules.specs.Sorted.{IsRising}
 use Rattle.doc_view.specs.TreeValues.{tree_values, with_value, values_told}
-use Rattle.doc_view.proofs.Entries.{rising}
 use Rattle.doc_view.proofs.Presence.{AreRoles, role_of, present_from, entry_from}
 
 pub values_told-push : (scalars : List (Id × Scalar)) (roles : List (Id × Role)) (e : Id × Role)
@@ -79,7 +78,7 @@ pub are_conflicts : (tree : List Node × Option Scalar) (p : List Tagged) (k : K
     → AreRoles tree p k roles → ((i : Id) → get scalars i ≡ (tree_facts tree).register p k i)
     → AreConflicts (tree_facts tree) (tree_values tree) p k (values_told scalars roles)
 are_conflicts tree p k roles scalars are register = record {
-  rising = told_rising scalars roles (rising roles are.ascending);
+  rising = told_rising scalars roles are.ascending;
   each = λ x c. let t = told_from scalars roles x c in (
     present_from are (x.0, t.role) t.stands,
     ap (λ s. option_and_then (λ role. value_in role s) (tree_role tree p k x.0)) (sym (register x.0))

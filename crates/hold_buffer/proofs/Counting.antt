@@ -4,7 +4,7 @@ use Rattle.std.specs.Prelude.{insert, slice_get, IsPermutation}
 use Rattle.std.specs.List.{cons_option}
 use Rattle.std.specs.Ordering.{is_lt}
 use Rattle.std.specs.Option.{option_map}
-use Rattle.std.proofs.lemmas.Bool.{both_ways, false_from_ne_true, cases_lt}
+use Rattle.std.proofs.lemmas.Bool.{both_ways, false_from_ne_true, cases_lt, not-true}
 use Rattle.std.proofs.lemmas.List.{length-append, length-map, map-append, take-append-drop, set_split}
 use Rattle.std.proofs.lemmas.List.Elements.{filter-append, Contains-get_or, Contains-append_left, Contains-append_right, Contains-append_cases}
 use Rattle.std.proofs.lemmas.List.Sorted.{IsPermutation-sym, Contains-permutation}
@@ -12,35 +12,18 @@ use Rattle.slab.specs.Slab.{Slab, get}
 use Rattle.doc_words.specs.Words.{id_cmp, Id, Op}
 use Rattle.crdt_rules.specs.Same.{id_eq}
 use Rattle.doc_rules.specs.Sorted.{IsRising}
-use Rattle.op_log.specs.Sorted.{IsPlace, IsGap}
-use Rattle.list_laws.proofs.Members.{Contains-nil, Contains-here, Contains-there, Contains-cases}
+use Rattle.sorted_lists.specs.Sorted.{IsPlace, IsGap}
+use Rattle.list_laws.proofs.Members.{Contains-here, Contains-there, Contains-insert_cases, Contains-insert_old, Contains-insert_new, split_at, Contains-map, map-from}
 use Rattle.crdt_rules.proofs.SameLaws.{id_decides, eq_from}
-use Rattle.crdt_rules.proofs.Filters.{filter-Contains, Contains-filter, filter-passed, filter-failed}
-use Rattle.doc_rules.proofs.Held.{length-filter}
-use Rattle.op_log.proofs.KeyOrders.{id_order}
-use Rattle.op_log.proofs.Sorted.{less≢equal, IsRising-split, Contains-insert_cases, Contains-insert_old, Contains-insert_new, not_less_back, gap_none, split_at}
+use Rattle.list_laws.proofs.Filters.{filter-Contains, Contains-filter, filter-passed, filter-failed, length-filter}
+use Rattle.crdt_rules.proofs.WalkLaws.{id_order}
+use Rattle.sorted_lists.proofs.Keys.{less≢equal, not_less_back}
+use Rattle.sorted_lists.proofs.Rising.{IsRising-split, gap_none}
 use Rattle.hold_buffer.specs.Order.{operations_of, HoldAlike, IsIndexed, count_waits, ready_ids, one_less, counted_down, waits_for, wait_of}
 use Rattle.hold_buffer.specs.declared.ticket.Ticket.{Ticket}
 use Rattle.hold_buffer.specs.declared.wait.Wait.{Wait}
 use Rattle.hold_buffer.proofs.Waiting.{read_within, others_kept}
-use Rattle.hold_buffer.proofs.WaitLists.{count-middle_own, count-middle_other, count-without, count-one, count-permuted, count-append, count-all, count-none, count-some, not_true, less_lt}
-
-module _ {X Y : Type 0} (f : X → Y) where
-  pub Contains-map : (xs : List X) {x : X} → Contains xs x → Contains (map f xs) (f x)
-  Contains-map [] c = absurd (Contains-nil c)
-  Contains-map (y ∷ xs) {x} c =
-      elim (Contains-cases y xs c) [
-        | inl here ↦ Contains-here (map f xs) (ap f here)
-        | inr there ↦ Contains-there (f y) (map f xs) (Contains-map xs there)
-      ]
-
-  pub map-from : (xs : List X) {y : Y} → Contains (map f xs) y → (x : X) × Contains xs x × (f x ≡ y)
-  map-from [] c = absurd (Contains-nil c)
-  map-from (x ∷ xs) c =
-      elim (Contains-cases (f x) (map f xs) c) [
-        | inl here ↦ (x, Contains-here xs refl, here)
-        | inr there ↦ let r = map-from xs there in (r.0, Contains-there x xs r.1, r.2)
-      ]
+use Rattle.hold_buffer.proofs.WaitLists.{count-middle_own, count-middle_other, count-without, count-one, count-permuted, count-append, count-all, count-none, count-some}
 
 -- ---- the ready ids
 
@@ -262,7 +245,7 @@ pub indexed-removed : (id : Id) {order : List Ticket} {waits : List Wait} {ready
 indexed-removed id {order} {waits} is = record {
   counted = λ t c.
       let r = filter-Contains (λ u. not (id_eq u.id id)) order c in
-      is.counted t r.0 ∙ sym (count-without id t.id waits (λ same. both_ways (id_eq t.id id) (not_true (id_eq t.id id) r.1) (eq_from id_decides t.id id same)));
+      is.counted t r.0 ∙ sym (count-without id t.id waits (λ same. both_ways (id_eq t.id id) (not-true (id_eq t.id id) r.1) (eq_from id_decides t.id id same)));
   held = λ w c.
       let r = filter-Contains (λ v. not (id_eq v.waiter id)) waits c in
       let s = is.held w r.0 in
@@ -271,7 +254,7 @@ indexed-removed id {order} {waits} is = record {
 }
 
 both_less : (a b : Id) → id_cmp a b ≡ Less → id_cmp b a ≡ Less → ⊥
-both_less a b one other = both_ways (is_lt (id_cmp b a)) (not_less_back id_order a b one) (less_lt b a other)
+both_less a b one other = both_ways (is_lt (id_cmp b a)) (not_less_back id_order a b one) (ap is_lt other)
 
 -- an id goes into its gap among rising ids
 pub insert_between : (us vs : List Id) (id : Id) (at : ℕ) → IsGap id_cmp (λ i. i) (us ++ vs) id at → ((i : Id) → Contains us i → id_cmp i id ≡ Less)

@@ -1,7 +1,8 @@
 -- What the buffer keeps of the log stays right.
 use Rattle.std.proofs.Common.{◌≡◌, ◌≢◌, ◌++◌, ◌∷◌, ◌==◌, ◌||◌, ◌↔◌, inl, inr, List, [], map, filter, not, Bool, true, false, Some, Contains, refl, sym, ap, subst, ◌∙◌, arith, true≢false}
 use Rattle.std.specs.Prelude.{IsPermutation}
-use Rattle.std.proofs.lemmas.Bool.{both_ways, cases_lt}
+use Rattle.std.proofs.lemmas.Bool.{both_ways, cases_lt, not-true}
+use Rattle.list_laws.proofs.Members.{Contains-map, map-from}
 use Rattle.std.proofs.lemmas.List.Elements.{Contains-append_left, Contains-append_right, Contains-append_cases}
 use Rattle.std.proofs.lemmas.List.Folds.{list_any-append}
 use Rattle.std.proofs.lemmas.List.Sorted.{IsPermutation-sym, Contains-permutation}
@@ -13,14 +14,14 @@ use Rattle.crdt_rules.specs.Dependencies.{is_logged, is_ready, missing}
 use Rattle.doc_rules.specs.Replica.{put_among}
 use Rattle.crdt_rules.proofs.SameLaws.{id_decides, eq_comm, bool_ext}
 use Rattle.crdt_rules.proofs.Tests.{all_at, all_from}
-use Rattle.crdt_rules.proofs.Filters.{filter-Contains, Contains-filter}
+use Rattle.list_laws.proofs.Filters.{filter-Contains, Contains-filter}
 use Rattle.doc_rules.proofs.Held.{put_among_from}
 use Rattle.hold_buffer.specs.Held.{IsCurrent}
 use Rattle.hold_buffer.specs.Order.{operations_of, IsOrdered, IsIndexed, count_waits, waits_for, wait_of}
 use Rattle.hold_buffer.specs.declared.ticket.Ticket.{Ticket}
 use Rattle.hold_buffer.specs.declared.wait.Wait.{Wait}
-use Rattle.hold_buffer.proofs.WaitLists.{not_true, count-some, count-one}
-use Rattle.hold_buffer.proofs.Counting.{Contains-map, map-from, zero_test, some_test}
+use Rattle.hold_buffer.proofs.WaitLists.{count-some, count-one}
+use Rattle.hold_buffer.proofs.Counting.{zero_test, some_test}
 use Rattle.hold_buffer.proofs.Waiting.{operations-at}
 
 -- ---- readiness is that nothing is lacked
@@ -30,7 +31,7 @@ ready_lacks_none op log ready i c =
     let r = filter-Contains (λ j. not (is_logged log j)) (map id_of op.front) c in
     let e = map-from id_of op.front r.0 in
     let logged = all_at (λ e. is_logged log (id_of e)) op.front ready e.1 in
-    both_ways (is_logged log i) (not_true (is_logged log i) r.1) (subst (λ j. is_logged log j ≡ true) e.2 logged)
+    both_ways (is_logged log i) (not-true (is_logged log i) r.1) (subst (λ j. is_logged log j ≡ true) e.2 logged)
 
 lacks_none_ready : (op : Op) (log : List Op) → ((i : Id) → ¬ (Contains (missing op log) i)) → is_ready op log ≡ true
 lacks_none_ready op log none = all_from (λ e. is_logged log (id_of e)) op.front (λ e c. by (id_of e) (Contains-map id_of op.front c) (is_logged log (id_of e)) refl)
@@ -86,13 +87,13 @@ current-logged held waits log op current o c i = (
   (λ waiting.
       let r = filter-Contains (λ w. not (id_eq w.awaited op.id)) waits waiting in
       let lacked = filter-Contains (λ j. not (is_logged log j)) (map id_of o.front) ((current o c i).0 r.0) in
-      let before = not_true (is_logged log i) lacked.1 in
-      let other = eq_comm id_decides op.id i ∙ not_true (id_eq i op.id) r.1 in
+      let before = not-true (is_logged log i) lacked.1 in
+      let other = eq_comm id_decides op.id i ∙ not-true (id_eq i op.id) r.1 in
       Contains-filter (λ j. not (is_logged (log ++ op ∷ []) j)) (map id_of o.front) lacked.0
       (ap not (logged-push log op i ∙ (λ k. before k || (other k || false))))),
   (λ lacked.
       let r = filter-Contains (λ j. not (is_logged (log ++ op ∷ []) j)) (map id_of o.front) lacked in
-      let none = or_none (is_logged log i) (id_eq op.id i) (sym (logged-push log op i) ∙ not_true (is_logged (log ++ op ∷ []) i) r.1) in
+      let none = or_none (is_logged log i) (id_eq op.id i) (sym (logged-push log op i) ∙ not-true (is_logged (log ++ op ∷ []) i) r.1) in
       Contains-filter (λ w. not (id_eq w.awaited op.id)) waits
       ((current o c i).1 (Contains-filter (λ j. not (is_logged log j)) (map id_of o.front) r.0 (ap not none.0)))
       (ap not (eq_comm id_decides i op.id ∙ none.1))),

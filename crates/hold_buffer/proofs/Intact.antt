@@ -10,8 +10,8 @@ use Rattle.crdt_rules.specs.Same.{id_eq}
 use Rattle.crdt_rules.specs.Dependencies.{is_ready, missing}
 use Rattle.doc_rules.specs.Replica.{put_among}
 use Rattle.doc_rules.proofs.FromLog.{lacks_something}
-use Rattle.doc_rules.proofs.Held.{length-filter}
-use Rattle.op_log.specs.Sorted.{IsGap}
+use Rattle.list_laws.proofs.Filters.{length-filter}
+use Rattle.sorted_lists.specs.Sorted.{IsGap}
 use Rattle.hold_buffer.specs.Held.{Buffer, IsCurrent}
 use Rattle.hold_buffer.specs.Order.{operations_of, IsOrdered, HoldAlike, AreSorted, IsIndexed, IsIntact, waits_for}
 use Rattle.hold_buffer.specs.declared.ticket.Ticket.{Ticket}

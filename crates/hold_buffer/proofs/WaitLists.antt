@@ -13,16 +13,13 @@ use Rattle.op_core.proofs.Fronts.{is_Less}
 use Rattle.crdt_rules.specs.Same.{id_eq}
 use Rattle.list_laws.proofs.Members.{Contains-here}
 use Rattle.crdt_rules.proofs.SameLaws.{id_decides, eq_from}
-use Rattle.crdt_rules.proofs.Filters.{filter-Contains, Contains-filter}
-use Rattle.op_log.proofs.KeyOrders.{id_order}
-use Rattle.op_log.proofs.Sorted.{less_back, not_less_back}
+use Rattle.list_laws.proofs.Filters.{filter-Contains, Contains-filter}
+use Rattle.crdt_rules.proofs.WalkLaws.{id_order}
+use Rattle.sorted_lists.proofs.Keys.{less_back, not_less_back}
 use Rattle.hold_buffer.specs.Order.{AreSorted, count_waits, wait_of, waits_for}
 use Rattle.hold_buffer.specs.declared.wait.Wait.{Wait}
 
 -- ---- the order
-
-pub less_lt : (a b : Id) → id_cmp a b ≡ Less → is_lt (id_cmp a b) ≡ true
-less_lt a b h = ap is_lt h
 
 -- what is not less than one, and less than another
 pub less_below : (v w k : Id) → is_lt (id_cmp v w) ≡ false → is_lt (id_cmp v k) ≡ true → is_lt (id_cmp w k) ≡ true
@@ -30,24 +27,16 @@ less_below v w k none less = by (id_cmp w k) refl
   where
     by : (r : Ordering) → id_cmp w k ≡ r → is_lt r ≡ true
     by Less e = refl
-    by Equal e = absurd (true≢false (sym (subst (λ z. is_lt (id_cmp v z) ≡ true) (sym (id_order.tied w k e)) less) ∙ none))
-    by Greater e = absurd (true≢false (sym (less_lt v w (id_order.total.trans v k w (is_Less (id_cmp v k) less) (less_back id_order w k e))) ∙ none))
+    by Equal e = absurd (true≢false (sym (subst (λ z. is_lt (id_cmp v z) ≡ true) (sym (id_order.exact w k e)) less) ∙ none))
+    by Greater e = absurd (true≢false (sym (ap is_lt (id_order.total.trans v k w (is_Less (id_cmp v k) less) (less_back id_order w k e))) ∙ none))
 
 pub more_above : (v w k : Id) → is_lt (id_cmp v w) ≡ false → is_lt (id_cmp k w) ≡ true → is_lt (id_cmp k v) ≡ true
 more_above v w k none less = by (id_cmp k v) refl
   where
     by : (r : Ordering) → id_cmp k v ≡ r → is_lt r ≡ true
     by Less e = refl
-    by Equal e = absurd (true≢false (sym (subst (λ z. is_lt (id_cmp z w) ≡ true) (id_order.tied k v e) less) ∙ none))
-    by Greater e = absurd (true≢false (sym (less_lt v w (id_order.total.trans v k w (less_back id_order k v e) (is_Less (id_cmp k w) less))) ∙ none))
-
-pub not_true : (b : Bool) → not b ≡ true → b ≡ false
-not_true true h = sym h
-not_true false h = refl
-
-pub not_false : (b : Bool) → not b ≡ false → b ≡ true
-not_false true h = refl
-not_false false h = sym h
+    by Equal e = absurd (true≢false (sym (subst (λ z. is_lt (id_cmp z w) ≡ true) (id_order.exact k v e) less) ∙ none))
+    by Greater e = absurd (true≢false (sym (ap is_lt (id_order.total.trans v k w (less_back id_order k v e) (is_Less (id_cmp k w) less))) ∙ none))
 
 -- a test that passes all that is not greater than what it passes
 pub parted : (p : Wait → Bool) → ((v w : Wait) → is_lt (id_cmp v.awaited w.awaited) ≡ false → p v ≡ true → p w ≡ true) → (waits : List Wait) → AreSorted waits → IsPartitionedBy p waits
@@ -129,9 +118,9 @@ neither_less : (a b : Id) → is_lt (id_cmp a b) ≡ false → is_lt (id_cmp b a
 neither_less a b none back = by (id_cmp a b) refl
   where
     by : (r : Ordering) → id_cmp a b ≡ r → a ≡ b
-    by Less e = absurd (both_ways (is_lt (id_cmp a b)) none (less_lt a b e))
-    by Equal e = id_order.tied a b e
-    by Greater e = absurd (both_ways (is_lt (id_cmp b a)) back (less_lt b a (less_back id_order a b e)))
+    by Less e = absurd (both_ways (is_lt (id_cmp a b)) none (ap is_lt e))
+    by Equal e = id_order.exact a b e
+    by Greater e = absurd (both_ways (is_lt (id_cmp b a)) back (ap is_lt (less_back id_order a b e)))
 
 -- where the waits for an id begin and end
 module _ (id : Id) (waits : List Wait) (s e : ℕ) (low : s ≤ length waits) (high : e ≤ length waits)

@@ -15,13 +15,14 @@ use Rattle.crdt_rules.specs.Same.{id_eq}
 use Rattle.doc_rules.specs.Replica.{find_id}
 use Rattle.crdt_rules.specs.Dependencies.{is_logged}
 use Rattle.doc_rules.specs.Sorted.{IsRising}
-use Rattle.op_log.specs.Sorted.{IsPlace, IsGap}
-use Rattle.list_laws.proofs.Members.{Contains-nil, Contains-here, Contains-there, Contains-cases}
+use Rattle.sorted_lists.specs.Sorted.{IsPlace, IsGap}
+use Rattle.list_laws.proofs.Members.{Contains-nil, Contains-here, Contains-there, Contains-cases, Contains-take, Contains-drop, Contains-insert_cases}
 use Rattle.crdt_rules.proofs.SameLaws.{id_decides}
 use Rattle.crdt_rules.proofs.Tests.{some_same, some≢none}
-use Rattle.crdt_rules.proofs.Filters.{filter-failed}
-use Rattle.op_log.proofs.KeyOrders.{id_order}
-use Rattle.op_log.proofs.Sorted.{less≢equal, not_less_back, gap_none, keys_once, IsRising-insert, IsRising-split, Contains-take, Contains-drop, Contains-insert_cases}
+use Rattle.list_laws.proofs.Filters.{filter-failed}
+use Rattle.crdt_rules.proofs.WalkLaws.{id_order}
+use Rattle.sorted_lists.proofs.Keys.{less≢equal, not_less_back}
+use Rattle.sorted_lists.proofs.Rising.{gap_none, keys_once, IsRising-insert, IsRising-split}
 use Rattle.op_log.proofs.Ids.{find_id-Contains, find_id-Some, find_id-none, is_logged-find_id}
 use Rattle.doc_rules.specs.Replica.{put_among}
 use Rattle.hold_buffer.specs.Held.{hold_cause}

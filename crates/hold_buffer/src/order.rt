@@ -5,7 +5,7 @@ ghost use Rattle.slab.specs.Slab.{HasRoomFor};
 ghost use Rattle.doc_words.specs.Words.{id_cmp, UnlessMemory};
 ghost use Rattle.crdt_rules.specs.Same.{id_eq};
 ghost use Rattle.doc_rules.specs.Sorted.{IsRising};
-ghost use Rattle.op_log.specs.Sorted.{IsPlace, IsGap};
+ghost use Rattle.sorted_lists.specs.Sorted.{IsPlace, IsGap};
 ghost use Rattle.crdt_rules.specs.Dependencies.{missing};
 ghost use Rattle.doc_rules.specs.Replica.{find_id, put_among};
 ghost use Rattle.hold_buffer.specs.Held.{hold_cause};

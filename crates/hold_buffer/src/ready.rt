@@ -5,7 +5,7 @@ ghost use Rattle.std.specs.declared.cmp.Ordering.TheVariants.{Less};
 ghost use Rattle.doc_words.specs.Words.{id_cmp, Id};
 ghost use Rattle.crdt_rules.specs.Same.{id_eq};
 ghost use Rattle.doc_rules.specs.Sorted.{IsRising};
-ghost use Rattle.op_log.specs.Sorted.{IsPlace, IsGap};
+ghost use Rattle.sorted_lists.specs.Sorted.{IsPlace, IsGap};
 ghost use Rattle.hold_buffer.specs.Order.{HoldAlike, IsIndexed, ready_ids, counted_down};
 
 use crate::order::search;

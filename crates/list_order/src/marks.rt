@@ -173,15 +173,15 @@ fn set_block(marks: &mut Vec<Mark>, n: SlotNumber, block: usize) -> bool
 }
 
 /// Closes a block that is long enough, where there is room for one.
-fn closed(blocks: &mut Vec<Block>, open: Open, end: Option<SlotNumber>) -> Open
-    ensures { IsClosed blocks.old.items blocks.new.items open.present end result.present }
+fn closed(blocks: &mut Vec<Block>, rest: Open, end: Option<SlotNumber>) -> Open
+    ensures { IsClosed blocks.old.items blocks.new.items rest.present end result.present }
 {
-    if open.len >= BLOCK_LEN && blocks.len() < blocks.capacity() {
+    if rest.len >= BLOCK_LEN && blocks.len() < blocks.capacity() {
         let last = blocks.len();
         match blocks.insert(
             last,
             Block {
-                present: open.present,
+                present: rest.present,
                 end,
             },
         ) {
@@ -190,7 +190,7 @@ fn closed(blocks: &mut Vec<Block>, open: Open, end: Option<SlotNumber>) -> Open
         }
         Open { len: 0, present: 0 }
     } else {
-        open
+        rest
     }
 }
 
@@ -202,16 +202,16 @@ fn recut(slots: &[Slot], first: Option<SlotNumber>, marks: &mut Vec<Mark>, block
     ensures capacity { vec_capacity marks.new ≡ vec_capacity marks.old }
 {
     blocks.clear();
-    let mut open = Open { len: 0, present: 0 };
+    let mut rest = Open { len: 0, present: 0 };
     let mut at = first;
     while let Some(n) = at {
         let is_present = set_block(marks, n, blocks.len());
         at = slot_at(slots, n).next;
         let longer = Open {
-            len: open.len.saturating_add(1),
-            present: open.present + bit(is_present),
+            len: rest.len.saturating_add(1),
+            present: rest.present + bit(is_present),
         };
-        open = closed(blocks, longer, at);
+        rest = closed(blocks, longer, at);
     }
 }
 

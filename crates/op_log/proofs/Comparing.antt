@@ -11,9 +11,10 @@ use Rattle.op_core.specs.Shape.{is_shaped, is_shallow, has_form, has_front}
 use Rattle.list_laws.proofs.Members.{Contains-here, Contains-there, Contains-cases}
 use Rattle.crdt_rules.proofs.Tests.{any_none}
 use Rattle.op_log.proofs.Cursors.{drop_at}
-use Rattle.op_log.proofs.Fronts.{NamesRise, rising_from_ascending, names_differ}
-use Rattle.op_log.proofs.KeyOrders.{name_order}
-use Rattle.op_log.proofs.Sorted.{less≢equal, less_back}
+use Rattle.doc_rules.proofs.WholeFront.{rising_from_ascending}
+use Rattle.op_log.proofs.Fronts.{NamesRise, names_differ}
+use Rattle.doc_rules.proofs.OneAnswer.{name_order}
+use Rattle.sorted_lists.proofs.Keys.{less≢equal, less_back}
 
 -- an entry whose name is less than all of a front
 pub below_all : (e : List ℕ × ℕ) (n : List ℕ × ℕ) (others : List (List ℕ × ℕ)) → NamesRise (n ∷ others) → name_cmp e.0 n.0 ≡ Less
@@ -49,7 +50,7 @@ le_less e rest n others ascends less =
 pub le_equal : (e : List ℕ × ℕ) (rest : List (List ℕ × ℕ)) (n : List ℕ × ℕ) (others : List (List ℕ × ℕ)) → is_ascending (e ∷ rest) ≡ true → is_ascending (n ∷ others) ≡ true
     → name_cmp e.0 n.0 ≡ Equal → is_le (e ∷ rest) (n ∷ others) ≡ (nat_le e.1 n.1 && is_le rest others)
 le_equal e rest n others ascends other_ascends equal =
-    let same : e.0 ≡ n.0 = name_order.tied e.0 n.0 equal in
+    let same : e.0 ≡ n.0 = name_order.exact e.0 n.0 equal in
     let rise = rising_from_ascending (e ∷ rest) ascends in
     let other_rise = rising_from_ascending (n ∷ others) other_ascends in
     let apart : covers others (id_of e) ≡ false =

@@ -1,41 +1,22 @@
 -- Fronts: their order, and what one says of a replica after a change.
 use Rattle.std.proofs.Common.{◌≡◌, ◌≢◌, ℕ, ◌<◌, ◌⊎◌, inl, inr, zero, suc, List, [], ◌∷◌, ◌++◌, length, take, drop, get_or, set, Bool, true, false, bytes_eq, Some, None, if◌then◌else◌, Contains, refl, sym, ap, subst, ◌∙◌, arith, Less}
 use Rattle.std.specs.Prelude.{insert}
-use Rattle.std.specs.Ordering.{is_lt}
-use Rattle.std.proofs.lemmas.Bool.{and_parts, and_from, false_from_ne_true}
+use Rattle.std.proofs.lemmas.Bool.{false_from_ne_true}
 use Rattle.std.proofs.lemmas.List.{take-append-drop}
 use Rattle.std.proofs.lemmas.List.Elements.{Contains-get_or}
 use lib.Pointwise.{bytes_decides}
 use Rattle.lamport_id.specs.Order.{name_cmp}
-use Rattle.op_core.specs.Front.{is_ascending}
 use Rattle.crdt_rules.specs.Dependencies.{entry_of}
 use Rattle.op_log.specs.Front.{PutsEntry}
-use Rattle.doc_rules.specs.Sorted.{IsRising}
 use Rattle.doc_rules.proofs.WholeFront.{entry_of-at, entry_of-none}
-use Rattle.op_log.specs.Sorted.{IsPlace, IsGap}
-use Rattle.op_core.proofs.Fronts.{is_Less}
-use Rattle.list_laws.proofs.Members.{Contains-nil, Contains-here, Contains-there, Contains-cases}
-use Rattle.op_log.proofs.Sorted.{less≢equal, gap_none, Contains-take, IsRising-insert}
-use Rattle.op_log.proofs.KeyOrders.{name_order}
+use Rattle.sorted_lists.specs.Sorted.{KeysRise, IsPlace, IsGap}
+use Rattle.list_laws.proofs.Members.{Contains-here, Contains-there, Contains-cases, Contains-take}
+use Rattle.sorted_lists.proofs.Keys.{less≢equal}
+use Rattle.sorted_lists.proofs.Rising.{gap_none, IsRising-insert}
+use Rattle.doc_rules.proofs.OneAnswer.{name_order}
 
 abbrev pub NamesRise : List (List ℕ × ℕ) → Type 0
-NamesRise = IsRising name_cmp (λ e. e.0)
-
--- the test of neighbours says it of all
-pub rising_from_ascending : (front : List (List ℕ × ℕ)) → is_ascending front ≡ true → NamesRise front
-rising_from_ascending [] h = tt
-rising_from_ascending (e ∷ []) h = ((λ y c. absurd (Contains-nil c)), tt)
-rising_from_ascending (e ∷ f ∷ rest) h =
-    let p = and_parts (is_lt (name_cmp e.0 f.0)) (is_ascending (f ∷ rest)) h in
-    let later = rising_from_ascending (f ∷ rest) p.1 in
-    let next : name_cmp e.0 f.0 ≡ Less = is_Less (name_cmp e.0 f.0) p.0 in (
-      (λ y c.
-          elim (Contains-cases f rest c) [
-            | inl here ↦ subst (λ z. name_cmp e.0 z.0 ≡ Less) here next
-            | inr behind ↦ (name_order.total).trans e.0 f.0 y.0 next (later.0 y behind)
-          ]),
-      later,
-    )
+NamesRise = KeysRise name_cmp
 
 pub names_differ : (a b : List ℕ) → a ≢ b → bytes_eq a b ≡ false
 names_differ a b other = false_from_ne_true (bytes_eq a b) (λ h. other ((bytes_decides a b).0 h))

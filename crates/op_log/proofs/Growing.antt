@@ -17,7 +17,7 @@ use Rattle.crdt_rules.proofs.Tests.{some_same, some≢none}
 use Rattle.op_log.specs.Front.{PutsEntry}
 use Rattle.op_log.specs.Index.{StandsAt, IsLink, AreLinks, IsLast, AreLasts, IsFirstFrom, IsIndexed}
 use Rattle.op_log.specs.declared.index.Link.{Link}
-use Rattle.op_log.proofs.Fronts.{rising_from_ascending}
+use Rattle.doc_rules.proofs.WholeFront.{rising_from_ascending}
 use Rattle.op_log.proofs.Ids.{find_id-none}
 use Rattle.op_log.proofs.Indexes.{slice_get-push_old, slice_get-push_new, slice_get-push_cases, stands-within, placed, first_here}
 use Rattle.op_log.proofs.LastCounters.{IsFrontOf-push}

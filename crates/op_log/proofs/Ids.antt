@@ -11,9 +11,8 @@ use Rattle.crdt_rules.specs.Fits.{is_element}
 use Rattle.crdt_rules.specs.Same.{id_eq, path_eq}
 use Rattle.doc_rules.specs.Replica.{find_id}
 use Rattle.crdt_rules.specs.Dependencies.{is_logged}
-use Rattle.list_laws.proofs.Members.{Contains-nil, Contains-here, Contains-there, Contains-cases}
+use Rattle.list_laws.proofs.Members.{Contains-nil, Contains-here, Contains-there, Contains-cases, Contains-map}
 use Rattle.crdt_rules.proofs.SameLaws.{id_decides}
-use Rattle.crdt_rules.proofs.GoodLogs.{ids-at}
 use Rattle.crdt_rules.proofs.Tests.{any_none}
 use Rattle.crdt_rules.proofs.Tests.{some_same, some≢none}
 
@@ -33,7 +32,7 @@ find_id-Contains (z ∷ log) i {o} once c is =
           let same : id_eq z.id i ≡ true = subst (λ j. id_eq z.id j ≡ true) (ap (λ x. x.id) here ∙ is) (id_decides.itself z.id) in
           rw same (ap (λ (x : Op). Some x) here)
       | inr there ↦
-          let other : z.id ≢ i = λ e. once.0 (subst (Contains (map (λ x. x.id) log)) (is ∙ sym e) (ids-at log there)) in
+          let other : z.id ≢ i = λ e. once.0 (subst (Contains (map (λ x. x.id) log)) (is ∙ sym e) (Contains-map (λ (x : Op). x.id) log there)) in
           rw (ids_differ z.id i other) (find_id-Contains log i once.1 there is)
     ]
 
@@ -80,7 +79,7 @@ module _ (test : Op → Bool) where
           let none : list_any (λ o. id_eq o.id i && test o) log ≡ false =
           any_none (λ o. id_eq o.id i && test o) log
           (λ o c. false_from_ne_true (id_eq o.id i && test o)
-          (λ both. once.0 (subst (Contains (map (λ y. y.id) log)) (id_decides.same o.id i (and_parts (id_eq o.id i) (test o) both).0 ∙ sym is) (ids-at log c)))) in
+          (λ both. once.0 (subst (Contains (map (λ y. y.id) log)) (id_decides.same o.id i (and_parts (id_eq o.id i) (test o) both).0 ∙ sym is) (Contains-map (λ (y : Op). y.id) log c)))) in
           ap (λ b. test z || b) none ∙ or-false (test z) ∙ ap test (some_same found)
       by false other found ih = ih found
 

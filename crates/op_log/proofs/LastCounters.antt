@@ -1,25 +1,24 @@
 -- The last counters of the replicas of a log, and the front that has them.
-use Rattle.std.proofs.Common.{◌≡◌, ℕ, ◌+◌, ◌≤◌, max, inl, inr, List, [], ◌∷◌, ◌++◌, length, map, Bool, true, false, bytes_eq, Option, Some, None, unwrap_or, if◌then◌else◌, ◌||◌, nat_lt, nat_le, le-leb, Contains, refl, sym, ap, subst, ◌∙◌, arith}
+use Rattle.std.proofs.Common.{◌≡◌, ℕ, ◌+◌, ◌≤◌, max, List, [], ◌∷◌, ◌++◌, length, map, Bool, true, false, bytes_eq, Option, Some, None, unwrap_or, if◌then◌else◌, ◌||◌, nat_lt, nat_le, le-leb, Contains, refl, sym, ap, subst, ◌∙◌, arith}
 use Rattle.std.specs.Prelude.{is_some}
 use Rattle.std.specs.List.{list_any}
 use Rattle.std.proofs.lemmas.List.{length-map}
 use lib.Pointwise.{bytes_decides}
 use Rattle.op_core.specs.Front.{max_counter}
 use Rattle.op_core.specs.Op.{Op}
-use Rattle.list_laws.specs.Order.{EachOnce}
 use Rattle.crdt_rules.specs.Dependencies.{entry_of}
 use Rattle.op_log.specs.Front.{PutsEntry, IsFrontOf}
 use Rattle.crdt_rules.specs.Fits.{last_counter}
 use Rattle.crdt_rules.specs.Fits.{Fits, replicas}
-use Rattle.list_laws.proofs.Members.{Contains-nil, Contains-here, Contains-there, Contains-cases}
+use Rattle.list_laws.proofs.Members.{Contains-here, Contains-there, Contains-map, map-from}
 use Rattle.crdt_rules.proofs.Tests.{any_at, any_none}
 use Rattle.crdt_rules.proofs.Fronts.{entry-max_counter, shaped_counter, entry_of-Contains}
 use Rattle.crdt_rules.proofs.LastCounter.{below_last}
 use Rattle.crdt_rules.proofs.Tests.{some≢none}
-use Rattle.doc_rules.proofs.WholeFront.{entry_of-at}
-use Rattle.op_log.proofs.Fronts.{NamesRise, rising_from_ascending}
-use Rattle.op_log.proofs.KeyOrders.{name_order}
-use Rattle.op_log.proofs.Sorted.{less≢equal}
+use Rattle.doc_rules.proofs.WholeFront.{entry_of-at, rising_from_ascending}
+use Rattle.op_log.proofs.Fronts.{NamesRise}
+use Rattle.doc_rules.proofs.OneAnswer.{name_order}
+use Rattle.sorted_lists.proofs.Rising.{keys_once}
 use Rattle.crdt_rules.proofs.Room.{length-among, replicas-at, replicas-from, replicas-once}
 
 -- after one more operation
@@ -76,39 +75,18 @@ pub IsFrontOf-push : (op : Op) (log : List Op) (old new : List (List ℕ × ℕ)
 IsFrontOf-push op log old new fits front rise puts name =
     puts name ∙ ap (λ l. if bytes_eq op.id.replica name then Some op.id.counter else l) (front.last name) ∙ sym (last_counter-fits op log name fits)
 
-names-from : (xs : List (List ℕ × ℕ)) {n : List ℕ} → Contains (map (λ z. z.0) xs) n → (f : List ℕ × ℕ) × Contains xs f × (f.0 ≡ n)
-names-from [] c = absurd (Contains-nil c)
-names-from (f ∷ xs) c =
-    elim (Contains-cases f.0 (map (λ z. z.0) xs) c) [
-      | inl here ↦ (f, Contains-here xs refl, here)
-      | inr there ↦ let r = names-from xs there in (r.0, Contains-there f xs r.1, r.2)
-    ]
-
--- a front has one entry for each replica of its log
-names_once : (front : List (List ℕ × ℕ)) → NamesRise front → EachOnce (map (λ e. e.0) front)
-names_once [] r = tt
-names_once (e ∷ front) r = ((λ c. let f = names-from front c in less≢equal name_order e.0 (f.0).0 (r.0 f.0 f.1) (sym f.2)), names_once front r.1)
-
-names-at : (xs : List (List ℕ × ℕ)) {f : List ℕ × ℕ} → Contains xs f → Contains (map (λ z. z.0) xs) f.0
-names-at [] c = absurd (Contains-nil c)
-names-at (g ∷ xs) c =
-    elim (Contains-cases g xs c) [
-      | inl here ↦ Contains-here (map (λ z. z.0) xs) (ap (λ z. z.0) here)
-      | inr there ↦ Contains-there g.0 (map (λ z. z.0) xs) (names-at xs there)
-    ]
-
 pub length-front : (log : List Op) (front : List (List ℕ × ℕ)) → IsFrontOf log front → length front ≡ length (replicas log)
 length-front log front is =
     let rise = rising_from_ascending front is.ascending in
     let names = map (λ (e : List ℕ × ℕ). e.0) front in
-    let few : length names ≤ length (replicas log) = length-among names (replicas log) (names_once front rise) (λ n c. in_log rise n c) in
+    let few : length names ≤ length (replicas log) = length-among names (replicas log) (keys_once name_order (λ (e : List ℕ × ℕ). e.0) front rise) (λ n c. in_log rise n c) in
     let many : length (replicas log) ≤ length names = length-among (replicas log) names (replicas-once log) (λ n c. in_front n c) in
     let same : length names ≡ length front = length-map front (λ e. e.0) in
     omega arith
   where
     in_log : NamesRise front → (n : List ℕ) → Contains (map (λ e. e.0) front) n → Contains (replicas log) n
     in_log rise n c =
-        let f = names-from front c in
+        let f = map-from (λ (e : List ℕ × ℕ). e.0) front c in
         let found : last_counter log n ≡ Some (f.0).1 = sym (is.last n) ∙ subst (λ m. entry_of front m ≡ Some (f.0).1) f.2 (entry_of-at front f.0 rise f.1) in
         let o = last_counter-Some log n (f.0).1 found in
         subst (Contains (replicas log)) o.2 (replicas-at log o.1)
@@ -117,7 +95,7 @@ length-front log front is =
     in_front n c =
         let o = replicas-from log c in
         let l = below_last log o.0 n o.1 o.2 in
-        names-at front (entry_of-Contains front n l.0 (is.last n ∙ l.1))
+        Contains-map (λ (e : List ℕ × ℕ). e.0) front (entry_of-Contains front n l.0 (is.last n ∙ l.1))
 
 -- a replica has a last counter where it is one of the log's
 pub is_replica : (log : List Op) (name : List ℕ) → list_any (bytes_eq name) (replicas log) ≡ is_some (last_counter log name)

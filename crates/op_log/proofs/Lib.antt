@@ -1,5 +1,3 @@
-pub mod Sorted
-pub mod KeyOrders
 pub mod Ids
 pub mod Fronts
 pub mod LastCounters

@@ -10,8 +10,7 @@ use Rattle.crdt_rules.proofs.Fronts.{covers_at, entry_of-Contains}
 use Rattle.doc_rules.specs.Answers.{since}
 use Rattle.op_log.specs.Index.{StandsAt, AreLasts, IsLast, IsFirstFrom, CoversChain, CoversBefore}
 use Rattle.op_log.proofs.Cursors.{take_at}
-use Rattle.doc_rules.proofs.WholeFront.{entry_of-at}
-use Rattle.op_log.proofs.Fronts.{rising_from_ascending}
+use Rattle.doc_rules.proofs.WholeFront.{entry_of-at, rising_from_ascending}
 use Rattle.op_log.proofs.Indexes.{rises_up_to}
 
 -- up to a counter that the front has for the replica, its operations are covered

@@ -2,9 +2,8 @@
 use Rattle.std.proofs.Common.{◌≡◌, ℕ, List, sym, ◌∙◌}
 use Rattle.op_core.specs.Op.{Op}
 use Rattle.crdt_rules.specs.Pull.{front_of}
-use Rattle.doc_rules.proofs.WholeFront.{front_last, front_rising, fronts_same}
+use Rattle.doc_rules.proofs.WholeFront.{front_last, front_rising, fronts_same, rising_from_ascending}
 use Rattle.op_log.specs.Front.{IsFrontOf}
-use Rattle.op_log.proofs.Fronts.{rising_from_ascending}
 
 pub front_is : (log : List Op) (front : List (List ℕ × ℕ)) → IsFrontOf log front → front ≡ front_of log
 front_is log front is =

@@ -1,4 +1,3 @@
-pub mod Sorted
 pub mod Front
 pub mod Log
 pub mod Index

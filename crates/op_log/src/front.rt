@@ -5,7 +5,7 @@ ghost use Rattle.lamport_id.specs.Order.{name_cmp};
 ghost use Rattle.op_core.specs.Front.{is_ascending, is_le};
 ghost use Rattle.crdt_rules.specs.Dependencies.{entry_of};
 ghost use Rattle.op_log.specs.Front.{PutsEntry};
-ghost use Rattle.op_log.specs.Sorted.{IsPlace, IsGap};
+ghost use Rattle.sorted_lists.specs.Sorted.{IsPlace, IsGap};
 
 use lamport_id::ReplicaName;
 use std::cmp::Ordering;

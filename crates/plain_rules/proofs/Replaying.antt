@@ -1,6 +1,7 @@
 -- A plain replay, operation by operation.
 use Rattle.std.proofs.Common.{◌≡◌, ℕ, zero, suc, ◌+◌, ◌<◌, ◌≤◌, List, [], ◌∷◌, ◌++◌, length, take, drop, get_or, map, filter, Bool, true, false, ◌&&◌, ◌||◌, if◌then◌else◌, refl, sym, ap, ◌∙◌, arith}
 use Rattle.std.proofs.Math.Seq.{drop-cons}
+use lib.Seq.{take-suc}
 use Rattle.lamport_id.specs.declared.id.Id.{Id}
 use Rattle.op_core.specs.declared.cursor.Tagged.{Tagged}
 use Rattle.op_core.specs.Op.{Op}
@@ -33,11 +34,6 @@ is_in-covered op (o ∷ log) i =
     by false true h same ih = ih ∙ rw (sym (same refl)) refl
     by false false h same ih = ih
 
-take_next : {X : Type 0} (xs : List X) (j : ℕ) (d : X) → j < length xs → take (suc j) xs ≡ take j xs ++ get_or xs j d ∷ []
-take_next [] j d h = absurd (omega arith)
-take_next (x ∷ xs) zero d h = refl
-take_next (x ∷ xs) (suc j) d h = ap (λ ys. x ∷ ys) (take_next xs j d (omega arith))
-
 -- one step of the loop
 pub replay_next : (ops : List Op) (j : ℕ) (op : Op) (ctx changed : Context) (deps : List Id) → j < length ops → op ≡ get_or ops j op
     → deps ≡ filter (covers op.front) (map (λ o. o.id) (take j ops)) → changed ≡ step ctx op (is_in deps)
@@ -45,7 +41,7 @@ pub replay_next : (ops : List Op) (j : ℕ) (op : Op) (ctx changed : Context) (d
 replay_next ops j op ctx changed deps within is known change =
     let one : j + 1 ≡ suc j = omega arith in
     let later : drop j ops ≡ op ∷ drop (suc j) ops = drop-cons ops j op within ∙ ap (λ o. o ∷ drop (suc j) ops) (sym is) in
-    let before : take (suc j) ops ≡ take j ops ++ op ∷ [] = take_next ops j op within ∙ ap (λ o. take j ops ++ o ∷ []) (sym is) in
+    let before : take (suc j) ops ≡ take j ops ++ op ∷ [] = take-suc ops j op within ∙ ap (λ o. take j ops ++ o ∷ []) (sym is) in
     let same : is_in deps ≡ dependencies op (take j ops) = ap is_in known ∙ (λ x i. is_in-covered op (take j ops) i x) in
     ap (λ n. replay_after (take n ops) (drop n ops) changed) one
     ∙ ap (λ b. replay_after b (drop (suc j) ops) changed) before

@@ -6,7 +6,7 @@ use Rattle.doc_words.specs.Words.{Refusal, Op}
 use Rattle.json_scalar.specs.declared.refusal.Refusal.TheVariants.{IdConflict}
 use Rattle.crdt_rules.specs.Dependencies.{is_logged}
 use Rattle.crdt_rules.specs.Log.{IsGood}
-use Rattle.op_log.proofs.Sorted.{split_at}
+use Rattle.list_laws.proofs.Members.{split_at}
 use Rattle.doc_rules.specs.Cause.{IsFirstMisfit, misfit_of, cause_of}
 
 pub misfit_here : (ops log : List Op) (place : ℕ) (op : Op) (cause : Refusal) → log ≡ take place ops → place < length ops → op ≡ get_or ops place op → IsGood log

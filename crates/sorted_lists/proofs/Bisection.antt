@@ -1,31 +1,29 @@
--- Bisection of a list in the order of its keys.
-use Rattle.std.proofs.Common.{◌≡◌, ℕ, zero, suc, ◌<◌, ◌≤◌, ◌+◌, List, [], ◌∷◌, length, get_or, Bool, true, false, Option, Some, None, refl, sym, ◌∙◌, true≢false, arith, if◌then◌else◌}
+-- Bisection of a list of pairs whose keys rise.
+use Rattle.std.proofs.Common.{◌≡◌, ℕ, zero, suc, ◌<◌, ◌≤◌, ◌+◌, inl, inr, List, [], ◌∷◌, length, get_or, Bool, true, false, Option, Some, None, Contains, refl, sym, ap, subst, ◌∙◌, true≢false, arith, if◌then◌else◌, Less}
 use Rattle.std.specs.Ordering.{is_lt}
 use Rattle.std.specs.declared.cmp.Ordering.{Ordering}
 use Rattle.std.specs.List.Sorted.{IsPartitionedBy, IsPartitionPoint}
+use Rattle.std.proofs.lemmas.List.Elements.{Contains-get_or}
 use Rattle.std.proofs.lemmas.List.Sums.{prefix_len_is}
-use Rattle.sorted_lists.specs.Sorted.{IsKeyOrder, rank_by, get_by, IsBelowBy, IsRisingBy}
-use Rattle.sorted_lists.proofs.Keys.{apart, less_trans, greater_is, other_way, below_more}
+use Rattle.list_laws.proofs.IdOrder.{transitive}
+use Rattle.list_laws.proofs.Members.{Contains-nil, Contains-here, Contains-there, Contains-cases}
+use Rattle.sorted_lists.specs.Sorted.{rank_by, get_by, KeysRise}
+use Rattle.sorted_lists.proofs.Keys.{IsKeyOrder, is_Less, same, itself, apart, apart_back, greater_is}
 
 module _ {K X : Type 0} {eq : K → K → Bool} {cmp : K → K → Ordering} (order : IsKeyOrder eq cmp) where
-  none_above : (entries : List (K × X)) (key : K) → IsBelowBy cmp key entries → get_by eq entries key ≡ None
+  -- a key that is less than all of them stands nowhere
+  none_above : (entries : List (K × X)) (key : K) → ((e : K × X) → Contains entries e → cmp key e.0 ≡ Less) → get_by eq entries key ≡ None
   none_above [] key below = refl
   none_above (e ∷ entries) key below =
-      let other : eq e.0 key ≡ false = other_way order key e.0 (apart order key e.0 below.0) in
-      rw other (none_above entries key below.1)
-
-  below-get_or : (a : K) (entries : List (K × X)) (j : ℕ) (d : K × X) → IsBelowBy cmp a entries → j < length entries
-      → is_lt (cmp a (get_or entries j d).0) ≡ true
-  below-get_or a [] j d below within = absurd (omega arith)
-  below-get_or a (e ∷ entries) zero d below within = below.0
-  below-get_or a (e ∷ entries) (suc j) d below within = below-get_or a entries j d below.1 (omega arith)
+      rw (apart_back order key e.0 (below e (Contains-here entries refl))) (none_above entries key (λ x c. below x (Contains-there e entries c)))
 
   -- the entries with a lesser key come first
-  pub lesser_first : (entries : List (K × X)) (key : K) → IsRisingBy cmp entries → IsPartitionedBy (λ e. is_lt (cmp e.0 key)) entries
+  pub lesser_first : (entries : List (K × X)) (key : K) → KeysRise cmp entries → IsPartitionedBy (λ e. is_lt (cmp e.0 key)) entries
   lesser_first [] key rising i j d le within less = absurd (omega arith)
   lesser_first (e ∷ entries) key rising zero zero d le within less = less
   lesser_first (e ∷ entries) key rising zero (suc j) d le within less =
-      less_trans order e.0 (get_or entries j d).0 key (below-get_or e.0 entries j d rising.0 (omega arith)) less
+      let next = get_or entries j d in
+      ap is_lt (transitive order.order {x = e.0} {y = next.0} {z = key} (rising.0 next (Contains-get_or entries j d (omega arith))) (is_Less (cmp next.0 key) less))
   lesser_first (e ∷ entries) key rising (suc i) zero d le within less = absurd (omega arith)
   lesser_first (e ∷ entries) key rising (suc i) (suc j) d le within less =
       lesser_first entries key rising.1 i j d (omega arith) (omega arith) less
@@ -62,7 +60,7 @@ module _ {K X : Type 0} {eq : K → K → Bool} {cmp : K → K → Ordering} (or
           → (if less then 1 + rank_by cmp entries key else 0) < length (e ∷ entries)
           → eq (get_or (e ∷ entries) (if less then 1 + rank_by cmp entries key else 0) d).0 key ≡ true
           → ◌≡◌ {A = Option X} (if here then Some e.1 else get_by eq entries key) (Some (get_or (e ∷ entries) (if less then 1 + rank_by cmp entries key else 0) d).1)
-      go true is true at ih inside found = absurd (true≢false (sym at ∙ apart order e.0 key is))
+      go true is true at ih inside found = absurd (true≢false (sym at ∙ apart order e.0 key (is_Less (cmp e.0 key) is)))
       go true is false at ih inside found =
           let one : 1 + rank_by cmp entries key ≡ suc (rank_by cmp entries key) = omega arith in
           rw one (ih (omega arith) (rw one at found))
@@ -70,7 +68,7 @@ module _ {K X : Type 0} {eq : K → K → Bool} {cmp : K → K → Ordering} (or
       go false is false at ih inside found = absurd (true≢false (sym found ∙ at))
 
   -- and a key that does not stand there stands nowhere
-  pub get-missing : (entries : List (K × X)) (key : K) (d : K × X) → IsRisingBy cmp entries
+  pub get-missing : (entries : List (K × X)) (key : K) (d : K × X) → KeysRise cmp entries
       → (rank_by cmp entries key < length entries → eq (get_or entries (rank_by cmp entries key) d).0 key ≡ false) → get_by eq entries key ≡ None
   get-missing [] key d rising other = refl
   get-missing (e ∷ entries) key d rising other =
@@ -80,18 +78,29 @@ module _ {K X : Type 0} {eq : K → K → Bool} {cmp : K → K → Ordering} (or
           → ((rank_by cmp entries key < length entries → eq (get_or entries (rank_by cmp entries key) d).0 key ≡ false) → get_by eq entries key ≡ None)
           → ((if less then 1 + rank_by cmp entries key else 0) < length (e ∷ entries) → eq (get_or (e ∷ entries) (if less then 1 + rank_by cmp entries key else 0) d).0 key ≡ false)
           → ◌≡◌ {A = Option X} (if here then Some e.1 else get_by eq entries key) None
-      go true is true at ih other = absurd (true≢false (sym at ∙ apart order e.0 key is))
+      go true is true at ih other = absurd (true≢false (sym at ∙ apart order e.0 key (is_Less (cmp e.0 key) is)))
       go true is false at ih other =
           let one : 1 + rank_by cmp entries key ≡ suc (rank_by cmp entries key) = omega arith in
           ih (λ inside. rw one at (other (omega arith)))
       go false is true at ih other = absurd (true≢false (sym at ∙ other (omega arith)))
-      go false is false at ih other = none_above entries key (below_more order key e.0 entries (greater_is order e.0 key is at) rising.0)
+      go false is false at ih other =
+          none_above entries key (λ x c. transitive order.order {x = key} {y = e.0} {z = x.0} (greater_is order e.0 key is at) (rising.0 x c))
 
   -- what stands at the key of an entry is the entry's
-  pub get-own : (entries : List (K × X)) → IsRisingBy cmp entries → (i : ℕ) (d : K × X) → i < length entries
-      → get_by eq entries (get_or entries i d).0 ≡ Some (get_or entries i d).1
-  get-own [] rising i d within = absurd (omega arith)
-  get-own (e ∷ entries) rising zero d within = rw (order.itself e.0)
-  get-own (e ∷ entries) rising (suc i) d within =
-      let other : eq e.0 (get_or entries i d).0 ≡ false = apart order e.0 (get_or entries i d).0 (below-get_or e.0 entries i d rising.0 (omega arith)) in
-      rw other (get-own entries rising.1 i d (omega arith))
+  pub get-own : (entries : List (K × X)) → KeysRise cmp entries → (e : K × X) → Contains entries e → get_by eq entries e.0 ≡ Some e.1
+  get-own [] rising e c = absurd (Contains-nil c)
+  get-own (x ∷ entries) rising e c =
+      elim (Contains-cases x entries c) [
+        | inl is ↦ subst (λ z. get_by eq (x ∷ entries) z.0 ≡ Some z.1) is (rw (itself order x.0) refl)
+        | inr there ↦ rw (apart order x.0 e.0 (rising.0 e there)) (get-own entries rising.1 e there)
+      ]
+
+  -- and what stands at a key is that of an entry
+  pub get-Contains : (entries : List (K × X)) (key : K) (x : X) → get_by eq entries key ≡ Some x → Contains entries (key, x)
+  get-Contains [] key x h = absurd (cc)
+  get-Contains (e ∷ entries) key x h = go (eq e.0 key) refl h (get-Contains entries key x)
+    where
+      go : (b : Bool) → eq e.0 key ≡ b → ◌≡◌ {A = Option X} (if b then Some e.1 else get_by eq entries key) (Some x)
+          → (get_by eq entries key ≡ Some x → Contains entries (key, x)) → Contains (e ∷ entries) (key, x)
+      go true is h ih = let found : e.1 ≡ x = cc in Contains-here entries (λ j. (same order e.0 key is j, found j))
+      go false is h ih = Contains-there e entries (ih h)

@@ -1,10 +1,13 @@
 -- A new key inserted at its rank.
-use Rattle.std.proofs.Common.{◌≡◌, ℕ, zero, suc, ◌≤◌, ◌+◌, List, [], ◌∷◌, length, Bool, true, false, if◌then◌else◌, Option, Some, None, refl, sym, ap, ◌∙◌, subst, arith, true≢false}
+use Rattle.std.proofs.Common.{◌≡◌, ℕ, zero, suc, ◌≤◌, ◌+◌, inl, inr, List, [], ◌∷◌, length, take, Bool, true, false, if◌then◌else◌, Option, Some, None, refl, sym, ap, ◌∙◌, subst, arith, true≢false, Less}
 use Rattle.std.specs.Prelude.{insert}
 use Rattle.std.specs.Ordering.{is_lt}
 use Rattle.std.specs.declared.cmp.Ordering.{Ordering}
-use Rattle.sorted_lists.specs.Sorted.{IsKeyOrder, rank_by, get_by, IsBelowBy, IsRisingBy}
-use Rattle.sorted_lists.proofs.Keys.{greater_is, below_more}
+use Rattle.list_laws.proofs.IdOrder.{transitive}
+use Rattle.list_laws.proofs.Members.{Contains-nil, Contains-cases}
+use Rattle.sorted_lists.specs.Sorted.{rank_by, get_by, KeysRise, IsGap}
+use Rattle.sorted_lists.proofs.Keys.{IsKeyOrder, is_Less, same, itself, greater_is}
+use Rattle.sorted_lists.proofs.Rising.{IsRising-insert}
 
 module _ {K X : Type 0} {eq : K → K → Bool} {cmp : K → K → Ordering} (order : IsKeyOrder eq cmp) where
   -- what stands at keys after an insertion, wherever it is made
@@ -17,9 +20,9 @@ module _ {K X : Type 0} {eq : K → K → Bool} {cmp : K → K → Ordering} (or
     where
       meet : (b c : Bool) → (b ≡ true → c ≡ true → e.0 ≡ k) → eq e.0 k ≡ false
           → ◌≡◌ {A = Option X} (if b then Some e.1 else if c then Some x else get_by eq entries j) (if c then Some x else if b then Some e.1 else get_by eq entries j)
-      meet true true same other = absurd (true≢false (sym (subst (λ z. eq e.0 z ≡ true) (same refl refl) (order.itself e.0)) ∙ other))
-      meet true false same other = refl
-      meet false c same other = refl
+      meet true true one other = absurd (true≢false (sym (subst (λ z. eq e.0 z ≡ true) (one refl refl) (itself order e.0)) ∙ other))
+      meet true false one other = refl
+      meet false c one other = refl
 
       go : (b : Bool) → eq e.0 k ≡ b → ◌≡◌ {A = Option X} (if b then Some e.1 else get_by eq entries k) None
           → (get_by eq entries k ≡ None → get_by eq (insert entries i (k, x)) j ≡ (if eq k j then Some x else get_by eq entries j))
@@ -27,13 +30,7 @@ module _ {K X : Type 0} {eq : K → K → Bool} {cmp : K → K → Ordering} (or
       go true is h ih = absurd (cc)
       go false is h ih =
           ap (λ o. if eq e.0 j then Some e.1 else o) (ih h)
-          ∙ meet (eq e.0 j) (eq k j) (λ s t. order.same e.0 j s ∙ sym (order.same k j t)) is
-
-  below-insert : (a : K) (entries : List (K × X)) (i : ℕ) (k : K) (x : X) → i ≤ length entries → is_lt (cmp a k) ≡ true → IsBelowBy cmp a entries
-      → IsBelowBy cmp a (insert entries i (k, x))
-  below-insert a entries zero k x within e h = (e, h)
-  below-insert a [] (suc i) k x within e h = absurd (omega arith)
-  below-insert a (y ∷ entries) (suc i) k x within e h = (h.0, below-insert a entries i k x (omega arith) e h.1)
+          ∙ meet (eq e.0 j) (eq k j) (λ s t. same order e.0 j s ∙ sym (same order k j t)) is
 
   -- a rank is a place
   pub rank-within : (entries : List (K × X)) (k : K) → rank_by cmp entries k ≤ length entries
@@ -44,24 +41,47 @@ module _ {K X : Type 0} {eq : K → K → Bool} {cmp : K → K → Ordering} (or
       go true h = omega arith
       go false h = omega arith
 
-  -- the keys still rise
-  pub rising-insert : (entries : List (K × X)) (k : K) (x : X) → IsRisingBy cmp entries → get_by eq entries k ≡ None
-      → IsRisingBy cmp (insert entries (rank_by cmp entries k) (k, x))
-  rising-insert [] k x rising none = (tt, tt)
-  rising-insert (e ∷ entries) k x rising none =
-      go (is_lt (cmp e.0 k)) refl (eq e.0 k) refl none (λ h. rising-insert entries k x rising.1 h) (rank-within entries k)
+  -- and a gap, where nothing stands at the key
+  rank-gap : (entries : List (K × X)) (k : K) → KeysRise cmp entries → get_by eq entries k ≡ None
+      → IsGap cmp (λ (e : K × X). e.0) entries k (rank_by cmp entries k)
+  rank-gap [] k rising none = record { within = omega arith; smaller_before = λ y c. absurd (Contains-nil c); greater_behind = λ y c. absurd (Contains-nil c) }
+  rank-gap (e ∷ entries) k rising none = go (is_lt (cmp e.0 k)) refl (eq e.0 k) refl none (λ h. rank-gap entries k rising.1 h)
     where
-      go : (less : Bool) → is_lt (cmp e.0 k) ≡ less → (same : Bool) → eq e.0 k ≡ same
-          → ◌≡◌ {A = Option X} (if same then Some e.1 else get_by eq entries k) None
-          → (get_by eq entries k ≡ None → IsRisingBy cmp (insert entries (rank_by cmp entries k) (k, x))) → rank_by cmp entries k ≤ length entries
-          → IsRisingBy cmp (insert (e ∷ entries) (if less then 1 + rank_by cmp entries k else 0) (k, x))
-      go less is true at h ih within = absurd (cc)
-      go true is false at h ih within =
+      go : (less : Bool) → is_lt (cmp e.0 k) ≡ less → (here : Bool) → eq e.0 k ≡ here
+          → ◌≡◌ {A = Option X} (if here then Some e.1 else get_by eq entries k) None
+          → (get_by eq entries k ≡ None → IsGap cmp (λ (e : K × X). e.0) entries k (rank_by cmp entries k))
+          → IsGap cmp (λ (e : K × X). e.0) (e ∷ entries) k (if less then 1 + rank_by cmp entries k else 0)
+      go less is true at h ih = absurd (cc)
+      go true is false at h ih =
           let one : 1 + rank_by cmp entries k ≡ suc (rank_by cmp entries k) = omega arith in
-          rw one (below-insert e.0 entries (rank_by cmp entries k) k x within is rising.0, ih h)
-      go false is false at h ih within =
+          let gap = ih h in
+          let le = gap.within in
+          rw one (record {
+            within = omega (arith, le);
+            smaller_before = λ y c.
+                elim (Contains-cases e (take (rank_by cmp entries k) entries) c) [
+                  | inl first ↦ subst (λ (z : K × X). cmp z.0 k ≡ Less) first (is_Less (cmp e.0 k) is)
+                  | inr later ↦ gap.smaller_before y later
+                ];
+            greater_behind = gap.greater_behind;
+          })
+      go false is false at h ih =
           let less = greater_is order e.0 k is at in
-          ((less, below_more order k e.0 entries less rising.0), rising)
+          record {
+            within = omega arith;
+            smaller_before = λ y c. absurd (Contains-nil c);
+            greater_behind = λ y c.
+                elim (Contains-cases e entries c) [
+                  | inl first ↦ subst (λ (z : K × X). cmp k z.0 ≡ Less) first less
+                  | inr later ↦ transitive order.order {x = k} {y = e.0} {z = y.0} less (rising.0 y later)
+                ];
+          }
+
+  -- the keys still rise
+  pub rising-insert : (entries : List (K × X)) (k : K) (x : X) → KeysRise cmp entries → get_by eq entries k ≡ None
+      → KeysRise cmp (insert entries (rank_by cmp entries k) (k, x))
+  rising-insert entries k x rising none =
+      IsRising-insert order.order (λ (e : K × X). e.0) entries (rank_by cmp entries k) (k, x) rising (rank-gap entries k rising none)
 
   -- what stands at each key then
   pub get-insert_rank : (entries : List (K × X)) (k : K) (x : X) (j : K) → get_by eq entries k ≡ None

@@ -1,45 +1,57 @@
--- Laws of an order of keys and the test of equality that goes with it.
-use Rattle.std.proofs.Common.{◌≡◌, List, [], ◌∷◌, Bool, true, false, refl, sym, ap, ◌∙◌, subst, true≢false}
+-- Laws of an order of keys, and of the test of equality that goes with it.
+use Rattle.std.proofs.Common.{◌≡◌, ◌≢◌, Bool, true, false, refl, sym, ap, ◌∙◌, subst, true≢false, Ordering, Less, Equal, Greater}
 use Rattle.std.specs.Ordering.{is_lt, is_eq, ordering_reverse}
-use Rattle.std.specs.declared.cmp.Ordering.{Ordering}
-use Rattle.std.specs.declared.cmp.Ordering.TheVariants.{Less, Equal, Greater}
-use Rattle.sorted_lists.specs.Sorted.{IsKeyOrder, IsBelowBy}
+use Rattle.std.proofs.lemmas.Cmp.{tied_itself}
+use Rattle.list_laws.proofs.IdOrder.{IsIdOrder, irreflexive}
 
-less_is : (o : Ordering) → is_lt o ≡ true → o ≡ Less
-less_is Less e = refl
-less_is Equal e = absurd (true≢false (sym e))
-less_is Greater e = absurd (true≢false (sym e))
+pub is_Less : (o : Ordering) → is_lt o ≡ true → o ≡ Less
+is_Less Less e = refl
+is_Less Equal e = absurd (true≢false (sym e))
+is_Less Greater e = absurd (true≢false (sym e))
 
-module _ {K : Type 0} {eq : K → K → Bool} {cmp : K → K → Ordering} (order : IsKeyOrder eq cmp) where
-  -- a lesser key is another
-  pub apart : (a b : K) → is_lt (cmp a b) ≡ true → eq a b ≡ false
-  apart a b less = go (cmp a b) less (order.alike a b)
+module _ {K : Type 0} {cmp : K → K → Ordering} (o : IsIdOrder cmp) where
+  pub less≢equal : (a b : K) → cmp a b ≡ Less → a ≢ b
+  less≢equal a b less same = irreflexive o {x = b} (subst (λ k. cmp k b ≡ Less) same less)
+
+  pub less_back : (a b : K) → cmp a b ≡ Greater → cmp b a ≡ Less
+  less_back a b h = o.total.antisymm b a ∙ ap ordering_reverse h
+
+  pub greater_back : (a b : K) → cmp a b ≡ Less → cmp b a ≡ Greater
+  greater_back a b h = o.total.antisymm b a ∙ ap ordering_reverse h
+
+  pub not_less_back : (a b : K) → cmp a b ≡ Less → is_lt (cmp b a) ≡ false
+  not_less_back a b h = ap is_lt (greater_back a b h)
+
+-- an order of keys, and a test of equality that goes with it
+pub record IsKeyOrder {K : Type 0} (eq : K → K → Bool) (cmp : K → K → Ordering) : Type 0 where
+  pub order : IsIdOrder cmp
+  pub alike : (a b : K) → is_eq (cmp a b) ≡ eq a b
+
+module _ {K : Type 0} {eq : K → K → Bool} {cmp : K → K → Ordering} (o : IsKeyOrder eq cmp) where
+  -- what passes the test is one
+  pub same : (a b : K) → eq a b ≡ true → a ≡ b
+  same a b h = o.order.exact a b (go (cmp a b) (o.alike a b ∙ h))
     where
-      go : (o : Ordering) → is_lt o ≡ true → is_eq o ≡ eq a b → eq a b ≡ false
-      go Less h e = sym e
-      go Equal h e = absurd (true≢false (sym h))
-      go Greater h e = absurd (true≢false (sym h))
+      go : (r : Ordering) → is_eq r ≡ true → r ≡ Equal
+      go Less e = absurd (true≢false (sym e))
+      go Equal e = refl
+      go Greater e = absurd (true≢false (sym e))
 
-  pub less_trans : (a b c : K) → is_lt (cmp a b) ≡ true → is_lt (cmp b c) ≡ true → is_lt (cmp a c) ≡ true
-  less_trans a b c e f = ap is_lt (order.total.trans a b c (less_is (cmp a b) e) (less_is (cmp b c) f))
+  pub itself : (a : K) → eq a a ≡ true
+  itself a = sym (o.alike a a) ∙ ap is_eq (tied_itself o.order.total a)
+
+  -- a lesser key is another, and so is a greater one
+  pub apart : (a b : K) → cmp a b ≡ Less → eq a b ≡ false
+  apart a b less = sym (o.alike a b) ∙ ap is_eq less
+
+  pub apart_back : (a b : K) → cmp a b ≡ Less → eq b a ≡ false
+  apart_back a b less = sym (o.alike b a) ∙ ap is_eq (greater_back o.order a b less)
 
   -- of two keys that are not the same one is less
-  pub greater_is : (a b : K) → is_lt (cmp a b) ≡ false → eq a b ≡ false → is_lt (cmp b a) ≡ true
-  greater_is a b e f = ap is_lt (order.total.antisymm b a) ∙ go (cmp a b) e (order.alike a b ∙ f)
+  pub greater_is : (a b : K) → is_lt (cmp a b) ≡ false → eq a b ≡ false → cmp b a ≡ Less
+  greater_is a b e f = o.order.total.antisymm b a ∙ go (cmp a b) e (o.alike a b ∙ f)
     where
-      go : (o : Ordering) → is_lt o ≡ false → is_eq o ≡ false → is_lt (ordering_reverse o) ≡ true
+      go : (r : Ordering) → is_lt r ≡ false → is_eq r ≡ false → ordering_reverse r ≡ Less
       go Less g h = absurd (true≢false g)
       go Equal g h = absurd (true≢false h)
       go Greater g h = refl
-
-  -- the test answers the same either way round
-  pub other_way : (a b : K) → eq a b ≡ false → eq b a ≡ false
-  other_way a b other = go (eq b a) refl
-    where
-      go : (t : Bool) → eq b a ≡ t → t ≡ false
-      go true is = absurd (true≢false (sym (subst (λ x. eq x b ≡ true) (order.same b a is) (order.itself b)) ∙ other))
-      go false is = refl
-
-  pub below_more : {X : Type 0} (a b : K) (entries : List (K × X)) → is_lt (cmp a b) ≡ true → IsBelowBy cmp b entries → IsBelowBy cmp a entries
-  below_more a b [] e h = tt
-  below_more a b (x ∷ entries) e h = (less_trans a b x.0 e h.0, below_more a b entries e h.1)

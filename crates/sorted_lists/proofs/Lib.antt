@@ -1,3 +1,4 @@
 pub mod Keys
+pub mod Rising
 pub mod Bisection
 pub mod Insertion

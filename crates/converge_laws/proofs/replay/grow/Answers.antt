@@ -3,9 +3,8 @@ use Rattle.std.specs.Option.{ForSome}
 use Rattle.crdt_rules.specs.Context.{reference}
 use Rattle.crdt_rules.specs.Effect.{path_of}
 use Rattle.crdt_rules.proofs.NextStep.{reference_stands, id_is_new}
-use Rattle.doc_rules.proofs.Roles.{are_of_same}
+use Rattle.doc_rules.proofs.Roles.{are_of_same, are_of_next}
 use Rattle.doc_tree.proofs.ShapeLaws.{shaped_has_place}
-use Rattle.doc_view.proofs.Growing.{next_tree}
 use Rattle.converge_laws.proofs.replay.grow.Goals as goal
 
 pub prepare-requires : goal.prepare-requires
@@ -27,5 +26,5 @@ commit-requires-clause-new c =
 
 pub returns-clause-ok : goal.returns-clause-ok
 returns-clause-ok c =
-    next_tree c.prepare.new.self c.commit.new.self c.args.before.now c.args.op.now (are_of_same c.requires.same c.in_ok-prepare.ensures.facts c.in_ok-prepare.ensures.roles)
+    are_of_next (are_of_same c.requires.same c.in_ok-prepare.ensures.facts c.in_ok-prepare.ensures.roles) c.args.op.now
     c.requires.good c.requires.fits c.commit.ensures.facts c.commit.ensures.roles

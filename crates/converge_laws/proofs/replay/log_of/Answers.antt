@@ -4,7 +4,8 @@ use Rattle.crdt_rules.specs.Fits.{Fits}
 use Rattle.crdt_rules.specs.Log.{IsGood}
 use Rattle.crdt_rules.proofs.Logs.{good_push}
 use Rattle.doc_rules.specs.Cause.{misfit_of}
-use Rattle.converge_laws.proofs.Replays.{take_next, first_misfit_at}
+use Rattle.std.proofs.lemmas.List.{take_more}
+use Rattle.converge_laws.proofs.Replays.{first_misfit_at}
 use Rattle.converge_laws.proofs.replay.log_of.Goals as goal
 
 pub returns-in_err-log_next-clause-misfit : goal.returns-in_err-log_next-clause-misfit
@@ -24,7 +25,7 @@ loop-i-preserved c =
     let i = c.loop-i.i in
     let op = c.index-ops-i.result in
     let within : i < length ops = search rules in
-    let next : take (i + 1) ops ≡ take i ops ++ op ∷ [] = take_next ops i op within ∙ ap (λ o. take i ops ++ o ∷ []) (sym c.index-ops-i.is) in (
+    let next : take (i + 1) ops ≡ take i ops ++ op ∷ [] = take_more ops i op within ∙ ap (λ o. take i ops ++ o ∷ []) (sym c.index-ops-i.is) in (
       c.in_ok-log_next.ensures.ok ∙ ap (λ l. l ++ op ∷ []) c.loop-i.invariant.0 ∙ sym next,
       subst IsGood (sym next) (good_push (take i ops) op c.loop-i.invariant.1 (subst (Fits op) c.loop-i.invariant.0 (c.in_ok-log_next.ensures.fits refl))),
     )

@@ -1,7 +1,7 @@
 use Rattle.std.proofs.Common.{rules}
 use Rattle.std.proofs.lemmas.List.Sorted.{answers_always}
-use Rattle.op_log.proofs.Sorted.{searched}
-use Rattle.op_log.proofs.KeyOrders.{id_order}
+use Rattle.sorted_lists.proofs.Rising.{searched}
+use Rattle.crdt_rules.proofs.WalkLaws.{id_order}
 use Rattle.hold_buffer.proofs.order.search.Goals as goal
 
 pub returns : goal.returns

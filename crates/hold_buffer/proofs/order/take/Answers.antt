@@ -2,7 +2,7 @@ use Rattle.std.proofs.Common.{◌≡◌, ◌∷◌, ◌++◌, take, drop, suc, s
 use Rattle.std.specs.Option.{OnSome}
 use Rattle.op_core.specs.Op.{Op}
 use Rattle.crdt_rules.specs.Same.{id_eq}
-use Rattle.op_log.proofs.Sorted.{split_at}
+use Rattle.list_laws.proofs.Members.{split_at}
 use Rattle.hold_buffer.specs.declared.ticket.Ticket.{Ticket}
 use Rattle.hold_buffer.specs.Order.{operations_of, IsOrdered}
 use Rattle.hold_buffer.proofs.Waiting.{found_at, not_found, operations-remove, tickets-remove, IsOrdered-remove, none_removed, no_ticket_removed, length-operations}

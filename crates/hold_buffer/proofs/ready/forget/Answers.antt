@@ -1,8 +1,8 @@
 use Rattle.std.proofs.Common.{Contains, sym, subst, ◌∙◌}
 use Rattle.std.proofs.lemmas.List.Elements.{Contains-get_or}
 use Rattle.lamport_id.specs.declared.id.Id.{Id}
-use Rattle.op_log.proofs.KeyOrders.{id_order}
-use Rattle.op_log.proofs.Sorted.{gap_none}
+use Rattle.crdt_rules.proofs.WalkLaws.{id_order}
+use Rattle.sorted_lists.proofs.Rising.{gap_none}
 use Rattle.hold_buffer.specs.declared.wait.Wait.{Wait}
 use Rattle.hold_buffer.proofs.Counting.{id_removed}
 use Rattle.hold_buffer.proofs.Waiting.{others_kept}

@@ -1,7 +1,7 @@
 use Rattle.std.proofs.Common.{List, ap, subst, ◌∙◌}
 use Rattle.std.specs.Prelude.{insert}
 use Rattle.doc_words.specs.Words.{id_cmp, Id}
-use Rattle.op_log.specs.Sorted.{IsGap}
+use Rattle.sorted_lists.specs.Sorted.{IsGap}
 use Rattle.hold_buffer.proofs.Counting.{insert_between}
 use Rattle.hold_buffer.proofs.ready.put.Goals as goal
 

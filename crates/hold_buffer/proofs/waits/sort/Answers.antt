@@ -3,7 +3,7 @@ use Rattle.std.specs.Ordering.{is_lt}
 use Rattle.std.proofs.lemmas.Result.{on_ok_weaker}
 use Rattle.std.proofs.lemmas.List.Sorted.{answers_always, ranks_by}
 use Rattle.lamport_id.specs.Order.{id_cmp}
-use Rattle.op_log.proofs.KeyOrders.{id_order}
+use Rattle.crdt_rules.proofs.WalkLaws.{id_order}
 use Rattle.hold_buffer.specs.declared.wait.Wait.{Wait}
 use Rattle.hold_buffer.proofs.WaitLists.{sorted-by_awaited}
 use Rattle.hold_buffer.proofs.waits.sort.Goals as goal

@@ -25,7 +25,7 @@ overflow_add-longer c =
     let slots = c.args.slots.now in
     let before = c.args.marks.now.items in
     let s = step slots c.loop-at.at c.in-Some.n c.in-Some.is c.loop-at.invariant.walk in
-    let few = count_fits slots c.args.first before c.requires.walk c.requires.marked c.loop-at.marks.items c.loop-at.blocks.items c.loop-at.at c.loop-at.open.present c.in-Some.n c.loop-at.invariant.cut c.in-Some.is s in
+    let few = count_fits slots c.args.first before c.requires.walk c.requires.marked c.loop-at.marks.items c.loop-at.blocks.items c.loop-at.at c.loop-at.rest.present c.in-Some.n c.loop-at.invariant.cut c.in-Some.is s in
     let one : c.bit.result ≡ bit (mark_at c.loop-at.marks.items c.in-Some.n).is_present = c.bit.ensures ∙ ap bit c.set_block-is_present.ensures.presence in
     omega (arith, few, one, c.requires.marked, c.loop-at.invariant.cut.len, c.loop-at.marks.ok.0)
 
@@ -42,19 +42,19 @@ loop-at-preserved c =
     let before = c.args.marks.now.items in
     let s = step slots c.loop-at.at c.in-Some.n c.in-Some.is c.loop-at.invariant.walk in
     let one : c.bit.result ≡ bit (mark_at c.loop-at.marks.items c.in-Some.n).is_present = c.bit.ensures ∙ ap bit c.set_block-is_present.ensures.presence in
-    let put = put_in slots first before c.requires.walk c.requires.marked c.loop-at.marks.items c.loop-at.blocks.items c.loop-at.at c.loop-at.open.present c.in-Some.n c.loop-at.invariant.cut c.in-Some.is s in
+    let put = put_in slots first before c.requires.walk c.requires.marked c.loop-at.marks.items c.loop-at.blocks.items c.loop-at.at c.loop-at.rest.present c.in-Some.n c.loop-at.invariant.cut c.in-Some.is s in
     let marks : c.set_block-is_present.new.marks.items ≡ set_block c.loop-at.marks.items c.in-Some.n (length c.loop-at.blocks.items) =
     c.set_block-is_present.ensures.items ∙ ap (set_block c.loop-at.marks.items c.in-Some.n) (c.len.ensures ∙ c.loop-at.blocks.ok.0) in
     record {
       walk = subst (λ s. IsWalk slots s.next) (sym c.slot_at.ensures) s.walk;
       cut =
-          close slots first before c.set_block-is_present.new.marks.items c.loop-at.blocks.items c.closed-open.new.blocks.items c.slot_at.result.now.next (c.loop-at.open.present + c.bit.result) c.closed-open.result.present
-          (subst (λ m. IsPartlyCut slots first before m c.loop-at.blocks.items c.slot_at.result.now.next (c.loop-at.open.present + c.bit.result)) (sym marks)
-          (subst (λ x. IsPartlyCut slots first before (set_block c.loop-at.marks.items c.in-Some.n (length c.loop-at.blocks.items)) c.loop-at.blocks.items x.next (c.loop-at.open.present + c.bit.result)) (sym c.slot_at.ensures)
-          (subst (λ p. IsPartlyCut slots first before (set_block c.loop-at.marks.items c.in-Some.n (length c.loop-at.blocks.items)) c.loop-at.blocks.items (slot_at slots c.in-Some.n).next (c.loop-at.open.present + p)) (sym one) put)))
-          c.closed-open.ensures;
+          close slots first before c.set_block-is_present.new.marks.items c.loop-at.blocks.items c.closed-rest.new.blocks.items c.slot_at.result.now.next (c.loop-at.rest.present + c.bit.result) c.closed-rest.result.present
+          (subst (λ m. IsPartlyCut slots first before m c.loop-at.blocks.items c.slot_at.result.now.next (c.loop-at.rest.present + c.bit.result)) (sym marks)
+          (subst (λ x. IsPartlyCut slots first before (set_block c.loop-at.marks.items c.in-Some.n (length c.loop-at.blocks.items)) c.loop-at.blocks.items x.next (c.loop-at.rest.present + c.bit.result)) (sym c.slot_at.ensures)
+          (subst (λ p. IsPartlyCut slots first before (set_block c.loop-at.marks.items c.in-Some.n (length c.loop-at.blocks.items)) c.loop-at.blocks.items (slot_at slots c.in-Some.n).next (c.loop-at.rest.present + p)) (sym one) put)))
+          c.closed-rest.ensures;
       capacity = c.set_block-is_present.ensures.capacity ∙ c.loop-at.invariant.capacity;
     }
 
 pub returns-clause-cut : goal.returns-clause-cut
-returns-clause-cut c = all_cut c.args.slots.now c.args.first c.args.marks.now.items c.loop-at.marks.items c.loop-at.blocks.items c.loop-at.at c.loop-at.open.present c.in_default.is c.loop-at.invariant.cut
+returns-clause-cut c = all_cut c.args.slots.now c.args.first c.args.marks.now.items c.loop-at.marks.items c.loop-at.blocks.items c.loop-at.at c.loop-at.rest.present c.in_default.is c.loop-at.invariant.cut

@@ -1,5 +1,6 @@
 use Rattle.std.proofs.Common.{sym}
-use Rattle.op_log.proofs.Fronts.{rising_from_ascending, entry_of-place, entry_of-gap}
+use Rattle.doc_rules.proofs.WholeFront.{rising_from_ascending}
+use Rattle.op_log.proofs.Fronts.{entry_of-place, entry_of-gap}
 use Rattle.op_log.proofs.front.last_of.Goals as goal
 
 pub returns-in-Ok : goal.returns-in-Ok

@@ -1,5 +1,5 @@
-use Rattle.doc_rules.proofs.WholeFront.{rising_ascends}
-use Rattle.op_log.proofs.Fronts.{rising_from_ascending, put_at_place, put_in_gap, NamesRise-set, NamesRise-insert}
+use Rattle.doc_rules.proofs.WholeFront.{rising_ascends, rising_from_ascending}
+use Rattle.op_log.proofs.Fronts.{put_at_place, put_in_gap, NamesRise-set, NamesRise-insert}
 use Rattle.op_log.proofs.front.put_last.Goals as goal
 
 pub returns-in-Ok-clause-ascending : goal.returns-in-Ok-clause-ascending

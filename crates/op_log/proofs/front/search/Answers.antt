@@ -1,8 +1,8 @@
 use Rattle.std.proofs.Common.{rules}
 use Rattle.std.proofs.lemmas.List.Sorted.{answers_always}
-use Rattle.op_log.proofs.Sorted.{searched}
-use Rattle.op_log.proofs.KeyOrders.{name_order}
-use Rattle.op_log.proofs.Fronts.{rising_from_ascending}
+use Rattle.sorted_lists.proofs.Rising.{searched}
+use Rattle.doc_rules.proofs.OneAnswer.{name_order}
+use Rattle.doc_rules.proofs.WholeFront.{rising_from_ascending}
 use Rattle.op_log.proofs.front.search.Goals as goal
 
 pub returns : goal.returns

@@ -2,9 +2,8 @@ use Rattle.std.proofs.Common.{◌≡◌, ap, subst, sym, ◌∙◌, ◌++◌, �
 use Rattle.op_core.specs.Op.{Op}
 use Rattle.crdt_rules.specs.Fits.{Fits}
 use Rattle.op_log.specs.Log.{Log}
-use Rattle.doc_rules.proofs.Roles.{are_of_same}
+use Rattle.doc_rules.proofs.Roles.{are_of_same, are_of_next}
 use Rattle.doc_tree.proofs.ShapeLaws.{shaped_has_place}
-use Rattle.doc_view.proofs.Growing.{next_tree}
 use Rattle.replica_core.specs.AgreesWith.{AgreesWith}
 use Rattle.replica_core.proofs.Telling.{knows_reference, is_new_element}
 use Rattle.replica_core.proofs.log_op.log_op.Goals as goal
@@ -43,6 +42,6 @@ returns-clause-ok c = c.append.ensures.operations ∙ ap (λ (l : List Op). l ++
 
 pub returns-clause-tells : goal.returns-clause-tells
 returns-clause-tells c =
-    let next = next_tree c.prepare.new.self c.commit.new.self c.args.log.now.operations c.args.op (are_of_same c.requires.tells c.prepare.ensures.facts c.prepare.ensures.roles) c.keeps_good.ensures c.requires.fits
+    let next = are_of_next (are_of_same c.requires.tells c.prepare.ensures.facts c.prepare.ensures.roles) c.args.op c.keeps_good.ensures c.requires.fits
     c.commit.ensures.facts c.commit.ensures.roles in
     subst (AgreesWith c.commit.new.self) (sym (c.append.ensures.operations ∙ ap (λ (l : List Op). l ++ c.args.op ∷ []) c.reserve.ensures.operations)) next

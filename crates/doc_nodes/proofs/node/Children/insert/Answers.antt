@@ -1,7 +1,7 @@
 use Rattle.std.proofs.Common.{◌≡◌, sym, ap, ◌∙◌, subst}
 use Rattle.std.specs.Prelude.{insert}
-use Rattle.doc_nodes.proofs.ChildrenLaws.{rising-insert_rank}
 use Rattle.doc_nodes.specs.KeyOrder.{rank, IsRising}
+use Rattle.doc_nodes.proofs.ChildrenLaws.{rising-insert_rank}
 use Rattle.doc_nodes.proofs.node.Children.insert.Goals as goal
 
 pub invariant_of-self-2 : goal.invariant_of-self-2

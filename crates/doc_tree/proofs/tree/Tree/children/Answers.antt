@@ -7,8 +7,9 @@ use Rattle.op_core.specs.declared.cursor.Tagged.TheVariants.{Map, List as ListAt
 use Rattle.doc_nodes.specs.declared.node.NodeNumber.{NodeNumber}
 use Rattle.doc_nodes.specs.Nodes.{blank, node_of, node_at, child_of}
 use Rattle.doc_tree.specs.Nodes.{tree_facts, tree_number}
+use Rattle.doc_nodes.proofs.ChildrenLaws.{number_at-Contains}
 use Rattle.doc_nodes.proofs.Places.{node_within, same_node}
-use Rattle.doc_tree.proofs.Below.{number-into, present_child, entry_in}
+use Rattle.doc_tree.proofs.Below.{number-into, present_child}
 use Rattle.doc_tree.proofs.tree.Tree.children.Goals as goal
 
 pub index-requires : goal.index-requires
@@ -47,7 +48,7 @@ returns-in-Some-clause-map c = λ text i there.
     let at : child_of nodes c.in-Some.at (Text text) ≡ Some child.1 = subst (λ n. child_of nodes n (Text text) ≡ Some child.1) same child.3 in (
       child.1,
       subst (λ l. Contains l (Text text, child.1)) (sym (c.entries.ensures.value ∙ ap (λ z. z.children) read))
-          (entry_in (node_of nodes c.in-Some.at).children (Text text) child.1 at),
+          (number_at-Contains (node_of nodes c.in-Some.at).children (Text text) child.1 at),
     )
 
 pub returns-in-None-clause-members : goal.returns-in-None-clause-members
