@@ -196,7 +196,13 @@ def started(documents, name="srv"):
 def connected(address):
     """Connects to a server at HOST:PORT and yields a client of one session."""
     host, _, port = address.rpartition(":")
-    with socket.create_connection((host, int(port)), timeout=60) as connection:
+    if not host or not port.isdigit():
+        raise ValueError(f"{address} isn't HOST:PORT")
+    try:
+        opened = socket.create_connection((host.strip("[]"), int(port)), timeout=60)
+    except OSError as error:
+        raise ConnectionError(f"{address}: {error}") from error
+    with opened as connection:
         connection.setsockopt(socket.IPPROTO_TCP, socket.TCP_NODELAY, 1)
         with connection.makefile("wb") as requests, connection.makefile("rb") as replies:
             yield Client(requests, replies)
