@@ -6,7 +6,7 @@ usage: exchange.py ADDRESS ADDRESS DOCUMENT     (HOST:PORT of two running server
 import sys
 
 import jcrdt_client
-from jcrdt_client import Refused
+from jcrdt_client import NAME_USED_TWICE, Refused
 
 
 def pull(source, target, document):
@@ -17,7 +17,7 @@ def pull(source, target, document):
             logged += target.deliver(document, operation)
         except Refused as cause:
             # It comes again with every pull, and is refused again: another round won't help.
-            refused.append((operation[1], str(cause)))
+            refused.append((operation[1], cause))
     return logged, refused
 
 
@@ -32,6 +32,14 @@ def exchange(one, other, document):
             return total, refused_there + refused_here
 
 
+def verdict(one, other, document):
+    """What came of an exchange. Servers of one name may have equal fronts and different documents."""
+    if one.front(document) != other.front(document):
+        return "the fronts differ"
+    same = one.ask("show", document, [0]) == other.ask("show", document, [0])
+    return "the fronts agree" if same else "the fronts agree, and the documents differ"
+
+
 def main(addresses, document):
     with jcrdt_client.connected(addresses[0]) as one, jcrdt_client.connected(addresses[1]) as other:
         one.open(document)
@@ -39,9 +47,11 @@ def main(addresses, document):
         total, refused = exchange(one, other, document)
         for (counter, replica), cause in refused:
             print(f"refused: {counter} of {replica}: {cause}")
-        agree = one.front(document) == other.front(document)
-        print(f"handed over {total}, refused {len(refused)}; the fronts {'agree' if agree else 'differ'}")
-        return 0 if agree else 1
+        told = verdict(one, other, document)
+        print(f"handed over {total}, refused {len(refused)}; {told}")
+        if told.endswith("documents differ") or any(cause.number in NAME_USED_TWICE for _, cause in refused):
+            print("two starts of a server had one name: start one of them again, under a new name")
+        return 0 if told == "the fronts agree" else 1
 
 
 if __name__ == "__main__":
@@ -49,5 +59,5 @@ if __name__ == "__main__":
         sys.exit(__doc__)
     try:
         sys.exit(main(sys.argv[1:3], sys.argv[3]))
-    except (OSError, Refused) as error:
+    except (OSError, ValueError, Refused) as error:
         sys.exit(f"exchange: {error}")

@@ -4,6 +4,7 @@ usage: first_steps.py
 """
 
 import json
+import sys
 
 import jcrdt_client
 from jcrdt_client import Refused
@@ -50,4 +51,9 @@ def main():
 
 
 if __name__ == "__main__":
-    main()
+    if len(sys.argv) != 1:
+        sys.exit(__doc__)
+    try:
+        main()
+    except (OSError, Refused) as error:
+        sys.exit(f"first_steps: {error}")

@@ -18,6 +18,10 @@ import subprocess
 PROGRAM = os.environ.get("JCRDT", os.path.join(os.path.dirname(os.path.abspath(__file__)), "..", "jcrdt"))
 
 
+# The refusals that say that one name was used by two starts of a server: start one of them again under a new name.
+NAME_USED_TWICE = (14, 15, 16)
+
+
 class Refused(Exception):
     """The server answered ["no",number,name]: the document, the variables and the log are as they were."""
 
@@ -36,15 +40,19 @@ class Client:
         self.requests = requests
         self.replies = replies
 
-    def ask(self, *request):
-        """Sends one request and returns what stands behind the word of its reply, as a list."""
-        line = json.dumps(request, ensure_ascii=False, separators=(",", ":"))
-        self.requests.write(line.encode() + b"\n")
+    def answer(self, line):
+        """Sends one line of bytes, which has no newline, and returns the line of its reply."""
+        self.requests.write(line + b"\n")
         self.requests.flush()
         reply = self.replies.readline()
         if not reply.endswith(b"\n"):
             raise ConnectionError("the server has ended the session")
-        word, *rest = json.loads(reply)
+        return reply[:-1]
+
+    def ask(self, *request):
+        """Sends one request and returns what stands behind the word of its reply, as a list."""
+        line = json.dumps(request, ensure_ascii=False, separators=(",", ":"))
+        word, *rest = json.loads(self.answer(line.encode()))
         if word == "no":
             raise Refused(*rest)
         return rest
@@ -188,7 +196,13 @@ def started(documents, name="srv"):
 def connected(address):
     """Connects to a server at HOST:PORT and yields a client of one session."""
     host, _, port = address.rpartition(":")
-    with socket.create_connection((host, int(port)), timeout=60) as connection:
+    if not host or not port.isdigit():
+        raise ValueError(f"{address} isn't HOST:PORT")
+    try:
+        opened = socket.create_connection((host.strip("[]"), int(port)), timeout=60)
+    except OSError as error:
+        raise ConnectionError(f"{address}: {error}") from error
+    with opened as connection:
         connection.setsockopt(socket.IPPROTO_TCP, socket.TCP_NODELAY, 1)
         with connection.makefile("wb") as requests, connection.makefile("rb") as replies:
             yield Client(requests, replies)

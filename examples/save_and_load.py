@@ -1,13 +1,13 @@
-"""Saves a document as lines, one operation each, and loads it into a server of another name.
+"""Saves a document of a server as lines, one operation each, and loads it into a server of another name.
 
-usage: save_and_load.py FILE
+usage: save_and_load.py save|load ADDRESS DOCUMENT FILE     (ADDRESS is HOST:PORT of a running server)
 """
 
 import json
 import sys
 
 import jcrdt_client
-from jcrdt_client import Refused
+from jcrdt_client import NAME_USED_TWICE, Refused
 
 
 def save(server, document, path):
@@ -33,39 +33,25 @@ def load(server, document, path):
     return count, refused
 
 
-def tell(loaded):
-    count, refused = loaded
-    print(f"loaded {count} operations, {len(refused)} refused")
-    for number, cause in refused[:1]:
-        print(f"line {number}: {cause}")
-
-
-def main(path):
-    with jcrdt_client.started(["d"], name="first") as first:
-        first.open("d")
-        first.put("d", [0], {"list": ["one", "two", "three"]})
-        print(f"saved {save(first, 'd', path)} operations")
-
-    # The documents of `first` are gone with it, so the next one has a new name.
-    with jcrdt_client.started(["d"], name="second") as second:
-        second.open("d")
-        tell(load(second, "d", path))
-        second.append("d", [0, "list"], "four")
-        print(json.dumps(second.plain("d", [0])))
-        print(f"saved {save(second, 'd', path)} operations")
-        tell(load(second, "d", path))
-
-    # Under its old name it refuses its own operations, and what depends on them waits for ever.
-    with jcrdt_client.started(["d"], name="first") as again:
-        again.open("d")
-        tell(load(again, "d", path))
-        print(f"{len(again.held('d'))} held")
+def main(word, address, document, path):
+    with jcrdt_client.connected(address) as server:
+        server.open(document)
+        if word == "save":
+            print(f"saved {save(server, document, path)} operations")
+            return 0
+        count, refused = load(server, document, path)
+        print(f"loaded {count} operations, {len(refused)} refused")
+        for number, cause in refused[:1]:
+            print(f"line {number}: {cause}")
+        if any(cause.number in NAME_USED_TWICE for _, cause in refused):
+            print("these were made under the name of this server: start it again, under a new name, and load them then")
+        return 1 if refused else 0
 
 
 if __name__ == "__main__":
-    if len(sys.argv) != 2:
+    if len(sys.argv) != 5 or sys.argv[1] not in ("save", "load"):
         sys.exit(__doc__)
     try:
-        main(sys.argv[1])
-    except (OSError, ValueError) as error:
+        sys.exit(main(*sys.argv[1:]))
+    except (OSError, ValueError, Refused) as error:
         sys.exit(f"save_and_load: {error}")

@@ -59,5 +59,5 @@ if __name__ == "__main__":
         sys.exit(__doc__)
     try:
         main(sys.argv[1])
-    except OSError as error:
+    except (OSError, ValueError, Refused) as error:
         sys.exit(f"shopping_list: {error}")

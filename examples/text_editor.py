@@ -8,6 +8,7 @@ import time
 
 import jcrdt_client
 from exchange import exchange
+from jcrdt_client import Refused
 
 TEXT = [0, "text"]
 
@@ -57,4 +58,9 @@ def main(count):
 
 
 if __name__ == "__main__":
-    main(int(sys.argv[1]) if len(sys.argv) == 2 else 500)
+    if len(sys.argv) > 2 or not all(word.isdigit() for word in sys.argv[1:]):
+        sys.exit(__doc__)
+    try:
+        main(int(sys.argv[1]) if len(sys.argv) == 2 else 500)
+    except (OSError, Refused) as error:
+        sys.exit(f"text_editor: {error}")

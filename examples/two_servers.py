@@ -1,4 +1,4 @@
-"""Two servers diverge, meet, show a conflict, and settle it.
+"""Two servers diverge, meet, show a conflict, settle it, and one is started again.
 
 usage: two_servers.py pipes|tcp
 """
@@ -8,18 +8,19 @@ import json
 import sys
 
 import jcrdt_client
-from exchange import exchange
+from exchange import exchange, verdict
+from jcrdt_client import Refused
 
 
-def two_over_pipes(stack, document):
-    """Two programs of this machine, one client each."""
-    return [stack.enter_context(jcrdt_client.started([document], name)) for name in ("alice", "bob")]
+def over_pipes(stack, document, name):
+    """Starts a program that serves one client."""
+    return stack.enter_context(jcrdt_client.started([document], name))
 
 
-def two_over_tcp(stack, document):
-    """Two servers that listen at a port each, and end with their one session."""
-    addresses = [stack.enter_context(jcrdt_client.serving([document], 1, name)) for name in ("alice", "bob")]
-    return [stack.enter_context(jcrdt_client.connected(address)) for address in addresses]
+def over_tcp(stack, document, name):
+    """Starts a server that listens at a port of its own, and ends with its one session."""
+    address = stack.enter_context(jcrdt_client.serving([document], 1, name))
+    return stack.enter_context(jcrdt_client.connected(address))
 
 
 def tell(when, alice, bob, document):
@@ -29,14 +30,14 @@ def tell(when, alice, bob, document):
 
 def meet(alice, bob, document):
     logged, refused = exchange(alice, bob, document)
-    same = alice.front(document) == bob.front(document)
-    print(f"they meet: handed over {logged}, refused {len(refused)}; the fronts {'agree' if same else 'differ'}")
+    print(f"they meet: handed over {logged}, refused {len(refused)}; {verdict(alice, bob, document)}")
 
 
 def main(kind):
     document = "plan"
     with contextlib.ExitStack() as stack:
-        alice, bob = (two_over_tcp if kind == "tcp" else two_over_pipes)(stack, document)
+        start = over_tcp if kind == "tcp" else over_pipes
+        alice, bob = start(stack, document, "alice"), start(stack, document, "bob")
         alice.open(document)
         bob.open(document)
         alice.put(document, [0], {"title": "Plan", "guests": ["Ada"]})
@@ -58,11 +59,21 @@ def main(kind):
         bob.assign(document, [0, "title"], "Dinner party")
         meet(alice, bob, document)
         tell("settled", alice, bob, document)
+
+        # Alice's document ends with her program. Started again, under a new name, she gets all of it from bob.
         alice.quit()
+        again = start(stack, document, "alice-again")
+        again.open(document)
+        meet(again, bob, document)
+        tell("started again", again, bob, document)
+        again.quit()
         bob.quit()
 
 
 if __name__ == "__main__":
     if sys.argv[1:] not in (["pipes"], ["tcp"]):
         sys.exit(__doc__)
-    main(sys.argv[1])
+    try:
+        main(sys.argv[1])
+    except (OSError, Refused) as error:
+        sys.exit(f"two_servers: {error}")
