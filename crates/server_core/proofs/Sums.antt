@@ -3,12 +3,7 @@ use Rattle.std.proofs.Common.{◌≡◌, ℕ, zero, suc, ◌+◌, List, [], ◌�
 use Rattle.std.specs.List.{flat_map}
 use Rattle.doc_rules.specs.Seats.{Seat}
 use Rattle.locked_doc.specs.declared.gather.Totals.{Totals}
-use Rattle.server_core.specs.Sums.{AreTotals, AreTotalsFrom, first_end, later_ends}
-
--- what sessions gave back behind so many documents
-abbrev pub behind : ℕ → List (List (Option Seat)) → List (List (Option Seat))
-behind zero sessions = sessions
-behind (suc k) sessions = behind k (map later_ends sessions)
+use Rattle.server_core.specs.Sums.{AreTotals, AreTotalsFrom, behind, first_end, later_ends}
 
 pub behind-next : (k : ℕ) (sessions : List (List (Option Seat))) → map later_ends (behind k sessions) ≡ behind (suc k) sessions
 behind-next zero sessions = refl

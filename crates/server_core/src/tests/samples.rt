@@ -16,6 +16,20 @@ use std::sync::{Mutex, Wait};
 use std::test::*;
 use std::thread::Threads;
 
+/// A session of three changes of `a`.
+pub const THREE: &[u8] = br#"["open","a"]
+["assign","a",[0,"a"],1]
+["assign","a",[0,"a"],2]
+["assign","a",[0,"a"],3]
+["values","a",[0,"a"]]
+"#;
+
+/// A session of two changes of `a`, whose last line has no newline.
+pub const TWO: &[u8] = br#"["open","a"]
+["assign","a",[0,"b"],1]
+["assign","a",[0,"b"],2]
+["values","a",[0,"b"]]"#;
+
 /// A new document with so many seats.
 fn document<M: Marker>(
     alloc: Global,

@@ -1,7 +1,7 @@
 //! Sessions at one document: their replies, and what they did, added up.
 ghost use Rattle.std.specs.Prelude.{◌≡◌};
 
-use super::samples::{first_did, run_two, two_documents};
+use super::samples::{THREE, TWO, first_did, run_two, two_documents};
 use crate::doubles::Script;
 use crate::{Idle, Library, OpenGate, Side, Signalled, run_sessions};
 use json_scalar::Refusal;
@@ -14,19 +14,50 @@ use std::sync::{Mutex, Wait};
 use std::test::*;
 use std::thread::Threads;
 
-const THREE: &[u8] = br#"["open","a"]
-["assign","a",[0,"a"],1]
-["assign","a",[0,"a"],2]
-["assign","a",[0,"a"],3]
-["values","a",[0,"a"]]
+const THREE_TOLD: &[u8] = br#"["opened",_]
+["applied",1,0,[_,"srv-1"]]
+["applied",1,0,[_,"srv-1"]]
+["applied",1,0,[_,"srv-1"]]
+["values",[3]]
 "#;
 
-const TWO: &[u8] = br#"["open","a"]
-["assign","a",[0,"b"],1]
-["assign","a",[0,"b"],2]
-["values","a",[0,"b"]]"#;
+const TWO_TOLD: &[u8] = br#"["opened",_]
+["applied",1,0,[_,"srv-1"]]
+["applied",1,0,[_,"srv-1"]]
+["values",[2]]
+"#;
 
-/// Two sessions at one document are each told of their own, and add up.
+/// The bytes of the replies where the text has `_`, if the others are those of the text.
+fn filled(alloc: Global, text: &[u8], replies: &[u8]) -> Result<Vec<u8>, Fail> {
+    if replies.len() != text.len() {
+        return Err(Fail::from("more or fewer bytes"));
+    }
+    let mut found = Vec::new(alloc);
+    for (due, byte) in text.iter().zip(replies.iter()) {
+        if *due == b'_' {
+            found.push(*byte)?;
+        } else if *due != *byte {
+            return Err(Fail::from("another byte"));
+        }
+    }
+    Ok(found)
+}
+
+/// Behind the seats the counters rise in either session, and together they are those from 1 to 5.
+fn rise_together<R: Abort>(rt: &R, alloc: Global, first: &[u8], second: &[u8]) -> Result<(), Fail> {
+    let one = first.get(1..).unwrap_or(&[]);
+    let two = second.get(1..).unwrap_or(&[]);
+    assert!(rt; one.iter().is_sorted());
+    assert!(rt; two.iter().is_sorted());
+    let mut all = Vec::new(alloc);
+    all.extend_from_slice(one)?;
+    all.extend_from_slice(two)?;
+    all.sort_unstable();
+    assert_eq!(rt; all.as_slice(), b"12345".as_slice());
+    Ok(())
+}
+
+/// Two sessions at one document are each told of their own, line for line, whoever is first, and add up.
 fn adds_up<M: Marker + Send + Sync, R: Threads + Wait + Abort + Sync>(
     rt: &R,
     alloc: Global,
@@ -35,11 +66,15 @@ fn adds_up<M: Marker + Send + Sync, R: Threads + Wait + Abort + Sync>(
     requires { blank ≡ M.name }
 {
     let ran = run_two::<M, R, OpenGate>(rt, alloc, blank, &OpenGate, THREE, TWO)?;
-    assert!(rt; ran.first.as_slice().ends_with(b"[\"values\",[3]]\n"));
-    assert!(rt; ran.second.as_slice().ends_with(b"[\"values\",[2]]\n"));
-    if ran.first.as_slice().starts_with(b"[\"opened\",1]\n") {
+    let first = filled(alloc, THREE_TOLD, ran.first.as_slice())?;
+    let second = filled(alloc, TWO_TOLD, ran.second.as_slice())?;
+    rise_together(rt, alloc, first.as_slice(), second.as_slice())?;
+    if first.as_slice().starts_with(b"1") {
+        assert!(rt; second.as_slice().starts_with(b"2"));
         first_did(rt, ran.totals.as_slice(), 5, &[3, 2])
     } else {
+        assert!(rt; first.as_slice().starts_with(b"2"));
+        assert!(rt; second.as_slice().starts_with(b"1"));
         first_did(rt, ran.totals.as_slice(), 5, &[2, 3])
     }
 }
