@@ -1,0 +1,26 @@
+-- What was written is a report of a copy, the refusal of one, or a part of either.
+use Rattle.std.proofs.Common.{◌⊎◌, inl, inr, ℕ, List, Option, Result, Ok, Err, IfOk, IsOkAnd, refl}
+use Rattle.std.specs.Io.KnownBytes.{Appends}
+use Rattle.line_feed.specs.Cut.{AppendsCut}
+use Rattle.copy_docs.specs.Docs.{Doc, AreInOrder, AreGood}
+use Rattle.log_copy.specs.Kept.{Kept}
+use Rattle.copy_report.specs.Report.{IsReport, Reports, StopsShort, refusal_line, report}
+
+is_report : (docs : List Doc) (epoch : ℕ) → AreInOrder docs × AreGood docs → IsReport (report docs epoch)
+is_report docs epoch (in_order, good) = record { docs = docs; epoch = epoch; in_order = in_order; good = good; told = refl }
+
+pub reports : {S F : Type 0} (held holds : Option (List ℕ)) (r : Result (Kept S) F) → IfOk r (λ c. AreInOrder c.docs × AreGood c.docs)
+    → IsOkAnd r (λ c. Appends held holds (report c.docs c.epoch)) → Reports held holds
+reports held holds (Ok c) good told = (report c.docs c.epoch, is_report c.docs c.epoch good, told)
+reports held holds (Err e) good told = absurd told
+
+-- a part of a report, or nothing
+pub cut_short : {Same : Type 0} (held holds : Option (List ℕ)) (docs : List Doc) (epoch : ℕ) → AreInOrder docs × AreGood docs
+    → AppendsCut held holds (report docs epoch) ⊎ Same → StopsShort held holds ⊎ Same
+cut_short held holds docs epoch good (inl cut) = inl (inr (report docs epoch, inl (is_report docs epoch good), cut))
+cut_short held holds docs epoch good (inr same) = inr same
+
+-- the refusal, or a part of it
+pub refused_short : {Same : Type 0} (held holds : Option (List ℕ)) → Appends held holds refusal_line ⊎ AppendsCut held holds refusal_line → StopsShort held holds ⊎ Same
+refused_short held holds (inl whole) = inl (inl whole)
+refused_short held holds (inr cut) = inl (inr (refusal_line, inr refl, cut))
