@@ -1,7 +1,8 @@
 //! What standard error is told of a command line that can't be served. The status says that it can't; of this text no clause
 //! says anything, and `bench/whole-program` has one for each mistake.
 use crate::command_line::{
-    MAX_DOCUMENTS, MAX_NAME_BYTES, is_among, is_name, run_matches, serve_matches, sessions_of,
+    MAX_DOCUMENTS, MAX_NAME_BYTES, check_matches, is_among, is_name, run_matches, serve_matches,
+    sessions_of,
 };
 use clap::error::ErrorKind;
 use clap::{ArgMatches, Error};
@@ -9,7 +10,7 @@ use std::alloc::{AllocError, Global};
 
 /// How the program is called.
 pub const USAGE: &str =
-    "usage: jcrdt run [--name NAME] DOC..\n       jcrdt serve --addr A --sessions N [--name NAME] DOC..\n  NAME: 1 to 24, DOC: 1 to 32 of a-z, 0-9 and -; 1 to 16 documents of different names\n  A: an address to listen at, N: 1 to 256 sessions\n  Lines of JSON in, lines of JSON out: see docs/FORMATS.md.";
+    "usage: jcrdt run [--name NAME] DOC..\n       jcrdt serve --addr A --sessions N [--name NAME] DOC..\n       jcrdt check --file F\n  NAME: 1 to 24, DOC: 1 to 32 of a-z, 0-9 and -; 1 to 16 documents of different names\n  A: an address to listen at, N: 1 to 256 sessions\n  F: the file of a copy\n  Lines of JSON in, lines of JSON out: see docs/FORMATS.md.";
 
 /// What clap says was wrong, without its own usage. Nothing where help was asked for.
 fn clap_cause(alloc: Global, error: &Error) -> Result<Option<String>, AllocError> {
@@ -88,6 +89,14 @@ fn serve_cause(alloc: Global, words: &[&str]) -> Result<Option<String>, AllocErr
     }
 }
 
+/// The first thing that is wrong with the words of `check`.
+fn check_cause(alloc: Global, words: &[&str]) -> Result<Option<String>, AllocError> {
+    match check_matches(alloc, words) {
+        Ok(_) => Ok(None),
+        Err(error) => clap_cause(alloc, &error),
+    }
+}
+
 /// The first thing that is wrong with the words, as a line that names the word and says what is right; none where nothing is, where
 /// there are none, and where help is asked for.
 pub fn cause_of(alloc: Global, words: &[&str]) -> Result<Option<String>, AllocError> {
@@ -96,8 +105,11 @@ pub fn cause_of(alloc: Global, words: &[&str]) -> Result<Option<String>, AllocEr
         [first, ..] => match *first {
             "run" => run_cause(alloc, words),
             "serve" => serve_cause(alloc, words),
+            "check" => check_cause(alloc, words),
             "help" | "--help" | "-h" | "version" | "--version" | "-V" => Ok(None),
-            other => Ok(Some(format!(in alloc; "error: {other:?} is neither run nor serve")?)),
+            other => Ok(Some(format!(in alloc;
+                "error: {other:?} is none of run, serve and check"
+            )?)),
         },
     }
 }
