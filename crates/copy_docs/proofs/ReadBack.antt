@@ -14,7 +14,7 @@ use Rattle.serde_json.specs.Written.{number_text, outline, items_outline, compac
 use Rattle.serde_json.proofs.Numbers.{number_of-decimal, number_of-negative}
 use Rattle.serde_json.proofs.Texts.{print-outline}
 use Rattle.std.specs.List.{list_all}
-use Rattle.std.proofs.lemmas.Bool.{leb-true, ltb-true}
+use Rattle.std.proofs.lemmas.Bool.{leb-true, ltb-true, and_parts}
 use Rattle.serde_json.specs.Find.{of_integer}
 use Rattle.serde_json.specs.View.{items_of}
 use Rattle.lamport_id.specs.Limits.{greatest_counter}
@@ -28,7 +28,6 @@ use Rattle.op_core.specs.Shape.{is_id, is_entry, is_key, is_tagged, is_mutation,
 use Rattle.op_core.specs.Wire.{entry_data, key_data, tagged_data, mutation_data, wire}
 use Rattle.op_core.specs.declared.cursor.Key.TheVariants.{Doc, Text, Element, Head}
 use Rattle.op_core.specs.declared.cursor.Tagged.TheVariants as tagged
-use Rattle.op_core.proofs.Wires.{both}
 
 abbrev pub IsWhole : Num → Type 0
 IsWhole (unsigned n) = n < 2 ^ 64
@@ -114,7 +113,7 @@ read-compact_text d simple shallow =
 -- ---- the written form of an operation is such a value
 
 small : (id : Id) → is_id id ≡ true → id.counter < 2 ^ 64
-small id h = let last = (both (is_name id.replica && leb 1 id.counter) (leb id.counter greatest_counter) h).1 in omega (arith, leb-true id.counter 100000 last)
+small id h = let last = (and_parts (is_name id.replica && leb 1 id.counter) (leb id.counter greatest_counter) h).1 in omega (arith, leb-true id.counter 100000 last)
 
 simple_number : (z : ℤ) → is_val (Plain (Int z)) ≡ true → IsWhole (of_integer z)
 simple_number (pos n) h = omega (arith, ltb-true n (2 ^ 63) h)
@@ -146,14 +145,14 @@ simple_tagged (tagged.List key) h = (tt, (simple_key key h, tt))
 
 simple_each : {A : Type 0} (f : A → Data) (test : A → Bool) → ((x : A) → test x ≡ true → IsSimple (f x)) → (xs : List A) → list_all test xs ≡ true → AreSimple (items_of (map f xs))
 simple_each f test h [] all = tt
-simple_each f test h (x ∷ xs) all = let p = both (test x) (list_all test xs) all in (h x p.0, simple_each f test h xs p.1)
+simple_each f test h (x ∷ xs) all = let p = and_parts (test x) (list_all test xs) all in (h x p.0, simple_each f test h xs p.1)
 
 simple_wire : (op : Op) → has_parts op ≡ true → IsSimple (wire op)
 simple_wire op h =
-    let fourth = both (is_id op.id && list_all is_entry op.front && (list_all is_tagged op.cursor.path && is_key op.cursor.key)) (is_mutation op.mutation) h in
-    let third = both (is_id op.id && list_all is_entry op.front) (list_all is_tagged op.cursor.path && is_key op.cursor.key) fourth.0 in
-    let second = both (is_id op.id) (list_all is_entry op.front) third.0 in
-    let cursor = both (list_all is_tagged op.cursor.path) (is_key op.cursor.key) third.1 in
+    let fourth = and_parts (is_id op.id && list_all is_entry op.front && (list_all is_tagged op.cursor.path && is_key op.cursor.key)) (is_mutation op.mutation) h in
+    let third = and_parts (is_id op.id && list_all is_entry op.front) (list_all is_tagged op.cursor.path && is_key op.cursor.key) fourth.0 in
+    let second = and_parts (is_id op.id) (list_all is_entry op.front) third.0 in
+    let cursor = and_parts (list_all is_tagged op.cursor.path) (is_key op.cursor.key) third.1 in
     let front = simple_each entry_data is_entry (λ entry ok. (tt, (small (id_of entry) ok, tt))) op.front second.1 in
     let path = simple_each tagged_data is_tagged simple_tagged op.cursor.path cursor.0 in
     (tt, ((small op.id second.0, (tt, tt)), (front, ((path, (simple_key op.cursor.key cursor.1, tt)), (simple_mutation op.mutation fourth.1, tt)))))
@@ -195,8 +194,8 @@ flat_wire op =
 -- the text of an operation reads as its written form
 pub read-wire : (op : Op) → is_shaped op ≡ true → read (compact_text (wire op)) ≡ Some (wire op)
 read-wire op h =
-    let first = both (is_shallow op.cursor.path && has_form op) (has_front op) h in
-    let second = both (is_shallow op.cursor.path) (has_form op) first.0 in
-    let third = both (has_parts op && is_placed op.cursor.path op.cursor.key) (is_allowed op.mutation op.cursor) second.1 in
-    let parts = both (has_parts op) (is_placed op.cursor.path op.cursor.key) third.0 in
+    let first = and_parts (is_shallow op.cursor.path && has_form op) (has_front op) h in
+    let second = and_parts (is_shallow op.cursor.path) (has_form op) first.0 in
+    let third = and_parts (has_parts op && is_placed op.cursor.path op.cursor.key) (is_allowed op.mutation op.cursor) second.1 in
+    let parts = and_parts (has_parts op) (is_placed op.cursor.path op.cursor.key) third.0 in
     read-compact_text (wire op) (simple_wire op parts.0) (omega (arith, flat_wire op))

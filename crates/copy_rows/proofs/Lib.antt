@@ -1,6 +1,5 @@
 mod Rows
 pub mod RowLemmas
-mod BatchLemmas
+pub mod BatchLemmas
 pub mod NextLemmas
 pub mod SortLemmas
-mod TextLemmas

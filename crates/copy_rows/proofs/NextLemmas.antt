@@ -3,6 +3,7 @@ use Rattle.std.proofs.Common.{◌≡◌, ◌≢◌, ◌+◌, ◌<◌, ◌^◌, �
 use Rattle.std.specs.List.{AllByRecursion, list_any}
 use Rattle.std.specs.Ordering.{is_lt}
 use Rattle.std.specs.Str.{bytes_eq}
+use Rattle.op_log.proofs.Fronts.{names_differ}
 use Rattle.sqlite.specs.Order.{Row}
 use Rattle.sqlite_keyed.proofs.ListLemmas.{all-append, all_weaker}
 use Rattle.lamport_id.specs.Name.{is_name}
@@ -14,8 +15,7 @@ use Rattle.crdt_rules.specs.Log.{IsGood}
 use Rattle.crdt_rules.proofs.Logs.{good_split}
 use Rattle.doc_rules.proofs.OneAnswer.{name_order}
 use Rattle.copy_tables.specs.Content.{entry_row, rows_from}
-use Rattle.copy_docs.specs.Docs.{Doc, AreInOrder, AreGood, is_named, op_text, log_of, behind, extend, put_doc, add_log, UnlessWanting}
-use Rattle.copy_docs.proofs.DocLemmas.{differ}
+use Rattle.copy_docs.specs.Docs.{Doc, AreInOrder, AreGood, is_named, op_text, log_of, longer_by, extend, put_doc, add_log, UnlessWanting}
 use Rattle.copy_docs.specs.declared.fault.Fault.{Fault}
 use Rattle.copy_docs.specs.declared.fault.Fault.TheVariants.{Refused, Store, Memory}
 use Rattle.copy_rows.proofs.RowLemmas.{few_rows}
@@ -34,7 +34,7 @@ ending done name [] = done
 ending done name (op ∷ ops) = done ++ (record { name = name; log = op ∷ ops }) ∷ []
 
 not_named : (name : List ℕ) (d : Doc) → IsBefore name d → is_named name d ≡ false
-not_named name d less = differ d.name name (λ same. irreflexive name_order {x = name} (subst (λ n. name_cmp n name ≡ Less) same less))
+not_named name d less = names_differ d.name name (λ same. irreflexive name_order {x = name} (subst (λ n. name_cmp n name ≡ Less) same less))
 
 not_less : (o : Ordering) → (o ≡ Less → ⊥) → is_lt o ≡ false
 not_less Less h = absurd (h refl)
@@ -75,7 +75,7 @@ module _ (name : List ℕ) where
   one_more done (first ∷ ops) op h =
       let last : Doc = record { name = name; log = first ∷ ops } in
       let some : list_any (λ d. is_named name d) (done ++ last ∷ []) ≡ true = any_ending done (last ∷ []) h ∙ rw named_itself refl in
-      let ends : extend name (op ∷ []) (last ∷ []) ≡ behind (op ∷ []) last ∷ [] = rw named_itself refl in
+      let ends : extend name (op ∷ []) (last ∷ []) ≡ longer_by (op ∷ []) last ∷ [] = rw named_itself refl in
       rw some (extend_ending (op ∷ []) done (last ∷ []) h ∙ ap (λ z. done ++ z) ends)
 
   module _ (format : ℕ) (done : List Doc) (before : AreBefore name done) (named : is_name name ≡ true) (later : List Row) where

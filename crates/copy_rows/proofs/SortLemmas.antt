@@ -17,12 +17,12 @@ use Rattle.sqlite_keyed.proofs.SortLemmas.{sorted_unique}
 use Rattle.sqlite_sql.proofs.QueryLemmas.{key_cmp_total}
 use Rattle.lamport_id.specs.Order.{name_cmp}
 use Rattle.list_laws.proofs.Members.{Contains-here, Contains-there}
-use Rattle.copy_tables.specs.Content.{Content, Holds, meta_row, entry_row, rows_from, meta_columns, entry_columns, meta_tree, entry_tree, meta_cmp, entry_cmp, rising}
+use Rattle.copy_tables.specs.Content.{Content, Holds, meta_row, entry_row, rows_from, meta_columns, entry_columns, meta_tree, entry_tree, meta_cmp, row_cmp, rising}
 use Rattle.copy_docs.specs.Docs.{Doc, AreInOrder, op_text}
 use Rattle.copy_rows.specs.Rows.{doc_rows, rows_of}
 
 abbrev IsLess : Row → Row → Type 0
-IsLess a b = entry_cmp a b ≡ Less
+IsLess a b = row_cmp a b ≡ Less
 
 int_less : (p q : ℕ) → p < q → int_cmp (pos p) (pos q) ≡ Less
 int_less p q h = grind (arith, nat_tests)
@@ -63,10 +63,10 @@ rows_rise (d ∷ docs) h = ascending-append IsLess (doc_rows d) (rows_of docs) (
 
 module _ (what : Content) (trees : Trees) (holds : Holds what trees) where
   -- the entries are read as they stand in the documents
-  pub entries_are : (docs : List Doc) (rows : List Row) → AreInOrder docs → what.rows ≡ rows_of docs → IsPermutation (map entry_columns (trees entry_tree)) rows → IsSorted entry_cmp rows → rows ≡ rows_of docs
+  pub entries_are : (docs : List Doc) (rows : List Row) → AreInOrder docs → what.rows ≡ rows_of docs → IsPermutation (map entry_columns (trees entry_tree)) rows → IsSorted row_cmp rows → rows ≡ rows_of docs
   entries_are docs rows in_order are same sorted =
       let moved = subst (λ z. IsPermutation z rows) are (IsPermutation-trans _ _ _ holds.entry same) in
-      sorted_unique entry_cmp (key_cmp_total (rising ∷ rising ∷ []) 0) (rows_of docs) rows (rows_rise docs in_order) moved sorted
+      sorted_unique row_cmp (key_cmp_total (rising ∷ rising ∷ []) 0) (rows_of docs) rows (rows_rise docs in_order) moved sorted
 
   -- and the two numbers with the format first
   pub numbers_are : (rows : List Row) → IsPermutation (map meta_columns (trees meta_tree)) rows → IsSorted meta_cmp rows

@@ -1,3 +1,3 @@
 pub mod Rows
-pub mod Parsed
 pub mod Accepted
+pub mod Parsed

@@ -1,6 +1,10 @@
 //! A test is a list of steps over one database, each with what it has to tell.
+mod disks;
+mod files;
 mod formats;
 mod kept;
+mod refused;
 mod restored;
 mod samples;
 mod steps;
+mod stops;

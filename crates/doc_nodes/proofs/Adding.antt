@@ -1,5 +1,5 @@
 -- More room in one node, and one node more, change nothing of what the nodes say.
-use Rattle.std.proofs.Common.{◌≡◌, ℕ, ◌+◌, ◌<◌, ◌≤◌, List, [], ◌∷◌, ◌++◌, length, set, Bool, true, false, if◌then◌else◌, Option, Some, None, ◌⊎◌, inl, inr, ⊎_elim, refl, sym, ap, ◌∙◌, subst, arith}
+use Rattle.std.proofs.Common.{◌≡◌, ℕ, ◌+◌, ◌<◌, ◌≤◌, List, [], ◌∷◌, ◌++◌, length, set, Bool, true, false, if◌then◌else◌, Option, Some, None, ◌⊎◌, inl, inr, ⊎_elim, refl, sym, ap, ◌∙◌, subst, arith, true≢false}
 use Rattle.std.proofs.lemmas.List.{get_or_past, get_or_append_left, get_or_push, length_push, length-set}
 use Rattle.std.proofs.lemmas.Bool.{cases_eq, cases_lt}
 use Rattle.op_core.specs.declared.cursor.Key.{Key}
@@ -8,7 +8,7 @@ use Rattle.crdt_rules.proofs.SameLaws.{key_decides}
 use Rattle.doc_nodes.specs.declared.node.NodeNumber.{NodeNumber}
 use Rattle.doc_nodes.specs.declared.node.Node.{Node}
 use Rattle.doc_nodes.specs.Children.{number_at}
-use Rattle.doc_nodes.specs.Nodes.{blank, node_of, child_of, AreTree}
+use Rattle.doc_nodes.specs.Nodes.{blank_node, node_of, child_of, AreTree}
 use Rattle.doc_nodes.specs.Growth.{Grows, with_child, IsFresh}
 use Rattle.doc_nodes.proofs.ChildrenLaws.{number_at-insert_rank}
 use Rattle.doc_nodes.proofs.Marking.{here-set, other-set, eq_number, shape-set}
@@ -21,13 +21,21 @@ module _ (nodes : List Node) (n : NodeNumber) (within : n.0 < length nodes) wher
       (λ e. subst (λ z. part (node_of nodes j) ≤ part z) (sym (other-set nodes n j node e)) (omega arith))
       (cases_eq j.0 n.0)
 
+  no_less_room : (node : Node) → ((node_of nodes n).presence.1 ≡ true → node.presence.1 ≡ true)
+      → (j : NodeNumber) → (node_of nodes j).presence.1 ≡ true → (node_of (set nodes n.0 node) j).presence.1 ≡ true
+  no_less_room node more j room = ⊎_elim
+      (λ e. subst (λ z. (node_of (set nodes n.0 node) z).presence.1 ≡ true) (sym (eq_number j n e))
+      (subst (λ z. z.presence.1 ≡ true) (sym (here-set nodes n node within)) (more (subst (λ z. (node_of nodes z).presence.1 ≡ true) (eq_number j n e) room))))
+      (λ e. subst (λ z. z.presence.1 ≡ true) (sym (other-set nodes n j node e)) room)
+      (cases_eq j.0 n.0)
+
   -- a node that says the same with no less room
   pub record SaysTheSame (node : Node) : Type 0 where
     pub presence : node.presence.0 ≡ (node_of nodes n).presence.0
     pub register : node.register.0 ≡ (node_of nodes n).register.0
     pub counter : node.counter.0 ≡ (node_of nodes n).counter.0
     pub order : node.order.0 ≡ (node_of nodes n).order.0
-    pub presence_room : (node_of nodes n).presence.1 ≤ node.presence.1
+    pub presence_room : (node_of nodes n).presence.1 ≡ true → node.presence.1 ≡ true
     pub register_room : (node_of nodes n).register.1 ≤ node.register.1
     pub counter_room : (node_of nodes n).counter.1 ≤ node.counter.1
     pub order_room : (node_of nodes n).order.1 ≤ node.order.1
@@ -40,7 +48,7 @@ module _ (nodes : List Node) (n : NodeNumber) (within : n.0 < length nodes) wher
     register = unwritten nodes n within (λ z. z.register.0) node same.register;
     counter = unwritten nodes n within (λ z. z.counter.0) node same.counter;
     order = unwritten nodes n within (λ z. z.order.0) node same.order;
-    presence_room = no_less (λ z. z.presence.1) node same.presence_room;
+    presence_room = no_less_room node same.presence_room;
     register_room = no_less (λ z. z.register.1) node same.register_room;
     counter_room = no_less (λ z. z.counter.1) node same.counter_room;
     order_room = no_less (λ z. z.order.1) node same.order_room;
@@ -58,19 +66,19 @@ module _ (nodes : List Node) (tree : AreTree nodes) (n : NodeNumber) (within : n
 
   -- which node stands at a number
   before : (j : NodeNumber) → j.0 < length nodes → node_of added j ≡ node_of written j
-  before j l = get_or_append_left written (fresh ∷ []) blank j.0 (omega (arith, length-set nodes n.0 (with_child k number (node_of nodes n)), l))
+  before j l = get_or_append_left written (fresh ∷ []) blank_node j.0 (omega (arith, length-set nodes n.0 (with_child k number (node_of nodes n)), l))
 
   at_number : (j : NodeNumber) → j.0 ≡ length nodes → node_of added j ≡ fresh
-  at_number j e = get_or_push written fresh blank j.0 (length-set nodes n.0 (with_child k number (node_of nodes n)) ∙ sym e)
+  at_number j e = get_or_push written fresh blank_node j.0 (length-set nodes n.0 (with_child k number (node_of nodes n)) ∙ sym e)
 
-  past : (j : NodeNumber) → length nodes < j.0 → node_of added j ≡ blank
-  past j l = get_or_past added j.0 blank (omega (arith, length_push written fresh, length-set nodes n.0 (with_child k number (node_of nodes n)), l))
+  past : (j : NodeNumber) → length nodes < j.0 → node_of added j ≡ blank_node
+  past j l = get_or_past added j.0 blank_node (omega (arith, length_push written fresh, length-set nodes n.0 (with_child k number (node_of nodes n)), l))
 
-  missing : (j : NodeNumber) → length nodes ≤ j.0 → node_of nodes j ≡ blank
-  missing j l = get_or_past nodes j.0 blank l
+  missing : (j : NodeNumber) → length nodes ≤ j.0 → node_of nodes j ≡ blank_node
+  missing j l = get_or_past nodes j.0 blank_node l
 
   -- what a part says that the new child does not touch
-  same_part : {X : Type 0} (part : Node → X) → part (with_child k number (node_of nodes n)) ≡ part (node_of nodes n) → part fresh ≡ part blank
+  same_part : {X : Type 0} (part : Node → X) → part (with_child k number (node_of nodes n)) ≡ part (node_of nodes n) → part fresh ≡ part blank_node
       → (j : NodeNumber) → part (node_of added j) ≡ part (node_of nodes j)
   same_part part kept empty j = ⊎_elim
       (λ l. ap part (before j l) ∙ unwritten nodes n within part (with_child k number (node_of nodes n)) kept j)
@@ -80,11 +88,17 @@ module _ (nodes : List Node) (tree : AreTree nodes) (n : NodeNumber) (within : n
       (cases_eq j.0 (length nodes)))
       (cases_lt j.0 (length nodes))
 
-  fewer : (part : Node → ℕ) → part (with_child k number (node_of nodes n)) ≡ part (node_of nodes n) → part blank ≡ 0
+  fewer : (part : Node → ℕ) → part (with_child k number (node_of nodes n)) ≡ part (node_of nodes n) → part blank_node ≡ 0
       → (j : NodeNumber) → part (node_of nodes j) ≤ part (node_of added j)
   fewer part kept zero j = ⊎_elim
       (λ l. omega (arith, ap part (before j l), unwritten nodes n within part (with_child k number (node_of nodes n)) kept j))
       (λ l. omega (arith, ap part (missing j l), zero))
+      (cases_lt j.0 (length nodes))
+
+  no_fewer : (j : NodeNumber) → (node_of nodes j).presence.1 ≡ true → (node_of added j).presence.1 ≡ true
+  no_fewer j room = ⊎_elim
+      (λ l. ap (λ z. z.presence.1) (before j l) ∙ unwritten nodes n within (λ z. z.presence.1) (with_child k number (node_of nodes n)) refl j ∙ room)
+      (λ l. absurd (true≢false (sym room ∙ ap (λ z. z.presence.1) (missing j l))))
       (cases_lt j.0 (length nodes))
 
   -- the children are the old ones and the new one
@@ -161,7 +175,7 @@ module _ (nodes : List Node) (tree : AreTree nodes) (n : NodeNumber) (within : n
     register = same_part (λ z. z.register.0) refl is_fresh.register;
     counter = same_part (λ z. z.counter.0) refl is_fresh.counter;
     order = same_part (λ z. z.order.0) refl is_fresh.order;
-    presence_room = fewer (λ z. z.presence.1) refl refl;
+    presence_room = no_fewer;
     register_room = fewer (λ z. z.register.1) refl refl;
     counter_room = fewer (λ z. z.counter.1) refl refl;
     order_room = fewer (λ z. z.order.1) refl refl;

@@ -9,17 +9,17 @@ use Rattle.crdt_rules.specs.Same.{id_eq}
 use Rattle.crdt_rules.proofs.SameLaws.{id_decides}
 use Rattle.doc_words.specs.declared.role.Role.{Role}
 use Rattle.doc_words.specs.declared.role.Role.TheVariants.{Through}
-use Rattle.presence_set.specs.ById.{get, put, uncovered}
+use Rattle.presence_set.specs.ById.{get, put_at_id, uncovered}
 use Rattle.presence_set.proofs.ByIdLaws.{get-put, get-uncovered}
 use Rattle.doc_nodes.specs.declared.node.NodeNumber.{NodeNumber}
 use Rattle.doc_nodes.specs.declared.node.Node.{Node}
-use Rattle.doc_nodes.specs.Walk.{walk, root, IsTree}
-use Rattle.doc_nodes.specs.Nodes.{blank, node_of, child_of, cleared, AreTree, ClearsUnder}
-use Rattle.doc_nodes.specs.Marks.{marked, role_before, MarksAlong}
+use Rattle.doc_nodes.specs.Walk.{walk, root}
+use Rattle.doc_nodes.specs.Nodes.{blank_node, node_of, child_of, cleared, AreTree, ClearsUnder}
+use Rattle.doc_nodes.specs.Marks.{role_before, MarksAlong}
 use Rattle.doc_nodes.specs.Writes.{with_scalar, with_number, with_entry}
 use Rattle.doc_nodes.specs.Growth.{Grows}
-use Rattle.doc_nodes.specs.Flags.{plain, unflagged, is_some_entry, stands}
-use Rattle.doc_nodes.specs.Backing.{StandsAt, IsPresentBy, IsBacked, AreBackedFrom, AreBacked}
+use Rattle.doc_nodes.specs.Flags.{plain, unflagged, is_some_entry, node_stands}
+use Rattle.doc_nodes.specs.Backing.{HasEntry, IsPresentBy, IsBacked, AreBackedFrom, AreBacked}
 use Rattle.doc_nodes.proofs.Walks.{parts_of, walk_join}
 use Rattle.doc_nodes.proofs.Clearing.{same_children}
 use Rattle.doc_nodes.proofs.Marking.{here-set, other-set, eq_number, shape-set}
@@ -28,10 +28,10 @@ use Rattle.doc_nodes.proofs.Plain.{node_of-plain, child_of-plain, tree-plain}
 
 -- what stands in entries
 module _ {X : Type 0} where
-  no_entry : (entries : List (Id × X)) (i : Id) → entries ≡ [] → StandsAt entries i → ⊥
+  no_entry : (entries : List (Id × X)) (i : Id) → entries ≡ [] → HasEntry entries i → ⊥
   no_entry entries i none there = true≢false (sym there ∙ ap (λ l. is_some (get l i)) none)
 
-  none_stands : (entries : List (Id × X)) → ((i : Id) → StandsAt entries i → ⊥) → entries ≡ []
+  none_stands : (entries : List (Id × X)) → ((i : Id) → HasEntry entries i → ⊥) → entries ≡ []
   none_stands [] none = refl
   none_stands (e ∷ entries) none =
       absurd (none e.0 (subst (λ b. is_some (if b then Some e.1 else get entries e.0) ≡ true) (sym (id_decides.itself e.0)) refl))
@@ -39,35 +39,35 @@ module _ {X : Type 0} where
   uncovered-none : (front : List (List ℕ × ℕ)) (entries : List (Id × X)) → entries ≡ [] → uncovered front entries ≡ entries
   uncovered-none front entries none = ap (uncovered front) none ∙ sym none
 
-  stands-before : (entries : List (Id × X)) (front : List (List ℕ × ℕ)) (i : Id) → StandsAt (uncovered front entries) i → StandsAt entries i
+  stands-before : (entries : List (Id × X)) (front : List (List ℕ × ℕ)) (i : Id) → HasEntry (uncovered front entries) i → HasEntry entries i
   stands-before entries front i there = go (covers front i) (subst (λ o. is_some o ≡ true) (get-uncovered front entries i) there)
     where
       go : (b : Bool) → is_some (if b then None else get entries i) ≡ true → is_some (get entries i) ≡ true
       go true h = absurd (true≢false (sym h))
       go false h = h
 
-  stands-after : (entries : List (Id × X)) (id : Id) (x : X) (i : Id) → StandsAt entries i → StandsAt (put entries id x) i
+  stands-after : (entries : List (Id × X)) (id : Id) (x : X) (i : Id) → HasEntry entries i → HasEntry (put_at_id entries id x) i
   stands-after entries id x i there = subst (λ o. is_some o ≡ true) (sym (get-put entries id x i)) (go (id_eq id i))
     where
       go : (b : Bool) → is_some (if b then Some x else get entries i) ≡ true
       go true = refl
       go false = there
 
-  stands-own : (entries : List (Id × X)) (id : Id) (x : X) → StandsAt (put entries id x) id
+  stands-own : (entries : List (Id × X)) (id : Id) (x : X) → HasEntry (put_at_id entries id x) id
   stands-own entries id x =
       subst (λ o. is_some o ≡ true) (sym (get-put entries id x id))
       (subst (λ b. is_some (if b then Some x else get entries id) ≡ true) (sym (id_decides.itself id)) refl)
 
-  stands-in_put : (entries : List (Id × X)) (id : Id) (x : X) (i : Id) → StandsAt (put entries id x) i → (id ≡ i) ⊎ StandsAt entries i
+  stands-in_put : (entries : List (Id × X)) (id : Id) (x : X) (i : Id) → HasEntry (put_at_id entries id x) i → (id ≡ i) ⊎ HasEntry entries i
   stands-in_put entries id x i there = go (id_eq id i) refl (subst (λ o. is_some o ≡ true) (get-put entries id x i) there)
     where
-      go : (b : Bool) → id_eq id i ≡ b → is_some (if b then Some x else get entries i) ≡ true → (id ≡ i) ⊎ StandsAt entries i
+      go : (b : Bool) → id_eq id i ≡ b → is_some (if b then Some x else get entries i) ≡ true → (id ≡ i) ⊎ HasEntry entries i
       go true same h = inl (id_decides.same id i same)
       go false other h = inr h
 
 -- what is taken out of both alike
-stands-uncovered : {X Y : Type 0} (fewer : List (Id × X)) (more : List (Id × Y)) → ((i : Id) → StandsAt fewer i → StandsAt more i)
-    → (front : List (List ℕ × ℕ)) (i : Id) → StandsAt (uncovered front fewer) i → StandsAt (uncovered front more) i
+stands-uncovered : {X Y : Type 0} (fewer : List (Id × X)) (more : List (Id × Y)) → ((i : Id) → HasEntry fewer i → HasEntry more i)
+    → (front : List (List ℕ × ℕ)) (i : Id) → HasEntry (uncovered front fewer) i → HasEntry (uncovered front more) i
 stands-uncovered fewer more within front i there =
     subst (λ o. is_some o ≡ true) (sym (get-uncovered front more i)) (go (covers front i) (subst (λ o. is_some o ≡ true) (get-uncovered front fewer i) there))
   where
@@ -152,7 +152,7 @@ no_entries : (entries : List (Id × Role)) → is_some_entry entries ≡ false �
 no_entries [] none = refl
 no_entries (e ∷ entries) none = absurd (true≢false none)
 
-pub clears-absent : (front : List (List ℕ × ℕ)) (nodes : List Node) (n : NodeNumber) → AreTree nodes → AreBackedFrom nodes n.0 → stands nodes (Some n) ≡ false
+pub clears-absent : (front : List (List ℕ × ℕ)) (nodes : List Node) (n : NodeNumber) → AreTree nodes → AreBackedFrom nodes n.0 → node_stands nodes (Some n) ≡ false
     → ClearsUnder front (plain nodes) (plain nodes) n
 clears-absent front nodes n tree backed absent =
     clears_nothing front (plain nodes) n (tree-plain nodes tree) (backed-plain nodes n.0 backed)
@@ -244,8 +244,8 @@ module _ (id : Id) (role : Role) (old new : List Node) (keys : List Key) (tree :
   backed_along : AreBacked old → AreBacked new
   backed_along backed = record {
     each = λ j. record {
-      register = λ i there. still_present j i ((backed.each j).register i (subst (λ z. StandsAt z.0 i) (marks.kept j).0 there));
-      counter = λ i there. still_present j i ((backed.each j).counter i (subst (λ z. StandsAt z.0 i) (marks.kept j).1 there));
+      register = λ i there. still_present j i ((backed.each j).register i (subst (λ z. HasEntry z.0 i) (marks.kept j).0 there));
+      counter = λ i there. still_present j i ((backed.each j).counter i (subst (λ z. HasEntry z.0 i) (marks.kept j).1 there));
     };
     above = λ p k c i le down there.
         let was : child_of old p k ≡ Some c = ap (λ f. f p k) (sym marks.shape) ∙ down in
@@ -280,23 +280,23 @@ backed-set nodes at node within children presence here backed = record {
       (λ apart. subst IsBacked (sym (other-set nodes at n node apart)) (backed.each n))
       (cases_eq n.0 at.0);
   above = λ n k c i le down there.
-      subst (λ z. StandsAt z.0 i) (sym (unwritten nodes at within (λ z. z.presence) node presence n))
+      subst (λ z. HasEntry z.0 i) (sym (unwritten nodes at within (λ z. z.presence) node presence n))
       (backed.above n k c i le (ap (λ f. f n k) (sym (shape-set nodes at node within children)) ∙ down)
-      (subst (λ z. StandsAt z.0 i) (unwritten nodes at within (λ z. z.presence) node presence c) there));
+      (subst (λ z. HasEntry z.0 i) (unwritten nodes at within (λ z. z.presence) node presence c) there));
 }
 
 -- the nodes grow
 pub backed-grown : (old new : List Node) → Grows old new → AreBacked old → AreBacked new
 backed-grown old new grows backed = record {
   each = λ n. record {
-    register = λ i there. subst (λ l. StandsAt l i) (sym (grows.presence n)) ((backed.each n).register i (subst (λ l. StandsAt l i) (grows.register n) there));
-    counter = λ i there. subst (λ l. StandsAt l i) (sym (grows.presence n)) ((backed.each n).counter i (subst (λ l. StandsAt l i) (grows.counter n) there));
+    register = λ i there. subst (λ l. HasEntry l i) (sym (grows.presence n)) ((backed.each n).register i (subst (λ l. HasEntry l i) (grows.register n) there));
+    counter = λ i there. subst (λ l. HasEntry l i) (sym (grows.presence n)) ((backed.each n).counter i (subst (λ l. HasEntry l i) (grows.counter n) there));
   };
   above = λ n k c i le down there.
-      let was = subst (λ l. StandsAt l i) (grows.presence c) there in
+      let was = subst (λ l. HasEntry l i) (grows.presence c) there in
       ⊎_elim
-      (λ less. subst (λ l. StandsAt l i) (sym (grows.presence n)) (backed.above n k c i le (grows.back n k c down less) was))
-      (λ past. absurd (no_entry (node_of old c).presence.0 i (ap (λ z. z.presence.0) (get_or_past old c.0 blank past)) was))
+      (λ less. subst (λ l. HasEntry l i) (sym (grows.presence n)) (backed.above n k c i le (grows.back n k c down less) was))
+      (λ past. absurd (no_entry (node_of old c).presence.0 i (ap (λ z. z.presence.0) (get_or_past old c.0 blank_node past)) was))
       (cases_lt c.0 (length old));
 }
 

@@ -9,9 +9,10 @@ use Rattle.doc_nodes.specs.declared.node.NodeNumber.{NodeNumber}
 use Rattle.doc_nodes.specs.declared.node.Node.{Node}
 use Rattle.doc_nodes.specs.Children.{number_at}
 use Rattle.doc_nodes.specs.Walk.{walk, IsTree}
-use Rattle.doc_nodes.specs.Nodes.{blank, node_of, child_of, cleared, ClearsUnder, AreTree}
+use Rattle.doc_nodes.specs.Nodes.{blank_node, node_of, child_of, cleared, ClearsUnder, AreTree}
 use Rattle.doc_nodes.proofs.ChildrenLaws.{number_at-Contains}
 use Rattle.doc_nodes.proofs.Walks.{parts_of}
+use Rattle.doc_nodes.proofs.Marking.{eq_number}
 
 pub cleared-cleared : (front : List (List ℕ × ℕ)) (node : Node) → cleared front (cleared front node) ≡ cleared front node
 cleared-cleared front node =
@@ -57,24 +58,21 @@ pub record ClearsFirst (front : List (List ℕ × ℕ)) (old new : List Node) (a
 module _ (front : List (List ℕ × ℕ)) (old new : List Node) (at : NodeNumber) where
   pub none_yet : at.0 < length old → new ≡ set old at.0 (cleared front (node_of old at)) → ClearsFirst front old new at 0
   none_yet inside is = record {
-    each = λ j. ⊎_elim (λ e. inr (at_node j (eq_number j e))) (λ e. inl (other j e)) (cases_eq j.0 at.0);
-    changed = λ j. ⊎_elim (λ e. inr ([], ap Some (sym (eq_number j e)))) (λ e. inl (other j e)) (cases_eq j.0 at.0);
+    each = λ j. ⊎_elim (λ e. inr (at_node j (eq_number j at e))) (λ e. inl (other j e)) (cases_eq j.0 at.0);
+    changed = λ j. ⊎_elim (λ e. inr ([], ap Some (sym (eq_number j at e)))) (λ e. inl (other j e)) (cases_eq j.0 at.0);
     here = here;
     below = λ i none within d j keys e. absurd (omega arith);
-    outside = λ j unreached. ⊎_elim (λ e. absurd (unreached [] (ap Some (sym (eq_number j e))))) (λ e. other j e) (cases_eq j.0 at.0);
+    outside = λ j unreached. ⊎_elim (λ e. absurd (unreached [] (ap Some (sym (eq_number j at e))))) (λ e. other j e) (cases_eq j.0 at.0);
   }
     where
-      eq_number : (j : NodeNumber) → j.0 ≡ at.0 → j ≡ at
-      eq_number j e = λ i. record { 0 = e i }
-
       here : node_of new at ≡ cleared front (node_of old at)
-      here = ap (λ l. node_of l at) is ∙ get_or-set_same old at.0 (cleared front (node_of old at)) blank inside
+      here = ap (λ l. node_of l at) is ∙ get_or-set_same old at.0 (cleared front (node_of old at)) blank_node inside
 
       at_node : (j : NodeNumber) → j ≡ at → node_of new j ≡ cleared front (node_of old j)
       at_node j e = subst (λ z. node_of new z ≡ cleared front (node_of old z)) (sym e) here
 
       other : (j : NodeNumber) → j.0 ≢ at.0 → node_of new j ≡ node_of old j
-      other j e = ap (λ l. node_of l j) is ∙ get_or-set_other old at.0 j.0 (cleared front (node_of old at)) blank e
+      other j e = ap (λ l. node_of l j) is ∙ get_or-set_other old at.0 j.0 (cleared front (node_of old at)) blank_node e
 
   pub one_more : (next : List Node) (i : ℕ) (c : NodeNumber) → ClearsFirst front old new at i → i < length (node_of old at).children
       → ((d : Key × NodeNumber) → (get_or (node_of old at).children i d).1 ≡ c) → (k : Key) → child_of old at k ≡ Some c

@@ -1,44 +1,41 @@
 -- Lists tell which of their elements are present, after each write.
-use Rattle.std.proofs.Common.{◌≡◌, ◌≢◌, ◌<◌, List, length, set, get_or, Bool, true, false, Option, Some, None, ◌⊎◌, inl, inr, ⊎_elim, refl, sym, ap, ◌∙◌, subst, true≢false, arith, Contains}
+use Rattle.std.proofs.Common.{◌≡◌, ◌<◌, List, length, set, Bool, true, false, Option, Some, None, ◌⊎◌, inl, inr, ⊎_elim, refl, sym, ap, ◌∙◌, subst, true≢false, arith, Contains}
 use Rattle.std.proofs.lemmas.Bool.{cases_eq, cases_lt}
 use Rattle.std.proofs.lemmas.List.{get_or_past}
 use Rattle.doc_words.specs.Words.{Id, Key}
 use Rattle.op_core.specs.declared.cursor.Key.TheVariants.{Doc, Text, Element, Head}
 use Rattle.crdt_rules.specs.Same.{id_eq}
 use Rattle.crdt_rules.proofs.SameLaws.{id_decides, eq_from}
-use Rattle.doc_words.specs.declared.role.Role.{Role}
-use Rattle.list_order.specs.Entries.{with_presence}
 use Rattle.list_order.proofs.Entries.{entry-with, entry-insert}
 use Rattle.doc_nodes.specs.declared.node.NodeNumber.{NodeNumber}
 use Rattle.doc_nodes.specs.declared.node.Node.{Node}
 use Rattle.doc_nodes.specs.Children.{element_of}
 use Rattle.doc_nodes.specs.Walk.{root}
-use Rattle.doc_nodes.specs.Nodes.{blank, node_of, child_of, AreTree}
-use Rattle.doc_nodes.specs.Marks.{marked}
+use Rattle.doc_nodes.specs.Nodes.{blank_node, node_of, child_of, AreTree}
 use Rattle.doc_nodes.specs.Writes.{with_entry}
 use Rattle.doc_nodes.specs.Growth.{Grows}
-use Rattle.doc_nodes.specs.Flags.{is_some_entry, stands, flagged, told, IsFlagged, IsFlaggedBut, AreFlagged, AreFlaggedBut}
+use Rattle.doc_nodes.specs.Flags.{is_some_entry, node_stands, flagged, told, IsFlagged, IsFlaggedBut, AreFlagged, AreFlaggedBut}
 use Rattle.doc_nodes.proofs.Marking.{here-set, other-set, eq_number, shape-set}
 use Rattle.doc_nodes.proofs.WriteFacts.{unwritten}
 
 -- where the list says the same, and the child stands as it did
 flag_kept : (old new : List Node) (n : NodeNumber) (i : Id) → (node_of new n).order.0 ≡ (node_of old n).order.0
-    → stands new (child_of new n (Element i)) ≡ stands old (child_of old n (Element i)) → IsFlagged old n i → IsFlagged new n i
+    → node_stands new (child_of new n (Element i)) ≡ node_stands old (child_of old n (Element i)) → IsFlagged old n i → IsFlagged new n i
 flag_kept old new n i order same right is c = right is (subst (λ l. Contains l (i, is)) order c) ∙ sym same
 
 -- growth changes nothing of that
 module _ (old new : List Node) (grows : Grows old new) where
-  same_stands : (n : NodeNumber) (k : Key) → stands new (child_of new n k) ≡ stands old (child_of old n k)
+  same_stands : (n : NodeNumber) (k : Key) → node_stands new (child_of new n k) ≡ node_stands old (child_of old n k)
   same_stands n k = go (child_of old n k) refl (child_of new n k) refl
     where
-      go : (a : Option NodeNumber) → child_of old n k ≡ a → (b : Option NodeNumber) → child_of new n k ≡ b → stands new b ≡ stands old a
+      go : (a : Option NodeNumber) → child_of old n k ≡ a → (b : Option NodeNumber) → child_of new n k ≡ b → node_stands new b ≡ node_stands old a
       go (Some c) e b f =
           let both : ◌≡◌ {A = Option NodeNumber} b (Some c) = sym f ∙ grows.forward n k c e in
-          ap (stands new) both ∙ ap is_some_entry (grows.presence c)
+          ap (node_stands new) both ∙ ap is_some_entry (grows.presence c)
       go None e None f = refl
       go None e (Some c) f = ⊎_elim
           (λ l. let both : ◌≡◌ {A = Option NodeNumber} None (Some c) = sym e ∙ grows.back n k c f l in absurd (cc))
-          (λ l. ap is_some_entry (grows.presence c) ∙ ap (λ z. is_some_entry z.presence.0) (get_or_past old c.0 blank l))
+          (λ l. ap is_some_entry (grows.presence c) ∙ ap (λ z. is_some_entry z.presence.0) (get_or_past old c.0 blank_node l))
           (cases_lt c.0 (length old))
 
   pub flagged-grown : AreFlagged old → AreFlagged new
@@ -54,24 +51,24 @@ module _ (nodes : List Node) (at : NodeNumber) (within : at.0 < length nodes) (n
       child : child_of (set nodes at.0 node) n (Element i) ≡ child_of nodes n (Element i)
       child = ap (λ f. f n (Element i)) (shape-set nodes at node within shape)
 
-      kept : stands (set nodes at.0 node) (child_of nodes n (Element i)) ≡ stands nodes (child_of nodes n (Element i)) → IsFlagged (set nodes at.0 node) n i
-      kept same = flag_kept nodes (set nodes at.0 node) n i (unwritten nodes at within (λ z. z.order.0) node order n) (ap (stands (set nodes at.0 node)) child ∙ same) right
+      kept : node_stands (set nodes at.0 node) (child_of nodes n (Element i)) ≡ node_stands nodes (child_of nodes n (Element i)) → IsFlagged (set nodes at.0 node) n i
+      kept same = flag_kept nodes (set nodes at.0 node) n i (unwritten nodes at within (λ z. z.order.0) node order n) (ap (node_stands (set nodes at.0 node)) child ∙ same) right
 
       go : (o : Option NodeNumber) → child_of nodes n (Element i) ≡ o → IsFlaggedBut (set nodes at.0 node) at n i
-      go None e = inr (kept (ap (stands (set nodes at.0 node)) e ∙ ap (stands nodes) (sym e)))
+      go None e = inr (kept (ap (node_stands (set nodes at.0 node)) e ∙ ap (node_stands nodes) (sym e)))
       go (Some c) e = ⊎_elim
           (λ here. inl (child ∙ e ∙ ap Some (eq_number c at here)))
-          (λ apart. inr (kept (ap (stands (set nodes at.0 node)) e ∙ ap (λ z. is_some_entry z.presence.0) (other-set nodes at c node apart) ∙ ap (stands nodes) (sym e))))
+          (λ apart. inr (kept (ap (node_stands (set nodes at.0 node)) e ∙ ap (λ z. is_some_entry z.presence.0) (other-set nodes at c node apart) ∙ ap (node_stands nodes) (sym e))))
           (cases_eq c.0 at.0)
 
   -- and of the node too, where it stands as it did
   pub flags-set : node.presence ≡ (node_of nodes at).presence → AreFlagged nodes → AreFlagged (set nodes at.0 node)
   flags-set presence right n i =
       flag_kept nodes (set nodes at.0 node) n i (unwritten nodes at within (λ z. z.order.0) node order n)
-      (ap (stands (set nodes at.0 node)) (ap (λ f. f n (Element i)) (shape-set nodes at node within shape)) ∙ go (child_of nodes n (Element i)))
+      (ap (node_stands (set nodes at.0 node)) (ap (λ f. f n (Element i)) (shape-set nodes at node within shape)) ∙ go (child_of nodes n (Element i)))
       (right n i)
     where
-      go : (o : Option NodeNumber) → stands (set nodes at.0 node) o ≡ stands nodes o
+      go : (o : Option NodeNumber) → node_stands (set nodes at.0 node) o ≡ node_stands nodes o
       go None = refl
       go (Some c) = ap (λ p. is_some_entry p.0) (unwritten nodes at within (λ z. z.presence) node presence c)
 
@@ -79,16 +76,16 @@ module _ (nodes : List Node) (at : NodeNumber) (within : at.0 < length nodes) (n
 module _ (nodes : List Node) (at : NodeNumber) (within : at.0 < length nodes) (child : NodeNumber) where
   pub told-shape : (element : Option Id) → child_of (told nodes at element child) ≡ child_of nodes
   told-shape None = refl
-  told-shape (Some id) = shape-set nodes at (flagged id (stands nodes (Some child)) (node_of nodes at)) within refl
+  told-shape (Some id) = shape-set nodes at (flagged id (node_stands nodes (Some child)) (node_of nodes at)) within refl
 
   module _ (id : Id) (found : child_of nodes at (Element id) ≡ Some child) where
     abbrev node : Node
-    node = flagged id (stands nodes (Some child)) (node_of nodes at)
+    node = flagged id (node_stands nodes (Some child)) (node_of nodes at)
 
-    same_stands-told : (n : NodeNumber) (i : Id) → stands (set nodes at.0 node) (child_of (set nodes at.0 node) n (Element i)) ≡ stands nodes (child_of nodes n (Element i))
-    same_stands-told n i = ap (λ f. stands (set nodes at.0 node) (f n (Element i))) (shape-set nodes at node within refl) ∙ go (child_of nodes n (Element i))
+    same_stands-told : (n : NodeNumber) (i : Id) → node_stands (set nodes at.0 node) (child_of (set nodes at.0 node) n (Element i)) ≡ node_stands nodes (child_of nodes n (Element i))
+    same_stands-told n i = ap (λ f. node_stands (set nodes at.0 node) (f n (Element i))) (shape-set nodes at node within refl) ∙ go (child_of nodes n (Element i))
       where
-        go : (o : Option NodeNumber) → stands (set nodes at.0 node) o ≡ stands nodes o
+        go : (o : Option NodeNumber) → node_stands (set nodes at.0 node) o ≡ node_stands nodes o
         go None = refl
         go (Some c) = ap (λ p. is_some_entry p.0) (unwritten nodes at within (λ z. z.presence) node refl c)
 
@@ -96,12 +93,12 @@ module _ (nodes : List Node) (at : NodeNumber) (within : at.0 < length nodes) (c
     flag-here : (i : Id) → IsFlagged nodes at i ⊎ (id ≡ i) → IsFlagged (set nodes at.0 node) at i
     flag-here i right is c =
         ⊎_elim
-        (λ h. h.1 ∙ ap (stands nodes) (sym found) ∙ ap (λ z. stands nodes (child_of nodes at (Element z))) (sym (id_decides.same i id h.0)) ∙ sym (same_stands-told at i))
+        (λ h. h.1 ∙ ap (node_stands nodes) (sym found) ∙ ap (λ z. node_stands nodes (child_of nodes at (Element z))) (sym (id_decides.same i id h.0)) ∙ sym (same_stands-told at i))
         (λ h. ⊎_elim
         (λ before. before is h.1 ∙ sym (same_stands-told at i))
         (λ same. absurd (true≢false (sym (eq_from id_decides i id (sym same)) ∙ h.0)))
         right)
-        (entry-with (node_of nodes at).order.0 id (stands nodes (Some child)) i is (subst (λ z. Contains z.order.0 (i, is)) (here-set nodes at node within) c))
+        (entry-with (node_of nodes at).order.0 id (node_stands nodes (Some child)) i is (subst (λ z. Contains z.order.0 (i, is)) (here-set nodes at node within) c))
 
     flag-told : (n : NodeNumber) (i : Id) → IsFlagged nodes n i ⊎ ((n ≡ at) × (id ≡ i)) → IsFlagged (set nodes at.0 node) n i
     flag-told n i right = ⊎_elim
@@ -158,10 +155,10 @@ module _ (nodes : List Node) (at : NodeNumber) (within : at.0 < length nodes) (a
   linked_shape : child_of linked ≡ child_of nodes
   linked_shape = shape-set nodes at (with_entry after id (node_of nodes at)) within refl
 
-  linked_stands : (n : NodeNumber) (i : Id) → stands linked (child_of linked n (Element i)) ≡ stands nodes (child_of nodes n (Element i))
-  linked_stands n i = ap (λ f. stands linked (f n (Element i))) linked_shape ∙ go (child_of nodes n (Element i))
+  linked_stands : (n : NodeNumber) (i : Id) → node_stands linked (child_of linked n (Element i)) ≡ node_stands nodes (child_of nodes n (Element i))
+  linked_stands n i = ap (λ f. node_stands linked (f n (Element i))) linked_shape ∙ go (child_of nodes n (Element i))
     where
-      go : (o : Option NodeNumber) → stands linked o ≡ stands nodes o
+      go : (o : Option NodeNumber) → node_stands linked o ≡ node_stands nodes o
       go None = refl
       go (Some c) = ap (λ p. is_some_entry p.0) (unwritten nodes at within (λ z. z.presence) (with_entry after id (node_of nodes at)) refl c)
 

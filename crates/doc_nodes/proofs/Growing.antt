@@ -1,5 +1,5 @@
 -- Laws of growth.
-use Rattle.std.proofs.Common.{◌≡◌, ◌<◌, List, [], ◌∷◌, ◌++◌, length, Option, Some, None, ⊎_elim, refl, sym, ap, ◌∙◌, subst, arith}
+use Rattle.std.proofs.Common.{◌≡◌, ◌<◌, List, [], ◌∷◌, ◌++◌, length, Option, Some, None, ⊎_elim, refl, sym, ap, ◌∙◌, subst, arith, true}
 use Rattle.std.specs.Prelude.{IsSome, is_some, option_and_then}
 use Rattle.std.proofs.lemmas.List.{get_or_past}
 use Rattle.std.proofs.lemmas.Bool.{cases_lt}
@@ -9,7 +9,7 @@ use Rattle.doc_nodes.specs.declared.node.NodeNumber.{NodeNumber}
 use Rattle.doc_nodes.specs.declared.node.Node.{Node}
 use Rattle.doc_nodes.specs.Walk.{walk, root, trail, list_trail}
 use Rattle.list_order.specs.Entries.{ids_of}
-use Rattle.doc_nodes.specs.Nodes.{blank, node_of, child_of, role_in, scalar_in, number_in, ids_in, role_at, facts_of, AreTree}
+use Rattle.doc_nodes.specs.Nodes.{blank_node, node_of, child_of, role_in, register_in, number_in, ids_in, role_at, facts_of, AreTree}
 use Rattle.doc_nodes.specs.Growth.{Grows, IsMade}
 use Rattle.doc_nodes.proofs.Walks.{parts_of, walk_rises, walk_split}
 
@@ -20,7 +20,7 @@ grows_not nodes = record {
   register = λ n. refl;
   counter = λ n. refl;
   order = λ n. refl;
-  presence_room = λ n. omega arith;
+  presence_room = λ n room. room;
   register_room = λ n. omega arith;
   counter_room = λ n. omega arith;
   order_room = λ n. omega arith;
@@ -35,7 +35,7 @@ grows_twice a b c one two = record {
   register = λ n. two.register n ∙ one.register n;
   counter = λ n. two.counter n ∙ one.counter n;
   order = λ n. two.order n ∙ one.order n;
-  presence_room = λ n. omega (arith, one.presence_room n, two.presence_room n);
+  presence_room = λ n room. two.presence_room n (one.presence_room n room);
   register_room = λ n. omega (arith, one.register_room n, two.register_room n);
   counter_room = λ n. omega (arith, one.counter_room n, two.counter_room n);
   order_room = λ n. omega (arith, one.order_room n, two.order_room n);
@@ -58,7 +58,7 @@ module _ (old new : List Node) (grows : Grows old new) where
       rw (grows.back n k step.0 step.1 below) (walk_back tree step.0 c keys step.2 l)
 
   -- what a part of the node says, wherever keys lead
-  same_part : {X : Type 0} (part : Node → X) (none : X) → ((n : NodeNumber) → part (node_of new n) ≡ part (node_of old n)) → part blank ≡ none → AreTree old → AreTree new
+  same_part : {X : Type 0} (part : Node → X) (none : X) → ((n : NodeNumber) → part (node_of new n) ≡ part (node_of old n)) → part blank_node ≡ none → AreTree old → AreTree new
       → (told : List Node → Option NodeNumber → X) → ((nodes : List Node) → told nodes None ≡ none) → ((nodes : List Node) (n : NodeNumber) → told nodes (Some n) ≡ part (node_of nodes n))
       → (way : Option (List Key)) → told new (option_and_then (walk (child_of new) root) way) ≡ told old (option_and_then (walk (child_of old) root) way)
   same_part {X} part none same empty old_tree new_tree told at_none at_some None = at_none new ∙ sym (at_none old)
@@ -73,7 +73,7 @@ module _ (old new : List Node) (grows : Grows old new) where
           at_some new c ∙ same c ∙ ap (λ z. part (node_of old z)) alike ∙ sym (at_some old d)
       go (Some c) e None f = ⊎_elim
           (λ l. let both : ◌≡◌ {A = Option NodeNumber} (Some c) None = sym (walk_back new_tree root c keys e l) ∙ f in absurd (cc))
-          (λ l. at_some new c ∙ same c ∙ ap part (get_or_past old c.0 blank l) ∙ empty ∙ sym (at_none old))
+          (λ l. at_some new c ∙ same c ∙ ap part (get_or_past old c.0 blank_node l) ∙ empty ∙ sym (at_none old))
           (cases_lt c.0 (length old))
 
   module _ (old_tree : AreTree old) (new_tree : AreTree new) where
@@ -87,7 +87,7 @@ module _ (old new : List Node) (grows : Grows old new) where
     unfolding facts_of
     facts-grown = λ x. record {
       present = λ q j i. ap is_some (role-grown q j i) x;
-      register = λ q j i. same_part (λ z. get z.register.0 i) None (λ n. ap (λ l. get l i) (grows.register n)) refl old_tree new_tree (λ l o. scalar_in l o i) (λ l. refl) (λ l n. refl) (trail q j) x;
+      register = λ q j i. same_part (λ z. get z.register.0 i) None (λ n. ap (λ l. get l i) (grows.register n)) refl old_tree new_tree (λ l o. register_in l o i) (λ l. refl) (λ l n. refl) (trail q j) x;
       counter = λ q j i. same_part (λ z. get z.counter.0 i) None (λ n. ap (λ l. get l i) (grows.counter n)) refl old_tree new_tree (λ l o. number_in l o i) (λ l. refl) (λ l n. refl) (trail q j) x;
       order = λ q. same_part (λ z. ids_of z.order.0) [] (λ n. ap ids_of (grows.order n)) refl old_tree new_tree ids_in (λ l. refl) (λ l n. refl) (list_trail q) x;
     }
@@ -104,11 +104,10 @@ module _ (old new : List Node) (grows : Grows old new) where
       at (Some c) e h = subst IsSome (sym (walk_forward n c keys e)) refl
 
       at_front : (front rest : List Key) (j : NodeNumber) → keys ≡ front ++ rest → walk (child_of new) n front ≡ Some j
-          → (o : Option NodeNumber) → walk (child_of old) n keys ≡ o → IsSome o → length (node_of new j).presence.0 < (node_of new j).presence.1
+          → (o : Option NodeNumber) → walk (child_of old) n keys ≡ o → IsSome o → (node_of new j).presence.1 ≡ true
       at_front front rest j e w None f h = absurd (cc)
       at_front front rest j e w (Some c) f h =
           let parts = walk_split (child_of old) n c front rest (ap (walk (child_of old) n) (sym e) ∙ f) in
           let both : ◌≡◌ {A = Option NodeNumber} (Some j) (Some parts.0) = sym w ∙ walk_forward n parts.0 front parts.1 in
           let alike : parts.0 ≡ j = cc in
-          let before = made.room front rest j e (parts.1 ∙ ap Some alike) in
-          omega (arith, before, ap length (grows.presence j), grows.presence_room j)
+          grows.presence_room j (made.room front rest j e (parts.1 ∙ ap Some alike))

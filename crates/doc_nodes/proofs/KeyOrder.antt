@@ -15,10 +15,10 @@ use Rattle.crdt_rules.proofs.SameLaws.{key_decides}
 use Rattle.crdt_rules.proofs.IdOrder.{is_eq-id_cmp}
 use Rattle.crdt_rules.proofs.WalkLaws.{id_order}
 use Rattle.sorted_lists.proofs.Keys.{IsKeyOrder}
-use Rattle.doc_nodes.specs.KeyOrder.{kind_of, text_of, id_of, key_cmp}
+use Rattle.doc_nodes.specs.KeyOrder.{kind_of, key_text, element_id, key_cmp}
 
 pub key_order : IsTotalOrder key_cmp
-key_order = then_total (on_total kind_of nat_cmp_total) (then_total (on_total text_of nat_list_cmp_total) (on_total id_of id_order.total))
+key_order = then_total (on_total kind_of nat_cmp_total) (then_total (on_total key_text nat_list_cmp_total) (on_total element_id id_order.total))
 
 -- keys that compare alike are one
 pub is_eq-key_cmp : (a b : Key) → is_eq (key_cmp a b) ≡ key_eq a b

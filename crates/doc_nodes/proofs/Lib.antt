@@ -2,6 +2,7 @@ pub mod KeyOrder
 pub mod Walks
 pub mod Trails
 pub mod ChildrenLaws
+pub mod Blocks
 pub mod Clearing
 pub mod Backing
 pub mod Places

@@ -1,5 +1,5 @@
 -- What growth makes, step by step.
-use Rattle.std.proofs.Common.{◌≡◌, ◌<◌, List, [], ◌∷◌, ◌++◌, length, Option, Some, refl, sym, ap, ◌∙◌, subst, arith, Result, Ok, Err}
+use Rattle.std.proofs.Common.{◌≡◌, ◌<◌, List, [], ◌∷◌, ◌++◌, length, Option, Some, refl, sym, ap, ◌∙◌, subst, arith, Result, Ok, Err, true}
 use Rattle.std.specs.Prelude.{IsSome, option_and_then, OnOk}
 use Rattle.op_core.specs.declared.cursor.Key.{Key}
 use Rattle.doc_nodes.specs.declared.node.NodeNumber.{NodeNumber}
@@ -9,24 +9,24 @@ use Rattle.doc_nodes.specs.Nodes.{node_of, child_of}
 use Rattle.doc_nodes.specs.Growth.{Grows, IsMade}
 use Rattle.doc_nodes.proofs.Walks.{parts_of}
 
-pub made_end : (nodes : List Node) (n : NodeNumber) → length (node_of nodes n).presence.0 < (node_of nodes n).presence.1 → IsMade nodes n []
+pub made_end : (nodes : List Node) (n : NodeNumber) → (node_of nodes n).presence.1 ≡ true → IsMade nodes n []
 made_end nodes n room = record { reached = refl; room = at }
   where
-    at : (front rest : List Key) (j : NodeNumber) → [] ≡ front ++ rest → walk (child_of nodes) n front ≡ Some j → length (node_of nodes j).presence.0 < (node_of nodes j).presence.1
-    at [] rest j e w = let same : n ≡ j = cc in subst (λ z. length (node_of nodes z).presence.0 < (node_of nodes z).presence.1) same room
+    at : (front rest : List Key) (j : NodeNumber) → [] ≡ front ++ rest → walk (child_of nodes) n front ≡ Some j → (node_of nodes j).presence.1 ≡ true
+    at [] rest j e w = let same : n ≡ j = cc in subst (λ z. (node_of nodes z).presence.1 ≡ true) same room
     at (k ∷ front) rest j e w = absurd (cc)
 
 -- room in a node stays
-pub room_kept : (old new : List Node) → Grows old new → (n : NodeNumber) → length (node_of old n).presence.0 < (node_of old n).presence.1
-    → length (node_of new n).presence.0 < (node_of new n).presence.1
-room_kept old new grows n room = omega (arith, room, ap length (grows.presence n), grows.presence_room n)
+pub room_kept : (old new : List Node) → Grows old new → (n : NodeNumber) → (node_of old n).presence.1 ≡ true
+    → (node_of new n).presence.1 ≡ true
+room_kept old new grows n room = grows.presence_room n room
 
-pub made_step : (nodes : List Node) (n c : NodeNumber) (k : Key) (keys : List Key) → length (node_of nodes n).presence.0 < (node_of nodes n).presence.1
+pub made_step : (nodes : List Node) (n c : NodeNumber) (k : Key) (keys : List Key) → (node_of nodes n).presence.1 ≡ true
     → child_of nodes n k ≡ Some c → IsMade nodes c keys → IsMade nodes n (k ∷ keys)
 made_step nodes n c k keys room down made = record { reached = subst (λ o. IsSome (option_and_then (λ m. walk (child_of nodes) m keys) o)) (sym down) made.reached; room = at }
   where
-    at : (front rest : List Key) (j : NodeNumber) → k ∷ keys ≡ front ++ rest → walk (child_of nodes) n front ≡ Some j → length (node_of nodes j).presence.0 < (node_of nodes j).presence.1
-    at [] rest j e w = let same : n ≡ j = cc in subst (λ z. length (node_of nodes z).presence.0 < (node_of nodes z).presence.1) same room
+    at : (front rest : List Key) (j : NodeNumber) → k ∷ keys ≡ front ++ rest → walk (child_of nodes) n front ≡ Some j → (node_of nodes j).presence.1 ≡ true
+    at [] rest j e w = let same : n ≡ j = cc in subst (λ z. (node_of nodes z).presence.1 ≡ true) same room
     at (q ∷ front) rest j e w =
         let first : k ≡ q = cc in
         let more : keys ≡ front ++ rest = cc in
@@ -34,11 +34,6 @@ made_step nodes n c k keys room down made = record { reached = subst (λ o. IsSo
         let both : ◌≡◌ {A = Option NodeNumber} (Some c) (Some step.0) = sym down ∙ ap (child_of nodes n) first ∙ step.1 in
         let same : c ≡ step.0 = cc in
         made.room front rest j more (subst (λ z. walk (child_of nodes) z front ≡ Some j) (sym same) step.2)
-
--- what follows from a fact that holds at Ok
-pub on_ok : {T E P Q : Type 0} (r : Result T E) → (P → Q) → OnOk r P → OnOk r Q
-on_ok (Ok x) f h = f h
-on_ok (Err e) f h = h
 
 -- what follows from two facts that hold at Ok
 pub on_both_ok : {T E P Q R : Type 0} (r : Result T E) → (P → Q → R) → OnOk r P → OnOk r Q → OnOk r R

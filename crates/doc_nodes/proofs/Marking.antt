@@ -1,5 +1,5 @@
 -- What the marks on one node after another come to.
-use Rattle.std.proofs.Common.{◌≡◌, ◌≢◌, ◌<◌, List, [], ◌∷◌, ◌++◌, length, set, Option, Some, None, inl, inr, ⊎_elim, refl, sym, ap, ◌∙◌, subst, arith}
+use Rattle.std.proofs.Common.{◌≡◌, ◌≢◌, ◌<◌, List, [], ◌∷◌, ◌++◌, length, set, Option, Some, None, inl, inr, ⊎_elim, refl, sym, ap, ◌∙◌, subst, arith, true}
 use Rattle.std.proofs.lemmas.List.{get_or-set_same, get_or-set_other, length-set}
 use Rattle.std.proofs.lemmas.Bool.{cases_eq}
 use Rattle.std.specs.Prelude.{IsSome, option_and_then}
@@ -11,16 +11,16 @@ use Rattle.doc_nodes.specs.declared.node.NodeNumber.{NodeNumber}
 use Rattle.doc_nodes.specs.declared.node.Node.{Node}
 use Rattle.doc_nodes.specs.Children.{number_at}
 use Rattle.doc_nodes.specs.Walk.{walk, IsTree}
-use Rattle.doc_nodes.specs.Nodes.{blank, node_of, child_of, AreTree}
+use Rattle.doc_nodes.specs.Nodes.{blank_node, node_of, child_of, AreTree}
 use Rattle.doc_nodes.specs.Marks.{marked, role_before, MarksAlong, HasRoomAlong, IsReady}
 use Rattle.doc_nodes.proofs.Walks.{parts_of, walk_rises}
 
 -- one node is written
 pub here-set : (nodes : List Node) (n : NodeNumber) (node : Node) → n.0 < length nodes → node_of (set nodes n.0 node) n ≡ node
-here-set nodes n node within = get_or-set_same nodes n.0 node blank within
+here-set nodes n node within = get_or-set_same nodes n.0 node blank_node within
 
 pub other-set : (nodes : List Node) (n j : NodeNumber) (node : Node) → j.0 ≢ n.0 → node_of (set nodes n.0 node) j ≡ node_of nodes j
-other-set nodes n j node apart = get_or-set_other nodes n.0 j.0 node blank apart
+other-set nodes n j node apart = get_or-set_other nodes n.0 j.0 node blank_node apart
 
 pub eq_number : (j n : NodeNumber) → j.0 ≡ n.0 → j ≡ n
 eq_number j n e = λ i. record { 0 = e i }
@@ -131,7 +131,7 @@ module _ (id : Id) (role : Role) (nodes : List Node) (n : NodeNumber) (within : 
       let same_shape = shape-set nodes n (marked id role (node_of nodes n)) within refl in
       let below : walk (child_of nodes) c front ≡ Some j = ap (λ h. walk h c front) (sym same_shape) ∙ w in
       let other = other-set nodes n j (marked id role (node_of nodes n)) (λ f. absurd (omega (arith, tree.rising n k c down, walk_rises (child_of nodes) tree c j front below, f))) in
-      subst (λ z. length z.presence.0 < z.presence.1) (sym other) (room (k ∷ front) rest j (ap (λ l. k ∷ l) e) (rw down below))
+      subst (λ z. z.presence.1 ≡ true) (sym other) (room (k ∷ front) rest j (ap (λ l. k ∷ l) e) (rw down below))
 
 -- After the mark on n the way goes on from its child.
 pub step_down : (id : Id) (nodes new : List Node) (n c : NodeNumber) (k : Key) (keys : List Key) → IsReady nodes n (k ∷ keys)

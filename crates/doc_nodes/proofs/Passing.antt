@@ -1,5 +1,5 @@
 -- A step on a way that is marked or cleared: what lies below is done, then the node's list tells of its child.
-use Rattle.std.proofs.Common.{◌≡◌, ◌<◌, List, [], ◌∷◌, length, set, Option, Some, inl, inr, ⊎_elim, refl, sym, ap, ◌∙◌, subst, arith}
+use Rattle.std.proofs.Common.{◌≡◌, ◌<◌, List, [], ◌∷◌, length, set, Option, Some, inl, inr, refl, sym, ap, ◌∙◌, subst, arith}
 use Rattle.std.proofs.lemmas.List.{length-set}
 use Rattle.doc_words.specs.Words.{Id, Key}
 use Rattle.op_core.specs.declared.cursor.Key.TheVariants.{Element}
@@ -11,7 +11,7 @@ use Rattle.doc_nodes.specs.Children.{element_of}
 use Rattle.doc_nodes.specs.Walk.{walk}
 use Rattle.doc_nodes.specs.Nodes.{node_of, child_of, AreTree}
 use Rattle.doc_nodes.specs.Marks.{marked, MarksAlong}
-use Rattle.doc_nodes.specs.Flags.{plain, told, IsFlagged, IsFlaggedBut}
+use Rattle.doc_nodes.specs.Flags.{plain, told, IsFlaggedBut}
 use Rattle.doc_nodes.proofs.Walks.{parts_of}
 use Rattle.doc_nodes.proofs.Marking.{shape-set, child_before, mark_step, mark_end}
 use Rattle.doc_nodes.proofs.Plain.{child_of-plain, length-plain, tree-plain, write-plain, told-plain, shape_of-plain, tree_same}

@@ -1,5 +1,5 @@
 -- The nodes but for what their lists tell: the same facts, and each write to another part is the same write.
-use Rattle.std.proofs.Common.{◌≡◌, ◌<◌, ℕ, zero, suc, List, [], ◌∷◌, length, map, set, get_or, Option, Some, None, refl, sym, ap, ◌∙◌, subst}
+use Rattle.std.proofs.Common.{◌≡◌, ◌<◌, ℕ, zero, suc, List, [], ◌∷◌, length, map, set, get_or, Option, Some, None, refl, sym, ap, ◌∙◌, subst, true}
 use Rattle.std.proofs.lemmas.List.{length-map, map-set, set-get_or}
 use Rattle.std.specs.Prelude.{IsSome, is_some, option_and_then}
 use mathlib.Core.Path.{fun_ext}
@@ -11,11 +11,11 @@ use Rattle.doc_nodes.specs.declared.node.NodeNumber.{NodeNumber}
 use Rattle.doc_nodes.specs.declared.node.Node.{Node}
 use Rattle.doc_nodes.specs.Children.{number_at}
 use Rattle.doc_nodes.specs.Walk.{walk, root, trail, list_trail, IsTree}
-use Rattle.doc_nodes.specs.Nodes.{blank, node_of, child_of, node_at, list_node_at, role_in, value_in, ids_in, role_at, facts_of, AreTree}
+use Rattle.doc_nodes.specs.Nodes.{blank_node, node_of, child_of, node_at, list_node_at, role_in, part_in, ids_in, role_at, facts_of, AreTree}
 use Rattle.doc_nodes.specs.Marks.{HasRoomAlong, IsReady}
-use Rattle.doc_nodes.specs.Flags.{flagged, stands, told, unflagged, plain}
+use Rattle.doc_nodes.specs.Flags.{flagged, node_stands, told, unflagged, plain}
 
-unflagged_at : (nodes : List Node) (i : ℕ) → get_or (map unflagged nodes) i blank ≡ unflagged (get_or nodes i blank)
+unflagged_at : (nodes : List Node) (i : ℕ) → get_or (map unflagged nodes) i blank_node ≡ unflagged (get_or nodes i blank_node)
 unflagged_at [] i = refl
 unflagged_at (node ∷ nodes) zero = refl
 unflagged_at (node ∷ nodes) (suc i) = unflagged_at nodes i
@@ -41,7 +41,7 @@ module _ (nodes : List Node) where
 
   pub room-plain : (n : NodeNumber) (keys : List Key) → HasRoomAlong nodes n keys → HasRoomAlong (plain nodes) n keys
   room-plain n keys room front rest j e w =
-      subst (λ z. length z.presence.0 < z.presence.1) (sym (node_of-plain j)) (room front rest j e (ap (λ f. walk f n front) (sym child_of-plain) ∙ w))
+      subst (λ z. z.presence.1 ≡ true) (sym (node_of-plain j)) (room front rest j e (ap (λ f. walk f n front) (sym child_of-plain) ∙ w))
 
   pub ready_of-plain : (n : NodeNumber) (keys : List Key) → IsReady (plain nodes) n keys → IsReady nodes n keys
   ready_of-plain n keys ready = record {
@@ -49,7 +49,7 @@ module _ (nodes : List Node) where
     within = subst (λ z. n.0 < z) length-plain ready.within;
     reached = subst (λ f. IsSome (walk f n keys)) child_of-plain ready.reached;
     room = λ front rest j e w.
-        subst (λ z. length z.presence.0 < z.presence.1) (node_of-plain j) (ready.room front rest j e (ap (λ f. walk f n front) child_of-plain ∙ w));
+        subst (λ z. z.presence.1 ≡ true) (node_of-plain j) (ready.room front rest j e (ap (λ f. walk f n front) child_of-plain ∙ w));
   }
 
   -- a write to another part than the flags
@@ -63,12 +63,12 @@ module _ (nodes : List Node) where
   pub told-plain : (n : NodeNumber) (element : Option Id) (child : NodeNumber) → plain (told nodes n element child) ≡ plain nodes
   told-plain n None child = refl
   told-plain n (Some id) child =
-      map-set unflagged nodes n.0 (flagged id (stands nodes (Some child)) (node_of nodes n))
+      map-set unflagged nodes n.0 (flagged id (node_stands nodes (Some child)) (node_of nodes n))
       ∙ ap (set (plain nodes) n.0) (same (node_of nodes n) ∙ sym (node_of-plain n))
-      ∙ set-get_or (plain nodes) n.0 blank
+      ∙ set-get_or (plain nodes) n.0 blank_node
     where
-      same : (node : Node) → unflagged (flagged id (stands nodes (Some child)) node) ≡ unflagged node
-      same node = λ i. record node { order = (all_absent-with node.order.0 id (stands nodes (Some child)) i, node.order.1) }
+      same : (node : Node) → unflagged (flagged id (node_stands nodes (Some child)) node) ≡ unflagged node
+      same node = λ i. record node { order = (all_absent-with node.order.0 id (node_stands nodes (Some child)) i, node.order.1) }
 
   part_in-plain : {X : Type 0} (part : Node → X) → ((node : Node) → part (unflagged node) ≡ part node) → (n : NodeNumber) → part (node_of (plain nodes) n) ≡ part (node_of nodes n)
   part_in-plain part same n = ap part (node_of-plain n) ∙ same (node_of nodes n)
@@ -82,10 +82,10 @@ module _ (nodes : List Node) where
       go (Some c) = ap (λ z. get z.presence.0 i) (node_of-plain c)
 
   value-plain : {X : Type 0} (part : Node → List (Id × X)) → ((node : Node) → part (unflagged node) ≡ part node) → (p : List Tagged) (k : Key) (i : Id)
-      → value_in part (plain nodes) (node_at (plain nodes) p k) i ≡ value_in part nodes (node_at nodes p k) i
-  value-plain {X} part same p k i = ap (λ o. value_in part (plain nodes) o i) (node_at-plain p k) ∙ go (node_at nodes p k)
+      → part_in part (plain nodes) (node_at (plain nodes) p k) i ≡ part_in part nodes (node_at nodes p k) i
+  value-plain {X} part same p k i = ap (λ o. part_in part (plain nodes) o i) (node_at-plain p k) ∙ go (node_at nodes p k)
     where
-      go : (o : Option NodeNumber) → value_in part (plain nodes) o i ≡ value_in part nodes o i
+      go : (o : Option NodeNumber) → part_in part (plain nodes) o i ≡ part_in part nodes o i
       go None = refl
       go (Some c) = ap (λ l. get l i) (part_in-plain part same c)
 

@@ -8,6 +8,7 @@ use Rattle.op_core.specs.declared.cursor.Key.TheVariants.{Doc, Text, Element, He
 use Rattle.op_core.specs.declared.cursor.Tagged.TheVariants.{Map as MapAt, List as ListAt}
 use Rattle.crdt_rules.specs.Same.{key_eq, tagged_eq}
 use Rattle.op_core.specs.Shape.{key_of, is_list, may_follow}
+use Rattle.op_core.proofs.Wires.{option_map-Some}
 use Rattle.crdt_rules.specs.Within.{is_within}
 use Rattle.crdt_rules.proofs.SameLaws.{key_decides, tagged_decides, eq_from}
 use Rattle.doc_nodes.specs.Walk.{trail, trail_below, list_trail, list_trail_below}
@@ -16,10 +17,6 @@ use Rattle.doc_nodes.specs.Walk.{trail, trail_below, list_trail, list_trail_belo
 pub some_if : {X : Type 0} (b : Bool) (o : Option X) (x : X) → (if b then o else None) ≡ Some x → (b ≡ true) × (o ≡ Some x)
 some_if true o x e = (refl, e)
 some_if false o x e = cc
-
-pub mapped : {X Y : Type 0} (f : X → Y) (o : Option X) (y : Y) → option_map f o ≡ Some y → (x : X) × (o ≡ Some x) × (f x ≡ y)
-mapped f None y e = cc
-mapped f (Some x) y e = (x, refl, cc)
 
 if_true : {X : Type 0} (b : Bool) (x y : X) → b ≡ true → (if b then x else y) ≡ x
 if_true b x y e = rw e
@@ -30,7 +27,7 @@ first_key : (t : Tagged) (p : List Tagged) (k : Key) (keys : List Key) → trail
 first_key t [] k keys e = let h = some_if (may_follow t k) (Some (k ∷ [])) keys e in (k, [], cc, h.0)
 first_key t (s ∷ p) k keys e =
     let h = some_if (may_follow t (key_of s)) (option_map (λ xs. key_of s ∷ xs) (trail_below s p k)) keys e in
-    let m = mapped (λ xs. key_of s ∷ xs) (trail_below s p k) keys h.1 in
+    let m = option_map-Some (λ xs. key_of s ∷ xs) (trail_below s p k) keys h.1 in
     (key_of s, m.0, sym m.2, h.0)
 
 -- a map's keys are texts and a list's are elements, so the key below says which is meant
@@ -57,13 +54,13 @@ above_below t [] k (s ∷ q) j keys e w = absurd (true≢false (sym w))
 above_below t (s ∷ p) k [] j keys e w =
     let same = key_decides.same (key_of s) j w in
     let h = some_if (may_follow t (key_of s)) (option_map (λ xs. key_of s ∷ xs) (trail_below s p k)) keys e in
-    let m = mapped (λ xs. key_of s ∷ xs) (trail_below s p k) keys h.1 in
+    let m = option_map-Some (λ xs. key_of s ∷ xs) (trail_below s p k) keys h.1 in
     (j ∷ [], m.0, if_true (may_follow t j) (Some (j ∷ [])) None (subst (λ x. may_follow t x ≡ true) same h.0), sym m.2 ∙ ap (λ x. x ∷ m.0) same)
 above_below t (s ∷ p) k (r ∷ q) j keys e w =
     let both = and_parts (tagged_eq s r) (is_within p k q j) w in
     let same = tagged_decides.same s r both.0 in
     let h = some_if (may_follow t (key_of s)) (option_map (λ xs. key_of s ∷ xs) (trail_below s p k)) keys e in
-    let m = mapped (λ xs. key_of s ∷ xs) (trail_below s p k) keys h.1 in
+    let m = option_map-Some (λ xs. key_of s ∷ xs) (trail_below s p k) keys h.1 in
     let below = above_below s p k q j m.0 m.1 both.1 in (
       key_of s ∷ below.0,
       below.1,
@@ -103,7 +100,7 @@ within_below t [] k [] j front rest e f =
 within_below t [] k (r ∷ q) j front rest e f =
     let h = some_if (may_follow t k) (Some (k ∷ [])) (front ++ rest) e in
     let g = some_if (may_follow t (key_of r)) (option_map (λ xs. key_of r ∷ xs) (trail_below r q j)) front f in
-    let m = mapped (λ xs. key_of r ∷ xs) (trail_below r q j) front g.1 in
+    let m = option_map-Some (λ xs. key_of r ∷ xs) (trail_below r q j) front g.1 in
     let below = first_key r q j m.0 m.1 in
     let whole : k ∷ [] ≡ front ++ rest = cc in
     let longer : k ∷ [] ≡ key_of r ∷ below.0 ∷ below.1 ++ rest =
@@ -111,16 +108,16 @@ within_below t [] k (r ∷ q) j front rest e f =
     absurd (cc)
 within_below t (s ∷ p) k [] j front rest e f =
     let h = some_if (may_follow t (key_of s)) (option_map (λ xs. key_of s ∷ xs) (trail_below s p k)) (front ++ rest) e in
-    let m = mapped (λ xs. key_of s ∷ xs) (trail_below s p k) (front ++ rest) h.1 in
+    let m = option_map-Some (λ xs. key_of s ∷ xs) (trail_below s p k) (front ++ rest) h.1 in
     let g = some_if (may_follow t j) (Some (j ∷ [])) front f in
     let first : front ≡ j ∷ [] = cc in
     let same : key_of s ∷ m.0 ≡ j ∷ rest = m.2 ∙ ap (λ l. l ++ rest) first in
     eq_from key_decides (key_of s) j (cc)
 within_below t (s ∷ p) k (r ∷ q) j front rest e f =
     let h = some_if (may_follow t (key_of s)) (option_map (λ xs. key_of s ∷ xs) (trail_below s p k)) (front ++ rest) e in
-    let m = mapped (λ xs. key_of s ∷ xs) (trail_below s p k) (front ++ rest) h.1 in
+    let m = option_map-Some (λ xs. key_of s ∷ xs) (trail_below s p k) (front ++ rest) h.1 in
     let g = some_if (may_follow t (key_of r)) (option_map (λ xs. key_of r ∷ xs) (trail_below r q j)) front f in
-    let l = mapped (λ xs. key_of r ∷ xs) (trail_below r q j) front g.1 in
+    let l = option_map-Some (λ xs. key_of r ∷ xs) (trail_below r q j) front g.1 in
     let joined : key_of s ∷ m.0 ≡ key_of r ∷ (l.0 ++ rest) = m.2 ∙ ap (λ x. x ++ rest) (sym l.2) in
     let keys : key_of s ≡ key_of r = cc in
     let below : m.0 ≡ l.0 ++ rest = cc in
@@ -188,18 +185,18 @@ one_list_below t [] r [] keys e f same = (lists t r (some_if (is_list t) (Some [
 one_list_below t [] r (b ∷ q) keys e f same =
     let h = some_if (is_list t) (Some []) keys e in
     let g = some_if (may_follow r (key_of b)) (option_map (λ xs. key_of b ∷ xs) (list_trail_below b q)) keys f in
-    let m = mapped (λ xs. key_of b ∷ xs) (list_trail_below b q) keys g.1 in
+    let m = option_map-Some (λ xs. key_of b ∷ xs) (list_trail_below b q) keys g.1 in
     absurd (cc)
 one_list_below t (a ∷ p) r [] keys e f same =
     let h = some_if (is_list r) (Some []) keys f in
     let g = some_if (may_follow t (key_of a)) (option_map (λ xs. key_of a ∷ xs) (list_trail_below a p)) keys e in
-    let m = mapped (λ xs. key_of a ∷ xs) (list_trail_below a p) keys g.1 in
+    let m = option_map-Some (λ xs. key_of a ∷ xs) (list_trail_below a p) keys g.1 in
     absurd (cc)
 one_list_below t (a ∷ p) r (b ∷ q) keys e f same =
     let h = some_if (may_follow t (key_of a)) (option_map (λ xs. key_of a ∷ xs) (list_trail_below a p)) keys e in
-    let l = mapped (λ xs. key_of a ∷ xs) (list_trail_below a p) keys h.1 in
+    let l = option_map-Some (λ xs. key_of a ∷ xs) (list_trail_below a p) keys h.1 in
     let g = some_if (may_follow r (key_of b)) (option_map (λ xs. key_of b ∷ xs) (list_trail_below b q)) keys f in
-    let m = mapped (λ xs. key_of b ∷ xs) (list_trail_below b q) keys g.1 in
+    let m = option_map-Some (λ xs. key_of b ∷ xs) (list_trail_below b q) keys g.1 in
     let joined : key_of a ∷ l.0 ≡ key_of b ∷ m.0 = l.2 ∙ sym m.2 in
     let first : key_of a ≡ key_of b = cc in
     let below : l.0 ≡ m.0 = cc in

@@ -5,7 +5,7 @@ use Rattle.std.proofs.lemmas.Bool.{and_parts, and_from, cases_eq}
 use Rattle.doc_words.specs.Words.{Id, Scalar, Key, Tagged, id_cmp}
 use Rattle.crdt_rules.specs.Same.{id_eq, key_eq, path_eq}
 use Rattle.crdt_rules.proofs.SameLaws.{key_decides, path_decides, eq_from}
-use Rattle.presence_set.specs.ById.{get, put}
+use Rattle.presence_set.specs.ById.{get, put_at_id}
 use Rattle.presence_set.proofs.ByIdLaws.{get-put}
 use Rattle.doc_nodes.specs.declared.node.NodeNumber.{NodeNumber}
 use Rattle.doc_nodes.specs.declared.node.Node.{Node}
@@ -13,7 +13,7 @@ use Rattle.doc_nodes.specs.Walk.{walk, root, trail, list_trail}
 use Rattle.list_laws.specs.Order.{insert_after}
 use Rattle.list_order.specs.Entries.{ids_of}
 use Rattle.list_order.proofs.Entries.{ids_of-insert}
-use Rattle.doc_nodes.specs.Nodes.{node_of, node_at, list_node_at, role_in, value_in, ids_in, role_at, facts_of, AreTree}
+use Rattle.doc_nodes.specs.Nodes.{node_of, node_at, list_node_at, role_in, part_in, ids_in, role_at, facts_of, AreTree}
 use Rattle.doc_nodes.specs.Writes.{with_scalar, with_number, with_entry, enter_facts, count_facts, order_facts}
 use Rattle.doc_nodes.proofs.Marking.{here-set, other-set, eq_number, shape-set}
 use Rattle.doc_nodes.proofs.Places.{place_of_node, path_of_node}
@@ -42,10 +42,10 @@ module _ (nodes : List Node) (n : NodeNumber) (within : n.0 < length nodes) wher
         go (Some c) = ap (λ r. get r.0 i) (unwritten (λ z. z.presence) node kept c)
 
     value-set : {X : Type 0} (part : Node → List (Id × X)) → part node ≡ part (node_of nodes n) → (q : List Tagged) (j : Key) (i : Id)
-        → value_in part (set nodes n.0 node) (node_at (set nodes n.0 node) q j) i ≡ value_in part nodes (node_at nodes q j) i
-    value-set {X} part kept q j i = ap (λ o. value_in part (set nodes n.0 node) o i) (node_at-set q j) ∙ go (node_at nodes q j)
+        → part_in part (set nodes n.0 node) (node_at (set nodes n.0 node) q j) i ≡ part_in part nodes (node_at nodes q j) i
+    value-set {X} part kept q j i = ap (λ o. part_in part (set nodes n.0 node) o i) (node_at-set q j) ∙ go (node_at nodes q j)
       where
-        go : (o : Option NodeNumber) → value_in part (set nodes n.0 node) o i ≡ value_in part nodes o i
+        go : (o : Option NodeNumber) → part_in part (set nodes n.0 node) o i ≡ part_in part nodes o i
         go None = refl
         go (Some c) = ap (λ l. get l i) (unwritten part node kept c)
 
@@ -58,11 +58,11 @@ module _ (nodes : List Node) (n : NodeNumber) (within : n.0 < length nodes) wher
 
 module _ (nodes : List Node) (tree : AreTree nodes) (n : NodeNumber) (within : n.0 < length nodes) where
   -- a value is put into one part of the node
-  value-put : {X : Type 0} (part : Node → List (Id × X)) (node : Node) (id : Id) (s : X) → node.children ≡ (node_of nodes n).children → part node ≡ put (part (node_of nodes n)) id s
+  value-put : {X : Type 0} (part : Node → List (Id × X)) (node : Node) (id : Id) (s : X) → node.children ≡ (node_of nodes n).children → part node ≡ put_at_id (part (node_of nodes n)) id s
       → (p : List Tagged) (k : Key) → node_at nodes p k ≡ Some n → (q : List Tagged) (j : Key) (i : Id)
-      → value_in part (set nodes n.0 node) (node_at (set nodes n.0 node) q j) i ≡ (if path_eq p q && key_eq k j && id_eq id i then Some s else value_in part nodes (node_at nodes q j) i)
+      → part_in part (set nodes n.0 node) (node_at (set nodes n.0 node) q j) i ≡ (if path_eq p q && key_eq k j && id_eq id i then Some s else part_in part nodes (node_at nodes q j) i)
   value-put {X} part node id s shape puts p k at q j i =
-      ap (λ o. value_in part (set nodes n.0 node) o i) (node_at-set nodes n within node shape q j)
+      ap (λ o. part_in part (set nodes n.0 node) o i) (node_at-set nodes n within node shape q j)
       ∙ go (node_at nodes q j) refl (path_eq p q && key_eq k j) refl
     where
       same_place : (b : Bool) → (path_eq p q && key_eq k j) ≡ b → b ≡ true → node_at nodes q j ≡ Some n
@@ -71,7 +71,7 @@ module _ (nodes : List Node) (tree : AreTree nodes) (n : NodeNumber) (within : n
           subst (λ z. node_at nodes z j ≡ Some n) (path_decides.same p q both.0) (subst (λ z. node_at nodes p z ≡ Some n) (key_decides.same k j both.1) at)
 
       go : (o : Option NodeNumber) → node_at nodes q j ≡ o → (b : Bool) → (path_eq p q && key_eq k j) ≡ b
-          → value_in part (set nodes n.0 node) o i ≡ (if b && id_eq id i then Some s else value_in part nodes o i)
+          → part_in part (set nodes n.0 node) o i ≡ (if b && id_eq id i then Some s else part_in part nodes o i)
       go None e false is = refl
       go None e true is = let here : ◌≡◌ {A = Option NodeNumber} None (Some n) = sym e ∙ same_place true is refl in absurd (cc)
       go (Some c) e true is =

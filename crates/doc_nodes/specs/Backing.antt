@@ -7,17 +7,17 @@ use Rattle.doc_nodes.specs.declared.node.Node.{Node}
 use Rattle.doc_nodes.specs.Nodes.{node_of, child_of}
 
 -- something stands at an id
-abbrev pub StandsAt : {X : Type 0} → List (Id × X) → Id → Type 0
-StandsAt entries i = is_some (get entries i) ≡ true
+abbrev pub HasEntry : {X : Type 0} → List (Id × X) → Id → Type 0
+HasEntry entries i = is_some (get entries i) ≡ true
 
 -- an operation makes a node present
 abbrev pub IsPresentBy : Node → Id → Type 0
-IsPresentBy node i = StandsAt node.presence.0 i
+IsPresentBy node i = HasEntry node.presence.0 i
 
 -- each operation that put a scalar or a number into a node makes the node present
 pub record IsBacked (node : Node) : Type 0 where
-  pub register : (i : Id) → StandsAt node.register.0 i → IsPresentBy node i
-  pub counter : (i : Id) → StandsAt node.counter.0 i → IsPresentBy node i
+  pub register : (i : Id) → HasEntry node.register.0 i → IsPresentBy node i
+  pub counter : (i : Id) → HasEntry node.counter.0 i → IsPresentBy node i
 
 -- and each that makes a child present makes its parent present, where the parent's number is m or greater
 pub record AreBackedFrom (nodes : List Node) (m : ℕ) : Type 0 where

@@ -14,9 +14,9 @@ is_some_entry [] = false
 is_some_entry (e ∷ entries) = true
 
 -- something makes a node present, if there is one
-abbrev pub stands : List Node → Option NodeNumber → Bool
-stands nodes None = false
-stands nodes (Some c) = is_some_entry (node_of nodes c).presence.0
+abbrev pub node_stands : List Node → Option NodeNumber → Bool
+node_stands nodes None = false
+node_stands nodes (Some c) = is_some_entry (node_of nodes c).presence.0
 
 -- a node whose list tells of an element anew
 abbrev pub flagged : Id → Bool → Node → Node
@@ -25,7 +25,7 @@ flagged id is node = record node { order = (with_presence node.order.0 id is, no
 -- the list of a node tells anew whether the node of an element stands
 abbrev pub told : List Node → NodeNumber → Option Id → NodeNumber → List Node
 told nodes at None child = nodes
-told nodes at (Some id) child = slice_set nodes at.0 (flagged id (stands nodes (Some child)) (node_of nodes at))
+told nodes at (Some id) child = slice_set nodes at.0 (flagged id (node_stands nodes (Some child)) (node_of nodes at))
 
 -- a node whose list tells nothing
 abbrev pub unflagged : Node → Node
@@ -37,7 +37,7 @@ plain nodes = map unflagged nodes
 
 -- what the list of a node tells of an element is whether the element's node stands
 abbrev pub IsFlagged : List Node → NodeNumber → Id → Type 0
-IsFlagged nodes n i = (is : Bool) → Contains (node_of nodes n).order.0 (i, is) → is ≡ stands nodes (child_of nodes n (Element i))
+IsFlagged nodes n i = (is : Bool) → Contains (node_of nodes n).order.0 (i, is) → is ≡ node_stands nodes (child_of nodes n (Element i))
 
 -- or it tells of this node
 abbrev pub IsFlaggedBut : List Node → NodeNumber → NodeNumber → Id → Type 0

@@ -1,9 +1,9 @@
 -- Growth of the nodes that changes nothing of what they say.
-use Rattle.std.specs.Prelude.{◌≡◌, ◌<◌, ◌≤◌, List, [], length, insert, Some, IsSome}
+use Rattle.std.specs.Prelude.{◌≡◌, ◌<◌, ◌≤◌, List, [], length, insert, Some, IsSome, true}
 use Rattle.op_core.specs.declared.cursor.Key.{Key}
 use Rattle.doc_nodes.specs.declared.node.NodeNumber.{NodeNumber}
 use Rattle.doc_nodes.specs.declared.node.Node.{Node}
-use Rattle.doc_nodes.specs.KeyOrder.{rank}
+use Rattle.doc_nodes.specs.KeyOrder.{key_rank}
 use Rattle.doc_nodes.specs.Walk.{walk}
 use Rattle.doc_nodes.specs.Nodes.{node_of, child_of}
 use Rattle.doc_nodes.specs.Marks.{HasRoomAlong}
@@ -15,7 +15,7 @@ pub record Grows (old new : List Node) : Type 0 where
   pub register : (n : NodeNumber) → (node_of new n).register.0 ≡ (node_of old n).register.0
   pub counter : (n : NodeNumber) → (node_of new n).counter.0 ≡ (node_of old n).counter.0
   pub order : (n : NodeNumber) → (node_of new n).order.0 ≡ (node_of old n).order.0
-  pub presence_room : (n : NodeNumber) → (node_of old n).presence.1 ≤ (node_of new n).presence.1
+  pub presence_room : (n : NodeNumber) → (node_of old n).presence.1 ≡ true → (node_of new n).presence.1 ≡ true
   pub register_room : (n : NodeNumber) → (node_of old n).register.1 ≤ (node_of new n).register.1
   pub counter_room : (n : NodeNumber) → (node_of old n).counter.1 ≤ (node_of new n).counter.1
   pub order_room : (n : NodeNumber) → (node_of old n).order.1 ≤ (node_of new n).order.1
@@ -29,7 +29,7 @@ pub record IsMade (nodes : List Node) (n : NodeNumber) (keys : List Key) : Type 
 
 -- a node with one more child
 abbrev pub with_child : Key → NodeNumber → Node → Node
-with_child k c node = record node { children = insert node.children (rank node.children k) (k, c) }
+with_child k c node = record node { children = insert node.children (key_rank node.children k) (k, c) }
 
 -- a fresh node says nothing
 pub record IsFresh (node : Node) : Type 0 where

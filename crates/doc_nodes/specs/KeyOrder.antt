@@ -14,21 +14,21 @@ kind_of Head = 1
 kind_of (Text t) = 2
 kind_of (Element i) = 3
 
-abbrev pub text_of : Key → List ℕ
-text_of (Text t) = t
-text_of _ = []
+abbrev pub key_text : Key → List ℕ
+key_text (Text t) = t
+key_text _ = []
 
-abbrev pub id_of : Key → Id
-id_of (Element i) = i
-id_of _ = record { counter = 0; replica = [] }
+abbrev pub element_id : Key → Id
+element_id (Element i) = i
+element_id _ = record { counter = 0; replica = [] }
 
 abbrev pub key_cmp : Key → Key → Ordering
-key_cmp a b = ordering_then (nat_cmp (kind_of a) (kind_of b)) (ordering_then (slice_cmp nat_cmp (text_of a) (text_of b)) (id_cmp (id_of a) (id_of b)))
+key_cmp a b = ordering_then (nat_cmp (kind_of a) (kind_of b)) (ordering_then (slice_cmp nat_cmp (key_text a) (key_text b)) (id_cmp (element_id a) (element_id b)))
 
 -- how many children, at the front, have a lesser key
-abbrev pub rank : List (Key × NodeNumber) → Key → ℕ
-rank = rank_by key_cmp
+abbrev pub key_rank : List (Key × NodeNumber) → Key → ℕ
+key_rank = rank_by key_cmp
 
 -- the keys rise
-abbrev pub IsRising : List (Key × NodeNumber) → Type 0
-IsRising = KeysRise key_cmp
+abbrev pub IsInKeyOrder : List (Key × NodeNumber) → Type 0
+IsInKeyOrder = KeysRise key_cmp

@@ -1,5 +1,5 @@
 -- The marks of an operation on the nodes that it passes, and where it ends.
-use Rattle.std.specs.Prelude.{◌≡◌, ◌≢◌, ◌⊎◌, ◌<◌, List, [], ◌∷◌, ◌++◌, length, Some, ◌&&◌, ◌||◌, IsSome}
+use Rattle.std.specs.Prelude.{◌≡◌, ◌≢◌, ◌⊎◌, ◌<◌, List, [], ◌∷◌, ◌++◌, length, Some, ◌&&◌, ◌||◌, IsSome, true, false}
 use Rattle.doc_words.specs.Words.{Id, Key, Tagged}
 use Rattle.op_core.specs.Shape.{key_of}
 use Rattle.crdt_rules.specs.Same.{id_eq}
@@ -7,15 +7,15 @@ use Rattle.crdt_rules.specs.Within.{is_within}
 use Rattle.crdt_rules.specs.Facts.{Facts}
 use Rattle.doc_words.specs.declared.role.Role.{Role}
 use Rattle.doc_words.specs.declared.role.Role.TheVariants.{Through}
-use Rattle.presence_set.specs.ById.{put}
+use Rattle.presence_set.specs.ById.{put_at_id}
 use Rattle.doc_nodes.specs.declared.node.NodeNumber.{NodeNumber}
 use Rattle.doc_nodes.specs.declared.node.Node.{Node}
 use Rattle.doc_nodes.specs.Walk.{walk}
 use Rattle.doc_nodes.specs.Nodes.{node_of, child_of, AreTree}
 
--- a node that an operation makes present, in a role
+-- a node that an operation makes present, in a role; it takes the room that was made for it
 abbrev pub marked : Id → Role → Node → Node
-marked id role node = record node { presence = (put node.presence.0 id role, node.presence.1) }
+marked id role node = record node { presence = (put_at_id node.presence.0 id role, false) }
 
 -- the role in a node from which keys still lead on
 abbrev pub role_before : List Key → Role → Role
@@ -35,7 +35,7 @@ keys_to (t ∷ way) k = keys_below way k
 abbrev pub HasRoomAlong : List Node → NodeNumber → List Key → Type 0
 HasRoomAlong nodes n keys =
     (front rest : List Key) (j : NodeNumber) → keys ≡ front ++ rest → walk (child_of nodes) n front ≡ Some j
-    → length (node_of nodes j).presence.0 < (node_of nodes j).presence.1
+    → (node_of nodes j).presence.1 ≡ true
 
 -- the nodes on the way from n by the keys are marked, and no other
 pub record MarksAlong (id : Id) (role : Role) (old new : List Node) (n : NodeNumber) (keys : List Key) : Type 0 where

@@ -1,5 +1,5 @@
 -- What numbered nodes say of a document.
-use Rattle.std.specs.Prelude.{◌≡◌, ◌≢◌, ℕ, ℤ, List, [], Bool, ◌&&◌, not, Option, Some, None, is_some, option_and_then, slice_index_or, if◌then◌else◌, ◌⊎◌, length}
+use Rattle.std.specs.Prelude.{◌≡◌, ◌≢◌, ℕ, ℤ, List, [], Bool, ◌&&◌, not, Option, Some, None, is_some, option_and_then, slice_index_or, if◌then◌else◌, ◌⊎◌, length, false}
 use Rattle.doc_words.specs.Words.{Id, Scalar, Key, Tagged}
 use Rattle.crdt_rules.specs.Within.{is_within}
 use Rattle.crdt_rules.specs.Facts.{Facts}
@@ -12,11 +12,11 @@ use Rattle.doc_nodes.specs.Children.{number_at}
 use Rattle.doc_nodes.specs.Walk.{trail, list_trail, walk, root, IsTree}
 
 -- a node in which nothing stands
-abbrev pub blank : Node
-blank = record { presence = ([], 0); register = ([], 0); counter = ([], 0); order = ([], 0); children = [] }
+abbrev pub blank_node : Node
+blank_node = record { presence = ([], false); register = ([], 0); counter = ([], 0); order = ([], 0); children = [] }
 
 abbrev pub node_of : List Node → NodeNumber → Node
-node_of nodes n = slice_index_or nodes n.0 blank
+node_of nodes n = slice_index_or nodes n.0 blank_node
 
 abbrev pub child_of : List Node → NodeNumber → Key → Option NodeNumber
 child_of nodes n k = number_at (node_of nodes n).children k
@@ -34,15 +34,15 @@ abbrev pub role_in : List Node → Option NodeNumber → Id → Option Role
 role_in nodes None i = None
 role_in nodes (Some n) i = get (node_of nodes n).presence.0 i
 
-abbrev pub value_in : {X : Type 0} → (Node → List (Id × X)) → List Node → Option NodeNumber → Id → Option X
-value_in part nodes None i = None
-value_in part nodes (Some n) i = get (part (node_of nodes n)) i
+abbrev pub part_in : {X : Type 0} → (Node → List (Id × X)) → List Node → Option NodeNumber → Id → Option X
+part_in part nodes None i = None
+part_in part nodes (Some n) i = get (part (node_of nodes n)) i
 
-abbrev pub scalar_in : List Node → Option NodeNumber → Id → Option Scalar
-scalar_in = value_in (λ node. node.register.0)
+abbrev pub register_in : List Node → Option NodeNumber → Id → Option Scalar
+register_in = part_in (λ node. node.register.0)
 
 abbrev pub number_in : List Node → Option NodeNumber → Id → Option ℤ
-number_in = value_in (λ node. node.counter.0)
+number_in = part_in (λ node. node.counter.0)
 
 abbrev pub ids_in : List Node → Option NodeNumber → List Id
 ids_in nodes None = []
@@ -57,7 +57,7 @@ unfoldable pub facts_of : List Node → Facts
 facts_of nodes =
     record {
       present = λ p k i. is_some (role_at nodes p k i);
-      register = λ p k i. scalar_in nodes (node_at nodes p k) i;
+      register = λ p k i. register_in nodes (node_at nodes p k) i;
       counter = λ p k i. number_in nodes (node_at nodes p k) i;
       order = λ p. ids_in nodes (list_node_at nodes p);
     }

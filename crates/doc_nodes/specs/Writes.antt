@@ -1,31 +1,31 @@
 -- Writes to one node, and what they say of the facts.
-use Rattle.std.specs.Prelude.{◌≡◌, ◌<◌, ℤ, List, length, Bool, Option, Some, None, IsSome, ◌&&◌, if◌then◌else◌}
+use Rattle.std.specs.Prelude.{◌≡◌, ◌<◌, ℤ, List, length, Bool, true, false, Option, Some, None, IsSome, ◌&&◌, if◌then◌else◌}
 use Rattle.doc_words.specs.Words.{Id, Scalar, Key, Tagged}
 use Rattle.crdt_rules.specs.Same.{id_eq, key_eq, path_eq}
 use Rattle.crdt_rules.specs.Within.{is_within}
 use Rattle.crdt_rules.specs.Facts.{Facts}
 use Rattle.doc_words.specs.declared.role.Role.{Role}
 use Rattle.doc_words.specs.declared.role.Role.TheVariants.{Through}
-use Rattle.presence_set.specs.ById.{put}
+use Rattle.presence_set.specs.ById.{put_at_id}
 use Rattle.doc_nodes.specs.declared.node.NodeNumber.{NodeNumber}
 use Rattle.doc_nodes.specs.declared.node.Node.{Node}
 use Rattle.doc_nodes.specs.Walk.{root}
 use Rattle.list_laws.specs.Order.{insert_after}
-use Rattle.list_order.specs.Entries.{entry_cmp, reference, absent}
+use Rattle.list_order.specs.Entries.{entry_cmp, entry_of_reference, absent}
 use Rattle.doc_nodes.specs.Nodes.{node_of, node_at, clear_facts_at}
 use Rattle.doc_nodes.specs.Marks.{mark_facts, keys_to, HasRoomAlong}
 
 -- a node with a scalar in its register
 abbrev pub with_scalar : Id → Scalar → Node → Node
-with_scalar id s node = record node { register = (put node.register.0 id s, node.register.1) }
+with_scalar id s node = record node { register = (put_at_id node.register.0 id s, node.register.1) }
 
 -- a node with a number in its counter
 abbrev pub with_number : Id → ℤ → Node → Node
-with_number id n node = record node { counter = (put node.counter.0 id n, node.counter.1) }
+with_number id n node = record node { counter = (put_at_id node.counter.0 id n, node.counter.1) }
 
 -- a node with one more id in its list
 abbrev pub with_entry : Option Id → Id → Node → Node
-with_entry after id node = record node { order = (insert_after entry_cmp node.order.0 (reference after) (absent id), node.order.1) }
+with_entry after id node = record node { order = (insert_after entry_cmp node.order.0 (entry_of_reference after) (absent id), node.order.1) }
 
 -- a scalar stands in the register of a place
 abbrev pub enter_facts : Facts → List Tagged → Key → Id → Scalar → Facts
@@ -62,9 +62,9 @@ abbrev pub add_role : (List Tagged → Key → Id → Option Role) → List Tagg
 add_role before p k id role q j i =
     if is_within p k q j && id_eq id i then Some (if path_eq p q && key_eq k j then role else Through) else before q j i
 
--- a place has a node, with room for one more id on the way, and for one more scalar and one more number at the end
-pub record IsReadyFor (nodes : List Node) (p : List Tagged) (k : Key) : Type 0 where
+-- a place has a node, with room for one more id on the way, and at the end for one more number, or for one more scalar
+pub record IsReadyFor (nodes : List Node) (p : List Tagged) (k : Key) (adds : Bool) : Type 0 where
   pub found : IsSome (node_at nodes p k)
   pub along : HasRoomAlong nodes root (keys_to p k)
-  pub register : (m : NodeNumber) → node_at nodes p k ≡ Some m → length (node_of nodes m).register.0 < (node_of nodes m).register.1
-  pub counter : (m : NodeNumber) → node_at nodes p k ≡ Some m → length (node_of nodes m).counter.0 < (node_of nodes m).counter.1
+  pub register : adds ≡ false → (m : NodeNumber) → node_at nodes p k ≡ Some m → length (node_of nodes m).register.0 < (node_of nodes m).register.1
+  pub counter : adds ≡ true → (m : NodeNumber) → node_at nodes p k ≡ Some m → length (node_of nodes m).counter.0 < (node_of nodes m).counter.1

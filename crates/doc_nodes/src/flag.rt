@@ -22,7 +22,7 @@ pub fn tell(nodes: &mut [Node], at: NodeNumber, element: Option<Id>, child: Node
 /// Whether something makes a node present.
 pub fn stands(nodes: &[Node], at: NodeNumber) -> bool
     requires { at.0 < length nodes.now }
-    ensures { result ≡ Spec.stands nodes.now (Some at) }
+    ensures { result ≡ Spec.node_stands nodes.now (Some at) }
 {
     !nodes[at.0].presence.is_empty()
 }

@@ -1,5 +1,5 @@
 //! Growth that changes nothing of what the nodes say.
-ghost use Rattle.std.specs.Prelude.{◌≡◌, ◌<◌, ◌≤◌, ◌+◌, ◌++◌, ◌∷◌, [], length, Some, None, OnOk, OnErr, IfOk, IfErr, slice_set};
+ghost use Rattle.std.specs.Prelude.{◌≡◌, ◌<◌, ◌≤◌, ◌+◌, ◌++◌, ◌∷◌, [], length, Some, None, OnOk, OnErr, IfOk, IfErr, slice_set, true, false};
 ghost use Rattle.json_scalar.specs.declared.refusal.Refusal.TheVariants.{NoMemory};
 ghost use Rattle.doc_nodes.specs.Nodes.{AreTree, node_of, child_of};
 ghost use Rattle.doc_nodes.specs.Marks.{keys_below, keys_to};
@@ -55,19 +55,22 @@ fn prepare_below(
     }
 }
 
-/// Makes room for one more scalar and one more number in a node.
-pub fn reserve_values(nodes: &mut Vec<Node>, at: NodeNumber) -> Result<(), Refusal>
+/// Makes room for one more number in a node, or for one more scalar.
+pub fn reserve_value(nodes: &mut Vec<Node>, at: NodeNumber, adds: bool) -> Result<(), Refusal>
     requires tree { AreTree nodes.old.items }
     requires known { at.0 < length nodes.old.items }
     ensures tree { AreTree nodes.new.items }
     ensures grows { Grows nodes.old.items nodes.new.items }
     ensures none { length nodes.new.items ≡ length nodes.old.items }
-    ensures register { OnOk result (length (node_of nodes.new.items at).register.0 < (node_of nodes.new.items at).register.1) }
-    ensures counter { OnOk result (length (node_of nodes.new.items at).counter.0 < (node_of nodes.new.items at).counter.1) }
+    ensures register { adds ≡ false → OnOk result (length (node_of nodes.new.items at).register.0 < (node_of nodes.new.items at).register.1) }
+    ensures counter { adds ≡ true → OnOk result (length (node_of nodes.new.items at).counter.0 < (node_of nodes.new.items at).counter.1) }
     ensures memory { IfErr result (λ cause. cause ≡ NoMemory) }
 {
-    reserve_register(nodes, at)?;
-    reserve_counter(nodes, at)
+    if adds {
+        reserve_counter(nodes, at)
+    } else {
+        reserve_register(nodes, at)
+    }
 }
 
 /// Makes room for one more number in the counter of a node.
@@ -122,7 +125,7 @@ pub fn reserve_presence(nodes: &mut Vec<Node>, at: NodeNumber) -> Result<(), Ref
     ensures tree { AreTree nodes.new.items }
     ensures grows { Grows nodes.old.items nodes.new.items }
     ensures none { length nodes.new.items ≡ length nodes.old.items }
-    ensures room { OnOk result (length (node_of nodes.new.items at).presence.0 < (node_of nodes.new.items at).presence.1) }
+    ensures room { OnOk result ((node_of nodes.new.items at).presence.1 ≡ true) }
     ensures memory { IfErr result (λ cause. cause ≡ NoMemory) }
 {
     let node = &mut nodes[at.0];

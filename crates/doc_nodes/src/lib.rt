@@ -1,6 +1,7 @@
 //! The numbered nodes of a document's tree: how they are found, cleared, marked, written and grown.
 #![tactic(auto)]
 
+mod children;
 mod clear;
 mod finding;
 mod flag;
@@ -9,9 +10,10 @@ mod mark;
 mod node;
 mod write;
 
+pub use children::{Children, EachChild};
 pub use clear::{clear_under, clear_way};
 pub use finding::{find, find_list, keys, known_list, known_node};
-pub use growth::{prepare_way, reserve_order, reserve_values};
+pub use growth::{prepare_way, reserve_order, reserve_value};
 pub use mark::mark_way;
-pub use node::{Children, Counter, Node, NodeNumber, Register};
+pub use node::{Counter, Node, NodeNumber, Register};
 pub use write::{count, enter, link};

@@ -1,5 +1,5 @@
 //! The marks of an operation on the nodes that it passes, and where it ends.
-ghost use Rattle.std.specs.Prelude.{◌≡◌, ◌<◌, length, Some, IsSome, slice_set};
+ghost use Rattle.std.specs.Prelude.{◌≡◌, ◌<◌, length, Some, IsSome, slice_set, true};
 ghost use Rattle.lamport_id.specs.declared.id.Id.{Id};
 ghost use Rattle.doc_nodes.specs.declared.node.NodeNumber.{NodeNumber};
 ghost use Rattle.doc_nodes.specs.Walk.{walk, root};
@@ -62,7 +62,7 @@ pub fn mark_below(
 /// Marks one node.
 pub fn mark(nodes: &mut [Node], at: NodeNumber, id: &Id, role: Role)
     requires known { at.0 < length nodes.old }
-    requires room { length (node_of nodes.old at).presence.0 < (node_of nodes.old at).presence.1 }
+    requires room { (node_of nodes.old at).presence.1 ≡ true }
     ensures { nodes.new ≡ slice_set nodes.old at.0 (marked id.now role (node_of nodes.old at)) }
 {
     let node = &mut nodes[at.0];

@@ -12,8 +12,8 @@ use Rattle.crdt_rules.specs.Fits.{Fits}
 use Rattle.crdt_rules.proofs.SameLaws.{id_decides, eq_from}
 use Rattle.crdt_rules.proofs.Tests.{any_none}
 use Rattle.doc_rules.specs.Cause.{cause_of}
-use Rattle.doc_rules.specs.Events.{Due, told, held, logged, Settles, due_by_cause, stands, changed_rows, due_placed, delivered_rows, due_delivered, Forgets, Does, Event, IsWellMade}
-use Rattle.doc_rules.specs.Replica.{Replica, facts_of, find_id, hold, let_go, own_op, IsKept}
+use Rattle.doc_rules.specs.Events.{Due, told, held, logged, Settles, due_by_cause, has_id_of, changed_rows, due_placed, delivered_rows, due_delivered, Forgets, Does, Event, IsWellMade}
+use Rattle.doc_rules.specs.Replica.{Replica, replica_facts, find_id, hold, let_go, own_op, IsKept}
 use Rattle.doc_rules.specs.Resolve.{Resolves}
 use Rattle.doc_words.specs.declared.place.Place.{Place}
 use Rattle.doc_words.specs.declared.ask.Command.{Command}
@@ -68,14 +68,14 @@ by_cause_safe r op (Ok tt) e shaped unheld = record { fits = fits_from op r.log 
 by_cause_safe r op (Err cause) e shaped unheld = tt
 
 -- no operation of its id is among them
-none_found : (ops : List Op) (op : Op) → stands ops op ≡ false → (o : Op) → Contains ops o → id_eq o.id op.id ≡ false
+none_found : (ops : List Op) (op : Op) → has_id_of ops op ≡ false → (o : Op) → Contains ops o → id_eq o.id op.id ≡ false
 none_found ops op h = find_none (λ o. id_eq o.id op.id) ops (by (find_id ops op.id) h)
   where
     by : (found : Option Op) → is_some found ≡ false → found ≡ None
     by None h = refl
     by (Some o) h = absurd (true≢false h)
 
-none_stands : (ops : List Op) (op : Op) → stands ops op ≡ false → (o : Op) → Contains ops o → o.id ≢ op.id
+none_stands : (ops : List Op) (op : Op) → has_id_of ops op ≡ false → (o : Op) → Contains ops o → o.id ≢ op.id
 none_stands ops op h o c same = both_ways (id_eq o.id op.id) (none_found ops op h o c) (eq_from id_decides o.id op.id same)
 
 has_room : (ready : Bool) (n : ℕ) → not ready ≡ true → (not ready && nat_le 256 n) ≡ false → n < 256
@@ -85,7 +85,7 @@ has_room false n waits h = few n h
     few : (n : ℕ) → nat_le 256 n ≡ false → n < 256
     few n e = grind arith
 
-may_hold : (r : Replica) (op : Op) → stands r.log op ≡ false → stands r.held op ≡ false → bytes_eq op.id.replica r.name ≡ false
+may_hold : (r : Replica) (op : Op) → has_id_of r.log op ≡ false → has_id_of r.held op ≡ false → bytes_eq op.id.replica r.name ≡ false
     → not (is_ready op r.log) ≡ true → (not (is_ready op r.log) && nat_le 256 (length r.held)) ≡ false → MayHold r op
 may_hold r op unlogged unheld foreign waits room = record {
   unlogged = any_none (λ o. id_eq o.id op.id) r.log (none_found r.log op unlogged);
@@ -132,7 +132,7 @@ forgets_keeps r s i (Some o) reply k h =
 -- ---- changes of one's own
 
 placed_safe : (r : Replica) (place : Place) (m : Mutation) (c : Result Cursor Refusal) → is_name r.name ≡ true → is_mutation m ≡ true → IsKept r
-    → Resolves (facts_of r) place.start place.steps c → IsSafe r (due_placed r c m)
+    → Resolves (replica_facts r) place.start place.steps c → IsSafe r (due_placed r c m)
 placed_safe r place m (Err cause) named value k resolves = tt
 placed_safe r place m (Ok c) named value k resolves =
     by_rows (IsSafe r) (changed_rows r c m) (logged (own_op r c m)) (

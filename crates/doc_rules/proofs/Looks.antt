@@ -11,7 +11,7 @@ use Rattle.doc_words.specs.declared.role.Role.{Role}
 use Rattle.crdt_rules.specs.Facts.{Facts, facts}
 use Rattle.crdt_rules.specs.Log.{IsGood, replay}
 use Rattle.doc_rules.specs.Answers.{LooksHere, Reads}
-use Rattle.doc_rules.specs.Replica.{Replica, facts_of}
+use Rattle.doc_rules.specs.Replica.{Replica, replica_facts}
 use Rattle.doc_rules.specs.Resolve.{Resolves}
 pub use Rattle.doc_rules.specs.Role.{AreOf}
 use Rattle.doc_rules.specs.Role.{value_put_at, value_in, values_in, roles_of}
@@ -39,6 +39,6 @@ look_answers r mine f roles good are l place c answer leads h =
     (c, subst (λ g. Resolves g place.start place.steps c) are.facts_are leads, by c h)
   where
     by : (c : Result Cursor Refusal) → MatchResult c (λ c. LooksHere f (values_in f roles) l c answer) (λ e. answer ≡ Refused e)
-        → MatchResult c (λ c. LooksHere (facts_of r) (value_put_at r.log) l c answer) (λ e. answer ≡ Refused e)
+        → MatchResult c (λ c. LooksHere (replica_facts r) (value_put_at r.log) l c answer) (λ e. answer ≡ Refused e)
     by (Ok c) h = looks_tell r.log f roles good are l c answer h
     by (Err e) h = h

@@ -11,7 +11,7 @@ use Rattle.doc_rules.specs.Replica.Drains.{done, logs}
 use Rattle.doc_rules.specs.Events.{Event}
 use Rattle.doc_words.specs.declared.place.Step.{Step}
 use Rattle.doc_words.specs.declared.place.Step.TheVariants.{Get, Index}
-use Rattle.doc_rules.specs.Role.{role_at}
+use Rattle.doc_rules.specs.Role.{logged_role}
 use Rattle.doc_words.specs.declared.role.Role.TheVariants.{Through, List as ListRole, Scalar as ScalarRole}
 use Rattle.doc_rules.specs.Sorted.AreThose.{none}
 use Rattle.doc_rules.proofs.Causes.{fits_from}
@@ -150,11 +150,11 @@ not_in_list = inl (Ok at_l, (Ok at_l, refl, refl), (refl, refl))
 
 -- ---- roles
 
-put_list : role_at three.log root l (id 1 o) ≡ ListRole
+put_list : logged_role three.log root l (id 1 o) ≡ ListRole
 put_list = refl
 
-passed : role_at three.log root l (id 2 o) ≡ Through
+passed : logged_role three.log root l (id 2 o) ≡ Through
 passed = refl
 
-put_scalar : role_at three.log in_list (Element (id 2 o)) (id 2 o) ≡ ScalarRole
+put_scalar : logged_role three.log in_list (Element (id 2 o)) (id 2 o) ≡ ScalarRole
 put_scalar = refl

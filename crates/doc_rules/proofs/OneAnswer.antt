@@ -24,8 +24,8 @@ use Rattle.doc_words.specs.declared.place.Step.{Step}
 use Rattle.doc_words.specs.declared.place.Step.TheVariants.{Get, Index}
 use Rattle.doc_words.specs.declared.reply.Reply.{Reply}
 use Rattle.doc_words.specs.declared.reply.Reply.TheVariants as reply
-use Rattle.doc_rules.specs.Resolve.{may_go_on, at_index, Goes, Leads, start_of, Resolves}
-use Rattle.doc_rules.specs.Replica.{Replica, facts_of}
+use Rattle.doc_rules.specs.Resolve.{may_go_on, at_index, Goes, Leads, checked_start, Resolves}
+use Rattle.doc_rules.specs.Replica.{Replica, replica_facts}
 use Rattle.doc_rules.specs.Answers.{told_as, ReadsHere, LooksHere, ReadsAt, Reads}
 use Rattle.doc_rules.specs.Role.{value_put_at}
 use Rattle.doc_rules.specs.Views.{Values, IsPresent, into_map, into_list, AreKeys, AreEntries, AreValues, HaveValues, AreItems, AreTerms, total, IsSum, AreConflicts, ReadsPlace}
@@ -154,7 +154,7 @@ module _ (f : Facts) where
       one_end steps b.0 x y (subst (λ next. Leads f steps next x) (one_next from step a.0 b.0 a.1 b.1) a.2) b.2
 
   pub one_place : (start : Cursor) (steps : List Step) (x y : Result Cursor Refusal) → Resolves f start steps x → Resolves f start steps y → x ≡ y
-  one_place start steps x y a b = one_end steps (start_of f start) x y a b
+  one_place start steps x y a b = one_end steps (checked_start f start) x y a b
 
 -- ---- answers of a replica that is only read
 
@@ -182,7 +182,7 @@ one_look f values look.Sum = one_here (IsSum f) reply.Sum (one_sum f values)
 one_at : (r : Replica) (place : Place) (reads : Cursor → Reply → Type 0) → ((c : Cursor) (x y : Reply) → reads c x → reads c y → x ≡ y)
     → (x y : Reply) → ReadsAt r place reads x → ReadsAt r place reads y → x ≡ y
 one_at r place reads one x y a b =
-    by b.0 (subst (λ c. MatchResult c (λ c. reads c x) (λ e. x ≡ reply.Refused e)) (one_place (facts_of r) place.start place.steps a.0 b.0 a.1 b.1) a.2) b.2
+    by b.0 (subst (λ c. MatchResult c (λ c. reads c x) (λ e. x ≡ reply.Refused e)) (one_place (replica_facts r) place.start place.steps a.0 b.0 a.1 b.1) a.2) b.2
   where
     by : (c : Result Cursor Refusal) → MatchResult c (λ c. reads c x) (λ e. x ≡ reply.Refused e)
         → MatchResult c (λ c. reads c y) (λ e. y ≡ reply.Refused e) → x ≡ y
@@ -192,7 +192,7 @@ one_at r place reads one x y a b =
 pub one_answer : (r : Replica) (mine : ℕ) (q : Query) (x y : Reply) → Reads r mine q x → Reads r mine q y → x ≡ y
 one_answer r mine (query.Resolve place) x y = one_at r place (λ c a. a ≡ reply.Resolved c) (λ c x y a b. a ∙ sym b) x y
 one_answer r mine (query.Look l place) x y =
-    one_at r place (LooksHere (facts_of r) (value_put_at r.log) l) (one_look (facts_of r) (value_put_at r.log) l) x y
+    one_at r place (LooksHere (replica_facts r) (value_put_at r.log) l) (one_look (replica_facts r) (value_put_at r.log) l) x y
 one_answer r mine (query.Operations front limit) x y = λ a b. a ∙ sym b
 one_answer r mine query.Front x y = λ a b. a ∙ sym b
 one_answer r mine query.Held x y = λ a b. a ∙ sym b

@@ -9,7 +9,7 @@ use Rattle.crdt_rules.specs.Fits.{Fits}
 use Rattle.crdt_rules.proofs.Tests.{some_same, some≢none}
 use Rattle.doc_rules.specs.Events.{Due, told, held, logged, Settles, due_placed, due_delivered, Forgets}
 use Rattle.doc_rules.specs.Memory.{DropsMisfits, SettlesAll, DoesFully}
-use Rattle.doc_rules.specs.Replica.{Replica, Drains, facts_of, find_id, append, let_go}
+use Rattle.doc_rules.specs.Replica.{Replica, Drains, replica_facts, find_id, append, let_go}
 use Rattle.doc_rules.specs.Replica.Drains.{done, logs, drops}
 use Rattle.doc_rules.proofs.OneAnswer.{one_place}
 
@@ -56,7 +56,7 @@ one_forgetting r s t i None x y a b = (a.0 ∙ sym b.0, a.1 ∙ sym b.1)
 
 pub one_outcome : (r s t : Replica) (command : Command) (x y : Reply) → DoesFully r command x s → DoesFully r command y t → (x ≡ y) × (s ≡ t)
 one_outcome r s t (Change place m) x y (a, p) (b, q) =
-    let same = one_place (facts_of r) place.start place.steps b.0 a.0 b.1 a.1 in
+    let same = one_place (replica_facts r) place.start place.steps b.0 a.0 b.1 a.1 in
     let other : (h : Settles r (due_placed r a.0 m) y t) × SettlesAll r (due_placed r a.0 m) y t h =
     subst (λ c. (h : Settles r (due_placed r c m) y t) × SettlesAll r (due_placed r c m) y t h) same (b.2, q) in
     one_settling r s t (due_placed r a.0 m) x y a.2 other.0 p other.1

@@ -25,9 +25,9 @@ use Rattle.crdt_rules.proofs.Tests.{any_from, all_from, not-false}
 use Rattle.crdt_rules.proofs.WalkLaws.{id_order}
 use Rattle.doc_rules.specs.Events.{logged, changed_rows, due_changed, is_past_operations, is_past_replicas}
 use Rattle.doc_rules.proofs.Tables.{by_rows}
-use Rattle.doc_rules.specs.Replica.{Replica, facts_of, next_id, own_op}
+use Rattle.doc_rules.specs.Replica.{Replica, replica_facts, next_id, own_op}
 use Rattle.doc_words.specs.declared.place.Step.{Step}
-use Rattle.doc_rules.specs.Resolve.{is_short, stands_in, stands, Resolves}
+use Rattle.doc_rules.specs.Resolve.{is_short, stands_in, way_stands, Resolves}
 use Rattle.doc_rules.proofs.Resolved.{resolved_is_at}
 use Rattle.doc_rules.proofs.WholeFront.{front_rising, rising_ascends, front_from, front_last, knows_whole_front, max_counter_below}
 
@@ -75,14 +75,14 @@ pub record IsKnown (log : List Op) (before path : List Tagged) (k : Key) : Type 
   pub tags : list_all is_tagged path ≡ true
   pub key : is_key k ≡ true
 
-cursor_known : (log : List Op) (before path : List Tagged) (k : Key) → IsGood log → stands (facts (replay log)) before path k ≡ true → IsKnown log before path k
+cursor_known : (log : List Op) (before path : List Tagged) (k : Key) → IsGood log → way_stands (facts (replay log)) before path k ≡ true → IsKnown log before path k
 cursor_known log before [] k good h =
     let parts = and_parts (is_short k) (stands_in (facts (replay log)) before k) h in
     let one = key_known log before k good parts.0 parts.1 in
     record { known = one.0; tags = refl; key = one.1 }
 cursor_known log before (t ∷ path) k good h =
     let f = facts (replay log) in
-    let parts = and_parts (is_short (key_of t) && stands_in f before (key_of t)) (stands f (before ++ t ∷ []) path k) h in
+    let parts = and_parts (is_short (key_of t) && stands_in f before (key_of t)) (way_stands f (before ++ t ∷ []) path k) h in
     let first = and_parts (is_short (key_of t)) (stands_in f before (key_of t)) parts.0 in
     let one = key_known log before (key_of t) good first.0 first.1 in
     let rest = cursor_known log (before ++ t ∷ []) path k good parts.1 in
@@ -123,9 +123,9 @@ next_is_id r named good room =
     (le-leb (max_counter (front_of r.log) + 1) 100000 (omega (arith, most, room)))
 
 pub unopposed_fits : (r : Replica) (start : Cursor) (steps : List Step) (c : Cursor) (m : Mutation) → is_name r.name ≡ true → is_mutation m ≡ true → IsGood r.log
-    → Resolves (facts_of r) start steps (Ok c) → IsUnopposed r c m → Fits (own_op r c m) r.log
+    → Resolves (replica_facts r) start steps (Ok c) → IsUnopposed r c m → Fits (own_op r c m) r.log
 unopposed_fits r start steps c m named value good resolves h =
-    let is_at = resolved_is_at (facts_of r) start steps c resolves in
+    let is_at = resolved_is_at (replica_facts r) start steps c resolves in
     let known = cursor_known r.log [] c.path c.key good is_at.stands in
     let room = own_room r c m h in
     let parts = and_from (is_id (next_id r) && list_all is_entry (front_of r.log) && (list_all is_tagged c.path && is_key c.key)) (is_mutation m)
@@ -150,7 +150,7 @@ unopposed_fits r start steps c m named value good resolves h =
 
 -- so it fits where the table says that it is logged
 pub own_fits : (r : Replica) (start : Cursor) (steps : List Step) (c : Cursor) (m : Mutation) → is_name r.name ≡ true → is_mutation m ≡ true → IsGood r.log
-    → Resolves (facts_of r) start steps (Ok c) → due_changed r c m ≡ logged (own_op r c m) → Fits (own_op r c m) r.log
+    → Resolves (replica_facts r) start steps (Ok c) → due_changed r c m ≡ logged (own_op r c m) → Fits (own_op r c m) r.log
 own_fits r start steps c m named value good resolves =
     by_rows (λ due. due ≡ logged (own_op r c m) → Fits (own_op r c m) r.log) (changed_rows r c m) (logged (own_op r c m)) (
       (λ is e. absurd (cc)),

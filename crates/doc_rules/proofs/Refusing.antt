@@ -10,7 +10,7 @@ use Rattle.doc_words.specs.declared.reply.Reply.TheVariants.{Refused}
 use Rattle.doc_rules.specs.Document.{Document, for_seat, Acts, opens}
 use Rattle.doc_rules.specs.Events.{Due, told, held, logged, Settles, due_placed, due_delivered, Forgets, Does, Event}
 use Rattle.doc_rules.specs.Replica.{Replica, find_id}
-use Rattle.doc_rules.specs.Seats.{Seat, Answer, ids_of, IsAnswerTo, ActsFor, AnswersFor}
+use Rattle.doc_rules.specs.Seats.{Seat, Answer, operation_ids, IsAnswerTo, ActsFor, AnswersFor}
 use Rattle.doc_rules.specs.Unchanged.{called}
 
 settles_same : (r s : Replica) (due : Due) (cause : Refusal) → Settles r due (Refused cause) s → s ≡ r
@@ -65,8 +65,8 @@ act_called d e s t command a cause is acts = (kept, told_nothing s t a nothing a
     nothing : t.told ≡ s.told
     nothing =
         acts.told
-        ∙ ap (λ (x : Document). s.told ++ ids_of (drop (length d.replica.log) x.replica.log)) kept
-        ∙ ap (λ ops. s.told ++ ids_of ops) (drop-length d.replica.log)
+        ∙ ap (λ (x : Document). s.told ++ operation_ids (drop (length d.replica.log) x.replica.log)) kept
+        ∙ ap (λ ops. s.told ++ operation_ids ops) (drop-length d.replica.log)
         ∙ append-nil s.told
 
 pub read_called : (d : Document) (s t : Seat) (query : Query) (a : Answer) → AnswersFor d s query a t → t ≡ called s

@@ -6,6 +6,7 @@ use Rattle.std.proofs.lemmas.Bool.{and_parts, and_from, or_cases, both_ways}
 use Rattle.doc_words.specs.Words.{Id, Refusal, Cursor, Key, Tagged}
 use Rattle.json_scalar.specs.Refusal.{and_then}
 use Rattle.json_scalar.specs.declared.refusal.Refusal.TheVariants.{BadCursor, IndexPastEnd, AtHead, TooDeep}
+use Rattle.json_scalar.proofs.Readings.{ok_step}
 use Rattle.op_core.specs.declared.cursor.Key.TheVariants.{Text, Element, Head}
 use Rattle.op_core.specs.declared.cursor.Tagged.TheVariants as tagged
 use Rattle.op_core.specs.Shape.{is_doc, is_head, is_list, is_placed, is_shallow, key_of, may_follow, may_end, follows}
@@ -19,12 +20,12 @@ use Rattle.doc_rules.specs.Sorted.AreThose.{none, keep, skip}
 use Rattle.doc_rules.specs.Views.{into_list, AreElements}
 use Rattle.doc_words.specs.declared.place.Step.{Step}
 use Rattle.doc_words.specs.declared.place.Step.TheVariants.{Get, Index}
-use Rattle.doc_rules.specs.Resolve.{is_short, stands_in, stands, start_of, may_go_on, at_text, at_index, Goes, Leads, Resolves}
+use Rattle.doc_rules.specs.Resolve.{is_short, stands_in, way_stands, checked_start, may_go_on, at_text, at_index, Goes, Leads, Resolves}
 
 pub record IsAt (f : Facts) (c : Cursor) : Type 0 where
   pub shallow : is_shallow c.path ≡ true
   pub placed : is_placed c.path c.key ≡ true
-  pub stands : stands f [] c.path c.key ≡ true
+  pub stands : way_stands f [] c.path c.key ≡ true
 
 pub ok_same : {A E : Type 0} {x y : A} → ◌≡◌ {A = Result A E} (Ok x) (Ok y) → x ≡ y
 ok_same h = cc
@@ -32,18 +33,13 @@ ok_same h = cc
 pub ok≢err : {A E : Type 0} {x : A} {e : E} → ◌≡◌ {A = Result A E} (Err e) (Ok x) → ⊥
 ok≢err h = cc
 
--- both steps of an answer were taken
-pub and_then_from : {A B : Type 0} (r : Result A Refusal) (f : A → Result B Refusal) {y : B} → and_then r f ≡ Ok y → (x : A) × (r ≡ Ok x) × (f x ≡ Ok y)
-and_then_from (Ok x) f h = (x, refl, h)
-and_then_from (Err e) f h = absurd (ok≢err h)
-
-start_is_at : (f : Facts) (c d : Cursor) → start_of f c ≡ Ok d → IsAt f d
-start_is_at f c d h = by (is_shallow c.path) refl (is_placed c.path c.key && stands f [] c.path c.key) refl h
+start_is_at : (f : Facts) (c d : Cursor) → checked_start f c ≡ Ok d → IsAt f d
+start_is_at f c d h = by (is_shallow c.path) refl (is_placed c.path c.key && way_stands f [] c.path c.key) refl h
   where
-    by : (a : Bool) → is_shallow c.path ≡ a → (b : Bool) → (is_placed c.path c.key && stands f [] c.path c.key) ≡ b
+    by : (a : Bool) → is_shallow c.path ≡ a → (b : Bool) → (is_placed c.path c.key && way_stands f [] c.path c.key) ≡ b
         → ◌≡◌ {A = Result Cursor Refusal} (if a then (if b then Ok c else Err BadCursor) else Err TooDeep) (Ok d) → IsAt f d
     by true a true b h =
-        let parts = and_parts (is_placed c.path c.key) (stands f [] c.path c.key) b in
+        let parts = and_parts (is_placed c.path c.key) (way_stands f [] c.path c.key) b in
         subst (IsAt f) (ok_same h) (record { shallow = a; placed = parts.0; stands = parts.1 })
     by true a false b h = absurd (ok≢err h)
     by false a b e h = absurd (ok≢err h)
@@ -68,14 +64,14 @@ placed-snoc (first ∷ rest) t k h on end =
     let parts = and_parts (is_doc (key_of first)) (follows first rest (key_of t)) h in
     and_from (is_doc (key_of first)) (follows first (rest ++ t ∷ []) k) parts.0 (follows-snoc first rest t k parts.1 on end)
 
-stands-snoc : (f : Facts) (p path : List Tagged) (t : Tagged) (k : Key) → stands f p path (key_of t) ≡ true → is_short k ≡ true
-    → stands_in f (p ++ (path ++ t ∷ [])) k ≡ true → stands f p (path ++ t ∷ []) k ≡ true
+stands-snoc : (f : Facts) (p path : List Tagged) (t : Tagged) (k : Key) → way_stands f p path (key_of t) ≡ true → is_short k ≡ true
+    → stands_in f (p ++ (path ++ t ∷ [])) k ≡ true → way_stands f p (path ++ t ∷ []) k ≡ true
 stands-snoc f p [] t k h short here =
     and_from (is_short (key_of t) && stands_in f p (key_of t)) (is_short k && stands_in f (p ++ t ∷ []) k) h
     (and_from (is_short k) (stands_in f (p ++ t ∷ []) k) short here)
 stands-snoc f p (s ∷ path) t k h short here =
-    let parts = and_parts (is_short (key_of s) && stands_in f p (key_of s)) (stands f (p ++ s ∷ []) path (key_of t)) h in
-    and_from (is_short (key_of s) && stands_in f p (key_of s)) (stands f (p ++ s ∷ []) (path ++ t ∷ []) k) parts.0
+    let parts = and_parts (is_short (key_of s) && stands_in f p (key_of s)) (way_stands f (p ++ s ∷ []) path (key_of t)) h in
+    and_from (is_short (key_of s) && stands_in f p (key_of s)) (way_stands f (p ++ s ∷ []) (path ++ t ∷ []) k) parts.0
     (stands-snoc f (p ++ s ∷ []) path t k parts.1 short (subst (λ q. stands_in f q k ≡ true) (sym (append_assoc p (s ∷ []) (path ++ t ∷ []))) here))
 
 moved : (f : Facts) (p : List Tagged) (t : Tagged) (k : Key) → IsAt f (record { path = p; key = key_of t }) → is_head (key_of t) ≡ false
@@ -100,7 +96,7 @@ may_from c {x} h = by (is_head c.key) (nat_le 30 (length c.path)) h
 
 -- ---- steps
 
-those_from : {X : Type 0} {holds : X → Type 0} {xs kept : List X} → AreThose holds xs kept → (x : X) → Contains kept x → Contains xs x
+pub those_from : {X : Type 0} {holds : X → Type 0} {xs kept : List X} → AreThose holds xs kept → (x : X) → Contains kept x → Contains xs x
 those_from none x c = c
 those_from (keep {x = y} {xs} {kept} h rest) x c =
     elim (Contains-cases y kept c) [ inl is ↦ Contains-here xs is | inr behind ↦ Contains-there y xs (those_from rest x behind) ]
@@ -129,11 +125,11 @@ index_is_at f c d ids (suc n) is_at on deep those h = by (slice_get ids n) refl 
 
 goes_is_at : (f : Facts) (c d : Cursor) (step : Step) → IsAt f c → Goes f c step (Ok d) → IsAt f d
 goes_is_at f c d (Get text) is_at h =
-    let both = and_then_from (may_go_on c) (λ _. at_text c text) (sym h) in
+    let both = ok_step (may_go_on c) (λ _. at_text c text) _ (sym h) in
     let may = may_from c both.1 in
     text_is_at f c d text is_at may.0 may.1 both.2
 goes_is_at f c d (Index n) is_at h =
-    let both = and_then_from (may_go_on c) (λ _. at_index c h.0 n) (sym h.2) in
+    let both = ok_step (may_go_on c) (λ _. at_index c h.0 n) _ (sym h.2) in
     let may = may_from c both.1 in
     index_is_at f c d h.0 n is_at may.0 may.1 h.1 both.2
 
@@ -151,8 +147,8 @@ leads_is_at f [] from r is_at h = subst (IsAtIfOk f) (sym h) is_at
 leads_is_at f (step ∷ steps) from r is_at h = leads_is_at f steps h.0 r (next_is_at f step from h.0 is_at h.1) h.2
 
 pub resolved_is_at : (f : Facts) (start : Cursor) (steps : List Step) (c : Cursor) → Resolves f start steps (Ok c) → IsAt f c
-resolved_is_at f start steps c h = leads_is_at f steps (start_of f start) (Ok c) (begins (start_of f start) refl) h
+resolved_is_at f start steps c h = leads_is_at f steps (checked_start f start) (Ok c) (begins (checked_start f start) refl) h
   where
-    begins : (r : Result Cursor Refusal) → start_of f start ≡ r → IsAtIfOk f r
+    begins : (r : Result Cursor Refusal) → checked_start f start ≡ r → IsAtIfOk f r
     begins (Ok d) e = start_is_at f start d e
     begins (Err cause) e = tt

@@ -25,16 +25,16 @@ use Rattle.doc_words.specs.declared.role.Role.{Role}
 use Rattle.doc_words.specs.declared.role.Role.TheVariants as role
 use Rattle.std.specs.Prelude.{option_and_then, is_some}
 use Rattle.doc_rules.specs.Views.{AgreeOnPresent}
-use Rattle.doc_rules.specs.Role.{value_put_at, value_in, role_put, role_at, role_here, roles_of, AreOf, values_in, step_roles}
+use Rattle.doc_rules.specs.Role.{value_put_at, value_in, role_put, logged_role, role_here, roles_of, AreOf, values_in, step_roles}
 
 module _ (p : List Tagged) (k : Key) (i : Id) where
   -- behind operations of which none ends here
-  role-behind : (log later : List Op) → ((o : Op) → Contains log o → ends_here o p k i ≡ false) → role_at (log ++ later) p k i ≡ role_at later p k i
+  role-behind : (log later : List Op) → ((o : Op) → Contains log o → ends_here o p k i ≡ false) → logged_role (log ++ later) p k i ≡ logged_role later p k i
   role-behind [] later none = refl
   role-behind (o ∷ log) later none = rw (none o (Contains-here log refl)) (role-behind log later (λ z c. none z (Contains-there o log c)))
 
   -- before one that doesn't end here
-  role-before : (log : List Op) (op : Op) → ends_here op p k i ≡ false → role_at (log ++ op ∷ []) p k i ≡ role_at log p k i
+  role-before : (log : List Op) (op : Op) → ends_here op p k i ≡ false → logged_role (log ++ op ∷ []) p k i ≡ logged_role log p k i
   role-before [] op not_here = rw not_here refl
   role-before (o ∷ log) op not_here = ap (λ r. if ends_here o p k i then role_put o.mutation else r) (role-before log op not_here)
 
@@ -49,43 +49,43 @@ module _ (p : List Tagged) (k : Key) (i : Id) where
   put_value Delete before = refl
   put_value (Add n) before = refl
 
-  value_told : (log : List Op) → value_put_at log p k i ≡ value_in (role_at log p k i) (free.value_at scalar_put log p k i)
+  value_told : (log : List Op) → value_put_at log p k i ≡ value_in (logged_role log p k i) (free.value_at scalar_put log p k i)
   value_told [] = refl
   value_told (o ∷ log) = by (ends_here o p k i) (value_told log)
     where
-      by : (b : Bool) → value_put_at log p k i ≡ value_in (role_at log p k i) (free.value_at scalar_put log p k i)
+      by : (b : Bool) → value_put_at log p k i ≡ value_in (logged_role log p k i) (free.value_at scalar_put log p k i)
           → (if b then value_put o.mutation else value_put_at log p k i)
-          ≡ value_in (if b then role_put o.mutation else role_at log p k i) (entered b (scalar_put o.mutation) (free.value_at scalar_put log p k i))
+          ≡ value_in (if b then role_put o.mutation else logged_role log p k i) (entered b (scalar_put o.mutation) (free.value_at scalar_put log p k i))
       by true ih = put_value o.mutation (free.value_at scalar_put log p k i)
-      by false ih = ih ∙ ap (value_in (role_at log p k i)) (sym (entered-false (scalar_put o.mutation) (free.value_at scalar_put log p k i)))
+      by false ih = ih ∙ ap (value_in (logged_role log p k i)) (sym (entered-false (scalar_put o.mutation) (free.value_at scalar_put log p k i)))
 
 and_true : (a b : Bool) → b ≡ true → (a && b) ≡ a
 and_true true b h = h
 and_true false b h = refl
 
-pub role_new : (log : List Op) (op : Op) (p : List Tagged) (k : Key) → Fits op log → role_at (log ++ op ∷ []) p k op.id ≡ role_here op p k
+pub role_new : (log : List Op) (op : Op) (p : List Tagged) (k : Key) → Fits op log → logged_role (log ++ op ∷ []) p k op.id ≡ role_here op p k
 role_new log op p k fits =
     role-behind p k op.id log (op ∷ [])
     (λ o c. false_from_ne_true (ends_here o p k op.id) (λ h. fits_new fits o c ((here_from o p k op.id h).id)))
     ∙ ap (λ b. if b then role_put op.mutation else role.Through) (and_true (path_eq (path_of op) p && key_eq (end_key op) k) (id_eq op.id op.id) (id_decides.itself op.id))
 
-pub role_old : (log : List Op) (op : Op) (p : List Tagged) (k : Key) (i : Id) → op.id ≢ i → role_at (log ++ op ∷ []) p k i ≡ role_at log p k i
+pub role_old : (log : List Op) (op : Op) (p : List Tagged) (k : Key) (i : Id) → op.id ≢ i → logged_role (log ++ op ∷ []) p k i ≡ logged_role log p k i
 role_old log op p k i other = role-before p k i log op (false_from_ne_true (ends_here op p k i) (λ h. other ((here_from op p k i h).id)))
 
 -- of a present id, the role and the register's entry tell the value that was put
 pub present_value : (log : List Op) (p : List Tagged) (k : Key) (i : Id) → IsGood log → (facts (replay log)).present p k i ≡ true
-    → value_put_at log p k i ≡ value_in (role_at log p k i) ((facts (replay log)).register p k i)
+    → value_put_at log p k i ≡ value_in (logged_role log p k i) ((facts (replay log)).register p k i)
 present_value log p k i good here =
     let kept = not-true (is_cleared log p k i)
     (and_parts (list_any (λ o. id_eq o.id i && marks o p k) log) (not (is_cleared log p k i)) (ap (λ f. f p k i) (sym (replay_present log good)) ∙ here)).1 in
     let entry : (facts (replay log)).register p k i ≡ free.value_at scalar_put log p k i =
     ap (λ f. f p k i) (replay_register log good) ∙ ap (λ b. if◌then◌else◌ {A = Option Scalar} b None (free.value_at scalar_put log p k i)) kept in
-    value_told p k i log ∙ ap (value_in (role_at log p k i)) (sym entry)
+    value_told p k i log ∙ ap (value_in (logged_role log p k i)) (sym entry)
 
 -- the roles of a good log and its registers tell what was put
 pub values_told : (log : List Op) → IsGood log → AgreeOnPresent (facts (replay log)) (values_in (facts (replay log)) (roles_of (facts (replay log)) log)) (value_put_at log)
 values_told log good p k i here =
-    ap (λ b. option_and_then (λ r. value_in r ((facts (replay log)).register p k i)) (if◌then◌else◌ {A = Option Role} b (Some (role_at log p k i)) None)) here
+    ap (λ b. option_and_then (λ r. value_in r ((facts (replay log)).register p k i)) (if◌then◌else◌ {A = Option Role} b (Some (logged_role log p k i)) None)) here
     ∙ sym (present_value log p k i good here)
 
 -- ---- all roles after one more operation
@@ -117,14 +117,14 @@ pub roles_after : (log : List Op) (op : Op) (p : List Tagged) (k : Key) (i : Id)
 roles_after log op p k i good fits = by (marks op p k) refl (id_eq op.id i) refl
   where
     by : (a : Bool) → marks op p k ≡ a → (b : Bool) → id_eq op.id i ≡ b
-        → ◌≡◌ {A = Option Role} (if ((facts (replay log)).present p k i && not (clears op p k && covers op.front i)) || (a && b) then Some (role_at (log ++ op ∷ []) p k i) else None)
-        (if a && b then Some (role_here op p k) else (if clears op p k && covers op.front i then None else (if (facts (replay log)).present p k i then Some (role_at log p k i) else None)))
+        → ◌≡◌ {A = Option Role} (if ((facts (replay log)).present p k i && not (clears op p k && covers op.front i)) || (a && b) then Some (logged_role (log ++ op ∷ []) p k i) else None)
+        (if a && b then Some (role_here op p k) else (if clears op p k && covers op.front i then None else (if (facts (replay log)).present p k i then Some (logged_role log p k i) else None)))
     by true m true e =
-        told_new ((facts (replay log)).present p k i && not (clears op p k && covers op.front i)) (role_at (log ++ op ∷ []) p k i) (role_here op p k)
-        (ap (role_at (log ++ op ∷ []) p k) (sym (id_decides.same op.id i e)) ∙ role_new log op p k fits)
-    by true m false e = told_old ((facts (replay log)).present p k i) (clears op p k && covers op.front i) (role_at (log ++ op ∷ []) p k i) (role_at log p k i) (λ h. role_old log op p k i (λ same. both_ways (id_eq op.id i) e (eq_from id_decides op.id i same)))
+        told_new ((facts (replay log)).present p k i && not (clears op p k && covers op.front i)) (logged_role (log ++ op ∷ []) p k i) (role_here op p k)
+        (ap (logged_role (log ++ op ∷ []) p k) (sym (id_decides.same op.id i e)) ∙ role_new log op p k fits)
+    by true m false e = told_old ((facts (replay log)).present p k i) (clears op p k && covers op.front i) (logged_role (log ++ op ∷ []) p k i) (logged_role log p k i) (λ h. role_old log op p k i (λ same. both_ways (id_eq op.id i) e (eq_from id_decides op.id i same)))
     by false m b e =
-        told_old ((facts (replay log)).present p k i) (clears op p k && covers op.front i) (role_at (log ++ op ∷ []) p k i) (role_at log p k i)
+        told_old ((facts (replay log)).present p k i) (clears op p k && covers op.front i) (logged_role (log ++ op ∷ []) p k i) (logged_role log p k i)
         (λ h. role_old log op p k i (λ same. both_ways ((facts (replay log)).present p k i) (ap ((facts (replay log)).present p k) (sym same) ∙ absent_new log op p k good fits) h))
 
 -- ---- facts and roles of a log

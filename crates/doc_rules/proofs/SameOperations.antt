@@ -20,9 +20,9 @@ use Rattle.crdt_rules.proofs.Readings.{here_from}
 use Rattle.crdt_rules.proofs.SameSet.{HasOneEach, good_one_each, same_set_same_facts}
 use Rattle.crdt_rules.proofs.Tests.{any_at, any_from}
 use Rattle.doc_rules.specs.Answers.{LooksHere, Reads, IsOfOperations}
-use Rattle.doc_rules.specs.Replica.{Replica, facts_of}
+use Rattle.doc_rules.specs.Replica.{Replica, replica_facts}
 use Rattle.doc_rules.specs.Resolve.{Resolves}
-use Rattle.doc_rules.specs.Role.{value_put_at, role_put, role_at, roles_of}
+use Rattle.doc_rules.specs.Role.{value_put_at, role_put, logged_role, roles_of}
 use Rattle.doc_rules.proofs.SameValues.{looks_same}
 use Rattle.doc_rules.proofs.WholeFront.{fronts_same, front_rising, front_last}
 
@@ -76,9 +76,9 @@ module _ (log other : List Op) (good : IsGood log) (other_good : IsGood other) (
         first-same (λ o. ends_here o p k i) (λ o. value_put o.mutation) (λ ops. value_put_at ops p k i) (λ o ops. refl) log other same
         (one_ends log (good_one_each log good)) (one_ends other (good_one_each other other_good))
 
-    pub role_at-same : role_at log p k i ≡ role_at other p k i
+    pub role_at-same : logged_role log p k i ≡ logged_role other p k i
     role_at-same =
-        first-same (λ o. ends_here o p k i) (λ o. role_put o.mutation) (λ ops. role_at ops p k i) (λ o ops. refl) log other same
+        first-same (λ o. ends_here o p k i) (λ o. role_put o.mutation) (λ ops. logged_role ops p k i) (λ o ops. refl) log other same
         (one_ends log (good_one_each log good)) (one_ends other (good_one_each other other_good))
 
     pub roles_of-same : roles_of (facts (replay log)) log p k i ≡ roles_of (facts (replay other)) other p k i
@@ -92,7 +92,7 @@ module _ (log other : List Op) (good : IsGood log) (other_good : IsGood other) (
 -- ---- answers
 
 module _ (r s : Replica) (good : IsGood r.log) (other_good : IsGood s.log) (same : SameMembers r.log s.log) where
-  same_facts : facts_of r ≡ facts_of s
+  same_facts : replica_facts r ≡ replica_facts s
   same_facts = facts_same r.log s.log good other_good same
 
   pub answers_same : (mine theirs : ℕ) (q : Query) (answer : Reply) → IsOfOperations q → Reads r mine q answer → Reads s theirs q answer
@@ -100,10 +100,10 @@ module _ (r s : Replica) (good : IsGood r.log) (other_good : IsGood s.log) (same
   answers_same mine theirs (query.Look l place) answer of h =
       (h.0, subst (λ f. Resolves f place.start place.steps h.0) same_facts h.1, by h.0 h.2)
     where
-      by : (c : Result Cursor Refusal) → MatchResult c (λ c. LooksHere (facts_of r) (value_put_at r.log) l c answer) (λ e. answer ≡ reply.Refused e)
-          → MatchResult c (λ c. LooksHere (facts_of s) (value_put_at s.log) l c answer) (λ e. answer ≡ reply.Refused e)
+      by : (c : Result Cursor Refusal) → MatchResult c (λ c. LooksHere (replica_facts r) (value_put_at r.log) l c answer) (λ e. answer ≡ reply.Refused e)
+          → MatchResult c (λ c. LooksHere (replica_facts s) (value_put_at s.log) l c answer) (λ e. answer ≡ reply.Refused e)
       by (Ok c) looks =
-          looks_same (facts_of s) (value_put_at r.log) (value_put_at s.log) (λ p k i here. value_at-same r.log s.log good other_good same p k i) l c answer
+          looks_same (replica_facts s) (value_put_at r.log) (value_put_at s.log) (λ p k i here. value_at-same r.log s.log good other_good same p k i) l c answer
           (subst (λ f. LooksHere f (value_put_at r.log) l c answer) same_facts looks)
       by (Err e) refused = refused
   answers_same mine theirs query.Front answer of h = h ∙ ap reply.Front (front_of-same r.log s.log good other_good same)

@@ -13,7 +13,7 @@ use Rattle.crdt_rules.specs.Dependencies.{missing}
 use Rattle.crdt_rules.specs.Facts.{Facts}
 use Rattle.crdt_rules.specs.Pull.{front_of}
 use Rattle.doc_rules.specs.Views.{Values, AreKeys, AreValues, AreItems, AreConflicts, IsSum, ReadsPlace}
-use Rattle.doc_rules.specs.Replica.{Replica, facts_of}
+use Rattle.doc_rules.specs.Replica.{Replica, replica_facts}
 use Rattle.doc_rules.specs.Resolve.{Resolves}
 use Rattle.doc_rules.specs.Role.{value_put_at}
 use Rattle.doc_rules.specs.Shown.{ShowsText}
@@ -39,7 +39,7 @@ LooksHere f values look.Sum = ReadsHere (IsSum f) reply.Sum
 -- a reading at the place where the steps lead, or the cause against them
 abbrev pub ReadsAt : Replica → Place → (Cursor → Reply → Type 0) → Reply → Type 0
 ReadsAt r place reads answer =
-    (c : Result Cursor Refusal) × Resolves (facts_of r) place.start place.steps c × MatchResult c (λ c. reads c answer) (λ e. answer ≡ reply.Refused e)
+    (c : Result Cursor Refusal) × Resolves (replica_facts r) place.start place.steps c × MatchResult c (λ c. reads c answer) (λ e. answer ≡ reply.Refused e)
 
 -- the operations that a front does not cover, in log order
 abbrev pub since : List (List ℕ × ℕ) → List Op → List Op
@@ -48,15 +48,15 @@ since front log = filter (λ o. not (covers front o.id)) log
 -- how many of the entries are the seat's, the replica does not know
 abbrev pub Reads : Replica → ℕ → Query → Reply → Type 0
 Reads r mine (query.Resolve place) answer = ReadsAt r place (λ c a. a ≡ reply.Resolved c) answer
-Reads r mine (query.Look look place) answer = ReadsAt r place (LooksHere (facts_of r) (value_put_at r.log) look) answer
+Reads r mine (query.Look look place) answer = ReadsAt r place (LooksHere (replica_facts r) (value_put_at r.log) look) answer
 Reads r mine (query.Operations front limit) answer = answer ≡ reply.Operations (take limit (since front r.log))
 Reads r mine query.Front answer = answer ≡ reply.Front (front_of r.log)
 Reads r mine query.Held answer = answer ≡ reply.Waiting (map (λ o. (o.id, missing o r.log)) r.held)
 Reads r mine query.Account answer = answer ≡ reply.Account mine
 
 -- what may be answered
-abbrev pub Answers : Replica → ℕ → Query → Reply → Type 0
-Answers r mine q answer = Reads r mine q answer ⊎ (answer ≡ reply.Refused NoMemory)
+abbrev pub MayAnswer : Replica → ℕ → Query → Reply → Type 0
+MayAnswer r mine q answer = Reads r mine q answer ⊎ (answer ≡ reply.Refused NoMemory)
 
 -- the operations alone answer it, whatever their order: where steps lead, a look at a place, and the front
 abbrev pub IsOfOperations : Query → Type 0

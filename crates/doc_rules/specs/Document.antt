@@ -66,7 +66,7 @@ pub record GivesTo (d : Document) (seat : ℕ) (reply : Reply) (e : Document) : 
 
 -- a reading for a seat
 abbrev pub Answers : Document → ℕ → Query → Reply → Type 0
-Answers d seat query reply = replica_answers.Answers d.replica (count_of seat d.seats_of) query reply
+Answers d seat query reply = replica_answers.MayAnswer d.replica (count_of seat d.seats_of) query reply
 
 -- the next seat, or that there is none
 abbrev pub opens : Document → Result ℕ Refusal × Document

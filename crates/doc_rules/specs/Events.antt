@@ -13,7 +13,7 @@ use Rattle.crdt_rules.specs.Dependencies.{is_ready, missing}
 use Rattle.crdt_rules.specs.Effect.{is_insertion}
 use Rattle.crdt_rules.specs.Fits.{replicas}
 use Rattle.doc_rules.specs.Cause.{cause_of}
-use Rattle.doc_rules.specs.Replica.{Replica, facts_of, find_id, hold, let_go, append, Drains, own_op}
+use Rattle.doc_rules.specs.Replica.{Replica, replica_facts, find_id, hold, let_go, append, Drains, own_op}
 use Rattle.doc_rules.specs.Resolve.{Resolves}
 
 -- what a change of one's own, or an operation that is handed in, is due
@@ -41,8 +41,8 @@ due_by_cause (Err cause) op = no cause
 -- ---- the tests of the tables
 
 -- an operation of this id stands among these
-abbrev pub stands : List Op → Op → Bool
-stands ops op = is_some (find_id ops op.id)
+abbrev pub has_id_of : List Op → Op → Bool
+has_id_of ops op = is_some (find_id ops op.id)
 
 abbrev pub is_same : Op → Option Op → Bool
 is_same op (Some o) = operation_eq o op
@@ -82,9 +82,9 @@ due_placed r (Err cause) m = no cause
 abbrev pub delivered_rows : Replica → Op → List (Bool × Due)
 delivered_rows r op =
     (stands_equal r.log op, told Known)
-    ∷ (stands r.log op, no IdConflict)
+    ∷ (has_id_of r.log op, no IdConflict)
     ∷ (stands_equal r.held op, told (Held (missing op r.log)))
-    ∷ (stands r.held op, no IdConflict)
+    ∷ (has_id_of r.held op, no IdConflict)
     ∷ (bytes_eq op.id.replica r.name, no OwnName)
     ∷ (not (is_ready op r.log) && nat_le most_held (length r.held), no HeldFull)
     ∷ (not (is_ready op r.log), held op)
@@ -118,7 +118,7 @@ Forgets r i None reply s = (reply ≡ Refused NotHeld) × (s ≡ r)
 -- with memory at hand before the first change
 abbrev pub Does : Replica → Command → Reply → Replica → Type 0
 Does r (Change place m) reply s =
-    (c : Result Cursor Refusal) × Resolves (facts_of r) place.start place.steps c × Settles r (due_placed r c m) reply s
+    (c : Result Cursor Refusal) × Resolves (replica_facts r) place.start place.steps c × Settles r (due_placed r c m) reply s
 Does r (Deliver op) reply s = Settles r (due_delivered r op) reply s
 Does r (Forget i) reply s = Forgets r i (find_id r.held i) reply s
 

@@ -26,14 +26,14 @@ stands_in f p (Element i) = list_any (id_eq i) (f.order p)
 stands_in f p _ = true
 
 -- each key that is within its limit stands where it is named; p is the way so far
-abbrev pub stands : Facts → List Tagged → List Tagged → Key → Bool
-stands f p [] k = is_short k && stands_in f p k
-stands f p (t ∷ path) k = is_short (key_of t) && stands_in f p (key_of t) && stands f (p ++ t ∷ []) path k
+abbrev pub way_stands : Facts → List Tagged → List Tagged → Key → Bool
+way_stands f p [] k = is_short k && stands_in f p k
+way_stands f p (t ∷ path) k = is_short (key_of t) && stands_in f p (key_of t) && way_stands f (p ++ t ∷ []) path k
 
 -- the first cause against a start, if there is one
-abbrev pub start_of : Facts → Cursor → Result Cursor Refusal
-start_of f c =
-    if is_shallow c.path then (if is_placed c.path c.key && stands f [] c.path c.key then Ok c else Err BadCursor) else Err TooDeep
+abbrev pub checked_start : Facts → Cursor → Result Cursor Refusal
+checked_start f c =
+    if is_shallow c.path then (if is_placed c.path c.key && way_stands f [] c.path c.key then Ok c else Err BadCursor) else Err TooDeep
 
 -- ---- one step
 
@@ -66,4 +66,4 @@ Leads f (step ∷ steps) from r = (next : Result Cursor Refusal) × MatchResult 
 
 -- from a start that a caller hands in
 abbrev pub Resolves : Facts → Cursor → List Step → Result Cursor Refusal → Type 0
-Resolves f start steps r = Leads f steps (start_of f start) r
+Resolves f start steps r = Leads f steps (checked_start f start) r

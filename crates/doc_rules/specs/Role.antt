@@ -28,9 +28,9 @@ role_put Delete = role.Through
 role_put (Add n) = role.Counter
 
 -- what the operation of this id did at this very place
-abbrev pub role_at : List Op → List Tagged → Key → Id → Role
-role_at [] p k i = role.Through
-role_at (o ∷ log) p k i = if ends_here o p k i then role_put o.mutation else role_at log p k i
+abbrev pub logged_role : List Op → List Tagged → Key → Id → Role
+logged_role [] p k i = role.Through
+logged_role (o ∷ log) p k i = if ends_here o p k i then role_put o.mutation else logged_role log p k i
 
 -- what an operation does at a place
 abbrev pub role_here : Op → List Tagged → Key → Role
@@ -46,7 +46,7 @@ value_in role.Counter entry = None
 
 -- each present id with its role
 abbrev pub roles_of : Facts → List Op → List Tagged → Key → Id → Option Role
-roles_of f log p k i = if f.present p k i then Some (role_at log p k i) else None
+roles_of f log p k i = if f.present p k i then Some (logged_role log p k i) else None
 
 -- the facts are those of the log, and each present id has its role
 pub record AreOf (log : List Op) (f : Facts) (roles : List Tagged → Key → Id → Option Role) : Type 0 where

@@ -23,8 +23,8 @@ pub record Answer : Type 0 where
   pub seat : ℕ
   pub place : ℕ
 
-abbrev pub ids_of : List Op → List Id
-ids_of ops = map (λ op. op.id) ops
+abbrev pub operation_ids : List Op → List Id
+operation_ids ops = map (λ op. op.id) ops
 
 -- a seat of the document of this number
 abbrev pub IsSeatOf : ℕ → Document → Seat → Type 0
@@ -40,7 +40,7 @@ pub record IsAnswerTo (s t : Seat) (a : Answer) : Type 0 where
 -- of as many more as the reply counts
 pub record ActsFor (d : Document) (s : Seat) (command : Command) (a : Answer) (e : Document) (t : Seat) : Type 0 where
   pub event : Acts d s.seat command a.reply e
-  pub told : t.told ≡ s.told ++ ids_of (drop (length d.replica.log) e.replica.log)
+  pub told : t.told ≡ s.told ++ operation_ids (drop (length d.replica.log) e.replica.log)
   pub rises : length t.told ≡ length s.told + count_in a.reply
   pub before : count_of s.seat d.seats_of ≡ length s.told
   pub after : count_of s.seat e.seats_of ≡ length t.told
@@ -63,7 +63,7 @@ pub record TurnsAway (d : Document) (s : Seat) (a : Answer) (e : Document) (t : 
 
 -- the end of a seat that was told just its operations, in order
 abbrev pub IsEndOf : ℕ → Document → ℕ → Seat → Type 0
-IsEndOf number d seat s = (s.number ≡ number) × (s.seat ≡ seat) × (s.told ≡ ids_of (logged_by seat d))
+IsEndOf number d seat s = (s.number ≡ number) × (s.seat ≡ seat) × (s.told ≡ operation_ids (logged_by seat d))
 
 -- one end for each seat behind n, in the order of seats
 abbrev pub AreEndsAfter : ℕ → Document → ℕ → List Seat → Type 0

@@ -82,8 +82,8 @@ module _ (f : Facts) (values : Values) where
 
 -- ---- how it is written: an array of its branches
 
-abbrev pub entry_data : Id × Scalar → Data
-entry_data e = list_data (string (codes "val") ∷ id_data e.0 ∷ scalar_data e.1 ∷ [])
+abbrev pub value_entry_data : Id × Scalar → Data
+value_entry_data e = list_data (string (codes "val") ∷ id_data e.0 ∷ scalar_data e.1 ∷ [])
 
 abbrev pub count_branch : Option ℤ → List Data
 count_branch None = []
@@ -91,7 +91,7 @@ count_branch (Some n) = list_data (string (codes "cnt") ∷ string (signed_decim
 
 abbrev mutual
   pub shown_data : Shown → Data
-  shown_data (shown m l entries count) = list_data (map_branch m ++ list_branch l ++ map entry_data entries ++ count_branch count)
+  shown_data (shown m l entries count) = list_data (map_branch m ++ list_branch l ++ map value_entry_data entries ++ count_branch count)
 
   pub map_branch : MapShown → List Data
   map_branch no_map = []

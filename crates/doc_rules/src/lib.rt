@@ -25,9 +25,9 @@ ghost use Rattle.doc_rules.specs.Document.{Document, Acts, GivesTo, IsSound, cop
 ghost use Rattle.doc_rules.specs.Events.{Event, IsWellMade, due_changed, logged};
 ghost use Rattle.doc_rules.specs.Memory.{DoesFully};
 ghost use Rattle.doc_rules.specs.Views.{AgreeOnPresent, AreConflicts, Values};
-ghost use Rattle.doc_rules.specs.Replica.{Replica, GoesOn, IsKept, facts_of, own_op};
+ghost use Rattle.doc_rules.specs.Replica.{Replica, GoesOn, IsKept, replica_facts, own_op};
 ghost use Rattle.doc_rules.specs.Resolve.{Resolves};
-ghost use Rattle.doc_rules.specs.Role.{role_at, role_here, roles_of, step_roles, value_put_at, value_in, values_in};
+ghost use Rattle.doc_rules.specs.Role.{logged_role, role_here, roles_of, step_roles, value_put_at, value_in, values_in};
 ghost use Rattle.doc_rules.specs.Seats.{Seat, Answer, ActsFor, AnswersFor, AreEndsOf, told_counts};
 ghost use Rattle.doc_rules.specs.Shown.{Shown, Shows};
 ghost use Rattle.doc_rules.specs.Unchanged.{RefusalsKeep, called};
@@ -50,7 +50,7 @@ pub fn causes_decide()
     ensures fits { (op : Op) (log : List Op) → is_shaped op ≡ true → cause_of op log ≡ Ok tt → Fits op log }
     ensures no_cause { (op : Op) (log : List Op) → Fits op log → cause_of op log ≡ Ok tt }
     ensures own { (r : Replica) (start : Cursor) (steps : List Step) (c : Cursor) (m : Mutation) → is_name r.name ≡ true
-        → is_mutation m ≡ true → IsGood r.log → Resolves (facts_of r) start steps (Ok c)
+        → is_mutation m ≡ true → IsGood r.log → Resolves (replica_facts r) start steps (Ok c)
         → due_changed r c m ≡ logged (own_op r c m) → Fits (own_op r c m) r.log }
 {}
 
@@ -58,9 +58,9 @@ pub fn causes_decide()
 /// after a step on the roles.
 pub fn roles_step()
     ensures own { (log : List Op) (op : Op) (p : List Tagged) (k : Key) → Fits op log
-        → role_at (log ++ op ∷ []) p k op.id ≡ role_here op p k }
+        → logged_role (log ++ op ∷ []) p k op.id ≡ role_here op p k }
     ensures others { (log : List Op) (op : Op) (p : List Tagged) (k : Key) (i : Id) → op.id ≢ i
-        → role_at (log ++ op ∷ []) p k i ≡ role_at log p k i }
+        → logged_role (log ++ op ∷ []) p k i ≡ logged_role log p k i }
     ensures all { (log : List Op) (op : Op) (p : List Tagged) (k : Key) (i : Id) → IsGood log → Fits op log
         → roles_of (step_facts (facts (replay log)) op (covers op.front)) (log ++ op ∷ []) p k i
         ≡ step_roles (roles_of (facts (replay log)) log) op (covers op.front) p k i }
@@ -73,7 +73,7 @@ pub fn roles_tell()
     ensures conflicts { (f : Facts) (v w : Values) → AgreeOnPresent f v w → (p : List Tagged) (k : Key) (xs : List (Id × Val))
         → AreConflicts f v p k xs → AreConflicts f w p k xs }
     ensures values { (log : List Op) (p : List Tagged) (k : Key) (i : Id) → IsGood log → (facts (replay log)).present p k i ≡ true
-        → value_put_at log p k i ≡ value_in (role_at log p k i) ((facts (replay log)).register p k i) }
+        → value_put_at log p k i ≡ value_in (logged_role log p k i) ((facts (replay log)).register p k i) }
     ensures told { (log : List Op) → IsGood log
         → AgreeOnPresent (facts (replay log)) (values_in (facts (replay log)) (roles_of (facts (replay log)) log)) (value_put_at log) }
     ensures looks { (f : Facts) (v w : Values) → AgreeOnPresent f v w → (look : Look) (c : Cursor) (answer : Reply)

@@ -47,18 +47,19 @@ trail-into (r ∷ p) t x fits = go (key_eq (key_of r) Doc) (trail_below-into r p
     go true e = e
     go false e = refl
 
+-- a way of one step leads where the step leads
+pub one_step : (o : Option NodeNumber) → option_and_then (λ c. Some c) o ≡ o
+one_step None = refl
+one_step (Some c) = refl
+
 -- so what is below a place is a child of the place's node
 pub number-into : (nodes : List Node) (p : List Tagged) (t : Tagged) (x : Key) → may_follow t x ≡ true
     → node_at nodes (p ++ t ∷ []) x ≡ option_and_then (λ n. child_of nodes n x) (node_at nodes p (key_of t))
 number-into nodes p t x fits = ap (option_and_then (walk (child_of nodes) root)) (trail-into p t x fits) ∙ at (trail p (key_of t))
   where
-    one : (o : Option NodeNumber) → option_and_then (λ c. Some c) o ≡ o
-    one None = refl
-    one (Some c) = refl
-
     from : (o : Option NodeNumber) → option_and_then (λ m. walk (child_of nodes) m (x ∷ [])) o ≡ option_and_then (λ n. child_of nodes n x) o
     from None = refl
-    from (Some m) = one (child_of nodes m x)
+    from (Some m) = one_step (child_of nodes m x)
 
     at : (o : Option (List Key)) → option_and_then (walk (child_of nodes) root) (option_map (λ keys. keys ++ x ∷ []) o)
         ≡ option_and_then (λ n. child_of nodes n x) (option_and_then (walk (child_of nodes) root) o)

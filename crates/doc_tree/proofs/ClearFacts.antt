@@ -1,6 +1,7 @@
 -- What the clearing of nodes does to the facts.
 use Rattle.std.proofs.Common.{◌≡◌, ℕ, List, Bool, true, false, ◌&&◌, not, if◌then◌else◌, Option, Some, None, ⊎_elim, refl, sym, ap, ◌∙◌, subst, true≢false}
 use Rattle.std.specs.Prelude.{is_some}
+use Rattle.std.proofs.Math.Bool.{and-true}
 use Rattle.doc_words.specs.Words.{Id, Key, Tagged}
 use Rattle.op_core.specs.Front.{covers}
 use Rattle.crdt_rules.specs.Within.{is_within}
@@ -11,7 +12,7 @@ use Rattle.presence_set.proofs.ByIdLaws.{get-uncovered}
 use Rattle.doc_nodes.specs.declared.node.NodeNumber.{NodeNumber}
 use Rattle.doc_nodes.specs.declared.node.Node.{Node}
 use Rattle.doc_nodes.specs.Walk.{walk}
-use Rattle.doc_nodes.specs.Nodes.{node_of, child_of, node_at, list_node_at, role_in, value_in, ids_in, role_at, facts_of, AreTree, ClearsUnder, cleared, clear_facts_at}
+use Rattle.doc_nodes.specs.Nodes.{node_of, child_of, node_at, list_node_at, role_in, part_in, ids_in, role_at, facts_of, AreTree, ClearsUnder, cleared, clear_facts_at}
 use Rattle.doc_nodes.proofs.Clearing.{same_children}
 use Rattle.doc_nodes.proofs.Places.{node_above, same_node, within_from_walk}
 use Rattle.doc_tree.proofs.SameShape.{same_node_at, same_ids}
@@ -40,10 +41,10 @@ module _ (front : List (List ℕ × ℕ)) (old new : List Node) (tree : AreTree 
       go (Some c) e false is = ap (λ z. get z.presence.0 i) (outside q j c e is)
 
   value-cleared : {X : Type 0} (part : Node → List (Id × X)) → ((node : Node) → part (cleared front node) ≡ uncovered front (part node)) → (q : List Tagged) (j : Key) (i : Id)
-      → value_in part new (node_at new q j) i ≡ (if is_within q j p k && covers front i then None else value_in part old (node_at old q j) i)
-  value-cleared {X} part drops q j i = ap (λ o. value_in part new o i) (same_node_at old new shape q j) ∙ go (node_at old q j) refl (is_within q j p k) refl
+      → part_in part new (node_at new q j) i ≡ (if is_within q j p k && covers front i then None else part_in part old (node_at old q j) i)
+  value-cleared {X} part drops q j i = ap (λ o. part_in part new o i) (same_node_at old new shape q j) ∙ go (node_at old q j) refl (is_within q j p k) refl
     where
-      go : (o : Option NodeNumber) → node_at old q j ≡ o → (w : Bool) → is_within q j p k ≡ w → value_in part new o i ≡ (if w && covers front i then None else value_in part old o i)
+      go : (o : Option NodeNumber) → node_at old q j ≡ o → (w : Bool) → is_within q j p k ≡ w → part_in part new o i ≡ (if w && covers front i then None else part_in part old o i)
       go None e w is = sym (none_either (w && covers front i))
       go (Some c) e true is = ap (λ z. get (part z) i) (inside q j c e is) ∙ ap (λ l. get l i) (drops (node_of old c)) ∙ get-uncovered front (part (node_of old c)) i
       go (Some c) e false is = ap (λ z. get (part z) i) (outside q j c e is)
@@ -87,14 +88,10 @@ facts-unchanged front nodes p k none =
         → is_some (role_in nodes o i) ≡ (is_some (role_in nodes o i) && not (w && covers front i))
     present_stays q j i None e w is = refl
     present_stays q j i (Some c) e true is = absurd (apart q j c e is)
-    present_stays q j i (Some c) e false is = and_true (is_some (get (node_of nodes c).presence.0 i))
-      where
-        and_true : (b : Bool) → b ≡ (b && true)
-        and_true true = refl
-        and_true false = refl
+    present_stays q j i (Some c) e false is = sym (and-true (is_some (get (node_of nodes c).presence.0 i)))
 
     value_stays : {X : Type 0} (part : Node → List (Id × X)) (q : List Tagged) (j : Key) (i : Id) (o : Option NodeNumber) → node_at nodes q j ≡ o → (w : Bool) → is_within q j p k ≡ w
-        → value_in part nodes o i ≡ (if w && covers front i then None else value_in part nodes o i)
+        → part_in part nodes o i ≡ (if w && covers front i then None else part_in part nodes o i)
     value_stays {X} part q j i None e w is = sym (none_either (w && covers front i))
     value_stays {X} part q j i (Some c) e true is = absurd (apart q j c e is)
     value_stays {X} part q j i (Some c) e false is = refl

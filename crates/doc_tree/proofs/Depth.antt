@@ -4,13 +4,14 @@ use Rattle.std.specs.Option.{option_map}
 use Rattle.doc_words.specs.Words.{Id, Key, Tagged}
 use Rattle.op_core.specs.declared.cursor.Key.TheVariants.{Doc}
 use Rattle.op_core.specs.Shape.{key_of, may_follow}
+use Rattle.op_core.proofs.Wires.{option_map-Some}
 use Rattle.crdt_rules.specs.Same.{key_eq}
 use Rattle.doc_nodes.specs.declared.node.NodeNumber.{NodeNumber}
 use Rattle.doc_nodes.specs.declared.node.Node.{Node}
 use Rattle.doc_nodes.specs.Walk.{trail, trail_below, walk, root, IsTree}
 use Rattle.doc_nodes.specs.Nodes.{AreTree, child_of, node_at, role_in, role_at, facts_of}
 use Rattle.doc_nodes.proofs.Walks.{parts_of, walk_within}
-use Rattle.doc_nodes.proofs.Trails.{some_if, mapped}
+use Rattle.doc_nodes.proofs.Trails.{some_if}
 
 module _ (child : NodeNumber → Key → Option NodeNumber) {size : ℕ} (tree : IsTree child size) where
   -- a walk of so many keys goes so far up in the numbers
@@ -25,7 +26,7 @@ length-below t [] k keys e =
     let one : k ∷ [] ≡ keys = (let h = (some_if (may_follow t k) (Some (k ∷ [])) keys e).1 in cc) in ap length (sym one)
 length-below t (s ∷ p) k keys e =
     let h = (some_if (may_follow t (key_of s)) (option_map (λ xs. key_of s ∷ xs) (trail_below s p k)) keys e).1 in
-    let m = mapped (λ xs. key_of s ∷ xs) (trail_below s p k) keys h in
+    let m = option_map-Some (λ xs. key_of s ∷ xs) (trail_below s p k) keys h in
     omega (arith, ap length m.2, length-below s p k m.0 m.1)
 
 -- as many keys lead to a place as its path has

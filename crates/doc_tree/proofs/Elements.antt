@@ -13,9 +13,10 @@ use Rattle.doc_nodes.specs.declared.node.NodeNumber.{NodeNumber}
 use Rattle.doc_nodes.specs.declared.node.Node.{Node}
 use Rattle.doc_nodes.specs.Walk.{trail, trail_below, list_trail, list_trail_below, walk, root}
 use Rattle.doc_nodes.specs.Nodes.{node_of, child_of, node_at, list_node_at, facts_of}
-use Rattle.doc_nodes.specs.Flags.{stands, AreFlagged}
+use Rattle.doc_nodes.specs.Flags.{node_stands, AreFlagged}
 use Rattle.doc_nodes.proofs.Walks.{parts_of, walk-append}
 use Rattle.doc_tree.proofs.Reading.{ids_read}
+use Rattle.doc_tree.proofs.Below.{one_step}
 
 -- the way to an element goes by its list
 trail-element_below : (t : Tagged) (p : List Tagged) (i : Id) (front : List Key) → list_trail_below t p ≡ Some front → trail_below t p (Element i) ≡ Some (front ++ Element i ∷ [])
@@ -50,16 +51,12 @@ element_child nodes p n i e =
     ap (option_and_then (walk (child_of nodes) root)) (trail-element p i way.0 way.1)
     ∙ walk-append (child_of nodes) root way.0 (Element i ∷ [])
     ∙ ap (option_and_then (λ m. walk (child_of nodes) m (Element i ∷ []))) way.2
-    ∙ one (child_of nodes n (Element i))
-  where
-    one : (o : Option NodeNumber) → option_and_then (λ c. Some c) o ≡ o
-    one None = refl
-    one (Some c) = refl
+    ∙ one_step (child_of nodes n (Element i))
 
 -- and its list tells whether it is present
 pub present_listed : (nodes : List Node) → AreFlagged nodes → (p : List Tagged) (n : NodeNumber) → list_node_at nodes p ≡ Some n
-    → present_of (node_of nodes n).order.0 ≡ filter (λ i. stands nodes (node_at nodes p (Element i))) ((facts_of nodes).order p)
+    → present_of (node_of nodes n).order.0 ≡ filter (λ i. node_stands nodes (node_at nodes p (Element i))) ((facts_of nodes).order p)
 present_listed nodes right p n e =
-    present_of-told (λ i. stands nodes (node_at nodes p (Element i))) (node_of nodes n).order.0
-    (λ i is c. right n i is c ∙ ap (stands nodes) (sym (element_child nodes p n i e)))
-    ∙ ap (filter (λ i. stands nodes (node_at nodes p (Element i)))) (ids_read nodes p n e)
+    present_of-told (λ i. node_stands nodes (node_at nodes p (Element i))) (node_of nodes n).order.0
+    (λ i is c. right n i is c ∙ ap (node_stands nodes) (sym (element_child nodes p n i e)))
+    ∙ ap (filter (λ i. node_stands nodes (node_at nodes p (Element i)))) (ids_read nodes p n e)

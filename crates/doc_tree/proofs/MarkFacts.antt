@@ -13,7 +13,7 @@ use Rattle.presence_set.proofs.ByIdLaws.{get-put}
 use Rattle.doc_nodes.specs.declared.node.NodeNumber.{NodeNumber}
 use Rattle.doc_nodes.specs.declared.node.Node.{Node}
 use Rattle.doc_nodes.specs.Walk.{walk, root, trail}
-use Rattle.doc_nodes.specs.Nodes.{node_of, child_of, node_at, role_in, value_in, role_at, facts_of, AreTree}
+use Rattle.doc_nodes.specs.Nodes.{node_of, child_of, node_at, role_in, part_in, role_at, facts_of, AreTree}
 use Rattle.doc_nodes.specs.Marks.{marked, role_before, MarksAlong, mark_facts}
 use Rattle.doc_nodes.proofs.Walks.{one_way}
 use Rattle.doc_nodes.proofs.Trails.{above, within, one_place}
@@ -85,10 +85,10 @@ module _ (id : Id) (role : Role) (old new : List Node) (tree : AreTree old) (p :
   is_some-if false r (Some s) = refl
 
   value-marked : {X : Type 0} (part : Node → List (Id × X)) → ((c : NodeNumber) → part (node_of new c) ≡ part (node_of old c)) → (q : List Tagged) (j : Key) (i : Id)
-      → value_in part new (node_at new q j) i ≡ value_in part old (node_at old q j) i
-  value-marked {X} part same q j i = ap (λ o. value_in part new o i) (same_node_at old new marks.shape q j) ∙ go (node_at old q j)
+      → part_in part new (node_at new q j) i ≡ part_in part old (node_at old q j) i
+  value-marked {X} part same q j i = ap (λ o. part_in part new o i) (same_node_at old new marks.shape q j) ∙ go (node_at old q j)
     where
-      go : (o : Option NodeNumber) → value_in part new o i ≡ value_in part old o i
+      go : (o : Option NodeNumber) → part_in part new o i ≡ part_in part old o i
       go None = refl
       go (Some c) = ap (λ l. get l i) (same c)
 

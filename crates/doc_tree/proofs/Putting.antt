@@ -11,7 +11,7 @@ use Rattle.doc_words.specs.declared.role.Role.{Role}
 use Rattle.presence_set.specs.ById.{uncovered}
 use Rattle.doc_nodes.specs.declared.node.NodeNumber.{NodeNumber}
 use Rattle.doc_nodes.specs.declared.node.Node.{Node}
-use Rattle.doc_nodes.specs.Walk.{walk, root, trail, trail_below, IsTree}
+use Rattle.doc_nodes.specs.Walk.{walk, root, trail, trail_below}
 use Rattle.doc_nodes.specs.Nodes.{node_of, child_of, node_at, AreTree, ClearsUnder, facts_of, role_at, clear_facts_at}
 use Rattle.doc_nodes.specs.Marks.{keys_below, keys_to, HasRoomAlong, IsReady, MarksAlong, mark_facts}
 use Rattle.doc_nodes.proofs.Clearing.{IsPartCleared, same_children, tree-cleared}
@@ -74,10 +74,10 @@ module _ (front : List (List ℕ × ℕ)) (old new : List Node) (each : IsPartCl
   shape = same_children front old new each
 
   -- a node that is cleared has no less room
-  presence_room : (j : NodeNumber) → length (node_of old j).presence.0 < (node_of old j).presence.1 → length (node_of new j).presence.0 < (node_of new j).presence.1
+  presence_room : (j : NodeNumber) → (node_of old j).presence.1 ≡ true → (node_of new j).presence.1 ≡ true
   presence_room j room = ⊎_elim
-      (λ e. subst (λ z. length z.presence.0 < z.presence.1) (sym e) room)
-      (λ e. let less = length-uncovered front (node_of old j).presence.0 in subst (λ z. length z.presence.0 < z.presence.1) (sym e) (omega (arith, less, room)))
+      (λ e. subst (λ z. z.presence.1 ≡ true) (sym e) room)
+      (λ e. subst (λ z. z.presence.1 ≡ true) (sym e) room)
       (each j)
 
   pub register_room : (j : NodeNumber) → length (node_of old j).register.0 < (node_of old j).register.1 → length (node_of new j).register.0 < (node_of new j).register.1

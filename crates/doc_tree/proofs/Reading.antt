@@ -6,7 +6,7 @@ use Rattle.presence_set.specs.ById.{get}
 use Rattle.list_order.specs.Entries.{ids_of}
 use Rattle.doc_nodes.specs.declared.node.NodeNumber.{NodeNumber}
 use Rattle.doc_nodes.specs.declared.node.Node.{Node}
-use Rattle.doc_nodes.specs.Nodes.{node_of, node_at, list_node_at, role_in, scalar_in, number_in, ids_in, role_at, facts_of}
+use Rattle.doc_nodes.specs.Nodes.{node_of, node_at, list_node_at, role_in, register_in, number_in, ids_in, role_at, facts_of}
 
 module _ (nodes : List Node) (p : List Tagged) (k : Key) where
   pub role_read : (n : NodeNumber) → node_at nodes p k ≡ Some n → (i : Id) → get (node_of nodes n).presence.0 i ≡ role_at nodes p k i
@@ -19,11 +19,11 @@ module _ (nodes : List Node) (p : List Tagged) (k : Key) where
 
   pub scalar_read : (n : NodeNumber) → node_at nodes p k ≡ Some n → (i : Id) → get (node_of nodes n).register.0 i ≡ (facts_of nodes).register p k i
   unfolding facts_of
-  scalar_read n e i = ap (λ o. scalar_in nodes o i) (sym e)
+  scalar_read n e i = ap (λ o. register_in nodes o i) (sym e)
 
   pub scalar_absent : node_at nodes p k ≡ None → (i : Id) → get {X = Scalar} [] i ≡ (facts_of nodes).register p k i
   unfolding facts_of
-  scalar_absent e i = ap (λ o. scalar_in nodes o i) (sym e)
+  scalar_absent e i = ap (λ o. register_in nodes o i) (sym e)
 
   pub number_read : (n : NodeNumber) → node_at nodes p k ≡ Some n → (i : Id) → get (node_of nodes n).counter.0 i ≡ (facts_of nodes).counter p k i
   unfolding facts_of

@@ -1,5 +1,6 @@
 -- The clearing of the rules, told by the facts.
-use Rattle.std.proofs.Common.{◌≡◌, List, [], ◌∷◌, Bool, true, false, ◌||◌, if◌then◌else◌, refl, sym, ap, ◌∙◌}
+use Rattle.std.proofs.Common.{◌≡◌, List, [], ◌∷◌, Bool, if◌then◌else◌, refl, sym, ap, ◌∙◌}
+use Rattle.std.proofs.Math.Bool.{or-false}
 use Rattle.doc_words.specs.Words.{Id, Key, Tagged, Delete, Op}
 use Rattle.crdt_rules.specs.Same.{tagged_eq}
 use Rattle.crdt_rules.specs.Context.{Context, node, child, register, counter, present, order, descend}
@@ -14,10 +15,6 @@ module _ (deps : Id → Bool) (place : List Tagged) (k : Key) where
   abbrev deletion : Op
   deletion = record { id = record { counter = 0; replica = [] }; front = []; cursor = record { path = place; key = k }; mutation = Delete }
 
-  or_false : (b : Bool) → (b || false) ≡ b
-  or_false true = refl
-  or_false false = refl
-
   -- on its way down it does nothing but clear
   deletion_clears : (path : List Tagged) (ctx : Context) → descend deps deletion path ctx ≡ clear_at deps path k ctx
   deletion_clears [] ctx = refl
@@ -27,7 +24,7 @@ module _ (deps : Id → Bool) (place : List Tagged) (k : Key) where
       (λ s. if tagged_eq t s then deletion_clears path (child ctx t) x else child ctx s)
       (register ctx)
       (counter ctx)
-      (λ j i. or_false (present ctx j i) x)
+      (λ j i. or-false (present ctx j i) x)
       (order ctx)
 
   pub clear_at_facts : (ctx : Context) → facts (clear_at deps place k ctx) ≡ clear_facts_at (facts ctx) place k deps

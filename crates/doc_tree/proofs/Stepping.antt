@@ -1,6 +1,7 @@
 -- The step of an operation, from what it does at one place.
-use Rattle.std.proofs.Common.{◌≡◌, ◌<◌, ℤ, List, length, set, Bool, true, false, ◌&&◌, ◌||◌, not, if◌then◌else◌, Option, Some, None, refl, sym, ap, ◌∙◌, subst}
+use Rattle.std.proofs.Common.{true, ◌≡◌, ◌<◌, ℤ, List, length, set, Bool, ◌&&◌, ◌||◌, not, if◌then◌else◌, Option, Some, None, refl, sym, ap, ◌∙◌, subst}
 use Rattle.std.specs.Prelude.{IsSome, option_and_then}
+use Rattle.std.proofs.Math.Bool.{or-false, and-true}
 use Rattle.doc_words.specs.Words.{Id, Scalar, Val, Key, Tagged, Mutation, Assign, Insert, Delete, Add, Op, id_cmp}
 use Rattle.op_core.specs.declared.cursor.Key.TheVariants.{Element}
 use Rattle.crdt_rules.specs.Same.{id_eq, key_eq, path_eq}
@@ -53,13 +54,9 @@ insert_step f op v deps e =
 pub delete_step : (f : Facts) (op : Op) (deps : Id → Bool) → op.mutation ≡ Delete → clear_facts_at f (path_of op) op.cursor.key deps ≡ step_facts f op deps
 delete_step f op deps e = told ∙ ap (λ o. step_facts f o deps) (sym (known_mutation op Delete e))
   where
-    or_false : (b : Bool) → b ≡ (b || false)
-    or_false true = refl
-    or_false false = refl
-
     told : clear_facts_at f (path_of op) op.cursor.key deps ≡ step_facts f (with_mutation op Delete) deps
     told = λ x. record {
-      present = λ q j i. or_false (f.present q j i && not (is_within q j (path_of op) op.cursor.key && deps i)) x;
+      present = λ q j i. sym (or-false (f.present q j i && not (is_within q j (path_of op) op.cursor.key && deps i))) x;
       register = λ q j i. if is_within q j (path_of op) op.cursor.key && deps i then None else f.register q j i;
       counter = λ q j i. if is_within q j (path_of op) op.cursor.key && deps i then None else f.counter q j i;
       order = f.order;
@@ -68,13 +65,9 @@ delete_step f op deps e = told ∙ ap (λ o. step_facts f o deps) (sym (known_mu
 pub add_step : (f : Facts) (op : Op) (n : ℤ) (deps : Id → Bool) → op.mutation ≡ Add n → add_facts f (path_of op) op.cursor.key op.id n ≡ step_facts f op deps
 add_step f op n deps e = told ∙ ap (λ o. step_facts f o deps) (sym (known_mutation op (Add n) e))
   where
-    and_true : (b : Bool) → b ≡ (b && true)
-    and_true true = refl
-    and_true false = refl
-
     told : add_facts f (path_of op) op.cursor.key op.id n ≡ step_facts f (with_mutation op (Add n)) deps
     told = λ x. record {
-      present = λ q j i. and_true (f.present q j i) x || (is_within (path_of op) op.cursor.key q j && id_eq op.id i);
+      present = λ q j i. sym (and-true (f.present q j i)) x || (is_within (path_of op) op.cursor.key q j && id_eq op.id i);
       register = f.register;
       counter = λ q j i. if path_eq (path_of op) q && key_eq op.cursor.key j && id_eq op.id i then Some n else f.counter q j i;
       order = f.order;
@@ -94,19 +87,19 @@ module _ (before : List Tagged → Key → Id → Option Role) (op : Op) (deps :
   add_role_step n e = ap (λ o. step_roles before o deps q j i) (sym (known_mutation op (Add n) e))
 
 -- a change of the order of a list leaves the room at a place
-pub ready-linked : (nodes : List Node) (n : NodeNumber) (after : Option Id) (id : Id) → n.0 < length nodes → (p : List Tagged) (k : Key)
-    → IsReadyFor nodes p k → IsReadyFor (set nodes n.0 (with_entry after id (node_of nodes n))) p k
-ready-linked nodes n after id within p k ready = record {
+pub ready-linked : (nodes : List Node) (n : NodeNumber) (after : Option Id) (id : Id) → n.0 < length nodes → (p : List Tagged) (k : Key) (adds : Bool)
+    → IsReadyFor nodes p k adds → IsReadyFor (set nodes n.0 (with_entry after id (node_of nodes n))) p k adds
+ready-linked nodes n after id within p k adds ready = record {
   found = subst IsSome (sym same_node) ready.found;
   along = λ begin rest j e w.
-      subst (λ r. length r.0 < r.1) (sym (unwritten nodes n within (λ z. z.presence) (with_entry after id (node_of nodes n)) refl j))
+      subst (λ r. r.1 ≡ true) (sym (unwritten nodes n within (λ z. z.presence) (with_entry after id (node_of nodes n)) refl j))
       (ready.along begin rest j e (ap (λ g. walk g root begin) (sym shape) ∙ w));
-  register = λ m e.
+  register = λ which m e.
       subst (λ r. length r.0 < r.1) (sym (unwritten nodes n within (λ z. z.register) (with_entry after id (node_of nodes n)) refl m))
-      (ready.register m (sym same_node ∙ e));
-  counter = λ m e.
+      (ready.register which m (sym same_node ∙ e));
+  counter = λ which m e.
       subst (λ r. length r.0 < r.1) (sym (unwritten nodes n within (λ z. z.counter) (with_entry after id (node_of nodes n)) refl m))
-      (ready.counter m (sym same_node ∙ e));
+      (ready.counter which m (sym same_node ∙ e));
 }
   where
     shape : child_of (set nodes n.0 (with_entry after id (node_of nodes n))) ≡ child_of nodes

@@ -6,7 +6,7 @@ use Rattle.doc_words.specs.declared.role.Role.{Role}
 use Rattle.doc_nodes.specs.declared.node.Node.{Node}
 use Rattle.doc_nodes.specs.declared.node.NodeNumber.{NodeNumber}
 use Rattle.doc_nodes.specs.Nodes.{facts_of, role_at, node_at}
-use Rattle.doc_nodes.specs.Flags.{stands}
+use Rattle.doc_nodes.specs.Flags.{node_stands}
 
 -- the facts of a tree
 abbrev pub tree_facts : List Node × Option Scalar → Facts
@@ -21,4 +21,4 @@ tree_number tree = node_at tree.0
 
 -- something makes a place present
 abbrev pub tree_present : List Node × Option Scalar → List Tagged → Key → Bool
-tree_present tree p k = stands tree.0 (node_at tree.0 p k)
+tree_present tree p k = node_stands tree.0 (node_at tree.0 p k)

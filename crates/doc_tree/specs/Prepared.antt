@@ -2,7 +2,7 @@
 use Rattle.std.specs.Prelude.{◌≡◌, ◌<◌, List, length, true, false, Option, Some, IsSome, Contains}
 use Rattle.std.specs.Option.{ForSome}
 use Rattle.doc_words.specs.Words.{Scalar, Tagged, Op}
-use Rattle.crdt_rules.specs.Effect.{is_delete, is_insertion, scalar_put, path_of, end_key}
+use Rattle.crdt_rules.specs.Effect.{is_add, is_delete, is_insertion, scalar_put, path_of, end_key}
 use Rattle.crdt_rules.specs.Context.{reference}
 use Rattle.crdt_rules.specs.Facts.{Facts}
 use Rattle.doc_nodes.specs.declared.node.NodeNumber.{NodeNumber}
@@ -18,7 +18,7 @@ pub record IsReadyList (nodes : List Node) (p : List Tagged) : Type 0 where
 
 -- the nodes have what an operation needs; a delete needs nothing
 pub record AreReady (nodes : List Node) (op : Op) : Type 0 where
-  pub place : is_delete op.mutation ≡ false → IsReadyFor nodes (path_of op) (end_key op)
+  pub place : is_delete op.mutation ≡ false → IsReadyFor nodes (path_of op) (end_key op) (is_add op.mutation)
   pub list : is_insertion op.mutation ≡ true → IsReadyList nodes (path_of op)
 
 -- so does the tree, which has set a copy of its scalar aside

@@ -1,5 +1,5 @@
 //! What an operation does to the nodes.
-ghost use Rattle.std.specs.Prelude.{◌≡◌, ◌<◌, length, List, ◌&&◌, Some, None, slice_set, Contains, if◌then◌else◌};
+ghost use Rattle.std.specs.Prelude.{◌≡◌, ◌<◌, length, List, true, false, ◌&&◌, Some, None, slice_set, Contains, if◌then◌else◌};
 ghost use Rattle.std.specs.Option.{ForSome};
 ghost use Rattle.doc_words.specs.Words.{Id, Key, Tagged, id_cmp};
 ghost use Rattle.op_core.specs.Front.{covers};
@@ -127,7 +127,7 @@ pub fn insert_at(
     requires list { IsReadyList nodes.old path.now }
     requires reference { ForSome (reference after.now) (Contains ((facts_of nodes.old).order path.now)) }
     requires new { ¬ (Contains ((facts_of nodes.old).order path.now) id.now) }
-    requires ready { IsReadyFor nodes.old path.now (Element id.now) }
+    requires ready { IsReadyFor nodes.old path.now (Element id.now) false }
     ensures facts { facts_of nodes.new ≡ put_facts (order_facts (facts_of nodes.old) path.now (λ ids. insert_after id_cmp ids (reference after.now) id.now)) path.now (Element id.now) (covers front.now) id.now scalar }
     ensures roles { (q : List Tagged) (j : Key) (i : Id) → role_at nodes.new q j i ≡ put_role (role_at nodes.old) path.now (Element id.now) (covers front.now) id.now role q j i }
     ensures tree { AreTree nodes.new }
@@ -153,7 +153,7 @@ pub fn put_at(
     requires tree { AreTree nodes.old }
     requires flags { (m : NodeNumber) → node_at nodes.old path.now key.now ≡ Some m → AreFlaggedBut nodes.old m }
     requires backed { AreBacked nodes.old }
-    requires ready { IsReadyFor nodes.old path.now key.now }
+    requires ready { IsReadyFor nodes.old path.now key.now false }
     ensures facts { facts_of nodes.new ≡ put_facts (facts_of nodes.old) path.now key.now (covers front.now) id.now scalar }
     ensures roles { (q : List Tagged) (j : Key) (i : Id) → role_at nodes.new q j i ≡ put_role (role_at nodes.old) path.now key.now (covers front.now) id.now role q j i }
     ensures tree { AreTree nodes.new }
@@ -173,7 +173,7 @@ pub fn add_at(nodes: &mut [Node], path: &[Tagged], key: &Key, id: &Id, n: i64)
     requires tree { AreTree nodes.old }
     requires flags { AreFlagged nodes.old }
     requires backed { AreBacked nodes.old }
-    requires ready { IsReadyFor nodes.old path.now key.now }
+    requires ready { IsReadyFor nodes.old path.now key.now true }
     ensures facts { facts_of nodes.new ≡ add_facts (facts_of nodes.old) path.now key.now id.now n }
     ensures roles { (q : List Tagged) (j : Key) (i : Id) → role_at nodes.new q j i ≡ add_role (role_at nodes.old) path.now key.now id.now Counter q j i }
     ensures tree { AreTree nodes.new }

@@ -3,10 +3,7 @@ use Rattle.std.proofs.Common.{◌≡◌, ℕ, ℤ, ◌+◌, ◌<◌, List, [], �
 use Rattle.std.specs.Prelude.{option_and_then}
 use Rattle.std.proofs.lemmas.List.{map-append}
 use Rattle.serde_json.specs.Data.{Data}
-use Rattle.serde_json.specs.View.{view}
-use Rattle.serde_json.specs.declared.value.Value.{Value}
 use Rattle.doc_words.specs.Words.{Id, Refusal, Scalar, Key, Tagged}
-use Rattle.json_scalar.specs.Writing.{Writes}
 use Rattle.op_core.specs.declared.cursor.Key.TheVariants.{Text, Element}
 use Rattle.op_core.specs.declared.cursor.Tagged.TheVariants as tagged
 use Rattle.op_core.specs.Wire.{list_data}
@@ -17,7 +14,7 @@ use Rattle.list_order.specs.Entries.{ids_of}
 use Rattle.doc_nodes.specs.declared.node.Node.{Node}
 use Rattle.doc_nodes.specs.declared.node.NodeNumber.{NodeNumber}
 use Rattle.doc_nodes.specs.Children.{number_at}
-use Rattle.doc_nodes.specs.KeyOrder.{IsRising}
+use Rattle.doc_nodes.specs.KeyOrder.{IsInKeyOrder}
 use Rattle.doc_nodes.specs.Nodes.{node_of, node_at, child_of}
 use Rattle.doc_nodes.proofs.ChildrenLaws.{number_at-own, number_at-Contains}
 use Rattle.doc_nodes.proofs.Places.{same_node}
@@ -25,11 +22,11 @@ use Rattle.doc_tree.specs.Nodes.{tree_facts, tree_number}
 use Rattle.doc_tree.proofs.Below.{list-into, number-into, present_child}
 use Rattle.doc_tree.proofs.Reading.{role_read, role_absent, scalar_read, scalar_absent, number_read, number_absent, ids_read, ids_absent}
 use Rattle.doc_rules.specs.Views.{AreElements, AreEntries, AreItems, AreTerms, HaveValues, IsPresent, into_map, into_list}
-use Rattle.doc_rules.specs.Shown.{Shown, shown_data, no_map, no_list, total_shown, entry_data, count_branch}
+use Rattle.doc_rules.specs.Shown.{Shown, shown_data, no_map, no_list, total_shown, value_entry_data, count_branch}
 use Rattle.doc_rules.specs.Sorted.{AreThose}
 use Rattle.doc_rules.specs.Sorted.AreThose.{none}
 use Rattle.doc_view.specs.ByNumber.{AtNode, HasItems, IsTextAt, ShowsThose}
-use Rattle.doc_view.specs.Readings.{Gives}
+use Rattle.doc_view.specs.Readings.{GivesUnlessMemory}
 use Rattle.doc_view.specs.Showing.{EachElement, IsShown, IsMapShown, IsListShown}
 use Rattle.doc_view.proofs.Entries.{are_all}
 use Rattle.doc_view.proofs.Lists.{take_read}
@@ -75,7 +72,7 @@ module _ (tree : List Node × Option Scalar) (p : List Tagged) (k : Key) (n : No
   element_number i = number-into tree.0 p (tagged.List k) (Element i) refl ∙ ap (option_and_then (λ m. child_of tree.0 m (Element i))) at
 
   module _ (children : List (Key × NodeNumber)) (these : children ≡ (node_of tree.0 n).children) where
-    pub text_place : IsRising children → (i : ℕ) (child : Key × NodeNumber) → i < length children → child ≡ get_or children i child
+    pub text_place : IsInKeyOrder children → (i : ℕ) (child : Key × NodeNumber) → i < length children → child ≡ get_or children i child
         → IsTextAt tree (into_map p k) child.0 child.1
     text_place rising i child within is = λ text e.
         number-into tree.0 p (tagged.Map k) (Text text) refl
@@ -96,7 +93,7 @@ module _ (tree : List Node × Option Scalar) (p : List Tagged) (k : Key) (n : No
 
 -- what is given at a node is given at its place
 pub gives_at : {X : Type 0} (tree : List Node × Option Scalar) (n : NodeNumber) (reads : List Tagged → Key → X → Type 0) (r : Result X Refusal) (p : List Tagged) (k : Key)
-    → tree_number tree p k ≡ Some n → Gives (λ x. AtNode tree n (λ q j. reads q j x)) r → Gives (reads p k) r
+    → tree_number tree p k ≡ Some n → GivesUnlessMemory (λ x. AtNode tree n (λ q j. reads q j x)) r → GivesUnlessMemory (reads p k) r
 gives_at tree n reads (Ok x) p k at h = h p k at
 gives_at tree n reads (Err e) p k at h = h
 
@@ -139,20 +136,17 @@ shows_step tree list ids i id ds more new within is h g e =
 
 -- ---- whole elements
 
-pub shown_by_number : (tree : List Node × Option Scalar) (n : NodeNumber) (ms ls : List Data) (entries : List (Id × Scalar)) (terms : List (Id × ℤ)) (r : Result Value Refusal)
+pub shown_by_number : (tree : List Node × Option Scalar) (n : NodeNumber) (ms ls : List Data) (entries : List (Id × Scalar)) (terms : List (Id × ℤ))
     → AtNode tree n (λ p k. IsMapShown tree p k ms) → AtNode tree n (λ p k. IsListShown tree p k ls)
     → AtNode tree n (λ p k. AreEntries (tree_facts tree) p k entries) → AtNode tree n (λ p k. AreTerms (tree_facts tree) p k terms)
-    → Writes (list_data (ms ++ ls ++ map entry_data entries ++ count_branch (total_shown terms))) r
-    → Gives (λ json. AtNode tree n (λ p k. IsShown tree p k (view json))) r
-shown_by_number tree n ms ls entries terms (Ok json) m l e t w = λ p k at. shown_from tree p k ms ls entries terms (Ok json) (m p k at) (l p k at) (e p k at) (t p k at) w
-shown_by_number tree n ms ls entries terms (Err cause) m l e t w = w
+    → AtNode tree n (λ p k. IsShown tree p k (list_data (ms ++ ls ++ map value_entry_data entries ++ count_branch (total_shown terms))))
+shown_by_number tree n ms ls entries terms m l e t = λ p k at. shown_from tree p k ms ls entries terms (m p k at) (l p k at) (e p k at) (t p k at)
 
 -- nothing is shown where there is no node
-pub nothing_shown : (tree : List Node × Option Scalar) (p : List Tagged) (k : Key) (r : Result Value Refusal) → tree_number tree p k ≡ None
-    → Writes (list_data []) r → Gives (λ json. IsShown tree p k (view json)) r
-nothing_shown tree p k r e w = shown_from tree p k [] [] [] [] r map_part list_part
+pub nothing_shown : (tree : List Node × Option Scalar) (p : List Tagged) (k : Key) → tree_number tree p k ≡ None → IsShown tree p k (list_data [])
+nothing_shown tree p k e = shown_from tree p k [] [] [] [] map_part list_part
     (are_all [] ((tree_facts tree).register p k) tt (scalar_absent tree.0 p k e))
-    (are_all [] ((tree_facts tree).counter p k) tt (number_absent tree.0 p k e)) w
+    (are_all [] ((tree_facts tree).counter p k) tt (number_absent tree.0 p k e))
   where
     map_part : IsMapShown tree p k []
     map_part = record {

@@ -5,7 +5,7 @@ pub mod Indexed
 pub mod TellingRoles
 pub mod Leading
 pub mod MapLaws
-pub mod NoFloat
 pub mod ShowLaws
 pub mod ByNumber
 pub mod Growing
+pub mod Telling

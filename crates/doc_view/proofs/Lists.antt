@@ -1,6 +1,6 @@
 -- Elements of a list, one more at the end.
-use Rattle.std.proofs.Common.{◌≡◌, ℕ, ◌+◌, ◌<◌, List, [], ◌∷◌, ◌++◌, length, get_or, take, drop, Bool, true, false, true≢false, Decides, if◌then◌else◌, refl, sym, ap, append-nil, subst, ◌∙◌}
-use Rattle.std.proofs.lemmas.List.{take_more, drop_more}
+use Rattle.std.proofs.Common.{◌≡◌, ℕ, zero, suc, arith, ◌+◌, ◌<◌, List, [], ◌∷◌, ◌++◌, length, get_or, take, drop, Bool, true, false, true≢false, Decides, if◌then◌else◌, refl, sym, ap, append-nil, subst, ◌∙◌}
+use Rattle.std.proofs.lemmas.List.{take_more, drop_more, take-append-drop}
 use Rattle.doc_words.specs.Words.{Id, Scalar, Tagged}
 use Rattle.op_core.specs.declared.cursor.Key.TheVariants.{Element}
 use Rattle.crdt_rules.specs.Facts.{Facts}
@@ -32,6 +32,23 @@ take_read xs i x within is = take_more xs i x within ∙ ap (λ y. take i xs ++ 
 -- and one less of those left
 pub drop_read : {X : Type 0} (xs : List X) (i : ℕ) (x : X) → i < length xs → x ≡ get_or xs i x → drop i xs ≡ x ∷ drop (i + 1) xs
 drop_read xs i x within is = drop_more xs i x within ∙ ap (λ y. y ∷ drop (i + 1) xs) (sym is)
+
+-- the first of those left is the next one
+pub drop_gives : {X : Type 0} (xs : List X) (i : ℕ) (x : X) (rest : List X) → drop i xs ≡ x ∷ rest → (i < length xs) × (x ≡ get_or xs i x) × (drop (i + 1) xs ≡ rest)
+drop_gives [] i x rest left = absurd (nil_has_none i left)
+  where
+    nil_has_none : (n : ℕ) → drop n [] ≡ x ∷ rest → ⊥
+    nil_has_none zero e = cc
+    nil_has_none (suc n) e = cc
+drop_gives (y ∷ xs) zero x rest left = (omega arith, (let here : x ≡ y = cc in here), (let more : xs ≡ rest = cc in more))
+drop_gives (y ∷ xs) (suc i) x rest left =
+    let on = drop_gives xs i x rest left in
+    let one : suc i + 1 ≡ suc (i + 1) = omega arith in
+    (omega (arith, on.0), on.1, ap (λ (n : ℕ). drop n (y ∷ xs)) one ∙ on.2)
+
+-- and where none is left all are taken
+pub drop_none : {X : Type 0} (xs : List X) (i : ℕ) → drop i xs ≡ [] → take i xs ≡ xs
+drop_none xs i left = sym (append-nil (take i xs)) ∙ ap (λ l. take i xs ++ l) (sym left) ∙ take-append-drop i xs
 
 pub those_step : {X : Type 0} {holds : X → Type 0} (xs kept new : List X) (i : ℕ) (x : X) (b : Bool) → i < length xs → x ≡ get_or xs i x
     → AreThose holds (take i xs) kept → Decides b (holds x) → new ≡ kept ++ (if b then x ∷ [] else []) → AreThose holds (take (i + 1) xs) new

@@ -12,6 +12,7 @@ use Rattle.doc_nodes.proofs.KeyOrder.{text_lt}
 use Rattle.doc_rules.specs.Views.{AreKeys, IsPresent, into_map}
 use Rattle.doc_rules.specs.Sorted.{IsRising, AreThose}
 use Rattle.doc_rules.specs.Sorted.AreThose.{none, keep, skip}
+use Rattle.doc_rules.proofs.Resolved.{those_from}
 use Rattle.doc_view.specs.Members.{texts_at, texts_in}
 use Rattle.op_core.proofs.Fronts.{is_Less}
 use Rattle.doc_view.proofs.Lists.{take_read}
@@ -23,12 +24,6 @@ module _ {X : Type 0} {holds : X → Type 0} where
   those_append none those = those
   those_append (keep h rest) those = keep h (those_append rest those)
   those_append (skip h rest) those = skip h (those_append rest those)
-
-  pub those_among : {xs kept : List X} → AreThose holds xs kept → (x : X) → Contains kept x → Contains xs x
-  those_among none x c = c
-  those_among (keep {x = y} {xs} {kept} h rest) x c =
-      elim (Contains-cases y kept c) [ inl is ↦ Contains-here xs is | inr there ↦ Contains-there y xs (those_among rest x there) ]
-  those_among (skip {x = y} {xs} h rest) x c = Contains-there y xs (those_among rest x c)
 
   pub those_hold : {xs kept : List X} → AreThose holds xs kept → (x : X) → Contains kept x → holds x
   those_hold none x c = absurd (Contains-nil c)
@@ -46,7 +41,7 @@ module _ {X : Type 0} {holds : X → Type 0} where
 those_rising : {holds : List ℕ → Type 0} {xs kept : List (List ℕ)} → AreThose holds xs kept
     → IsRising name_cmp (λ (t : List ℕ). t) xs → IsRising name_cmp (λ (t : List ℕ). t) kept
 those_rising none rising = tt
-those_rising (keep h rest) rising = (λ y c. rising.0 y (those_among rest y c), those_rising rest rising.1)
+those_rising (keep h rest) rising = (λ y c. rising.0 y (those_from rest y c), those_rising rest rising.1)
 those_rising (skip h rest) rising = those_rising rest rising.1
 
 -- ---- texts among children
@@ -83,7 +78,7 @@ text_within (child ∷ children) t n c =
       | inr there ↦ Contains-append_right (texts_at child.0) (texts_in children) t (text_within children t n there)
     ]
 
-texts_rising : (children : List (Key × NodeNumber)) → key_order.IsRising children → IsRising name_cmp (λ (t : List ℕ). t) (texts_in children)
+texts_rising : (children : List (Key × NodeNumber)) → key_order.IsInKeyOrder children → IsRising name_cmp (λ (t : List ℕ). t) (texts_in children)
 texts_rising [] rising = tt
 texts_rising ((Text s, n) ∷ children) rising =
     (λ t c. let at = text_from children t c in is_Less (name_cmp s t) (text_lt s t ∙ ap is_lt (rising.0 (Text t, at.0) at.1)), texts_rising children rising.1)
@@ -91,7 +86,7 @@ texts_rising ((Doc, n) ∷ children) rising = texts_rising children rising.1
 texts_rising ((Element i, n) ∷ children) rising = texts_rising children rising.1
 texts_rising ((Head, n) ∷ children) rising = texts_rising children rising.1
 
-pub are_keys : (f : Facts) (p : List Tagged) (k : Key) (children : List (Key × NodeNumber)) (texts : List (List ℕ)) → key_order.IsRising children
+pub are_keys : (f : Facts) (p : List Tagged) (k : Key) (children : List (Key × NodeNumber)) (texts : List (List ℕ)) → key_order.IsInKeyOrder children
     → ((t : List ℕ) (i : Id) → f.present (into_map p k) (Text t) i ≡ true → (n : NodeNumber) × Contains children (Text t, n))
     → AreThose (λ t. IsPresent f (into_map p k) (Text t)) (texts_in children) texts → AreKeys f p k texts
 are_keys f p k children texts rising has those = record {

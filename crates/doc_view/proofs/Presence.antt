@@ -1,6 +1,6 @@
 -- Which ids make a place present, read from what stands there.
-use Rattle.std.proofs.Common.{◌≡◌, ◌==◌, ℕ, suc, arith, List, [], ◌∷◌, length, true, false, true≢false, not, Bool, Decides, ◌⊎◌, inl, inr, Option, Some, None, refl, sym, ap, ◌∙◌, Contains, is_some}
-use Rattle.std.proofs.lemmas.Bool.Decides.{nat_tests}
+use Rattle.std.proofs.Common.{◌≡◌, List, [], ◌∷◌, length, true, false, true≢false, not, Bool, Decides, ◌⊎◌, inl, inr, Option, Some, None, refl, sym, ap, ◌∙◌, Contains, is_some}
+use Rattle.std.specs.Prelude.{◌↔◌, IsTrue}
 use Rattle.list_laws.proofs.Members.{Contains-nil, Contains-here}
 use Rattle.doc_words.specs.Words.{Id, Scalar, Key, Tagged}
 use Rattle.crdt_rules.proofs.SameLaws.{id_decides}
@@ -9,7 +9,7 @@ use Rattle.presence_set.specs.ById.{get, IsAscending}
 use Rattle.doc_nodes.specs.declared.node.Node.{Node}
 use Rattle.doc_nodes.specs.declared.node.NodeNumber.{NodeNumber}
 use Rattle.doc_nodes.specs.Nodes.{facts_of, node_at, node_of}
-use Rattle.doc_nodes.specs.Flags.{is_some_entry, stands}
+use Rattle.doc_nodes.specs.Flags.{is_some_entry, node_stands}
 use Rattle.doc_tree.specs.Nodes.{tree_facts, tree_present, tree_role}
 use Rattle.doc_tree.proofs.Reading.{role_read, role_absent}
 use Rattle.doc_rules.specs.Views.{IsPresent}
@@ -42,13 +42,10 @@ module _ {tree : List Node × Option Scalar} {p : List Tagged} {k : Key} {roles 
 
 -- a place is present just if some id stands there
 pub present_decides : (tree : List Node × Option Scalar) (p : List Tagged) (k : Key) (roles : List (Id × Role)) (none : Bool)
-    → AreRoles tree p k roles → none ≡ (length roles == 0) → Decides (not none) (IsPresent (tree_facts tree) p k)
+    → AreRoles tree p k roles → (IsTrue none ↔ (roles ≡ [])) → Decides (not none) (IsPresent (tree_facts tree) p k)
 present_decides tree p k [] true are is = (λ h. absurd (true≢false (sym h)), λ w. absurd (Contains-nil (entry_from are w.0 w.1).1))
-present_decides tree p k [] false are is = let e : false ≡ true = is in absurd (true≢false (sym e))
-present_decides tree p k (e ∷ roles) true are is = absurd (true≢false (is ∙ some (length roles)))
-  where
-    some : (n : ℕ) → (suc n == 0) ≡ false
-    some n = grind (arith, nat_tests)
+present_decides tree p k [] false are is = absurd (true≢false (sym (is.1 refl)))
+present_decides tree p k (e ∷ roles) true are is = let none = is.0 refl in absurd (cc)
 present_decides tree p k (e ∷ roles) false are is = (λ h. (e.0, present_from are e (Contains-here roles refl)), λ w. refl)
 
 -- some ids and roles stand at each place
@@ -75,6 +72,6 @@ tree_decides tree p k = go (node_at tree.0 p k) refl
     of [] is = (λ h. absurd (true≢false (sym h)), λ w. absurd (true≢false (sym w.1 ∙ present_role tree p k w.0 ∙ ap is_some (sym (is w.0)))))
     of (e ∷ roles) is = (λ h. (e.0, present_role tree p k e.0 ∙ ap is_some (sym (is e.0)) ∙ (rw (id_decides.itself e.0) refl)), λ w. refl)
 
-    go : (o : Option NodeNumber) → node_at tree.0 p k ≡ o → Decides (stands tree.0 o) (IsPresent (tree_facts tree) p k)
+    go : (o : Option NodeNumber) → node_at tree.0 p k ≡ o → Decides (node_stands tree.0 o) (IsPresent (tree_facts tree) p k)
     go None e = of [] (role_absent tree.0 p k e)
     go (Some n) e = of (node_of tree.0 n).presence.0 (role_read tree.0 p k n e)

@@ -1,12 +1,10 @@
 -- What the parts of a shown element make together.
-use Rattle.std.proofs.Common.{◌≡◌, ℕ, ℤ, ◌+◌, ◌<◌, List, [], ◌∷◌, ◌++◌, length, get_or, take, map, codes, Bool, true, false, true≢false, Decides, Option, Some, None, option_and_then, Result, Ok, Err, inl, inr, refl, sym, ap, ◌∙◌, subst, Contains}
+use Rattle.std.proofs.Common.{◌≡◌, ℕ, ℤ, ◌+◌, ◌<◌, List, [], ◌∷◌, ◌++◌, length, get_or, take, map, codes, Bool, true, false, true≢false, Decides, Option, Some, None, option_and_then, inl, inr, refl, sym, ap, ◌∙◌, subst, Contains}
 use Rattle.std.specs.List.{list_any}
 use Rattle.std.proofs.lemmas.List.{map-append}
 use Rattle.serde_json.specs.Data.{Data, string, array}
-use Rattle.serde_json.specs.View.{items_of, view}
-use Rattle.serde_json.specs.declared.value.Value.{Value}
-use Rattle.doc_words.specs.Words.{Id, Refusal, Scalar, Val, Key, Tagged}
-use Rattle.json_scalar.specs.Writing.{Writes}
+use Rattle.serde_json.specs.View.{items_of}
+use Rattle.doc_words.specs.Words.{Id, Scalar, Val, Key, Tagged}
 use Rattle.json_scalar.specs.declared.scalar.Val.TheVariants.{EmptyMap, EmptyList}
 use Rattle.op_core.specs.declared.cursor.Key.TheVariants.{Doc, Text, Element, Head}
 use Rattle.op_core.specs.Wire.{list_data}
@@ -20,21 +18,15 @@ use Rattle.doc_nodes.specs.KeyOrder as key_order
 use Rattle.doc_tree.specs.Nodes.{tree_facts}
 use Rattle.doc_rules.specs.Views.{AreKeys, AreEntries, AreTerms, AreElements, IsPresent, into_map, into_list}
 use Rattle.doc_rules.specs.Role.{value_in}
-use Rattle.doc_rules.specs.Shown.{Shown, Fields, Elements, shown, no_map, a_map, no_list, a_list, no_fields, field, no_elements, element, names, IsPut, HasMap, HasList, total_shown, Shows, ShowsFields, ShowsElements, entry_data, count_branch, shown_data, fields_data, elements_data}
+use Rattle.doc_rules.specs.Shown.{Shown, Fields, Elements, shown, no_map, a_map, no_list, a_list, no_fields, field, no_elements, element, names, IsPut, HasMap, HasList, total_shown, Shows, ShowsFields, ShowsElements, value_entry_data, count_branch, shown_data, fields_data, elements_data}
 use Rattle.doc_rules.specs.Sorted.{AreThose}
+use Rattle.doc_rules.proofs.Resolved.{those_from}
 use Rattle.doc_view.specs.Members.{texts_at, texts_in}
-use Rattle.doc_view.specs.Readings.{Gives}
-use Rattle.doc_view.specs.Showing.{is_map, is_list, branch_of, field_data, IsShown, IsMapShown, IsListShown, EachField, AreFields, EachElement, AreShown}
+use Rattle.doc_view.specs.Showing.{is_map, is_list_role, branch_of, field_data, IsShown, IsMapShown, IsListShown, EachField, AreFields, EachElement, AreShown}
 use Rattle.doc_view.specs.TreeValues.{tree_values}
 use Rattle.doc_view.proofs.Presence.{AreRoles, role_of, present_from, entry_from}
 use Rattle.doc_view.proofs.Lists.{take_read}
-use Rattle.doc_view.proofs.MapLaws.{those_append, those_among, those_hold, are_keys, texts_in-push}
-
--- what is said of an equal list of data
-pub gives_moved : {X : Type 0} (P : List Data → Type 0) (g : X → List Data) (due : List Data) (r : Result X Refusal)
-    → Gives (λ x. g x ≡ due) r → P due → Gives (λ x. P (g x)) r
-gives_moved P g due (Ok x) is p = subst P (sym is) p
-gives_moved P g due (Err e) is p = is
+use Rattle.doc_view.proofs.MapLaws.{those_append, those_hold, are_keys, texts_in-push}
 
 -- ---- which values are put
 
@@ -53,7 +45,7 @@ map_tells role.List s e = absurd (true≢false (sym e))
 map_tells role.Scalar s e = absurd (true≢false (sym e))
 map_tells role.Counter s e = absurd (true≢false (sym e))
 
-list_told : (r : Role) (s : Option Scalar) → value_in r s ≡ Some EmptyList → is_list r ≡ true
+list_told : (r : Role) (s : Option Scalar) → value_in r s ≡ Some EmptyList → is_list_role r ≡ true
 list_told role.Through s e = cc
 list_told role.Map s e = cc
 list_told role.List s e = refl
@@ -61,7 +53,7 @@ list_told role.Scalar None e = cc
 list_told role.Scalar (Some s) e = cc
 list_told role.Counter s e = cc
 
-list_tells : (r : Role) (s : Option Scalar) → is_list r ≡ true → value_in r s ≡ Some EmptyList
+list_tells : (r : Role) (s : Option Scalar) → is_list_role r ≡ true → value_in r s ≡ Some EmptyList
 list_tells role.Through s e = absurd (true≢false (sym e))
 list_tells role.Map s e = absurd (true≢false (sym e))
 list_tells role.List s e = refl
@@ -91,8 +83,8 @@ pub puts_map_decides : (tree : List Node × Option Scalar) (p : List Tagged) (k 
 puts_map_decides tree p k roles are = puts_decides tree p k roles are is_map EmptyMap map_tells map_told
 
 pub puts_list_decides : (tree : List Node × Option Scalar) (p : List Tagged) (k : Key) (roles : List (Id × Role)) → AreRoles tree p k roles
-    → Decides (list_any (λ (e : Id × Role). is_list e.1) roles) (IsPut (tree_facts tree) (tree_values tree) p k EmptyList)
-puts_list_decides tree p k roles are = puts_decides tree p k roles are is_list EmptyList list_tells list_told
+    → Decides (list_any (λ (e : Id × Role). is_list_role e.1) roles) (IsPut (tree_facts tree) (tree_values tree) p k EmptyList)
+puts_list_decides tree p k roles are = puts_decides tree p k roles are is_list_role EmptyList list_tells list_told
 
 -- ---- fields
 
@@ -147,7 +139,7 @@ fields_step tree p children i child ds es new within is a b e =
 
 -- a key with one present text is that text
 pub one_text : {holds : List ℕ → Type 0} (k : Key) (t : List ℕ) → AreThose holds (texts_at k) (t ∷ []) → (k ≡ Text t) × holds t
-one_text k t those = (same k (those_among those t (Contains-here [] refl)), those_hold those t (Contains-here [] refl))
+one_text k t those = (same k (those_from those t (Contains-here [] refl)), those_hold those t (Contains-here [] refl))
   where
     same : (k : Key) → Contains (texts_at k) t → k ≡ Text t
     same Doc c = absurd (Contains-nil c)
@@ -160,7 +152,7 @@ fields_shown : (tree : List Node × Option Scalar) (p : List Tagged) (xs : List 
 fields_shown tree p [] h = tt
 fields_shown tree p (x ∷ xs) h = (h.0, fields_shown tree p xs h.1)
 
-module _ (tree : List Node × Option Scalar) (p : List Tagged) (k : Key) (children : List (Key × NodeNumber)) (rising : key_order.IsRising children)
+module _ (tree : List Node × Option Scalar) (p : List Tagged) (k : Key) (children : List (Key × NodeNumber)) (rising : key_order.IsInKeyOrder children)
     (has : (t : List ℕ) (i : Id) → (tree_facts tree).present (into_map p k) (Text t) i ≡ true → (n : NodeNumber) × Contains children (Text t, n)) where
   keys_shown : (fields : List (List ℕ × Shown))
       → AreThose (λ t. IsPresent (tree_facts tree) (into_map p k) (Text t)) (texts_in children) (map (λ (x : List ℕ × Shown). x.0) fields)
@@ -264,12 +256,11 @@ module _ (tree : List Node × Option Scalar) (p : List Tagged) (k : Key) where
   list_from put ids ds d those a = subst (λ (xs : List Data). IsListShown tree p k (branch_of (codes "list") put xs)) (sym a.is) (list_of put d ids a.elements those a.each)
 
   -- all branches together
-  pub shown_from : (ms ls : List Data) (entries : List (Id × Scalar)) (terms : List (Id × ℤ)) (r : Result Value Refusal) → IsMapShown tree p k ms
-      → IsListShown tree p k ls → AreEntries (tree_facts tree) p k entries → AreTerms (tree_facts tree) p k terms
-      → Writes (list_data (ms ++ ls ++ map entry_data entries ++ count_branch (total_shown terms))) r → Gives (λ json. IsShown tree p k (view json)) r
-  shown_from ms ls entries terms (Ok json) m l e t w = record {
+  pub shown_from : (ms ls : List Data) (entries : List (Id × Scalar)) (terms : List (Id × ℤ)) → IsMapShown tree p k ms → IsListShown tree p k ls
+      → AreEntries (tree_facts tree) p k entries → AreTerms (tree_facts tree) p k terms
+      → IsShown tree p k (list_data (ms ++ ls ++ map value_entry_data entries ++ count_branch (total_shown terms)))
+  shown_from ms ls entries terms m l e t = record {
     shown = shown m.shown l.shown entries (total_shown terms);
     shows = (m.shows, l.shows, e, (terms, t, refl));
-    is = w ∙ (λ j. list_data (m.is j ++ l.is j ++ map entry_data entries ++ count_branch (total_shown terms)));
+    is = λ j. list_data (m.is j ++ l.is j ++ map value_entry_data entries ++ count_branch (total_shown terms));
   }
-  shown_from ms ls entries terms (Err e) m l es t w = w

@@ -13,15 +13,9 @@ use Rattle.doc_rules.specs.Sorted.{IsRising}
 use Rattle.doc_view.specs.TreeValues.{tree_values, with_value, values_told}
 use Rattle.doc_view.proofs.Presence.{AreRoles, role_of, present_from, entry_from}
 
-pub values_told-push : (scalars : List (Id × Scalar)) (roles : List (Id × Role)) (e : Id × Role)
-    → values_told scalars (roles ++ e ∷ []) ≡ values_told scalars roles ++ with_value e.0 (value_in e.1 (get scalars e.0)) []
-values_told-push scalars [] e = refl
-values_told-push scalars (r ∷ roles) e = go (value_in r.1 (get scalars r.0)) (values_told-push scalars roles e)
-  where
-    go : (v : Option Val) → values_told scalars (roles ++ e ∷ []) ≡ values_told scalars roles ++ with_value e.0 (value_in e.1 (get scalars e.0)) []
-        → with_value r.0 v (values_told scalars (roles ++ e ∷ [])) ≡ with_value r.0 v (values_told scalars roles) ++ with_value e.0 (value_in e.1 (get scalars e.0)) []
-    go None ih = ih
-    go (Some v) ih = ap (λ values. (r.0, v) ∷ values) ih
+pub with_value-append : (i : Id) (v : Option Val) (values : List (Id × Val)) → with_value i v values ≡ with_value i v [] ++ values
+with_value-append i None values = refl
+with_value-append i (Some v) values = refl
 
 -- the role of an id whose value is told
 record WasTold (scalars : List (Id × Scalar)) (roles : List (Id × Role)) (x : Id × Val) : Type 0 where

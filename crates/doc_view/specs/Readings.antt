@@ -6,12 +6,12 @@ use Rattle.op_core.specs.Shape.{is_head}
 use Rattle.doc_rules.specs.Sorted.{AreThose}
 
 -- something of which this holds, or memory is wanting
-abbrev pub Gives : {X : Type 0} → (X → Type 0) → Result X Refusal → Type 0
-Gives holds r = MatchResult r holds (λ e. e ≡ NoMemory)
+abbrev pub GivesUnlessMemory : {X : Type 0} → (X → Type 0) → Result X Refusal → Type 0
+GivesUnlessMemory holds r = MatchResult r holds (λ e. e ≡ NoMemory)
 
 -- a reading of this kind at a cursor; there is none at a head
-abbrev pub ReadsHere : {X : Type 0} → (List Tagged → Key → X → Type 0) → Cursor → Result X Refusal → Type 0
-ReadsHere reads c r = MatchBool (is_head c.key) (r ≡ Err AtHead) (Gives (reads c.path c.key) r)
+abbrev pub ReadsUnlessMemory : {X : Type 0} → (List Tagged → Key → X → Type 0) → Cursor → Result X Refusal → Type 0
+ReadsUnlessMemory reads c r = MatchBool (is_head c.key) (r ≡ Err AtHead) (GivesUnlessMemory (reads c.path c.key) r)
 
 -- what stands at this index among those of xs for which this holds, if there are as many
 abbrev pub IsNth : {X : Type 0} → (X → Type 0) → List X → ℕ → Option X → Type 0

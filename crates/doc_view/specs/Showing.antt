@@ -17,9 +17,9 @@ abbrev pub is_map : Role → Bool
 is_map role.Map = true
 is_map _ = false
 
-abbrev pub is_list : Role → Bool
-is_list role.List = true
-is_list _ = false
+abbrev pub is_list_role : Role → Bool
+is_list_role role.List = true
+is_list_role _ = false
 
 -- a branch stands there if it has a part, or is put there
 abbrev pub branch_of : List ℕ → Bool → List Data → List Data

@@ -7,7 +7,7 @@ ghost use Rattle.doc_rules.specs.Views as reads;
 ghost use Rattle.doc_rules.specs.Views.{AreItems, IsPresent};
 ghost use Rattle.doc_view.specs.ByNumber.{AtNode, HasItems, IsElementAt};
 ghost use Rattle.doc_view.specs.Members.{listed};
-ghost use Rattle.doc_view.specs.Readings.{Gives, IsNth, ReadsHere};
+ghost use Rattle.doc_view.specs.Readings.{GivesUnlessMemory, IsNth, ReadsUnlessMemory};
 
 use crate::registers::values_below;
 use doc_tree::{NodeNumber, Tree};
@@ -20,7 +20,7 @@ use std::alloc::Global;
 /// The present elements of the list at a cursor in list order, each with the scalars of its register in the order of
 /// their ids. `AtHead` where the cursor stands at a head.
 pub fn items(alloc: Global, tree: &Tree, cursor: &Cursor) -> Result<Items, Refusal>
-    ensures { ReadsHere (AreItems (tree_facts tree.now)) cursor.now result }
+    ensures { ReadsUnlessMemory (AreItems (tree_facts tree.now)) cursor.now result }
 {
     if cursor.key.is_head() {
         return Err(Refusal::AtHead);
@@ -29,7 +29,7 @@ pub fn items(alloc: Global, tree: &Tree, cursor: &Cursor) -> Result<Items, Refus
 }
 
 fn items_at(alloc: Global, tree: &Tree, path: &Path, key: &Key) -> Result<Items, Refusal>
-    ensures { Gives (AreItems (tree_facts tree.now) path.now key.now) result }
+    ensures { GivesUnlessMemory (AreItems (tree_facts tree.now) path.now key.now) result }
 {
     match tree.node_at(path, key) {
         None => Ok(Items::from(Vec::new(alloc))),
@@ -38,7 +38,7 @@ fn items_at(alloc: Global, tree: &Tree, path: &Path, key: &Key) -> Result<Items,
 }
 
 fn items_below(alloc: Global, tree: &Tree, at: NodeNumber) -> Result<Items, Refusal>
-    ensures { Gives (λ items. AtNode tree.now at (λ p k. AreItems (tree_facts tree.now) p k items)) result }
+    ensures { GivesUnlessMemory (λ items. AtNode tree.now at (λ p k. AreItems (tree_facts tree.now) p k items)) result }
 {
     let ids = tree.elements_of(alloc, at)?;
     let items = items_of(alloc, tree, at, ids.as_slice())?;
@@ -51,7 +51,7 @@ fn items_of(
     list: NodeNumber,
     ids: &[Id],
 ) -> Result<Vec<(Id, Scalars)>, Refusal>
-    ensures { Gives (λ items. AtNode tree.now list (λ p k. HasItems (tree_facts tree.now) (reads.into_list p k) ids.now items.items)) result }
+    ensures { GivesUnlessMemory (λ items. AtNode tree.now list (λ p k. HasItems (tree_facts tree.now) (reads.into_list p k) ids.now items.items)) result }
 {
     let mut items = Vec::new(alloc);
     for id in ids {
@@ -68,7 +68,7 @@ fn item_at(
     list: NodeNumber,
     id: &Id,
 ) -> Result<Option<(Id, Scalars)>, Refusal>
-    ensures { Gives (λ item. AtNode tree.now list (λ p k. HasItems (tree_facts tree.now) (reads.into_list p k) (id.now ∷ []) (listed item))) result }
+    ensures { GivesUnlessMemory (λ item. AtNode tree.now list (λ p k. HasItems (tree_facts tree.now) (reads.into_list p k) (id.now ∷ []) (listed item))) result }
 {
     match present_element(tree, list, id) {
         None => Ok(None),
@@ -80,7 +80,7 @@ fn item_at(
 }
 
 fn push_item(items: &mut Vec<(Id, Scalars)>, item: Option<(Id, Scalars)>) -> Result<(), Refusal>
-    ensures { Gives (λ _. items.new.items ≡ items.old.items ++ listed item) result }
+    ensures { GivesUnlessMemory (λ _. items.new.items ≡ items.old.items ++ listed item) result }
 {
     if let Some(item) = item {
         items.push(item)?;
@@ -121,7 +121,7 @@ pub fn element_by_index(tree: &Tree, list: &Path, index: u64) -> Option<Id>
 
 /// All elements of the list to which a path leads, in list order.
 pub fn order_of(alloc: Global, tree: &Tree, list: &Path) -> Result<Vec<Id>, Refusal>
-    ensures { Gives (λ ids. ids.items ≡ (tree_facts tree.now).order list.now) result }
+    ensures { GivesUnlessMemory (λ ids. ids.items ≡ (tree_facts tree.now).order list.now) result }
 {
     tree.elements(alloc, list)
 }

@@ -7,10 +7,10 @@ ghost use Rattle.doc_rules.specs.Views.{AreKeys, IsPresent};
 ghost use Rattle.doc_rules.specs.Sorted.{AreThose};
 ghost use Rattle.doc_view.specs.ByNumber.{AreIn, IsTextAt};
 ghost use Rattle.doc_view.specs.Members.{listed, texts_at, texts_in};
-ghost use Rattle.doc_view.specs.Readings.{Gives, ReadsHere};
+ghost use Rattle.doc_view.specs.Readings.{GivesUnlessMemory, ReadsUnlessMemory};
 
 use crate::elements::is_here;
-use doc_tree::{NodeNumber, Tree};
+use doc_tree::{EachChild, NodeNumber, Tree};
 use doc_words::Texts;
 use json_scalar::Refusal;
 use op_core::{Cursor, Key, KeyText, Path};
@@ -18,7 +18,7 @@ use std::alloc::Global;
 
 /// The texts of the present members of the map at a cursor, in byte order. `AtHead` where the cursor stands at a head.
 pub fn keys(alloc: Global, tree: &Tree, cursor: &Cursor) -> Result<Texts, Refusal>
-    ensures { ReadsHere (AreKeys (tree_facts tree.now)) cursor.now result }
+    ensures { ReadsUnlessMemory (AreKeys (tree_facts tree.now)) cursor.now result }
 {
     if cursor.key.is_head() {
         return Err(Refusal::AtHead);
@@ -27,7 +27,7 @@ pub fn keys(alloc: Global, tree: &Tree, cursor: &Cursor) -> Result<Texts, Refusa
 }
 
 fn keys_at(alloc: Global, tree: &Tree, path: &Path, key: &Key) -> Result<Texts, Refusal>
-    ensures { Gives (AreKeys (tree_facts tree.now) path.now key.now) result }
+    ensures { GivesUnlessMemory (AreKeys (tree_facts tree.now) path.now key.now) result }
 {
     let texts = present_texts(alloc, tree, tree.children(path, key))?;
     Ok(Texts::from(texts))
@@ -37,10 +37,10 @@ fn keys_at(alloc: Global, tree: &Tree, path: &Path, key: &Key) -> Result<Texts, 
 fn present_texts(
     alloc: Global,
     tree: &Tree,
-    children: &[(Key, NodeNumber)],
+    children: EachChild<'_>,
 ) -> Result<Vec<KeyText>, Refusal>
-    ensures { Gives (λ texts. (map : List Tagged) → AreIn tree.now map children.now
-        → AreThose (λ t. IsPresent (tree_facts tree.now) map (Text t)) (texts_in children.now) texts.items) result }
+    ensures { GivesUnlessMemory (λ texts. (map : List Tagged) → AreIn tree.now map children.entry
+        → AreThose (λ t. IsPresent (tree_facts tree.now) map (Text t)) (texts_in children.entry) texts.items) result }
 {
     let mut texts = Vec::new(alloc);
     for child in children {
@@ -64,7 +64,7 @@ pub fn present_text<'a>(tree: &Tree, key: &'a Key, at: NodeNumber) -> Option<&'a
 }
 
 fn keep_text(texts: &mut Vec<KeyText>, text: Option<&KeyText>) -> Result<(), Refusal>
-    ensures { Gives (λ _. texts.new.items ≡ texts.old.items ++ listed (option_map (λ t. t.now) text.entry)) result }
+    ensures { GivesUnlessMemory (λ _. texts.new.items ≡ texts.old.items ++ listed (option_map (λ t. t.now) text.entry)) result }
 {
     if let Some(text) = text {
         texts.push(text.try_clone()?)?;

@@ -4,7 +4,7 @@ ghost use Rattle.json_scalar.specs.declared.refusal.Refusal.TheVariants.{NoMemor
 ghost use Rattle.doc_tree.specs.Nodes.{tree_facts};
 ghost use Rattle.doc_rules.specs.Views.{AreValues, IsSum, total};
 ghost use Rattle.doc_view.specs.ByNumber.{AtNode};
-ghost use Rattle.doc_view.specs.Readings.{Gives, ReadsHere};
+ghost use Rattle.doc_view.specs.Readings.{GivesUnlessMemory, ReadsUnlessMemory};
 
 use doc_tree::{NodeNumber, Tree};
 use doc_words::Scalars;
@@ -15,7 +15,7 @@ use std::alloc::Global;
 
 /// The scalars of the register at a cursor, in the order of their ids. `AtHead` where the cursor stands at a head.
 pub fn values(alloc: Global, tree: &Tree, cursor: &Cursor) -> Result<Scalars, Refusal>
-    ensures { ReadsHere (AreValues (tree_facts tree.now)) cursor.now result }
+    ensures { ReadsUnlessMemory (AreValues (tree_facts tree.now)) cursor.now result }
 {
     if cursor.key.is_head() {
         return Err(Refusal::AtHead);
@@ -25,7 +25,7 @@ pub fn values(alloc: Global, tree: &Tree, cursor: &Cursor) -> Result<Scalars, Re
 
 /// The scalars of the register of a place.
 pub fn values_at(alloc: Global, tree: &Tree, path: &Path, key: &Key) -> Result<Scalars, Refusal>
-    ensures { Gives (AreValues (tree_facts tree.now) path.now key.now) result }
+    ensures { GivesUnlessMemory (AreValues (tree_facts tree.now) path.now key.now) result }
 {
     let scalars = scalars_of(alloc, tree.register(path, key))?;
     Ok(Scalars::from(scalars))
@@ -33,14 +33,14 @@ pub fn values_at(alloc: Global, tree: &Tree, path: &Path, key: &Key) -> Result<S
 
 /// The scalars of the register of a node.
 pub fn values_below(alloc: Global, tree: &Tree, at: NodeNumber) -> Result<Scalars, Refusal>
-    ensures { Gives (λ scalars. AtNode tree.now at (λ p k. AreValues (tree_facts tree.now) p k scalars)) result }
+    ensures { GivesUnlessMemory (λ scalars. AtNode tree.now at (λ p k. AreValues (tree_facts tree.now) p k scalars)) result }
 {
     let scalars = scalars_of(alloc, tree.register_of(at))?;
     Ok(Scalars::from(scalars))
 }
 
 fn scalars_of(alloc: Global, entries: &[(Id, Scalar)]) -> Result<Vec<Scalar>, Refusal>
-    ensures { Gives (λ scalars. scalars.items ≡ map (λ e. e.1) entries.now) result }
+    ensures { GivesUnlessMemory (λ scalars. scalars.items ≡ map (λ e. e.1) entries.now) result }
 {
     let mut scalars = Vec::new(alloc);
     for entry in entries {
@@ -52,7 +52,7 @@ fn scalars_of(alloc: Global, entries: &[(Id, Scalar)]) -> Result<Vec<Scalar>, Re
 /// The total of the numbers of the counter at a cursor. `AtHead` where the cursor stands at a head; it takes no memory, and
 /// never tells that memory is wanting.
 pub fn sum(tree: &Tree, cursor: &Cursor) -> Result<i128, Refusal>
-    ensures reading { ReadsHere (IsSum (tree_facts tree.now)) cursor.now result }
+    ensures reading { ReadsUnlessMemory (IsSum (tree_facts tree.now)) cursor.now result }
     ensures memory { result ≢ Err NoMemory }
 {
     if cursor.key.is_head() {

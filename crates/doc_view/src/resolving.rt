@@ -11,7 +11,7 @@ ghost use Rattle.doc_rules.specs.Views.{into_map, into_list, AreElements};
 ghost use Rattle.crdt_rules.specs.Same.{id_eq};
 ghost use Rattle.doc_tree.specs.Nodes.{tree_facts};
 ghost use Rattle.doc_rules.specs.Resolve as rules;
-ghost use Rattle.doc_view.specs.Readings.{Gives};
+ghost use Rattle.doc_view.specs.Readings.{GivesUnlessMemory};
 
 use crate::elements::element_by_index;
 use crate::place::into_list;
@@ -101,7 +101,7 @@ fn to_index(tree: &Tree, from: Cursor, index: u64) -> Result<Cursor, Refusal>
 
 /// The key to which an index leads. The head is before all elements, so that none is read for it.
 fn key_at(tree: &Tree, from: &Cursor, index: u64) -> Result<Option<Key>, Refusal>
-    ensures { Gives (λ key. (ids : List Id) × AreElements (tree_facts tree.now) from.now.path from.now.key ids × (key ≡ rules.key_at ids index)) result }
+    ensures { GivesUnlessMemory (λ key. (ids : List Id) × AreElements (tree_facts tree.now) from.now.path from.now.key ids × (key ≡ rules.key_at ids index)) result }
 {
     if index == 0 {
         return Ok(Some(Key::Head));
@@ -119,7 +119,7 @@ fn to_key(from: Cursor, key: Option<Key>) -> Result<Cursor, Refusal>
 
 /// The start, unless there is a cause against it.
 fn checked(alloc: Global, tree: &Tree, start: Cursor) -> Result<Cursor, Refusal>
-    ensures { UnlessMemory result (rules.start_of (tree_facts tree.now) start) }
+    ensures { UnlessMemory result (rules.checked_start (tree_facts tree.now) start) }
 {
     if start.path.as_slice().len() > MAX_PATH_LEN {
         return Err(Refusal::TooDeep);
@@ -131,7 +131,7 @@ fn checked(alloc: Global, tree: &Tree, start: Cursor) -> Result<Cursor, Refusal>
 }
 
 fn stands(alloc: Global, tree: &Tree, cursor: &Cursor) -> Result<bool, Refusal>
-    ensures { Gives (λ b. b ≡ (is_placed cursor.now.path cursor.now.key && rules.stands (tree_facts tree.now) [] cursor.now.path cursor.now.key)) result }
+    ensures { GivesUnlessMemory (λ b. b ≡ (is_placed cursor.now.path cursor.now.key && rules.way_stands (tree_facts tree.now) [] cursor.now.path cursor.now.key)) result }
 {
     if !is_placed(cursor.path.as_slice(), &cursor.key) {
         return Ok(false);
@@ -141,7 +141,7 @@ fn stands(alloc: Global, tree: &Tree, cursor: &Cursor) -> Result<bool, Refusal>
 
 /// Each key is within its limit and stands where it is named.
 fn all_stand(alloc: Global, tree: &Tree, path: &[Tagged], key: &Key) -> Result<bool, Refusal>
-    ensures { Gives (λ b. b ≡ rules.stands (tree_facts tree.now) [] path.now key.now) result }
+    ensures { GivesUnlessMemory (λ b. b ≡ rules.way_stands (tree_facts tree.now) [] path.now key.now) result }
 {
     let mut before = Path::new(alloc);
     for tag in path {
@@ -154,7 +154,7 @@ fn all_stand(alloc: Global, tree: &Tree, path: &[Tagged], key: &Key) -> Result<b
 }
 
 fn stands_in(alloc: Global, tree: &Tree, before: &Path, key: &Key) -> Result<bool, Refusal>
-    ensures { Gives (λ b. b ≡ (rules.is_short key.now && rules.stands_in (tree_facts tree.now) before.now key.now)) result }
+    ensures { GivesUnlessMemory (λ b. b ≡ (rules.is_short key.now && rules.stands_in (tree_facts tree.now) before.now key.now)) result }
 {
     match key {
         Key::Doc => Ok(true),

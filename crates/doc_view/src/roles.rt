@@ -5,12 +5,12 @@ ghost use Rattle.presence_set.specs.ById.{get};
 ghost use Rattle.doc_tree.specs.Nodes.{tree_facts};
 ghost use Rattle.doc_rules.specs.Views.{AreConflicts};
 ghost use Rattle.doc_rules.specs.Role.{value_in};
-ghost use Rattle.doc_view.specs.Readings.{Gives, ReadsHere};
+ghost use Rattle.doc_view.specs.Readings.{GivesUnlessMemory, ReadsUnlessMemory};
 ghost use Rattle.std.specs.List.{list_any};
 ghost use Rattle.doc_view.specs.Showing as showing;
 ghost use Rattle.doc_view.specs.TreeValues.{tree_values, values_told, with_value};
 
-use doc_tree::Tree;
+use doc_tree::{Entries, Tree};
 use doc_words::{Conflicts, Role};
 use json_scalar::{Refusal, Scalar, Val};
 use lamport_id::Id;
@@ -20,7 +20,7 @@ use std::alloc::Global;
 /// The ids whose operations put a value at the very place of a cursor and are not covered since, in id order, each with
 /// that value. `AtHead` where the cursor stands at a head.
 pub fn conflicts(alloc: Global, tree: &Tree, cursor: &Cursor) -> Result<Conflicts, Refusal>
-    ensures { ReadsHere (AreConflicts (tree_facts tree.now) (tree_values tree.now)) cursor.now result }
+    ensures { ReadsUnlessMemory (AreConflicts (tree_facts tree.now) (tree_values tree.now)) cursor.now result }
 {
     if cursor.key.is_head() {
         return Err(Refusal::AtHead);
@@ -29,7 +29,7 @@ pub fn conflicts(alloc: Global, tree: &Tree, cursor: &Cursor) -> Result<Conflict
 }
 
 fn conflicts_at(alloc: Global, tree: &Tree, path: &Path, key: &Key) -> Result<Conflicts, Refusal>
-    ensures { Gives (AreConflicts (tree_facts tree.now) (tree_values tree.now) path.now key.now) result }
+    ensures { GivesUnlessMemory (AreConflicts (tree_facts tree.now) (tree_values tree.now) path.now key.now) result }
 {
     let values = values_told(alloc, tree.present(path, key), tree.register(path, key))?;
     Ok(Conflicts::from(values))
@@ -37,10 +37,10 @@ fn conflicts_at(alloc: Global, tree: &Tree, path: &Path, key: &Key) -> Result<Co
 
 fn values_told(
     alloc: Global,
-    roles: &[(Id, Role)],
+    roles: Entries<'_, Role>,
     scalars: &[(Id, Scalar)],
 ) -> Result<Vec<(Id, Val)>, Refusal>
-    ensures { Gives (λ values. values.items ≡ values_told scalars.now roles.now) result }
+    ensures { GivesUnlessMemory (λ values. values.items ≡ values_told scalars.now roles.entry) result }
 {
     let mut values = Vec::new(alloc);
     for entry in roles {
@@ -51,7 +51,7 @@ fn values_told(
 }
 
 fn push_value(values: &mut Vec<(Id, Val)>, id: &Id, value: Option<Val>) -> Result<(), Refusal>
-    ensures { Gives (λ _. values.new.items ≡ values.old.items ++ with_value id.now value []) result }
+    ensures { GivesUnlessMemory (λ _. values.new.items ≡ values.old.items ++ with_value id.now value []) result }
 {
     if let Some(value) = value {
         values.push((*id, value))?;
@@ -61,7 +61,7 @@ fn push_value(values: &mut Vec<(Id, Val)>, id: &Id, value: Option<Val>) -> Resul
 
 /// The value that the operation of an id put where it has this role.
 fn value_told(role: &Role, id: &Id, scalars: &[(Id, Scalar)]) -> Result<Option<Val>, Refusal>
-    ensures { Gives (λ value. value ≡ value_in role.now (get scalars.now id.now)) result }
+    ensures { GivesUnlessMemory (λ value. value ≡ value_in role.now (get scalars.now id.now)) result }
 {
     match role {
         Role::Through => Ok(None),
@@ -73,7 +73,7 @@ fn value_told(role: &Role, id: &Id, scalars: &[(Id, Scalar)]) -> Result<Option<V
 }
 
 fn scalar_told(id: &Id, scalars: &[(Id, Scalar)]) -> Result<Option<Val>, Refusal>
-    ensures { Gives (λ value. value ≡ option_map Plain (get scalars.now id.now)) result }
+    ensures { GivesUnlessMemory (λ value. value ≡ option_map Plain (get scalars.now id.now)) result }
 {
     for entry in scalars {
         if entry.0 == *id {
@@ -84,17 +84,19 @@ fn scalar_told(id: &Id, scalars: &[(Id, Scalar)]) -> Result<Option<Val>, Refusal
 }
 
 /// Some id has the role of one that put an empty map.
-pub fn puts_map(roles: &[(Id, Role)]) -> bool
-    ensures { result ≡ list_any (λ e. showing.is_map e.1) roles.now }
+pub fn puts_map(roles: Entries<'_, Role>) -> bool
+    ensures { result ≡ list_any (λ e. showing.is_map e.1) roles.entry }
 {
-    roles.iter().any(|entry| is_map(&entry.1))
+    let mut roles = roles;
+    roles.any(|entry| is_map(&entry.1))
 }
 
 /// Some id has the role of one that put an empty list.
-pub fn puts_list(roles: &[(Id, Role)]) -> bool
-    ensures { result ≡ list_any (λ e. showing.is_list e.1) roles.now }
+pub fn puts_list(roles: Entries<'_, Role>) -> bool
+    ensures { result ≡ list_any (λ e. showing.is_list_role e.1) roles.entry }
 {
-    roles.iter().any(|entry| is_list(&entry.1))
+    let mut roles = roles;
+    roles.any(|entry| is_list(&entry.1))
 }
 
 fn is_map(role: &Role) -> bool
@@ -107,7 +109,7 @@ fn is_map(role: &Role) -> bool
 }
 
 fn is_list(role: &Role) -> bool
-    ensures { result ≡ showing.is_list role.now }
+    ensures { result ≡ showing.is_list_role role.now }
 {
     match role {
         Role::List => true,

@@ -1,35 +1,38 @@
 //! Whole elements.
-ghost use Rattle.std.specs.Prelude.{◌≡◌, ◌<◌, ◌∷◌, [], List, length, Contains, map, option_map};
-ghost use Rattle.serde_json.specs.View.{view};
+ghost use Rattle.std.specs.Prelude.{◌≡◌, ◌<◌, ◌∷◌, [], List, length, Contains, codes};
+ghost use Rattle.serde_json.specs.Data.{Data, string};
 ghost use Rattle.doc_words.specs.Words.{Key, Tagged};
+ghost use Rattle.op_core.specs.Wire.{list_data};
 ghost use Rattle.doc_nodes.specs.declared.node.NodeNumber.{NodeNumber};
-ghost use Rattle.doc_nodes.specs.KeyOrder.{IsRising};
+ghost use Rattle.doc_nodes.specs.KeyOrder.{IsInKeyOrder};
 ghost use Rattle.doc_nodes.specs.Nodes.{node_of};
 ghost use Rattle.doc_tree.specs.Nodes.{tree_facts};
 ghost use Rattle.doc_rules.specs.Views.{into_list, into_map};
 ghost use Rattle.doc_rules.specs.Shown.{ShowsText};
 ghost use Rattle.doc_view.specs.ByNumber.{AtNode, IsTextAt, ShowsThose};
-ghost use Rattle.doc_view.specs.Members.{listed, texts_at, texts_in};
-ghost use Rattle.doc_view.specs.Readings.{Gives, ReadsHere};
+ghost use Rattle.doc_view.specs.Members.{texts_at, texts_in};
+ghost use Rattle.doc_view.specs.Readings.{GivesUnlessMemory, ReadsUnlessMemory};
 ghost use Rattle.doc_view.specs.Showing.{AreFields, IsListShown, IsMapShown, IsShown};
+ghost use Rattle.doc_view.specs.Telling.{Tells, TellsOne, TellsParts};
 ghost use Rattle.doc_view.specs.TreeValues.{tree_values};
+ghost use Rattle.json_text.specs.Tokens.{data_tokens};
 
 use crate::elements::present_element;
 use crate::maps::present_text;
 use crate::roles::{puts_list, puts_map};
-use crate::written::{branch, branches, push_some, tagged};
-use doc_tree::{NodeNumber, Tree};
+use crate::written::{begin_branch, end_branch, put_values};
+use doc_tree::{EachChild, NodeNumber, Tree};
 use doc_words::ShownText;
 use json_scalar::Refusal;
+use json_text::JsonText;
 use lamport_id::Id;
-use op_core::{Cursor, Key, Path};
-use serde_json::Value;
+use op_core::{Cursor, Key, KeyText, Path};
 use std::alloc::Global;
 
 /// The compact JSON text of all that stands at a cursor and below it: an array of its branches. `AtHead` where the cursor
 /// stands at a head.
 pub fn show(alloc: Global, tree: &Tree, cursor: &Cursor) -> Result<ShownText, Refusal>
-    ensures { ReadsHere (ShowsText (tree_facts tree.now) (tree_values tree.now)) cursor.now result }
+    ensures { ReadsUnlessMemory (ShowsText (tree_facts tree.now) (tree_values tree.now)) cursor.now result }
 {
     if cursor.key.is_head() {
         return Err(Refusal::AtHead);
@@ -38,129 +41,177 @@ pub fn show(alloc: Global, tree: &Tree, cursor: &Cursor) -> Result<ShownText, Re
 }
 
 fn text_at(alloc: Global, tree: &Tree, path: &Path, key: &Key) -> Result<ShownText, Refusal>
-    ensures { Gives (ShowsText (tree_facts tree.now) (tree_values tree.now) path.now key.now) result }
+    ensures { GivesUnlessMemory (ShowsText (tree_facts tree.now) (tree_values tree.now) path.now key.now) result }
 {
-    let element = shown_at(alloc, tree, path, key)?;
-    let text = element.to_string(alloc)?;
-    Ok(ShownText::from(text))
+    let mut text = JsonText::new(alloc);
+    put_shown(alloc, &mut text, tree, path, key)?;
+    Ok(ShownText::from(text.into_string()))
 }
 
-fn shown_at(alloc: Global, tree: &Tree, path: &Path, key: &Key) -> Result<Value, Refusal>
-    ensures { Gives (λ json. IsShown tree.now path.now key.now (view json)) result }
+fn put_shown(
+    alloc: Global,
+    text: &mut JsonText,
+    tree: &Tree,
+    path: &Path,
+    key: &Key,
+) -> Result<(), Refusal>
+    ensures { GivesUnlessMemory (λ _. TellsOne (IsShown tree.now path.now key.now) text.old text.new) result }
 {
     match tree.node_at(path, key) {
-        None => branches(alloc, None, None, &[], &[]),
-        Some(at) => shown_below(alloc, tree, at),
+        None => text.empty_list(),
+        Some(at) => shown_below(alloc, text, tree, at),
     }
 }
 
 // The numbers of the nodes rise on the way down, so it ends.
 #[cycle(shown)]
-fn shown_below(alloc: Global, tree: &Tree, at: NodeNumber) -> Result<Value, Refusal>
-    ensures { Gives (λ json. AtNode tree.now at (λ p k. IsShown tree.now p k (view json))) result }
+fn shown_below(
+    alloc: Global,
+    text: &mut JsonText,
+    tree: &Tree,
+    at: NodeNumber,
+) -> Result<(), Refusal>
+    ensures { GivesUnlessMemory (λ _. TellsOne (λ d. AtNode tree.now at (λ p k. IsShown tree.now p k d)) text.old text.new) result }
 {
-    let members = map_below(alloc, tree, at)?;
-    let elements = list_below(alloc, tree, at)?;
-    branches(
-        alloc,
-        members,
-        elements,
-        tree.register_of(at),
-        tree.counter_of(at),
-    )
+    text.begin_list()?;
+    map_below(alloc, text, tree, at)?;
+    list_below(alloc, text, tree, at)?;
+    put_values(text, tree.register_of(at), tree.counter_of(at))?;
+    text.end_list()
 }
 
 /// The branch of the map at a node.
 #[cycle(shown)]
-fn map_below(alloc: Global, tree: &Tree, at: NodeNumber) -> Result<Option<Value>, Refusal>
-    ensures { Gives (λ part. AtNode tree.now at (λ p k. IsMapShown tree.now p k (listed (option_map view part)))) result }
+fn map_below(alloc: Global, text: &mut JsonText, tree: &Tree, at: NodeNumber) -> Result<(), Refusal>
+    ensures { GivesUnlessMemory (λ _. Tells (λ ds. AtNode tree.now at (λ p k. IsMapShown tree.now p k ds)) text.old text.new) result }
 {
-    let fields = fields_in(alloc, tree, at, tree.children_of(at))?;
-    branch(alloc, "map", fields, puts_map(tree.presence_of(at)))
+    let is_put = puts_map(tree.presence_of(at));
+    begin_branch(text, "map", is_put)?;
+    let is_begun = fields_in(alloc, text, tree, at, tree.children_of(at), is_put)?;
+    end_branch(text, is_begun)
 }
 
+/// The fields of a map's branch, and whether it is begun then.
 #[cycle(shown)]
 fn fields_in(
     alloc: Global,
+    text: &mut JsonText,
     tree: &Tree,
     at: NodeNumber,
-    children: &[(Key, NodeNumber)],
-) -> Result<Vec<Value>, Refusal>
-    requires these { children.now ≡ (node_of tree.now.0 at).children }
-    requires rising { IsRising children.now }
-    requires deeper { (k : Key) (n : NodeNumber) → Contains children.now (k, n)
+    children: EachChild<'_>,
+    was_begun: bool,
+) -> Result<bool, Refusal>
+    requires these { children ≡ (node_of tree.now.0 at).children }
+    requires rising { IsInKeyOrder children }
+    requires deeper { (k : Key) (n : NodeNumber) → Contains children (k, n)
         → (at.0 < n.0) × (n.0 < length tree.now.0) }
-    ensures { Gives (λ fields. AtNode tree.now at
-        (λ p k. AreFields tree.now (into_map p k) (texts_in children.now) (map view fields.items))) result }
+    ensures { GivesUnlessMemory (λ is_begun. TellsParts (codes "map") was_begun
+        (λ ds. AtNode tree.now at (λ p k. AreFields tree.now (into_map p k) (texts_in children.entry) ds)) text.old text.new is_begun) result }
 {
-    let mut fields = Vec::new(alloc);
+    let mut is_begun = was_begun;
     for child in children {
-        let field = field_at(alloc, tree, &child.0, child.1)?;
-        push_some(&mut fields, field)?;
+        is_begun = field_at(alloc, text, tree, &child.0, child.1, is_begun)?;
     }
-    Ok(fields)
+    Ok(is_begun)
 }
 
 /// A text and what is shown under it, if the key is a text and present.
 #[cycle(shown)]
-fn field_at(alloc: Global, tree: &Tree, key: &Key, at: NodeNumber) -> Result<Option<Value>, Refusal>
-    ensures { Gives (λ field. (map : List Tagged) → IsTextAt tree.now map key.now at
-        → AreFields tree.now map (texts_at key.now) (listed (option_map view field))) result }
+fn field_at(
+    alloc: Global,
+    text: &mut JsonText,
+    tree: &Tree,
+    key: &Key,
+    at: NodeNumber,
+    was_begun: bool,
+) -> Result<bool, Refusal>
+    ensures { GivesUnlessMemory (λ is_begun. TellsParts (codes "map") was_begun
+        (λ ds. (map : List Tagged) → IsTextAt tree.now map key.now at → AreFields tree.now map (texts_at key.now) ds) text.old text.new is_begun) result }
 {
     match present_text(tree, key, at) {
-        None => Ok(None),
-        Some(text) => {
-            let element = shown_below(alloc, tree, at)?;
-            let field = tagged(alloc, text.as_str(), element)?;
-            Ok(Some(field))
+        None => Ok(was_begun),
+        Some(name) => {
+            begin_branch(text, "map", !was_begun)?;
+            named_below(alloc, text, tree, name, at)?;
+            Ok(true)
         }
     }
 }
 
-/// The branch of the list at a node.
+/// A name and what is shown at a node.
 #[cycle(shown)]
-fn list_below(alloc: Global, tree: &Tree, at: NodeNumber) -> Result<Option<Value>, Refusal>
-    ensures { Gives (λ part. AtNode tree.now at (λ p k. IsListShown tree.now p k (listed (option_map view part)))) result }
+fn named_below(
+    alloc: Global,
+    text: &mut JsonText,
+    tree: &Tree,
+    name: &KeyText,
+    at: NodeNumber,
+) -> Result<(), Refusal>
+    ensures { GivesUnlessMemory (λ _. TellsOne (λ field. (d : Data) × AtNode tree.now at (λ p k. IsShown tree.now p k d)
+        × (field ≡ list_data (string name.now ∷ d ∷ []))) text.old text.new) result }
 {
-    let ids = tree.elements_of(alloc, at)?;
-    let elements = elements_at(alloc, tree, at, ids.as_slice())?;
-    branch(alloc, "list", elements, puts_list(tree.presence_of(at)))
+    text.begin_list()?;
+    text.text(name.as_str())?;
+    shown_below(alloc, text, tree, at)?;
+    text.end_list()
 }
 
+/// The branch of the list at a node.
+#[cycle(shown)]
+fn list_below(
+    alloc: Global,
+    text: &mut JsonText,
+    tree: &Tree,
+    at: NodeNumber,
+) -> Result<(), Refusal>
+    ensures { GivesUnlessMemory (λ _. Tells (λ ds. AtNode tree.now at (λ p k. IsListShown tree.now p k ds)) text.old text.new) result }
+{
+    let is_put = puts_list(tree.presence_of(at));
+    begin_branch(text, "list", is_put)?;
+    let ids = tree.elements_of(alloc, at)?;
+    let is_begun = elements_at(alloc, text, tree, at, ids.as_slice(), is_put)?;
+    end_branch(text, is_begun)
+}
+
+/// The elements of a list's branch, and whether it is begun then.
 #[cycle(shown)]
 fn elements_at(
     alloc: Global,
+    text: &mut JsonText,
     tree: &Tree,
     list: NodeNumber,
     ids: &[Id],
-) -> Result<Vec<Value>, Refusal>
-    ensures { Gives (λ elements. AtNode tree.now list
-        (λ p k. ShowsThose tree.now (into_list p k) ids.now (map view elements.items))) result }
+    was_begun: bool,
+) -> Result<bool, Refusal>
+    ensures { GivesUnlessMemory (λ is_begun. TellsParts (codes "list") was_begun
+        (λ ds. AtNode tree.now list (λ p k. ShowsThose tree.now (into_list p k) ids.now ds)) text.old text.new is_begun) result }
 {
-    let mut elements = Vec::new(alloc);
+    let mut is_begun = was_begun;
     for id in ids {
-        let element = element_at(alloc, tree, list, id)?;
-        push_some(&mut elements, element)?;
+        is_begun = element_at(alloc, text, tree, list, id, is_begun)?;
     }
-    Ok(elements)
+    Ok(is_begun)
 }
 
 /// What is shown at an element of the list at a node, if it is present.
 #[cycle(shown)]
 fn element_at(
     alloc: Global,
+    text: &mut JsonText,
     tree: &Tree,
     list: NodeNumber,
     id: &Id,
-) -> Result<Option<Value>, Refusal>
-    ensures { Gives (λ element. AtNode tree.now list
-        (λ p k. ShowsThose tree.now (into_list p k) (id.now ∷ []) (listed (option_map view element)))) result }
+    was_begun: bool,
+) -> Result<bool, Refusal>
+    ensures { GivesUnlessMemory (λ is_begun. TellsParts (codes "list") was_begun
+        (λ ds. AtNode tree.now list (λ p k. ShowsThose tree.now (into_list p k) (id.now ∷ []) ds)) text.old text.new is_begun) result }
 {
     match present_element(tree, list, id) {
-        None => Ok(None),
+        None => Ok(was_begun),
         Some(at) => {
-            let element = shown_below(alloc, tree, at)?;
-            Ok(Some(element))
+            begin_branch(text, "list", !was_begun)?;
+            shown_below(alloc, text, tree, at)?;
+            Ok(true)
         }
     }
 }

@@ -3,7 +3,8 @@ ghost use Rattle.std.specs.Prelude.{◌≡◌};
 ghost use Rattle.crdt_rules.specs.Effect as Effect;
 
 use crate::written::operation;
-use doc_tree::Tree;
+use doc_tree::{Entries, Tree};
+use doc_words::Role;
 use json_scalar::Refusal;
 use op_core::{Mutation, Operation};
 use std::alloc::Global;
@@ -38,13 +39,21 @@ fn tree_of(alloc: Global, texts: &[&str]) -> Result<Tree, Refusal> {
     Ok(tree)
 }
 
+fn number_of(entries: Entries<'_, Role>) -> usize {
+    let mut number: usize = 0;
+    for _ in entries {
+        number = number.saturating_add(1);
+    }
+    number
+}
+
 // How many operations make the place of another present, and how many scalars and numbers stand there.
 fn counts(alloc: Global, texts: &[&str], at: &str) -> Result<(usize, usize, usize), Refusal> {
     let tree = tree_of(alloc, texts)?;
     let op = operation(alloc, at)?;
     let place = op.cursor();
     Ok((
-        tree.present(&place.path, &place.key).len(),
+        number_of(tree.present(&place.path, &place.key)),
         tree.register(&place.path, &place.key).len(),
         tree.counter(&place.path, &place.key).len(),
     ))

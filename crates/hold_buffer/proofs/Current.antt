@@ -1,11 +1,9 @@
 -- What the buffer keeps of the log stays right.
-use Rattle.std.proofs.Common.{◌≡◌, ◌≢◌, ◌++◌, ◌∷◌, ◌==◌, ◌||◌, ◌↔◌, inl, inr, List, [], map, filter, not, Bool, true, false, Some, Contains, refl, sym, ap, subst, ◌∙◌, arith, true≢false}
-use Rattle.std.specs.Prelude.{IsPermutation}
-use Rattle.std.proofs.lemmas.Bool.{both_ways, cases_lt, not-true}
-use Rattle.list_laws.proofs.Members.{Contains-map, map-from}
+use Rattle.std.proofs.Common.{◌≡◌, ◌≢◌, ◌++◌, ◌∷◌, length, ◌==◌, ◌||◌, ◌↔◌, inl, inr, List, [], map, filter, not, Bool, true, false, Some, Contains, refl, sym, ap, subst, ◌∙◌, true≢false, arith, eqb-true}
+use Rattle.std.proofs.lemmas.Bool.{both_ways, not-true}
+use Rattle.list_laws.proofs.Members.{Contains-nil, Contains-here, Contains-map, map-from}
 use Rattle.std.proofs.lemmas.List.Elements.{Contains-append_left, Contains-append_right, Contains-append_cases}
 use Rattle.std.proofs.lemmas.List.Folds.{list_any-append}
-use Rattle.std.proofs.lemmas.List.Sorted.{IsPermutation-sym, Contains-permutation}
 use Rattle.slab.specs.Slab.{Slab, get}
 use Rattle.doc_words.specs.Words.{Id, Op}
 use Rattle.op_core.specs.Front.{id_of}
@@ -16,13 +14,11 @@ use Rattle.crdt_rules.proofs.SameLaws.{id_decides, eq_comm, bool_ext}
 use Rattle.crdt_rules.proofs.Tests.{all_at, all_from}
 use Rattle.list_laws.proofs.Filters.{filter-Contains, Contains-filter}
 use Rattle.doc_rules.proofs.Held.{put_among_from}
-use Rattle.hold_buffer.specs.Held.{IsCurrent}
-use Rattle.hold_buffer.specs.Order.{operations_of, IsOrdered, IsIndexed, count_waits, waits_for, wait_of}
+use Rattle.hold_buffer.specs.Held.{IsCurrent, Wait}
+use Rattle.hold_buffer.specs.Order.{operations_of, IsOrdered, waits_of, waits_for, wait_of}
 use Rattle.hold_buffer.specs.declared.ticket.Ticket.{Ticket}
-use Rattle.hold_buffer.specs.declared.wait.Wait.{Wait}
-use Rattle.hold_buffer.proofs.WaitLists.{count-some, count-one}
-use Rattle.hold_buffer.proofs.Counting.{zero_test, some_test}
-use Rattle.hold_buffer.proofs.Waiting.{operations-at}
+use Rattle.hold_buffer.proofs.Waits.{waits-at, waits-from, same_ticket}
+use Rattle.hold_buffer.proofs.Waiting.{operations-at, ticket_id}
 
 -- ---- readiness is that nothing is lacked
 
@@ -40,35 +36,47 @@ lacks_none_ready op log none = all_from (λ e. is_logged log (id_of e)) op.front
     by i c true e = refl
     by i c false e = absurd (none i (Contains-filter (λ j. not (is_logged log j)) (map id_of op.front) c (ap not e)))
 
--- a ticket waits for no id exactly if its operation is ready
-pub ready_test : {slots : Slab Op} {order : List Ticket} {waits : List Wait} {ready : List Id} → IsOrdered slots order → IsIndexed order waits ready
-    → (log : List Op) → IsCurrent (record { held = operations_of slots order; waits = waits }) log
-    → (t : Ticket) → Contains order t → (o : Op) × (get slots t.key ≡ Some o) × (o.id ≡ t.id) × (is_ready o log ≡ (t.missing == 0))
+-- ---- what the tickets lack
+
+-- a ticket lacks what its operation is missing
+pub lacking : {slots : Slab Op} {order : List Ticket} → IsOrdered slots order → (log : List Op) → IsCurrent (record { held = operations_of slots order; waits = waits_of order }) log
+    → (t : Ticket) → Contains order t → (o : Op) → get slots t.key ≡ Some o → (i : Id) → Contains t.lacks i ↔ Contains (missing o log) i
 unfolding IsCurrent
-ready_test {slots} {order} {waits} ordered indexed log current t c = (r.0, r.1, r.2, bool_ext (is_ready r.0 log) (t.missing == 0) ready_free free_ready)
+lacking {slots} {order} ordered log current t c o at i = (
+  (λ lacked. (current o held i).0 (subst (λ (w : Id). Contains (waits_of order) (wait_of i w)) (sym name) (waits-at order c i lacked))),
+  (λ missed.
+      let u = waits-from order ((current o held i).1 missed) in
+      subst (λ (v : Ticket). Contains v.lacks i) (same_ticket order ordered.rising u.1 c (u.3 ∙ name)) u.2),
+)
   where
-    r : (o : Op) × (get slots t.key ≡ Some o) × (o.id ≡ t.id)
-    r = ordered.right t c
+    held : Contains (operations_of slots order) o
+    held = operations-at slots order ordered.right t o c at
 
-    held : Contains (operations_of slots order) r.0
-    held = operations-at slots order ordered.right t r.0 c r.1
+    name : o.id ≡ t.id
+    name = ticket_id slots order ordered.right t o c at
 
-    ready_free : is_ready r.0 log ≡ true → (t.missing == 0) ≡ true
-    ready_free ready =
-        elim (cases_lt 0 (count_waits t.id waits)) [
-          | inl some ↦
-              let w = count-some t.id waits some in
-              absurd (ready_lacks_none r.0 log ready (w.0).awaited
-              ((current r.0 held (w.0).awaited).0 (subst (λ j. Contains waits (wait_of (w.0).awaited j)) (w.2 ∙ sym r.2) w.1)))
-          | inr few ↦ zero_test t.missing (let was = indexed.counted t c in omega (arith, was, few))
-        ]
+empty_test : (ids : List Id) → (length ids == 0) ≡ true → (i : Id) → ¬ (Contains ids i)
+empty_test [] h i c = Contains-nil c
+empty_test (j ∷ ids) h i c = let none : length (j ∷ ids) ≡ 0 = eqb-true (length (j ∷ ids)) 0 h in absurd (omega (arith, none))
 
-    free_ready : (t.missing == 0) ≡ true → is_ready r.0 log ≡ true
-    free_ready free =
-        lacks_none_ready r.0 log
-        (λ i lacked.
-        let some = count-one t.id waits (wait_of i (r.0).id) ((current r.0 held i).1 lacked) r.2 in
-        both_ways (t.missing == 0) (some_test t.missing (let was = indexed.counted t c in omega (arith, was, some))) free)
+none_test : (ids : List Id) → ((i : Id) → ¬ (Contains ids i)) → (length ids == 0) ≡ true
+none_test [] none = refl
+none_test (j ∷ ids) none = absurd (none j (Contains-here ids refl))
+
+-- it lacks nothing exactly if its operation is ready
+pub ready_test : {slots : Slab Op} {order : List Ticket} → IsOrdered slots order → (log : List Op)
+    → IsCurrent (record { held = operations_of slots order; waits = waits_of order }) log
+    → (t : Ticket) → Contains order t → (o : Op) × (get slots t.key ≡ Some o) × (o.id ≡ t.id) × (is_ready o log ≡ (length t.lacks == 0))
+ready_test {slots} {order} ordered log current t c =
+    let r = ordered.right t c in
+    let same = lacking ordered log current t c r.0 r.1 in (
+      r.0,
+      r.1,
+      r.2,
+      bool_ext (is_ready r.0 log) (length t.lacks == 0)
+          (λ ready. none_test t.lacks (λ i lacked. ready_lacks_none r.0 log ready i ((same i).0 lacked)))
+          (λ free. lacks_none_ready r.0 log (λ i missed. empty_test t.lacks free i ((same i).1 missed))),
+    )
 
 -- ---- one more is logged
 
@@ -112,7 +120,8 @@ current-removed held waits log id current o c i =
 
 -- ---- one more is held
 
-pub current-held : (held : List Op) (waits more : List Wait) (log : List Op) (op : Op) → IsPermutation (waits ++ waits_for (missing op log) op.id) more
+pub current-held : (held : List Op) (waits more : List Wait) (log : List Op) (op : Op)
+    → ((w : Wait) → Contains more w ↔ Contains (waits ++ waits_for (missing op log) op.id) w)
     → ((w : Wait) → Contains waits w → w.waiter ≢ op.id) → ((o : Op) → Contains held o → o.id ≢ op.id) → IsCurrent (record { held = held; waits = waits }) log
     → IsCurrent (record { held = put_among op held; waits = more }) log
 unfolding IsCurrent
@@ -120,7 +129,7 @@ current-held held waits more log op moved new_waiter new_id current o c =
     elim (put_among_from op held c) [ inl here ↦ subst (λ (z : Op). (i : Id) → Contains more (wait_of i z.id) ↔ Contains (missing z log) i) here own | inr there ↦ other o there ]
   where
     parts : (w : Wait) → Contains more w → Contains (waits ++ waits_for (missing op log) op.id) w
-    parts w = Contains-permutation more (waits ++ waits_for (missing op log) op.id) w (IsPermutation-sym (waits ++ waits_for (missing op log) op.id) more moved)
+    parts w = (moved w).0
 
     own : (i : Id) → Contains more (wait_of i op.id) ↔ Contains (missing op log) i
     own i = (
@@ -132,7 +141,7 @@ current-held held waits more log op moved new_waiter new_id current o c =
                 subst (Contains (missing op log)) (ap (λ (w : Wait). w.awaited) r.2) r.1
           ]),
       (λ lacked.
-          Contains-permutation (waits ++ waits_for (missing op log) op.id) more (wait_of i op.id) moved
+          (moved (wait_of i op.id)).1
           (Contains-append_right waits (waits_for (missing op log) op.id) (wait_of i op.id) (Contains-map (λ (j : Id). wait_of j op.id) (missing op log) lacked))),
     )
 
@@ -146,6 +155,6 @@ current-held held waits more log op moved new_waiter new_id current o c =
                 absurd (new_id o c (sym (ap (λ (w : Wait). w.waiter) r.2)))
           ]),
       (λ lacked.
-          Contains-permutation (waits ++ waits_for (missing op log) op.id) more (wait_of i o.id) moved
+          (moved (wait_of i o.id)).1
           (Contains-append_left waits (waits_for (missing op log) op.id) (wait_of i o.id) ((current o c i).1 lacked))),
     )

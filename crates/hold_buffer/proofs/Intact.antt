@@ -1,105 +1,170 @@
 -- All that a buffer keeps, after each change.
-use Rattle.std.proofs.Common.{◌≡◌, ℕ, ◌<◌, ◌≤◌, ◌+◌, ◌++◌, ◌∷◌, List, [], length, filter, take, drop, not, true, false, refl, sym, ap, subst, ◌∙◌, arith}
-use Rattle.std.specs.Prelude.{insert, IsPermutation}
-use Rattle.std.specs.Ordering.{is_lt}
-use Rattle.std.specs.List.Sorted.{IsPartitionPoint}
-use Rattle.std.proofs.lemmas.List.{length-append, take-append-drop}
-use Rattle.slab.specs.Slab.{Slab}
-use Rattle.doc_words.specs.Words.{id_cmp, Id, Op}
+use Rattle.std.proofs.Common.{◌≡◌, ℕ, ◌++◌, ◌∷◌, inl, inr, List, [], map, filter, not, true, cond, Bool, false, Option, Some, refl, sym, ap, subst, ◌∙◌, Contains, find, Less}
+use Rattle.std.specs.Prelude.{insert, ◌↔◌}
+use Rattle.std.specs.Option.{option_map}
+use Rattle.std.specs.List.{cons_option}
+use Rattle.slab.specs.Slab.{Slab, get}
+use Rattle.doc_words.specs.Words.{id_cmp, name_cmp, Id, Op}
+use Rattle.op_core.specs.Front.{id_of, is_ascending}
 use Rattle.crdt_rules.specs.Same.{id_eq}
-use Rattle.crdt_rules.specs.Dependencies.{is_ready, missing}
+use Rattle.crdt_rules.specs.Dependencies.{is_logged, missing}
 use Rattle.doc_rules.specs.Replica.{put_among}
-use Rattle.doc_rules.proofs.FromLog.{lacks_something}
-use Rattle.list_laws.proofs.Filters.{length-filter}
+use Rattle.doc_rules.specs.Sorted.{IsRising}
+use Rattle.doc_rules.proofs.Held.{put_among_from}
+use Rattle.doc_rules.proofs.OneAnswer.{name_order}
+use Rattle.list_laws.proofs.Members.{Contains-here, Contains-there, Contains-insert_cases, map-from}
+use Rattle.list_laws.proofs.Filters.{filter-Contains}
 use Rattle.sorted_lists.specs.Sorted.{IsGap}
-use Rattle.hold_buffer.specs.Held.{Buffer, IsCurrent}
-use Rattle.hold_buffer.specs.Order.{operations_of, IsOrdered, HoldAlike, AreSorted, IsIndexed, IsIntact, waits_for}
+use Rattle.sorted_lists.proofs.Rising.{rising-filter, rising_same}
+use Rattle.hold_buffer.specs.Held.{Buffer, Wait, IsCurrent}
+use Rattle.hold_buffer.specs.Order.{operations_of, waits_of, waits_for, IsOrdered, AreNamed, IsIntact, lacks_no_more}
 use Rattle.hold_buffer.specs.declared.ticket.Ticket.{Ticket}
-use Rattle.hold_buffer.specs.declared.wait.Wait.{Wait}
-use Rattle.hold_buffer.proofs.WaitLists.{sorted-filter, without_run}
-use Rattle.hold_buffer.proofs.Counting.{indexed-held, indexed-removed, no_waits}
-use Rattle.hold_buffer.proofs.Current.{current-logged, current-removed, current-held}
-use Rattle.hold_buffer.proofs.Waiting.{same_state, no_held}
+use Rattle.hold_buffer.proofs.Current.{current-logged, current-removed, current-held, lacking}
+use Rattle.hold_buffer.proofs.Names.{rising_ids}
+use Rattle.hold_buffer.proofs.Waiting.{no_held, operations-at}
+use Rattle.hold_buffer.proofs.Waits.{waits-without, waits-removed, waits-insert, no_waits}
 
-abbrev pub shown : Slab Op → List Ticket → List Wait → Buffer
-shown slots order waits = record { held = operations_of slots order; waits = waits }
+abbrev pub shown : Slab Op → List Ticket → Buffer
+shown slots order = record { held = operations_of slots order; waits = waits_of order }
 
 -- more room changes nothing
-pub grown : {old new : Slab Op} {order order' : List Ticket} {waits waits' : List Wait} {ready ready' : List Id} {room room' capacity : ℕ} → IsIntact old order waits ready room
-    → new ≡ record old { capacity = capacity } → order' ≡ order → waits' ≡ waits → ready' ≡ ready → room ≤ room' → IsIntact new order' waits' ready' room'
-grown {old} {new} {order} {order'} {waits} {waits'} {ready} {ready'} {room} {room'} is slots tickets same free more = record {
-  ordered = same_state is.ordered slots tickets;
-  sorted = subst AreSorted (sym same) is.sorted;
-  indexed = subst (λ (o : List Ticket). IsIndexed o waits' ready') (sym tickets) (subst (λ (w : List Wait). IsIndexed order w ready') (sym same) (subst (IsIndexed order waits) (sym free) is.indexed));
-  enough = subst (λ (o : List Ticket). length o ≤ room') (sym tickets) (let few = is.enough in omega (arith, few, more));
-}
+pub grown : {old new : Slab Op} {order order' : List Ticket} {capacity : ℕ} → IsIntact old order → new ≡ record old { capacity = capacity } → order' ≡ order → IsIntact new order'
+grown {old} {new} {order} {order'} {capacity} is slots tickets =
+    subst (λ (s : Slab Op). IsIntact s order') (sym slots)
+    (subst (IsIntact (record old { capacity = capacity })) (sym tickets)
+    (record { ordered = record { rising = is.ordered.rising; right = is.ordered.right }; named = is.named; ascending = is.ascending }))
 
-pub some_missing : (op : Op) (log : List Op) → is_ready op log ≡ false → 0 < length (missing op log)
-some_missing op log waits = by (missing op log) (lacks_something op log waits)
-  where
-    by : (ids : List Id) → ¬ (ids ≡ []) → 0 < length ids
-    by [] some = absurd (some refl)
-    by (i ∷ ids) some = omega arith
+-- ---- one more is held
 
--- one more is held, which waits for these ids
-pub held-intact : {old new : Slab Op} {order order' : List Ticket} {waits more : List Wait} {ready : List Id} {room : ℕ} → IsIntact old order waits ready room
-    → IsOrdered new order' → AreSorted more → (ids : List Id) (t : Ticket) (at : ℕ) → order' ≡ insert order at t → t.missing ≡ length ids → 0 < length ids
-    → IsGap id_cmp (λ u. u.id) order t.id at → IsPermutation (waits ++ waits_for ids t.id) more → length order + 1 ≤ room → IsIntact new order' more ready room
-held-intact {order = order} {order'} {waits} {more} {ready} {room} is ordered sorted ids t at put number some gap moved enough = record {
+pub rising_missing : (op : Op) (log : List Op) → is_ascending op.front ≡ true → IsRising name_cmp (λ i. i.replica) (missing op log)
+rising_missing op log ascends = rising-filter name_cmp (λ i. i.replica) (λ i. not (is_logged log i)) (map id_of op.front) (rising_ids op.front ascends)
+
+pub held-intact : {old new : Slab Op} {order order' : List Ticket} → IsIntact old order → IsOrdered new order' → (log : List Op) (op : Op) (at : ℕ) (t : Ticket)
+    → order' ≡ insert order at t → t.lacks ≡ missing op log → is_ascending op.front ≡ true → operations_of new order' ≡ put_among op (operations_of old order) → IsIntact new order'
+held-intact {old} {new} {order} {order'} is ordered log op at t put lacks ascends held = record {
   ordered = ordered;
-  sorted = sorted;
-  indexed = subst (λ (o : List Ticket). IsIndexed o more ready) (sym put) (indexed-held order waits more ready ids at t is.indexed gap number some moved);
-  enough = subst (λ (o : List Ticket). length o ≤ room) (sym put)
-      (let whole = length-append (take at order) (t ∷ drop at order) in let parts = length-append (take at order) (drop at order) in
-      let same = ap length (take-append-drop at order) in omega (arith, whole, parts, same, enough));
+  named = subst AreNamed (sym put)
+      (λ u c.
+      elim (Contains-insert_cases order at t c) [
+        | inl here ↦ subst (λ (v : Ticket). IsRising name_cmp (λ i. i.replica) v.lacks) here
+            (subst (IsRising name_cmp (λ i. i.replica)) (sym lacks) (rising_missing op log ascends))
+        | inr there ↦ is.named u there
+      ]);
+  ascending = λ o c.
+      elim (put_among_from op (operations_of old order) (subst (λ l. Contains l o) held c)) [
+        | inl here ↦ subst (λ (p : Op). is_ascending p.front ≡ true) here ascends
+        | inr there ↦ is.ascending o there
+      ];
 }
 
--- the waits for one id are no more
-module _ {slots : Slab Op} {order order' : List Ticket} {waits waits' : List Wait} {ready ready' : List Id} {room room' : ℕ} (is : IsIntact slots order waits ready room) (id : Id) (s e : ℕ)
-    (low : s ≤ length waits) (high : e ≤ length waits)
-    (start : IsPartitionPoint (λ w. is_lt (id_cmp w.awaited id) ≡ true) (λ w. is_lt (id_cmp w.awaited id) ≡ false) waits s)
-    (end : IsPartitionPoint (λ w. is_lt (id_cmp id w.awaited) ≡ false) (λ w. is_lt (id_cmp id w.awaited) ≡ true) waits e)
-    (indexed : IsIndexed order' (take s waits ++ drop e waits) ready') (alike : HoldAlike order order') (len : length order' ≡ length order) (same : room' ≡ room)
-    (cut : waits' ≡ take s waits ++ drop e waits) where
-  pub logged-intact : IsIntact slots order' waits' ready' room'
-  logged-intact = record {
-    ordered = (alike slots is.ordered).0;
-    sorted = subst AreSorted (sym (cut ∙ without_run id waits s e low high start end)) (sorted-filter (λ w. not (id_eq w.awaited id)) waits is.sorted);
-    indexed = subst (λ (w : List Wait). IsIndexed order' w ready') (sym cut) indexed;
-    enough = let few = is.enough in omega (arith, len, few, same);
-  }
+pub held-now : (old new : Slab Op) (order order' : List Ticket) → IsOrdered old order → (log : List Op) (op : Op) (at : ℕ) (t : Ticket)
+    → IsGap id_cmp (λ t. t.id) order op.id at → order' ≡ insert order at t → t.id ≡ op.id → t.lacks ≡ missing op log
+    → operations_of new order' ≡ put_among op (operations_of old order) → IsCurrent (shown old order) log → IsCurrent (shown new order') log
+held-now old new order order' is log op at t gap put name lacks held current =
+    subst (λ (b : Buffer). IsCurrent b log) (sym (λ i. record { held = held i; waits = waits_of (put i) }))
+    (current-held (operations_of old order) (waits_of order) (waits_of (insert order at t)) log op
+    (subst (λ (l : List Id). (w : Wait) → Contains (waits_of (insert order at t)) w ↔ Contains (waits_of order ++ waits_for l op.id) w) lacks
+    (subst (λ (n : Id). (w : Wait) → Contains (waits_of (insert order at t)) w ↔ Contains (waits_of order ++ waits_for t.lacks n) w) name (waits-insert order at t)))
+    (no_waits order op.id at gap) (no_held is op.id at gap) current)
 
-  pub logged-current : (log : List Op) (op : Op) → op.id ≡ id → IsCurrent (shown slots order waits) log → IsCurrent (shown slots order' waits') (log ++ op ∷ [])
-  logged-current log op name current =
-      let left : waits' ≡ filter (λ w. not (id_eq w.awaited op.id)) waits =
-      cut ∙ without_run id waits s e low high start end ∙ ap (λ (i : Id). filter (λ (w : Wait). not (id_eq w.awaited i)) waits) (sym name) in
-      let held = (alike slots is.ordered).1 in
-      subst (λ (b : Buffer). IsCurrent b (log ++ op ∷ [])) (sym (λ i. record { held = held i; waits = left i })) (current-logged (operations_of slots order) waits log op current)
+-- ---- an id is lacked no more
 
--- one is let go
-module _ {old new : Slab Op} {order order' : List Ticket} {waits waits' : List Wait} {ready ready' : List Id} {room room' : ℕ} (is : IsIntact old order waits ready room) (id : Id)
-    (ordered : IsOrdered new order') (tickets : order' ≡ filter (λ t. not (id_eq t.id id)) order) (left : waits' ≡ filter (λ w. not (id_eq w.waiter id)) waits)
-    (free : ready' ≡ filter (λ i. not (id_eq i id)) ready) (same : room' ≡ room) where
-  pub removed-intact : IsIntact new order' waits' ready' room'
+operations-without : (slots : Slab Op) (id : Id) (order : List Ticket) → operations_of slots (map (lacks_no_more id) order) ≡ operations_of slots order
+operations-without slots id [] = refl
+operations-without slots id (t ∷ order) = ap (cons_option (get slots t.key)) (operations-without slots id order)
+
+rising-without : (id : Id) (order : List Ticket) → IsRising id_cmp (λ t. t.id) order → IsRising id_cmp (λ t. t.id) (map (lacks_no_more id) order)
+rising-without id [] rising = tt
+rising-without id (t ∷ order) rising = (
+  (λ u c. let r = map-from (lacks_no_more id) order c in subst (λ (v : Ticket). id_cmp t.id v.id ≡ Less) r.2 (rising.0 r.0 r.1)),
+  rising-without id order rising.1,
+)
+
+pub logged-intact : {slots : Slab Op} {order order' : List Ticket} → IsIntact slots order → (id : Id) → order' ≡ map (lacks_no_more id) order → IsIntact slots order'
+logged-intact {slots} {order} is id tickets =
+    subst (IsIntact slots) (sym tickets)
+    (record {
+      ordered = record {
+        rising = rising-without id order is.ordered.rising;
+        right = λ t c.
+            let r = map-from (lacks_no_more id) order c in
+            subst (λ (v : Ticket). (op : Op) × (get slots v.key ≡ Some op) × (op.id ≡ v.id)) r.2 (is.ordered.right r.0 r.1);
+      };
+      named = λ t c.
+          let r = map-from (lacks_no_more id) order c in
+          subst (λ (v : Ticket). IsRising name_cmp (λ i. i.replica) v.lacks) r.2
+          (rising-filter name_cmp (λ i. i.replica) (λ i. not (id_eq i id)) (r.0).lacks (is.named r.0 r.1));
+      ascending = λ o c. is.ascending o (subst (λ l. Contains l o) (operations-without slots id order) c);
+    })
+
+pub logged-held : (slots : Slab Op) (id : Id) (order order' : List Ticket) → order' ≡ map (lacks_no_more id) order → operations_of slots order' ≡ operations_of slots order
+logged-held slots id order order' tickets = ap (operations_of slots) tickets ∙ operations-without slots id order
+
+pub logged-current : (slots : Slab Op) (id : Id) (order order' : List Ticket) → order' ≡ map (lacks_no_more id) order → (log : List Op) (op : Op) → op.id ≡ id
+    → IsCurrent (shown slots order) log → IsCurrent (shown slots order') (log ++ op ∷ [])
+logged-current slots id order order' tickets log op name current =
+    let held = logged-held slots id order order' tickets in
+    let left : waits_of order' ≡ filter (λ w. not (id_eq w.awaited op.id)) (waits_of order) =
+    ap waits_of tickets ∙ waits-without id order ∙ ap (λ (i : Id). filter (λ (w : Wait). not (id_eq w.awaited i)) (waits_of order)) (sym name) in
+    subst (λ (b : Buffer). IsCurrent b (log ++ op ∷ [])) (sym (λ i. record { held = held i; waits = left i }))
+    (current-logged (operations_of slots order) (waits_of order) log op current)
+
+-- ---- one is let go
+
+module _ {old new : Slab Op} {order order' : List Ticket} (is : IsIntact old order) (id : Id) (ordered : IsOrdered new order')
+    (tickets : order' ≡ filter (λ t. not (id_eq t.id id)) order) (held : operations_of new order' ≡ filter (λ o. not (id_eq o.id id)) (operations_of old order)) where
+  pub removed-intact : IsIntact new order'
   removed-intact = record {
     ordered = ordered;
-    sorted = subst AreSorted (sym left) (sorted-filter (λ w. not (id_eq w.waiter id)) waits is.sorted);
-    indexed = subst (λ (o : List Ticket). IsIndexed o waits' ready') (sym tickets)
-        (subst (λ (w : List Wait). IsIndexed (filter (λ (t : Ticket). not (id_eq t.id id)) order) w ready') (sym left)
-        (subst (IsIndexed (filter (λ (t : Ticket). not (id_eq t.id id)) order) (filter (λ (w : Wait). not (id_eq w.waiter id)) waits)) (sym free) (indexed-removed id is.indexed)));
-    enough = subst (λ (o : List Ticket). length o ≤ room') (sym tickets)
-        (let fewer = length-filter (λ (t : Ticket). not (id_eq t.id id)) order in let few = is.enough in omega (arith, fewer, few, same));
+    named = subst AreNamed (sym tickets) (λ t c. is.named t (filter-Contains (λ (u : Ticket). not (id_eq u.id id)) order c).0);
+    ascending = λ o c. is.ascending o (filter-Contains (λ (p : Op). not (id_eq p.id id)) (operations_of old order) (subst (λ l. Contains l o) held c)).0;
   }
 
-  pub removed-current : (operations_of new order' ≡ filter (λ o. not (id_eq o.id id)) (operations_of old order)) → (log : List Op) → IsCurrent (shown old order waits) log
-      → IsCurrent (shown new order' waits') log
-  removed-current held log current =
-      subst (λ (b : Buffer). IsCurrent b log) (sym (λ i. record { held = held i; waits = left i })) (current-removed (operations_of old order) waits log id current)
+  pub removed-current : (log : List Op) → IsCurrent (shown old order) log → IsCurrent (shown new order') log
+  removed-current log current =
+      subst (λ (b : Buffer). IsCurrent b log) (sym (λ i. record { held = held i; waits = (ap waits_of tickets ∙ waits-removed id order) i }))
+      (current-removed (operations_of old order) (waits_of order) log id current)
 
--- one more is held
-pub held-now : (old new : Slab Op) (order order' : List Ticket) (waits more : List Wait) {ready : List Id} {room : ℕ} → IsIntact old order waits ready room → (log : List Op) (op : Op) (at : ℕ)
-    → IsGap id_cmp (λ t. t.id) order op.id at → operations_of new order' ≡ put_among op (operations_of old order) → IsPermutation (waits ++ waits_for (missing op log) op.id) more
-    → IsCurrent (shown old order waits) log → IsCurrent (shown new order' more) log
-held-now old new order order' waits more is log op at gap held moved current =
-    subst (λ (b : Buffer). IsCurrent b log) (sym (λ i. record { held = held i; waits = more }))
-    (current-held (operations_of old order) waits more log op moved (no_waits is.indexed op.id at gap) (no_held is.ordered op.id at gap) current)
+-- ---- what is told of the tickets
+
+-- the first operation that passes is that of the first ticket that does
+pub find_tickets : (slots : Slab Op) (order : List Ticket) (p : Op → Bool) (q : Ticket → Bool)
+    → ((t : Ticket) → Contains order t → (o : Op) × (get slots t.key ≡ Some o) × (o.id ≡ t.id) × (p o ≡ q t))
+    → option_map (λ t. t.id) (find q order) ≡ option_map (λ o. o.id) (find p (operations_of slots order))
+find_tickets slots [] p q each = refl
+find_tickets slots (t ∷ order) p q each =
+    let here = each t (Contains-here order refl) in
+    by here.0 here.1 here.2 (q t) here.3 (find_tickets slots order p q (λ u c. each u (Contains-there t order c)))
+  where
+    by : (o : Op) → get slots t.key ≡ Some o → o.id ≡ t.id → (b : Bool) → p o ≡ b
+        → option_map (λ t. t.id) (find q order) ≡ option_map (λ o. o.id) (find p (operations_of slots order))
+        → option_map (λ t. t.id) (cond b (Some t) (find q order)) ≡ option_map (λ o. o.id) (find p (operations_of slots (t ∷ order)))
+    by o at name true same ih =
+        sym (ap (λ (x : Option Op). option_map (λ (o : Op). o.id) (find p (cons_option x (operations_of slots order)))) at
+        ∙ ap (λ b. option_map (λ (o : Op). o.id) (cond b (Some o) (find p (operations_of slots order)))) same
+        ∙ ap (λ (i : Id). Some i) name)
+    by o at name false same ih =
+        ih ∙ sym (ap (λ (x : Option Op). option_map (λ (o : Op). o.id) (find p (cons_option x (operations_of slots order)))) at
+        ∙ ap (λ b. option_map (λ (o : Op). o.id) (cond b (Some o) (find p (operations_of slots order)))) same)
+
+-- a ticket has the ids that its operation is missing
+pub lacks_missing : {slots : Slab Op} {order : List Ticket} → IsIntact slots order → (log : List Op) → IsCurrent (shown slots order) log → (t : Ticket) → Contains order t
+    → (o : Op) → get slots t.key ≡ Some o → t.lacks ≡ missing o log
+lacks_missing {slots} {order} is log current t c o at =
+    let same = lacking is.ordered log current t c o at in
+    rising_same name_order (λ (i : Id). i.replica) t.lacks (missing o log) (is.named t c)
+    (rising_missing o log (is.ascending o (operations-at slots order is.ordered.right t o c at))) (λ i. (same i).0) (λ i. (same i).1)
+
+pub told_lacks : {slots : Slab Op} {order : List Ticket} → IsIntact slots order → (log : List Op) → IsCurrent (shown slots order) log
+    → map {B = Id × List Id} (λ t. (t.id, t.lacks)) order ≡ map {B = Id × List Id} (λ o. (o.id, missing o log)) (operations_of slots order)
+told_lacks {slots} {order} is log current = go order (λ t c. c)
+  where
+    go : (ts : List Ticket) → ((t : Ticket) → Contains ts t → Contains order t)
+        → map {B = Id × List Id} (λ t. (t.id, t.lacks)) ts ≡ map {B = Id × List Id} (λ o. (o.id, missing o log)) (operations_of slots ts)
+    go [] within = refl
+    go (t ∷ ts) within =
+        let c = within t (Contains-here ts refl) in
+        let r = is.ordered.right t c in
+        let lacks = lacks_missing is log current t c r.0 r.1 in
+        (λ i. (sym r.2 i, lacks i) ∷ go ts (λ u d. within u (Contains-there t ts d)) i)
+        ∙ ap (λ (x : Option Op). map {B = Id × List Id} (λ (o : Op). (o.id, missing o log)) (cons_option x (operations_of slots ts))) (sym r.1)

@@ -74,7 +74,7 @@ operations-at slots (u ∷ order) right t op c at =
     ])
 
 -- the id of an operation is that of its ticket
-ticket_id : (slots : Slab Op) (order : List Ticket) → AreRight slots order → (t : Ticket) (op : Op) → Contains order t → get slots t.key ≡ Some op → op.id ≡ t.id
+pub ticket_id : (slots : Slab Op) (order : List Ticket) → AreRight slots order → (t : Ticket) (op : Op) → Contains order t → get slots t.key ≡ Some op → op.id ≡ t.id
 ticket_id slots order right t op c at = let r = right t c in ap (λ (o : Op). o.id) (some_same (sym at ∙ r.1)) ∙ r.2
 
 pub rising-operations : (slots : Slab Op) (order : List Ticket) → IsOrdered slots order → IsRising id_cmp (λ o. o.id) (operations_of slots order)
@@ -118,9 +118,9 @@ module _ {slots : Slab Op} {order : List Ticket} (is : IsOrdered slots order) wh
 
   pub held_at : (id : Id) (i : ℕ) → IsPlace id_cmp (λ u. u.id) order id i → is_logged (operations_of slots order) id ≡ true
   held_at id i place =
-      let t = get_or order i (record { id = id; key = 0; missing = 0 }) in
-      let r = is.right t (Contains-get_or order i (record { id = id; key = 0; missing = 0 }) place.within) in
-      let first : get_or order i t ≡ t = read_within order i t (record { id = id; key = 0; missing = 0 }) place.within in
+      let t = get_or order i (record { id = id; key = 0; lacks = [] }) in
+      let r = is.right t (Contains-get_or order i (record { id = id; key = 0; lacks = [] }) place.within) in
+      let first : get_or order i t ≡ t = read_within order i t (record { id = id; key = 0; lacks = [] }) place.within in
       is_logged-find_id (operations_of slots order) id ∙ ap (λ (o : Option Op). is_some o) (sym (found_at id i t place (sym first)) ∙ r.1)
 
   pub not_held : (id : Id) (i : ℕ) → IsGap id_cmp (λ u. u.id) order id i → is_logged (operations_of slots order) id ≡ false
@@ -143,10 +143,10 @@ put-between (u ∷ us) vs op below above =
     rw (not_less_back id_order u.id op.id (below u (Contains-here us refl)))
     (ap (λ l. u ∷ l) (put-between us vs op (λ o c. below o (Contains-there u us c)) above))
 
-module _ {old new : Slab Op} {order : List Ticket} (is : IsOrdered old order) (op : Op) (key number i : ℕ)
+module _ {old new : Slab Op} {order : List Ticket} (is : IsOrdered old order) (op : Op) (key i : ℕ) (ids : List Id)
     (gap : IsGap id_cmp (λ t. t.id) order op.id i) (vacant : get old key ≡ None) (updates : Updates old new key (Some op)) where
   abbrev added : Ticket
-  added = record { id = op.id; key = key; missing = number }
+  added = record { id = op.id; key = key; lacks = ids }
 
   others_stay : (t : Ticket) → Contains order t → get new t.key ≡ get old t.key
   others_stay t c =
@@ -169,7 +169,7 @@ module _ {old new : Slab Op} {order : List Ticket} (is : IsOrdered old order) (o
       subst (λ j. id_cmp op.id j ≡ Less) (sym (ticket_id old (drop i order) right u.0 o u.1 u.2)) (gap.greater_behind u.0 u.1)
 
   -- one more operation, under a key that was free
-  pub operations-insert : operations_of new (insert order i (record { id = op.id; key = key; missing = number })) ≡ put_among op (operations_of old order)
+  pub operations-insert : operations_of new (insert order i (record { id = op.id; key = key; lacks = ids })) ≡ put_among op (operations_of old order)
   operations-insert =
       let before : operations_of new (take i order) ≡ operations_of old (take i order) =
       operations-same old new (take i order) (λ t c. others_stay t (Contains-take i order c)) in
@@ -180,7 +180,7 @@ module _ {old new : Slab Op} {order : List Ticket} (is : IsOrdered old order) (o
       ∙ sym (put-between (operations_of old (take i order)) (operations_of old (drop i order)) op below above)
       ∙ ap (put_among op) (sym (filter_map-append (λ t. get old t.key) (take i order) (drop i order)) ∙ ap (operations_of old) (take-append-drop i order))
 
-  pub IsOrdered-insert : IsOrdered new (insert order i (record { id = op.id; key = key; missing = number }))
+  pub IsOrdered-insert : IsOrdered new (insert order i (record { id = op.id; key = key; lacks = ids }))
   IsOrdered-insert = record {
     rising = IsRising-insert id_order (λ t. t.id) order i added is.rising gap;
     right = λ t c.
@@ -289,51 +289,6 @@ hold_cause-none id held free room =
     let some_room : nat_lt (length held) 256 ≡ true = grind (arith, nat_tests) in
     rw (free, some_room) refl
 
--- ---- going through the tickets
-
--- the operation of the ticket at place i is the i-th
-pub record IsAtTicket (slots : Slab Op) (order : List Ticket) (i : ℕ) (t : Ticket) : Type 0 where
-  pub op : Op
-  pub there : get slots t.key ≡ Some op
-  pub name : op.id ≡ t.id
-  pub rest : drop i (operations_of slots order) ≡ op ∷ drop (suc i) (operations_of slots order)
-
-pub at_ticket : (slots : Slab Op) (order : List Ticket) (i : ℕ) (t : Ticket) → AreRight slots order → i < length order → t ≡ get_or order i t → IsAtTicket slots order i t
-at_ticket slots [] i t right within read = absurd (omega arith)
-at_ticket slots (u ∷ order) zero t right within read =
-    let r = right u (Contains-here order refl) in
-    let cons = operations-cons slots u order r.0 r.1 in
-    record {
-      op = r.0;
-      there = subst (λ (v : Ticket). get slots v.key ≡ Some r.0) (sym read) r.1;
-      name = r.2 ∙ ap (λ (v : Ticket). v.id) (sym read);
-      rest = cons ∙ ap (λ l. r.0 ∷ drop 1 l) (sym cons);
-    }
-at_ticket slots (u ∷ order) (suc i) t right within read =
-    let r = right u (Contains-here order refl) in
-    let cons = operations-cons slots u order r.0 r.1 in
-    let later = at_ticket slots order i t (tail_right slots u order right) (omega arith) read in
-    record {
-      op = later.op;
-      there = later.there;
-      name = later.name;
-      rest = ap (drop (suc i)) cons ∙ later.rest ∙ ap (λ l. later.op ∷ drop (suc (suc i)) l) (sym cons);
-    }
-
-pub length-drop_all : (held : List Op) (i : ℕ) → length held ≤ i → drop i held ≡ []
-length-drop_all [] zero few = refl
-length-drop_all [] (suc i) few = refl
-length-drop_all (x ∷ held) zero few = absurd (omega arith)
-length-drop_all (x ∷ held) (suc i) few = length-drop_all held i (omega arith)
-
--- where the i-th operation is the first that passes
-pub find-here : (p : Op → Bool) (held : List Op) (i : ℕ) (op : Op) (rest : List Op) → find p held ≡ find p (drop i held) → drop i held ≡ op ∷ rest → p op ≡ true → find p held ≡ Some op
-find-here p held i op rest later is passes = later ∙ ap (find p) is ∙ ap (λ b. cond b (Some op) (find p rest)) passes
-
--- and where it does not pass
-pub find-later : (p : Op → Bool) (held : List Op) (i : ℕ) (op : Op) (rest : List Op) → find p held ≡ find p (drop i held) → drop i held ≡ op ∷ rest → p op ≡ false → find p held ≡ find p rest
-find-later p held i op rest later is fails = later ∙ ap (find p) is ∙ ap (λ b. cond b (Some op) (find p rest)) fails
-
 -- the first that passes has this id
 pub record IsFirst (p : Op → Bool) (held : List Op) (id : Id) : Type 0 where
   pub op : Op
@@ -371,17 +326,6 @@ same_as_none held op rising found = (
   (λ same. absurd (true≢false (sym same))),
   (λ c. absurd (some≢none (sym (found ∙ find_id-Contains held op.id (keys_once id_order (λ o. o.id) held rising) c refl)))),
 )
-
--- what is made of the first operations, with the next
-pub map_next : {X : Type 0} (f : Op → X) (held : List Op) (i : ℕ) (op : Op) (rest : List Op) → drop i held ≡ op ∷ rest
-    → map f (take i held) ++ f op ∷ [] ≡ map f (take (suc i) held)
-map_next f [] zero op rest is = absurd (let h = is in cc)
-map_next f [] (suc i) op rest is = absurd (let h = is in cc)
-map_next f (x ∷ held) zero op rest is = ap (λ (y : Op). f y ∷ []) (sym (first is))
-  where
-    first : ◌≡◌ {A = List Op} (x ∷ held) (op ∷ rest) → x ≡ op
-    first h = cc
-map_next f (x ∷ held) (suc i) op rest is = ap (λ l. f x ∷ l) (map_next f held i op rest is)
 
 -- an answer that is due, and is another, lacks memory
 pub lacks : {A : Type 0} (r : Result A Refusal) (e : Refusal) (x : A) → (r ≢ Err NoMemory → r ≡ Ok x) → r ≡ Err e → e ≢ NoMemory → ⊥

@@ -4,7 +4,11 @@ use Rattle.doc_words.specs.Words.{Id, Refusal, Op}
 use Rattle.json_scalar.specs.declared.refusal.Refusal.TheVariants.{IdConflict, HeldFull}
 use Rattle.op_core.specs.Limits.{most_held}
 use Rattle.crdt_rules.specs.Dependencies.{is_logged, missing}
-use Rattle.hold_buffer.specs.declared.wait.Wait.{Wait}
+
+-- a held operation waits until an id is logged
+pub record Wait : Type 0 where
+  pub awaited : Id
+  pub waiter : Id
 
 pub record Buffer : Type 0 where
   -- the held operations, by rising id

@@ -1,12 +1,12 @@
 -- How the held operations stand in their slots, and what is kept of what they wait for.
-use Rattle.std.specs.Prelude.{◌≡◌, ◌≤◌, ℕ, List, [], ◌∷◌, Some, Contains, length, filter, filter_map, map, false, ◌==◌, ◌-◌, if◌then◌else◌}
-use Rattle.std.specs.Ordering.{is_lt}
+use Rattle.std.specs.Prelude.{◌≡◌, ◌++◌, List, [], ◌∷◌, Some, Contains, filter, filter_map, map, not, true}
 use Rattle.slab.specs.Slab.{Slab, get}
-use Rattle.doc_words.specs.Words.{id_cmp, Id, Op}
+use Rattle.doc_words.specs.Words.{id_cmp, name_cmp, Id, Op}
+use Rattle.op_core.specs.Front.{is_ascending}
 use Rattle.crdt_rules.specs.Same.{id_eq}
 use Rattle.doc_rules.specs.Sorted.{IsRising}
+use Rattle.hold_buffer.specs.Held.{Wait}
 use Rattle.hold_buffer.specs.declared.ticket.Ticket.{Ticket}
-use Rattle.hold_buffer.specs.declared.wait.Wait.{Wait}
 
 -- the operations of the tickets
 abbrev pub operations_of : Slab Op → List Ticket → List Op
@@ -17,11 +17,6 @@ pub record IsOrdered (slots : Slab Op) (order : List Ticket) : Type 0 where
   pub rising : IsRising id_cmp (λ t. t.id) order
   pub right : (t : Ticket) → Contains order t → (op : Op) × (get slots t.key ≡ Some op) × (op.id ≡ t.id)
 
--- no wait is for a lesser id than one before it
-abbrev pub AreSorted : List Wait → Type 0
-AreSorted [] = Unit {0}
-AreSorted (w ∷ waits) = ((v : Wait) → Contains waits v → is_lt (id_cmp v.awaited w.awaited) ≡ false) × AreSorted waits
-
 -- an operation waits for an id
 abbrev pub wait_of : Id → Id → Wait
 wait_of i waiter = record { awaited = i; waiter = waiter }
@@ -30,34 +25,22 @@ wait_of i waiter = record { awaited = i; waiter = waiter }
 abbrev pub waits_for : List Id → Id → List Wait
 waits_for ids waiter = map (λ i. wait_of i waiter) ids
 
--- for how many ids an operation waits
-abbrev pub count_waits : Id → List Wait → ℕ
-count_waits id waits = length (filter (λ w. id_eq w.waiter id) waits)
+-- all waits of the tickets
+abbrev pub waits_of : List Ticket → List Wait
+waits_of [] = []
+waits_of (t ∷ order) = waits_for t.lacks t.id ++ waits_of order
 
--- the ids of the operations that wait for none
-abbrev pub ready_ids : List Ticket → List Id
-ready_ids order = map (λ t. t.id) (filter (λ t. t.missing == 0) order)
+-- the ids that a ticket lacks are of different replicas, by rising name
+abbrev pub AreNamed : List Ticket → Type 0
+AreNamed order = (t : Ticket) → Contains order t → IsRising name_cmp (λ i. i.replica) t.lacks
 
--- the ticket of an id waits for one id less
-abbrev pub one_less : Id → Ticket → Ticket
-one_less id t = if id_eq id t.id then record t { missing = t.missing - 1 } else t
+-- the ticket lacks the id no more
+abbrev pub lacks_no_more : Id → Ticket → Ticket
+lacks_no_more id t = record t { lacks = filter (λ i. not (id_eq i id)) t.lacks }
 
-abbrev pub counted_down : Id → List Ticket → List Ticket
-counted_down id order = map (one_less id) order
-
--- the same operations stand in both orders
-abbrev pub HoldAlike : List Ticket → List Ticket → Type 0
-HoldAlike old new = (slots : Slab Op) → IsOrdered slots old → IsOrdered slots new × (operations_of slots new ≡ operations_of slots old)
-
--- each ticket has the number of its waits, each wait is of a ticket, and the ready ids are those that wait for none
-pub record IsIndexed (order : List Ticket) (waits : List Wait) (ids : List Id) : Type 0 where
-  pub counted : (t : Ticket) → Contains order t → t.missing ≡ count_waits t.id waits
-  pub held : (w : Wait) → Contains waits w → (t : Ticket) × Contains order t × (t.id ≡ w.waiter)
-  pub ready : ids ≡ ready_ids order
-
--- all of a buffer, where the list of the ready ids has room for this many
-pub record IsIntact (slots : Slab Op) (order : List Ticket) (waits : List Wait) (ready : List Id) (room : ℕ) : Type 0 where
+-- all of a buffer
+pub record IsIntact (slots : Slab Op) (order : List Ticket) : Type 0 where
   pub ordered : IsOrdered slots order
-  pub sorted : AreSorted waits
-  pub indexed : IsIndexed order waits ready
-  pub enough : length order ≤ room
+  pub named : AreNamed order
+  -- each front is in the order of the names
+  pub ascending : (o : Op) → Contains (operations_of slots order) o → is_ascending o.front ≡ true

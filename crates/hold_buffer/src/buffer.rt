@@ -9,11 +9,8 @@ ghost use Rattle.crdt_rules.specs.Dependencies.{is_logged, is_ready, missing};
 ghost use Rattle.hold_buffer.specs.Held.{IsCurrent, hold_cause};
 ghost use Rattle.doc_rules.specs.Replica.{put_among};
 
-use crate::order::{admit, ids_of, search, store, take, waiting_of};
-use crate::ready::{forget, release};
+use crate::order::{admit, first_ready, forget_awaited, ids_of, search, store, take, waiting_of};
 use crate::ticket::Ticket;
-use crate::wait::Wait;
-use crate::waits::{cut, end_of, start_of};
 use doc_words::{Ids, Waiting};
 use json_scalar::Refusal;
 use lamport_id::Id;
@@ -28,23 +25,19 @@ use std::marker::Model;
 #[derive(Debug)]
 pub struct HoldBuffer {
     slots: Slab<Operation>,
+    // by rising id
     order: Vec<Ticket>,
-    // by rising awaited id
-    waits: Vec<Wait>,
-    // rising, with room for the ids of all tickets
-    ready: Vec<Id>,
 }
 
 impl Model for HoldBuffer {
     ghost use Rattle.hold_buffer.specs.Held.{Buffer};
-    ghost use Rattle.hold_buffer.specs.Order.{operations_of, IsIntact};
-    ghost use Rattle.std.specs.Vec.{vec_capacity};
+    ghost use Rattle.hold_buffer.specs.Order.{operations_of, waits_of, IsIntact};
 
     ghost Value = { Buffer };
 
-    ghost view = { λ b. record { held = operations_of b.slots b.order.items; waits = b.waits.items } };
+    ghost view = { λ b. record { held = operations_of b.slots b.order.items; waits = waits_of b.order.items } };
 
-    ghost invariant = { λ b. IsIntact b.slots b.order.items b.waits.items b.ready.items (vec_capacity b.ready) };
+    ghost invariant = { λ b. IsIntact b.slots b.order.items };
 }
 
 impl HoldBuffer {
@@ -56,8 +49,6 @@ impl HoldBuffer {
         HoldBuffer {
             slots: Slab::new(alloc),
             order: Vec::new(alloc),
-            waits: Vec::new(alloc),
-            ready: Vec::new(alloc),
         }
     }
 
@@ -90,7 +81,7 @@ impl HoldBuffer {
         ensures { UnlessMemory result (Ok (map (λ o. (o.id, missing o log.now.operations)) self.now.held)) }
     {
         let alloc = *self.order.allocator();
-        waiting_of(alloc, log, &self.slots, &self.order)
+        waiting_of(alloc, &self.order)
     }
 
     /// The held operation of this id.
@@ -132,17 +123,9 @@ impl HoldBuffer {
         ensures err { OnErr result (self.new ≡ self.old) }
         ensures current { IsCurrent self.new log.now.operations }
     {
-        let place = admit(
-            log,
-            &op,
-            &mut self.slots,
-            &mut self.order,
-            &mut self.waits,
-            &mut self.ready,
-        );
-        match place {
-            Ok((at, missing)) => {
-                store(&mut self.slots, &mut self.order, at, op, missing);
+        match admit(log, &op, &mut self.slots, &mut self.order) {
+            Ok((at, lacks)) => {
+                store(&mut self.slots, &mut self.order, at, op, lacks);
                 Ok(())
             }
             Err(refusal) => {
@@ -157,10 +140,7 @@ impl HoldBuffer {
         ensures held { self.new.held ≡ self.old.held }
         ensures current { (log : List Op) (op : Op) → op.id ≡ id → IsCurrent self.old log → IsCurrent self.new (log ++ op ∷ []) }
     {
-        let start = start_of(&self.waits, &id);
-        let end = end_of(&self.waits, &id);
-        release(&mut self.order, &mut self.ready, &self.waits, start, end);
-        cut(&mut self.waits, start, end);
+        forget_awaited(&mut self.order, &id);
     }
 
     /// The least id of the ready operations.
@@ -169,7 +149,7 @@ impl HoldBuffer {
         ensures least { result ≡ option_map (λ o. o.id) (find (λ o. is_ready o log.now.operations) self.now.held) }
         ensures operation { IfSome result (λ id. find_id self.now.held id ≡ find (λ o. is_ready o log.now.operations) self.now.held) }
     {
-        self.ready.first().copied()
+        first_ready(&self.order)
     }
 
     /// The ids that a held operation waits for, in the order of its front. It is refused for want of memory alone.
@@ -178,7 +158,11 @@ impl HoldBuffer {
         requires current { IsCurrent self.now log.now.operations }
         ensures { (op : Op) → find_id self.now.held id ≡ Some op → UnlessMemory result (Ok (missing op log.now.operations)) }
     {
-        log.missing(self.get(id).unwrap())
+        let alloc = *self.order.allocator();
+        match search(&self.order, id) {
+            Ok(at) => self.order[at].lacks.ids(alloc),
+            Err(_) => unreachable!(),
+        }
     }
 
     /// Takes the operation of this id out.
@@ -188,7 +172,6 @@ impl HoldBuffer {
         ensures held { self.new.held ≡ filter (λ o. not (id_eq o.id id)) self.old.held }
         ensures current { (log : List Op) → IsCurrent self.old log → IsCurrent self.new log }
     {
-        forget(&mut self.waits, &mut self.ready, &id);
         take(&mut self.slots, &mut self.order, id)
     }
 }
@@ -196,11 +179,6 @@ impl HoldBuffer {
 // By hand, so that it is called and not written out where a buffer is let go.
 impl Drop for HoldBuffer {
     fn drop(self) {
-        let HoldBuffer {
-            slots: _,
-            order: _,
-            waits: _,
-            ready: _,
-        } = self;
+        let HoldBuffer { slots: _, order: _ } = self;
     }
 }

@@ -1,19 +1,20 @@
 //! The order of the held operations.
-ghost use Rattle.std.specs.Prelude.{◌≡◌, ◌≢◌, ◌<◌, ◌+◌, ◌++◌, not, length, filter, map, vec_len, ◌≤◌, ℕ, insert, IsPermutation, OnOk, OnErr, OnSome, IfOk, IfErr, Ok, Err, MatchResult};
+ghost use Rattle.std.specs.Prelude.{◌≡◌, ◌≢◌, ◌<◌, ◌+◌, not, length, filter, map, vec_len, ◌≤◌, ℕ, insert, find, ◌==◌, true, OnOk, OnSome, IfOk, Ok, Err, MatchResult};
 ghost use Rattle.std.specs.Vec.{vec_capacity};
+ghost use Rattle.std.specs.Option.{option_map};
 ghost use Rattle.slab.specs.Slab.{HasRoomFor};
 ghost use Rattle.doc_words.specs.Words.{id_cmp, UnlessMemory};
+ghost use Rattle.op_core.specs.Front.{is_ascending};
 ghost use Rattle.crdt_rules.specs.Same.{id_eq};
 ghost use Rattle.doc_rules.specs.Sorted.{IsRising};
 ghost use Rattle.sorted_lists.specs.Sorted.{IsPlace, IsGap};
 ghost use Rattle.crdt_rules.specs.Dependencies.{missing};
 ghost use Rattle.doc_rules.specs.Replica.{find_id, put_among};
 ghost use Rattle.hold_buffer.specs.Held.{hold_cause};
-ghost use Rattle.hold_buffer.specs.Order.{operations_of, IsOrdered, AreSorted, waits_for};
+ghost use Rattle.hold_buffer.specs.Order.{operations_of, IsOrdered, AreNamed, lacks_no_more};
 
+use crate::lacks::Lacks;
 use crate::ticket::Ticket;
-use crate::wait::Wait;
-use crate::waits::add_waits;
 use doc_words::{Ids, Waiting};
 use json_scalar::Refusal;
 use lamport_id::Id;
@@ -68,77 +69,42 @@ pub fn prepare(
     }
 }
 
-/// Adds what an operation waits for, with room for so many ready ids, and counts it. It is refused for want of memory alone,
-/// and then the waits stay as they are.
-pub fn add_missing(
-    log: &OpLog,
-    op: &Operation,
-    room: usize,
-    waits: &mut Vec<Wait>,
-    ready: &mut Vec<Id>,
-) -> Result<usize, Refusal>
-    ensures sorted { OnOk result (AreSorted waits.new.items) }
-    ensures added { OnOk result (IsPermutation (waits.old.items ++ waits_for (missing op.now log.now.operations) op.now.id) waits.new.items) }
-    ensures missing { IfOk result (λ n. n ≡ length (missing op.now log.now.operations)) }
-    ensures ready { ready.new.items ≡ ready.old.items }
-    ensures enough { OnOk result (room ≤ vec_capacity ready.new) }
-    ensures keeps { vec_capacity ready.old ≤ vec_capacity ready.new }
-    ensures err { IfErr result (λ e. e ≡ Refusal.NoMemory) }
-    ensures kept { OnErr result (waits.new.items ≡ waits.old.items) }
-{
-    match log.missing(op) {
-        Ok(missing) => {
-            let awaited = missing.as_slice();
-            ready.reserve(room)?;
-            add_waits(waits, awaited, &op.id())?;
-            Ok(awaited.len())
-        }
-        Err(_) => Err(Refusal::NoMemory),
-    }
-}
-
-/// Adds what one more operation waits for, with room for the operation: where it is to be stored, and for how many ids it
-/// waits; or the first cause against it, which leaves the waits as they are.
+/// Room for one more operation: where it is to be stored, and what it lacks; or the first cause against it.
+#[tactic(auto, using(op_log::proofs::Comparing::shaped_ascending))]
 pub fn admit(
     log: &OpLog,
     op: &Operation,
     slots: &mut Slab<Operation>,
     order: &mut Vec<Ticket>,
-    waits: &mut Vec<Wait>,
-    ready: &mut Vec<Id>,
-) -> Result<(usize, usize), Refusal>
+) -> Result<(usize, Lacks), Refusal>
     requires { IsOrdered slots.old order.old.items }
     ensures order { order.new.items ≡ order.old.items }
     ensures slots { slots.new ≡ record slots.old { capacity = slots.new.capacity } }
-    ensures sorted { OnOk result (AreSorted waits.new.items) }
-    ensures added { OnOk result (IsPermutation (waits.old.items ++ waits_for (missing op.now log.now.operations) op.now.id) waits.new.items) }
-    ensures kept { OnErr result (waits.new.items ≡ waits.old.items) }
-    ensures ready { ready.new.items ≡ ready.old.items }
     ensures gap { IfOk result (λ r. IsGap id_cmp (λ t. t.id) order.old.items op.now.id r.0) }
-    ensures missing { IfOk result (λ r. r.1 ≡ length (missing op.now log.now.operations)) }
+    ensures lacks { IfOk result (λ r. r.1 ≡ missing op.now log.now.operations) }
+    ensures ascending { is_ascending op.now.front ≡ true }
     ensures slot { OnOk result (HasRoomFor slots.new 1) }
     ensures ticket { OnOk result (vec_len order.new < vec_capacity order.new) }
-    ensures enough { OnOk result (length order.old.items + 1 ≤ vec_capacity ready.new) }
-    ensures keeps { vec_capacity ready.old ≤ vec_capacity ready.new }
     ensures cause { MatchResult result (λ _. hold_cause op.now.id (operations_of slots.old order.old.items) ≡ Ok tt)
         (λ e. e ≢ Refusal.NoMemory → hold_cause op.now.id (operations_of slots.old order.old.items) ≡ Err e) }
 {
+    let alloc = *order.allocator();
     match prepare(slots, order, op.id()) {
-        Ok(at) => match add_missing(log, op, order.capacity(), waits, ready) {
-            Ok(missing) => Ok((at, missing)),
-            Err(refusal) => Err(refusal),
+        Ok(at) => match Lacks::of(alloc, log, op) {
+            Ok(lacks) => Ok((at, lacks)),
+            Err(_) => Err(Refusal::NoMemory),
         },
         Err(cause) => Err(cause),
     }
 }
 
-/// Stores an operation where it is to be, with the number of ids that it waits for.
+/// Stores an operation where it is to be, with what it lacks.
 pub fn store(
     slots: &mut Slab<Operation>,
     order: &mut Vec<Ticket>,
     at: usize,
     op: Operation,
-    missing: usize,
+    lacks: Lacks,
 )
     requires ordered { IsOrdered slots.old order.old.items }
     requires gap { IsGap id_cmp (λ t. t.id) order.old.items op.id at }
@@ -146,11 +112,11 @@ pub fn store(
     requires ticket { vec_len order.old < vec_capacity order.old }
     ensures ordered { IsOrdered slots.new order.new.items }
     ensures operations { operations_of slots.new order.new.items ≡ put_among op (operations_of slots.old order.old.items) }
-    ensures ticket { (key : ℕ) × (order.new.items ≡ insert order.old.items at (record { id = op.id; key = key; missing = missing })) }
+    ensures ticket { (key : ℕ) × (order.new.items ≡ insert order.old.items at (record { id = op.id; key = key; lacks = lacks })) }
 {
     let id = op.id();
     let key = slots.insert_reserved(op);
-    let ticket = Ticket { id, key, missing };
+    let ticket = Ticket { id, key, lacks };
     order.insert(at, ticket).unwrap();
 }
 
@@ -172,27 +138,36 @@ pub fn take(slots: &mut Slab<Operation>, order: &mut Vec<Ticket>, id: Id) -> Opt
     }
 }
 
-/// The ids of the tickets, each with the ids that its operation waits for. It is refused for want of memory alone.
-pub fn waiting_of(
-    alloc: Global,
-    log: &OpLog,
-    slots: &Slab<Operation>,
-    order: &[Ticket],
-) -> Result<Waiting, Refusal>
-    requires { IsOrdered slots.now order.now }
-    ensures { UnlessMemory result (Ok (map (λ o. (o.id, missing o log.now.operations)) (operations_of slots.now order.now))) }
+/// The ids of the tickets, each with what its operation lacks. It is refused for want of memory alone.
+pub fn waiting_of(alloc: Global, order: &[Ticket]) -> Result<Waiting, Refusal>
+    ensures { UnlessMemory result (Ok (map (λ t. (t.id, t.lacks)) order.now)) }
 {
-    let mut waiting = Vec::new(alloc);
+    let mut waiting = Vec::with_capacity(alloc, order.len())?;
     for ticket in order {
-        let entry = entry_of(log, &slots[ticket.key])?;
-        waiting.push(entry)?;
+        let lacks = ticket.lacks.ids(alloc)?;
+        waiting.push((ticket.id, lacks))?;
     }
     Ok(Waiting::from(waiting))
 }
 
-fn entry_of(log: &OpLog, op: &Operation) -> Result<(Id, Ids), Refusal>
-    ensures { UnlessMemory result (Ok (op.now.id, missing op.now log.now.operations)) }
+/// The least id of the tickets that lack nothing.
+pub fn first_ready(order: &[Ticket]) -> Option<Id>
+    ensures { result ≡ option_map (λ t. t.id) (find (λ t. length t.lacks == 0) order.now) }
 {
-    let missing = log.missing(op)?;
-    Ok((op.id(), missing))
+    for ticket in order {
+        if ticket.lacks.is_empty() {
+            return Some(ticket.id);
+        }
+    }
+    None
+}
+
+/// No operation lacks this id from now on.
+pub fn forget_awaited(order: &mut Vec<Ticket>, id: &Id)
+    requires { AreNamed order.old.items }
+    ensures { order.new.items ≡ map (lacks_no_more id.now) order.old.items }
+{
+    for ticket in order.iter_mut() {
+        ticket.lacks.forget(id);
+    }
 }

@@ -1,11 +1,9 @@
 //! What standard error is told of a command line that can't be served. The status says that it can't; of this text no clause
 //! says anything, and `bench/whole-program` has one for each mistake.
-use crate::command_line::{
-    MAX_DOCUMENTS, MAX_NAME_BYTES, check_matches, is_among, is_name, run_matches, serve_matches,
-    sessions_of,
-};
+use crate::command_line::{check_matches, run_matches, serve_matches, sessions_of};
 use clap::error::ErrorKind;
 use clap::{ArgMatches, Error};
+use run_core::{MAX_DOCUMENTS, MAX_NAME_BYTES, is_among, is_name};
 use std::alloc::{AllocError, Global};
 
 /// How the program is called.

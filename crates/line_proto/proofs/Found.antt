@@ -1,7 +1,8 @@
 -- What is read has the JSON that it was read from, and is within the limits.
-use Rattle.std.proofs.Common.{◌≡◌, ℕ, ℤ, pos, negsuc, zero, suc, ◌^◌, ◌&&◌, nat_le, nat_lt, Bool, true, false, cond, List, [], ◌∷◌, map, codes, length, Option, Some, None, option_map, Result, Ok, Err, ok_or, IfOk, IsTrue, refl, sym, ap, ◌∙◌}
+use Rattle.std.proofs.Common.{◌≡◌, ℕ, ℤ, pos, negsuc, zero, suc, ◌^◌, ◌&&◌, nat_le, nat_lt, Bool, true, false, cond, List, [], ◌∷◌, map, codes, length, Option, Some, None, Result, Ok, Err, ok_or, IfOk, IsTrue, refl, sym, ap, ◌∙◌}
 use Rattle.std.specs.Str.{bytes_eq}
 use Rattle.std.proofs.lemmas.Slice.Eq.{bytes_eq-Decides}
+use Rattle.std.proofs.lemmas.Option.{cond_some}
 use Rattle.serde_json.specs.Data.{Num, unsigned, negative, float, Data, null, boolean, number, string, array, object, Items, no_items, item, no_members, member}
 use Rattle.serde_json.specs.Find.{as_u64, as_str, as_array}
 use Rattle.serde_json.specs.View.{items_of}
@@ -11,17 +12,17 @@ use Rattle.json_scalar.specs.Scalar.{val_of, text_of, int_of}
 use Rattle.json_scalar.specs.declared.refusal.Refusal.TheVariants.{NotJson, BadRequest, BadOperation, BadValue, BadFront}
 use Rattle.json_scalar.specs.declared.scalar.Val.TheVariants.{Scalar, EmptyMap, EmptyList}
 use Rattle.json_scalar.specs.declared.scalar.Scalar.TheVariants.{Int, Text, Bool as Truth, Null}
-use Rattle.json_scalar.proofs.Readings.{val_of-Ok}
+use Rattle.json_scalar.proofs.Readings.{ok_step, val_of-Ok}
 use Rattle.op_core.specs.Front.{is_ascending}
 use Rattle.op_core.specs.Reading.{some_if, id_from, front_of_json, op_from}
 use Rattle.op_core.specs.Wire.{list_data}
-use Rattle.op_core.proofs.Wires.{some_step, some_if-Some, as_array-Some, as_str-Some, both_items, ReadsId-from_answer, ReadsFront-from_answer}
+use Rattle.op_core.proofs.Wires.{some_step, option_map-Some, as_u64-Some, some_if-Some, as_array-Some, as_str-Some, both_items, ReadsId-from_answer, ReadsFront-from_answer}
 use Rattle.op_core.proofs.Operations.{ReadsOp-from_answer}
 use Rattle.doc_words.specs.declared.place.Step.{Step}
 use Rattle.doc_words.specs.declared.place.Step.TheVariants.{Get, Index}
 use Rattle.doc_words.specs.declared.ask.Look.{Look}
 use Rattle.doc_words.specs.declared.ask.Look.TheVariants.{Keys, Values, Items as Elements, Conflicts, Show, Sum}
-use Rattle.line_proto.specs.Reading.{step_from, steps_from, variable_of, variable_from, start_of_number, start_from, expr_items, expr_from, bare_request, plain_ask, look_of, look_from, deletion_from, delivery_from, forgetting_from, short_ask, naming_from, limit_of, limit_from, in_order, ops_from, assignment_from, insertion_from, amount_of, addition_from, long_ask, bare_from, plain_from, short_from, long_from, request_items, request_from, line_data, request_of}
+use Rattle.line_proto.specs.Reading.{step_from, steps_from, variable_of, variable_from, start_of_number, start_from, expr_items, expr_from, bare_request, plain_ask, look_of, look_from, deletion_ask, delivery_from, forgetting_from, short_ask, naming_from, limit_of, limit_from, in_order, ops_from, assignment_from, insertion_from, amount_of, addition_from, long_ask, bare_from, plain_from, short_from, long_from, request_items, request_from, line_data, request_of}
 use Rattle.line_proto.specs.Written.{start_data, step_data, expr_data, asks, look_word, ask_data, request_data, is_variable, is_start, is_amount, is_put, is_ask, is_request}
 use Rattle.line_proto.specs.declared.request.Start.{Start}
 use Rattle.line_proto.specs.declared.request.Start.TheVariants.{Document, Variable}
@@ -33,18 +34,10 @@ use Rattle.line_proto.specs.declared.request.Request.TheVariants.{Quit, Version,
 
 -- ---- steps
 
-ok_step : {A B : Type 0} (o : Result A Refusal) (f : A → Result B Refusal) (y : B) → and_then o f ≡ Ok y → (x : A) × (o ≡ Ok x) × (f x ≡ Ok y)
-ok_step (Ok x) f y h = (x, refl, h)
-ok_step (Err e) f y h = cc
-
 -- a step that is refused where there is none
 found_step : {A B : Type 0} (o : Option A) (e : Refusal) (f : A → Result B Refusal) (y : B) → and_then (ok_or o e) f ≡ Ok y → (x : A) × (o ≡ Some x) × (f x ≡ Ok y)
 found_step (Some x) e f y h = (x, refl, h)
 found_step None e f y h = cc
-
-option_map-Some : {A B : Type 0} (f : A → B) (o : Option A) (y : B) → option_map f o ≡ Some y → (x : A) × (o ≡ Some x) × (f x ≡ y)
-option_map-Some f None y h = cc
-option_map-Some f (Some x) y h = (x, refl, cc)
 
 ok_or-Ok : {A : Type 0} (o : Option A) (e : Refusal) (y : A) → ok_or o e ≡ Ok y → o ≡ Some y
 ok_or-Ok (Some x) e y h = let same : x ≡ y = cc in ap Some same
@@ -53,10 +46,6 @@ ok_or-Ok None e y h = cc
 if_Ok : {A : Type 0} (b : Bool) (e : Refusal) (x y : A) → cond b (Ok x) (Err e) ≡ Ok y → (b ≡ true) × (x ≡ y)
 if_Ok true e x y h = (refl, cc)
 if_Ok false e x y h = cc
-
-if_Some : {A : Type 0} (b : Bool) (x y : A) → cond b (Some x) None ≡ Some y → (b ≡ true) × (x ≡ y)
-if_Some true x y h = (refl, cc)
-if_Some false x y h = cc
 
 -- what holds where the verb is this word, and else of what comes behind it
 by_word : {A : Type 0} (P : A → Type 0) (verb word : List ℕ) (x y : A) → (verb ≡ word → P x) → P y → P (cond (bytes_eq verb word) x y)
@@ -67,11 +56,6 @@ by_word P verb word x y here behind = go (bytes_eq verb word) (bytes_eq-Decides 
     go false h = behind
 
 -- ---- cursor expressions
-
-as_u64-Some : (m : Num) (n : ℕ) → as_u64 m ≡ Some n → m ≡ unsigned n
-as_u64-Some (unsigned m) n h = let same : m ≡ n = cc in ap unsigned same
-as_u64-Some (negative z) n h = cc
-as_u64-Some (float x) n h = cc
 
 step_from-Some : (d : Data) (step : Step) → step_from d ≡ Some step → step_data step ≡ d
 step_from-Some null step h = cc
@@ -136,7 +120,7 @@ expr_from-Some d expr h =
 -- ---- values
 
 int_of-within : (n : Num) (z : ℤ) → int_of n ≡ Some z → is_amount z ≡ true
-int_of-within (unsigned n) z h = let made = if_Some (nat_lt n (2 ^ 63)) (pos n) z h in ap is_amount (sym made.1) ∙ made.0
+int_of-within (unsigned n) z h = let made = cond_some (nat_lt n (2 ^ 63)) (pos n) z h in ap is_amount (sym made.1) ∙ made.0
 int_of-within (negative (pos n)) z h = cc
 int_of-within (negative (negsuc n)) z h = let same : z ≡ negsuc n = cc in ap is_amount same
 int_of-within (float x) z h = cc
@@ -192,7 +176,7 @@ writes_two verb word document a b d e asked found is at_a at_b same form within 
 both_hold : (a b : Bool) → a ≡ true → b ≡ true → (a && b) ≡ true
 both_hold a b h k = rw (h, k) refl
 
-deletion-Ok : (verb document : List ℕ) (a : Data) → verb ≡ codes "delete" → OkWrites verb document (a ∷ []) (deletion_from a)
+deletion-Ok : (verb document : List ℕ) (a : Data) → verb ≡ codes "delete" → OkWrites verb document (a ∷ []) (deletion_ask a)
 deletion-Ok verb document a is asked h =
     let expr = found_step (expr_from a) BadRequest _ asked h in
     let same : asked ≡ ask.Change expr.0 Delete = cc in

@@ -3,4 +3,4 @@ pub mod Requests
 pub mod Found
 pub mod Texts
 pub mod Held
-pub mod Floats
+pub mod Pieces

@@ -9,9 +9,10 @@ use Rattle.json_scalar.specs.declared.scalar.Scalar.TheVariants.{Int, Text, Bool
 use Rattle.json_scalar.proofs.Readings.{val_of-val_data}
 use Rattle.op_core.specs.Front.{is_ascending}
 use Rattle.op_core.specs.Shape.{is_entry}
-use Rattle.op_core.proofs.Wires.{both, id_from-id_data, front_of_json-front_data}
+use Rattle.op_core.proofs.Wires.{id_from-id_data, front_of_json-front_data}
 use Rattle.op_core.proofs.Operations.{op_from-wire}
 use Rattle.std.specs.List.{list_all}
+use Rattle.std.proofs.lemmas.Bool.{and_parts}
 use Rattle.line_proto.specs.Reading.{steps_from, expr_from, request_from}
 use Rattle.line_proto.specs.Written.{step_data, expr_data, is_start, is_variable, is_put, is_amount, is_change, is_ask, is_request, request_data}
 use Rattle.doc_words.specs.declared.place.Step.{Step}
@@ -72,15 +73,15 @@ reads_ask document ask.Open h = refl
 reads_ask document ask.Front h = refl
 reads_ask document ask.Held h = refl
 reads_ask document ask.Account h = refl
-reads_ask document (ask.Change expr change) h = let parts = both (is_start expr.start) (is_change change) h in reads_change document expr change parts.0 parts.1
+reads_ask document (ask.Change expr change) h = let parts = and_parts (is_start expr.start) (is_change change) h in reads_change document expr change parts.0 parts.1
 reads_ask document (ask.Look expr look) h = reads_look document expr look h
 reads_ask document (ask.Let name expr) h =
-    let parts = both (is_variable name) (is_start expr.start) h in
+    let parts = and_parts (is_variable name) (is_start expr.start) h in
     rw (parts.0, expr_from-expr_data expr parts.1) refl
 reads_ask document (ask.Deliver op) h = rw (op_from-wire op h) refl
 reads_ask document (ask.Operations front limit) h =
-    let parts = both (list_all is_entry front && is_ascending front) (nat_le 1 limit && nat_le limit 64) h in
-    let order = both (list_all is_entry front) (is_ascending front) parts.0 in
+    let parts = and_parts (list_all is_entry front && is_ascending front) (nat_le 1 limit && nat_le limit 64) h in
+    let order = and_parts (list_all is_entry front) (is_ascending front) parts.0 in
     rw (parts.1, front_of_json-front_data front order.0, order.1) refl
 reads_ask document (ask.Forget id) h = rw (id_from-id_data id h) refl
 

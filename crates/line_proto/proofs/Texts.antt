@@ -1,14 +1,13 @@
 -- The texts of replies.
 use Rattle.std.proofs.Common.{◌≡◌, ℕ, ◌<◌, ◌≤◌, ◌^◌, ◌&&◌, ◌⊎◌, ◌≢◌, nat_le, true, List, [], ◌∷◌, ◌++◌, length, decimal, append_assoc, refl, sym, ap, ◌∙◌, arith}
 use Rattle.std.proofs.lemmas.Fmt.{length-decimal-le}
-use Rattle.std.proofs.lemmas.Bool.{leb-true}
+use Rattle.std.proofs.lemmas.Bool.{leb-true, and_parts}
 use Rattle.std.proofs.lemmas.Bool.Decides.{nat_tests}
 use Rattle.std.specs.List.{list_all}
 use Rattle.json.proofs.Printed.Strings.{escape_byte_plain}
 use Rattle.json_scalar.specs.Refusal.{name_of}
 use Rattle.json_scalar.specs.declared.refusal.Refusal.{Refusal}
 use Rattle.json_scalar.specs.declared.refusal.Refusal.TheVariants.{NotJson, BadRequest, LineTooLong, NoSuchDocument, NotOpen, BadValue, BadCursor, NoSuchVariable, IndexPastEnd, AtHead, NotInList, BadOperation, BadFront, Forked, IdConflict, OwnName, HeldFull, LogFull, TooManyReplicas, TooDeep, SeatsFull, NoMemory, VariablesFull, NotHeld, ListsDiffer, CopyRefused}
-use Rattle.op_core.proofs.Wires.{both}
 use Rattle.json.specs.Print.{escape, quoted}
 use Rattle.lamport_id.specs.Name.{is_name_byte, is_name}
 
@@ -27,17 +26,17 @@ plain_byte b h = (λ e. absurd (omega (arith, ruled b h)), λ e. absurd (omega (
 pub escape-word : (word : List ℕ) → list_all is_name_byte word ≡ true → escape word ≡ word
 escape-word [] h = refl
 escape-word (b ∷ bs) h =
-    let (first, rest) = both (is_name_byte b) (list_all is_name_byte bs) h in
+    let (first, rest) = and_parts (is_name_byte b) (list_all is_name_byte bs) h in
     let (quote, slash, shown) = plain_byte b first in
     rw (escape_byte_plain b quote slash shown, escape-word bs rest) refl
 
 pub quoted-word : (word : List ℕ) → is_name word ≡ true → quoted word ≡ 34 ∷ (word ++ 34 ∷ [])
-quoted-word word h = ap (λ s. 34 ∷ (s ++ 34 ∷ [])) (escape-word word (both (nat_le 1 (length word) && nat_le (length word) 32) (list_all is_name_byte word) h).1)
+quoted-word word h = ap (λ s. 34 ∷ (s ++ 34 ∷ [])) (escape-word word (and_parts (nat_le 1 (length word) && nat_le (length word) 32) (list_all is_name_byte word) h).1)
 
 pub length-word : (word : List ℕ) → is_name word ≡ true → length word ≤ 32
 length-word word h =
-    let sizes = (both (nat_le 1 (length word) && nat_le (length word) 32) (list_all is_name_byte word) h).0 in
-    leb-true (length word) 32 (both (nat_le 1 (length word)) (nat_le (length word) 32) sizes).1
+    let sizes = (and_parts (nat_le 1 (length word) && nat_le (length word) 32) (list_all is_name_byte word) h).0 in
+    leb-true (length word) 32 (and_parts (nat_le 1 (length word)) (nat_le (length word) 32) sizes).1
 
 pub ruleset words = (quoted-word, length-word)
 

@@ -96,8 +96,8 @@ abbrev pub look_from : List ℕ → Data → Result Ask Refusal
 look_from verb d =
     and_then (ok_or (look_of verb) BadRequest) (λ look. and_then (ok_or (expr_from d) BadRequest) (λ expr. Ok (ask.Look expr look)))
 
-abbrev pub deletion_from : Data → Result Ask Refusal
-deletion_from d = and_then (ok_or (expr_from d) BadRequest) (λ expr. Ok (ask.Change expr Delete))
+abbrev pub deletion_ask : Data → Result Ask Refusal
+deletion_ask d = and_then (ok_or (expr_from d) BadRequest) (λ expr. Ok (ask.Change expr Delete))
 
 abbrev pub delivery_from : Data → Result Ask Refusal
 delivery_from d = and_then (op_from d) (λ op. Ok (ask.Deliver op))
@@ -107,7 +107,7 @@ forgetting_from d = ok_or (option_map ask.Forget (id_from d)) BadRequest
 
 abbrev pub short_ask : List ℕ → Data → Result Ask Refusal
 short_ask verb d =
-    if bytes_eq verb (codes "delete") then deletion_from d
+    if bytes_eq verb (codes "delete") then deletion_ask d
     else (if bytes_eq verb (codes "deliver") then delivery_from d
     else (if bytes_eq verb (codes "forget") then forgetting_from d
     else look_from verb d))
@@ -147,8 +147,8 @@ abbrev pub addition_from : Data → Data → Result Ask Refusal
 addition_from c d =
     and_then (ok_or (expr_from c) BadRequest) (λ expr. and_then (ok_or (amount_of d) BadValue) (λ n. Ok (ask.Change expr (Add n))))
 
-abbrev pub change_from : List ℕ → Data → Data → Result Ask Refusal
-change_from verb c d =
+abbrev pub change_ask : List ℕ → Data → Data → Result Ask Refusal
+change_ask verb c d =
     if bytes_eq verb (codes "assign") then assignment_from c d
     else (if bytes_eq verb (codes "insert") then insertion_from c d
     else (if bytes_eq verb (codes "add") then addition_from c d
@@ -158,7 +158,7 @@ abbrev pub long_ask : List ℕ → Data → Data → Result Ask Refusal
 long_ask verb a b =
     if bytes_eq verb (codes "let") then naming_from a b
     else (if bytes_eq verb (codes "ops") then ops_from a b
-    else change_from verb a b)
+    else change_ask verb a b)
 
 abbrev pub bare_from : Data → Result Request Refusal
 bare_from verb = and_then (ok_or (as_str verb) BadRequest) (λ verb. ok_or (bare_request verb) BadRequest)

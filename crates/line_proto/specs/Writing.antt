@@ -1,7 +1,8 @@
 -- What writing answers.
-use Rattle.std.specs.Prelude.{Bool, true, false, Result, Ok, Err, ⊤}
+use Rattle.std.specs.Prelude.{◌≡◌, ℕ, List, ◌++◌, Option, Bool, true, false, Result, Ok, Err, ⊤}
+use Rattle.std.specs.Io.KnownBytes.{Appends}
 use Rattle.doc_words.specs.declared.reply.Reply.{Reply}
-use Rattle.doc_words.specs.declared.reply.Reply.TheVariants.{Applied, Known, Held, Forgotten, Account, Refused}
+use Rattle.doc_words.specs.declared.reply.Reply.TheVariants.{Applied, Known, Held, Waiting, Forgotten, Account, Refused}
 use Rattle.line_proto.specs.declared.line_reply.LineReply.{LineReply}
 use Rattle.line_proto.specs.declared.line_reply.LineReply.TheVariants.{Answered}
 use Rattle.line_proto.specs.declared.write.WriteFault.{WriteFault}
@@ -12,6 +13,7 @@ abbrev pub is_lengthy : Reply → Bool
 is_lengthy (Applied count dropped id) = false
 is_lengthy Known = false
 is_lengthy (Held missing) = false
+is_lengthy (Waiting held) = false
 is_lengthy Forgotten = false
 is_lengthy (Account n) = false
 is_lengthy (Refused r) = false
@@ -26,3 +28,7 @@ abbrev pub is_device : Result ⊤ WriteFault → Bool
 is_device (Ok _) = false
 is_device (Err NoMemory) = false
 is_device (Err Device) = true
+
+-- behind the bytes at hand comes the text: what is no more at hand was written
+abbrev pub PutsText : Option (List ℕ) → Option (List ℕ) → List ℕ → List ℕ → List ℕ → Type 0
+PutsText old new at_hand left text = (front : List ℕ) × Appends old new front × (at_hand ++ text ≡ front ++ left)

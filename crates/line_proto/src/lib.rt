@@ -8,7 +8,7 @@ mod name;
 mod read;
 mod request;
 mod text;
-mod told_json;
+mod waiting;
 mod write;
 
 pub use line_reply::{LineReply, VERSION};

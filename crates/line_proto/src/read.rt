@@ -5,7 +5,7 @@ ghost use Rattle.serde_json.specs.View.{view, items_view};
 ghost use Rattle.json_scalar.specs.Refusal.{UnlessMemory, and_then};
 ghost use Rattle.json_scalar.specs.declared.refusal.Refusal.TheVariants.{BadRequest, BadValue, NotJson, NoMemory};
 ghost use Rattle.op_core.specs.Reading.{front_of_json};
-ghost use Rattle.line_proto.specs.Reading.{bare_request, plain_ask, look_of, look_from, deletion_from, delivery_from, forgetting_from, short_ask, naming_from, limit_of, limit_from, in_order, ops_from, assignment_from, insertion_from, amount_of, addition_from, change_from, long_ask, bare_from, plain_from, short_from, long_from, request_items, request_from, line_data, request_of};
+ghost use Rattle.line_proto.specs.Reading.{bare_request, plain_ask, look_of, look_from, deletion_ask, delivery_from, forgetting_from, short_ask, naming_from, limit_of, limit_from, in_order, ops_from, assignment_from, insertion_from, amount_of, addition_from, change_ask, long_ask, bare_from, plain_from, short_from, long_from, request_items, request_from, line_data, request_of};
 ghost use Rattle.line_proto.specs.Loading.{Loads};
 
 use crate::cursor::{read_expr, read_variable};
@@ -174,7 +174,7 @@ fn short_ask(alloc: Global, verb: &str, third: &Value) -> Result<Ask, Refusal>
 }
 
 fn read_deletion(alloc: Global, cursor: &Value) -> Result<Ask, Refusal>
-    ensures { UnlessMemory result (deletion_from (view cursor.now)) }
+    ensures { UnlessMemory result (deletion_ask (view cursor.now)) }
 {
     Ok(Ask::Change(read_expr(alloc, cursor)?, Mutation::Delete))
 }
@@ -302,7 +302,7 @@ fn read_any_front(alloc: Global, value: &Value) -> Result<Front, Refusal>
 }
 
 fn read_change(alloc: Global, verb: &str, cursor: &Value, value: &Value) -> Result<Ask, Refusal>
-    ensures { UnlessMemory result (change_from verb.now (view cursor.now) (view value.now)) }
+    ensures { UnlessMemory result (change_ask verb.now (view cursor.now) (view value.now)) }
 {
     if verb == "assign" {
         read_assignment(alloc, cursor, value)

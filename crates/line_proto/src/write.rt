@@ -13,6 +13,7 @@ ghost use Rattle.line_proto.specs.declared.line_reply.LineReply.TheVariants.{Ans
 use crate::lengthy::lengthy_line;
 use crate::line_reply::{LineReply, VERSION};
 use crate::text::{Line, Piece, account, applied, fixed, no, opened, put_id, version};
+use crate::waiting::write_waiting;
 use doc_words::Reply;
 use lamport_id::Id;
 use line_feed::{DeviceFault, Sink, write_all};
@@ -43,8 +44,8 @@ impl LineReply {
     ///
     /// `Device` where the sink fails; then it has taken a part of the line that is less than all. `NoMemory` where
     /// memory is wanting; then nothing was written. That can come only for what is read of a document, for its
-    /// operations, its front and what waits: each of these lines is made whole before its first byte is written, and
-    /// every other one is written without taking memory.
+    /// operations and its front: each of these lines is made whole before its first byte is written, and every other one
+    /// is written without taking memory.
     #[tactic(auto, unfolding(json::specs::Print::escape_byte))]
     pub fn write<W: Sink>(&self, alloc: Global, sink: &mut W) -> Result<(), WriteFault>
         requires works { W.has_failed sink.old ≡ false }
@@ -80,6 +81,7 @@ fn write_reply<W: Sink>(alloc: Global, reply: &Reply, sink: &mut W) -> Result<()
         Reply::Applied { count, dropped, id } => write_short(sink, &applied(*count, *dropped, id)),
         Reply::Known => write_short(sink, &fixed("[\"known\"]\n")),
         Reply::Held(missing) => Ok(write_held(missing.as_slice(), sink)?),
+        Reply::Waiting(waiting) => Ok(write_waiting(waiting.as_slice(), sink)?),
         Reply::Forgotten => write_short(sink, &fixed("[\"forgotten\"]\n")),
         Reply::Account(n) => write_short(sink, &account(*n)),
         Reply::Refused(refusal) => write_short(sink, &no(*refusal)),
@@ -109,7 +111,7 @@ fn write_lengthy<W: Sink>(alloc: Global, reply: &Reply, sink: &mut W) -> Result<
     let Ok(line) = lengthy_line(alloc, reply) else {
         return Err(WriteFault::NoMemory);
     };
-    Ok(write_all(sink, line.as_str().as_bytes())?)
+    Ok(write_all(sink, line.as_slice())?)
 }
 
 /// Writes the ids in pieces, since there may be many and no memory is taken. A dozen of them are one piece.
@@ -130,7 +132,7 @@ fn write_held<W: Sink>(missing: &[Id], sink: &mut W) -> Result<(), DeviceFault>
 }
 
 /// Writes a piece where it has no room for one more id, and begins anew.
-fn make_room<W: Sink>(piece: &mut Piece, sink: &mut W) -> Result<(), DeviceFault>
+pub(crate) fn make_room<W: Sink>(piece: &mut Piece, sink: &mut W) -> Result<(), DeviceFault>
     requires { W.has_failed sink.old ≡ false }
     ensures ok { OnOk result ((front : List ℕ) × Appends (W.contents sink.old) (W.contents sink.new) front × (piece.old.bytes ≡ front ++ piece.new.bytes) × (length piece.new.bytes ≤ 896)) }
     ensures cut { OnErr result (AppendsCut (W.contents sink.old) (W.contents sink.new) piece.old.bytes) }
@@ -144,7 +146,7 @@ fn make_room<W: Sink>(piece: &mut Piece, sink: &mut W) -> Result<(), DeviceFault
 }
 
 /// An id of an array, behind a comma if it isn't the first.
-fn id_item(later: bool, id: &Id) -> Line
+pub(crate) fn id_item(later: bool, id: &Id) -> Line
     ensures bytes { result.bytes ≡ comma_if later ++ compact_text (id_data id.now) }
     ensures len { length result.bytes ≤ 58 }
 {

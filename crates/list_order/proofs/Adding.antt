@@ -6,16 +6,16 @@ use Rattle.std.specs.Option.{ForSome}
 use Rattle.lamport_id.specs.declared.id.Id.{Id}
 use Rattle.crdt_rules.specs.Same.{id_eq}
 use Rattle.crdt_rules.proofs.SameLaws.{id_decides, eq_from}
-use Rattle.presence_set.specs.ById.{get, put}
+use Rattle.presence_set.specs.ById.{get, put_at_id}
 use Rattle.presence_set.proofs.ByIdLaws.{get-put}
 use Rattle.list_order.specs.declared.slots.Slot.{Slot}
 use Rattle.list_order.specs.declared.slots.SlotNumber.{SlotNumber}
 use Rattle.list_order.specs.declared.marks.Mark.{Mark}
 use Rattle.list_order.specs.declared.marks.Block.{Block}
 use Rattle.list_laws.specs.Order.{insert_after}
-use Rattle.list_order.specs.Entries.{absent, entry_cmp, reference}
-use Rattle.list_order.specs.Slots.{slot_at, behind, path_from, ids_along, number_along, number_for, passed, linked, linked_first}
-use Rattle.list_order.specs.Marks.{mark_at, count_where, is_marked, is_marked_in, from_block, start_of, block_behind, new_mark, entries_along, IsRising, IsCounted, IsKept, IsRecut}
+use Rattle.list_order.specs.Entries.{absent, entry_cmp, entry_of_reference}
+use Rattle.list_order.specs.Slots.{slot_at, behind, slots_from, ids_along, number_along, number_for, passed, linked, linked_first}
+use Rattle.list_order.specs.Marks.{mark_at, count_where, is_marked, is_marked_in, from_block, start_of, block_behind, new_mark, entries_along, IsInBlockOrder, IsCounted, IsMarkedOrder, IsRecut}
 use Rattle.list_order.proofs.Paths.{walk-None}
 use Rattle.list_order.proofs.Placing.{last_of}
 use Rattle.list_order.proofs.Linking.{fresh_of}
@@ -58,18 +58,18 @@ module _ (marks later : List Mark) (fresh : SlotNumber) where
       go false e ih = ih (omega (arith, leb-false (suc k) (mark_at marks n).block e))
 
   rising_added : (low : ℕ) (front rest : List SlotNumber) → (mark_at later fresh).block ≡ last_block low marks front → Along (IsSameMark marks later) (front ++ rest)
-      → IsRising low marks (front ++ rest) → IsRising low later (front ++ fresh ∷ rest)
+      → IsInBlockOrder low marks (front ++ rest) → IsInBlockOrder low later (front ++ fresh ∷ rest)
   rising_added low [] rest is s h =
-      (omega (arith, is), subst (λ b. IsRising b later rest) (sym is) (rising-same marks later low rest (blocks-same marks later rest s) h))
+      (omega (arith, is), subst (λ b. IsInBlockOrder b later rest) (sym is) (rising-same marks later low rest (blocks-same marks later rest s) h))
   rising_added low (n ∷ front) rest is s h =
-      (omega (arith, ap (λ m. m.block) s.0, h.0), subst (λ m. IsRising m.block later (front ++ fresh ∷ rest)) (sym s.0) (rising_added (mark_at marks n).block front rest is s.1 h.1))
+      (omega (arith, ap (λ m. m.block) s.0, h.0), subst (λ m. IsInBlockOrder m.block later (front ++ fresh ∷ rest)) (sym s.0) (rising_added (mark_at marks n).block front rest is s.1 h.1))
 
 module _ {slots : List Slot} {first : Option SlotNumber} {index : List (Id × SlotNumber)} {marks : List Mark} {blocks : List Block} {present : ℕ}
-    (k : IsKept slots first index marks blocks present) where
-  module _ (after : Option Id) (known : ForSome after (Contains (ids_along slots (path_from slots first)))) (id : Id)
-      (new : number_along slots (path_from slots first) id ≡ None) where
+    (k : IsMarkedOrder slots first index marks blocks present) where
+  module _ (after : Option Id) (known : ForSome after (Contains (ids_along slots (slots_from slots first)))) (id : Id)
+      (new : number_along slots (slots_from slots first) id ≡ None) where
     abbrev pub previous : Option SlotNumber
-    previous = passed slots id (number_for index after) (path_from slots (behind slots first (number_for index after)))
+    previous = passed slots id (number_for index after) (slots_from slots (behind slots first (number_for index after)))
 
     abbrev pub later : List Mark
     later = marks ++ new_mark marks previous ∷ []
@@ -84,7 +84,7 @@ module _ {slots : List Slot} {first : Option SlotNumber} {index : List (Id × Sl
             absurd (cc)
         go false e = mine
 
-    own_added : (n : SlotNumber) → n.0 < length (linked slots first previous id) → get (put index id (fresh_of slots)) (slot_at (linked slots first previous id) n).id ≡ Some n
+    own_added : (n : SlotNumber) → n.0 < length (linked slots first previous id) → get (put_at_id index id (fresh_of slots)) (slot_at (linked slots first previous id) n).id ≡ Some n
     own_added n within = get-put index id (fresh_of slots) (slot_at (linked slots first previous id) n).id ∙ go (eqb n.0 (length slots)) refl
       where
         go : (b : Bool) → eqb n.0 (length slots) ≡ b
@@ -99,8 +99,8 @@ module _ {slots : List Slot} {first : Option SlotNumber} {index : List (Id × Sl
             let mine : get index (slot_at (linked slots first previous id) n).id ≡ Some n = ap (get index) is ∙ k.own n less in
             other id (slot_at (linked slots first previous id) n).id n mine refl
 
-    pub kept_added : (entries : List (Id × SlotNumber)) → entries ≡ put index id (fresh_of slots) → length entries ≡ length index + 1
-        → IsKept (linked slots first previous id) (linked_first slots first previous) entries later blocks present
+    pub kept_added : (entries : List (Id × SlotNumber)) → entries ≡ put_at_id index id (fresh_of slots) → length entries ≡ length index + 1
+        → IsMarkedOrder (linked slots first previous id) (linked_first slots first previous) entries later blocks present
     kept_added entries are longer =
         let c = cut k.order marks k.marked after known id new in
         let m = made k.order marks k.marked after known id new in
@@ -126,42 +126,42 @@ module _ {slots : List Slot} {first : Option SlotNumber} {index : List (Id × Sl
 
     -- what the calls of an insertion make
     pub kept_made : (at : Option SlotNumber) → at ≡ number_for index after
-        → (last : Option SlotNumber) → last ≡ passed slots id at (path_from slots (behind slots first at))
+        → (last : Option SlotNumber) → last ≡ passed slots id at (slots_from slots (behind slots first at))
         → (new_slots : List Slot) → new_slots ≡ linked slots first last id → (new_first : Option SlotNumber) → new_first ≡ linked_first slots first last
-        → (entries : List (Id × SlotNumber)) → entries ≡ put index id (fresh_of slots) → length entries ≡ length index + 1
+        → (entries : List (Id × SlotNumber)) → entries ≡ put_at_id index id (fresh_of slots) → length entries ≡ length index + 1
         → (new_marks : List Mark) → new_marks ≡ marks ++ new_mark marks last ∷ []
-        → IsKept new_slots new_first entries new_marks blocks present
-        × (entries_along new_slots new_marks (path_from new_slots new_first) ≡ insert_after entry_cmp (entries_along slots marks (path_from slots first)) (reference after) (absent id))
+        → IsMarkedOrder new_slots new_first entries new_marks blocks present
+        × (entries_along new_slots new_marks (slots_from new_slots new_first) ≡ insert_after entry_cmp (entries_along slots marks (slots_from slots first)) (entry_of_reference after) (absent id))
     kept_made at at_is last last_is new_slots slots_are new_first first_is entries entries_are longer new_marks marks_are =
-        let l : last ≡ previous = last_is ∙ ap (λ r. passed slots id r (path_from slots (behind slots first r))) at_is in
+        let l : last ≡ previous = last_is ∙ ap (λ r. passed slots id r (slots_from slots (behind slots first r))) at_is in
         let a : linked slots first previous id ≡ new_slots = ap (λ p. linked slots first p id) (sym l) ∙ sym slots_are in
         let b : linked_first slots first previous ≡ new_first = ap (linked_first slots first) (sym l) ∙ sym first_is in
         let d : later ≡ new_marks = ap (λ p. marks ++ new_mark marks p ∷ []) (sym l) ∙ sym marks_are in
-        let t : IsKept (linked slots first previous id) (linked_first slots first previous) entries later blocks present = kept_added entries entries_are longer in
+        let t : IsMarkedOrder (linked slots first previous id) (linked_first slots first previous) entries later blocks present = kept_added entries entries_are longer in
         let u = entries_inserted k.order marks k.marked after known id new in (
-          subst (λ m. IsKept new_slots new_first entries m blocks present) d
-              (subst (λ o. IsKept new_slots o entries later blocks present) b (subst (λ s. IsKept s (linked_first slots first previous) entries later blocks present) a t)),
-          (λ i. entries_along (sym a i) (sym d i) (path_from (sym a i) (sym b i))) ∙ u,
+          subst (λ m. IsMarkedOrder new_slots new_first entries m blocks present) d
+              (subst (λ o. IsMarkedOrder new_slots o entries later blocks present) b (subst (λ s. IsMarkedOrder s (linked_first slots first previous) entries later blocks present) a t)),
+          (λ i. entries_along (sym a i) (sym d i) (slots_from (sym a i) (sym b i))) ∙ u,
         )
 
   -- cut anew, all is kept
-  pub kept_recut : (new : List Mark) (cut_anew : List Block) → IsRecut marks new cut_anew (path_from slots first) → IsKept slots first index new cut_anew present
+  pub kept_recut : (new : List Mark) (cut_anew : List Block) → IsRecut marks new cut_anew (slots_from slots first) → IsMarkedOrder slots first index new cut_anew present
   kept_recut new cut_anew r = record {
     order = k.order;
     own = k.own;
     marked = r.len ∙ k.marked;
     counted = r.counted;
-    all = k.all ∙ sym (count-presence marks new r.same (path_from slots first));
+    all = k.all ∙ sym (count-presence marks new r.same (slots_from slots first));
   }
 
 -- no slots
-pub none_kept : IsKept [] None [] [] [] 0
+pub none_kept : IsMarkedOrder [] None [] [] [] 0
 none_kept = record {
   order = none_ordered;
   own = λ n h. absurd (omega arith);
   marked = refl;
   counted = record {
-    rising = subst (IsRising 0 []) (sym (walk-None [])) tt;
+    rising = subst (IsInBlockOrder 0 []) (sym (walk-None [])) tt;
     counted = λ k h. absurd (omega arith);
     ends = λ k h. absurd (omega arith);
   };

@@ -7,8 +7,8 @@ use Rattle.list_order.specs.declared.slots.Slot.{Slot}
 use Rattle.list_order.specs.declared.slots.SlotNumber.{SlotNumber}
 use Rattle.list_order.specs.declared.marks.Mark.{Mark}
 use Rattle.list_order.specs.declared.marks.Block.{Block}
-use Rattle.list_order.specs.Slots.{slot_at, IsPath, path_from, IsWalk}
-use Rattle.list_order.specs.Marks.{mark_at, count_where, is_marked_in, from_block, start_of, IsRising, present_along, bit, block_at, IsCounted}
+use Rattle.list_order.specs.Slots.{slot_at, IsPath, slots_from, LinksEnd}
+use Rattle.list_order.specs.Marks.{mark_at, count_where, is_marked_in, from_block, start_of, IsInBlockOrder, present_along, bit, block_at, IsCounted}
 use Rattle.list_order.proofs.Paths.{path_from-path, walk_from_path, length-path_from}
 use Rattle.list_order.proofs.Scanning.{IsStep}
 
@@ -52,20 +52,20 @@ module _ (marks : List Mark) where
   from-zero (n ∷ path) = rw (leb-zero (mark_at marks n).block) refl
 
   -- what rises from a later block on has none of an earlier
-  count-later : (k low : ℕ) (path : List SlotNumber) → k < low → IsRising low marks path → count_where (is_marked_in k) marks path ≡ 0
+  count-later : (k low : ℕ) (path : List SlotNumber) → k < low → IsInBlockOrder low marks path → count_where (is_marked_in k) marks path ≡ 0
   count-later k low [] less h = refl
   count-later k low (n ∷ path) less h =
       rw (not_other k (mark_at marks n).block (λ e. omega (arith, h.0, e)) (mark_at marks n).is_present) (count-later k (mark_at marks n).block path (omega (arith, h.0)) h.1)
 
-  rising-lower : (low other : ℕ) (path : List SlotNumber) → other ≤ low → IsRising low marks path → IsRising other marks path
+  rising-lower : (low other : ℕ) (path : List SlotNumber) → other ≤ low → IsInBlockOrder low marks path → IsInBlockOrder other marks path
   rising-lower low other [] le h = tt
   rising-lower low other (n ∷ path) le h = (omega (arith, h.0), h.1)
 
-  pub rising-from : (k low : ℕ) (path : List SlotNumber) → IsRising low marks path → IsRising k marks (from_block k marks path)
+  pub rising-from : (k low : ℕ) (path : List SlotNumber) → IsInBlockOrder low marks path → IsInBlockOrder k marks (from_block k marks path)
   rising-from k low [] h = tt
   rising-from k low (n ∷ path) h = go (nat_le k (mark_at marks n).block) refl (rising-from k (mark_at marks n).block path h.1)
     where
-      go : (b : Bool) → nat_le k (mark_at marks n).block ≡ b → IsRising k marks (from_block k marks path) → IsRising k marks (if b then n ∷ path else from_block k marks path)
+      go : (b : Bool) → nat_le k (mark_at marks n).block ≡ b → IsInBlockOrder k marks (from_block k marks path) → IsInBlockOrder k marks (if b then n ∷ path else from_block k marks path)
       go true e ih = (leb-true k (mark_at marks n).block e, h.1)
       go false e ih = ih
 
@@ -97,7 +97,7 @@ module _ (marks : List Mark) where
           no false = refl
 
   -- behind a block stand the present ids that are not counted in it
-  pub skip : (slots : List Slot) (k low : ℕ) (path : List SlotNumber) (i : ℕ) → k ≤ low → IsRising low marks path
+  pub skip : (slots : List Slot) (k low : ℕ) (path : List SlotNumber) (i : ℕ) → k ≤ low → IsInBlockOrder low marks path
       → slice_get (present_along slots marks path) (count_where (is_marked_in k) marks path + i) ≡ slice_get (present_along slots marks (from_block (suc k) marks path)) i
   skip slots k low [] i le h = let e : 0 + i ≡ i = omega arith in ap (slice_get {X = Id} []) e
   skip slots k low (n ∷ path) i le h = go (nat_le (suc k) (mark_at marks n).block) refl (skip slots k (mark_at marks n).block path i (omega (arith, h.0)) h.1)
@@ -144,18 +144,18 @@ module _ (marks : List Mark) where
       go false ih = ih
 
   -- from block to block
-  module _ (slots : List Slot) (first : Option SlotNumber) (blocks : List Block) (walk : IsWalk slots first) (counted : IsCounted marks blocks (path_from slots first) None) where
-    pub block_step : (k : ℕ) (at : Option SlotNumber) (left : ℕ) → k < length blocks → path_from slots at ≡ from_block k marks (path_from slots first)
+  module _ (slots : List Slot) (first : Option SlotNumber) (blocks : List Block) (walk : LinksEnd slots first) (counted : IsCounted marks blocks (slots_from slots first) None) where
+    pub block_step : (k : ℕ) (at : Option SlotNumber) (left : ℕ) → k < length blocks → slots_from slots at ≡ from_block k marks (slots_from slots first)
         → (block_at blocks k).present ≤ left
-        → IsWalk slots (block_at blocks k).end
-        × (path_from slots (block_at blocks k).end ≡ from_block (k + 1) marks (path_from slots first))
-        × (slice_get (present_along slots marks (path_from slots (block_at blocks k).end)) (left - (block_at blocks k).present) ≡ slice_get (present_along slots marks (path_from slots at)) left)
+        → LinksEnd slots (block_at blocks k).end
+        × (slots_from slots (block_at blocks k).end ≡ from_block (k + 1) marks (slots_from slots first))
+        × (slice_get (present_along slots marks (slots_from slots (block_at blocks k).end)) (left - (block_at blocks k).present) ≡ slice_get (present_along slots marks (slots_from slots at)) left)
     block_step k at left within rest enough =
-        let path : List SlotNumber = path_from slots first in
+        let path : List SlotNumber = slots_from slots first in
         let on : IsPath slots (block_at blocks k).end (from_block (suc k) marks path) =
         subst (λ o. IsPath slots o (from_block (suc k) marks path)) (sym (counted.ends k within)) (path-from slots (suc k) first path walk.path) in
         let short : length (from_block (suc k) marks path) ≤ length slots = omega (arith, length-from (suc k) path, length-path_from slots first) in
-        let there : path_from slots (block_at blocks k).end ≡ from_block (suc k) marks path = path_from-path slots (block_at blocks k).end (from_block (suc k) marks path) on short in
+        let there : slots_from slots (block_at blocks k).end ≡ from_block (suc k) marks path = path_from-path slots (block_at blocks k).end (from_block (suc k) marks path) on short in
         let count : count_where (is_marked_in k) marks (from_block k marks path) ≡ (block_at blocks k).present = count-from k path ∙ sym (counted.counted k within) in
         let one : k + 1 ≡ suc k = omega arith in
         let all : count_where (is_marked_in k) marks (from_block k marks path) + (left - (block_at blocks k).present) ≡ left = omega (arith, count) in (
@@ -168,25 +168,25 @@ module _ (marks : List Mark) where
 
 -- from slot to slot
 module _ (slots : List Slot) (marks : List Mark) (at : Option SlotNumber) (n : SlotNumber) (s : IsStep slots at n) where
-  pub due : (i : ℕ) → ((mark_at marks n).is_present && nat_eq i 0) ≡ true → Some (slot_at slots n).id ≡ slice_get (present_along slots marks (path_from slots at)) i
+  pub due : (i : ℕ) → ((mark_at marks n).is_present && nat_eq i 0) ≡ true → Some (slot_at slots n).id ≡ slice_get (present_along slots marks (slots_from slots at)) i
   due i h = rw s.path (go i (mark_at marks n).is_present h)
     where
       go : (i : ℕ) (p : Bool) → (p && nat_eq i 0) ≡ true
-          → ◌≡◌ {A = Option Id} (Some (slot_at slots n).id) (slice_get (if p then (slot_at slots n).id ∷ present_along slots marks (path_from slots (slot_at slots n).next) else present_along slots marks (path_from slots (slot_at slots n).next)) i)
+          → ◌≡◌ {A = Option Id} (Some (slot_at slots n).id) (slice_get (if p then (slot_at slots n).id ∷ present_along slots marks (slots_from slots (slot_at slots n).next) else present_along slots marks (slots_from slots (slot_at slots n).next)) i)
       go i false h = absurd (true≢false (sym h))
       go zero true h = refl
       go (suc i) true h = absurd (omega (arith, eqb-true (suc i) 0 h))
 
   pub not_due : (i : ℕ) → ((mark_at marks n).is_present && nat_eq i 0) ≡ false
-      → slice_get (present_along slots marks (path_from slots (slot_at slots n).next)) (i - bit (mark_at marks n).is_present) ≡ slice_get (present_along slots marks (path_from slots at)) i
+      → slice_get (present_along slots marks (slots_from slots (slot_at slots n).next)) (i - bit (mark_at marks n).is_present) ≡ slice_get (present_along slots marks (slots_from slots at)) i
   not_due i h = rw s.path (go i (mark_at marks n).is_present h)
     where
       go : (i : ℕ) (p : Bool) → (p && nat_eq i 0) ≡ false
-          → slice_get (present_along slots marks (path_from slots (slot_at slots n).next)) (i - bit p)
-          ≡ slice_get (if p then (slot_at slots n).id ∷ present_along slots marks (path_from slots (slot_at slots n).next) else present_along slots marks (path_from slots (slot_at slots n).next)) i
-      go i false h = let e : i - 0 ≡ i = omega arith in ap (slice_get (present_along slots marks (path_from slots (slot_at slots n).next))) e
+          → slice_get (present_along slots marks (slots_from slots (slot_at slots n).next)) (i - bit p)
+          ≡ slice_get (if p then (slot_at slots n).id ∷ present_along slots marks (slots_from slots (slot_at slots n).next) else present_along slots marks (slots_from slots (slot_at slots n).next)) i
+      go i false h = let e : i - 0 ≡ i = omega arith in ap (slice_get (present_along slots marks (slots_from slots (slot_at slots n).next))) e
       go zero true h = absurd (true≢false h)
-      go (suc i) true h = let e : suc i - 1 ≡ i = omega arith in ap (slice_get (present_along slots marks (path_from slots (slot_at slots n).next))) e
+      go (suc i) true h = let e : suc i - 1 ≡ i = omega arith in ap (slice_get (present_along slots marks (slots_from slots (slot_at slots n).next))) e
 
 pub left_enough : (i : ℕ) (p : Bool) → (p && nat_eq i 0) ≡ false → bit p ≤ i
 left_enough i false h = omega arith

@@ -7,7 +7,7 @@ use Rattle.list_order.specs.declared.slots.Slot.{Slot}
 use Rattle.list_order.specs.declared.slots.SlotNumber.{SlotNumber}
 use Rattle.list_order.specs.declared.marks.Mark.{Mark}
 use Rattle.list_order.specs.declared.marks.Block.{Block}
-use Rattle.list_order.specs.Slots.{slot_at, IsPath, path_from, IsWalk}
+use Rattle.list_order.specs.Slots.{slot_at, IsPath, slots_from, LinksEnd}
 use Rattle.list_order.specs.Marks.{mark_at, block_at, no_block, count_where, is_marked_in, from_block, start_of, IsCounted, bit, set_block, IsClosed, IsRecut}
 use Rattle.list_order.proofs.Scanning.{IsStep}
 use Rattle.list_order.proofs.Paths.{walk-None, length-path_from}
@@ -18,7 +18,7 @@ use Rattle.list_order.proofs.Apart.{apart_front, set_here, set_other, set_apart}
 -- the blocks as far as the path was gone through
 pub record IsPartlyCut (slots : List Slot) (first : Option SlotNumber) (before marks : List Mark) (blocks : List Block) (at : Option SlotNumber) (present : ℕ) : Type 0 where
   pub done : List SlotNumber
-  pub parts : path_from slots first ≡ done ++ path_from slots at
+  pub parts : slots_from slots first ≡ done ++ slots_from slots at
   pub same : (n : SlotNumber) → (mark_at marks n).is_present ≡ (mark_at before n).is_present
   pub len : length marks ≡ length before
   pub counted : IsCounted marks blocks done at
@@ -76,7 +76,7 @@ module _ (slots : List Slot) (first : Option SlotNumber) (before : List Mark) wh
     rest = refl;
   }
 
-  module _ (walk : IsWalk slots first) (marked : length before ≡ length slots) where
+  module _ (walk : LinksEnd slots first) (marked : length before ≡ length slots) where
     pub put_in : (marks : List Mark) (blocks : List Block) (at : Option SlotNumber) (present : ℕ) (n : SlotNumber)
         → IsPartlyCut slots first before marks blocks at present → at ≡ Some n → IsStep slots at n
         → IsPartlyCut slots first before (set_block marks n (length blocks)) blocks (slot_at slots n).next (present + bit (mark_at marks n).is_present)
@@ -84,17 +84,17 @@ module _ (slots : List Slot) (first : Option SlotNumber) (before : List Mark) wh
         let mark : Mark = record { is_present = (mark_at marks n).is_present; block = length blocks } in
         let new : List Mark = set marks n.0 mark in
         let done : List SlotNumber = c.done in
-        let parts : path_from slots first ≡ done ++ n ∷ path_from slots (slot_at slots n).next = c.parts ∙ ap (λ l. done ++ l) s.path in
+        let parts : slots_from slots first ≡ done ++ n ∷ slots_from slots (slot_at slots n).next = c.parts ∙ ap (λ l. done ++ l) s.path in
         let inside : n.0 < length marks = omega (arith, s.within, c.len) in
         let here : mark_at new n ≡ mark = set_here marks n mark inside in
-        let away = apart_front slots first done n (path_from slots (slot_at slots n).next) (subst (λ l. IsPath slots first l) parts walk.path) in
+        let away = apart_front slots first done n (slots_from slots (slot_at slots n).next) (subst (λ l. IsPath slots first l) parts walk.path) in
         let same : Along (IsSameMark marks new) done = set_apart marks n mark done away in
         let block : (mark_at new n).block ≡ length blocks = ap (λ m. m.block) here in
         let present_here : (mark_at new n).is_present ≡ (mark_at marks n).is_present = ap (λ m. m.is_present) here in
         let within : Along (λ m. (mark_at new m).block < suc (length blocks)) done = kept marks new (suc (length blocks)) done same c.within in
         record {
           done = done ++ n ∷ [];
-          parts = parts ∙ sym (append_assoc done (n ∷ []) (path_from slots (slot_at slots n).next));
+          parts = parts ∙ sym (append_assoc done (n ∷ []) (slots_from slots (slot_at slots n).next));
           same = λ m. presence marks n (length blocks) inside m ∙ c.same m;
           len = length-set marks n.0 mark ∙ c.len;
           counted = record {
@@ -120,8 +120,8 @@ module _ (slots : List Slot) (first : Option SlotNumber) (before : List Mark) wh
         → IsPartlyCut slots first before marks blocks at present → at ≡ Some n → IsStep slots at n → present + bit (mark_at marks n).is_present ≤ length slots
     count_fits marks blocks at present n c is s =
         let one : bit (mark_at marks n).is_present ≤ 1 = bit_small (mark_at marks n).is_present in
-        let parts : path_from slots first ≡ c.done ++ n ∷ path_from slots (slot_at slots n).next = c.parts ∙ ap (λ l. c.done ++ l) s.path in
-        omega (arith, one, c.rest, count_within marks (is_marked_in (length blocks)) c.done, ap length parts, length-append c.done (n ∷ path_from slots (slot_at slots n).next), length-path_from slots first)
+        let parts : slots_from slots first ≡ c.done ++ n ∷ slots_from slots (slot_at slots n).next = c.parts ∙ ap (λ l. c.done ++ l) s.path in
+        omega (arith, one, c.rest, count_within marks (is_marked_in (length blocks)) c.done, ap length parts, length-append c.done (n ∷ slots_from slots (slot_at slots n).next), length-path_from slots first)
 
   -- the open block is closed, or stays open
   pub close : (marks : List Mark) (blocks new : List Block) (at : Option SlotNumber) (present left : ℕ)
@@ -173,9 +173,9 @@ module _ (slots : List Slot) (first : Option SlotNumber) (before : List Mark) wh
 
   -- at the end of the path
   pub all_cut : (marks : List Mark) (blocks : List Block) (at : Option SlotNumber) (present : ℕ) → at ≡ None
-      → IsPartlyCut slots first before marks blocks at present → IsRecut before marks blocks (path_from slots first)
+      → IsPartlyCut slots first before marks blocks at present → IsRecut before marks blocks (slots_from slots first)
   all_cut marks blocks at present is c =
-      let whole : path_from slots first ≡ c.done = c.parts ∙ ap (λ l. c.done ++ l) (ap (path_from slots) is ∙ walk-None slots) ∙ append-nil c.done in
+      let whole : slots_from slots first ≡ c.done = c.parts ∙ ap (λ l. c.done ++ l) (ap (slots_from slots) is ∙ walk-None slots) ∙ append-nil c.done in
       record {
         same = c.same;
         len = c.len;

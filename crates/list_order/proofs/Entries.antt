@@ -5,7 +5,7 @@ use Rattle.doc_words.specs.Words.{Id, id_cmp}
 use Rattle.crdt_rules.specs.Same.{id_eq}
 use Rattle.list_laws.specs.Order.{place, place_behind, insert_after}
 use Rattle.list_laws.proofs.Members.{Contains-nil, Contains-here, Contains-there, Contains-cases}
-use Rattle.list_order.specs.Entries.{ids_of, present_of, all_absent, entry_cmp, absent, reference, with_presence}
+use Rattle.list_order.specs.Entries.{ids_of, present_of, all_absent, entry_cmp, absent, entry_of_reference, with_presence}
 
 ids_of-place : (entries : List (Id × Bool)) (id : Id) → ids_of (place entry_cmp entries (absent id)) ≡ place id_cmp (ids_of entries) id
 ids_of-place [] id = refl
@@ -28,7 +28,7 @@ ids_of-place_behind (e ∷ entries) after id = go (is_eq (id_cmp e.0 after)) (id
 
 -- an insertion places the id among the ids
 pub ids_of-insert : (entries : List (Id × Bool)) (after : Option Id) (id : Id)
-    → ids_of (insert_after entry_cmp entries (reference after) (absent id)) ≡ insert_after id_cmp (ids_of entries) after id
+    → ids_of (insert_after entry_cmp entries (entry_of_reference after) (absent id)) ≡ insert_after id_cmp (ids_of entries) after id
 ids_of-insert entries None id = ids_of-place entries id
 ids_of-insert entries (Some after) id = ids_of-place_behind entries after id
 
@@ -120,7 +120,7 @@ module _ (id i : Id) (b : Bool) where
             | inr there ↦ elim (ih there) [ inl new ↦ inl new | inr old ↦ inr (Contains-there e entries old) ]
           ]
 
-  pub entry-insert : (entries : List (Id × Bool)) (after : Option Id) → Contains (insert_after entry_cmp entries (reference after) (absent id)) (i, b)
+  pub entry-insert : (entries : List (Id × Bool)) (after : Option Id) → Contains (insert_after entry_cmp entries (entry_of_reference after) (absent id)) (i, b)
       → ((i ≡ id) × (b ≡ false)) ⊎ Contains entries (i, b)
   entry-insert entries None c = entry-place entries c
   entry-insert entries (Some after) c = entry-place_behind entries after c

@@ -2,9 +2,10 @@
 use Rattle.std.proofs.Common.{◌≡◌, ◌+◌, suc, List, [], ◌∷◌, Bool, true, false, not, if◌then◌else◌, Option, Some, None, slice_get, sym, ap, ◌∙◌, arith}
 use Rattle.lamport_id.specs.declared.id.Id.{Id}
 use Rattle.crdt_rules.specs.Same.{id_eq}
+use Rattle.crdt_rules.specs.Places.{place_of}
 use Rattle.list_order.specs.declared.slots.Slot.{Slot}
 use Rattle.list_order.specs.declared.slots.SlotNumber.{SlotNumber}
-use Rattle.list_order.specs.Following.{place_of, following}
+use Rattle.list_order.specs.Following.{following}
 use Rattle.list_order.specs.Slots.{slot_at, behind, IsPath, ids_along, number_along}
 use Rattle.list_order.proofs.Placing.{IsReference}
 

@@ -5,16 +5,16 @@ use Rattle.lamport_id.specs.declared.id.Id.{Id}
 use Rattle.crdt_rules.specs.Same.{id_eq}
 use Rattle.list_laws.specs.Order.{insert_after}
 use Rattle.crdt_rules.proofs.SameLaws.{id_decides, eq_from}
-use Rattle.presence_set.specs.ById.{get, put, IsAscending}
+use Rattle.presence_set.specs.ById.{get, put_at_id, IsAscending}
 use Rattle.presence_set.proofs.ByIdLaws.{get-put}
 use Rattle.presence_set.proofs.Ascending.{put_ascending}
 use Rattle.list_order.specs.declared.slots.Slot.{Slot}
 use Rattle.list_order.specs.declared.slots.SlotNumber.{SlotNumber}
-use Rattle.list_order.specs.Slots.{slot_at, behind, IsPath, path_from, ids_along, number_along, number_for, passed, linked, linked_first, IsOrder, IsWalk}
+use Rattle.list_order.specs.Slots.{slot_at, behind, IsPath, slots_from, ids_along, number_along, number_for, passed, linked, linked_first, IsOrder, LinksEnd}
 use Rattle.std.proofs.Math.ListN.{get_or-append}
 use Rattle.std.proofs.Math.Seq.{get_or-append_seam}
 use Rattle.list_order.specs.declared.marks.Mark.{Mark}
-use Rattle.list_order.specs.Entries.{absent, entry_cmp, reference}
+use Rattle.list_order.specs.Entries.{absent, entry_cmp, entry_of_reference}
 use Rattle.list_order.specs.Marks.{mark_at, unmarked, new_mark, entries_along}
 use Rattle.list_order.proofs.Counting.{Along, IsSameMark}
 use Rattle.list_order.proofs.Paths.{path_from-path, walk_from_path, walk-None, path-append}
@@ -58,35 +58,35 @@ module _ (slots : List Slot) where
   length-ids_along (n ∷ path) = ap suc (length-ids_along path)
 
 module _ {slots : List Slot} {first : Option SlotNumber} {index : List (Id × SlotNumber)} (o : IsOrder slots first index) where
-  pub first_walk : IsWalk slots first
+  pub first_walk : LinksEnd slots first
   first_walk = record { path = o.path }
 
   -- as many ids as slots
-  pub length-ids : length (ids_along slots (path_from slots first)) ≡ length slots
-  length-ids = length-ids_along slots (path_from slots first) ∙ o.every
+  pub length-ids : length (ids_along slots (slots_from slots first)) ≡ length slots
+  length-ids = length-ids_along slots (slots_from slots first) ∙ o.every
 
   -- a slot that the index gives is one
-  pub number_within : (id : Id) (p : SlotNumber) → get index id ≡ Some p → (p.0 < length slots) × IsWalk slots (slot_at slots p).next
+  pub number_within : (id : Id) (p : SlotNumber) → get index id ≡ Some p → (p.0 < length slots) × LinksEnd slots (slot_at slots p).next
   number_within id p e =
-      let f = found slots [] (path_from slots first) id p (sym (o.exact id) ∙ e) in
+      let f = found slots [] (slots_from slots first) id p (sym (o.exact id) ∙ e) in
       let on = path-append slots f.front p f.rest first (subst (λ l. IsPath slots first l) f.parts o.path) in
       let short : length f.rest ≤ length slots = omega (arith, o.every, ap length f.parts, length-append f.front (p ∷ f.rest)) in
       (on.0, walk_from_path slots (slot_at slots p).next f.rest on.1 short)
 
   -- the slot that the index gives for a reference is the reference's
-  pub is_reference : (after : Option Id) → ForSome after (Contains (ids_along slots (path_from slots first)))
-      → IsReference slots (path_from slots first) after (number_for index after)
+  pub is_reference : (after : Option Id) → ForSome after (Contains (ids_along slots (slots_from slots first)))
+      → IsReference slots (slots_from slots first) after (number_for index after)
   is_reference None known = refl
   is_reference (Some id) known =
-      let there = number_from_contains slots (path_from slots first) id (known id refl) in
+      let there = number_from_contains slots (slots_from slots first) id (known id refl) in
       (there.0, o.exact id ∙ there.1, there.1)
 
   pub reference_within : (after : Option Id) → ForSome (number_for index after) (λ p. p.0 < length slots)
   reference_within None = λ p e. absurd (cc)
   reference_within (Some id) = λ p e. (number_within id p e).0
 
-  pub reference_walk : (after : Option Id) (reference : Option SlotNumber) → number_for index after ≡ reference → IsWalk slots (behind slots first reference)
-  reference_walk None reference e = subst (λ r. IsWalk slots (behind slots first r)) e first_walk
+  pub reference_walk : (after : Option Id) (reference : Option SlotNumber) → number_for index after ≡ reference → LinksEnd slots (behind slots first reference)
+  reference_walk None reference e = subst (λ r. LinksEnd slots (behind slots first r)) e first_walk
   reference_walk (Some id) None e = first_walk
   reference_walk (Some id) (Some p) e = (number_within id p e).1
 
@@ -96,21 +96,21 @@ module _ {slots : List Slot} {first : Option SlotNumber} {index : List (Id × Sl
   stays marks mark marked at (n ∷ path) p =
       (get_or-append marks (mark ∷ []) unmarked n.0 (omega (arith, p.1, marked)), stays marks mark marked (slot_at slots n).next path p.2)
 
-  module _ (marks : List Mark) (marked : length marks ≡ length slots) (after : Option Id) (known : ForSome after (Contains (ids_along slots (path_from slots first)))) (id : Id)
-      (new : number_along slots (path_from slots first) id ≡ None) where
+  module _ (marks : List Mark) (marked : length marks ≡ length slots) (after : Option Id) (known : ForSome after (Contains (ids_along slots (slots_from slots first)))) (id : Id)
+      (new : number_along slots (slots_from slots first) id ≡ None) where
     abbrev pub previous : Option SlotNumber
-    previous = passed slots id (number_for index after) (path_from slots (behind slots first (number_for index after)))
+    previous = passed slots id (number_for index after) (slots_from slots (behind slots first (number_for index after)))
 
     abbrev pub later : List Mark
     later = marks ++ new_mark marks previous ∷ []
 
-    pub cut : IsCut slots marks (path_from slots first) None previous (insert_after entry_cmp (entries_along slots marks (path_from slots first)) (reference after) (absent id)) id
-    cut = insertion_cuts slots marks first (path_from slots first) o.path (omega (arith, o.every)) after (number_for index after) id (is_reference after known)
+    pub cut : IsCut slots marks (slots_from slots first) None previous (insert_after entry_cmp (entries_along slots marks (slots_from slots first)) (entry_of_reference after) (absent id)) id
+    cut = insertion_cuts slots marks first (slots_from slots first) o.path (omega (arith, o.every)) after (number_for index after) id (is_reference after known)
 
     pub made : IsInserted slots first id cut.front cut.rest previous
     made = inserted slots first id cut.front cut.rest previous cut.ends (subst (λ l. IsPath slots first l) cut.parts o.path)
 
-    pub new_path : path_from (linked slots first previous id) (linked_first slots first previous) ≡ cut.front ++ fresh_of slots ∷ cut.rest
+    pub new_path : slots_from (linked slots first previous id) (linked_first slots first previous) ≡ cut.front ++ fresh_of slots ∷ cut.rest
     new_path =
         path_from-path (linked slots first previous id) (linked_first slots first previous) (cut.front ++ fresh_of slots ∷ cut.rest) made.path
         (omega (arith, o.every, ap length cut.parts, length-append cut.front cut.rest, length-append cut.front (fresh_of slots ∷ cut.rest), made.slots_are.longer))
@@ -122,14 +122,14 @@ module _ {slots : List Slot} {first : Option SlotNumber} {index : List (Id × Sl
     pub mark_is : mark_at later (fresh_of slots) ≡ new_mark marks previous
     mark_is = subst (λ n. get_or later n unmarked ≡ new_mark marks previous) marked (get_or-append_seam marks (new_mark marks previous) [] unmarked)
 
-    pub entries_inserted : entries_along (linked slots first previous id) later (path_from (linked slots first previous id) (linked_first slots first previous))
-        ≡ insert_after entry_cmp (entries_along slots marks (path_from slots first)) (reference after) (absent id)
+    pub entries_inserted : entries_along (linked slots first previous id) later (slots_from (linked slots first previous id) (linked_first slots first previous))
+        ≡ insert_after entry_cmp (entries_along slots marks (slots_from slots first)) (entry_of_reference after) (absent id)
     entries_inserted =
         ap (entries_along (linked slots first previous id) later) new_path
         ∙ entries_linked made.slots_are marks later first cut.front cut.rest (subst (λ l. IsPath slots first l) cut.parts o.path) marks_stay (ap (λ m. m.is_present) mark_is)
         ∙ sym cut.placed
 
-    pub order_inserted : (entries : List (Id × SlotNumber)) → entries ≡ put index id (fresh_of slots) → length entries ≡ length index + 1
+    pub order_inserted : (entries : List (Id × SlotNumber)) → entries ≡ put_at_id index id (fresh_of slots) → length entries ≡ length index + 1
         → IsOrder (linked slots first previous id) (linked_first slots first previous) entries
     order_inserted entries are longer = record {
       path = subst (λ l. IsPath (linked slots first previous id) (linked_first slots first previous) l) (sym new_path) made.path;

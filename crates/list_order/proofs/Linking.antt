@@ -7,7 +7,7 @@ use Rattle.crdt_rules.specs.Same.{id_eq}
 use Rattle.crdt_rules.proofs.SameLaws.{id_decides}
 use Rattle.list_order.specs.declared.slots.Slot.{Slot}
 use Rattle.list_order.specs.declared.slots.SlotNumber.{SlotNumber}
-use Rattle.list_order.specs.Slots.{blank, slot_at, IsPath, number_along, linked, linked_first}
+use Rattle.list_order.specs.Slots.{blank_slot, slot_at, IsPath, number_along, linked, linked_first}
 use Rattle.list_order.specs.declared.marks.Mark.{Mark}
 use Rattle.list_order.specs.Entries.{absent}
 use Rattle.list_order.specs.Marks.{mark_at, entries_along}
@@ -114,19 +114,19 @@ module _ (slots : List Slot) (first : Option SlotNumber) (id : Id) where
   head_linked = record {
     number = refl;
     longer = length-append slots (record { id = id; next = first } ∷ []);
-    new_id = ap (λ s. s.id) (get_or-append_seam slots (record { id = id; next = first }) [] blank);
-    ids = λ n within. ap (λ s. s.id) (get_or-append slots (record { id = id; next = first } ∷ []) blank n.0 within);
+    new_id = ap (λ s. s.id) (get_or-append_seam slots (record { id = id; next = first }) [] blank_slot);
+    ids = λ n within. ap (λ s. s.id) (get_or-append slots (record { id = id; next = first } ∷ []) blank_slot n.0 within);
   }
 
   -- a path whose front is empty
   path_at_head : (rest : List SlotNumber) → IsPath slots first rest → IsPath (linked slots first None id) (Some (fresh_of slots)) (fresh_of slots ∷ rest)
   path_at_head rest p =
       let new : Slot = record { id = id; next = first } in
-      let on : (slot_at (linked slots first None id) (fresh_of slots)).next ≡ first = ap (λ s. s.next) (get_or-append_seam slots new [] blank) in (
+      let on : (slot_at (linked slots first None id) (fresh_of slots)).next ≡ first = ap (λ s. s.next) (get_or-append_seam slots new [] blank_slot) in (
         refl,
         omega (arith, head_linked.longer),
         subst (λ o. IsPath (linked slots first None id) o rest) (sym on)
-            (path_kept head_linked (λ n within. ap (λ s. s.next) (get_or-append slots (new ∷ []) blank n.0 within)) first rest p),
+            (path_kept head_linked (λ n within. ap (λ s. s.next) (get_or-append slots (new ∷ []) blank_slot n.0 within)) first rest p),
       )
 
   module _ (p : SlotNumber) (within : p.0 < length slots) where
@@ -137,16 +137,16 @@ module _ (slots : List Slot) (first : Option SlotNumber) (id : Id) where
     added = record { id = id; next = (slot_at slots p).next }
 
     read_fresh : slot_at (before ++ added ∷ []) (fresh_of slots) ≡ added
-    read_fresh = subst (λ n. get_or (before ++ added ∷ []) n blank ≡ added) (length-set slots p.0 (record { id = (slot_at slots p).id; next = Some (fresh_of slots) })) (get_or-append_seam before added [] blank)
+    read_fresh = subst (λ n. get_or (before ++ added ∷ []) n blank_slot ≡ added) (length-set slots p.0 (record { id = (slot_at slots p).id; next = Some (fresh_of slots) })) (get_or-append_seam before added [] blank_slot)
 
     read_before : (n : SlotNumber) → n.0 < length slots → slot_at (before ++ added ∷ []) n ≡ slot_at before n
-    read_before n inside = get_or-append before (added ∷ []) blank n.0 (omega (arith, length-set slots p.0 (record { id = (slot_at slots p).id; next = Some (fresh_of slots) })))
+    read_before n inside = get_or-append before (added ∷ []) blank_slot n.0 (omega (arith, length-set slots p.0 (record { id = (slot_at slots p).id; next = Some (fresh_of slots) })))
 
     read_p : slot_at before p ≡ record { id = (slot_at slots p).id; next = Some (fresh_of slots) }
-    read_p = get_or-set_same slots p.0 (record { id = (slot_at slots p).id; next = Some (fresh_of slots) }) blank within
+    read_p = get_or-set_same slots p.0 (record { id = (slot_at slots p).id; next = Some (fresh_of slots) }) blank_slot within
 
     read_other : (n : SlotNumber) → n ≢ p → slot_at before n ≡ slot_at slots n
-    read_other n other = get_or-set_other slots p.0 n.0 (record { id = (slot_at slots p).id; next = Some (fresh_of slots) }) blank (λ e. other (λ i. record { 0 = e i }))
+    read_other n other = get_or-set_other slots p.0 n.0 (record { id = (slot_at slots p).id; next = Some (fresh_of slots) }) blank_slot (λ e. other (λ i. record { 0 = e i }))
 
     same_id : (n : SlotNumber) → (slot_at before n).id ≡ (slot_at slots n).id
     same_id n = go (eqb n.0 p.0) refl

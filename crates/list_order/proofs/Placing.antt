@@ -10,9 +10,9 @@ use Rattle.crdt_rules.proofs.IdOrder.{is_eq-id_cmp}
 use Rattle.list_order.specs.declared.slots.Slot.{Slot}
 use Rattle.list_order.specs.declared.slots.SlotNumber.{SlotNumber}
 use Rattle.list_order.specs.declared.marks.Mark.{Mark}
-use Rattle.list_order.specs.Entries.{ids_of, absent, entry_cmp, reference as reference_entry}
+use Rattle.list_order.specs.Entries.{ids_of, absent, entry_cmp, entry_of_reference as reference_entry}
 use Rattle.list_order.specs.Marks.{mark_at, entries_along}
-use Rattle.list_order.specs.Slots.{slot_at, behind, IsPath, path_from, ids_along, number_along, passed}
+use Rattle.list_order.specs.Slots.{slot_at, behind, IsPath, slots_from, ids_along, number_along, passed}
 use Rattle.list_order.proofs.Paths.{path_from-path, path-append}
 
 -- the last of these, or previous
@@ -102,9 +102,9 @@ module _ (slots : List Slot) (marks : List Mark) where
   -- where an insertion cuts the path
   pub insertion_cuts : (first : Option SlotNumber) (path : List SlotNumber) → IsPath slots first path → length path ≤ length slots
       → (after : Option Id) (reference : Option SlotNumber) (id : Id) → IsReference slots path after reference
-      → IsCut path None (passed slots id reference (path_from slots (behind slots first reference))) (insert_after entry_cmp (entries_along slots marks path) (reference_entry after) (absent id)) id
+      → IsCut path None (passed slots id reference (slots_from slots (behind slots first reference))) (insert_after entry_cmp (entries_along slots marks path) (reference_entry after) (absent id)) id
   insertion_cuts first path p short None reference id h =
-      let all : path_from slots (behind slots first reference) ≡ path = ap (λ r. path_from slots (behind slots first r)) h ∙ path_from-path slots first path p short in
+      let all : slots_from slots (behind slots first reference) ≡ path = ap (λ r. slots_from slots (behind slots first r)) h ∙ path_from-path slots first path p short in
       let cut = passed-place path None id in
       record {
         front = cut.front;
@@ -118,8 +118,8 @@ module _ (slots : List Slot) (marks : List Mark) where
       let f = found path after previous h.2 in
       let on = path-append slots f.front previous f.rest first (subst (λ l. IsPath slots first l) f.parts p) in
       let fewer : length f.rest ≤ length slots = omega (arith, ap length f.parts, length-append f.front (previous ∷ f.rest)) in
-      let all : path_from slots (behind slots first reference) ≡ f.rest =
-      ap (λ r. path_from slots (behind slots first r)) h.1 ∙ path_from-path slots (slot_at slots previous).next f.rest on.1 fewer in
+      let all : slots_from slots (behind slots first reference) ≡ f.rest =
+      ap (λ r. slots_from slots (behind slots first r)) h.1 ∙ path_from-path slots (slot_at slots previous).next f.rest on.1 fewer in
       let cut = passed-place f.rest (Some previous) id in
       record {
         front = f.front ++ previous ∷ cut.front;

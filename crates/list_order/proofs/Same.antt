@@ -3,7 +3,7 @@ use Rattle.std.proofs.Common.{◌≡◌, ◌<◌, ◌≤◌, ◌+◌, ℕ, suc, 
 use Rattle.std.proofs.lemmas.Bool.{le-leb, lt-leb}
 use Rattle.list_order.specs.declared.slots.SlotNumber.{SlotNumber}
 use Rattle.list_order.specs.declared.marks.Mark.{Mark}
-use Rattle.list_order.specs.Marks.{mark_at, count_where, is_marked_in, from_block, start_of, IsRising}
+use Rattle.list_order.specs.Marks.{mark_at, count_where, is_marked_in, from_block, start_of, IsInBlockOrder}
 use Rattle.list_order.proofs.Counting.{Along, along-map, IsSameMark, IsSameBlock, not_other}
 
 module _ (marks new : List Mark) where
@@ -22,10 +22,10 @@ module _ (marks new : List Mark) where
       let c = from-same k path s.1 in
       λ i. if nat_le k (s.0 i) then n ∷ path else c i
 
-  pub rising-same : (low : ℕ) (path : List SlotNumber) → Along (IsSameBlock marks new) path → IsRising low marks path → IsRising low new path
+  pub rising-same : (low : ℕ) (path : List SlotNumber) → Along (IsSameBlock marks new) path → IsInBlockOrder low marks path → IsInBlockOrder low new path
   rising-same low [] s h = tt
   rising-same low (n ∷ path) s h =
-      (omega (arith, s.0, h.0), subst (λ b. IsRising b new path) (sym s.0) (rising-same (mark_at marks n).block path s.1 h.1))
+      (omega (arith, s.0, h.0), subst (λ b. IsInBlockOrder b new path) (sym s.0) (rising-same (mark_at marks n).block path s.1 h.1))
 
 module _ (marks : List Mark) where
   pub count-append : (test : Mark → Bool) (xs ys : List SlotNumber) → count_where test marks (xs ++ ys) ≡ count_where test marks xs + count_where test marks ys
@@ -70,7 +70,7 @@ module _ (marks : List Mark) where
       go false ih = ih
 
   pub rising-append : (low : ℕ) (path : List SlotNumber) (n : SlotNumber) → low ≤ (mark_at marks n).block → Along (λ m. (mark_at marks m).block ≤ (mark_at marks n).block) path
-      → IsRising low marks path → IsRising low marks (path ++ n ∷ [])
+      → IsInBlockOrder low marks path → IsInBlockOrder low marks (path ++ n ∷ [])
   rising-append low [] n le a h = (le, tt)
   rising-append low (m ∷ path) n le a h = (h.0, rising-append (mark_at marks m).block path n a.0 a.1 h.1)
 

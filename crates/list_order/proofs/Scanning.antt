@@ -5,31 +5,31 @@ use Rattle.std.specs.Ordering.{is_lt}
 use Rattle.doc_words.specs.Words.{Id, id_cmp}
 use Rattle.list_order.specs.declared.slots.Slot.{Slot}
 use Rattle.list_order.specs.declared.slots.SlotNumber.{SlotNumber}
-use Rattle.list_order.specs.Slots.{slot_at, IsPath, path_from, passed, IsWalk}
+use Rattle.list_order.specs.Slots.{slot_at, IsPath, slots_from, passed, LinksEnd}
 use Rattle.list_order.proofs.Paths.{walk-Some}
 
 -- a walk goes on behind a slot
 pub record IsStep (slots : List Slot) (at : Option SlotNumber) (n : SlotNumber) : Type 0 where
   pub within : n.0 < length slots
-  pub path : path_from slots at ≡ n ∷ path_from slots (slot_at slots n).next
-  pub walk : IsWalk slots (slot_at slots n).next
-  pub shorter : length (path_from slots (slot_at slots n).next) < length (path_from slots at)
+  pub path : slots_from slots at ≡ n ∷ slots_from slots (slot_at slots n).next
+  pub walk : LinksEnd slots (slot_at slots n).next
+  pub shorter : length (slots_from slots (slot_at slots n).next) < length (slots_from slots at)
 
 module _ (slots : List Slot) where
-  pub step : (at : Option SlotNumber) (n : SlotNumber) → at ≡ Some n → IsWalk slots at → IsStep slots at n
+  pub step : (at : Option SlotNumber) (n : SlotNumber) → at ≡ Some n → LinksEnd slots at → IsStep slots at n
   step at n e walk =
-      let on = walk-Some slots n (subst (λ o. IsWalk slots o) e walk) in
-      let path : path_from slots at ≡ n ∷ path_from slots (slot_at slots n).next = ap (path_from slots) e ∙ on.1 in
+      let on = walk-Some slots n (subst (λ o. LinksEnd slots o) e walk) in
+      let path : slots_from slots at ≡ n ∷ slots_from slots (slot_at slots n).next = ap (slots_from slots) e ∙ on.1 in
       record { within = on.0; path = path; walk = on.2; shorter = omega (arith, ap length path) }
 
   -- the scan passes a slot that is not less
   pub passed_on : (id : Id) (previous at : Option SlotNumber) (n : SlotNumber) → IsStep slots at n → is_lt (id_cmp (slot_at slots n).id id) ≡ false
-      → passed slots id (Some n) (path_from slots (slot_at slots n).next) ≡ passed slots id previous (path_from slots at)
+      → passed slots id (Some n) (slots_from slots (slot_at slots n).next) ≡ passed slots id previous (slots_from slots at)
   passed_on id previous at n s e = rw (s.path, e) refl
 
   -- and stops before a lesser one
   pub passed_stop : (id : Id) (previous at : Option SlotNumber) (n : SlotNumber) → IsStep slots at n → is_lt (id_cmp (slot_at slots n).id id) ≡ true
-      → previous ≡ passed slots id previous (path_from slots at)
+      → previous ≡ passed slots id previous (slots_from slots at)
   passed_stop id previous at n s e = rw (s.path, e) refl
 
   -- where the scan stops is a slot

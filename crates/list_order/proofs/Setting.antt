@@ -1,5 +1,6 @@
 -- What another presence makes of the marks and the blocks.
-use Rattle.std.proofs.Common.{◌≡◌, ◌≢◌, ◌<◌, ◌≤◌, ◌+◌, ◌-◌, ◌^◌, ℕ, suc, List, [], ◌∷◌, ◌++◌, length, set, length-set, get_or-set_same, get_or-set_other, Bool, true, false, ◌&&◌, eqb, eqb-true, eq-eqb, if◌then◌else◌, Option, Some, None, refl, sym, ap, ◌∙◌, subst, true≢false, arith}
+use Rattle.std.proofs.Common.{◌≡◌, ◌≢◌, ◌<◌, ◌≤◌, ◌+◌, ◌-◌, ◌^◌, ℕ, suc, List, [], ◌∷◌, ◌++◌, length, set, length-set, get_or-set_same, get_or-set_other, Bool, true, false, eqb, eqb-true, eq-eqb, if◌then◌else◌, Option, Some, None, refl, sym, ap, ◌∙◌, subst, true≢false, arith}
+use Rattle.std.proofs.Math.Bool.{and-true}
 use Rattle.lamport_id.specs.declared.id.Id.{Id}
 use Rattle.crdt_rules.specs.Same.{id_eq}
 use Rattle.crdt_rules.proofs.SameLaws.{id_decides, eq_from}
@@ -9,8 +10,8 @@ use Rattle.list_order.specs.declared.slots.SlotNumber.{SlotNumber}
 use Rattle.list_order.specs.declared.marks.Mark.{Mark}
 use Rattle.list_order.specs.declared.marks.Block.{Block}
 use Rattle.list_order.specs.Entries.{with_presence}
-use Rattle.list_order.specs.Slots.{slot_at, IsPath, path_from, number_along}
-use Rattle.list_order.specs.Marks.{mark_at, block_at, no_block, count_where, is_marked, is_marked_in, start_of, bit, moved, set_mark, moved_in, entries_along, IsKept, MayMove, MaySet}
+use Rattle.list_order.specs.Slots.{slot_at, IsPath, slots_from, number_along}
+use Rattle.list_order.specs.Marks.{mark_at, block_at, no_block, count_where, is_marked, is_marked_in, start_of, bit, moved, set_mark, moved_in, entries_along, IsMarkedOrder, MayMove, MaySet}
 use Rattle.list_order.proofs.Paths.{length-path_from}
 use Rattle.list_order.proofs.Placing.{found}
 use Rattle.list_order.proofs.Inserting.{number_within}
@@ -61,7 +62,7 @@ number_is slots (m ∷ path) id n e = go (id_eq (slot_at slots m).id id) refl e 
     go false is h ih = ih h
 
 module _ {slots : List Slot} {first : Option SlotNumber} {index : List (Id × SlotNumber)} {marks : List Mark} {blocks : List Block} {present : ℕ}
-    (k : IsKept slots first index marks blocks present) (id : Id) where
+    (k : IsMarkedOrder slots first index marks blocks present) (id : Id) where
   unchanged : get index id ≡ None → (is : Bool) → (m : SlotNumber) → m.0 < length slots → (b : Bool) → id_eq (slot_at slots m).id id ≡ b
       → ◌≡◌ {A = Id × Bool} (if b then ((slot_at slots m).id, is) else ((slot_at slots m).id, (mark_at marks m).is_present)) ((slot_at slots m).id, (mark_at marks m).is_present)
   unchanged none is m within true e =
@@ -70,8 +71,8 @@ module _ {slots : List Slot} {first : Option SlotNumber} {index : List (Id × Sl
   unchanged none is m within false e = refl
 
   -- an id that the list does not have
-  pub with_presence-none : get index id ≡ None → (is : Bool) → with_presence (entries_along slots marks (path_from slots first)) id is ≡ entries_along slots marks (path_from slots first)
-  with_presence-none none is = go first (path_from slots first) k.order.path
+  pub with_presence-none : get index id ≡ None → (is : Bool) → with_presence (entries_along slots marks (slots_from slots first)) id is ≡ entries_along slots marks (slots_from slots first)
+  with_presence-none none is = go first (slots_from slots first) k.order.path
     where
       go : (at : Option SlotNumber) (path : List SlotNumber) → IsPath slots at path → with_presence (entries_along slots marks path) id is ≡ entries_along slots marks path
       go at [] p = refl
@@ -87,7 +88,7 @@ module _ {slots : List Slot} {first : Option SlotNumber} {index : List (Id × Sl
     abbrev new : List Mark
     new = set marks n.0 mark
 
-    along_it : number_along slots (path_from slots first) id ≡ Some n
+    along_it : number_along slots (slots_from slots first) id ≡ Some n
     along_it = sym (k.order.exact id) ∙ e
 
     within : n.0 < length slots
@@ -97,45 +98,37 @@ module _ {slots : List Slot} {first : Option SlotNumber} {index : List (Id × Sl
     here = set_here marks n mark (omega (arith, within, k.marked))
 
     -- every count, by a test
-    count_is : (test : Mark → Bool) → count_where test new (path_from slots first) + bit (test was) ≡ count_where test marks (path_from slots first) + bit (test mark)
+    count_is : (test : Mark → Bool) → count_where test new (slots_from slots first) + bit (test was) ≡ count_where test marks (slots_from slots first) + bit (test mark)
     count_is test =
-        let f = found slots marks (path_from slots first) id n along_it in
+        let f = found slots marks (slots_from slots first) id n along_it in
         let p : IsPath slots first (f.front ++ n ∷ f.rest) = subst (λ l. IsPath slots first l) f.parts k.order.path in
         ap (λ l. count_where test new l + bit (test was)) f.parts
         ∙ count_moved marks new n test f.front f.rest (set_apart marks n mark f.front (apart_front slots first f.front n f.rest p)) (set_apart marks n mark f.rest (apart_rest slots first f.front n f.rest p))
         ∙ (λ i. count_where test marks (sym f.parts i) + bit (test (here i)))
 
-    count_enough : (test : Mark → Bool) → bit (test was) ≤ count_where test marks (path_from slots first)
+    count_enough : (test : Mark → Bool) → bit (test was) ≤ count_where test marks (slots_from slots first)
     count_enough test =
-        let f = found slots marks (path_from slots first) id n along_it in
+        let f = found slots marks (slots_from slots first) id n along_it in
         subst (λ l. bit (test was) ≤ count_where test marks l) (sym f.parts) (counted_here marks test f.front n f.rest)
 
     -- a count that the blocks keep may be moved
-    may_move : (test : Mark → Bool) (count : ℕ) → count ≡ count_where test marks (path_from slots first) → test was ≡ was.is_present → test mark ≡ is → length slots < 2 ^ 64
-        → MayMove count was.is_present is × (count_where test new (path_from slots first) ≡ moved count was.is_present is)
+    may_move : (test : Mark → Bool) (count : ℕ) → count ≡ count_where test marks (slots_from slots first) → test was ≡ was.is_present → test mark ≡ is → length slots < 2 ^ 64
+        → MayMove count was.is_present is × (count_where test new (slots_from slots first) ≡ moved count was.is_present is)
     may_move test count is_count t u small =
         let a = count_is test in
         let b = count_enough test in
         let t_bit : bit (test was) ≡ bit was.is_present = ap bit t in
         let u_bit : bit (test mark) ≡ bit is = ap bit u in
-        let c = count_within new test (path_from slots first) in
+        let c = count_within new test (slots_from slots first) in
         let d = length-path_from slots first in
-        let same : count_where test new (path_from slots first) ≡ count - bit was.is_present + bit is = omega (arith, a, b, t_bit, u_bit, is_count) in
+        let same : count_where test new (slots_from slots first) ≡ count - bit was.is_present + bit is = omega (arith, a, b, t_bit, u_bit, is_count) in
         (record { enough = omega (arith, b, t_bit, is_count); fits = omega (arith, c, d, small, same) }, same)
 
     in_block : is_marked_in was.block was ≡ was.is_present
-    in_block = rw (eq-eqb was.block was.block refl) (go was.is_present)
-      where
-        go : (b : Bool) → (b && true) ≡ b
-        go true = refl
-        go false = refl
+    in_block = rw (eq-eqb was.block was.block refl) (and-true was.is_present)
 
     in_block_now : is_marked_in was.block mark ≡ is
-    in_block_now = rw (eq-eqb was.block was.block refl) (go is)
-      where
-        go : (b : Bool) → (b && true) ≡ b
-        go true = refl
-        go false = refl
+    in_block_now = rw (eq-eqb was.block was.block refl) (and-true is)
 
     module _ (small : length slots < 2 ^ 64) where
       pub may_set : MaySet marks blocks present n is
@@ -145,8 +138,8 @@ module _ {slots : List Slot} {first : Option SlotNumber} {index : List (Id × Sl
         in_block = λ h. (may_move (is_marked_in was.block) (block_at blocks was.block).present (k.counted.counted was.block h) in_block in_block_now small).0;
       }
 
-      same_blocks : Along (IsSameBlock marks new) (path_from slots first)
-      same_blocks = along (λ m. go m (eqb m.0 n.0) refl) (path_from slots first)
+      same_blocks : Along (IsSameBlock marks new) (slots_from slots first)
+      same_blocks = along (λ m. go m (eqb m.0 n.0) refl) (slots_from slots first)
         where
           go : (m : SlotNumber) (b : Bool) → eqb m.0 n.0 ≡ b → IsSameBlock marks new m
           go m true f =
@@ -157,20 +150,20 @@ module _ {slots : List Slot} {first : Option SlotNumber} {index : List (Id × Sl
       abbrev block : Block
       block = record { present = moved (block_at blocks was.block).present was.is_present is; end = (block_at blocks was.block).end }
 
-      count : (j : ℕ) → (b : Bool) → eqb j was.block ≡ b → j < length blocks → (block_at (set blocks was.block block) j).present ≡ count_where (is_marked_in j) new (path_from slots first)
+      count : (j : ℕ) → (b : Bool) → eqb j was.block ≡ b → j < length blocks → (block_at (set blocks was.block block) j).present ≡ count_where (is_marked_in j) new (slots_from slots first)
       count j true f h =
           let at : j ≡ was.block = eqb-true j was.block f in
           let inside : was.block < length blocks = omega (arith, at, h) in
           ap (λ i. (block_at (set blocks was.block block) i).present) at
           ∙ ap (λ x. x.present) (get_or-set_same blocks was.block block no_block inside)
           ∙ sym (may_move (is_marked_in was.block) (block_at blocks was.block).present (k.counted.counted was.block inside) in_block in_block_now small).1
-          ∙ ap (λ i. count_where (is_marked_in i) new (path_from slots first)) (sym at)
+          ∙ ap (λ i. count_where (is_marked_in i) new (slots_from slots first)) (sym at)
       count j false f h =
           let apart : was.block ≢ j = λ g. true≢false (sym (eq-eqb j was.block (sym g)) ∙ f) in
           let a = count_is (is_marked_in j) in
           let x : bit (is_marked_in j was) ≡ 0 = ap bit (not_other j was.block apart was.is_present) in
           let y : bit (is_marked_in j mark) ≡ 0 = ap bit (not_other j was.block apart is) in
-          let same : count_where (is_marked_in j) marks (path_from slots first) ≡ count_where (is_marked_in j) new (path_from slots first) = omega (arith, a, x, y) in
+          let same : count_where (is_marked_in j) marks (slots_from slots first) ≡ count_where (is_marked_in j) new (slots_from slots first) = omega (arith, a, x, y) in
           ap (λ x. x.present) (get_or-set_other blocks was.block j block no_block (λ g. apart (sym g))) ∙ k.counted.counted j h ∙ same
 
       stays : (j : ℕ) → (b : Bool) → eqb j was.block ≡ b → j < length blocks → (block_at (set blocks was.block block) j).end ≡ (block_at blocks j).end
@@ -181,15 +174,15 @@ module _ {slots : List Slot} {first : Option SlotNumber} {index : List (Id × Sl
           ∙ ap (λ i. (block_at blocks i).end) (sym at)
       stays j false f h = ap (λ x. x.end) (get_or-set_other blocks was.block j block no_block (λ g. true≢false (sym (eq-eqb j was.block g) ∙ f)))
 
-      pub kept_set : IsKept slots first index (set_mark marks n is) (moved_in blocks was.block was.is_present is) (moved present was.is_present is)
+      pub kept_set : IsMarkedOrder slots first index (set_mark marks n is) (moved_in blocks was.block was.is_present is) (moved present was.is_present is)
       kept_set = record {
         order = k.order;
         own = k.own;
         marked = length-set marks n.0 mark ∙ k.marked;
         counted = record {
-          rising = rising-same marks new 0 (path_from slots first) same_blocks k.counted.rising;
+          rising = rising-same marks new 0 (slots_from slots first) same_blocks k.counted.rising;
           counted = λ j h. count j (eqb j was.block) refl (omega (arith, h, length-set blocks was.block block));
-          ends = λ j h. stays j (eqb j was.block) refl (omega (arith, h, length-set blocks was.block block)) ∙ k.counted.ends j (omega (arith, h, length-set blocks was.block block)) ∙ ap (start_of None) (sym (from-same marks new (suc j) (path_from slots first) same_blocks));
+          ends = λ j h. stays j (eqb j was.block) refl (omega (arith, h, length-set blocks was.block block)) ∙ k.counted.ends j (omega (arith, h, length-set blocks was.block block)) ∙ ap (start_of None) (sym (from-same marks new (suc j) (slots_from slots first) same_blocks));
         };
         all = sym (may_move is_marked present k.all refl refl small).1;
       }
@@ -202,13 +195,13 @@ module _ {slots : List Slot} {first : Option SlotNumber} {index : List (Id × Sl
         let marked : (mark_at new m).is_present ≡ is = ap (λ j. (mark_at new j).is_present) same ∙ ap (λ x. x.is_present) here in
         λ i. ((slot_at slots m).id, marked i)
     changed m inside false f =
-        let apart : m ≢ n = λ g. true≢false (sym (eq_from id_decides (slot_at slots m).id id (ap (λ j. (slot_at slots j).id) g ∙ number_is slots (path_from slots first) id n along_it)) ∙ f) in
+        let apart : m ≢ n = λ g. true≢false (sym (eq_from id_decides (slot_at slots m).id id (ap (λ j. (slot_at slots j).id) g ∙ number_is slots (slots_from slots first) id n along_it)) ∙ f) in
         let marked : (mark_at new m).is_present ≡ (mark_at marks m).is_present = ap (λ x. x.is_present) (set_other marks n mark m apart) in
         λ i. ((slot_at slots m).id, marked i)
 
     -- the entry of the id is told anew
-    pub entries_set : entries_along slots (set_mark marks n is) (path_from slots first) ≡ with_presence (entries_along slots marks (path_from slots first)) id is
-    entries_set = go first (path_from slots first) k.order.path
+    pub entries_set : entries_along slots (set_mark marks n is) (slots_from slots first) ≡ with_presence (entries_along slots marks (slots_from slots first)) id is
+    entries_set = go first (slots_from slots first) k.order.path
       where
         go : (at : Option SlotNumber) (path : List SlotNumber) → IsPath slots at path → entries_along slots new path ≡ with_presence (entries_along slots marks path) id is
         go at [] p = refl

@@ -6,7 +6,7 @@ use Rattle.list_order.specs.declared.slots.Slot.{Slot}
 use Rattle.list_order.specs.declared.slots.SlotNumber.{SlotNumber}
 use Rattle.list_order.specs.declared.marks.Mark.{Mark}
 use Rattle.list_order.specs.declared.marks.Block.{Block}
-use Rattle.list_order.specs.Slots.{slot_at, path_from, IsOrder, IsWalk}
+use Rattle.list_order.specs.Slots.{slot_at, slots_from, IsOrder, LinksEnd}
 
 -- a mark for numbers that name none
 abbrev pub unmarked : Mark
@@ -44,13 +44,13 @@ start_of at [] = at
 start_of at (n ∷ path) = Some n
 
 -- the blocks never fall along a path
-abbrev pub IsRising : ℕ → List Mark → List SlotNumber → Type 0
-IsRising low marks [] = Unit {0}
-IsRising low marks (n ∷ path) = (low ≤ (mark_at marks n).block) × IsRising (mark_at marks n).block marks path
+abbrev pub IsInBlockOrder : ℕ → List Mark → List SlotNumber → Type 0
+IsInBlockOrder low marks [] = Unit {0}
+IsInBlockOrder low marks (n ∷ path) = (low ≤ (mark_at marks n).block) × IsInBlockOrder (mark_at marks n).block marks path
 
 -- each block has the count of its present slots, and the slot behind it. What is in no block stands at the end
 pub record IsCounted (marks : List Mark) (blocks : List Block) (path : List SlotNumber) (at : Option SlotNumber) : Type 0 where
-  pub rising : IsRising 0 marks path
+  pub rising : IsInBlockOrder 0 marks path
   pub counted : (k : ℕ) → k < length blocks → (block_at blocks k).present ≡ count_where (is_marked_in k) marks path
   pub ends : (k : ℕ) → k < length blocks → (block_at blocks k).end ≡ start_of at (from_block (suc k) marks path)
 
@@ -113,14 +113,14 @@ present_along slots marks [] = []
 present_along slots marks (n ∷ path) = if (mark_at marks n).is_present then (slot_at slots n).id ∷ present_along slots marks path else present_along slots marks path
 
 -- the order, its marks and its blocks fit together
-pub record IsKept (slots : List Slot) (first : Option SlotNumber) (index : List (Id × SlotNumber)) (marks : List Mark) (blocks : List Block) (present : ℕ) : Type 0 where
+pub record IsMarkedOrder (slots : List Slot) (first : Option SlotNumber) (index : List (Id × SlotNumber)) (marks : List Mark) (blocks : List Block) (present : ℕ) : Type 0 where
   pub order : IsOrder slots first index
   pub own : (n : SlotNumber) → n.0 < length slots → get index (slot_at slots n).id ≡ Some n
   pub marked : length marks ≡ length slots
-  pub counted : IsCounted marks blocks (path_from slots first) None
-  pub all : present ≡ count_where is_marked marks (path_from slots first)
+  pub counted : IsCounted marks blocks (slots_from slots first) None
+  pub all : present ≡ count_where is_marked marks (slots_from slots first)
 
 -- a slot from which links and marks lead on
 pub record IsThere (slots : List Slot) (marks : List Mark) (at : Option SlotNumber) : Type 0 where
-  pub walk : IsWalk slots at
+  pub walk : LinksEnd slots at
   pub marked : length marks ≡ length slots

@@ -8,11 +8,11 @@ use Rattle.list_order.specs.declared.slots.Slot.{Slot}
 use Rattle.list_order.specs.declared.slots.SlotNumber.{SlotNumber}
 
 -- a slot for numbers that name none
-abbrev pub blank : Slot
-blank = record { id = record { counter = 0; replica = [] }; next = None }
+abbrev pub blank_slot : Slot
+blank_slot = record { id = record { counter = 0; replica = [] }; next = None }
 
 abbrev pub slot_at : List Slot → SlotNumber → Slot
-slot_at slots n = slice_index_or slots n.0 blank
+slot_at slots n = slice_index_or slots n.0 blank_slot
 
 -- the slot behind a slot, or the first
 abbrev pub behind : List Slot → Option SlotNumber → Option SlotNumber → Option SlotNumber
@@ -30,8 +30,8 @@ followed zero slots at = []
 followed (suc most) slots None = []
 followed (suc most) slots (Some n) = n ∷ followed most slots (slot_at slots n).next
 
-unfoldable pub path_from : List Slot → Option SlotNumber → List SlotNumber
-path_from slots at = followed (length slots) slots at
+unfoldable pub slots_from : List Slot → Option SlotNumber → List SlotNumber
+slots_from slots at = followed (length slots) slots at
 
 abbrev pub ids_along : List Slot → List SlotNumber → List Id
 ids_along slots path = map (λ n. (slot_at slots n).id) path
@@ -63,12 +63,12 @@ linked_first slots first (Some p) = first
 
 -- the links from the first on lead through every slot once, and the index has the slot of each id
 pub record IsOrder (slots : List Slot) (first : Option SlotNumber) (index : List (Id × SlotNumber)) : Type 0 where
-  pub path : IsPath slots first (path_from slots first)
-  pub every : length (path_from slots first) ≡ length slots
+  pub path : IsPath slots first (slots_from slots first)
+  pub every : length (slots_from slots first) ≡ length slots
   pub ascending : IsAscending index
-  pub exact : (id : Id) → get index id ≡ number_along slots (path_from slots first) id
+  pub exact : (id : Id) → get index id ≡ number_along slots (slots_from slots first) id
   pub indexed : length index ≡ length slots
 
 -- the links from a slot on end
-pub record IsWalk (slots : List Slot) (at : Option SlotNumber) : Type 0 where
-  pub path : IsPath slots at (path_from slots at)
+pub record LinksEnd (slots : List Slot) (at : Option SlotNumber) : Type 0 where
+  pub path : IsPath slots at (slots_from slots at)

@@ -1,7 +1,7 @@
 //! What is kept of each slot beside its id and link, and the blocks that count the present ids.
 ghost use Rattle.std.specs.Prelude.{◌≡◌, ◌^◌, ◌&&◌, nat_eq, ◌+◌, ◌-◌, ◌<◌, ◌≤◌, ◌++◌, ◌∷◌, [], length, suc, None, Some, slice_get, vec_capacity};
 ghost use Rattle.std.specs.Option.{ForSome};
-ghost use Rattle.list_order.specs.Slots.{path_from, IsWalk};
+ghost use Rattle.list_order.specs.Slots.{slots_from, LinksEnd};
 ghost use Rattle.list_order.specs.Marks.{bit, block_at, moved_in, present_along, set_block, set_mark, new_mark, IsClosed, IsCounted, IsRecut, MaySet};
 ghost use Rattle.list_order.specs.Marks as Spec;
 
@@ -111,9 +111,9 @@ fn is_due(is_present: bool, left: usize) -> bool
 
 /// The i-th present id from a slot on.
 fn nth_from(slots: &[Slot], marks: &[Mark], start: Option<SlotNumber>, i: usize) -> Option<Id>
-    requires walk { IsWalk slots.now start }
+    requires walk { LinksEnd slots.now start }
     requires marked { length marks.now ≡ length slots.now }
-    ensures { result ≡ slice_get (present_along slots.now marks.now (path_from slots.now start)) i }
+    ensures { result ≡ slice_get (present_along slots.now marks.now (slots_from slots.now start)) i }
 {
     let mut left = i;
     let mut at = start;
@@ -137,10 +137,10 @@ pub fn nth_along(
     blocks: &[Block],
     i: usize,
 ) -> Option<Id>
-    requires walk { IsWalk slots.now first }
+    requires walk { LinksEnd slots.now first }
     requires marked { length marks.now ≡ length slots.now }
-    requires counted { IsCounted marks.now blocks.now (path_from slots.now first) None }
-    ensures { result ≡ slice_get (present_along slots.now marks.now (path_from slots.now first)) i }
+    requires counted { IsCounted marks.now blocks.now (slots_from slots.now first) None }
+    ensures { result ≡ slice_get (present_along slots.now marks.now (slots_from slots.now first)) i }
 {
     let mut left = i;
     let mut at = first;
@@ -196,9 +196,9 @@ fn closed(blocks: &mut Vec<Block>, rest: Open, end: Option<SlotNumber>) -> Open
 
 /// Cuts the list into blocks anew.
 fn recut(slots: &[Slot], first: Option<SlotNumber>, marks: &mut Vec<Mark>, blocks: &mut Vec<Block>)
-    requires walk { IsWalk slots.now first }
+    requires walk { LinksEnd slots.now first }
     requires marked { length marks.old.items ≡ length slots.now }
-    ensures cut { IsRecut marks.old.items marks.new.items blocks.new.items (path_from slots.now first) }
+    ensures cut { IsRecut marks.old.items marks.new.items blocks.new.items (slots_from slots.now first) }
     ensures capacity { vec_capacity marks.new ≡ vec_capacity marks.old }
 {
     blocks.clear();
@@ -231,10 +231,10 @@ pub fn recut_if_due(
     blocks: &mut Vec<Block>,
     limit: &mut usize,
 )
-    requires walk { IsWalk slots.now first }
+    requires walk { LinksEnd slots.now first }
     requires marked { length marks.old.items ≡ length slots.now }
-    requires counted { IsCounted marks.old.items blocks.old.items (path_from slots.now first) None }
-    ensures cut { IsRecut marks.old.items marks.new.items blocks.new.items (path_from slots.now first) }
+    requires counted { IsCounted marks.old.items blocks.old.items (slots_from slots.now first) None }
+    ensures cut { IsRecut marks.old.items marks.new.items blocks.new.items (slots_from slots.now first) }
     ensures capacity { vec_capacity marks.new ≡ vec_capacity marks.old }
 {
     if *limit < slots.len() {

@@ -3,8 +3,8 @@ ghost use Rattle.std.specs.Prelude.{◌≡◌, ◌+◌, ◌<◌, ◌≤◌, leng
 ghost use Rattle.std.specs.Option.{ForSome};
 ghost use Rattle.std.specs.Ordering.{is_lt};
 ghost use Rattle.lamport_id.specs.Order.{id_cmp};
-ghost use Rattle.presence_set.specs.ById.{get, put, IsAscending};
-ghost use Rattle.list_order.specs.Slots.{ids_along, linked, linked_first, passed, path_from, IsWalk};
+ghost use Rattle.presence_set.specs.ById.{get, put_at_id, IsAscending};
+ghost use Rattle.list_order.specs.Slots.{ids_along, linked, linked_first, passed, slots_from, LinksEnd};
 ghost use Rattle.list_order.specs.Slots as Spec;
 
 use lamport_id::Id;
@@ -53,8 +53,8 @@ pub fn last_passed(
     id: &Id,
 ) -> Option<SlotNumber>
     requires known { ForSome reference (λ p. p.0 < length slots.now) }
-    requires walk { IsWalk slots.now (Spec.behind slots.now first reference) }
-    ensures { result ≡ passed slots.now id.now reference (path_from slots.now (Spec.behind slots.now first reference)) }
+    requires walk { LinksEnd slots.now (Spec.behind slots.now first reference) }
+    ensures { result ≡ passed slots.now id.now reference (slots_from slots.now (Spec.behind slots.now first reference)) }
 {
     let mut previous = reference;
     let mut at = behind(slots, first, reference);
@@ -108,8 +108,8 @@ pub fn ids_from(
     slots: &[Slot],
     first: Option<SlotNumber>,
 ) -> Result<Vec<Id>, AllocError>
-    requires { IsWalk slots.now first }
-    ensures { IfOk result (λ ids. ids.items ≡ ids_along slots.now (path_from slots.now first)) }
+    requires { LinksEnd slots.now first }
+    ensures { IfOk result (λ ids. ids.items ≡ ids_along slots.now (slots_from slots.now first)) }
 {
     let mut ids = Vec::new(alloc);
     let mut at = first;
@@ -150,7 +150,7 @@ pub fn add_entry(index: &mut Vec<(Id, SlotNumber)>, id: &Id, number: SlotNumber)
     requires ascending { IsAscending index.old.items }
     requires room { length index.old.items < vec_capacity index.old }
     requires new { get index.old.items id.now ≡ None }
-    ensures items { index.new.items ≡ put index.old.items id.now number }
+    ensures items { index.new.items ≡ put_at_id index.old.items id.now number }
     ensures len { length index.new.items ≡ length index.old.items + 1 }
     ensures capacity { vec_capacity index.new ≡ vec_capacity index.old }
 {

@@ -13,8 +13,8 @@ use Rattle.crdt_rules.specs.Log.{IsGood, replay}
 use Rattle.crdt_rules.proofs.Readings.{here_from}
 use Rattle.crdt_rules.proofs.Orders as Laws
 use Rattle.crdt_rules.proofs.SameSet.{HasOneEach, good_one_each, replay_free, facts_of_one_set}
-use Rattle.doc_rules.specs.Answers.{Answers}
-use Rattle.doc_rules.specs.Replica.{Replica, facts_of}
+use Rattle.doc_rules.specs.Answers.{MayAnswer}
+use Rattle.doc_rules.specs.Replica.{Replica, replica_facts}
 use Rattle.doc_rules.specs.Role.{value_put_at}
 use Rattle.locked_doc.specs.Places.{IsReadOf, IsReadInEachOrder, IsReadOfSet}
 
@@ -69,7 +69,7 @@ value_at-same set set' one one' same = fun_ext (λ p. fun_ext (λ k. fun_ext (λ
 
 -- ---- what is read
 
-read_of : (r : Replica) (mine : ℕ) (q : Query) (answer : Reply) → Answers r mine q answer → IsReadOf (facts_of r) (value_put_at r.log) q answer
+read_of : (r : Replica) (mine : ℕ) (q : Query) (answer : Reply) → MayAnswer r mine q answer → IsReadOf (replica_facts r) (value_put_at r.log) q answer
 read_of r mine (query.Resolve place) answer h = h
 read_of r mine (query.Look look place) answer h = h
 read_of r mine (query.Operations front limit) answer h = tt
@@ -77,13 +77,13 @@ read_of r mine query.Front answer h = tt
 read_of r mine query.Held answer h = tt
 read_of r mine query.Account answer h = tt
 
-pub in_each_order : (r : Replica) (mine : ℕ) (q : Query) (answer : Reply) → IsGood r.log → Answers r mine q answer → IsReadInEachOrder r.log q answer
+pub in_each_order : (r : Replica) (mine : ℕ) (q : Query) (answer : Reply) → IsGood r.log → MayAnswer r mine q answer → IsReadInEachOrder r.log q answer
 in_each_order r mine q answer good h = λ order causal.
     let other = Laws.all_orders r.log good order causal in
     let values : value_put_at r.log ≡ value_put_at order = value_at-same r.log order (good_one_each r.log good) (good_one_each order other.0) causal.same in
-    subst (λ f. IsReadOf f (value_put_at order) q answer) (sym other.1) (subst (λ v. IsReadOf (facts_of r) v q answer) values (read_of r mine q answer h))
+    subst (λ f. IsReadOf f (value_put_at order) q answer) (sym other.1) (subst (λ v. IsReadOf (replica_facts r) v q answer) values (read_of r mine q answer h))
 
-pub of_the_set : (r : Replica) (mine : ℕ) (q : Query) (answer : Reply) → IsGood r.log → Answers r mine q answer → IsReadOfSet r.log q answer
+pub of_the_set : (r : Replica) (mine : ℕ) (q : Query) (answer : Reply) → IsGood r.log → MayAnswer r mine q answer → IsReadOfSet r.log q answer
 of_the_set r mine q answer good h = λ f free.
-    let one : facts_of r ≡ f = facts_of_one_set r.log r.log (facts_of r) f (λ o. ((λ c. c), (λ c. c))) (good_one_each r.log good) (replay_free r.log good) free in
+    let one : replica_facts r ≡ f = facts_of_one_set r.log r.log (replica_facts r) f (λ o. ((λ c. c), (λ c. c))) (good_one_each r.log good) (replay_free r.log good) free in
     subst (λ f. IsReadOf f (value_put_at r.log) q answer) one (read_of r mine q answer h)

@@ -1,13 +1,15 @@
 -- Fronts that ascend, compared entry by entry.
-use Rattle.std.proofs.Common.{◌≡◌, ◌≢◌, ℕ, ◌<◌, ◌≤◌, zero, suc, inl, inr, List, [], ◌∷◌, Bool, true, false, ◌&&◌, ◌||◌, ◌==◌, ◌+◌, nat_le, Contains, length, take, drop, get_or, ◌-◌, arith, refl, sym, ap, subst, ◌∙◌, Less, Equal, Greater}
+use Rattle.std.proofs.Common.{◌≡◌, ◌≢◌, ℕ, ◌<◌, ◌≤◌, zero, suc, inl, inr, List, [], ◌∷◌, true, false, ◌&&◌, ◌||◌, ◌==◌, ◌+◌, nat_le, Contains, length, take, drop, get_or, ◌-◌, arith, refl, sym, ap, subst, ◌∙◌, Less, Equal, Greater}
 use Rattle.std.proofs.Math.Dec.{eqb-suc-zero}
 use Rattle.std.proofs.lemmas.Bool.{and_parts}
 use Rattle.std.proofs.lemmas.List.{take_all}
+use Rattle.std.proofs.Math.Bool.{or-false}
 use Rattle.op_core.specs.Front.{max_counter}
 use lib.Pointwise.{bytes_decides}
 use Rattle.doc_words.specs.Words.{name_cmp, Op}
 use Rattle.op_core.specs.Front.{covers, id_of, is_ascending, is_le, reaches}
 use Rattle.op_core.specs.Shape.{is_shaped, is_shallow, has_form, has_front}
+use Rattle.op_core.proofs.Fronts.{ascending-rest}
 use Rattle.list_laws.proofs.Members.{Contains-here, Contains-there, Contains-cases}
 use Rattle.crdt_rules.proofs.Tests.{any_none}
 use Rattle.op_log.proofs.Cursors.{drop_at}
@@ -57,11 +59,7 @@ le_equal e rest n others ascends other_ascends equal =
     below_uncovered e others (λ m c. subst (λ (z : List ℕ). name_cmp z m.0 ≡ Less) (sym same) (other_rise.0 m c)) in
     (λ i. (((bytes_decides n.0 e.0).1 (sym same) i && nat_le e.1 n.1) || apart i) && skip rest n others
     (λ f c. subst (λ (z : List ℕ). z ≢ f.0) same (less≢equal name_order e.0 f.0 (rise.0 f c))) i)
-    ∙ ap (λ b. b && is_le rest others) (or_false (nat_le e.1 n.1))
-  where
-    or_false : (b : Bool) → (b || false) ≡ b
-    or_false true = refl
-    or_false false = refl
+    ∙ ap (λ b. b && is_le rest others) (or-false (nat_le e.1 n.1))
 
 pub le_greater : (e : List ℕ × ℕ) (rest : List (List ℕ × ℕ)) (n : List ℕ × ℕ) (others : List (List ℕ × ℕ)) → is_ascending (e ∷ rest) ≡ true → name_cmp e.0 n.0 ≡ Greater
     → is_le (e ∷ rest) (n ∷ others) ≡ is_le (e ∷ rest) others
@@ -69,11 +67,6 @@ le_greater e rest n others ascends greater =
     let less : name_cmp n.0 e.0 ≡ Less = less_back name_order e.0 n.0 greater in
     let rise = rising_from_ascending (e ∷ rest) ascends in
     skip (e ∷ rest) n others (λ f c. less≢equal name_order n.0 f.0 (below_all n e rest rise less f c))
-
--- the rest of a front that ascends
-pub ascending-rest : (e : List ℕ × ℕ) (rest : List (List ℕ × ℕ)) → is_ascending (e ∷ rest) ≡ true → is_ascending rest ≡ true
-ascending-rest e [] h = refl
-ascending-rest e (f ∷ rest) h = (and_parts _ (is_ascending (f ∷ rest)) h).1
 
 pub ascending-drop : (front : List (List ℕ × ℕ)) (i : ℕ) → is_ascending front ≡ true → is_ascending (drop i front) ≡ true
 ascending-drop front zero h = h

@@ -50,6 +50,9 @@ put_in_gap front name c i gap =
     subst (λ l. PutsEntry l (insert front i (name, c)) name c) (take-append-drop i front)
     (put_between (take i front) (drop i front) name c (λ e h. gap_none name_order (λ f. f.0) front name i gap e (Contains-take i front h)))
 
+within_rest : (front : List (List ℕ × ℕ)) (i : ℕ) → suc i < suc (length front) → i < length front
+within_rest front i h = omega arith
+
 pub put_at_place : (front : List (List ℕ × ℕ)) (name : List ℕ) (c i : ℕ) → NamesRise front → IsPlace name_cmp (λ e. e.0) front name i
     → PutsEntry front (set front i (name, c)) name c
 put_at_place [] name c i r place n = let none : i < 0 = place.within in absurd (omega arith)
@@ -59,29 +62,23 @@ put_at_place (e ∷ front) name c zero r place n = same (bytes_eq name n) refl
     same true is = refl
     same false is = rw (ap (λ m. bytes_eq m n) (place.has_key e) ∙ is) refl
 put_at_place (e ∷ front) name c (suc i) r place n =
-    let rest : IsPlace name_cmp (λ f. f.0) front name i = record { within = le-pred place.within; has_key = place.has_key } in
+    let rest : IsPlace name_cmp (λ f. f.0) front name i = record { within = within_rest front i place.within; has_key = place.has_key } in
     ap (λ l. if bytes_eq e.0 n then Some e.1 else l) (put_at_place front name c i r.1 rest n)
     ∙ swap_tests (bytes_eq e.0 n) (bytes_eq name n) (Some e.1) (Some c) (entry_of front n) (behind_other e name n other)
   where
-    le-pred : suc i < suc (length front) → i < length front
-    le-pred h = omega arith
-
     other : e.0 ≢ name
     other same =
         less≢equal name_order e.0 name
-        (subst (λ m. name_cmp e.0 m ≡ Less) (place.has_key e) (r.0 (get_or front i e) (Contains-get_or front i e (le-pred place.within)))) same
+        (subst (λ m. name_cmp e.0 m ≡ Less) (place.has_key e) (r.0 (get_or front i e) (Contains-get_or front i e (within_rest front i place.within)))) same
 
 pub NamesRise-set : (front : List (List ℕ × ℕ)) (name : List ℕ) (c i : ℕ) → NamesRise front → IsPlace name_cmp (λ e. e.0) front name i → NamesRise (set front i (name, c))
 NamesRise-set [] name c i r place = r
 NamesRise-set (e ∷ front) name c zero r place =
     ((λ y h. subst (λ m. name_cmp m y.0 ≡ Less) (place.has_key e) (r.0 y h)), r.1)
 NamesRise-set (e ∷ front) name c (suc i) r place =
-    let rest : IsPlace name_cmp (λ f. f.0) front name i = record { within = le-pred place.within; has_key = place.has_key } in
+    let rest : IsPlace name_cmp (λ f. f.0) front name i = record { within = within_rest front i place.within; has_key = place.has_key } in
     ((λ y h. first y (set_cases front i rest.within y h) rest), NamesRise-set front name c i r.1 rest)
   where
-    le-pred : suc i < suc (length front) → i < length front
-    le-pred h = omega arith
-
     first : (y : List ℕ × ℕ) → ((name, c) ≡ y) ⊎ Contains front y → IsPlace name_cmp (λ f. f.0) front name i → name_cmp e.0 y.0 ≡ Less
     first y (inl here) rest =
         subst (λ m. name_cmp e.0 m ≡ Less) (rest.has_key e ∙ ap (λ z. z.0) here) (r.0 (get_or front i e) (Contains-get_or front i e rest.within))

@@ -3,6 +3,7 @@ use Rattle.std.proofs.Common.{◌≡◌, ◌≢◌, inl, inr, List, [], ◌∷�
 use Rattle.std.specs.Prelude.{is_some}
 use Rattle.std.specs.List.{list_any}
 use Rattle.std.proofs.lemmas.Bool.{and_parts, false_from_ne_true}
+use Rattle.std.proofs.Math.Bool.{or-false}
 use Rattle.doc_words.specs.Words.{Id, Op, Tagged}
 use Rattle.list_laws.specs.Order.{EachOnce}
 use Rattle.crdt_rules.specs.Effect.{is_insertion}
@@ -67,10 +68,6 @@ module _ (test : Op → Bool) where
   any-find_id [] i x once h = absurd (some≢none (sym h))
   any-find_id (z ∷ log) i x once h = by (id_eq z.id i) refl h (any-find_id log i x once.1)
     where
-      or-false : (b : Bool) → (b || false) ≡ b
-      or-false true = refl
-      or-false false = refl
-
       by : (b : Bool) → id_eq z.id i ≡ b → cond b (Some z) (find_id log i) ≡ Some x
           → (find_id log i ≡ Some x → list_any (λ o. id_eq o.id i && test o) log ≡ test x)
           → ((b && test z) || list_any (λ o. id_eq o.id i && test o) log) ≡ test x

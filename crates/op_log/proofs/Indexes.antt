@@ -4,6 +4,7 @@ use Rattle.std.specs.Prelude.{is_some, MatchOption}
 use Rattle.std.specs.List.{slice_get}
 use Rattle.std.proofs.lemmas.Bool.{cases_lt}
 use Rattle.std.proofs.lemmas.Option.{slice_get_within, get_or_from_slice_get, slice_get-get_or}
+use Rattle.list_laws.proofs.Scanning.{Contains-from_slice_get}
 use Rattle.doc_words.specs.Words.{Id, Op}
 use Rattle.crdt_rules.specs.Dependencies.{is_logged}
 use Rattle.crdt_rules.specs.Fits.{Fits}
@@ -18,9 +19,6 @@ use Rattle.op_log.specs.Index.{StandsAt, IsLink, IsLast, IsFirstFrom}
 use Rattle.op_log.specs.declared.index.Link.{Link}
 
 module _ {X : Type 0} where
-  pub Contains-slice_get : (xs : List X) (k : ℕ) {x : X} → slice_get xs k ≡ Some x → Contains xs x
-  Contains-slice_get xs k {x} h = (k, slice_get_within xs k x h, get_or_from_slice_get xs k x x h)
-
   pub slice_get-Contains : (xs : List X) {x : X} → Contains xs x → (k : ℕ) × (slice_get xs k ≡ Some x)
   slice_get-Contains xs {x} c = (c.0, slice_get-get_or xs c.0 x c.1 ∙ ap (λ (y : X). Some y) c.2)
 
@@ -66,7 +64,7 @@ chain_rises =
             | inr new ↦
                 let same : a.op.id.replica ≡ op.id.replica = a.made ∙ sym (ap (λ (o : Op). o.id.replica) new.1 ∙ b.made) in
                 subst (λ (o : Op). a.op.id.counter < o.id.counter) new.1
-                (covered_less fits a.op.id (chain_covers fits a.op (Contains-slice_get log j old) same))
+                (covered_less fits a.op.id (chain_covers fits a.op (Contains-from_slice_get log j _ old) same))
           ]
           | inr last ↦ absurd (beyond (slice_get-push_cases log op k b.there) last.0)
         ]
@@ -112,7 +110,7 @@ module _ (log : List Op) (good : IsGood log) (i : Id) where
   first_found k first equal =
       let at = first.here in
       let is : at.op.id ≡ i = λ j. record { counter = equal at.op at.there j; replica = at.made j } in
-      (at.op, at.there, find_id-Contains log i (ids_once log good) (Contains-slice_get log k at.there) is)
+      (at.op, at.there, find_id-Contains log i (ids_once log good) (Contains-from_slice_get log k _ at.there) is)
 
   pub first_other : (k : ℕ) → IsFirstFrom log i.replica i.counter k → ((op : Op) → slice_get log k ≡ Some op → op.id.counter ≢ i.counter) → find_id log i ≡ None
   first_other k first other =

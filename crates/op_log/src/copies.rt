@@ -12,7 +12,7 @@ pub fn copies(alloc: Global, operations: &[Operation]) -> Result<Vec<Operation>,
     ensures ok { IfOk result (λ copied. copied.items ≡ operations.now) }
     ensures err { IfErr result (λ e. e ≡ Refusal.NoMemory) }
 {
-    let mut copied = Vec::new(alloc);
+    let mut copied = Vec::with_capacity(alloc, operations.len())?;
     for op in operations {
         copied.push(op.try_clone()?)?;
     }
@@ -30,7 +30,7 @@ pub fn first_uncovered(
     ensures ok { IfOk result (λ found. found.items ≡ take limit (since front.now operations.now)) }
     ensures err { IfErr result (λ e. e ≡ Refusal.NoMemory) }
 {
-    let mut found = Vec::new(alloc);
+    let mut found = Vec::with_capacity(alloc, limit.min(operations.len()))?;
     for op in operations {
         if found.len() == limit {
             break;

@@ -1,6 +1,7 @@
 -- Lists with entries taken out, as the presence sets and registers that they are.
-use Rattle.std.proofs.Common.{◌≡◌, ℤ, List, [], ◌∷◌, Bool, true, false, ◌&&◌, ◌||◌, not, Option, Some, None, if◌then◌else◌, filter, refl, sym, ap, ◌∙◌}
+use Rattle.std.proofs.Common.{◌≡◌, ℤ, List, [], ◌∷◌, Bool, true, false, ◌&&◌, ◌||◌, not, Some, None, if◌then◌else◌, filter, refl, sym, ap, ◌∙◌}
 use Rattle.std.proofs.lemmas.Bool.{and_parts}
+use Rattle.std.proofs.Math.Bool.{or-false}
 use Rattle.lamport_id.specs.declared.id.Id.{Id}
 use Rattle.json_scalar.specs.declared.scalar.Scalar.{Scalar}
 use Rattle.op_core.specs.declared.cursor.Key.{Key}
@@ -10,7 +11,7 @@ use Rattle.crdt_rules.specs.Same.{id_eq, key_eq, tagged_eq}
 use Rattle.crdt_rules.specs.Context.{Context, empty, node, clear_all, clear_elem}
 use Rattle.crdt_rules.proofs.SameLaws.{key_decides, id_decides, tagged_decides}
 use Rattle.crdt_rules.proofs.StepFacts.{none_either}
-use Rattle.plain_rules.specs.Plain.{present_in, value_in, child_in, clear_each, whole}
+use Rattle.plain_rules.specs.Plain.{present_in, first_value_at, child_in, clear_each, whole}
 
 -- an entry that is of a key and an id has the test's answer for them
 test_here : (test : Key → Id → Bool) (a k : Key) (b i : Id) → (key_eq a k && id_eq b i) ≡ true → test a b ≡ test k i
@@ -34,11 +35,7 @@ module _ (test : Key → Id → Bool) (k : Key) (i : Id) where
           none : (b : Bool) → (b && false) ≡ ((b || true) && false)
           none true = refl
           none false = refl
-      by true false o h same ih = ih ∙ ap (λ b. b && not (test k i)) (unmarked (present_in marks k i))
-        where
-          unmarked : (b : Bool) → b ≡ (b || false)
-          unmarked true = refl
-          unmarked false = refl
+      by true false o h same ih = ih ∙ ap (λ b. b && not (test k i)) (sym (or-false (present_in marks k i)))
       by false true o h same ih = rw h (rw (sym (same refl)) (both (present_in (filter (λ m. not (test m.0 m.1)) marks) k i) (present_in marks k i)))
         where
           both : (a b : Bool) → (a || true) ≡ ((b || true) && true)
@@ -54,15 +51,15 @@ module _ (test : Key → Id → Bool) (k : Key) (i : Id) where
           kept false b = refl
 
   pub value_in-without : {X : Type 0} (entries : List (Key × Id × X))
-      → value_in (filter (λ e. not (test e.0 e.1)) entries) k i ≡ (if test k i then None else value_in entries k i)
+      → first_value_at (filter (λ e. not (test e.0 e.1)) entries) k i ≡ (if test k i then None else first_value_at entries k i)
   value_in-without [] = sym (none_either (test k i))
   value_in-without (e ∷ entries) =
       by (test e.0 e.1) (key_eq e.0 k && id_eq e.1 i) refl refl (test_here test e.0 k e.1 i) (value_in-without entries)
     where
       by : (out here : Bool) → test e.0 e.1 ≡ out → (key_eq e.0 k && id_eq e.1 i) ≡ here → (here ≡ true → out ≡ test k i)
-          → value_in (filter (λ e. not (test e.0 e.1)) entries) k i ≡ (if test k i then None else value_in entries k i)
-          → value_in (if not out then e ∷ filter (λ e. not (test e.0 e.1)) entries else filter (λ e. not (test e.0 e.1)) entries) k i
-          ≡ (if test k i then None else if here then Some e.2 else value_in entries k i)
+          → first_value_at (filter (λ e. not (test e.0 e.1)) entries) k i ≡ (if test k i then None else first_value_at entries k i)
+          → first_value_at (if not out then e ∷ filter (λ e. not (test e.0 e.1)) entries else filter (λ e. not (test e.0 e.1)) entries) k i
+          ≡ (if test k i then None else if here then Some e.2 else first_value_at entries k i)
       by true true o h same ih = ih ∙ rw (sym (same refl)) refl
       by true false o h same ih = ih
       by false true o h same ih = rw h (rw (sym (same refl)) refl)

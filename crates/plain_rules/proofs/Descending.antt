@@ -1,6 +1,7 @@
 -- An operation on its way down through plain contexts.
-use Rattle.std.proofs.Common.{◌≡◌, ℤ, suc, ◌+◌, ◌<◌, ◌≤◌, List, [], ◌∷◌, length, get_or, Bool, true, false, ◌||◌, not, if◌then◌else◌, refl, sym, ap, ◌∙◌, subst, arith}
+use Rattle.std.proofs.Common.{◌≡◌, ℤ, suc, ◌+◌, ◌<◌, ◌≤◌, List, [], ◌∷◌, length, get_or, Bool, true, false, not, if◌then◌else◌, refl, sym, ap, ◌∙◌, subst, arith}
 use Rattle.std.specs.List.{remove}
+use Rattle.std.proofs.Math.Bool.{or-false}
 use Rattle.lamport_id.specs.declared.id.Id.{Id}
 use Rattle.json_scalar.specs.declared.scalar.Scalar.{Scalar}
 use Rattle.op_core.specs.declared.cursor.Key.{Key}
@@ -12,21 +13,17 @@ use Rattle.op_core.specs.Shape.{key_of}
 use Rattle.crdt_rules.specs.Same.{tagged_eq}
 use Rattle.crdt_rules.specs.Context.{Context, empty, node, child, register, counter, present, order, mutate, descend}
 use Rattle.crdt_rules.proofs.SameLaws.{tagged_decides}
-use Rattle.plain_rules.specs.Plain.{child_in, whole, blank, made, passed, context_of, contexts_of, place_of_child}
+use Rattle.plain_rules.specs.Plain.{child_in, whole, blank_context, made, passed_key, context_of, contexts_of, place_of_child}
 use Rattle.plain_rules.specs.declared.context.PlainContext.{PlainContext}
 use Rattle.plain_rules.specs.declared.context.PlainContext.TheViews.{out-PlainContext}
 use Rattle.plain_rules.proofs.Contexts.{level_of, context_of-out}
 
 -- what a delete passes stays
-pub passed-delete : (id : Id) (key : Key) (p : PlainContext) → context_of p ≡ passed id key Delete (context_of p)
-passed-delete id key p = subst (λ c. c ≡ passed id key Delete c) (sym (context_of-out p)) (same (level_of (out-PlainContext p)))
+pub passed-delete : (id : Id) (key : Key) (p : PlainContext) → context_of p ≡ passed_key id key Delete (context_of p)
+passed-delete id key p = subst (λ c. c ≡ passed_key id key Delete c) (sym (context_of-out p)) (same (level_of (out-PlainContext p)))
   where
-    kept : (b : Bool) → b ≡ (b || false)
-    kept true = refl
-    kept false = refl
-
-    same : (c : Context) → node (child c) (register c) (counter c) (present c) (order c) ≡ passed id key Delete c
-    same c = λ x. node (child c) (register c) (counter c) (λ k i. kept (present c k i) x) (order c)
+    same : (c : Context) → node (child c) (register c) (counter c) (present c) (order c) ≡ passed_key id key Delete c
+    same c = λ x. node (child c) (register c) (counter c) (λ k i. sym (or-false (present c k i)) x) (order c)
 
 pub made-context : (p : PlainContext) → context_of p ≡ made (context_of p)
 made-context p = subst (λ c. c ≡ made c) (sym (context_of-out p)) refl
@@ -80,7 +77,7 @@ module _ (deps : Id → Bool) (op : Op) where
   descend-made path (node c r n p o) = refl
   descend-made [] empty = by op.mutation
     where
-      by : (m : Mutation) → mutate deps op.id op.cursor.key m blank ≡ mutate deps op.id op.cursor.key m empty
+      by : (m : Mutation) → mutate deps op.id op.cursor.key m blank_context ≡ mutate deps op.id op.cursor.key m empty
       by (Assign v) = refl
       by (Insert v) = refl
       by Delete = refl
@@ -90,7 +87,7 @@ module _ (deps : Id → Bool) (op : Op) where
   -- one key of the way: it is passed, and its child taken out, changed and put first
   pub descended : (first : Tagged) (rest : List Tagged) (ctx : Context) (children others : List (Tagged × Context))
       (scalars : List (Key × Id × Scalar)) (numbers : List (Key × Id × ℤ)) (marks : List (Key × Id)) (ids : List Id) (taken changed : Context)
-      → whole children scalars numbers marks ids ≡ passed op.id (key_of first) op.mutation ctx
+      → whole children scalars numbers marks ids ≡ passed_key op.id (key_of first) op.mutation ctx
       → taken ≡ made (child_in children first)
       → ((t : Tagged) → tagged_eq first t ≡ false → child_in others t ≡ child_in children t)
       → changed ≡ descend deps op rest taken

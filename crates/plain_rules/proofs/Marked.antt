@@ -1,7 +1,8 @@
 -- Marks, as they are looked for.
-use Rattle.std.proofs.Common.{◌≡◌, List, [], ◌∷◌, Bool, true, false, ◌&&◌, ◌||◌, ◌⊎◌, inl, inr, refl, sym, ap, ◌∙◌}
+use Rattle.std.proofs.Common.{◌≡◌, List, [], ◌∷◌, true, ◌&&◌, ◌||◌, ◌⊎◌, inl, inr, refl, ap, ◌∙◌}
 use Rattle.std.specs.List.{list_any}
 use Rattle.std.proofs.lemmas.Bool.{and_parts, or_cases, or_left, or_right}
+use Rattle.std.proofs.Math.Bool.{or_comm}
 use Rattle.lamport_id.specs.declared.id.Id.{Id}
 use Rattle.op_core.specs.declared.cursor.Key.{Key}
 use Rattle.crdt_rules.specs.Same.{id_eq, key_eq}
@@ -11,13 +12,7 @@ use Rattle.plain_rules.specs.Plain.{present_in}
 module _ (k : Key) where
   pub marked-any : (marks : List (Key × Id)) (i : Id) → list_any (λ m. key_eq m.0 k && id_eq m.1 i) marks ≡ present_in marks k i
   marked-any [] i = refl
-  marked-any (m ∷ marks) i = turned (key_eq m.0 k && id_eq m.1 i) (list_any (λ m. key_eq m.0 k && id_eq m.1 i) marks) ∙ ap (λ b. b || (key_eq m.0 k && id_eq m.1 i)) (marked-any marks i)
-    where
-      turned : (a b : Bool) → (a || b) ≡ (b || a)
-      turned true true = refl
-      turned true false = refl
-      turned false true = refl
-      turned false false = refl
+  marked-any (m ∷ marks) i = or_comm (key_eq m.0 k && id_eq m.1 i) (list_any (λ m. key_eq m.0 k && id_eq m.1 i) marks) ∙ ap (λ b. b || (key_eq m.0 k && id_eq m.1 i)) (marked-any marks i)
 
   -- a mark at the key is the mark of some id
   pub marked-some : (marks : List (Key × Id)) → list_any (λ m. key_eq m.0 k) marks ≡ true → (i : Id) × (present_in marks k i ≡ true)

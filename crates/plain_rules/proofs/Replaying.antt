@@ -1,6 +1,7 @@
 -- A plain replay, operation by operation.
-use Rattle.std.proofs.Common.{◌≡◌, ℕ, zero, suc, ◌+◌, ◌<◌, ◌≤◌, List, [], ◌∷◌, ◌++◌, length, take, drop, get_or, map, filter, Bool, true, false, ◌&&◌, ◌||◌, if◌then◌else◌, refl, sym, ap, ◌∙◌, arith}
+use Rattle.std.proofs.Common.{◌≡◌, ℕ, suc, ◌+◌, ◌<◌, ◌≤◌, List, [], ◌∷◌, ◌++◌, length, take, drop, get_or, map, filter, Bool, true, false, ◌&&◌, ◌||◌, if◌then◌else◌, refl, sym, ap, ◌∙◌, arith}
 use Rattle.std.proofs.Math.Seq.{drop-cons}
+use Rattle.std.proofs.lemmas.List.{drop_all}
 use lib.Seq.{take-suc}
 use Rattle.lamport_id.specs.declared.id.Id.{Id}
 use Rattle.op_core.specs.declared.cursor.Tagged.{Tagged}
@@ -12,7 +13,7 @@ use Rattle.crdt_rules.specs.Context.{Context, empty, present, register, counter,
 use Rattle.crdt_rules.specs.Facts.{facts, context_at}
 use Rattle.crdt_rules.specs.Log.{replay, replay_after}
 use Rattle.crdt_rules.proofs.SameLaws.{id_decides}
-use Rattle.plain_rules.specs.Plain.{is_in, blank}
+use Rattle.plain_rules.specs.Plain.{is_in, blank_context}
 use Rattle.plain_rules.proofs.Descending.{descend-made}
 
 -- the ids of earlier operations that a front covers are the dependencies
@@ -48,13 +49,7 @@ replay_next ops j op ctx changed deps within is known change =
     ∙ ap (replay_after (take j ops ++ op ∷ []) (drop (suc j) ops)) (change ∙ ap (step ctx op) same)
     ∙ ap (λ l. replay_after (take j ops) l ctx) (sym later)
 
-drop_all : {X : Type 0} (xs : List X) (j : ℕ) → length xs ≤ j → drop j xs ≡ []
-drop_all [] zero h = refl
-drop_all [] (suc j) h = refl
-drop_all (x ∷ xs) zero h = absurd (omega arith)
-drop_all (x ∷ xs) (suc j) h = drop_all xs j (omega arith)
-
-facts-blank : facts blank ≡ facts empty
+facts-blank : facts blank_context ≡ facts empty
 facts-blank = λ x.
     record {
       present = λ p. by_present p x;
@@ -63,29 +58,29 @@ facts-blank = λ x.
       order = λ p. by_order p x;
     }
   where
-    by_present : (p : List Tagged) → present (context_at blank p) ≡ present (context_at empty p)
+    by_present : (p : List Tagged) → present (context_at blank_context p) ≡ present (context_at empty p)
     by_present [] = refl
     by_present (t ∷ p) = refl
 
-    by_register : (p : List Tagged) → register (context_at blank p) ≡ register (context_at empty p)
+    by_register : (p : List Tagged) → register (context_at blank_context p) ≡ register (context_at empty p)
     by_register [] = refl
     by_register (t ∷ p) = refl
 
-    by_counter : (p : List Tagged) → counter (context_at blank p) ≡ counter (context_at empty p)
+    by_counter : (p : List Tagged) → counter (context_at blank_context p) ≡ counter (context_at empty p)
     by_counter [] = refl
     by_counter (t ∷ p) = refl
 
-    by_order : (p : List Tagged) → order (context_at blank p) ≡ order (context_at empty p)
+    by_order : (p : List Tagged) → order (context_at blank_context p) ≡ order (context_at empty p)
     by_order [] = refl
     by_order (t ∷ p) = refl
 
 -- a replay that starts with a context that was made has the facts of one that starts with none
-replay-blank : (ops : List Op) → facts (replay_after [] ops blank) ≡ facts (replay ops)
+replay-blank : (ops : List Op) → facts (replay_after [] ops blank_context) ≡ facts (replay ops)
 replay-blank [] = facts-blank
 replay-blank (op ∷ ops) =
     ap (λ ctx. facts (replay_after (op ∷ []) ops ctx)) (descend-made (dependencies op []) op op.cursor.path empty)
 
 pub replay_end : (ops : List Op) (j : ℕ) (ctx : Context) → length ops ≤ j
-    → replay_after (take j ops) (drop j ops) ctx ≡ replay_after [] ops blank → facts ctx ≡ facts (replay ops)
+    → replay_after (take j ops) (drop j ops) ctx ≡ replay_after [] ops blank_context → facts ctx ≡ facts (replay ops)
 replay_end ops j ctx all same =
-    ap facts (ap (λ l. replay_after (take j ops) l ctx) (sym (drop_all ops j all)) ∙ same) ∙ replay-blank ops
+    ap facts (ap (λ l. replay_after (take j ops) l ctx) (sym (drop_all j ops all)) ∙ same) ∙ replay-blank ops

@@ -28,14 +28,14 @@ present_in [] k i = false
 present_in (m ∷ rest) k i = present_in rest k i || (key_eq m.0 k && id_eq m.1 i)
 
 -- the first value of an id at a key
-abbrev pub value_in : {X : Type 0} → List (Key × Id × X) → Key → Id → Option X
-value_in [] k i = None
-value_in (e ∷ rest) k i = if key_eq e.0 k && id_eq e.1 i then Some e.2 else value_in rest k i
+abbrev pub first_value_at : {X : Type 0} → List (Key × Id × X) → Key → Id → Option X
+first_value_at [] k i = None
+first_value_at (e ∷ rest) k i = if key_eq e.0 k && id_eq e.1 i then Some e.2 else first_value_at rest k i
 
 -- a context, from the lists that are kept of it
 abbrev pub whole : List (Tagged × Context) → List (Key × Id × Scalar) → List (Key × Id × ℤ) → List (Key × Id) → List Id → Context
 whole children scalars numbers marks order =
-    node (child_in children) (value_in scalars) (value_in numbers) (present_in marks) order
+    node (child_in children) (first_value_at scalars) (first_value_at numbers) (present_in marks) order
 
 -- one level, with the contexts below it in place of the plain ones
 abbrev pub level : PlainContext-F Context → Context
@@ -60,11 +60,11 @@ abbrev pub clear_each : (Key → Bool) → (Id → Bool) → List (Tagged × Con
 clear_each at deps = map (clear_child at deps)
 
 -- a context with nothing in it, as one that was made
-abbrev pub blank : Context
-blank = whole [] [] [] [] []
+abbrev pub blank_context : Context
+blank_context = whole [] [] [] [] []
 
 abbrev pub made : Context → Context
-made empty = blank
+made empty = blank_context
 made (node c r n p o) = node c r n p o
 
 -- where the first child at a key stands, or the length
@@ -72,6 +72,6 @@ abbrev pub place_of_child : List (Tagged × PlainContext) → Tagged → ℕ
 place_of_child children t = prefix_len (λ c. not (tagged_eq c.0 t)) children
 
 -- an operation has passed a key: it has marked it, unless it is a delete
-abbrev pub passed : Id → Key → Mutation → Context → Context
-passed id key m ctx =
+abbrev pub passed_key : Id → Key → Mutation → Context → Context
+passed_key id key m ctx =
     node (child ctx) (register ctx) (counter ctx) (λ k i. present ctx k i || (not (is_delete m) && key_eq key k && id_eq id i)) (order ctx)

@@ -6,7 +6,7 @@ ghost use Rattle.op_core.specs.declared.mutation.Mutation.TheVariants.{Insert};
 ghost use Rattle.crdt_rules.specs.Same.{key_eq, tagged_eq};
 ghost use Rattle.crdt_rules.specs.Effect.{scalar_in};
 ghost use Rattle.crdt_rules.specs.Context.{clear_all, clear_elem, mark, enter, count, put, place_id, mutate, descend, step};
-ghost use Rattle.plain_rules.specs.Plain.{is_in, context_of, contexts_of, seen, clear_child, clear_each, child_in, place_of_child, blank, made, passed};
+ghost use Rattle.plain_rules.specs.Plain.{is_in, context_of, contexts_of, seen, clear_child, clear_each, child_in, place_of_child, blank_context, made, passed_key};
 
 use crate::copy::{key_copy, scalar_copy, tagged_copy};
 use crate::order::insert_by_rule;
@@ -29,7 +29,7 @@ pub struct PlainContext {
 impl PlainContext {
     /// A context with nothing in it. It takes no memory.
     pub fn new(alloc: Global) -> PlainContext
-        ensures { context_of result ≡ blank }
+        ensures { context_of result ≡ blank_context }
     {
         PlainContext {
             children: Vec::new(alloc),
@@ -281,7 +281,7 @@ fn mutate(
 
 /// Marks a key on the way of an operation, unless it is a delete.
 fn pass(context: &mut PlainContext, key: &Key, id: &Id, mutation: &Mutation) -> Result<(), Refusal>
-    ensures done { OnOk result (context_of context.new ≡ passed id.now key.now mutation.now (context_of context.old)) }
+    ensures done { OnOk result (context_of context.new ≡ passed_key id.now key.now mutation.now (context_of context.old)) }
     ensures memory { IfErr result (λ e. e ≡ NoMemory) }
 {
     match mutation {

@@ -4,7 +4,7 @@ ghost use Rattle.json_scalar.specs.declared.refusal.Refusal.TheVariants.{NoMemor
 ghost use Rattle.lamport_id.specs.Order.{id_cmp};
 ghost use Rattle.list_laws.specs.Order.{place, place_behind, insert_after};
 ghost use Rattle.crdt_rules.specs.Context.{reference};
-ghost use Rattle.plain_rules.specs.Places.{place_of, greater_len};
+ghost use Rattle.crdt_rules.specs.Places.{place_of, greater_len};
 
 use json_scalar::Refusal;
 use lamport_id::Id;

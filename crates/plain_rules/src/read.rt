@@ -5,7 +5,7 @@ ghost use Rattle.lamport_id.specs.declared.id.Id.{Id};
 ghost use Rattle.crdt_rules.specs.Same.{id_eq, key_eq};
 ghost use Rattle.crdt_rules.specs.Context.{empty, register, counter, present, order};
 ghost use Rattle.crdt_rules.specs.Facts.{context_at};
-ghost use Rattle.plain_rules.specs.Plain.{context_of, contexts_of, child_in, value_in, present_in};
+ghost use Rattle.plain_rules.specs.Plain.{context_of, contexts_of, child_in, first_value_at, present_in};
 
 use crate::context::{PlainContext, child_place};
 use json_scalar::Scalar;
@@ -83,8 +83,8 @@ fn is_key_marked(marks: &[(Key, Id)], key: &Key) -> bool
 /// The first value of an id at a key.
 fn value_of<'a, T>(values: &'a [(Key, Id, T)], key: &Key, id: &Id) -> Option<&'a T>
     ensures { MatchOption result
-        (value_in values.now key.now id.now ≡ None)
-        (λ value. value_in values.now key.now id.now ≡ Some value.now) }
+        (first_value_at values.now key.now id.now ≡ None)
+        (λ value. first_value_at values.now key.now id.now ≡ Some value.now) }
 {
     match values {
         [] => None,

@@ -1,12 +1,15 @@
 //! What stands at the ids of operations at a place: the roles in which they make it present, their scalars, their numbers.
 #![tactic(auto)]
 
-ghost use Rattle.std.specs.Prelude.{◌≡◌, ◌+◌, ◌<◌, ◌≤◌, ◌↔◌, [], length, not, IsTrue, OnOk};
+ghost use Rattle.std.specs.Prelude.{◌≡◌, ◌+◌, ◌<◌, ◌≤◌, ◌↔◌, [], length, take, drop, not, IsTrue, IfOk, OnOk, OnErr};
 ghost use Rattle.std.specs.Ordering.{is_lt};
 ghost use Rattle.op_core.specs.Front.{covers};
 ghost use Rattle.lamport_id.specs.Order.{id_cmp};
-ghost use Rattle.presence_set.specs.ById.{put, contains, uncovered, rank, IsAscending};
+ghost use Rattle.presence_set.specs.ById.{put_at_id, contains, uncovered, rank, IsAscending};
 
+mod blocks;
+
+pub use crate::blocks::{Entries, InBlocks};
 pub use doc_words::Role;
 use lamport_id::Id;
 use op_core::Front;
@@ -20,7 +23,7 @@ pub struct ById<X> {
 }
 
 /// The operations that make a place present, each with its role.
-pub type Presence = ById<Role>;
+pub type Presence = InBlocks<Role>;
 
 impl<X> Model for ById<X> {
     ghost use Rattle.std.specs.Prelude.{List, ℕ, vec_capacity};
@@ -66,7 +69,7 @@ impl<X: Drop> ById<X> {
     /// Gives the id this value, in place of any other.
     pub fn put(&mut self, id: Id, value: X)
         requires { length self.old.0 < self.old.1 }
-        ensures { self.new ≡ (put self.old.0 id value, self.old.1) }
+        ensures { self.new ≡ (put_at_id self.old.0 id value, self.old.1) }
     {
         let at = rank_of(self.entries.as_slice(), &id);
         if at < self.entries.len() && self.entries[at].0 == id {
@@ -77,6 +80,18 @@ impl<X: Drop> ById<X> {
                 Err(_) => unreachable!(),
             }
         }
+    }
+
+    /// Takes the pairs from a place on out, into a set of their own. Where memory is wanting, they stay.
+    fn split_off(&mut self, at: usize) -> Result<ById<X>, AllocError>
+        requires { at ≤ length self.old.0 }
+        ensures low { OnOk result (self.new.0 ≡ take at self.old.0) }
+        ensures high { IfOk result (λ b. b.0 ≡ drop at self.old.0) }
+        ensures room { OnOk result (at < length self.old.0 → at < self.new.1) }
+        ensures err { OnErr result (self.new ≡ self.old) }
+    {
+        let entries = self.entries.split_off(at)?;
+        Ok(ById { entries })
     }
 
     /// Drops the ids that the front covers.
@@ -95,6 +110,20 @@ impl<X: Drop> ById<X> {
         ensures { IsTrue result ↔ (self.now.0 ≡ []) }
     {
         self.entries.is_empty()
+    }
+
+    /// How many ids there are.
+    fn len(&self) -> usize
+        ensures { result ≡ length self.now.0 }
+    {
+        self.entries.len()
+    }
+
+    /// Whether there is room for one more id.
+    fn has_room(&self) -> bool
+        ensures { IsTrue result ↔ (length self.now.0 < self.now.1) }
+    {
+        self.entries.len() < self.entries.capacity()
     }
 
     /// The ids with their values, in id order.

@@ -8,7 +8,7 @@ use Rattle.doc_rules.specs.Cause.{cause_of, first_fit_cause}
 use Rattle.doc_rules.specs.Events.{Due, told, held, logged, Event, due_by_cause, delivered_rows, due_delivered}
 use Rattle.doc_rules.specs.Replica.{Replica}
 use Rattle.doc_rules.proofs.Tables.{by_rows}
-use Rattle.replica_core.specs.Memory.{Grows, MayLack}
+use Rattle.replica_core.specs.Memory.{NeedsMemory, MayLack}
 use Rattle.replica_core.specs.Outcomes.{Meets}
 
 pub event_from : (r : Replica) (op : Op) (answer : Reply) (s : Replica) → Meets r (due_delivered r op) answer s → Event r (command.Deliver op) answer s
@@ -52,7 +52,7 @@ delivered_told r op =
     )
 
 -- so where it is told, something grows
-meets_grows : (r : Replica) (due : Due) (answer : Reply) (s : Replica) → due ≢ told (reply.Refused NoMemory) → answer ≡ reply.Refused NoMemory → Meets r due answer s → Grows due
+meets_grows : (r : Replica) (due : Due) (answer : Reply) (s : Replica) → due ≢ told (reply.Refused NoMemory) → answer ≡ reply.Refused NoMemory → Meets r due answer s → NeedsMemory due
 meets_grows r due answer s other lacks (inr grows) = grows.0
 meets_grows r (told x) answer s other lacks (inl does) = absurd (other (λ i. told ((sym does.0 ∙ lacks) i)))
 meets_grows r (held op) answer s other lacks (inl does) = tt

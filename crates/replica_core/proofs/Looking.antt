@@ -14,18 +14,18 @@ use Rattle.doc_tree.specs.Nodes.{tree_facts, tree_role}
 use Rattle.crdt_rules.specs.Log.{IsGood}
 use Rattle.doc_view.specs.Readings as view
 use Rattle.doc_view.specs.TreeValues.{tree_values}
-use Rattle.doc_rules.specs.Answers.{Answers, ReadsHere, LooksHere, told_as}
+use Rattle.doc_rules.specs.Answers.{MayAnswer, ReadsHere, LooksHere, told_as}
 use Rattle.doc_rules.specs.Resolve.{Resolves}
 use Rattle.doc_rules.proofs.Looks.{look_answers}
 use Rattle.replica_core.specs.AgreesWith.{AgreesWith}
 use Rattle.replica_core.specs.Whole.{replica_of}
 
 -- a reader's answer is told as a look's, unless memory is wanting
-pub told_here : {X : Type 0} (reads : List Tagged → Key → X → Type 0) (tell : X → Reply) (c : Cursor) (r : Result X Refusal) → view.ReadsHere reads c r
+pub told_here : {X : Type 0} (reads : List Tagged → Key → X → Type 0) (tell : X → Reply) (c : Cursor) (r : Result X Refusal) → view.ReadsUnlessMemory reads c r
     → (told_as tell r ≡ reply.Refused NoMemory) ⊎ ReadsHere reads tell c (told_as tell r)
 told_here {X} reads tell c r h = by (is_head c.key) refl r h
   where
-    by : (b : Bool) → is_head c.key ≡ b → (r : Result X Refusal) → MatchBool b (r ≡ Err AtHead) (view.Gives (reads c.path c.key) r)
+    by : (b : Bool) → is_head c.key ≡ b → (r : Result X Refusal) → MatchBool b (r ≡ Err AtHead) (view.GivesUnlessMemory (reads c.path c.key) r)
         → (told_as tell r ≡ reply.Refused NoMemory) ⊎ ReadsHere reads tell c (told_as tell r)
     by true e r h = inr (Err AtHead, (e, refl), ap (told_as tell) h)
     by false e (Ok x) h = inr (Ok x, (e, h), refl)
@@ -35,13 +35,13 @@ told_here {X} reads tell c r h = by (is_head c.key) refl r h
 pub look_told : (name : List ℕ) (log held : List Op) (mine : ℕ) (tree : List Node × Option Scalar) → AgreesWith tree log → IsGood log → (look : Look) (place : Place) (c : Cursor)
     (answer : Reply) → Resolves (tree_facts tree) place.start place.steps (Ok c)
     → (answer ≡ reply.Refused NoMemory) ⊎ LooksHere (tree_facts tree) (tree_values tree) look c answer
-    → Answers (replica_of name log held) mine (query.Look look place) answer
+    → MayAnswer (replica_of name log held) mine (query.Look look place) answer
 look_told name log held mine tree tells good look place c answer leads (inl memory) = inr memory
 look_told name log held mine tree tells good look place c answer leads (inr here) =
     inl (look_answers (replica_of name log held) mine (tree_facts tree) (tree_role tree) good tells look place (Ok c) answer leads here)
 
 -- where the steps lead
 pub resolve_told : (name : List ℕ) (log held : List Op) (mine : ℕ) (tree : List Node × Option Scalar) → AgreesWith tree log → (place : Place) (c : Cursor)
-    → Resolves (tree_facts tree) place.start place.steps (Ok c) → Answers (replica_of name log held) mine (query.Resolve place) (reply.Resolved c)
+    → Resolves (tree_facts tree) place.start place.steps (Ok c) → MayAnswer (replica_of name log held) mine (query.Resolve place) (reply.Resolved c)
 resolve_told name log held mine tree tells place c leads =
     inl (Ok c, subst (λ f. Resolves f place.start place.steps (Ok c)) tells.facts_are leads, refl)

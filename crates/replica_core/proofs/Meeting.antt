@@ -19,7 +19,7 @@ use Rattle.doc_rules.specs.Cause.{cause_of}
 use Rattle.doc_rules.specs.Events.{Due, told, held, logged, Settles, no, first_row, is_same, due_by_cause, due_delivered}
 use Rattle.doc_rules.specs.Replica.{Replica, Drains, append, find_id}
 use Rattle.replica_core.specs.declared.outcome.Applied.{Applied}
-use Rattle.replica_core.specs.Memory.{Grows}
+use Rattle.replica_core.specs.Memory.{NeedsMemory}
 use Rattle.replica_core.specs.Outcomes.{Meets, told_applied}
 use Rattle.replica_core.specs.Whole.{replica_of}
 
@@ -37,7 +37,7 @@ meets_logged r op a s h = record {
 }
 
 -- memory is wanting
-pub meets_lacking : (r : Replica) (due : Due) (e : Refusal) (s : Replica) → Grows due → e ≡ NoMemory → s ≡ r → Meets r due (reply.Refused e) s
+pub meets_lacking : (r : Replica) (due : Due) (e : Refusal) (s : Replica) → NeedsMemory due → e ≡ NoMemory → s ≡ r → Meets r due (reply.Refused e) s
 meets_lacking r due e s grows memory same = inr (grows, (ap reply.Refused memory, same))
 
 -- a ready operation is logged, or refused

@@ -6,14 +6,14 @@ use Rattle.doc_rules.specs.Events.{Due, told, held, logged, due_delivered}
 use Rattle.doc_rules.specs.Replica.{Replica}
 
 -- something grows: an operation is logged or held, or a list of ids is made for the answer
-abbrev pub Grows : Due → Type 0
-Grows (told (Held ids)) = Unit {0}
-Grows (told _) = ⊥
-Grows (held op) = Unit {0}
-Grows (logged op) = Unit {0}
+abbrev pub NeedsMemory : Due → Type 0
+NeedsMemory (told (Held ids)) = Unit {0}
+NeedsMemory (told _) = ⊥
+NeedsMemory (held op) = Unit {0}
+NeedsMemory (logged op) = Unit {0}
 
 -- A command may lack memory only where something grows. The way to a place is made before its change is looked at.
 abbrev pub MayLack : Replica → Command → Type 0
 MayLack r (Change place m) = Unit {0}
-MayLack r (Deliver op) = Grows (due_delivered r op)
+MayLack r (Deliver op) = NeedsMemory (due_delivered r op)
 MayLack r (Forget i) = ⊥

@@ -6,7 +6,7 @@ use Rattle.doc_words.specs.declared.reply.Reply.{Reply}
 use Rattle.doc_words.specs.declared.reply.Reply.TheVariants as reply
 use Rattle.doc_rules.specs.Events.{Due, Settles, Lacks}
 use Rattle.doc_rules.specs.Replica.{Replica}
-use Rattle.replica_core.specs.Memory.{Grows}
+use Rattle.replica_core.specs.Memory.{NeedsMemory}
 use Rattle.replica_core.specs.declared.outcome.Applied.{Applied}
 use Rattle.replica_core.specs.declared.outcome.Delivered.{Delivered}
 use Rattle.replica_core.specs.declared.outcome.Delivered.TheVariants as delivered
@@ -33,4 +33,4 @@ place_told false false = Ok tt
 
 -- what is due comes about, or, where something grows, memory is wanting and nothing has changed
 abbrev pub Meets : Replica → Due → Reply → Replica → Type 0
-Meets r due reply s = Settles r due reply s ⊎ (Grows due × Lacks r reply s)
+Meets r due reply s = Settles r due reply s ⊎ (NeedsMemory due × Lacks r reply s)

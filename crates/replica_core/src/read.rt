@@ -2,7 +2,7 @@
 ghost use Rattle.std.specs.Prelude.{◌≡◌, ◌⊎◌, ℕ, List};
 ghost use Rattle.op_core.specs.Op.{Op};
 ghost use Rattle.doc_tree.specs.Nodes.{tree_facts};
-ghost use Rattle.doc_rules.specs.Answers.{Answers, LooksHere, told_as};
+ghost use Rattle.doc_rules.specs.Answers.{MayAnswer, LooksHere, told_as};
 ghost use Rattle.doc_view.specs.TreeValues.{tree_values};
 ghost use Rattle.doc_words.specs.declared.ask.Query.TheVariants as query;
 ghost use Rattle.hold_buffer.specs.Held.{IsCurrent};
@@ -30,7 +30,7 @@ pub fn read(
 ) -> Reply
     requires tells { AgreesWith tree.now log.now.operations }
     requires current { IsCurrent held.now log.now.operations }
-    ensures answer { (name : List ℕ) → Answers (replica_of name log.now.operations held.now.held) mine query result }
+    ensures answer { (name : List ℕ) → MayAnswer (replica_of name log.now.operations held.now.held) mine query result }
     ensures account { query ≡ Query.Account → result ≡ Reply.Account mine }
 {
     match query {
@@ -46,7 +46,7 @@ pub fn read(
 // The answer of a look at a place, or what stood against its steps.
 fn look_at_place(alloc: Global, tree: &Tree, log: &OpLog, look: Look, place: Place) -> Reply
     requires { AgreesWith tree.now log.now.operations }
-    ensures { (name : List ℕ) (held : List Op) (mine : ℕ) → Answers (replica_of name log.now.operations held) mine (query.Look look place) result }
+    ensures { (name : List ℕ) (held : List Op) (mine : ℕ) → MayAnswer (replica_of name log.now.operations held) mine (query.Look look place) result }
 {
     keeps_good(log);
     let Place { start, steps } = place;
@@ -59,7 +59,7 @@ fn look_at_place(alloc: Global, tree: &Tree, log: &OpLog, look: Look, place: Pla
 // Where the steps of a place lead.
 fn resolve_place(alloc: Global, tree: &Tree, log: &OpLog, place: Place) -> Reply
     requires { AgreesWith tree.now log.now.operations }
-    ensures { (name : List ℕ) (held : List Op) (mine : ℕ) → Answers (replica_of name log.now.operations held) mine (query.Resolve place) result }
+    ensures { (name : List ℕ) (held : List Op) (mine : ℕ) → MayAnswer (replica_of name log.now.operations held) mine (query.Resolve place) result }
 {
     let Place { start, steps } = place;
     match resolve(alloc, tree, start, steps.as_slice()) {
@@ -84,7 +84,7 @@ fn look_at(alloc: Global, tree: &Tree, look: Look, cursor: &Cursor) -> Reply
 
 // The logged operations that a front does not cover, at most so many.
 fn operations(log: &OpLog, front: &Front, limit: u64) -> Reply
-    ensures { (name : List ℕ) (held : List Op) (mine : ℕ) → Answers (replica_of name log.now.operations held) mine (query.Operations front.now limit) result }
+    ensures { (name : List ℕ) (held : List Op) (mine : ℕ) → MayAnswer (replica_of name log.now.operations held) mine (query.Operations front.now limit) result }
 {
     match log.since(front, limit as usize) {
         Ok(operations) => Reply::Operations(operations),
@@ -94,7 +94,7 @@ fn operations(log: &OpLog, front: &Front, limit: u64) -> Reply
 
 // The front of the log.
 fn whole_front(log: &OpLog) -> Reply
-    ensures { (name : List ℕ) (held : List Op) (mine : ℕ) → Answers (replica_of name log.now.operations held) mine query.Front result }
+    ensures { (name : List ℕ) (held : List Op) (mine : ℕ) → MayAnswer (replica_of name log.now.operations held) mine query.Front result }
 {
     match log.front() {
         Ok(front) => Reply::Front(front),
@@ -105,7 +105,7 @@ fn whole_front(log: &OpLog) -> Reply
 // The held operations, and what each waits for.
 fn waiting(log: &OpLog, held: &HoldBuffer) -> Reply
     requires { IsCurrent held.now log.now.operations }
-    ensures { (name : List ℕ) (mine : ℕ) → Answers (replica_of name log.now.operations held.now.held) mine query.Held result }
+    ensures { (name : List ℕ) (mine : ℕ) → MayAnswer (replica_of name log.now.operations held.now.held) mine query.Held result }
 {
     match held.waiting(log) {
         Ok(waiting) => Reply::Waiting(waiting),

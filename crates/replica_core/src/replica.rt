@@ -2,7 +2,7 @@
 ghost use Rattle.std.specs.Prelude.{◌≡◌, [], Err, OnOk, IfOk, IfErr};
 ghost use Rattle.json_scalar.specs.declared.refusal.Refusal.TheVariants.{NoMemory};
 ghost use Rattle.crdt_rules.specs.Log.{IsGood};
-ghost use Rattle.doc_rules.specs.Answers.{Answers};
+ghost use Rattle.doc_rules.specs.Answers.{MayAnswer};
 ghost use Rattle.doc_rules.specs.Events.{Does, Event};
 ghost use Rattle.doc_rules.specs.Replica.{IsKept};
 ghost use Rattle.doc_words.specs.declared.ask.Command.TheVariants as command;
@@ -165,7 +165,7 @@ impl Replica {
     /// Answers a query, with nothing changed. `mine` is told as the account. A reading of a place is refused by the first cause
     /// against its steps, or as at-head; and any answer but an account for want of memory.
     pub fn read(&self, mine: u64, query: Query) -> Reply
-        ensures answer { Answers self.now mine query result }
+        ensures answer { MayAnswer self.now mine query result }
         ensures account { query ≡ Query.Account → result ≡ Reply.Account mine }
     {
         read(self.alloc, &self.tree, &self.log, &self.held, mine, query)

@@ -1,7 +1,7 @@
 -- Ends that are taken out of what sessions gave back, the first of each session.
-use Rattle.std.proofs.Common.{◌≡◌, ℕ, zero, suc, ◌+◌, ◌<◌, ◌≤◌, List, [], ◌∷◌, ◌++◌, length, map, drop, Option, Some, None, refl, sym, ap, ◌∙◌, arith, append_assoc, append-nil, length-append}
+use Rattle.std.proofs.Common.{◌≡◌, ℕ, ◌+◌, ◌<◌, ◌≤◌, List, [], ◌∷◌, ◌++◌, length, map, drop, Option, Some, None, refl, sym, ap, ◌∙◌, arith, append_assoc, append-nil, length-append}
 use Rattle.std.specs.Prelude.{slice_index_or}
-use Rattle.std.proofs.lemmas.List.{map-append}
+use Rattle.std.proofs.lemmas.List.{map-append, nil_from_length}
 use Rattle.std.specs.List.{flat_map}
 use Rattle.std.proofs.lemmas.Grind.{flat_map-append}
 use Rattle.std.proofs.lemmas.List.Concat.{flat_map-cons}
@@ -22,10 +22,6 @@ first_of-Some xs x end is some = ap first_end is ∙ ap (λ y. first_end (y ∷ 
 pub later_is : (xs : List (Option Seat)) → drop 1 xs ≡ later_ends xs
 later_is [] = refl
 later_is (x ∷ xs) = refl
-
-pub none_left : {X : Type 0} (xs : List X) → length xs ≡ 0 → xs ≡ []
-none_left [] none = refl
-none_left (x ∷ xs) none = absurd (omega (arith, none))
 
 -- So many sessions were gone through: what is left of them stands behind those to come.
 pub record IsThrough (sessions now : List (List (Option Seat))) (i : ℕ) (before column : List Seat) : Type 0 where
@@ -73,7 +69,7 @@ pub all_through : {sessions now : List (List (Option Seat))} {i : ℕ} {before c
     → (now ≡ map later_ends sessions) × (column ≡ before ++ flat_map first_end sessions)
 all_through {sessions} {now} {i} {before} {column} so_far past =
     let lengths : length sessions ≡ length so_far.done + length so_far.rest = ap length so_far.all ∙ length-append so_far.done so_far.rest in
-    let none : so_far.rest ≡ [] = none_left so_far.rest (omega (arith, lengths, so_far.so_many, past)) in
+    let none : so_far.rest ≡ [] = nil_from_length so_far.rest (omega (arith, lengths, so_far.so_many, past)) in
     let same : sessions ≡ so_far.done = so_far.all ∙ ap (λ xs. so_far.done ++ xs) none ∙ append-nil so_far.done in (
       so_far.rotated ∙ ap (λ xs. xs ++ map later_ends so_far.done) none ∙ ap (map later_ends) (sym same),
       so_far.taken ∙ ap (λ xs. before ++ flat_map first_end xs) (sym same),

@@ -3,19 +3,19 @@ use Rattle.std.proofs.Common.{◌≡◌, ℕ, zero, suc, ◌+◌, List, [], ◌�
 use Rattle.std.specs.List.{flat_map}
 use Rattle.doc_rules.specs.Seats.{Seat}
 use Rattle.locked_doc.specs.declared.gather.Totals.{Totals}
-use Rattle.server_core.specs.Sums.{AreTotals, AreTotalsFrom, behind, first_end, later_ends}
+use Rattle.server_core.specs.Sums.{AreTotals, AreTotalsFrom, ends_behind, first_end, later_ends}
 
-pub behind-next : (k : ℕ) (sessions : List (List (Option Seat))) → map later_ends (behind k sessions) ≡ behind (suc k) sessions
+pub behind-next : (k : ℕ) (sessions : List (List (Option Seat))) → map later_ends (ends_behind k sessions) ≡ ends_behind (suc k) sessions
 behind-next zero sessions = refl
 behind-next (suc k) sessions = behind-next k (map later_ends sessions)
 
 -- one more behind them
 pub one_more : (n : ℕ) (sessions : List (List (Option Seat))) (totals : List Totals) (t : Totals) → AreTotalsFrom n sessions totals
-    → AreTotals (n + length totals) (flat_map first_end (behind (length totals) sessions)) t → AreTotalsFrom n sessions (totals ++ t ∷ [])
+    → AreTotals (n + length totals) (flat_map first_end (ends_behind (length totals) sessions)) t → AreTotalsFrom n sessions (totals ++ t ∷ [])
 one_more n sessions [] t are next = let here : n + 0 ≡ n = omega arith in (subst (λ k. AreTotals k (flat_map first_end sessions) t) here next, tt)
 one_more n sessions (x ∷ totals) t are next =
     let there : n + length (x ∷ totals) ≡ suc n + length totals = omega arith in (
       are.0,
       one_more (suc n) (map later_ends sessions) totals t are.1
-          (subst (λ k. AreTotals k (flat_map first_end (behind (length totals) (map later_ends sessions))) t) there next),
+          (subst (λ k. AreTotals k (flat_map first_end (ends_behind (length totals) (map later_ends sessions))) t) there next),
     )

@@ -2,24 +2,24 @@
 use Rattle.std.specs.Prelude.{◌≡◌, ℕ, List, [], ◌∷◌, Option, Some, None}
 use Rattle.doc_rules.specs.Seats as seats
 use Rattle.session_rules.specs.Session.{Opened}
-use Rattle.session_rules.specs.Shelf.{begins, shared}
+use Rattle.session_rules.specs.Shelf.{begins_at_shelf, shared}
 use Rattle.session_rules.specs.declared.Ending.{Ending}
 use Rattle.session_core.specs.Ended.{Ends}
 use Rattle.server_core.specs.Ends.{AreSeatEnds}
 
 -- A session over shared documents of these names that ended for this cause. It read from what the source had, where that is
 -- known, and these are the ends of the seats that it had then.
-pub record IsServed (names : List (List ℕ)) (had : Option (List ℕ)) (why : Ending) (ends : List (Option seats.Seat)) : Type 0 where
+pub record IsEndedSession (names : List (List ℕ)) (had : Option (List ℕ)) (why : Ending) (ends : List (Option seats.Seat)) : Type 0 where
   pub has : Option (List ℕ)
   pub held : Option (List ℕ)
   pub holds : Option (List ℕ)
   pub opened : List Opened
-  pub session : Ends (shared names) begins had has held holds why (record { documents = tt; opened = opened })
+  pub session : Ends (shared names) begins_at_shelf had has held holds why (record { documents = tt; opened = opened })
   pub given_back : AreSeatEnds names opened ends
 
 -- a session, or none, which gave back nothing
 abbrev pub IsAttended : List (List ℕ) → Option (List ℕ) → Option Ending → List (Option seats.Seat) → Type 0
-IsAttended names had (Some why) ends = IsServed names had why ends
+IsAttended names had (Some why) ends = IsEndedSession names had why ends
 IsAttended names had None ends = ends ≡ []
 
 -- of each connection, in their order

@@ -1,5 +1,5 @@
 ghost use Rattle.std.specs.Prelude.{◌≡◌, ℕ, ◌+◌, ◌^◌, ◌<◌, ◌≤◌};
-ghost use Rattle.share_ledger.specs.Counters.{counter, place_of, IsSamePlace};
+ghost use Rattle.share_ledger.specs.Counters.{seat_counter, ledger_place, IsSamePlace};
 
 use crate::halves::{Half, Rest};
 use std::marker::{Brand, Model, PhantomData};
@@ -30,7 +30,7 @@ impl Model for Blank {
     ghost invariant = { λ b. b.rest.next ≡ 0 };
 }
 
-/// The places that are not opened yet, in the order of `place_of`: by document number, then by seat. Contracts see it as the first
+/// The places that are not opened yet, in the order of `ledger_place`: by document number, then by seat. Contracts see it as the first
 /// place of which that is known. It takes no bytes.
 #[derive(Drop)]
 pub struct Table<M: Marker> {
@@ -60,13 +60,13 @@ pub struct Book<M: Marker> {
 
 impl<M: Marker> Model for Book<M> {
     ghost use Rattle.std.specs.Prelude.{◌≡◌};
-    ghost use Rattle.share_ledger.specs.Counters.{Counter, counter, place_of};
+    ghost use Rattle.share_ledger.specs.Counters.{Counter, seat_counter, ledger_place};
 
     ghost Value = { Counter };
 
-    ghost view = { λ b. counter b.number b.seat b.count };
+    ghost view = { λ b. seat_counter b.number b.seat b.count };
 
-    ghost invariant = { λ b. (b.half.table ≡ M.name) × (b.half.place ≡ place_of b.number b.seat) × (b.half.count ≡ b.count) };
+    ghost invariant = { λ b. (b.half.table ≡ M.name) × (b.half.place ≡ ledger_place b.number b.seat) × (b.half.count ≡ b.count) };
 }
 
 /// The half of a counter that a seat keeps. It can't be copied, and its count changes by `Book::credit` alone.
@@ -81,13 +81,13 @@ pub struct Share<M: Marker> {
 
 impl<M: Marker> Model for Share<M> {
     ghost use Rattle.std.specs.Prelude.{◌≡◌};
-    ghost use Rattle.share_ledger.specs.Counters.{Counter, counter, place_of};
+    ghost use Rattle.share_ledger.specs.Counters.{Counter, seat_counter, ledger_place};
 
     ghost Value = { Counter };
 
-    ghost view = { λ s. counter s.number s.seat s.count };
+    ghost view = { λ s. seat_counter s.number s.seat s.count };
 
-    ghost invariant = { λ s. (s.half.table ≡ M.name) × (s.half.place ≡ place_of s.number s.seat) × (s.half.count ≡ s.count) };
+    ghost invariant = { λ s. (s.half.table ≡ M.name) × (s.half.place ≡ ledger_place s.number s.seat) × (s.half.count ≡ s.count) };
 }
 
 impl Blank {
@@ -113,10 +113,10 @@ impl<M: Marker> Table<M> {
     /// Two halves of one counter at 0, at the place of a document number and a seat, which comes after every opened place. So no
     /// third half of a place is ever made. It takes no memory.
     pub fn open(&mut self, number: u16, seat: u16) -> (Book<M>, Share<M>)
-        requires { self.old ≤ place_of number seat }
-        ensures table { self.new ≡ place_of number seat + 1 }
-        ensures book { result.0 ≡ counter number seat 0 }
-        ensures share { result.1 ≡ counter number seat 0 }
+        requires { self.old ≤ ledger_place number seat }
+        ensures table { self.new ≡ ledger_place number seat + 1 }
+        ensures book { result.0 ≡ seat_counter number seat 0 }
+        ensures share { result.1 ≡ seat_counter number seat 0 }
     {
         let (one, other) = self.rest.open(u64::from(number) * 65536 + u64::from(seat));
         (
@@ -164,8 +164,8 @@ impl<M: Marker> Book<M> {
     pub fn credit(&mut self, share: &mut Share<M>, amount: u64)
         requires place { IsSamePlace self.old share.old }
         requires fits { self.old.count + amount < 2 ^ 64 }
-        ensures book { self.new ≡ counter self.old.number self.old.seat (self.old.count + amount) }
-        ensures share { share.new ≡ counter share.old.number share.old.seat (share.old.count + amount) }
+        ensures book { self.new ≡ seat_counter self.old.number self.old.seat (self.old.count + amount) }
+        ensures share { share.new ≡ seat_counter share.old.number share.old.seat (share.old.count + amount) }
         ensures agree { self.old.count ≡ share.old.count }
     {
         self.half.credit(&mut share.half, amount);

@@ -3,7 +3,7 @@ use crate::history::{TEXTS, below};
 use crate::plain_shown::plain_shown;
 use crate::sites::Site;
 use converge_laws::free_present;
-use doc_tree::Tree;
+use doc_tree::{Entries, Tree};
 use doc_view::{conflicts, items, keys, show, sum, values};
 use doc_words::{Role, Scalars};
 use json_scalar::Refusal;
@@ -12,19 +12,19 @@ use op_core::{Cursor, Key, KeyText, Operation, Path, Tagged};
 use plain_rules::PlainContext;
 use std::alloc::Global;
 
-fn has_id(entries: &[(Id, Role)], id: &Id) -> bool {
-    entries.iter().any(|entry| entry.0 == *id)
+fn has_id(entries: Entries<'_, Role>, id: &Id) -> bool {
+    let mut entries = entries;
+    entries.any(|entry| entry.0 == *id)
 }
 
 /// The plain program has the ids of the tree at a place, and of those of the history no other.
 fn marks_agree(tree: &Tree, plain: &PlainContext, site: &Site) -> bool {
     let (path, key) = (&site.cursor.path, &site.cursor.key);
-    let entries = tree.present(path, key);
-    entries
-        .iter()
-        .all(|entry| plain.has_mark(path.as_slice(), key, &entry.0))
+    let mut entries = tree.present(path, key);
+    entries.all(|entry| plain.has_mark(path.as_slice(), key, &entry.0))
         && site.touched.iter().all(|entry| {
-            plain.has_mark(path.as_slice(), key, &entry.0) == has_id(entries, &entry.0)
+            plain.has_mark(path.as_slice(), key, &entry.0)
+                == has_id(tree.present(path, key), &entry.0)
         })
 }
 
@@ -207,11 +207,10 @@ pub fn agree_at(
 
 /// Whether the set of the operations says of the ids at a place what the tree says.
 pub fn is_free_at(tree: &Tree, ops: &[Operation], site: &Site) -> bool {
-    let entries = tree.present(&site.cursor.path, &site.cursor.key);
-    entries
-        .iter()
-        .all(|entry| free_present(ops, &site.cursor, entry.0))
+    let (path, key) = (&site.cursor.path, &site.cursor.key);
+    let mut entries = tree.present(path, key);
+    entries.all(|entry| free_present(ops, &site.cursor, entry.0))
         && site.touched.iter().all(|entry| {
-            free_present(ops, &site.cursor, entry.0) == has_id(entries, &entry.0)
+            free_present(ops, &site.cursor, entry.0) == has_id(tree.present(path, key), &entry.0)
         })
 }

@@ -18,6 +18,11 @@ fn restored(alloc: Global, entries: &[Operation]) -> Result<Replica, Refusal> {
     }
 }
 
+/// Whether a replica is restored from these entries.
+pub fn is_restored(alloc: Global, entries: &[Operation]) -> bool {
+    restored(alloc, entries).is_ok()
+}
+
 // Asks for the change that makes an operation, at its cursor.
 fn make(alloc: Global, replica: &mut Replica, op: &Operation) -> Result<Applied, Refusal> {
     let start = op.cursor().try_clone()?;

@@ -17,6 +17,19 @@ pub const CONCURRENT_REGISTER: [&str; 3] = [
 /// Another operation under the id of the first of those.
 pub const COLORS: &str = r#"["op",[1,"p"],[],[[["m",0]],"colors"],["assign",{}]]"#;
 
+/// A list that two replicas change at once.
+pub const CONCURRENT_LIST_EDITS: [&str; 9] = [
+    r#"["op",[1,"o"],[],[[],0],["assign",{}]]"#,
+    r#"["op",[2,"o"],[["o",1]],[[["m",0]],"l"],["assign",[]]]"#,
+    r#"["op",[3,"o"],[["o",2]],[[["m",0],["l","l"]],1],["insert","a"]]"#,
+    r#"["op",[4,"o"],[["o",3]],[[["m",0],["l","l"]],[3,"o"]],["insert","b"]]"#,
+    r#"["op",[5,"o"],[["o",4]],[[["m",0],["l","l"]],[4,"o"]],["insert","c"]]"#,
+    r#"["op",[6,"p"],[["o",5]],[[["m",0],["l","l"]],[4,"o"]],["delete"]]"#,
+    r#"["op",[7,"p"],[["o",5],["p",6]],[[["m",0],["l","l"]],[3,"o"]],["insert","x"]]"#,
+    r#"["op",[6,"q"],[["o",5]],[[["m",0],["l","l"]],[3,"o"]],["insert","y"]]"#,
+    r#"["op",[7,"q"],[["o",5],["q",6]],[[["m",0],["l","l"]],[5,"o"]],["insert","z"]]"#,
+];
+
 pub fn operation(alloc: Global, text: &str) -> Result<Operation, Refusal> {
     match Value::from_str(alloc, text) {
         Ok(value) => read_wire(alloc, &value),

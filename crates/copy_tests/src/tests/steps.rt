@@ -1,6 +1,6 @@
 //! Steps over one database. Each call of the copy stands in a function of its own that promises nothing, so that the proof of a
 //! list of steps carries none of its clauses.
-use super::restored::is_edited_after;
+use super::restored::{is_edited_after, is_restored};
 use copy_report::check_over;
 use line_feed::Writer;
 use log_copy::{Fault, LogCopy};
@@ -24,6 +24,10 @@ pub enum Step<'a> {
     Check(&'a str),
     /// A replica is restored from the document, and its next change is this operation.
     Edit(&'a str, &'a str),
+    /// The document has as many entries as one of these numbers says, the first ones of the log, and a replica is restored from them.
+    Restore(&'a str, usize, usize),
+    /// The epoch is raised to one that is greater than this.
+    UpFrom(u64),
     /// The copy gives the tables back, and these statements run over them.
     Run(&'a str),
     /// The copy gives the tables back, and this query finds a number in them.
@@ -96,16 +100,43 @@ fn check<S: Alter>(alloc: Global, copy: &LogCopy<S>, due: &str) -> StepAnswer {
 
 fn edit<S: Alter>(alloc: Global, copy: &LogCopy<S>, doc: &str, due: &str) -> StepAnswer {
     match copy.load(alloc, doc) {
-        Ok(loaded) => told_edit(is_edited_after(alloc, loaded.as_slice(), due)),
+        Ok(loaded) => told_so(is_edited_after(alloc, loaded.as_slice(), due)),
         Err(fault) => StepAnswer::Fault(fault),
     }
 }
 
-fn told_edit(is_so: bool) -> StepAnswer {
+fn told_so(is_so: bool) -> StepAnswer {
     if is_so {
         StepAnswer::Done
     } else {
         StepAnswer::Other
+    }
+}
+
+fn restore<S: Alter>(
+    alloc: Global,
+    copy: &LogCopy<S>,
+    doc: &str,
+    log: &[Operation],
+    due: (usize, usize),
+) -> StepAnswer {
+    match copy.load(alloc, doc) {
+        Ok(loaded) => told_so(
+            is_due(loaded.as_slice(), log, due) && is_restored(alloc, loaded.as_slice()),
+        ),
+        Err(fault) => StepAnswer::Fault(fault),
+    }
+}
+
+fn is_due(loaded: &[Operation], log: &[Operation], due: (usize, usize)) -> bool {
+    (loaded.len() == due.0 || loaded.len() == due.1)
+        && told_rows(loaded, log) == StepAnswer::Rows(loaded.len())
+}
+
+fn up_from<S: Alter>(copy: &mut LogCopy<S>, last: u64) -> StepAnswer {
+    match copy.epoch_up() {
+        Ok(number) => told_so(number > last),
+        Err(fault) => StepAnswer::Fault(fault),
     }
 }
 
@@ -179,6 +210,8 @@ fn asked<S: Alter>(
         Step::Docs => docs(copy),
         Step::Check(due) => check(alloc, copy, due),
         Step::Edit(doc, due) => edit(alloc, copy, doc, due),
+        Step::Restore(doc, least, most) => restore(alloc, copy, doc, log, (least, most)),
+        Step::UpFrom(last) => up_from(copy, last),
         _ => StepAnswer::NoCopy,
     }
 }
@@ -222,20 +255,53 @@ fn take<S: Alter + Drop>(
     }
 }
 
-/// The place of the first step that tells something else than is due, and what it tells. Each is handed what the one before it left.
+// Where memory is wanting nothing has changed, so the step is taken once more.
+fn take_patiently<S: Alter + Drop>(
+    alloc: Global,
+    held: Held<S>,
+    log: &[Operation],
+    step: Step<'_>,
+) -> (Held<S>, StepAnswer) {
+    let (held, told) = take(alloc, held, log, step);
+    if told == StepAnswer::Fault(Fault::Memory) {
+        return take(alloc, held, log, step);
+    }
+    (held, told)
+}
+
+fn given_back<S: Alter + Drop>(held: Held<S>) -> Connection<S> {
+    match held {
+        Held::Copy(copy) => copy.into_connection(),
+        Held::Tables(conn) => conn,
+    }
+}
+
+/// The place of the first step that tells something else than is due, and what it tells. Each is handed what the one before it left,
+/// and the last leaves the tables.
+pub fn walked<S: Alter + Drop>(
+    alloc: Global,
+    conn: Connection<S>,
+    log: &[Operation],
+    steps: &[(Step<'_>, StepAnswer)],
+) -> (Connection<S>, Option<(usize, StepAnswer)>) {
+    let mut held = Held::Tables(conn);
+    for (at, (step, due)) in steps.iter().enumerate() {
+        let (next, told) = take_patiently(alloc, held, log, *step);
+        held = next;
+        if told != *due {
+            return (given_back(held), Some((at, told)));
+        }
+    }
+    (given_back(held), None)
+}
+
+/// The same without the tables.
 pub fn first_other<S: Alter + Drop>(
     alloc: Global,
     conn: Connection<S>,
     log: &[Operation],
     steps: &[(Step<'_>, StepAnswer)],
 ) -> Option<(usize, StepAnswer)> {
-    let mut held = Held::Tables(conn);
-    for (at, (step, due)) in steps.iter().enumerate() {
-        let (next, told) = take(alloc, held, log, *step);
-        if told != *due {
-            return Some((at, told));
-        }
-        held = next;
-    }
-    None
+    let (_, other) = walked(alloc, conn, log, steps);
+    other
 }

@@ -1,6 +1,6 @@
 //! Seats of a document and of another, and what their ends add up to.
 ghost use Rattle.std.specs.Prelude.{◌≡◌, ◌≤◌};
-ghost use Rattle.share_ledger.specs.Counters.{place_of};
+ghost use Rattle.share_ledger.specs.Counters.{ledger_place};
 
 use super::samples::{Deed, Digest, command, document, told_by};
 use doc_words::Query;
@@ -90,7 +90,7 @@ fn refuses_with<M: Marker, R: Abort>(
 
 // The end of a seat of the document of number 1.
 fn elsewhere<M: Marker>(alloc: Global, table: &mut Table<M>) -> Result<SeatEnd<M>, Refusal>
-    requires { table.old ≤ place_of 1 0 }
+    requires { table.old ≤ ledger_place 1 0 }
 {
     let mut doc = document(alloc, table, 1, 1)?;
     let seat = doc.open_seat()?;

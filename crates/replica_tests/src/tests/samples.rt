@@ -1,6 +1,6 @@
 //! Operations and commands by their written forms, what is told of them, and a replica and a document to try them on.
 ghost use Rattle.std.specs.Prelude.{◌≡◌, ◌+◌, ◌≤◌, IfOk, OnOk};
-ghost use Rattle.share_ledger.specs.Counters.{place_of};
+ghost use Rattle.share_ledger.specs.Counters.{ledger_place};
 
 use doc_words::{Command, Look, Place, Query, Reply, Steps};
 use json_scalar::{Refusal, Scalar};
@@ -187,9 +187,9 @@ pub fn document<M: Marker>(
     number: u16,
     seats: u16,
 ) -> Result<LockedDoc<M>, Refusal>
-    requires { table.old ≤ place_of number 0 }
+    requires { table.old ≤ ledger_place number 0 }
     ensures ok { IfOk result (λ d. d.number ≡ number) }
-    ensures table { OnOk result (table.new ≤ place_of number seats + 1) }
+    ensures table { OnOk result (table.new ≤ ledger_place number seats + 1) }
 {
     let ledgers = Ledgers::make(alloc, table, number, seats)?;
     LockedDoc::new(alloc, server(alloc)?, ledgers)

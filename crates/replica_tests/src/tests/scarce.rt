@@ -5,7 +5,7 @@
 //! with that one refused. `rt try --test --fail-alloc N` refuses the Nth of each test, for one N a run, and the tests of the other
 //! files fail under it, since they expect ample memory.
 ghost use Rattle.std.specs.Prelude.{◌≡◌, ◌≤◌, IfOk};
-ghost use Rattle.share_ledger.specs.Counters.{place_of};
+ghost use Rattle.share_ledger.specs.Counters.{ledger_place};
 
 use super::is_conflict_at;
 use super::samples::{Deed, Digest, command, member, operation, server, told_by, whole};
@@ -269,7 +269,7 @@ fn replica_again(alloc: Global) -> Result<Replica, Refusal> {
 }
 
 fn ledgers_again<M: Marker>(alloc: Global, table: &mut Table<M>) -> Result<Ledgers<M>, Refusal>
-    requires { table.old ≤ place_of 0 0 }
+    requires { table.old ≤ ledger_place 0 0 }
     ensures { IfOk result (λ l. l.number ≡ 0) }
 {
     match Ledgers::make(alloc, table, 0, 2) {

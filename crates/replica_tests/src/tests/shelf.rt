@@ -1,6 +1,6 @@
 //! Two documents on a shelf, asked through their locks, and what their seats did, added up.
 ghost use Rattle.std.specs.Prelude.{◌≡◌, ◌<◌, ◌≤◌, IfOk};
-ghost use Rattle.share_ledger.specs.Counters.{place_of};
+ghost use Rattle.share_ledger.specs.Counters.{ledger_place};
 
 use super::samples::{Deed, Digest, are_numbers, command, document, told_by, values_at};
 use json_scalar::Refusal;
@@ -33,7 +33,7 @@ fn asks<M: Marker, R: Abort + Wait>(rt: &R, alloc: Global, blank: Blank) -> Resu
 
 // The documents of number 0 with one seat and of number 1 with two, in this order.
 fn shelf_of_two<M: Marker>(alloc: Global, table: &mut Table<M>) -> Result<Shelf<M>, Refusal>
-    requires { table.old ≤ place_of 0 0 }
+    requires { table.old ≤ ledger_place 0 0 }
     ensures { IfOk result (λ shelf. shelf ≡ 2) }
 {
     let first = document(alloc, table, 0, 1)?;

@@ -1,6 +1,6 @@
 //! Documents on a shelf, and sessions over them.
 ghost use Rattle.std.specs.Prelude.{◌≡◌, ◌+◌, ◌≤◌, IfOk};
-ghost use Rattle.share_ledger.specs.Counters.{place_of};
+ghost use Rattle.share_ledger.specs.Counters.{ledger_place};
 
 use crate::doubles::Script;
 use crate::{Gate, Idle, Library, Signal, run_sessions};
@@ -37,8 +37,8 @@ fn document<M: Marker>(
     number: u16,
     seats: u16,
 ) -> Result<LockedDoc<M>, Refusal>
-    requires { table.old ≤ place_of number 0 }
-    ensures { IfOk result (λ d. table.new ≤ place_of number seats + 1) }
+    requires { table.old ≤ ledger_place number 0 }
+    ensures { IfOk result (λ d. table.new ≤ ledger_place number seats + 1) }
 {
     let name = ReplicaName::read(b"srv-1").ok_or(Refusal::BadRequest)?;
     let ledgers = Ledgers::make(alloc, table, number, seats)?;

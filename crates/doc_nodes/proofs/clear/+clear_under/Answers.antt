@@ -4,8 +4,7 @@ use Rattle.op_core.specs.declared.cursor.Key.{Key}
 use Rattle.op_core.specs.declared.cursor.Key.TheVariants.{Element, Head}
 use Rattle.doc_nodes.specs.declared.node.NodeNumber.{NodeNumber}
 use Rattle.doc_nodes.specs.Children.{element_of, number_at}
-use Rattle.doc_nodes.specs.Walk.{IsTree}
-use Rattle.doc_nodes.specs.Nodes.{blank, node_of, child_of, cleared, ClearsUnder, AreTree}
+use Rattle.doc_nodes.specs.Nodes.{blank_node, node_of, child_of, cleared, ClearsUnder}
 use Rattle.doc_nodes.specs.Backing.{AreBackedFrom}
 use Rattle.doc_nodes.specs.Flags.{plain, told, IsFlagged, IsFlaggedBut}
 use Rattle.doc_nodes.proofs.Clearing.{none_yet, one_more, all_done, same_children}
@@ -19,7 +18,7 @@ loop-i-init t c =
     let nodes = c.args.nodes.now in
     let front = c.args.front.now in
     let is : c.clear.new.self ≡ cleared front (node_of nodes c.args.at) =
-    c.clear.ensures ∙ ap (cleared front) (get_or_default nodes c.args.at.0 c.index-nodes-at.result blank c.requires.known) in (
+    c.clear.ensures ∙ ap (cleared front) (get_or_default nodes c.args.at.0 c.index-nodes-at.result blank_node c.requires.known) in (
       none_yet front (plain nodes) (plain (set nodes c.args.at.0 c.clear.new.self)) c.args.at
           (subst (λ z. c.args.at.0 < z) (sym (length-plain nodes)) c.requires.known)
           (ap (λ z. plain (set nodes c.args.at.0 z)) is ∙ write-plain nodes c.args.at (cleared front) (λ z. refl)),
@@ -37,7 +36,7 @@ clear_under-requires t c =
     let same_length : length now ≡ length c.args.nodes.now = c.loop-i.auto.nodes ∙ length-set c.args.nodes.now c.args.at.0 c.clear.new.self in
     let shape = shape_of-plain c.args.nodes.now now (same_children c.args.front.now (plain c.args.nodes.now) (plain now) c.loop-i.invariant.0.each) in
     let tree = tree_same c.args.nodes.now now same_length shape c.requires.tree in
-    let kids = ap (λ z. z.children) (get_or_default now c.args.at.0 c.index-nodes-at-in-loop-i.result blank (omega arith)) in
+    let kids = ap (λ z. z.children) (get_or_default now c.args.at.0 c.index-nodes-at-in-loop-i.result blank_node (omega arith)) in
     let key = (get_or (get_or c.loop-i.nodes c.args.at.0 c.index-nodes-at-in-loop-i.result).children c.loop-i.i (Head, c.number-child.result)).0 in
     let found : child_of now c.args.at key ≡ Some c.number-child.result =
     ap (λ cs. number_at cs key) (sym kids) ∙ c.number-child.ensures.found (Head, c.number-child.result) in
@@ -51,7 +50,7 @@ tell-requires-clause-child t c =
     let same_length : length now ≡ length c.args.nodes.now = c.loop-i.auto.nodes ∙ length-set c.args.nodes.now c.args.at.0 c.clear.new.self in
     let shape = shape_of-plain c.args.nodes.now now (same_children c.args.front.now (plain c.args.nodes.now) (plain now) c.loop-i.invariant.0.each) in
     let tree = tree_same c.args.nodes.now now same_length shape c.requires.tree in
-    let kids = ap (λ z. z.children) (get_or_default now c.args.at.0 c.index-nodes-at-in-loop-i.result blank (omega (arith, same_length))) in
+    let kids = ap (λ z. z.children) (get_or_default now c.args.at.0 c.index-nodes-at-in-loop-i.result blank_node (omega (arith, same_length))) in
     let key = (get_or (get_or c.loop-i.nodes c.args.at.0 c.index-nodes-at-in-loop-i.result).children c.loop-i.i (Head, c.number-child.result)).0 in
     let found : child_of now c.args.at key ≡ Some c.number-child.result =
     ap (λ cs. number_at cs key) (sym kids) ∙ c.number-child.ensures.found (Head, c.number-child.result) in
@@ -67,7 +66,7 @@ loop-i-preserved t c =
     let at = c.args.at in
     let child = c.number-child.result in
     let same_length : length now ≡ length old = c.loop-i.auto.nodes ∙ length-set old at.0 c.clear.new.self in
-    let read = ap (λ z. z.children) (get_or_default now at.0 c.index-nodes-at-in-loop-i.result blank (omega (arith, same_length))) in
+    let read = ap (λ z. z.children) (get_or_default now at.0 c.index-nodes-at-in-loop-i.result blank_node (omega (arith, same_length))) in
     let kids : (get_or now at.0 c.index-nodes-at-in-loop-i.result).children ≡ (node_of (plain old) at).children =
     read ∙ ap (λ z. z.children) (sym (node_of-plain now at)) ∙ ap (λ z. z.children) c.loop-i.invariant.0.here in
     let key = (get_or (get_or now at.0 c.index-nodes-at-in-loop-i.result).children c.loop-i.i (Head, child)).0 in
@@ -76,7 +75,7 @@ loop-i-preserved t c =
     let shape = shape_of-plain now mid (same_children front (plain now) (plain mid) c.clear_under.ensures.clears.each) in
     let mid_length : length mid ≡ length old = c.clear_under.auto.nodes ∙ same_length in
     let tree = tree_same old mid mid_length (shape ∙ first_shape) c.requires.tree in
-    let again = ap (λ z. z.children) (get_or_default now at.0 c.index-nodes-at-in-loop-i-2.result blank (omega (arith, same_length))) in
+    let again = ap (λ z. z.children) (get_or_default now at.0 c.index-nodes-at-in-loop-i-2.result blank_node (omega (arith, same_length))) in
     let element : c.element-element.result ≡ element_of key =
     c.element-element.ensures (Head, child) ∙ ap (λ (cs : List (Key × NodeNumber)). element_of (get_or cs c.loop-i.i (Head, child)).0) (again ∙ sym read) in
     let is : c.tell.new.nodes ≡ told mid at (element_of key) child = c.tell.ensures ∙ ap (λ e. told mid at e child) element in

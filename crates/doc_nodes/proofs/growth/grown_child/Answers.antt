@@ -2,7 +2,7 @@ use Rattle.std.proofs.Common.{◌≡◌, ◌∙◌, sym, ap, subst, length, refl
 use Rattle.std.proofs.lemmas.List.{get_or_default}
 use Rattle.doc_nodes.specs.declared.node.NodeNumber.{NodeNumber}
 use Rattle.doc_nodes.specs.Children.{number_at}
-use Rattle.doc_nodes.specs.Nodes.{blank, node_of, child_of, AreTree}
+use Rattle.doc_nodes.specs.Nodes.{blank_node, node_of, child_of, AreTree}
 use Rattle.doc_nodes.specs.Growth.{Grows, IsFresh}
 use Rattle.doc_nodes.proofs.Adding.{tree_added, grows_added, child_new}
 use Rattle.doc_nodes.proofs.growth.grown_child.Goals as goal
@@ -10,7 +10,7 @@ use Rattle.doc_nodes.proofs.growth.grown_child.Goals as goal
 pub returns-clause-tree : goal.returns-clause-tree
 returns-clause-tree c =
     let items = c.args.nodes.now.items in
-    let node : c.index.result.now ≡ node_of items c.args.at = c.index.ensures ∙ get_or_default items c.args.at.0 c.index.result.now blank c.requires.known in
+    let node : c.index.result.now ≡ node_of items c.args.at = c.index.ensures ∙ get_or_default items c.args.at.0 c.index.result.now blank_node c.requires.known in
     let none : child_of items c.args.at c.in_ok-key.key ≡ None =
     ap (child_of items c.args.at) c.in_ok-key.ensures.ok ∙ ap (λ z. number_at z.children c.args.key.now) (sym node) ∙ sym c.find.ensures ∙ c.in_default.is in
     let fresh : IsFresh c.new-fresh.result =
@@ -21,7 +21,7 @@ returns-clause-tree c =
 pub returns-clause-grows : goal.returns-clause-grows
 returns-clause-grows c =
     let items = c.args.nodes.now.items in
-    let node : c.index.result.now ≡ node_of items c.args.at = c.index.ensures ∙ get_or_default items c.args.at.0 c.index.result.now blank c.requires.known in
+    let node : c.index.result.now ≡ node_of items c.args.at = c.index.ensures ∙ get_or_default items c.args.at.0 c.index.result.now blank_node c.requires.known in
     let none : child_of items c.args.at c.in_ok-key.key ≡ None =
     ap (child_of items c.args.at) c.in_ok-key.ensures.ok ∙ ap (λ z. number_at z.children c.args.key.now) (sym node) ∙ sym c.find.ensures ∙ c.in_default.is in
     let fresh : IsFresh c.new-fresh.result =
@@ -32,7 +32,7 @@ returns-clause-grows c =
 pub returns-clause-child : goal.returns-clause-child
 returns-clause-child c =
     let items = c.args.nodes.now.items in
-    let node : c.index.result.now ≡ node_of items c.args.at = c.index.ensures ∙ get_or_default items c.args.at.0 c.index.result.now blank c.requires.known in
+    let node : c.index.result.now ≡ node_of items c.args.at = c.index.ensures ∙ get_or_default items c.args.at.0 c.index.result.now blank_node c.requires.known in
     let none : child_of items c.args.at c.in_ok-key.key ≡ None =
     ap (child_of items c.args.at) c.in_ok-key.ensures.ok ∙ ap (λ z. number_at z.children c.args.key.now) (sym node) ∙ sym c.find.ensures ∙ c.in_default.is in
     let fresh : IsFresh c.new-fresh.result =

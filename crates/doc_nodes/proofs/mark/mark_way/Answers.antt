@@ -1,4 +1,4 @@
-use Rattle.std.proofs.Common.{◌≡◌, ◌<◌, ◌∙◌, [], sym, ap, subst, length, set, refl, Option, Some, inl, inr, arith}
+use Rattle.std.proofs.Common.{◌≡◌, ◌<◌, ◌∙◌, [], sym, ap, subst, length, set, refl, Option, Some, inl, inr, arith, true}
 use Rattle.std.proofs.lemmas.List.{nil_from_length}
 use Rattle.doc_nodes.specs.declared.node.NodeNumber.{NodeNumber}
 use Rattle.doc_nodes.specs.Walk.{walk, root}
@@ -12,7 +12,7 @@ use Rattle.doc_nodes.proofs.mark.mark_way.Goals as goal
 
 pub mark-requires-clause-room : goal.mark-requires-clause-room
 mark-requires-clause-room c =
-    subst (λ n. length (node_of c.args.nodes.now n).presence.0 < (node_of c.args.nodes.now n).presence.1) (sym c.root_number.ensures)
+    subst (λ n. (node_of c.args.nodes.now n).presence.1 ≡ true) (sym c.root_number.ensures)
     (c.requires.room [] (keys_to c.args.path.now c.args.key.now) root refl refl)
 
 pub returns-in-None-clause-marks : goal.returns-in-None-clause-marks

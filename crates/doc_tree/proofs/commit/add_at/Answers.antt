@@ -25,7 +25,7 @@ count-requires-clause-known c =
 pub count-requires-clause-room : goal.count-requires-clause-room
 count-requires-clause-room c =
     counter_room-marked c.args.id.now Counter c.args.nodes.now c.mark_way.new.nodes c.requires.tree c.args.path.now c.args.key.now c.known_node-end.result c.known_node-end.ensures
-    c.mark_way.ensures.marks c.mark_way.auto.nodes (c.requires.ready.counter c.known_node-end.result c.known_node-end.ensures)
+    c.mark_way.ensures.marks c.mark_way.auto.nodes (c.requires.ready.counter refl c.known_node-end.result c.known_node-end.ensures)
 
 pub returns-clause-facts : goal.returns-clause-facts
 returns-clause-facts c =

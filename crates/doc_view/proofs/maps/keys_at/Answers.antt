@@ -10,7 +10,7 @@ pub returns : goal.returns
 returns c =
     let f = tree_facts c.args.tree.now in
     let texts = c.in_ok-texts.texts.items in
-    let children = c.children.result.now in
+    let children = c.children.result in
     subst (λ (ts : List (List ℕ)). AreKeys f c.args.path.now c.args.key.now ts) (sym c.from.ensures)
     (are_keys f c.args.path.now c.args.key.now children texts c.children.ensures.rising c.children.ensures.map
     (c.in_ok-texts.ensures (into_map c.args.path.now c.args.key.now)

@@ -1,4 +1,4 @@
-use Rattle.std.proofs.Common.{take, List}
+use Rattle.std.proofs.Common.{◌≡◌, ℕ, take, drop, List}
 use Rattle.op_core.specs.declared.cursor.Key.TheVariants.{Text}
 use Rattle.op_core.specs.declared.cursor.Tagged.{Tagged}
 use Rattle.doc_tree.specs.Nodes.{tree_facts}
@@ -10,5 +10,6 @@ use Rattle.doc_view.proofs.maps.present_texts.Given as goal
 
 abbrev pub invariant-loop-child : goal.invariant-loop-child
 invariant-loop-child l =
-    (map : List Tagged) → AreIn l.tree map l.children
-    → AreThose (λ t. IsPresent (tree_facts l.tree) map (Text t)) (texts_in (take l.child-index l.children)) l.texts.items
+    (i : ℕ) × (drop i l.fn.children ≡ l.child-iterator)
+    × ((map : List Tagged) → AreIn l.tree map l.fn.children
+    → AreThose (λ t. IsPresent (tree_facts l.tree) map (Text t)) (texts_in (take i l.fn.children)) l.texts.items)

@@ -12,5 +12,5 @@ returns c =
     let p = c.args.path.now in
     let k = c.args.key.now in
     subst (λ (values : List (Id × Val)). AreConflicts (tree_facts t) (tree_values t) p k values) (sym (c.from.ensures ∙ c.in_ok-values.ensures))
-    (are_conflicts t p k c.present.result.now c.register.result.now
+    (are_conflicts t p k c.present.result c.register.result.now
     (record { value = c.present.ensures.value; ascending = c.present.ensures.ascending }) c.register.ensures.value)

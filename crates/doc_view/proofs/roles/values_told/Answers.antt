@@ -1,17 +1,32 @@
-use Rattle.std.proofs.Common.{◌≡◌, ◌++◌, [], refl}
+use Rattle.std.proofs.Common.{◌≡◌, ◌++◌, [], append_assoc, append-nil, sym, ap, ◌∙◌}
 use Rattle.presence_set.specs.ById.{get}
 use Rattle.doc_rules.specs.Role.{value_in}
-use Rattle.doc_view.specs.TreeValues.{with_value}
-use Rattle.doc_view.proofs.Lists.{take_read}
-use Rattle.doc_view.proofs.TellingRoles.{values_told-push}
+use Rattle.doc_view.specs.TreeValues.{values_told, with_value}
+use Rattle.doc_view.proofs.TellingRoles.{with_value-append}
 use Rattle.doc_view.proofs.roles.values_told.Goals as goal
+
+pub loop-entry-init : goal.loop-entry-init
+loop-entry-init c =
+    let scalars = c.args.scalars.now in
+    ap (λ l. values_told scalars l) (sym c.into_iter-entry-iterator.ensures.into_iter_gives)
+    ∙ ap (λ vs. vs ++ values_told scalars c.into_iter-entry-iterator.result) (sym c.new-values.ensures.items)
 
 pub loop-entry-preserved : goal.loop-entry-preserved
 loop-entry-preserved c =
-    let e = c.entry-item.result in
+    let e = c.in-Some.entry.now in
     let scalars = c.args.scalars.now in
-    let roles = c.args.roles.now in
-    let i = c.loop-entry.entry-index in
-    let pushed : c.push_value.new.values.items ≡ c.loop-entry.values.items ++ with_value e.0 c.in_ok-value.value [] = c.in_ok-push_value.ensures in
+    let old = c.loop-entry.values.items in
+    let rest = values_told scalars c.next.new.self in
     let told : c.in_ok-value.value ≡ value_in e.1 (get scalars e.0) = c.in_ok-value.ensures in
-    rw (take_read roles i e c.loop-entry-test.true c.entry-item.is, values_told-push, pushed, told, c.loop-entry.invariant) refl
+    let pushed : c.push_value.new.values.items ≡ old ++ with_value e.0 (value_in e.1 (get scalars e.0)) [] =
+    c.in_ok-push_value.ensures ∙ ap (λ v. old ++ with_value e.0 v []) told in
+    c.loop-entry.invariant ∙ ap (λ l. old ++ values_told scalars l) c.in-Some.ensures.steps
+    ∙ ap (λ l. old ++ l) (with_value-append e.0 (value_in e.1 (get scalars e.0)) rest)
+    ∙ sym (append_assoc old (with_value e.0 (value_in e.1 (get scalars e.0)) []) rest)
+    ∙ ap (λ l. l ++ rest) (sym pushed)
+
+pub returns : goal.returns
+returns c =
+    let scalars = c.args.scalars.now in
+    let values = c.loop-entry.values.items in
+    sym (c.loop-entry.invariant ∙ ap (λ l. values ++ values_told scalars l) c.in-None.ensures.steps.0 ∙ append-nil values)

@@ -1,132 +1,183 @@
-use Rattle.std.proofs.Common.{List, [], ◌∷◌, map, option_map, codes, Decides, refl, sym, ap, ◌∙◌, subst, arith}
-use Rattle.std.proofs.lemmas.List.{take_all}
-use Rattle.serde_json.specs.Data.{string}
-use Rattle.op_core.specs.Wire.{list_data}
-use Rattle.serde_json.specs.View.{view}
-use Rattle.serde_json.specs.declared.value.Value.{Value}
+use Rattle.std.proofs.Common.{List, ◌+◌, [], ◌∷◌, ◌++◌, map, codes, Decides, refl, ap, ◌∙◌, sym, subst, arith}
+use Rattle.json.specs.Token as token
 use Rattle.doc_words.specs.Words.{Id, Key}
 use Rattle.op_core.specs.declared.cursor.Key.TheVariants.{Text, Element}
 use Rattle.doc_nodes.specs.declared.node.NodeNumber.{NodeNumber}
 use Rattle.doc_tree.specs.Nodes.{tree_facts}
 use Rattle.doc_rules.specs.Views.{IsPresent, into_list, into_map}
-use Rattle.doc_rules.specs.Shown.{IsPut}
+use Rattle.doc_rules.specs.Shown.{IsPut, value_entry_data, count_branch, total_shown}
 use Rattle.doc_rules.specs.Sorted.{AreThose}
 use Rattle.doc_rules.specs.Sorted.AreThose.{none, keep, skip}
-use Rattle.doc_view.specs.ByNumber.{AtNode, ShowsThose}
-use Rattle.doc_view.specs.Members.{listed, texts_at, texts_in}
-use Rattle.doc_view.specs.Showing.{branch_of, AreFields, IsMapShown, IsListShown}
+use Rattle.doc_view.specs.ByNumber.{AtNode}
+use Rattle.doc_view.specs.Members.{texts_at, texts_in}
+use Rattle.doc_view.specs.Showing.{AreFields, IsShown, IsMapShown, IsListShown}
 use Rattle.doc_view.specs.TreeValues.{tree_values}
+use Rattle.json_text.specs.Tokens.{data_tokens}
 use Rattle.json_scalar.specs.declared.scalar.Val.TheVariants.{EmptyMap, EmptyList}
+use Rattle.doc_view.proofs.Lists.{drop_gives, drop_none}
 use Rattle.doc_view.proofs.ByNumber.{roles_by_number, entries_by_number, terms_by_number, order_by_number, text_place, has_child, shows_step, shown_by_number}
-use Rattle.doc_view.proofs.ShowLaws.{gives_moved, puts_map_decides, puts_list_decides, no_field, one_field, one_text, fields_step, map_from, list_from}
+use Rattle.doc_view.proofs.ShowLaws.{puts_map_decides, puts_list_decides, no_field, one_field, one_text, fields_step, map_from, list_from}
+use Rattle.doc_view.proofs.Telling.{told_none, parts_told-one, begun_more, told_more, branch_put, named_put, element_put}
 use Rattle.doc_view.proofs.shown.+shown.Goals as goal
 
+pub element_at-returns-in-None : goal.element_at-returns-in-None
+element_at-returns-in-None t c = (
+  [],
+  λ p k at.
+      let absent = (rw c.in-None.is at c.present_element.ensures.value) p k at in
+      ([], skip absent none, record { elements = []; each = tt; is = refl }),
+  refl,
+  told_none (codes "list") c.args.was_begun c.args.text.now,
+)
+
+pub element_at-returns-in_ok-shown_below-in-Some : goal.element_at-returns-in_ok-shown_below-in-Some
+element_at-returns-in_ok-shown_below-in-Some t c =
+    let one = c.in_ok-shown_below-in-Some.ensures in (
+      one.0 ∷ [],
+      λ p k at.
+          let there = (rw c.in-Some.is at c.present_element.ensures.value) p k at in
+          let seen = one.1 (into_list p k) (Element c.args.id.now) there.0 in
+          (c.args.id.now ∷ [], keep there.1 none, record { elements = seen.shown ∷ []; each = (seen.shows, tt); is = ap (λ d. d ∷ []) seen.is }),
+      refl,
+      one.2 ∙ ap (λ ts. ts ++ data_tokens one.0) c.in_ok-begin_branch-in-Some.ensures ∙ parts_told-one (codes "list") c.args.was_begun c.args.text.now one.0,
+    )
+
+pub elements_at-loop-id-init : goal.elements_at-loop-id-init
+elements_at-loop-id-init t c =
+    ([], λ p k at. ([], none, record { elements = []; each = tt; is = refl }), refl, told_none (codes "list") c.args.was_begun c.args.text.now)
+
+pub elements_at-loop-id-preserved : goal.elements_at-loop-id-preserved
+elements_at-loop-id-preserved t c =
+    let before = c.loop-id.invariant in
+    let more = c.in_ok-is_begun.ensures in (
+      before.0 ++ more.0,
+      λ p k at.
+          shows_step c.args.tree.now (into_list p k) c.args.ids.now c.loop-id.id-index c.id-item.result before.0 more.0 (before.0 ++ more.0) c.loop-id-test.true c.id-item.is
+          (before.1 p k at) (more.1 p k at) refl,
+      begun_more c.args.was_begun c.loop-id.is_begun c.in_ok-is_begun.is_begun before.0 more.0 before.2 more.2,
+      told_more (codes "list") c.args.was_begun c.loop-id.is_begun c.args.text.now c.loop-id.text c.element_at.new.text before.0 more.0 before.2 before.3 more.3,
+    )
+
+pub field_at-returns-in-None : goal.field_at-returns-in-None
+field_at-returns-in-None t c = (
+  [],
+  λ members is. no_field c.args.tree.now members (texts_at c.args.key.now) (c.in-None.ensures members is),
+  refl,
+  told_none (codes "map") c.args.was_begun c.args.text.now,
+)
+
+pub field_at-returns-in_ok-named_below-in-Some : goal.field_at-returns-in_ok-named_below-in-Some
+field_at-returns-in_ok-named_below-in-Some t c =
+    let one = c.in_ok-named_below-in-Some.ensures in
+    let text = c.in-Some.name.now in (
+      one.0 ∷ [],
+      λ members is.
+          let kept = c.in-Some.ensures members is in
+          let place = is text (one_text c.args.key.now text kept).0 in
+          one_field c.args.tree.now members (texts_at c.args.key.now) text (Text text) one.0 one.1.0 kept refl (one.1.1 members (Text text) place) one.1.2,
+      refl,
+      one.2 ∙ ap (λ ts. ts ++ data_tokens one.0) c.in_ok-begin_branch-in-Some.ensures ∙ parts_told-one (codes "map") c.args.was_begun c.args.text.now one.0,
+    )
+
 pub fields_in-loop-child-init : goal.fields_in-loop-child-init
-fields_in-loop-child-init t c = λ p k at.
-    subst (λ (xs : List Value). AreFields c.args.tree.now (into_map p k) [] (map view xs)) (sym c.new-fields.ensures.items)
-    (no_field c.args.tree.now (into_map p k) [] none)
+fields_in-loop-child-init t c = (
+  0,
+  sym c.into_iter-child-iterator.ensures.into_iter_gives,
+  ([], λ p k at. no_field c.args.tree.now (into_map p k) [] none, refl, told_none (codes "map") c.args.was_begun c.args.text.now),
+)
 
 pub fields_in-field_at-requires : goal.fields_in-field_at-requires
 fields_in-field_at-requires t c =
-    let deeper = c.requires.deeper c.child-item.result.0 c.child-item.result.1 (c.loop-child.child-index, c.loop-child-test.true, sym c.child-item.is) in
+    let i = c.loop-child.invariant.0 in
+    let child = c.in-Some.child.now in
+    let taken = drop_gives c.args.children i child c.next.new.self (c.loop-child.invariant.1 ∙ c.in-Some.ensures.steps) in
+    let deeper = c.requires.deeper child.0 child.1 (i, taken.0, sym taken.1) in
     omega (arith, c.decreases, deeper.0, deeper.1)
 
 pub fields_in-loop-child-preserved : goal.fields_in-loop-child-preserved
-fields_in-loop-child-preserved t c = λ p k at.
-    fields_step c.args.tree.now (into_map p k) c.args.children.now c.loop-child.child-index c.child-item.result (map view c.loop-child.fields.items)
-    (listed (option_map view c.in_ok-field.field)) (map view c.push_some.new.parts.items) c.loop-child-test.true c.child-item.is (c.loop-child.invariant p k at)
-    (c.in_ok-field.ensures (into_map p k)
-    (text_place c.args.tree.now p k c.args.at at c.args.children.now c.requires.these c.requires.rising c.loop-child.child-index c.child-item.result c.loop-child-test.true c.child-item.is))
-    c.in_ok-push_some.ensures
+fields_in-loop-child-preserved t c =
+    let children = c.args.children in
+    let i = c.loop-child.invariant.0 in
+    let child = c.in-Some.child.now in
+    let taken = drop_gives children i child c.next.new.self (c.loop-child.invariant.1 ∙ c.in-Some.ensures.steps) in
+    let before = c.loop-child.invariant.2 in
+    let more = c.in_ok-is_begun.ensures in (
+      i + 1,
+      taken.2,
+      (
+        before.0 ++ more.0,
+        λ p k at.
+            fields_step c.args.tree.now (into_map p k) children i child before.0 more.0 (before.0 ++ more.0) taken.0 taken.1 (before.1 p k at)
+            (more.1 (into_map p k)
+            (text_place c.args.tree.now p k c.args.at at children c.requires.these c.requires.rising i child taken.0 taken.1))
+            refl,
+        begun_more c.args.was_begun c.loop-child.is_begun c.in_ok-is_begun.is_begun before.0 more.0 before.2 more.2,
+        told_more (codes "map") c.args.was_begun c.loop-child.is_begun c.args.text.now c.loop-child.text c.field_at.new.text before.0 more.0 before.2 before.3 more.3,
+      ),
+    )
 
 pub fields_in-returns : goal.fields_in-returns
-fields_in-returns t c = λ p k at.
-    subst (λ (cs : List (Key × NodeNumber)). AreFields c.args.tree.now (into_map p k) (texts_in cs) (map view c.loop-child.fields.items))
-    (take_all c.loop-child.child-index c.args.children.now c.loop-child-test.false) (c.loop-child.invariant p k at)
-
-pub field_at-returns-in-None : goal.field_at-returns-in-None
-field_at-returns-in-None t c = λ members is. no_field c.args.tree.now members (texts_at c.args.key.now) (c.in-None.ensures members is)
-
-pub field_at-returns-in_ok-field-in-Some : goal.field_at-returns-in_ok-field-in-Some
-field_at-returns-in_ok-field-in-Some t c = λ members is.
-    let text = c.in-Some.text.now in
-    let element = view c.in_ok-element-in-Some.element in
-    let one = one_text c.args.key.now text (c.in-Some.ensures members is) in
-    let place = is text one.0 in
-    one_field c.args.tree.now members (texts_at c.args.key.now) text (Text text) (view c.in_ok-field-in-Some.field) element
-    (c.in-Some.ensures members is) refl (c.in_ok-element-in-Some.ensures members (Text text) place)
-    (c.in_ok-field-in-Some.ensures ∙ ap (λ s. list_data (string s ∷ element ∷ [])) c.as_str.ensures)
-
-pub map_below-fields_in-requires : goal.map_below-fields_in-requires
-map_below-fields_in-requires t c =
-    (omega (arith, c.decreases), (c.children_of.ensures.value, (c.children_of.ensures.rising, c.children_of.ensures.deeper)))
-
-pub map_below-returns : goal.map_below-returns
-map_below-returns t c =
-    let tree = c.args.tree.now in
-    let n = c.args.at in
-    let ds = map view c.in_ok-fields.fields.items in
-    gives_moved (λ b. AtNode tree n (λ p k. IsMapShown tree p k b)) (λ part. listed (option_map view part)) (branch_of (codes "map") c.puts_map.result ds)
-    c.branch-alloc.result c.branch-alloc.ensures
-    (λ p k at.
-    map_from tree p k c.children_of.result.now c.children_of.ensures.rising (has_child tree p k n at c.children_of.result.now c.children_of.ensures.value) c.puts_map.result ds
-    (subst (λ b. Decides b (IsPut (tree_facts tree) (tree_values tree) p k EmptyMap)) (sym c.puts_map.ensures)
-    (puts_map_decides tree p k c.presence_of.result.now (roles_by_number tree p k n at c.presence_of.result.now c.presence_of.ensures.value c.presence_of.ensures.ascending)))
-    (c.in_ok-fields.ensures p k at))
-
-pub element_at-shown_below-requires : goal.element_at-shown_below-requires
-element_at-shown_below-requires t c =
-    let deeper = c.present_element.ensures.deeper c.in-Some.at c.in-Some.is in
-    omega (arith, c.decreases, deeper.0, deeper.1)
-
-pub element_at-returns-in-None : goal.element_at-returns-in-None
-element_at-returns-in-None t c = λ p k at.
-    let absent = (rw c.in-None.is at c.present_element.ensures.value) p k at in
-    ([], skip absent none, record { elements = []; each = tt; is = refl })
-
-pub element_at-returns-in_ok-element-in-Some : goal.element_at-returns-in_ok-element-in-Some
-element_at-returns-in_ok-element-in-Some t c = λ p k at.
-    let there = (rw c.in-Some.is at c.present_element.ensures.value) p k at in
-    let one = c.in_ok-element-in-Some.ensures (into_list p k) (Element c.args.id.now) there.0 in
-    (c.args.id.now ∷ [], keep there.1 none, record { elements = one.shown ∷ []; each = (one.shows, tt); is = ap (λ d. d ∷ []) one.is })
-
-pub elements_at-loop-id-init : goal.elements_at-loop-id-init
-elements_at-loop-id-init t c = λ p k at.
-    subst (λ (xs : List Value). ShowsThose c.args.tree.now (into_list p k) [] (map view xs)) (sym c.new-elements.ensures.items)
-    ([], none, record { elements = []; each = tt; is = refl })
-
-pub elements_at-loop-id-preserved : goal.elements_at-loop-id-preserved
-elements_at-loop-id-preserved t c = λ p k at.
-    shows_step c.args.tree.now (into_list p k) c.args.ids.now c.loop-id.id-index c.id-item.result (map view c.loop-id.elements.items)
-    (listed (option_map view c.in_ok-element.element)) (map view c.push_some.new.parts.items) c.loop-id-test.true c.id-item.is (c.loop-id.invariant p k at)
-    (c.in_ok-element.ensures p k at) c.in_ok-push_some.ensures
-
-pub elements_at-returns : goal.elements_at-returns
-elements_at-returns t c = λ p k at.
-    subst (λ (ids : List Id). ShowsThose c.args.tree.now (into_list p k) ids (map view c.loop-id.elements.items))
-    (take_all c.loop-id.id-index c.args.ids.now c.loop-id-test.false) (c.loop-id.invariant p k at)
+fields_in-returns t c =
+    let told = c.loop-child.invariant.2 in (
+      told.0,
+      λ p k at.
+          subst (λ (cs : List (Key × NodeNumber)). AreFields c.args.tree.now (into_map p k) (texts_in cs) told.0)
+          (drop_none c.args.children c.loop-child.invariant.0 (c.loop-child.invariant.1 ∙ c.in-None.ensures.steps.0)) (told.1 p k at),
+      told.2,
+      told.3,
+    )
 
 pub list_below-returns : goal.list_below-returns
 list_below-returns t c =
     let tree = c.args.tree.now in
     let n = c.args.at in
-    let ds = map view c.in_ok-elements.elements.items in
-    gives_moved (λ b. AtNode tree n (λ p k. IsListShown tree p k b)) (λ part. listed (option_map view part)) (branch_of (codes "list") c.puts_list.result ds)
-    c.branch-alloc.result c.branch-alloc.ensures
+    let put = c.puts_list-is_put.result in
+    let parts = c.in_ok-is_begun.ensures in
+    branch_put (λ ds. AtNode tree n (λ p k. IsListShown tree p k ds)) (codes "list") put c.in_ok-is_begun.is_begun c.args.text.now c.begin_branch.new.text
+    c.elements_at.new.text c.end_branch.new.text parts.0 c.end_branch.result
     (λ p k at.
-    let those = c.in_ok-elements.ensures p k at in
-    list_from tree p k c.puts_list.result those.0 ds
-    (subst (λ b. Decides b (IsPut (tree_facts tree) (tree_values tree) p k EmptyList)) (sym c.puts_list.ensures)
-    (puts_list_decides tree p k c.presence_of.result.now (roles_by_number tree p k n at c.presence_of.result.now c.presence_of.ensures.value c.presence_of.ensures.ascending)))
+    let those = parts.1 p k at in
+    list_from tree p k put those.0 parts.0
+    (subst (λ b. Decides b (IsPut (tree_facts tree) (tree_values tree) p k EmptyList)) (sym c.puts_list-is_put.ensures)
+    (puts_list_decides tree p k c.presence_of.result (roles_by_number tree p k n at c.presence_of.result c.presence_of.ensures.value c.presence_of.ensures.ascending)))
     (subst (λ (ids : List Id). AreThose (λ i. IsPresent (tree_facts tree) (into_list p k) (Element i)) ids those.0)
     (order_by_number tree p k n at c.as_slice.result.now (c.as_slice.ensures.value ∙ c.in_ok-ids.ensures.ok)) those.1)
     those.2)
+    c.in_ok-begin_branch.ensures parts.2 parts.3 c.end_branch.ensures
+
+pub map_below-returns : goal.map_below-returns
+map_below-returns t c =
+    let tree = c.args.tree.now in
+    let n = c.args.at in
+    let put = c.puts_map-is_put.result in
+    let parts = c.in_ok-is_begun.ensures in
+    branch_put (λ ds. AtNode tree n (λ p k. IsMapShown tree p k ds)) (codes "map") put c.in_ok-is_begun.is_begun c.args.text.now c.begin_branch.new.text
+    c.fields_in.new.text c.end_branch.new.text parts.0 c.end_branch.result
+    (λ p k at.
+    map_from tree p k c.children_of.result c.children_of.ensures.rising (has_child tree p k n at c.children_of.result c.children_of.ensures.value) put parts.0
+    (subst (λ b. Decides b (IsPut (tree_facts tree) (tree_values tree) p k EmptyMap)) (sym c.puts_map-is_put.ensures)
+    (puts_map_decides tree p k c.presence_of.result (roles_by_number tree p k n at c.presence_of.result c.presence_of.ensures.value c.presence_of.ensures.ascending)))
+    (parts.1 p k at))
+    c.in_ok-begin_branch.ensures parts.2 parts.3 c.end_branch.ensures
+
+pub named_below-returns : goal.named_below-returns
+named_below-returns t c =
+    let tree = c.args.tree.now in
+    named_put (λ d. AtNode tree c.args.at (λ p k. IsShown tree p k d)) c.args.name.now c.args.text.now c.begin_list.new.self c.text.new.self c.shown_below.new.text
+    c.end_list.new.self c.end_list.result c.in_ok-begin_list.ensures
+    (c.in_ok-text.ensures ∙ ap (λ s. c.begin_list.new.self ++ token.string s ∷ []) c.as_str.ensures) c.in_ok-shown_below.ensures c.end_list.ensures
 
 pub shown_below-returns : goal.shown_below-returns
 shown_below-returns t c =
     let tree = c.args.tree.now in
     let n = c.args.at in
-    shown_by_number tree n (listed (option_map view c.in_ok-members.members)) (listed (option_map view c.in_ok-elements.elements))
-    c.register_of.result.now c.counter_of.result.now c.branches.result c.in_ok-members.ensures c.in_ok-elements.ensures
-    (λ p k at. entries_by_number tree p k n at c.register_of.result.now c.register_of.ensures.value c.register_of.ensures.ascending)
-    (λ p k at. terms_by_number tree p k n at c.counter_of.result.now c.counter_of.ensures.value c.counter_of.ensures.ascending) c.branches.ensures
+    let members = c.in_ok-map_below.ensures in
+    let elements = c.in_ok-list_below.ensures in
+    let entries = c.register_of.result.now in
+    let terms = c.counter_of.result.now in
+    element_put (λ d. AtNode tree n (λ p k. IsShown tree p k d)) c.args.text.now c.begin_list.new.self c.map_below.new.text c.list_below.new.text c.put_values.new.text
+    c.end_list.new.self members.0 elements.0 (map value_entry_data entries) (count_branch (total_shown terms)) c.end_list.result
+    (shown_by_number tree n members.0 elements.0 entries terms members.1 elements.1
+    (λ p k at. entries_by_number tree p k n at entries c.register_of.ensures.value c.register_of.ensures.ascending)
+    (λ p k at. terms_by_number tree p k n at terms c.counter_of.ensures.value c.counter_of.ensures.ascending))
+    c.in_ok-begin_list.ensures members.2 elements.2 c.in_ok-put_values.ensures c.end_list.ensures

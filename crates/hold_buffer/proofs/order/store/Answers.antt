@@ -8,19 +8,19 @@ use Rattle.hold_buffer.proofs.Waiting.{operations-insert, IsOrdered-insert}
 use Rattle.hold_buffer.proofs.order.store.Goals as goal
 
 abbrev ticket : Id → goal.After-unwrap → Ticket
-ticket id c = record { id = id; key = c.insert_reserved-key.result; missing = c.args.missing }
+ticket id c = record { id = id; key = c.insert_reserved-key.result; lacks = c.args.lacks }
 
 pub returns-clause-ordered : goal.returns-clause-ordered
 returns-clause-ordered c =
     let slots = c.insert_reserved-key.ensures in
-    let stored = IsOrdered-insert c.requires.ordered c.args.op c.insert_reserved-key.result c.args.missing c.args.at c.requires.gap slots.was_vacant slots.updates in
+    let stored = IsOrdered-insert c.requires.ordered c.args.op c.insert_reserved-key.result c.args.at c.args.lacks c.requires.gap slots.was_vacant slots.updates in
     rw (c.insert.ensures.items, c.unwrap.ensures)
     (subst (λ (id : Id). IsOrdered c.insert_reserved-key.new.self (insert c.args.order.now.items c.args.at (ticket id c))) (sym c.id-id.ensures.value) stored)
 
 pub returns-clause-operations : goal.returns-clause-operations
 returns-clause-operations c =
     let slots = c.insert_reserved-key.ensures in
-    let stored = operations-insert c.requires.ordered c.args.op c.insert_reserved-key.result c.args.missing c.args.at c.requires.gap slots.was_vacant slots.updates in
+    let stored = operations-insert c.requires.ordered c.args.op c.insert_reserved-key.result c.args.at c.args.lacks c.requires.gap slots.was_vacant slots.updates in
     rw (c.insert.ensures.items, c.unwrap.ensures)
     (subst
     (λ (id : Id). operations_of c.insert_reserved-key.new.self (insert c.args.order.now.items c.args.at (ticket id c)) ≡ put_among c.args.op (operations_of c.args.slots.now c.args.order.now.items))

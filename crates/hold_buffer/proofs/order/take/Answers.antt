@@ -9,7 +9,7 @@ use Rattle.hold_buffer.proofs.Waiting.{found_at, not_found, operations-remove, t
 use Rattle.hold_buffer.proofs.order.take.Goals as goal
 
 -- the tickets before and behind the one that goes
-split : (c : goal.After-try_remove) → take c.in-Ok.at c.args.order.now.items ++ c.remove-ticket.result ∷ drop (suc c.in-Ok.at) c.args.order.now.items ≡ c.args.order.now.items
+split : (c : goal.After-drop-ticket) → take c.in-Ok.at c.args.order.now.items ++ c.remove-ticket.result ∷ drop (suc c.in-Ok.at) c.args.order.now.items ≡ c.args.order.now.items
 split c =
     let place = rw c.deref.ensures.value at c.in-Ok.ensures in
     split_at c.args.order.now.items c.in-Ok.at c.remove-ticket.result place.within c.remove-ticket.ensures.value

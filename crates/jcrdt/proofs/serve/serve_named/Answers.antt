@@ -1,5 +1,6 @@
 use Rattle.std.proofs.Common.{◌≡◌, true, false, map, rules, refl, sym, ap, subst, ◌∙◌}
-use Rattle.jcrdt.specs.CommandLine.{IsCount, IsServer, WantedServer, is_good}
+use Rattle.run_core.specs.Names.{is_good}
+use Rattle.jcrdt.specs.CommandLine.{IsCount, IsServer, WantedServer}
 use Rattle.jcrdt.proofs.serve.serve_named.Goals as goal
 
 pub returns-in-None-clause-refused : goal.returns-in-None-clause-refused

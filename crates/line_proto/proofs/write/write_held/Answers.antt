@@ -1,4 +1,4 @@
-use Rattle.std.proofs.Common.{◌≡◌, ℕ, List, ◌++◌, ◌+◌, nat_lt, false, [], codes, drop, rules, ap, ◌∙◌, append_assoc, sym, arith, length-append}
+use Rattle.std.proofs.Common.{◌≡◌, ℕ, List, ◌++◌, ◌+◌, nat_lt, false, [], codes, drop, rules, ap, ◌∙◌, append_assoc, sym}
 use Rattle.std.proofs.lemmas.Result.{err_from_is_err_and, on_ok_weaker, on_err_weaker}
 use Rattle.std.proofs.KnownBytes.{Appends-nil, Appends-trans}
 use Rattle.doc_words.specs.declared.reply.Reply.TheVariants.{Held}

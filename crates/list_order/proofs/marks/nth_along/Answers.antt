@@ -1,12 +1,12 @@
 use Rattle.std.proofs.Common.{◌<◌, ◌∙◌, sym, refl, length, rules, arith}
-use Rattle.list_order.specs.Slots.{path_from}
+use Rattle.list_order.specs.Slots.{slots_from}
 use Rattle.list_order.proofs.Counting.{from-zero, block_step}
 use Rattle.list_order.proofs.marks.nth_along.Goals as goal
 
 pub loop-block-init : goal.loop-block-init
 loop-block-init c = record {
   walk = c.requires.walk;
-  rest = sym (from-zero c.args.marks.now (path_from c.args.slots.now c.args.first));
+  rest = sym (from-zero c.args.marks.now (slots_from c.args.slots.now c.args.first));
   same = refl;
 }
 

@@ -1,5 +1,5 @@
 use Rattle.std.proofs.Common.{◌≡◌, ◌<◌, ◌≤◌, ◌∙◌, ◌-◌, ◌&&◌, nat_eq, sym, ap, subst, length, slice_get, Some}
-use Rattle.list_order.specs.Slots.{slot_at, path_from, IsWalk}
+use Rattle.list_order.specs.Slots.{slot_at, slots_from, LinksEnd}
 use Rattle.list_order.specs.Marks.{mark_at, present_along, bit}
 use Rattle.list_order.proofs.Paths.{walk-None}
 use Rattle.list_order.proofs.Scanning.{step}
@@ -30,7 +30,7 @@ returns-then-is_due c =
 pub loop-at-smaller : goal.loop-at-smaller
 loop-at-smaller c =
     let slots = c.args.slots.now in
-    subst (λ s. length (path_from slots s.next) < length (path_from slots c.loop-at.at)) (sym c.slot_at-slot.ensures)
+    subst (λ s. length (slots_from slots s.next) < length (slots_from slots c.loop-at.at)) (sym c.slot_at-slot.ensures)
     (step slots c.loop-at.at c.in-Some.n c.in-Some.is c.loop-at.invariant.walk).shorter
 
 pub loop-at-preserved : goal.loop-at-preserved
@@ -40,10 +40,10 @@ loop-at-preserved c =
     let s = step slots c.loop-at.at c.in-Some.n c.in-Some.is c.loop-at.invariant.walk in
     let is : c.mark_at-is_present.result.is_present ≡ (mark_at c.args.marks.now c.in-Some.n).is_present = ap (λ m. m.is_present) c.mark_at-is_present.ensures in
     record {
-      walk = subst (λ s. IsWalk slots s.next) (sym c.slot_at-slot.ensures) s.walk;
+      walk = subst (λ s. LinksEnd slots s.next) (sym c.slot_at-slot.ensures) s.walk;
       same =
-          ap (λ s. slice_get (present_along slots marks (path_from slots s.next)) (c.loop-at.left - c.bit-left.result)) c.slot_at-slot.ensures
-          ∙ ap (λ b. slice_get (present_along slots marks (path_from slots (slot_at slots c.in-Some.n).next)) (c.loop-at.left - b)) (c.bit-left.ensures ∙ ap bit is)
+          ap (λ s. slice_get (present_along slots marks (slots_from slots s.next)) (c.loop-at.left - c.bit-left.result)) c.slot_at-slot.ensures
+          ∙ ap (λ b. slice_get (present_along slots marks (slots_from slots (slot_at slots c.in-Some.n).next)) (c.loop-at.left - b)) (c.bit-left.ensures ∙ ap bit is)
           ∙ not_due slots marks c.loop-at.at c.in-Some.n s c.loop-at.left (ap (λ p. p && nat_eq c.loop-at.left 0) (sym is) ∙ sym c.is_due.ensures ∙ c.if-is_due.false)
           ∙ c.loop-at.invariant.same;
     }
@@ -52,5 +52,5 @@ pub returns : goal.returns
 returns c =
     let slots = c.args.slots.now in
     let marks = c.args.marks.now in
-    ap (λ l. slice_get (present_along slots marks l) c.loop-at.left) (sym (ap (path_from slots) c.in_default.is ∙ walk-None slots))
+    ap (λ l. slice_get (present_along slots marks l) c.loop-at.left) (sym (ap (slots_from slots) c.in_default.is ∙ walk-None slots))
     ∙ c.loop-at.invariant.same

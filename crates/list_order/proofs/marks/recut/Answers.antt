@@ -1,5 +1,5 @@
 use Rattle.std.proofs.Common.{◌≡◌, ◌<◌, ◌+◌, ◌∙◌, sym, ap, subst, refl, length, arith}
-use Rattle.list_order.specs.Slots.{slot_at, path_from, IsWalk}
+use Rattle.list_order.specs.Slots.{slot_at, slots_from, LinksEnd}
 use Rattle.list_order.specs.Marks.{mark_at, bit, set_block}
 use Rattle.list_order.proofs.Scanning.{step}
 use Rattle.list_order.proofs.Cutting.{IsPartlyCut, begin_cut, put_in, count_fits, close, all_cut}
@@ -32,7 +32,7 @@ overflow_add-longer c =
 pub loop-at-smaller : goal.loop-at-smaller
 loop-at-smaller c =
     let slots = c.args.slots.now in
-    subst (λ s. length (path_from slots s.next) < length (path_from slots c.loop-at.at)) (sym c.slot_at.ensures)
+    subst (λ s. length (slots_from slots s.next) < length (slots_from slots c.loop-at.at)) (sym c.slot_at.ensures)
     (step slots c.loop-at.at c.in-Some.n c.in-Some.is c.loop-at.invariant.walk).shorter
 
 pub loop-at-preserved : goal.loop-at-preserved
@@ -46,7 +46,7 @@ loop-at-preserved c =
     let marks : c.set_block-is_present.new.marks.items ≡ set_block c.loop-at.marks.items c.in-Some.n (length c.loop-at.blocks.items) =
     c.set_block-is_present.ensures.items ∙ ap (set_block c.loop-at.marks.items c.in-Some.n) (c.len.ensures ∙ c.loop-at.blocks.ok.0) in
     record {
-      walk = subst (λ s. IsWalk slots s.next) (sym c.slot_at.ensures) s.walk;
+      walk = subst (λ s. LinksEnd slots s.next) (sym c.slot_at.ensures) s.walk;
       cut =
           close slots first before c.set_block-is_present.new.marks.items c.loop-at.blocks.items c.closed-rest.new.blocks.items c.slot_at.result.now.next (c.loop-at.rest.present + c.bit.result) c.closed-rest.result.present
           (subst (λ m. IsPartlyCut slots first before m c.loop-at.blocks.items c.slot_at.result.now.next (c.loop-at.rest.present + c.bit.result)) (sym marks)

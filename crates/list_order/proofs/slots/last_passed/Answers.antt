@@ -1,7 +1,7 @@
 use Rattle.std.proofs.Common.{false, true, ◌≡◌, ◌<◌, ◌∙◌, sym, ap, subst, length, Some}
 use Rattle.std.specs.Ordering.{is_lt}
 use Rattle.lamport_id.specs.Order.{id_cmp}
-use Rattle.list_order.specs.Slots.{IsWalk, path_from, passed}
+use Rattle.list_order.specs.Slots.{LinksEnd, slots_from, passed}
 use Rattle.list_order.proofs.Paths.{walk-None}
 use Rattle.list_order.proofs.Scanning.{step, passed_on, passed_stop}
 use Rattle.list_order.proofs.slots.last_passed.Goals as goal
@@ -12,7 +12,7 @@ slot_at-slot-requires c = (step c.args.slots.now c.loop-at.at c.in-Some.n c.in-S
 pub loop-at-smaller : goal.loop-at-smaller
 loop-at-smaller c =
     let slots = c.args.slots.now in
-    subst (λ s. length (path_from slots s.next) < length (path_from slots c.loop-at.at)) (sym c.slot_at-slot.ensures)
+    subst (λ s. length (slots_from slots s.next) < length (slots_from slots c.loop-at.at)) (sym c.slot_at-slot.ensures)
     (step slots c.loop-at.at c.in-Some.n c.in-Some.is c.loop-at.invariant.walk).shorter
 
 pub loop-at-preserved : goal.loop-at-preserved
@@ -21,9 +21,9 @@ loop-at-preserved c =
     let id = c.args.id.now in
     let s = step slots c.loop-at.at c.in-Some.n c.in-Some.is c.loop-at.invariant.walk in
     record {
-      walk = subst (λ s. IsWalk slots s.next) (sym c.slot_at-slot.ensures) s.walk;
+      walk = subst (λ s. LinksEnd slots s.next) (sym c.slot_at-slot.ensures) s.walk;
       same =
-          ap (λ s. passed slots id (Some c.in-Some.n) (path_from slots s.next)) c.slot_at-slot.ensures
+          ap (λ s. passed slots id (Some c.in-Some.n) (slots_from slots s.next)) c.slot_at-slot.ensures
           ∙ passed_on slots id c.loop-at.previous c.loop-at.at c.in-Some.n s (subst (λ s. is_lt (id_cmp s.id id) ≡ false) c.slot_at-slot.ensures (sym c.is_less.ensures ∙ c.if-is_less.false))
           ∙ c.loop-at.invariant.same;
     }
@@ -39,5 +39,5 @@ returns-then-is_less c =
 pub returns-in_default : goal.returns-in_default
 returns-in_default c =
     let slots = c.args.slots.now in
-    ap (λ l. passed slots c.args.id.now c.loop-at.previous l) (sym (ap (path_from slots) c.in_default.is ∙ walk-None slots))
+    ap (λ l. passed slots c.args.id.now c.loop-at.previous l) (sym (ap (slots_from slots) c.in_default.is ∙ walk-None slots))
     ∙ c.loop-at.invariant.same

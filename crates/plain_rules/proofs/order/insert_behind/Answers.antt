@@ -1,7 +1,7 @@
 use Rattle.std.proofs.Common.{rules, ◌≡◌, ◌<◌, ◌≤◌, length, drop, ◌+◌, ◌∙◌, sym, ap, subst}
 use Rattle.std.specs.Prelude.{insert}
 use Rattle.std.proofs.lemmas.List.{take_rest}
-use Rattle.plain_rules.specs.Places.{place_of, greater_len}
+use Rattle.crdt_rules.specs.Places.{place_of, greater_len}
 use Rattle.plain_rules.proofs.Placing.{place_behind-insert, place_behind-missing}
 use Rattle.plain_rules.proofs.order.insert_behind.Goals as goal
 

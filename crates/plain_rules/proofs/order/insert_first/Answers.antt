@@ -1,6 +1,6 @@
 use Rattle.std.proofs.Common.{◌∙◌, sym, ap}
 use Rattle.std.specs.Prelude.{insert}
-use Rattle.plain_rules.specs.Places.{greater_len}
+use Rattle.crdt_rules.specs.Places.{greater_len}
 use Rattle.plain_rules.proofs.Placing.{place-insert}
 use Rattle.plain_rules.proofs.order.insert_first.Goals as goal
 

@@ -1,7 +1,7 @@
 use Rattle.std.proofs.Common.{◌≡◌, ◌<◌, ◌∙◌, sym, ap, subst, set, length, get_or, true, false, arith}
 use Rattle.crdt_rules.specs.Same.{id_eq}
 use Rattle.std.specs.Prelude.{insert}
-use Rattle.presence_set.specs.ById.{put, rank, IsAscending}
+use Rattle.presence_set.specs.ById.{put_at_id, rank, IsAscending}
 use Rattle.presence_set.proofs.Ascending.{put_ascending}
 use Rattle.presence_set.proofs.ByIdLaws.{put-found, put-missing}
 use Rattle.presence_set.proofs.ById.put.Goals.{else-at-len-via-then-at-len+else-eq, else-at-len-via-else-at-len}
@@ -15,7 +15,7 @@ invariant_of-self g c =
     subst (λ n. id_eq (get_or items n c.index.result.now).0 c.args.id ≡ true) at
     (subst (λ e. id_eq e.0 c.args.id ≡ true) c.index.ensures (sym c.if-eq.ensures)) in
     let within : c.rank_of-at.result < length items = omega (arith, ap length c.as_slice.ensures.value) in
-    let changed : set items c.rank_of-at.result (c.args.id, c.args.value) ≡ put items c.args.id c.args.value =
+    let changed : set items c.rank_of-at.result (c.args.id, c.args.value) ≡ put_at_id items c.args.id c.args.value =
     ap (λ n. set items n (c.args.id, c.args.value)) at
     ∙ sym (put-found items c.args.id c.args.value c.index.result.now (subst (λ n. n < length items) at within) same) in
     subst IsAscending (sym changed) (put_ascending items c.args.id c.args.value c.self.invariant)
@@ -24,7 +24,7 @@ pub invariant_of-self-in-Ok : goal.invariant_of-self-in-Ok
 invariant_of-self-in-Ok g c =
     let items = c.self.inside.entries.items in
     let at : c.rank_of-at.result ≡ rank items c.args.id = c.rank_of-at.ensures.value ∙ ap (λ l. rank l c.args.id) c.as_slice.ensures.value in
-    let missing : put items c.args.id c.args.value ≡ insert items (rank items c.args.id) (c.args.id, c.args.value) =
+    let missing : put_at_id items c.args.id c.args.value ≡ insert items (rank items c.args.id) (c.args.id, c.args.value) =
     elim c.else-at-len.branch [
       | else-at-len-via-then-at-len+else-eq w ↦ put-missing items c.args.id c.args.value w.index.result.now
           (λ within. subst (λ n. id_eq (get_or items n w.index.result.now).0 c.args.id ≡ false) at
@@ -43,7 +43,7 @@ returns-then-eq g c =
     subst (λ n. id_eq (get_or items n c.index.result.now).0 c.args.id ≡ true) at
     (subst (λ e. id_eq e.0 c.args.id ≡ true) c.index.ensures (sym c.if-eq.ensures)) in
     let within : c.rank_of-at.result < length items = omega (arith, ap length c.as_slice.ensures.value) in
-    let changed : set items c.rank_of-at.result (c.args.id, c.args.value) ≡ put items c.args.id c.args.value =
+    let changed : set items c.rank_of-at.result (c.args.id, c.args.value) ≡ put_at_id items c.args.id c.args.value =
     ap (λ n. set items n (c.args.id, c.args.value)) at
     ∙ sym (put-found items c.args.id c.args.value c.index.result.now (subst (λ n. n < length items) at within) same) in
     rw (← c.self.view_is) (λ i. (changed i, c.self.inside.entries.cap))
@@ -52,7 +52,7 @@ pub returns-in-Ok : goal.returns-in-Ok
 returns-in-Ok g c =
     let items = c.self.inside.entries.items in
     let at : c.rank_of-at.result ≡ rank items c.args.id = c.rank_of-at.ensures.value ∙ ap (λ l. rank l c.args.id) c.as_slice.ensures.value in
-    let missing : put items c.args.id c.args.value ≡ insert items (rank items c.args.id) (c.args.id, c.args.value) =
+    let missing : put_at_id items c.args.id c.args.value ≡ insert items (rank items c.args.id) (c.args.id, c.args.value) =
     elim c.else-at-len.branch [
       | else-at-len-via-then-at-len+else-eq w ↦ put-missing items c.args.id c.args.value w.index.result.now
           (λ within. subst (λ n. id_eq (get_or items n w.index.result.now).0 c.args.id ≡ false) at

@@ -1,6 +1,6 @@
-use Rattle.std.proofs.Common.{◌≡◌, [], ◌∷◌, ◌++◌, map, refl, rules, arith, sym, ap, subst, ◌∙◌}
+use Rattle.std.proofs.Common.{◌≡◌, [], ◌∷◌, ◌++◌, map, rules, sym, ap, ◌∙◌}
 use Rattle.std.specs.Vec.Iter.{into_iter_items}
-use Rattle.session_core.proofs.Ends.{nothing_left}
+use Rattle.std.proofs.lemmas.List.{nil_from_length}
 use Rattle.server_core.proofs.Attending.{all_joined, is_kept, mapped_push, more_joined, none_joined}
 use Rattle.server_core.proofs.sessions.join_all.Goals as goal
 
@@ -32,5 +32,5 @@ loop-one-preserved g c =
 pub returns : goal.returns
 returns g c =
     let at = c.loop-one in
-    let none : into_iter_items at.one-iterator ≡ [] = nothing_left _ (sym at.invariant.left ∙ c.in-None.ensures.steps.0) in
+    let none : into_iter_items at.one-iterator ≡ [] = nil_from_length _ (sym at.invariant.left ∙ c.in-None.ensures.steps.0) in
     all_joined _ _ _ _ _ _ _ at.invariant.joined none

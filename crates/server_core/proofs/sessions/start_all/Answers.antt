@@ -1,6 +1,6 @@
-use Rattle.std.proofs.Common.{◌≡◌, [], refl, rules, arith, sym, subst, ◌∙◌}
+use Rattle.std.proofs.Common.{◌≡◌, [], rules, sym, ◌∙◌}
 use Rattle.std.specs.Vec.Iter.{into_iter_items}
-use Rattle.session_core.proofs.Ends.{nothing_left}
+use Rattle.std.proofs.lemmas.List.{nil_from_length}
 use Rattle.server_core.proofs.Attending.{all_begun, more_begun, none_begun}
 use Rattle.server_core.proofs.sessions.start_all.Goals as goal
 
@@ -21,5 +21,5 @@ loop-connection-preserved g c =
 pub returns-clause-due : goal.returns-clause-due
 returns-clause-due g c =
     let at = c.loop-connection in
-    let none : into_iter_items at.connection-iterator ≡ [] = nothing_left _ (sym at.invariant.left ∙ c.in-None.ensures.steps.0) in
+    let none : into_iter_items at.connection-iterator ≡ [] = nil_from_length _ (sym at.invariant.left ∙ c.in-None.ensures.steps.0) in
     all_begun _ _ _ _ _ at.invariant.begun none c.into_iter-connection-iterator.ensures.into_iter_gives.0

@@ -5,7 +5,7 @@ use Rattle.std.proofs.lemmas.List.{get_or_default}
 use Rattle.op_core.specs.declared.cursor.Key.TheVariants.{Text, Element}
 use Rattle.op_core.specs.declared.cursor.Tagged.TheVariants.{Map, List as ListAt}
 use Rattle.doc_nodes.specs.declared.node.NodeNumber.{NodeNumber}
-use Rattle.doc_nodes.specs.Nodes.{blank, node_of, node_at, child_of}
+use Rattle.doc_nodes.specs.Nodes.{blank_node, node_of, node_at, child_of}
 use Rattle.doc_tree.specs.Nodes.{tree_facts, tree_number}
 use Rattle.doc_nodes.proofs.ChildrenLaws.{number_at-Contains}
 use Rattle.doc_nodes.proofs.Places.{node_within, same_node}
@@ -42,12 +42,12 @@ returns-in-Some-clause-map c = λ text i there.
     ∙ ap (λ l. node_at l c.keys.result.now c.args.key.now) (sym c.as_slice.ensures.value) ∙ sym c.find.ensures ∙ c.in-Some.is in
     let read : c.index.result.now ≡ node_of nodes c.in-Some.at =
     c.index.ensures
-    ∙ get_or_default nodes c.in-Some.at.0 c.index.result.now blank (node_within nodes c.self.invariant.0 p k c.in-Some.at found) in
+    ∙ get_or_default nodes c.in-Some.at.0 c.index.result.now blank_node (node_within nodes c.self.invariant.0 p k c.in-Some.at found) in
     let child = present_child nodes p k text i (subst (λ t. (tree_facts t).present (p ++ Map k ∷ []) (Text text) i ≡ true) (sym c.self.view_is) there) in
     let same = same_node nodes (node_at nodes p k) child.0 c.in-Some.at child.2 found in
     let at : child_of nodes c.in-Some.at (Text text) ≡ Some child.1 = subst (λ n. child_of nodes n (Text text) ≡ Some child.1) same child.3 in (
       child.1,
-      subst (λ l. Contains l (Text text, child.1)) (sym (c.entries.ensures.value ∙ ap (λ z. z.children) read))
+      subst (λ l. Contains l (Text text, child.1)) (sym (c.each.ensures.value ∙ ap (λ z. z.children) read))
           (number_at-Contains (node_of nodes c.in-Some.at).children (Text text) child.1 at),
     )
 
@@ -59,7 +59,8 @@ returns-in-None-clause-members c = λ text.
     let absent : node_at nodes p k ≡ None =
     ap (λ p. node_at nodes p c.args.key.now) (sym c.keys.ensures)
     ∙ ap (λ l. node_at l c.keys.result.now c.args.key.now) (sym c.as_slice.ensures.value) ∙ sym c.find.ensures ∙ c.in-None.is in
-    sym (number-into nodes p (Map k) (Text text) refl ∙ ap (option_and_then (λ n. child_of nodes n (Text text))) absent)
+    ap (λ l. number_at l (Text text)) c.none.ensures
+    ∙ sym (number-into nodes p (Map k) (Text text) refl ∙ ap (option_and_then (λ n. child_of nodes n (Text text))) absent)
     ∙ ap (λ t. tree_number t (p ++ Map k ∷ []) (Text text)) c.self.view_is
 
 pub returns-in-Some-clause-members : goal.returns-in-Some-clause-members
@@ -72,8 +73,8 @@ returns-in-Some-clause-members c = λ text.
     ∙ ap (λ l. node_at l c.keys.result.now c.args.key.now) (sym c.as_slice.ensures.value) ∙ sym c.find.ensures ∙ c.in-Some.is in
     let read : c.index.result.now ≡ node_of nodes c.in-Some.at =
     c.index.ensures
-    ∙ get_or_default nodes c.in-Some.at.0 c.index.result.now blank (node_within nodes c.self.invariant.0 p k c.in-Some.at found) in
-    ap (λ l. number_at l (Text text)) (c.entries.ensures.value ∙ ap (λ z. z.children) read)
+    ∙ get_or_default nodes c.in-Some.at.0 c.index.result.now blank_node (node_within nodes c.self.invariant.0 p k c.in-Some.at found) in
+    ap (λ l. number_at l (Text text)) (c.each.ensures.value ∙ ap (λ z. z.children) read)
     ∙ sym (number-into nodes p (Map k) (Text text) refl ∙ ap (option_and_then (λ n. child_of nodes n (Text text))) found)
     ∙ ap (λ t. tree_number t (p ++ Map k ∷ []) (Text text)) c.self.view_is
 
@@ -85,7 +86,8 @@ returns-in-None-clause-elements c = λ i.
     let absent : node_at nodes p k ≡ None =
     ap (λ p. node_at nodes p c.args.key.now) (sym c.keys.ensures)
     ∙ ap (λ l. node_at l c.keys.result.now c.args.key.now) (sym c.as_slice.ensures.value) ∙ sym c.find.ensures ∙ c.in-None.is in
-    sym (number-into nodes p (ListAt k) (Element i) refl ∙ ap (option_and_then (λ n. child_of nodes n (Element i))) absent)
+    ap (λ l. number_at l (Element i)) c.none.ensures
+    ∙ sym (number-into nodes p (ListAt k) (Element i) refl ∙ ap (option_and_then (λ n. child_of nodes n (Element i))) absent)
     ∙ ap (λ t. tree_number t (p ++ ListAt k ∷ []) (Element i)) c.self.view_is
 
 pub returns-in-Some-clause-elements : goal.returns-in-Some-clause-elements
@@ -98,7 +100,7 @@ returns-in-Some-clause-elements c = λ i.
     ∙ ap (λ l. node_at l c.keys.result.now c.args.key.now) (sym c.as_slice.ensures.value) ∙ sym c.find.ensures ∙ c.in-Some.is in
     let read : c.index.result.now ≡ node_of nodes c.in-Some.at =
     c.index.ensures
-    ∙ get_or_default nodes c.in-Some.at.0 c.index.result.now blank (node_within nodes c.self.invariant.0 p k c.in-Some.at found) in
-    ap (λ l. number_at l (Element i)) (c.entries.ensures.value ∙ ap (λ z. z.children) read)
+    ∙ get_or_default nodes c.in-Some.at.0 c.index.result.now blank_node (node_within nodes c.self.invariant.0 p k c.in-Some.at found) in
+    ap (λ l. number_at l (Element i)) (c.each.ensures.value ∙ ap (λ z. z.children) read)
     ∙ sym (number-into nodes p (ListAt k) (Element i) refl ∙ ap (option_and_then (λ n. child_of nodes n (Element i))) found)
     ∙ ap (λ t. tree_number t (p ++ ListAt k ∷ []) (Element i)) c.self.view_is

@@ -3,7 +3,7 @@ use Rattle.std.proofs.lemmas.List.{get_or_default}
 use Rattle.std.specs.List.{list_any}
 use Rattle.crdt_rules.specs.Same.{id_eq}
 use Rattle.list_order.specs.Entries.{ids_of}
-use Rattle.doc_nodes.specs.Nodes.{blank, node_of, list_node_at}
+use Rattle.doc_nodes.specs.Nodes.{blank_node, node_of, list_node_at}
 use Rattle.doc_tree.specs.Nodes.{tree_facts}
 use Rattle.doc_nodes.proofs.Places.{list_node_within}
 use Rattle.doc_tree.proofs.Reading.{ids_read, ids_absent}
@@ -30,7 +30,7 @@ returns-in-Some c =
     ap (list_node_at nodes) (sym c.keys.ensures) ∙ ap (λ l. list_node_at l c.keys.result.now) (sym c.as_slice.ensures.value) ∙ sym c.find_list.ensures ∙ c.in-Some.is in
     let read : c.index.result.now ≡ node_of nodes c.in-Some.at =
     c.index.ensures
-    ∙ get_or_default nodes c.in-Some.at.0 c.index.result.now blank (list_node_within nodes c.self.invariant.0 c.args.path.now c.in-Some.at found) in
+    ∙ get_or_default nodes c.in-Some.at.0 c.index.result.now blank_node (list_node_within nodes c.self.invariant.0 c.args.path.now c.in-Some.at found) in
     c.is_in_order.ensures
     ∙ ap (λ z. list_any (id_eq c.args.id.now) (ids_of z.order.0)) read
     ∙ ap (list_any (id_eq c.args.id.now)) (ids_read nodes c.args.path.now c.in-Some.at found ∙ ap (λ t. (tree_facts t).order c.args.path.now) c.self.view_is)

@@ -2,7 +2,7 @@ use Rattle.std.proofs.Common.{◌≡◌, ◌<◌, ◌∙◌, filter, slice_get, 
 use Rattle.std.proofs.lemmas.List.{get_or_default}
 use Rattle.op_core.specs.declared.cursor.Key.TheVariants.{Element}
 use Rattle.list_order.specs.Entries.{present_of}
-use Rattle.doc_nodes.specs.Nodes.{blank, node_of, list_node_at}
+use Rattle.doc_nodes.specs.Nodes.{blank_node, node_of, list_node_at}
 use Rattle.doc_tree.specs.Nodes.{tree_facts, tree_present}
 use Rattle.doc_nodes.proofs.Places.{list_node_within}
 use Rattle.doc_tree.proofs.Reading.{ids_absent}
@@ -31,7 +31,7 @@ returns-in-Some c =
     ap (list_node_at nodes) (sym c.keys.ensures) ∙ ap (λ l. list_node_at l c.keys.result.now) (sym c.as_slice.ensures.value) ∙ sym c.find_list.ensures ∙ c.in-Some.is in
     let read : c.index.result.now ≡ node_of nodes c.in-Some.at =
     c.index.ensures
-    ∙ get_or_default nodes c.in-Some.at.0 c.index.result.now blank (list_node_within nodes c.self.invariant.0 c.args.path.now c.in-Some.at found) in
+    ∙ get_or_default nodes c.in-Some.at.0 c.index.result.now blank_node (list_node_within nodes c.self.invariant.0 c.args.path.now c.in-Some.at found) in
     c.nth_present.ensures
     ∙ ap (λ l. slice_get l c.args.index)
     (ap (λ z. present_of z.order.0) read ∙ present_listed nodes c.self.invariant.1 c.args.path.now c.in-Some.at found

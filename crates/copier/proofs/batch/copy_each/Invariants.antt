@@ -1,0 +1,12 @@
+use Rattle.std.proofs.Common.{◌≡◌, false}
+use Rattle.copier.specs.Batches.{AreAdded}
+use Rattle.copier.proofs.batch.copy_each.Given as goal
+
+abbrev pub invariant-loop-place : goal.invariant-loop-place
+invariant-loop-place g l = record {
+  added : AreAdded l.library.names.items l.fn.copy.docs l.any l.copy.docs;
+  none : l.any ≡ false → l.copy.docs ≡ l.fn.copy.docs;
+  epoch : l.copy.epoch ≡ l.fn.copy.epoch;
+  works : l.fn.copy.has_failed ≡ false → l.copy.has_failed ≡ false;
+  alone : l.copy.is_alone ≡ l.fn.copy.is_alone;
+}

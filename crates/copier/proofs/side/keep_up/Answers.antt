@@ -1,0 +1,19 @@
+use Rattle.std.proofs.Common.{◌∙◌, refl, false}
+use Rattle.copier.specs.Batches.AreAdded.{none}
+use Rattle.copier.proofs.Adding.{grows_all, grows_until}
+use Rattle.copier.proofs.side.keep_up.Goals as goal
+
+pub loop-init : goal.loop-init
+loop-init g c = record { waits = (tt, tt); grown = record { any = false; added = none; epoch = refl }; alone = refl }
+
+pub loop-preserved-in-Ok-true : goal.loop-preserved-in-Ok-true
+loop-preserved-in-Ok-true g c =
+    let now = c.in-Ok-true.ensures in
+    let before = c.loop.invariant in record {
+      waits = (tt, tt);
+      grown = grows_all before.grown (record { any = c.in-Ok-true.field-0; added = now.ok; epoch = now.works.0 });
+      alone = now.alone ∙ before.alone;
+    }
+
+pub returns-in-Err-clause-err : goal.returns-in-Err-clause-err
+returns-in-Err-clause-err g c = grows_until c.loop.invariant.grown c.in-Err.ensures.err

@@ -1,0 +1,23 @@
+-- What is copied.
+use Rattle.std.specs.Prelude.{◌≡◌, ◌≢◌, ℕ, Bool, true, false, List, [], Contains, length}
+use Rattle.doc_words.specs.Words.{Op}
+use Rattle.copy_docs.specs.Docs.{Doc, IsBatch, add_batch, log_of}
+use Rattle.log_copy.specs.Kept.{Kept}
+
+-- the next entries of the document of this name, of which there are some, were added
+pub record AddsNext (name : List ℕ) (old new : List Doc) : Type 0 where
+  pub ops : List Op
+  pub some : ops ≢ []
+  pub batch : IsBatch name (length (log_of name old)) ops old
+  pub added : new ≡ add_batch name ops old
+
+-- One batch after another was added, each of a document of these names; and whether there was one.
+pub data AreAdded (names : List (List ℕ)) (old : List Doc) : Bool → List Doc → Type 0 where
+  none : AreAdded names old false old
+  more : {any : Bool} {before after : List Doc} {name : List ℕ} → AreAdded names old any before → Contains names name → AddsNext name before after → AreAdded names old true after
+
+-- the copy has what it had, and batches of these documents behind it, if any
+pub record AddsBatches {S : Type 0} (names : List (List ℕ)) (old new : Kept S) : Type 0 where
+  pub any : Bool
+  pub added : AreAdded names old.docs any new.docs
+  pub epoch : new.epoch ≡ old.epoch

@@ -1,0 +1,160 @@
+//! The next entries of documents.
+ghost use Rattle.std.specs.Prelude.{◌≡◌, ◌≢◌, ◌⊎◌, ◌↔◌, ◌<◌, List, [], length, Contains, true, false, IfOk, IfErr, OnOk, Ok, Err};
+ghost use Rattle.json_scalar.specs.Refusal.{UnlessMemory};
+ghost use Rattle.sqlite.specs.Tree.{Trees};
+ghost use Rattle.sqlite.specs.Held.{state};
+ghost use Rattle.sqlite.specs.State.{HasCleanDisk};
+ghost use Rattle.doc_words.specs.Words.{Op};
+ghost use Rattle.doc_rules.specs.Document.{copied_to, tail};
+ghost use Rattle.copy_tables.specs.Content.{Holds};
+ghost use Rattle.copy_docs.specs.Docs.{IsBatch, add_batch, log_of};
+ghost use Rattle.log_copy.specs.Kept.{content};
+ghost use Rattle.copier.specs.Batches.{AddsNext, AreAdded, AddsBatches};
+
+use doc_words::Operations;
+use json_scalar::Refusal;
+use locked_doc::LockedDoc;
+use log_copy::{Fault, LogCopy, MAX_BATCH};
+use server_core::Library;
+use share_ledger::Marker;
+use sqlite::Alter;
+use std::sync::Wait;
+
+/// How many entries of the document the copy has. The one error is `Store`, after a fault.
+fn rows_of<S: Alter>(copy: &LogCopy<S>, name: &str) -> Result<usize, Fault>
+    ensures rows { IfOk result (λ rows. rows ≡ length (log_of name.now copy.now.docs)) }
+    ensures failed { (result ≡ Err Fault.Store) ↔ (copy.now.has_failed ≡ true) }
+    ensures never_else { IfErr result (λ e. e ≡ Fault.Store) }
+{
+    Ok(copy_docs::count(copy.docs()?, name))
+}
+
+/// What a document has behind these entries, as far as one batch may hold it. The one error is `NoMemory`.
+fn next_of<M: Marker>(doc: &LockedDoc<M>, from: usize) -> Result<Operations, Refusal>
+    ensures { UnlessMemory result (Ok (tail from MAX_BATCH doc.now.document)) }
+{
+    doc.tail(from, MAX_BATCH)
+}
+
+/// The same of the document in this place. Its lock is taken, and given back.
+fn next_at<M: Marker, R: Wait>(
+    rt: &R,
+    library: &Library<M>,
+    place: usize,
+    from: usize,
+) -> Result<Operations, Refusal>
+    requires { place < length library.now.names.items }
+{
+    let doc = library.shelf.doc(place).lock(rt);
+    next_of(&doc, from)
+}
+
+/// Notes that the document's first entries, as many as the copy has, are copied.
+fn note_rows<M: Marker, S: Alter>(
+    doc: &mut LockedDoc<M>,
+    copy: &LogCopy<S>,
+    name: &str,
+) -> Result<(), Fault>
+    ensures noted { OnOk result ((doc.new.number ≡ doc.old.number) × (doc.new.document ≡ copied_to (length (log_of name.now copy.now.docs)) doc.old.document)) }
+    ensures failed { (result ≡ Err Fault.Store) ↔ (copy.now.has_failed ≡ true) }
+    ensures never_else { IfErr result (λ e. (e ≡ Fault.Store) × (doc.new ≡ doc.old)) }
+{
+    doc.note_copied(rows_of(copy, name)? as u64);
+    Ok(())
+}
+
+/// The same of the document in this place. Its lock is taken, and given back.
+fn note_at<M: Marker, R: Wait, S: Alter>(
+    rt: &R,
+    library: &Library<M>,
+    place: usize,
+    copy: &LogCopy<S>,
+    name: &str,
+) -> Result<(), Fault>
+    requires { place < length library.now.names.items }
+    ensures failed { (result ≡ Err Fault.Store) ↔ (copy.now.has_failed ≡ true) }
+    ensures never_else { IfErr result (λ e. e ≡ Fault.Store) }
+{
+    let mut doc = library.shelf.doc(place).lock(rt);
+    note_rows(&mut doc, copy, name)
+}
+
+/// Adds these entries to the copy, as the document's next ones.
+fn add_next<S: Alter>(
+    copy: &mut LogCopy<S>,
+    name: &str,
+    entries: &[op_core::Operation],
+) -> Result<(), Fault>
+    requires { entries.now ≢ [] }
+    ensures some { OnOk result (AddsNext name.now copy.old.docs copy.new.docs) }
+    ensures works { OnOk result ((copy.new.epoch ≡ copy.old.epoch) × (copy.new.has_failed ≡ false)) }
+    ensures err { IfErr result (λ e. (e ≡ Fault.Store) ⊎ (copy.new ≡ copy.old)) }
+    ensures failed { (result ≡ Err Fault.Store) ↔ (copy.new.has_failed ≡ true) }
+    ensures alone { copy.new.is_alone ≡ copy.old.is_alone }
+    // A crash leaves what was there, or all of them besides.
+    ensures crash { copy.old.has_failed ≡ false → copy.old.is_alone ≡ true → HasCleanDisk (state S.Store copy.new.conn) → (db : Trees) → (state S.Store copy.new.conn).may_leave db
+        → Holds (content copy.old.epoch copy.old.docs) db ⊎ Holds (content copy.old.epoch (add_batch name.now entries.now copy.old.docs)) db }
+{
+    let from = rows_of(copy, name)?;
+    copy.add_batch(name, from, entries)
+}
+
+/// Copies the next entries of the document of this name in this place, at most 256, and then notes how many of it the copy has. The
+/// answer is whether there were any. Its lock isn't held while they are written. A fault notes nothing.
+pub fn copy_some<M: Marker, R: Wait, S: Alter>(
+    rt: &R,
+    library: &Library<M>,
+    place: usize,
+    name: &str,
+    copy: &mut LogCopy<S>,
+) -> Result<bool, Fault>
+    requires { place < length library.now.names.items }
+    ensures some { result ≡ Ok true → AddsNext name.now copy.old.docs copy.new.docs }
+    ensures none { result ≡ Ok false → copy.new ≡ copy.old }
+    ensures works { OnOk result ((copy.new.epoch ≡ copy.old.epoch) × (copy.new.has_failed ≡ false)) }
+    ensures err { IfErr result (λ e. (e ≡ Fault.Store) ⊎ (copy.new ≡ copy.old)) }
+    ensures failed { (result ≡ Err Fault.Store) ↔ (copy.new.has_failed ≡ true) }
+    ensures alone { copy.new.is_alone ≡ copy.old.is_alone }
+{
+    let from = rows_of(copy, name)?;
+    let Ok(next) = next_at(rt, library, place, from) else {
+        return Err(Fault::Memory);
+    };
+    if next.as_slice().is_empty() {
+        return Ok(false);
+    }
+    add_next(copy, name, next.as_slice())?;
+    note_at(rt, library, place, copy, name)?;
+    Ok(true)
+}
+
+/// The name of the document in this place.
+fn name_at<M: Marker>(library: &Library<M>, place: usize) -> &str
+    requires { place < length library.now.names.items }
+    ensures { Contains library.entry.now.names.items result.now }
+{
+    library.names[place].as_str()
+}
+
+/// Copies the next entries of each document, and tells whether there were any.
+pub fn copy_each<M: Marker, R: Wait, S: Alter>(
+    rt: &R,
+    library: &Library<M>,
+    copy: &mut LogCopy<S>,
+) -> Result<bool, Fault>
+    ensures ok { IfOk result (λ any. AreAdded library.now.names.items copy.old.docs any copy.new.docs) }
+    ensures none { result ≡ Ok false → copy.new.docs ≡ copy.old.docs }
+    ensures works { OnOk result ((copy.new.epoch ≡ copy.old.epoch) × (copy.old.has_failed ≡ false → copy.new.has_failed ≡ false)) }
+    ensures err { IfErr result (λ e. (e ≡ Fault.Store) ⊎ AddsBatches library.now.names.items copy.old copy.new) }
+    ensures failed { result ≡ Err Fault.Store → copy.new.has_failed ≡ true }
+    ensures alone { copy.new.is_alone ≡ copy.old.is_alone }
+{
+    let mut any = false;
+    for place in 0..library.names.len() {
+        let name = name_at(library, place);
+        if copy_some(rt, library, place, name, copy)? {
+            any = true;
+        }
+    }
+    Ok(any)
+}

@@ -1,0 +1,72 @@
+//! What a thread beside sessions does to keep a copy behind them.
+ghost use Rattle.std.specs.Prelude.{◌≡◌, ◌⊎◌, OnOk, IfErr, Err, true, None};
+ghost use Rattle.copier.specs.Batches.{AddsBatches};
+
+use crate::batch::copy_each;
+use log_copy::{Fault, LogCopy};
+use server_core::{Library, Side, Signalled};
+use share_ledger::Marker;
+use sqlite::Alter;
+use std::sync::Wait;
+
+/// Copies what so many sessions log while they run, and what is left once they have ended. It sleeps while there is nothing to copy,
+/// and holds no lock while it writes. A fault ends it.
+pub fn keep_up<M: Marker, R: Wait, S: Alter>(
+    rt: &R,
+    library: &Library<M>,
+    sessions: u64,
+    copy: &mut LogCopy<S>,
+) -> Result<(), Fault>
+    ensures ok { OnOk result (AddsBatches library.now.names.items copy.old copy.new) }
+    ensures err { IfErr result (λ e. (e ≡ Fault.Store) ⊎ AddsBatches library.now.names.items copy.old copy.new) }
+    ensures failed { result ≡ Err Fault.Store → copy.new.has_failed ≡ true }
+    ensures alone { copy.new.is_alone ≡ copy.old.is_alone }
+{
+    let mut seen = Signalled {
+        raised: 0,
+        ended: 0,
+    };
+    for _ in rt.forever() {
+        match copy_each(rt, library, copy) {
+            Ok(true) => {}
+            Ok(false) => {
+                // What was logged before all had ended was just copied.
+                if seen.ended >= sessions {
+                    return Ok(());
+                }
+                seen = library.signal.wait(rt, seen);
+            }
+            Err(fault) => return Err(fault),
+        }
+    }
+    Ok(())
+}
+
+/// Keeps a copy behind sessions, as `keep_up`. A fault ends the copying alone, and is kept.
+#[derive(Drop)]
+pub struct Copier<'a, S: Alter> {
+    copy: &'a mut LogCopy<S>,
+    fault: Option<Fault>,
+}
+
+impl<'a, S: Alter> Copier<'a, S> {
+    /// One that has copied nothing yet.
+    pub fn new(copy: &'a mut LogCopy<S>) -> Copier<'a, S>
+        ensures { result.fault ≡ None }
+    {
+        Copier { copy, fault: None }
+    }
+
+    /// Why the copying ended before all was copied, if it did.
+    pub fn fault(&self) -> Option<Fault>
+        ensures { result ≡ self.now.fault }
+    {
+        self.fault
+    }
+}
+
+impl<M: Marker, S: Alter> Side<M> for Copier<'_, S> {
+    fn run<R: Wait>(&mut self, rt: &R, library: &Library<M>, sessions: u64) {
+        self.fault = keep_up(rt, library, sessions, self.copy).err();
+    }
+}

@@ -1,0 +1,64 @@
+//! Databases in two files in memory, the log and the database itself. Each of the two stops after so many calls.
+use super::steps::{Step, StepAnswer, walked};
+use op_core::Operation;
+use sqlite::{Connection, FileStore, Options};
+use sqlite_disk::{Crash, Files, Fuse, Memory};
+use std::alloc::Global;
+
+pub type Stopping = Fuse<Memory>;
+
+/// Two files with nothing in them.
+pub fn new_files(alloc: Global, log_calls: u64, db_calls: u64) -> Files<Stopping> {
+    Files {
+        log: Fuse::new(Memory::new(alloc), log_calls),
+        db: Fuse::new(Memory::new(alloc), db_calls),
+    }
+}
+
+// The files come back where they can't be opened.
+fn connected(
+    alloc: Global,
+    files: Files<Stopping>,
+) -> Result<Connection<FileStore<Stopping>>, Files<Stopping>> {
+    if !files.may_be_used() {
+        return Err(files);
+    }
+    match Connection::open_files(alloc, files, Options::new(1)) {
+        Ok(conn) => Ok(conn),
+        Err((_, left)) => Err(left.into_files()),
+    }
+}
+
+/// Takes the steps over the database in the files, and then leaves the files as they are.
+pub fn walked_over(
+    alloc: Global,
+    files: Files<Stopping>,
+    log: &[Operation],
+    steps: &[(Step<'_>, StepAnswer)],
+) -> (Files<Stopping>, Option<(usize, StepAnswer)>) {
+    match connected(alloc, files) {
+        Ok(conn) => {
+            let (conn, other) = walked(alloc, conn, log, steps);
+            (conn.into_store().close(), other)
+        }
+        Err(files) => (files, Some((0, StepAnswer::NoSql))),
+    }
+}
+
+/// The files of a database that these steps made, with all of it in the second of them.
+pub fn made(alloc: Global, steps: &[(Step<'_>, StepAnswer)]) -> Option<Files<Stopping>> {
+    let Ok(conn) = connected(alloc, new_files(alloc, u64::MAX, u64::MAX)) else {
+        return None;
+    };
+    let (conn, other) = walked(alloc, conn, &[], steps);
+    if other.is_some() {
+        return None;
+    }
+    conn.close_files().ok()
+}
+
+/// The machine stops, and comes back with disks that stop no more.
+pub fn crash(files: &mut Files<Stopping>) {
+    files.log.crash();
+    files.db.crash();
+}

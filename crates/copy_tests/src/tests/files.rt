@@ -1,0 +1,73 @@
+//! Real files.
+use super::samples;
+use super::steps::{Step, StepAnswer, first_other};
+use log_copy::{Fault, LogCopy};
+use op_core::Operation;
+use sqlite::Connection;
+use std::fs;
+use std::test::Fail;
+
+const OTHER: &str = "copy_test_other";
+
+const OTHER_PATH: &str = "copy_test_other/copy.db";
+
+const FOLDER: &str = "copy_test";
+
+const PATH: &str = "copy_test/copy.db";
+
+const BYTES: &str = "no database, but some bytes that a person wrote";
+
+fn told_by(rt: &HostRuntime, path: &str) -> Option<Fault> {
+    match LogCopy::open(rt, path) {
+        Ok(_) => None,
+        Err(fault) => Some(fault),
+    }
+}
+
+// A file that is no database is refused, and has each byte that it had.
+#[test]
+fn no_database(rt: HostRuntime) -> Result<(), Fail> {
+    let _ = fs::remove_dir_all(&rt, OTHER);
+    fs::create_dir(&rt, OTHER)?;
+    fs::write(&rt, OTHER_PATH, BYTES.as_bytes())?;
+    assert_eq!(rt; told_by(&rt, OTHER_PATH), Some(Fault::Refused));
+    let bytes = fs::read(&rt, OTHER_PATH)?;
+    assert_eq!(rt; bytes.as_slice(), BYTES.as_bytes());
+    fs::remove_dir_all(&rt, OTHER)?;
+    Ok(())
+}
+
+fn other_over_file(
+    rt: &HostRuntime,
+    log: &[Operation],
+    steps: &[(Step<'_>, StepAnswer)],
+) -> Option<(usize, StepAnswer)> {
+    match Connection::open(rt, PATH) {
+        Ok(conn) => first_other(rt.alloc(), conn, log, steps),
+        Err(_) => Some((0, StepAnswer::NoSql)),
+    }
+}
+
+const WRITTEN: [(Step<'static>, StepAnswer); 3] = [
+    (Step::Open, StepAnswer::Done),
+    (Step::Up, StepAnswer::Number(1)),
+    (Step::Add("d", 0, 0, 9), StepAnswer::Done),
+];
+
+const READ_AGAIN: [(Step<'static>, StepAnswer); 3] = [
+    (Step::Open, StepAnswer::Done),
+    (Step::Load("d"), StepAnswer::Rows(9)),
+    (Step::Up, StepAnswer::Number(2)),
+];
+
+#[test]
+fn opened_again(rt: HostRuntime) -> Result<(), Fail> {
+    let log = samples::operations(rt.alloc(), &samples::CONCURRENT_LIST_EDITS)?;
+    let _ = fs::remove_dir_all(&rt, FOLDER);
+    fs::create_dir(&rt, FOLDER)?;
+    assert_eq!(rt; other_over_file(&rt, log.as_slice(), &WRITTEN), None);
+    assert_eq!(rt; told_by(&rt, PATH), None);
+    assert_eq!(rt; other_over_file(&rt, log.as_slice(), &READ_AGAIN), None);
+    fs::remove_dir_all(&rt, FOLDER)?;
+    Ok(())
+}

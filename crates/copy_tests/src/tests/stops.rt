@@ -1,0 +1,224 @@
+//! A stop at each call of the disks: afterwards all that was answered is there, and of a batch all or nothing.
+use super::disks::{Stopping, crash, new_files, walked_over};
+use super::samples;
+use super::steps::{Step, StepAnswer};
+use json_scalar::Refusal;
+use log_copy::Fault;
+use op_core::Operation;
+use sqlite_disk::Files;
+use std::alloc::Global;
+use std::test::Fail;
+
+// What stopped them is told as a fault of the store, and never as a refusal.
+fn is_stop(other: Option<(usize, StepAnswer)>) -> bool {
+    matches!(
+        other,
+        None | Some((_, StepAnswer::NoSql | StepAnswer::Fault(Fault::Store)))
+    )
+}
+
+// Whether these steps pass when the machine has come back, at one of so many tries.
+fn passes(
+    alloc: Global,
+    stopped: Files<Stopping>,
+    log: &[Operation],
+    due: &[(Step<'_>, StepAnswer)],
+    tries: u32,
+) -> bool {
+    let mut files = stopped;
+    for _ in 0..tries {
+        crash(&mut files);
+        let (left, other) = walked_over(alloc, files, log, due);
+        if other.is_none() {
+            return true;
+        }
+        files = left;
+    }
+    false
+}
+
+// How many steps were taken before disks stopped that stop after so many calls, if the steps that then have to pass do. These are the
+// first list where the first step was stopped, and the last list where none was.
+fn steps_taken(
+    alloc: Global,
+    log: &[Operation],
+    steps: &[(Step<'_>, StepAnswer)],
+    after: &[&[(Step<'_>, StepAnswer)]],
+    (log_calls, db_calls): (u64, u64),
+    tries: u32,
+) -> Option<usize> {
+    let (files, other) = walked_over(alloc, new_files(alloc, log_calls, db_calls), log, steps);
+    if !is_stop(other) {
+        return None;
+    }
+    let taken = match other {
+        Some((at, _)) => at,
+        None => steps.len(),
+    };
+    if passes(alloc, files, log, after.get(taken)?, tries) {
+        Some(taken)
+    } else {
+        None
+    }
+}
+
+// After how many calls of one of the disks nothing is stopped, if what has to pass after each stop does.
+fn calls_in_all(
+    alloc: Global,
+    log: &[Operation],
+    steps: &[(Step<'_>, StepAnswer)],
+    after: &[&[(Step<'_>, StepAnswer)]],
+    is_log: bool,
+) -> Option<u64> {
+    for calls in 1u64..200 {
+        let both = if is_log {
+            (calls, u64::MAX)
+        } else {
+            (u64::MAX, calls)
+        };
+        if steps_taken(alloc, log, steps, after, both, 1)? == steps.len() {
+            return Some(calls);
+        }
+    }
+    None
+}
+
+const BATCHES: [(Step<'static>, StepAnswer); 5] = [
+    (Step::Open, StepAnswer::Done),
+    (Step::Up, StepAnswer::Number(1)),
+    (Step::Add("d", 0, 0, 5), StepAnswer::Done),
+    (Step::Add("d", 5, 5, 7), StepAnswer::Done),
+    (Step::Add("d", 7, 7, 9), StepAnswer::Done),
+];
+
+const AFTER_BATCHES: [&[(Step<'static>, StepAnswer)]; 6] = [
+    &[
+        (Step::Open, StepAnswer::Done),
+        (Step::Restore("d", 0, 0), StepAnswer::Done),
+        (Step::UpFrom(0), StepAnswer::Done),
+    ],
+    &[
+        (Step::Open, StepAnswer::Done),
+        (Step::Restore("d", 0, 0), StepAnswer::Done),
+        (Step::UpFrom(0), StepAnswer::Done),
+    ],
+    &[
+        (Step::Open, StepAnswer::Done),
+        (Step::Restore("d", 0, 5), StepAnswer::Done),
+        (Step::UpFrom(1), StepAnswer::Done),
+    ],
+    &[
+        (Step::Open, StepAnswer::Done),
+        (Step::Restore("d", 5, 7), StepAnswer::Done),
+        (Step::UpFrom(1), StepAnswer::Done),
+    ],
+    &[
+        (Step::Open, StepAnswer::Done),
+        (Step::Restore("d", 7, 9), StepAnswer::Done),
+        (Step::UpFrom(1), StepAnswer::Done),
+    ],
+    &[
+        (Step::Open, StepAnswer::Done),
+        (Step::Restore("d", 9, 9), StepAnswer::Done),
+        (Step::UpFrom(1), StepAnswer::Done),
+    ],
+];
+
+#[test]
+fn stops_of_the_log(rt: HostRuntime) -> Result<(), Fail> {
+    let log = samples::operations(rt.alloc(), &samples::CONCURRENT_LIST_EDITS)?;
+    let calls = calls_in_all(rt.alloc(), log.as_slice(), &BATCHES, &AFTER_BATCHES, true);
+    assert!(rt; calls > Some(20), "{calls:?}");
+    Ok(())
+}
+
+#[test]
+fn stops_of_the_file(rt: HostRuntime) -> Result<(), Fail> {
+    let log = samples::operations(rt.alloc(), &samples::CONCURRENT_LIST_EDITS)?;
+    let calls = calls_in_all(rt.alloc(), log.as_slice(), &BATCHES, &AFTER_BATCHES, false);
+    assert!(rt; calls > Some(2), "{calls:?}");
+    Ok(())
+}
+
+fn log_again(alloc: Global) -> Result<Vec<Operation>, Refusal> {
+    match samples::operations(alloc, &samples::CONCURRENT_LIST_EDITS) {
+        Ok(log) => Ok(log),
+        Err(_) => samples::operations(alloc, &samples::CONCURRENT_LIST_EDITS),
+    }
+}
+
+// `bench/each-allocation copy_tests tests::stops::one_allocation_refused` runs it once for each of its allocations, with that one
+// refused: in the steps, or in what has to pass after them, which then passes at the second try.
+#[test]
+fn one_allocation_refused(rt: HostRuntime) -> Result<(), Fail> {
+    let log = log_again(rt.alloc())?;
+    let both = (u64::MAX, u64::MAX);
+    let taken = steps_taken(
+        rt.alloc(),
+        log.as_slice(),
+        &BATCHES,
+        &AFTER_BATCHES,
+        both,
+        2,
+    );
+    assert!(rt; taken.is_some());
+    Ok(())
+}
+
+// An old copy with one entry and the epoch 1, in one transaction.
+const RAISE: [(Step<'static>, StepAnswer); 2] = [
+    (
+        Step::Run(
+            r#"BEGIN;
+            CREATE TABLE meta (name TEXT NOT NULL PRIMARY KEY, value INTEGER NOT NULL) STRICT;
+            CREATE TABLE entry (doc TEXT NOT NULL, place INTEGER NOT NULL, text TEXT NOT NULL, PRIMARY KEY (doc, place)) STRICT;
+            INSERT INTO meta (name, value) VALUES ('format', 1), ('epoch', 1);
+            INSERT INTO entry (doc, place, text) VALUES ('d', 1, '["op",[1,"o"],[],[[],0],["assign",{}]]');
+            COMMIT"#,
+        ),
+        StepAnswer::Done,
+    ),
+    (Step::Open, StepAnswer::Done),
+];
+
+const ROWS: &str = "SELECT count(*) FROM entry";
+
+const SAME_ROWS: &str =
+    r#"SELECT count(*) FROM entry WHERE doc = 'd' AND place = 1 AND text = '["op",[1,"o"],[],[[],0],["assign",{}]]'"#;
+
+const FORMATS: &str = "SELECT count(*) FROM meta WHERE name = 'format' AND value IN (1, 2)";
+
+const FORMAT: &str = "SELECT value FROM meta WHERE name = 'format'";
+
+// The rows stay byte for byte, in the old format or the new one, and in the new one where the copy was opened.
+const AFTER_RAISE: [&[(Step<'static>, StepAnswer)]; 3] = [
+    &[],
+    &[
+        (Step::Ask(FORMATS), StepAnswer::Number(1)),
+        (Step::Ask(ROWS), StepAnswer::Number(1)),
+        (Step::Ask(SAME_ROWS), StepAnswer::Number(1)),
+        (Step::Open, StepAnswer::Done),
+        (Step::Restore("d", 1, 1), StepAnswer::Done),
+        (Step::UpFrom(1), StepAnswer::Done),
+        (Step::Ask(FORMAT), StepAnswer::Number(2)),
+        (Step::Ask(SAME_ROWS), StepAnswer::Number(1)),
+    ],
+    &[
+        (Step::Ask(FORMAT), StepAnswer::Number(2)),
+        (Step::Ask(ROWS), StepAnswer::Number(1)),
+        (Step::Ask(SAME_ROWS), StepAnswer::Number(1)),
+        (Step::Open, StepAnswer::Done),
+        (Step::Restore("d", 1, 1), StepAnswer::Done),
+        (Step::UpFrom(1), StepAnswer::Done),
+    ],
+];
+
+#[test]
+fn stops_while_raised(rt: HostRuntime) -> Result<(), Fail> {
+    let log = samples::operations(rt.alloc(), &samples::CONCURRENT_LIST_EDITS)?;
+    let of_log = calls_in_all(rt.alloc(), log.as_slice(), &RAISE, &AFTER_RAISE, true);
+    assert!(rt; of_log > Some(5), "{of_log:?}");
+    let of_file = calls_in_all(rt.alloc(), log.as_slice(), &RAISE, &AFTER_RAISE, false);
+    assert!(rt; of_file > Some(1), "{of_file:?}");
+    Ok(())
+}

@@ -1,0 +1,467 @@
+//! The nodes below a node, in the order of their keys.
+ghost use Rattle.std.specs.Ordering.{is_lt, nat_cmp};
+ghost use Rattle.std.specs.Cmp.Lexicographic.{slice_cmp};
+ghost use Rattle.std.specs.Prelude.{◌≡◌, ◌<◌, ◌≤◌, ◌+◌, ◌++◌, ◌∷◌, [], length, insert, take, drop, None, Some, OnOk, OnErr, IfOk, IfSome, IfNone, Contains, ◌⊎◌, slice_index_or, slice_set};
+ghost use Rattle.crdt_rules.specs.Same.{key_eq};
+ghost use Rattle.op_core.specs.declared.cursor.Key.{Key};
+ghost use Rattle.doc_nodes.specs.declared.node.NodeNumber.{NodeNumber};
+ghost use Rattle.doc_nodes.specs.Children.{element_of, number_at};
+ghost use Rattle.doc_nodes.specs.KeyOrder.{key_cmp, IsInKeyOrder};
+ghost use Rattle.doc_nodes.specs.KeyOrder as KeyOrder;
+ghost use Rattle.doc_nodes.specs.Blocks.{joined, block_rank, AreBlocks};
+ghost use Rattle.doc_nodes.specs.Blocks as Blocks;
+
+use crate::node::{NodeNumber, element_in};
+use lamport_id::Id;
+use op_core::Key;
+use std::alloc::{AllocError, Global};
+use std::marker::Model;
+
+// How many children a block takes, so many that there are few blocks, and so few that one more moves little.
+const FULL: usize = 128;
+
+// Where an entry stood when it was added: its block, and its place there.
+#[derive(Clone, Copy)]
+struct Spot {
+    block: usize,
+    place: usize,
+}
+
+/// Some children of a node, in the order of their keys.
+pub struct Block {
+    entries: Vec<(Key, NodeNumber)>,
+}
+
+impl Model for Block {
+    ghost use Rattle.std.specs.Prelude.{List};
+    ghost use Rattle.op_core.specs.declared.cursor.Key.{Key};
+    ghost use Rattle.doc_nodes.specs.declared.node.NodeNumber.{NodeNumber};
+
+    ghost Value = { List (Key × NodeNumber) };
+
+    ghost view = { λ b. b.entries.items };
+}
+
+impl Drop for Block {
+    fn drop(self) {
+        let Block { entries: _ } = self;
+    }
+}
+
+/// The nodes below a node, in the order of their keys: in blocks, so that a new one moves few of the others. The last that
+/// was added is looked at first, since it is what an operation asks for next. Clauses see the list of their keys and numbers.
+pub struct Children {
+    blocks: Vec<Block>,
+    count: usize,
+    latest: Spot,
+}
+
+impl Model for Children {
+    ghost use Rattle.std.specs.Prelude.{◌≡◌, List, length};
+    ghost use Rattle.op_core.specs.declared.cursor.Key.{Key};
+    ghost use Rattle.doc_nodes.specs.declared.node.NodeNumber.{NodeNumber};
+    ghost use Rattle.doc_nodes.specs.Blocks.{joined, AreBlocks};
+
+    ghost Value = { List (Key × NodeNumber) };
+
+    ghost view = { λ c. joined c.blocks.items };
+
+    ghost invariant = { λ c. AreBlocks c.blocks.items × (c.count ≡ length (joined c.blocks.items)) };
+}
+
+impl Drop for Children {
+    fn drop(self) {
+        let Children {
+            blocks: _,
+            count: _,
+            latest: _,
+        } = self;
+    }
+}
+
+impl Children {
+    /// No child. It takes no memory yet.
+    pub fn new(alloc: Global) -> Children
+        ensures { result ≡ [] }
+    {
+        Children {
+            blocks: Vec::new(alloc),
+            count: 0,
+            latest: Spot { block: 0, place: 0 },
+        }
+    }
+
+    /// The number of the child at a key, found by bisection.
+    pub fn find(&self, key: &Key) -> Option<NodeNumber>
+        ensures { result ≡ number_at self.now key.now }
+    {
+        if let Some(number) = number_there(self.blocks.as_slice(), self.latest, key) {
+            return Some(number);
+        }
+        number_of(self.blocks.as_slice(), key)
+    }
+
+    /// Adds a child at a key that has none, in the order of keys.
+    pub fn insert(&mut self, key: Key, number: NodeNumber) -> Result<(), AllocError>
+        requires { number_at self.old key ≡ None }
+        ensures ok { OnOk result (self.new ≡ insert self.old (KeyOrder.key_rank self.old key) (key, number)) }
+        ensures err { OnErr result (self.new ≡ self.old) }
+    {
+        let Some(count) = self.count.checked_add(1) else {
+            return Err(AllocError);
+        };
+        let at = block_for(&mut self.blocks, &key)?;
+        self.latest = add_entry(&mut self.blocks, at, key, number)?;
+        self.count = count;
+        Ok(())
+    }
+
+    /// How many children there are.
+    pub fn len(&self) -> usize
+        ensures { result ≡ length self.now }
+    {
+        self.count
+    }
+
+    /// The children, in the order of their keys.
+    pub fn each(&self) -> EachChild<'_>
+        ensures value { result ≡ self.now }
+        ensures rising { IsInKeyOrder result }
+    {
+        EachChild {
+            entries: &[],
+            blocks: self.blocks.as_slice(),
+        }
+    }
+
+    /// The element of the child at a place, if its key is one.
+    pub fn element(&self, at: usize) -> Option<Id>
+        requires { at < length self.now }
+        ensures { (d : Key × NodeNumber) → result ≡ element_of (slice_index_or self.now at d).0 }
+    {
+        element_in(&entry_at(self.blocks.as_slice(), at).0)
+    }
+
+    /// The number of the child at a place.
+    pub fn number(&self, at: usize) -> NodeNumber
+        requires { at < length self.now }
+        ensures value { (d : Key × NodeNumber) → (slice_index_or self.now at d).1 ≡ result }
+        ensures found { (d : Key × NodeNumber) → number_at self.now (slice_index_or self.now at d).0 ≡ Some result }
+    {
+        entry_at(self.blocks.as_slice(), at).1
+    }
+}
+
+/// Children one after another, in the order of their keys, seen as the list of those that are left.
+#[derive(Drop)]
+pub struct EachChild<'a> {
+    entries: &'a [(Key, NodeNumber)],
+    blocks: &'a [Block],
+}
+
+impl<'a> Model for EachChild<'a> {
+    ghost use Rattle.std.specs.Prelude.{List, ◌++◌};
+    ghost use Rattle.op_core.specs.declared.cursor.Key.{Key};
+    ghost use Rattle.doc_nodes.specs.declared.node.NodeNumber.{NodeNumber};
+    ghost use Rattle.doc_nodes.specs.Blocks.{joined, AreFilled};
+
+    ghost Value = { List (Key × NodeNumber) };
+
+    ghost view = { λ e. e.entries.now ++ joined e.blocks.now };
+
+    ghost invariant = { λ e. AreFilled e.blocks.now };
+}
+
+impl<'a> EachChild<'a> {
+    /// No child.
+    pub fn none() -> EachChild<'a>
+        ensures { result ≡ [] }
+    {
+        EachChild {
+            entries: &[],
+            blocks: &[],
+        }
+    }
+}
+
+impl<'a> Iterator for EachChild<'a> {
+    ghost use Rattle.std.specs.Iterator.{YieldsFirstRef, item_count};
+
+    type Item = &'a (Key, NodeNumber);
+
+    ghost next_gives = { YieldsFirstRef (λ rest. rest) };
+
+    ghost remaining = { item_count (λ rest. rest) };
+
+    fn next(&mut self) -> Option<&'a (Key, NodeNumber)> {
+        if let Some((first, rest)) = self.entries.split_first() {
+            self.entries = rest;
+            return Some(first);
+        }
+        let (block, later) = self.blocks.split_first()?;
+        let (first, rest) = block.entries.as_slice().split_first()?;
+        self.entries = rest;
+        self.blocks = later;
+        Some(first)
+    }
+}
+
+/// The number at a key, found by bisection: of the blocks, and of one block.
+fn number_of(blocks: &[Block], key: &Key) -> Option<NodeNumber>
+    requires { AreBlocks blocks.now }
+    ensures { result ≡ number_at (joined blocks.now) key.now }
+{
+    let at = block_of(blocks, key);
+    match blocks.get(at) {
+        None => None,
+        Some(block) => number_in(block.entries.as_slice(), key),
+    }
+}
+
+/// The number at a key in one block.
+fn number_in(entries: &[(Key, NodeNumber)], key: &Key) -> Option<NodeNumber>
+    requires { IsInKeyOrder entries.now }
+    ensures { result ≡ number_at entries.now key.now }
+{
+    let at = rank_of_key(entries, key);
+    if at < entries.len() && is_same_key(&entries[at].0, key) {
+        Some(entries[at].1)
+    } else {
+        None
+    }
+}
+
+/// The number of the entry at a spot, if that is the one of the key.
+fn number_there(blocks: &[Block], spot: Spot, key: &Key) -> Option<NodeNumber>
+    requires { AreBlocks blocks.now }
+    ensures { IfSome result (λ number. number_at (joined blocks.now) key.now ≡ Some number) }
+{
+    match blocks.get(spot.block) {
+        None => None,
+        Some(block) => number_here(block.entries.as_slice(), spot.place, key),
+    }
+}
+
+/// The number of the entry at a place in one block, if that is the one of the key.
+fn number_here(entries: &[(Key, NodeNumber)], place: usize, key: &Key) -> Option<NodeNumber>
+    ensures { IfSome result (λ number. Contains entries.now (key.now, number)) }
+{
+    if place < entries.len() && is_same_key(&entries[place].0, key) {
+        Some(entries[place].1)
+    } else {
+        None
+    }
+}
+
+/// How many blocks end with a lesser key, once the block to which the key belongs is cut in two if it was full.
+fn block_for(blocks: &mut Vec<Block>, key: &Key) -> Result<usize, AllocError>
+    requires { AreBlocks blocks.old.items }
+    ensures blocks { AreBlocks blocks.new.items }
+    ensures same { joined blocks.new.items ≡ joined blocks.old.items }
+    ensures value { IfOk result (λ at. at ≡ block_rank key.now blocks.new.items) }
+{
+    let at = block_of(blocks.as_slice(), key);
+    if at >= blocks.len() {
+        return Ok(at);
+    }
+    let Some(half) = half_of(&blocks[at]) else {
+        return Ok(at);
+    };
+    cut(blocks, at, half)?;
+    Ok(block_of(blocks.as_slice(), key))
+}
+
+/// Half of a block that takes no more.
+fn half_of(block: &Block) -> Option<usize>
+    ensures { IfSome result (λ half. (0 < half) × (half < length block.now)) }
+{
+    let count = block.entries.len();
+    if count < FULL {
+        return None;
+    }
+    Some(count / 2)
+}
+
+/// Cuts a block in two.
+fn cut(blocks: &mut Vec<Block>, at: usize, half: usize) -> Result<(), AllocError>
+    requires blocks { AreBlocks blocks.old.items }
+    requires known { at < length blocks.old.items }
+    requires some { 0 < half }
+    requires more { half < length (slice_index_or blocks.old.items at []) }
+    ensures blocks { AreBlocks blocks.new.items }
+    ensures same { joined blocks.new.items ≡ joined blocks.old.items }
+{
+    cut_at(blocks, at, half)
+}
+
+/// Cuts a block in two, and says what the blocks are then.
+fn cut_at(blocks: &mut Vec<Block>, at: usize, half: usize) -> Result<(), AllocError>
+    requires known { at < length blocks.old.items }
+    requires more { half < length (slice_index_or blocks.old.items at []) }
+    ensures ok { OnOk result (blocks.new.items ≡ insert (slice_set blocks.old.items at (take half (slice_index_or blocks.old.items at []))) (at + 1) (drop half (slice_index_or blocks.old.items at []))) }
+    ensures err { OnErr result (blocks.new.items ≡ blocks.old.items) }
+{
+    blocks.reserve(1)?;
+    let block = &mut blocks[at];
+    let entries = block.entries.split_off(half)?;
+    match blocks.insert(at + 1, Block { entries }) {
+        Ok(()) => Ok(()),
+        Err(_) => unreachable!(),
+    }
+}
+
+/// Adds an entry at a key that has none and belongs to the block at a place.
+fn add_entry(
+    blocks: &mut Vec<Block>,
+    at: usize,
+    key: Key,
+    number: NodeNumber,
+) -> Result<Spot, AllocError>
+    requires blocks { AreBlocks blocks.old.items }
+    requires at { at ≡ block_rank key blocks.old.items }
+    requires missing { number_at (joined blocks.old.items) key ≡ None }
+    ensures blocks { AreBlocks blocks.new.items }
+    ensures ok { OnOk result (joined blocks.new.items ≡ insert (joined blocks.old.items) (KeyOrder.key_rank (joined blocks.old.items) key) (key, number)) }
+    ensures err { OnErr result (joined blocks.new.items ≡ joined blocks.old.items) }
+{
+    match open_block(blocks.as_slice(), at) {
+        Some(open) => put_in(blocks, open, key, number),
+        None => put_behind(blocks, key, number),
+    }
+}
+
+/// The block that takes a key which belongs to the block at a place: this one, or the last if the key is greater than all.
+fn open_block(blocks: &[Block], at: usize) -> Option<usize>
+    requires { at ≤ length blocks.now }
+    ensures open { IfSome result (λ n. (n < length blocks.now) × ((n ≡ at) ⊎ ((n + 1 ≡ at) × (at ≡ length blocks.now)))) }
+    ensures none { IfNone result (at ≡ length blocks.now) }
+{
+    if at < blocks.len() {
+        return Some(at);
+    }
+    if at > 0 && half_of(&blocks[at - 1]).is_none() {
+        return Some(at - 1);
+    }
+    None
+}
+
+/// Puts an entry into a block.
+fn put_in(
+    blocks: &mut Vec<Block>,
+    at: usize,
+    key: Key,
+    number: NodeNumber,
+) -> Result<Spot, AllocError>
+    requires known { at < length blocks.old.items }
+    requires rising { IsInKeyOrder (slice_index_or blocks.old.items at []) }
+    ensures ok { OnOk result (blocks.new.items ≡ slice_set blocks.old.items at (insert (slice_index_or blocks.old.items at []) (KeyOrder.key_rank (slice_index_or blocks.old.items at []) key) (key, number))) }
+    ensures err { OnErr result (blocks.new.items ≡ blocks.old.items) }
+{
+    let block = &mut blocks[at];
+    let place = rank_of_key(block.entries.as_slice(), &key);
+    block.entries.insert(place, (key, number))?;
+    Ok(Spot { block: at, place })
+}
+
+/// Puts an entry behind all others, in a block of its own.
+fn put_behind(blocks: &mut Vec<Block>, key: Key, number: NodeNumber) -> Result<Spot, AllocError>
+    ensures ok { OnOk result (blocks.new.items ≡ blocks.old.items ++ ((key, number) ∷ []) ∷ []) }
+    ensures err { OnErr result (blocks.new.items ≡ blocks.old.items) }
+{
+    // Most nodes have one child and never a second.
+    if blocks.is_empty() {
+        blocks.reserve_exact(1)?;
+    }
+    let block = blocks.len();
+    let mut entries = Vec::new(*blocks.allocator());
+    entries.reserve_exact(1)?;
+    entries.push((key, number))?;
+    blocks.push(Block { entries })?;
+    Ok(Spot { block, place: 0 })
+}
+
+/// The entry at a place, counted over all blocks.
+fn entry_at(blocks: &[Block], at: usize) -> &(Key, NodeNumber)
+    requires { at < length (joined blocks.now) }
+    ensures { (d : Key × NodeNumber) → result.now ≡ slice_index_or (joined blocks.now) at d }
+{
+    match blocks.split_first() {
+        None => unreachable!(),
+        Some((block, later)) => {
+            let count = block.entries.len();
+            if at < count {
+                &block.entries[at]
+            } else {
+                entry_at(later, at - count)
+            }
+        }
+    }
+}
+
+/// How many blocks end with a lesser key.
+fn block_of(blocks: &[Block], key: &Key) -> usize
+    requires { AreBlocks blocks.now }
+    ensures value { result ≡ block_rank key.now blocks.now }
+    ensures within { result ≤ length blocks.now }
+{
+    blocks.partition_point(
+        |block: &Block| -> bool
+            ensures { result ≡ Blocks.ends_before key.entry.now block.now }
+        { ends_before(block.entries.as_slice(), key) },
+    )
+}
+
+/// Whether the last key is less than a key.
+fn ends_before(entries: &[(Key, NodeNumber)], key: &Key) -> bool
+    ensures { result ≡ Blocks.ends_before key.now entries.now }
+{
+    let count = entries.len();
+    if count == 0 {
+        return true;
+    }
+    is_lesser_key(&entries[count - 1].0, key)
+}
+
+/// How many children have a lesser key.
+fn rank_of_key(entries: &[(Key, NodeNumber)], key: &Key) -> usize
+    requires { IsInKeyOrder entries.now }
+    ensures value { result ≡ KeyOrder.key_rank entries.now key.now }
+    ensures within { result ≤ length entries.now }
+{
+    entries.partition_point(
+        |child: &(Key, NodeNumber)| -> bool
+            ensures { result ≡ is_lt (key_cmp child.now.0 key.entry.now) }
+        { is_lesser_key(&child.0, key) },
+    )
+}
+
+/// Whether a key is less than another.
+fn is_lesser_key(a: &Key, b: &Key) -> bool
+    ensures { result ≡ is_lt (key_cmp a.now b.now) }
+{
+    match (a, b) {
+        (Key::Text(x), Key::Text(y)) => is_lesser_text(x.as_str(), y.as_str()),
+        (Key::Element(x), Key::Element(y)) => *x < *y,
+        (Key::Doc | Key::Head, Key::Text(_) | Key::Element(_)) => true,
+        (Key::Doc, Key::Head) => true,
+        (Key::Text(_), Key::Element(_)) => true,
+        (Key::Doc | Key::Head | Key::Element(_), Key::Doc) => false,
+        (Key::Text(_), Key::Doc | Key::Head) => false,
+        (Key::Element(_), Key::Text(_) | Key::Head) => false,
+        (Key::Head, Key::Head) => false,
+    }
+}
+
+/// Whether a text is less than another, in byte order.
+fn is_lesser_text(a: &str, b: &str) -> bool
+    ensures { result ≡ is_lt (slice_cmp nat_cmp a.now b.now) }
+{
+    a.as_bytes().cmp(b.as_bytes()).is_lt()
+}
+
+/// Whether two keys are the same.
+fn is_same_key(a: &Key, b: &Key) -> bool
+    ensures { result ≡ key_eq a.now b.now }
+{
+    a == b
+}

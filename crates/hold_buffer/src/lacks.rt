@@ -1,0 +1,126 @@
+//! What one held operation waits for.
+ghost use Rattle.std.specs.Prelude.{◌≡◌, ◌↔◌, ◌<◌, IsTrue, Contains, slice_index_or, not, length, filter, ◌==◌, Ok, MatchResult, MatchOption};
+ghost use Rattle.doc_words.specs.Words.{Id, UnlessMemory, name_cmp};
+ghost use Rattle.crdt_rules.specs.Same.{id_eq};
+ghost use Rattle.crdt_rules.specs.Dependencies.{missing};
+ghost use Rattle.doc_rules.specs.Sorted.{IsRising};
+ghost use Rattle.sorted_lists.specs.Sorted.{IsPlace, IsGap};
+
+use doc_words::Ids;
+use json_scalar::Refusal;
+use lamport_id::{Id, ReplicaName};
+use op_core::Operation;
+use op_log::OpLog;
+use std::alloc::Global;
+use std::marker::Model;
+
+/// The ids for which one operation waits, of different replicas, in the order of its front. A contract sees them as a list.
+#[derive(Debug)]
+pub struct Lacks {
+    ids: Vec<Id>,
+}
+
+impl Model for Lacks {
+    ghost use Rattle.std.specs.Prelude.{List};
+    ghost use Rattle.doc_words.specs.Words.{Id};
+
+    ghost Value = { List Id };
+
+    ghost view = { λ l. l.ids.items };
+}
+
+impl Lacks {
+    /// What the operation lacks in the log, in no more room than that takes. It is refused for want of memory alone.
+    pub fn of(alloc: Global, log: &OpLog, op: &Operation) -> Result<Lacks, Refusal>
+        ensures { UnlessMemory result (Ok (missing op.now log.now.operations)) }
+    {
+        let missing = log.missing(op)?;
+        let ids = missing.as_slice().to_vec(alloc)?;
+        Ok(Lacks { ids })
+    }
+
+    /// Whether there is none.
+    pub fn is_empty(&self) -> bool
+        ensures { result ≡ (length self.now == 0) }
+    {
+        self.ids.is_empty()
+    }
+
+    /// The ids, in their order. It is refused for want of memory alone.
+    pub fn ids(&self, alloc: Global) -> Result<Ids, Refusal>
+        ensures { UnlessMemory result (Ok self.now) }
+    {
+        let ids = self.ids.as_slice().to_vec(alloc)?;
+        Ok(Ids::from(ids))
+    }
+
+    /// Takes an id out, if it is there.
+    pub fn forget(&mut self, id: &Id)
+        requires { IsRising name_cmp (λ i. i.replica) self.old }
+        ensures { self.new ≡ filter (λ i. not (id_eq i id.now)) self.old }
+    {
+        if let Some(at) = place_of(&self.ids, id) {
+            self.ids.remove(at);
+        }
+    }
+}
+
+/// Up to so many ids are looked at one by one: most have another counter, which is told sooner than another name.
+const FEW: usize = 8;
+
+// Where the id stands.
+fn place_of(ids: &[Id], id: &Id) -> Option<usize>
+    requires { IsRising name_cmp (λ i. i.replica) ids.now }
+    ensures { MatchOption result (¬ (Contains ids.now id.now)) (λ at. (at < length ids.now) × ((d : Id) → slice_index_or ids.now at d ≡ id.now)) }
+{
+    if ids.len() <= FEW {
+        first_place(ids, id)
+    } else {
+        searched_place(ids, id)
+    }
+}
+
+// The same, by a look at each.
+fn first_place(ids: &[Id], id: &Id) -> Option<usize>
+    ensures { MatchOption result (¬ (Contains ids.now id.now)) (λ at. (at < length ids.now) × ((d : Id) → slice_index_or ids.now at d ≡ id.now)) }
+{
+    for at in 0..ids.len() {
+        if is_same(&ids[at], id) {
+            return Some(at);
+        }
+    }
+    None
+}
+
+// Whether two ids are one, by the counters first.
+fn is_same(id: &Id, other: &Id) -> bool
+    ensures { IsTrue result ↔ (id.now ≡ other.now) }
+{
+    id.counter == other.counter && id.replica == other.replica
+}
+
+// The same, by one search.
+fn searched_place(ids: &[Id], id: &Id) -> Option<usize>
+    requires { IsRising name_cmp (λ i. i.replica) ids.now }
+    ensures { MatchOption result (¬ (Contains ids.now id.now)) (λ at. (at < length ids.now) × ((d : Id) → slice_index_or ids.now at d ≡ id.now)) }
+{
+    match search(ids, id.replica) {
+        Ok(at) if ids[at].counter == id.counter => Some(at),
+        _ => None,
+    }
+}
+
+// Where the id of a replica stands, or where it would go.
+fn search(ids: &[Id], name: ReplicaName) -> Result<usize, usize>
+    requires { IsRising name_cmp (λ i. i.replica) ids.now }
+    ensures { MatchResult result (IsPlace name_cmp (λ i. i.replica) ids.now name) (IsGap name_cmp (λ i. i.replica) ids.now name) }
+{
+    ids.binary_search_by_key(&name, |id| id.replica)
+}
+
+// By hand, so that it is called and not written out where it is let go.
+impl Drop for Lacks {
+    fn drop(self) {
+        let Lacks { ids: _ } = self;
+    }
+}

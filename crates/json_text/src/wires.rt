@@ -1,0 +1,110 @@
+//! Places, fronts and operations as JSON.
+ghost use Rattle.op_core.specs.Wire.{cursor_data, entry_data, front_data, key_data, mutation_data, tagged_data, wire};
+ghost use Rattle.op_core.specs.declared.mutation.Mutation.TheVariants.{Add, Delete};
+ghost use Rattle.json_text.specs.Tokens.{data_tokens, Puts};
+
+use crate::parts::AsJson;
+use crate::text::JsonText;
+use json_scalar::Refusal;
+use lamport_id::ReplicaName;
+use op_core::{Cursor, Front, Key, Mutation, Operation, Tagged};
+
+impl AsJson for Key {
+    ghost json = { key_data };
+
+    fn put_in(&self, text: &mut JsonText) -> Result<(), Refusal> {
+        match self {
+            Key::Doc => text.count(0),
+            Key::Text(name) => name.put_in(text),
+            Key::Element(id) => id.put_in(text),
+            Key::Head => text.count(1),
+        }
+    }
+}
+
+impl AsJson for Tagged {
+    ghost json = { tagged_data };
+
+    fn put_in(&self, text: &mut JsonText) -> Result<(), Refusal> {
+        match self {
+            Tagged::Map(key) => text.tagged("m", key),
+            Tagged::List(key) => text.tagged("l", key),
+        }
+    }
+}
+
+impl AsJson for Cursor {
+    ghost json = { cursor_data };
+
+    #[tactic(auto, using(crate::proofs::Texts::pairs))]
+    fn put_in(&self, text: &mut JsonText) -> Result<(), Refusal> {
+        text.begin_list()?;
+        text.list(self.path.as_slice())?;
+        self.key.put_in(text)?;
+        text.end_list()
+    }
+}
+
+impl AsJson for (ReplicaName, u64) {
+    ghost json = { entry_data };
+
+    fn put_in(&self, text: &mut JsonText) -> Result<(), Refusal> {
+        text.begin_list()?;
+        text.text(self.0.as_str())?;
+        text.count(self.1)?;
+        text.end_list()
+    }
+}
+
+impl AsJson for Front {
+    ghost json = { front_data };
+
+    fn put_in(&self, text: &mut JsonText) -> Result<(), Refusal> {
+        text.list(self.as_slice())
+    }
+}
+
+impl AsJson for Mutation {
+    ghost json = { mutation_data };
+
+    fn put_in(&self, text: &mut JsonText) -> Result<(), Refusal> {
+        match self {
+            Mutation::Assign(val) => text.tagged("assign", val),
+            Mutation::Insert(val) => text.tagged("insert", val),
+            Mutation::Delete => put_delete(text),
+            Mutation::Add(n) => put_add(text, *n),
+        }
+    }
+}
+
+fn put_delete(text: &mut JsonText) -> Result<(), Refusal>
+    ensures { Puts (data_tokens (mutation_data Delete)) text.old text.new result }
+{
+    text.begin_list()?;
+    text.text("delete")?;
+    text.end_list()
+}
+
+fn put_add(text: &mut JsonText, n: i64) -> Result<(), Refusal>
+    ensures { Puts (data_tokens (mutation_data (Add n))) text.old text.new result }
+{
+    text.begin_list()?;
+    text.text("add")?;
+    text.integer(n)?;
+    text.end_list()
+}
+
+impl AsJson for Operation {
+    ghost json = { wire };
+
+    #[tactic(auto, using(crate::proofs::Texts::fives))]
+    fn put_in(&self, text: &mut JsonText) -> Result<(), Refusal> {
+        text.begin_list()?;
+        text.text("op")?;
+        self.id().put_in(text)?;
+        self.front().put_in(text)?;
+        self.cursor().put_in(text)?;
+        self.mutation().put_in(text)?;
+        text.end_list()
+    }
+}

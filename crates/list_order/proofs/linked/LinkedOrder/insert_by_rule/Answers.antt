@@ -1,0 +1,150 @@
+use Rattle.std.proofs.Common.{◌≡◌, ◌<◌, ◌∙◌, ℕ, sym, ap, subst, length, Contains, None, min}
+use Rattle.std.specs.Option.{ForSome}
+use Rattle.presence_set.specs.ById.{put_at_id}
+use Rattle.list_order.specs.declared.slots.SlotNumber.{SlotNumber}
+use Rattle.list_order.specs.Entries.{ids_of}
+use Rattle.list_order.specs.Slots.{behind, ids_along, number_for, passed, slots_from, LinksEnd}
+use Rattle.list_order.specs.Marks.{IsCounted, IsRecut}
+use Rattle.list_order.proofs.Placing.{ids_of-entries}
+use Rattle.list_order.proofs.Scanning.{passed_within}
+use Rattle.list_order.proofs.Inserting.{first_walk, number_from_absent, reference_within, reference_walk}
+use Rattle.list_order.proofs.Adding.{kept_made, kept_recut}
+use Rattle.list_order.proofs.Presence.{entries-presence}
+use Rattle.list_order.proofs.linked.LinkedOrder.insert_by_rule.Goals as goal
+
+abbrev number : ℕ → SlotNumber
+number n = record { 0 = n }
+
+pub last_passed-previous-requires-clause-known : goal.last_passed-previous-requires-clause-known
+last_passed-previous-requires-clause-known c =
+    let slots = c.self.inside.slots.items in
+    let first = c.self.inside.first in
+    let index = c.self.inside.index.items in
+    let marks = c.self.inside.marks.items in
+    let at : c.number_for-reference.result ≡ number_for c.self.inside.index.items c.args.after = c.number_for-reference.ensures ∙ ap (λ l. number_for l c.args.after) c.as_slice.ensures.value in
+    subst (λ r. ForSome r (λ p. p.0 < length c.as_slice-2.result.now)) (sym at)
+    (subst (λ l. ForSome (number_for index c.args.after) (λ p. p.0 < length l)) (sym c.as_slice-2.ensures.value) (reference_within c.self.invariant.order c.args.after))
+
+pub last_passed-previous-requires-clause-walk : goal.last_passed-previous-requires-clause-walk
+last_passed-previous-requires-clause-walk c =
+    let slots = c.self.inside.slots.items in
+    let first = c.self.inside.first in
+    let index = c.self.inside.index.items in
+    let marks = c.self.inside.marks.items in
+    let at : c.number_for-reference.result ≡ number_for c.self.inside.index.items c.args.after = c.number_for-reference.ensures ∙ ap (λ l. number_for l c.args.after) c.as_slice.ensures.value in
+    subst (λ l. LinksEnd l (behind l first c.number_for-reference.result)) (sym c.as_slice-2.ensures.value)
+    (reference_walk c.self.invariant.order c.args.after c.number_for-reference.result (sym at))
+
+pub add_mark-requires-clause-known : goal.add_mark-requires-clause-known
+add_mark-requires-clause-known c =
+    let slots = c.self.inside.slots.items in
+    let first = c.self.inside.first in
+    let index = c.self.inside.index.items in
+    let marks = c.self.inside.marks.items in
+    let at : c.number_for-reference.result ≡ number_for c.self.inside.index.items c.args.after = c.number_for-reference.ensures ∙ ap (λ l. number_for l c.args.after) c.as_slice.ensures.value in
+    let last : c.last_passed-previous.result ≡ passed c.self.inside.slots.items c.args.id c.number_for-reference.result (slots_from c.self.inside.slots.items (behind c.self.inside.slots.items c.self.inside.first c.number_for-reference.result)) =
+    c.last_passed-previous.ensures ∙ ap (λ l. passed l c.args.id c.number_for-reference.result (slots_from l (behind l c.self.inside.first c.number_for-reference.result))) c.as_slice-2.ensures.value in
+    let within : ForSome c.last_passed-previous.result (λ p. p.0 < length c.self.inside.slots.items) =
+    subst (λ r. ForSome r (λ p. p.0 < length slots)) (sym last)
+    (passed_within slots c.args.id c.number_for-reference.result (behind slots first c.number_for-reference.result) (slots_from slots (behind slots first c.number_for-reference.result))
+    (reference_walk c.self.invariant.order c.args.after c.number_for-reference.result (sym at)).path (subst (λ r. ForSome r (λ p. p.0 < length slots)) (sym at) (reference_within c.self.invariant.order c.args.after))) in
+    subst (λ m. ForSome c.last_passed-previous.result (λ p. p.0 < m)) (sym c.self.invariant.marked) within
+
+pub link-requires-clause-known : goal.link-requires-clause-known
+link-requires-clause-known c =
+    let slots = c.self.inside.slots.items in
+    let first = c.self.inside.first in
+    let index = c.self.inside.index.items in
+    let marks = c.self.inside.marks.items in
+    let at : c.number_for-reference.result ≡ number_for c.self.inside.index.items c.args.after = c.number_for-reference.ensures ∙ ap (λ l. number_for l c.args.after) c.as_slice.ensures.value in
+    let last : c.last_passed-previous.result ≡ passed c.self.inside.slots.items c.args.id c.number_for-reference.result (slots_from c.self.inside.slots.items (behind c.self.inside.slots.items c.self.inside.first c.number_for-reference.result)) =
+    c.last_passed-previous.ensures ∙ ap (λ l. passed l c.args.id c.number_for-reference.result (slots_from l (behind l c.self.inside.first c.number_for-reference.result))) c.as_slice-2.ensures.value in
+    let within : ForSome c.last_passed-previous.result (λ p. p.0 < length c.self.inside.slots.items) =
+    subst (λ r. ForSome r (λ p. p.0 < length slots)) (sym last)
+    (passed_within slots c.args.id c.number_for-reference.result (behind slots first c.number_for-reference.result) (slots_from slots (behind slots first c.number_for-reference.result))
+    (reference_walk c.self.invariant.order c.args.after c.number_for-reference.result (sym at)).path (subst (λ r. ForSome r (λ p. p.0 < length slots)) (sym at) (reference_within c.self.invariant.order c.args.after))) in
+    within
+
+pub add_entry-requires-clause-new : goal.add_entry-requires-clause-new
+add_entry-requires-clause-new c =
+    let slots = c.self.inside.slots.items in
+    let first = c.self.inside.first in
+    let index = c.self.inside.index.items in
+    let marks = c.self.inside.marks.items in
+    let ids : ids_of c.args.self.now.0 ≡ ids_along c.self.inside.slots.items (slots_from c.self.inside.slots.items c.self.inside.first) = ap (λ v. ids_of v.0) (sym c.self.view_is) ∙ ids_of-entries slots marks (slots_from slots first) in
+    let new = number_from_absent slots (slots_from slots first) c.args.id (λ x. c.requires.new (subst (λ l. Contains l c.args.id) (sym ids) x)) in
+    c.self.invariant.order.exact c.args.id ∙ new
+
+pub recut_if_due-requires-clause-walk : goal.recut_if_due-requires-clause-walk
+recut_if_due-requires-clause-walk c =
+    let slots = c.self.inside.slots.items in
+    let first = c.self.inside.first in
+    let index = c.self.inside.index.items in
+    let marks = c.self.inside.marks.items in
+    let at : c.number_for-reference.result ≡ number_for c.self.inside.index.items c.args.after = c.number_for-reference.ensures ∙ ap (λ l. number_for l c.args.after) c.as_slice.ensures.value in
+    let last : c.last_passed-previous.result ≡ passed c.self.inside.slots.items c.args.id c.number_for-reference.result (slots_from c.self.inside.slots.items (behind c.self.inside.slots.items c.self.inside.first c.number_for-reference.result)) =
+    c.last_passed-previous.ensures ∙ ap (λ l. passed l c.args.id c.number_for-reference.result (slots_from l (behind l c.self.inside.first c.number_for-reference.result))) c.as_slice-2.ensures.value in
+    let ids : ids_of c.args.self.now.0 ≡ ids_along c.self.inside.slots.items (slots_from c.self.inside.slots.items c.self.inside.first) = ap (λ v. ids_of v.0) (sym c.self.view_is) ∙ ids_of-entries slots marks (slots_from slots first) in
+    let known = subst (λ l. ForSome c.args.after (Contains l)) ids c.requires.known in
+    let new = number_from_absent slots (slots_from slots first) c.args.id (λ x. c.requires.new (subst (λ l. Contains l c.args.id) (sym ids) x)) in
+    let made = kept_made c.self.invariant c.args.after known c.args.id new c.number_for-reference.result at c.last_passed-previous.result last
+    c.link.new.slots.items c.link.ensures.slots c.link.new.first c.link.ensures.first
+    c.add_entry.new.index.items (c.add_entry.ensures.items ∙ ap (λ n. put_at_id index c.args.id (number n)) (c.len.ensures ∙ c.self.inside.slots.ok.0)) c.add_entry.ensures.len
+    c.add_mark.new.marks.items c.add_mark.ensures.items in
+    subst (λ l. LinksEnd l c.link.new.first) (sym c.as_slice-3.ensures.value) (first_walk made.0.order)
+
+pub recut_if_due-requires-clause-counted : goal.recut_if_due-requires-clause-counted
+recut_if_due-requires-clause-counted c =
+    let slots = c.self.inside.slots.items in
+    let first = c.self.inside.first in
+    let index = c.self.inside.index.items in
+    let marks = c.self.inside.marks.items in
+    let at : c.number_for-reference.result ≡ number_for c.self.inside.index.items c.args.after = c.number_for-reference.ensures ∙ ap (λ l. number_for l c.args.after) c.as_slice.ensures.value in
+    let last : c.last_passed-previous.result ≡ passed c.self.inside.slots.items c.args.id c.number_for-reference.result (slots_from c.self.inside.slots.items (behind c.self.inside.slots.items c.self.inside.first c.number_for-reference.result)) =
+    c.last_passed-previous.ensures ∙ ap (λ l. passed l c.args.id c.number_for-reference.result (slots_from l (behind l c.self.inside.first c.number_for-reference.result))) c.as_slice-2.ensures.value in
+    let ids : ids_of c.args.self.now.0 ≡ ids_along c.self.inside.slots.items (slots_from c.self.inside.slots.items c.self.inside.first) = ap (λ v. ids_of v.0) (sym c.self.view_is) ∙ ids_of-entries slots marks (slots_from slots first) in
+    let known = subst (λ l. ForSome c.args.after (Contains l)) ids c.requires.known in
+    let new = number_from_absent slots (slots_from slots first) c.args.id (λ x. c.requires.new (subst (λ l. Contains l c.args.id) (sym ids) x)) in
+    let made = kept_made c.self.invariant c.args.after known c.args.id new c.number_for-reference.result at c.last_passed-previous.result last
+    c.link.new.slots.items c.link.ensures.slots c.link.new.first c.link.ensures.first
+    c.add_entry.new.index.items (c.add_entry.ensures.items ∙ ap (λ n. put_at_id index c.args.id (number n)) (c.len.ensures ∙ c.self.inside.slots.ok.0)) c.add_entry.ensures.len
+    c.add_mark.new.marks.items c.add_mark.ensures.items in
+    subst (λ l. IsCounted c.add_mark.new.marks.items c.self.inside.blocks.items (slots_from l c.link.new.first) None) (sym c.as_slice-3.ensures.value) made.0.counted
+
+pub returns : goal.returns
+returns c =
+    let slots = c.self.inside.slots.items in
+    let first = c.self.inside.first in
+    let index = c.self.inside.index.items in
+    let marks = c.self.inside.marks.items in
+    let at : c.number_for-reference.result ≡ number_for c.self.inside.index.items c.args.after = c.number_for-reference.ensures ∙ ap (λ l. number_for l c.args.after) c.as_slice.ensures.value in
+    let last : c.last_passed-previous.result ≡ passed c.self.inside.slots.items c.args.id c.number_for-reference.result (slots_from c.self.inside.slots.items (behind c.self.inside.slots.items c.self.inside.first c.number_for-reference.result)) =
+    c.last_passed-previous.ensures ∙ ap (λ l. passed l c.args.id c.number_for-reference.result (slots_from l (behind l c.self.inside.first c.number_for-reference.result))) c.as_slice-2.ensures.value in
+    let ids : ids_of c.args.self.now.0 ≡ ids_along c.self.inside.slots.items (slots_from c.self.inside.slots.items c.self.inside.first) = ap (λ v. ids_of v.0) (sym c.self.view_is) ∙ ids_of-entries slots marks (slots_from slots first) in
+    let known = subst (λ l. ForSome c.args.after (Contains l)) ids c.requires.known in
+    let new = number_from_absent slots (slots_from slots first) c.args.id (λ x. c.requires.new (subst (λ l. Contains l c.args.id) (sym ids) x)) in
+    let made = kept_made c.self.invariant c.args.after known c.args.id new c.number_for-reference.result at c.last_passed-previous.result last
+    c.link.new.slots.items c.link.ensures.slots c.link.new.first c.link.ensures.first
+    c.add_entry.new.index.items (c.add_entry.ensures.items ∙ ap (λ n. put_at_id index c.args.id (number n)) (c.len.ensures ∙ c.self.inside.slots.ok.0)) c.add_entry.ensures.len
+    c.add_mark.new.marks.items c.add_mark.ensures.items in
+    let entries = entries-presence c.add_mark.new.marks.items c.recut_if_due.new.marks.items c.recut_if_due.ensures.cut.same c.link.new.slots.items (slots_from c.link.new.slots.items c.link.new.first) ∙ made.1 in
+    rw (← c.self.view_is) (λ i. (entries i, min (c.link.ensures.capacity i) (min (c.add_entry.ensures.capacity i) ((c.recut_if_due.ensures.capacity ∙ c.add_mark.ensures.capacity) i))))
+
+pub invariant_of-self : goal.invariant_of-self
+invariant_of-self c =
+    let slots = c.self.inside.slots.items in
+    let first = c.self.inside.first in
+    let index = c.self.inside.index.items in
+    let marks = c.self.inside.marks.items in
+    let at : c.number_for-reference.result ≡ number_for c.self.inside.index.items c.args.after = c.number_for-reference.ensures ∙ ap (λ l. number_for l c.args.after) c.as_slice.ensures.value in
+    let last : c.last_passed-previous.result ≡ passed c.self.inside.slots.items c.args.id c.number_for-reference.result (slots_from c.self.inside.slots.items (behind c.self.inside.slots.items c.self.inside.first c.number_for-reference.result)) =
+    c.last_passed-previous.ensures ∙ ap (λ l. passed l c.args.id c.number_for-reference.result (slots_from l (behind l c.self.inside.first c.number_for-reference.result))) c.as_slice-2.ensures.value in
+    let ids : ids_of c.args.self.now.0 ≡ ids_along c.self.inside.slots.items (slots_from c.self.inside.slots.items c.self.inside.first) = ap (λ v. ids_of v.0) (sym c.self.view_is) ∙ ids_of-entries slots marks (slots_from slots first) in
+    let known = subst (λ l. ForSome c.args.after (Contains l)) ids c.requires.known in
+    let new = number_from_absent slots (slots_from slots first) c.args.id (λ x. c.requires.new (subst (λ l. Contains l c.args.id) (sym ids) x)) in
+    let made = kept_made c.self.invariant c.args.after known c.args.id new c.number_for-reference.result at c.last_passed-previous.result last
+    c.link.new.slots.items c.link.ensures.slots c.link.new.first c.link.ensures.first
+    c.add_entry.new.index.items (c.add_entry.ensures.items ∙ ap (λ n. put_at_id index c.args.id (number n)) (c.len.ensures ∙ c.self.inside.slots.ok.0)) c.add_entry.ensures.len
+    c.add_mark.new.marks.items c.add_mark.ensures.items in
+    kept_recut made.0 c.recut_if_due.new.marks.items c.recut_if_due.new.blocks.items
+    (subst (λ l. IsRecut c.add_mark.new.marks.items c.recut_if_due.new.marks.items c.recut_if_due.new.blocks.items (slots_from l c.link.new.first)) c.as_slice-3.ensures.value c.recut_if_due.ensures.cut)

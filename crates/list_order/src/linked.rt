@@ -1,0 +1,236 @@
+//! The ids of a list as linked slots.
+
+ghost use Rattle.std.specs.Prelude.{◌≡◌, ◌+◌, ◌<◌, ◌≤◌, [], length, min, Contains, IfOk, OnOk, Some, None, IsSome, slice_get, vec_capacity, option_to_list, ◌++◌};
+ghost use Rattle.std.specs.Option.{ForSome};
+ghost use Rattle.std.specs.List.{list_any};
+ghost use Rattle.crdt_rules.specs.Same.{id_eq};
+ghost use Rattle.lamport_id.specs.Order.{id_cmp};
+ghost use Rattle.list_laws.specs.Order.{insert_after};
+ghost use Rattle.list_order.specs.Entries.{ids_of, present_of, entry_cmp, absent, entry_of_reference, with_presence};
+ghost use Rattle.list_order.specs.Following.{following};
+
+use crate::marks::{
+    Block, FIRST_CUT, Mark, add_mark, blocks_wanted, mark_at, nth_along, recut_if_due, set_presence,
+};
+use crate::slots::{
+    Slot, SlotNumber, add_entry, behind, ids_from, last_passed, link, number_for, number_of,
+    slot_at,
+};
+use lamport_id::Id;
+use std::alloc::{AllocError, Global};
+use std::marker::Model;
+
+/// The ids of a list in its order, deleted ones included, each with whether it is present: linked slots with marks, an
+/// index from id to slot, and blocks that count the present ids. Clauses see a pair: the entries, and how many of them
+/// the memory at hand can hold.
+pub struct LinkedOrder {
+    slots: Vec<Slot>,
+    first: Option<SlotNumber>,
+    index: Vec<(Id, SlotNumber)>,
+    marks: Vec<Mark>,
+    blocks: Vec<Block>,
+    present: usize,
+    limit: usize,
+}
+
+impl Model for LinkedOrder {
+    ghost use Rattle.std.specs.Prelude.{List, ℕ, Bool, min, vec_capacity};
+    ghost use Rattle.lamport_id.specs.declared.id.Id.{Id};
+    ghost use Rattle.list_order.specs.Slots.{slots_from};
+    ghost use Rattle.list_order.specs.Marks.{entries_along, IsMarkedOrder};
+
+    ghost Value = { List (Id × Bool) × ℕ };
+
+    ghost view = { λ o. (entries_along o.slots.items o.marks.items (slots_from o.slots.items o.first), min (vec_capacity o.slots) (min (vec_capacity o.index) (vec_capacity o.marks))) };
+
+    ghost invariant = { λ o. IsMarkedOrder o.slots.items o.first o.index.items o.marks.items o.blocks.items o.present };
+}
+
+impl Drop for LinkedOrder {
+    fn drop(self) {
+        let LinkedOrder {
+            slots: _,
+            first: _,
+            index: _,
+            marks: _,
+            blocks: _,
+            present: _,
+            limit: _,
+        } = self;
+    }
+}
+
+impl LinkedOrder {
+    /// The empty list. It takes no memory yet.
+    pub fn new(alloc: Global) -> LinkedOrder
+        ensures { result.0 ≡ [] }
+    {
+        LinkedOrder {
+            slots: Vec::new(alloc),
+            first: None,
+            index: Vec::new(alloc),
+            marks: Vec::new(alloc),
+            blocks: Vec::new(alloc),
+            present: 0,
+            limit: FIRST_CUT,
+        }
+    }
+
+    /// Makes room for one more id. Where memory is wanting, the list stays.
+    pub fn reserve_one(&mut self) -> Result<(), AllocError>
+        ensures same { self.new.0 ≡ self.old.0 }
+        ensures grows { self.old.1 ≤ self.new.1 }
+        ensures room { OnOk result (length self.new.0 < self.new.1) }
+    {
+        self.slots.reserve(1)?;
+        self.index.reserve(1)?;
+        self.blocks
+            .reserve(blocks_wanted(self.slots.len(), self.blocks.len()))?;
+        self.marks.reserve(1)
+    }
+
+    /// Inserts a new id after another, or at the head of the list, and behind the greater ids that follow there. It is
+    /// not present yet.
+    pub fn insert_by_rule(&mut self, after: Option<Id>, id: Id)
+        requires room { length self.old.0 < self.old.1 }
+        requires known { ForSome after (Contains (ids_of self.old.0)) }
+        requires new { ¬ (Contains (ids_of self.old.0) id) }
+        ensures { self.new ≡ (insert_after entry_cmp self.old.0 (entry_of_reference after) (absent id), self.old.1) }
+    {
+        let reference = number_for(self.index.as_slice(), after);
+        let previous = last_passed(self.slots.as_slice(), self.first, reference, &id);
+        let fresh = SlotNumber(self.slots.len());
+        add_mark(&mut self.marks, previous);
+        link(&mut self.slots, &mut self.first, previous, &id);
+        add_entry(&mut self.index, &id, fresh);
+        recut_if_due(
+            self.slots.as_slice(),
+            self.first,
+            &mut self.marks,
+            &mut self.blocks,
+            &mut self.limit,
+        );
+    }
+
+    /// Says that an id is present, or that it is not. Where the list does not have it, nothing changes.
+    pub fn set_present(&mut self, id: Id, is_present: bool)
+        ensures { self.new ≡ (with_presence self.old.0 id is_present, self.old.1) }
+    {
+        match number_of(self.index.as_slice(), &id) {
+            None => {}
+            Some(n) => set_presence(
+                &mut self.marks,
+                &mut self.blocks,
+                &mut self.present,
+                n,
+                is_present,
+            ),
+        }
+    }
+
+    /// The i-th present id. It is found from block to block, and then from slot to slot.
+    pub fn nth_present(&self, i: usize) -> Option<Id>
+        ensures { result ≡ slice_get (present_of self.now.0) i }
+    {
+        nth_along(
+            self.slots.as_slice(),
+            self.first,
+            self.marks.as_slice(),
+            self.blocks.as_slice(),
+            i,
+        )
+    }
+
+    /// The entries of the list in its order, to be gone through one after another. Nothing is copied.
+    pub fn entries(&self) -> OrderEntries<'_>
+        ensures { result ≡ self.now.0 }
+    {
+        OrderEntries {
+            slots: self.slots.as_slice(),
+            marks: self.marks.as_slice(),
+            at: self.first,
+        }
+    }
+
+    /// How many ids are present.
+    pub fn count_present(&self) -> usize
+        ensures { result ≡ length (present_of self.now.0) }
+    {
+        self.present
+    }
+
+    /// The id after another, or the first of the list.
+    pub fn next(&self, after: Option<Id>) -> Option<Id>
+        requires { ForSome after (Contains (ids_of self.now.0)) }
+        ensures { result ≡ following (ids_of self.now.0) after }
+    {
+        let reference = number_for(self.index.as_slice(), after);
+        match behind(self.slots.as_slice(), self.first, reference) {
+            None => None,
+            Some(n) => Some(slot_at(self.slots.as_slice(), n).id),
+        }
+    }
+
+    /// Whether an id is in the list, deleted or not. It is found by bisection.
+    pub fn contains(&self, id: Id) -> bool
+        ensures { result ≡ list_any (λ e. id_eq e.0 id) self.now.0 }
+    {
+        number_of(self.index.as_slice(), &id).is_some()
+    }
+
+    /// The ids of the list in its order. The error is want of memory.
+    pub fn ids(&self, alloc: Global) -> Result<Vec<Id>, AllocError>
+        ensures { IfOk result (λ ids. ids.items ≡ ids_of self.now.0) }
+    {
+        ids_from(alloc, self.slots.as_slice(), self.first)
+    }
+}
+
+/// What is left of a list that is gone through. Clauses see the entries that are left.
+pub struct OrderEntries<'a> {
+    slots: &'a [Slot],
+    marks: &'a [Mark],
+    at: Option<SlotNumber>,
+}
+
+impl<'a> Model for OrderEntries<'a> {
+    ghost use Rattle.std.specs.Prelude.{◌≡◌, List, Bool, length};
+    ghost use Rattle.lamport_id.specs.declared.id.Id.{Id};
+    ghost use Rattle.list_order.specs.Slots.{slots_from, LinksEnd};
+    ghost use Rattle.list_order.specs.Marks.{entries_along, IsThere};
+
+    ghost Value = { List (Id × Bool) };
+
+    ghost view = { λ e. entries_along e.slots.now e.marks.now (slots_from e.slots.now e.at) };
+
+    ghost invariant = { λ e. IsThere e.slots.now e.marks.now e.at };
+}
+
+impl<'a> OrderEntries<'a> {
+    /// No entry.
+    pub fn none() -> OrderEntries<'a>
+        ensures { result ≡ [] }
+    {
+        OrderEntries {
+            slots: &[],
+            marks: &[],
+            at: None,
+        }
+    }
+
+    /// The next entry, which is then no longer among those that are left. It is `None` only where none is left.
+    pub fn next_entry(&mut self) -> Option<(Id, bool)>
+        ensures taken { self.old ≡ option_to_list result ++ self.new }
+        ensures ended { result ≡ None → self.old ≡ [] }
+    {
+        match self.at {
+            None => None,
+            Some(n) => {
+                let slot = slot_at(self.slots, n);
+                let is_present = mark_at(self.marks, n).is_present;
+                self.at = slot.next;
+                Some((slot.id, is_present))
+            }
+        }
+    }
+}

@@ -1,0 +1,39 @@
+use Rattle.std.proofs.Common.{◌≡◌, ◌++◌, ◌∙◌, sym, ap, subst, map, filter, not}
+use Rattle.doc_words.specs.Words.{id_cmp}
+use Rattle.op_core.specs.Front.{covers}
+use Rattle.sorted_lists.proofs.Rising.{rising-filter}
+use Rattle.presence_set.specs.ById.{uncovered, IsAscending}
+use Rattle.presence_set.specs.Blocks.{pairs_in, has_pair, AreNonEmpty, HasSpareRoom, AllHaveRoom}
+use Rattle.presence_set.proofs.BlockLaws.{uncovered-append, pairs_in-cleared, filled-filled, room-cleared, rooms-cleared}
+use Rattle.presence_set.proofs.blocks.InBlocks.retain_uncovered.Goals as goal
+
+pub invariant_of-self : goal.invariant_of-self
+invariant_of-self g c =
+    let front = c.args.front.now in
+    let first = c.self.inside.first in
+    let rest = c.self.inside.rest.items in
+    let blocks : c.drop_empty.new.blocks.items ≡ filter (λ b. has_pair b.0) (map (λ b. (uncovered front b.0, b.1)) rest) =
+    c.drop_empty.ensures ∙ ap (λ l. filter (λ b. has_pair b.0) l) c.retain_each.ensures in
+    let all : c.retain_uncovered.new.self.0 ++ pairs_in c.drop_empty.new.blocks.items ≡ uncovered front (first.0 ++ pairs_in rest) =
+    ap (λ z. z.0 ++ pairs_in c.drop_empty.new.blocks.items) c.retain_uncovered.ensures ∙ ap (λ l. uncovered front first.0 ++ pairs_in l) blocks
+    ∙ ap (λ l. uncovered front first.0 ++ l) (pairs_in-cleared front rest) ∙ sym (uncovered-append front first.0 (pairs_in rest)) in
+    record {
+      rising = subst IsAscending (sym all) (rising-filter id_cmp (λ e. e.0) (λ e. not (covers front e.0)) (first.0 ++ pairs_in rest) c.self.invariant.rising);
+      filled = subst AreNonEmpty (sym blocks) (filled-filled (map (λ b. (uncovered front b.0, b.1)) rest));
+      room = λ e. (
+        subst HasSpareRoom (sym c.retain_uncovered.ensures) (room-cleared front first (c.self.invariant.room e).0),
+        subst AllHaveRoom (sym blocks) (rooms-cleared front rest (c.self.invariant.room e).1),
+      );
+    }
+
+pub returns : goal.returns
+returns g c =
+    let front = c.args.front.now in
+    let first = c.self.inside.first in
+    let rest = c.self.inside.rest.items in
+    let blocks : c.drop_empty.new.blocks.items ≡ filter (λ b. has_pair b.0) (map (λ b. (uncovered front b.0, b.1)) rest) =
+    c.drop_empty.ensures ∙ ap (λ l. filter (λ b. has_pair b.0) l) c.retain_each.ensures in
+    let all : c.retain_uncovered.new.self.0 ++ pairs_in c.drop_empty.new.blocks.items ≡ uncovered front (first.0 ++ pairs_in rest) =
+    ap (λ z. z.0 ++ pairs_in c.drop_empty.new.blocks.items) c.retain_uncovered.ensures ∙ ap (λ l. uncovered front first.0 ++ pairs_in l) blocks
+    ∙ ap (λ l. uncovered front first.0 ++ l) (pairs_in-cleared front rest) ∙ sym (uncovered-append front first.0 (pairs_in rest)) in
+    rw (← c.self.view_is) (λ i. (all i, c.self.inside.has_room))

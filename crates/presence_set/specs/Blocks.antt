@@ -1,0 +1,44 @@
+-- What stands at ids, in blocks: the pairs of a block, and how many it has room for.
+use Rattle.std.specs.Prelude.{◌≡◌, ◌<◌, ℕ, List, [], ◌∷◌, ◌++◌, length, Bool, true, false, not}
+use Rattle.std.specs.List.{flat_map, prefix_len}
+use Rattle.std.specs.Ordering.{is_lt}
+use Rattle.doc_words.specs.Words.{Id, id_cmp}
+use Rattle.presence_set.specs.ById.{IsAscending}
+
+module _ {X : Type 0} where
+  -- the pairs of all blocks, one block after another
+  abbrev pub pairs_in : List (List (Id × X) × ℕ) → List (Id × X)
+  pairs_in blocks = flat_map (λ b. b.0) blocks
+
+  -- there is a pair
+  abbrev pub has_pair : List (Id × X) → Bool
+  has_pair [] = false
+  has_pair (e ∷ entries) = true
+
+  -- no block is empty
+  abbrev pub AreNonEmpty : List (List (Id × X) × ℕ) → Type 0
+  AreNonEmpty [] = Unit {0}
+  AreNonEmpty (b ∷ blocks) = (has_pair b.0 ≡ true) × AreNonEmpty blocks
+
+  -- a block has room for one more
+  abbrev pub HasSpareRoom : List (Id × X) × ℕ → Type 0
+  HasSpareRoom b = length b.0 < b.1
+
+  abbrev pub AllHaveRoom : List (List (Id × X) × ℕ) → Type 0
+  AllHaveRoom [] = Unit {0}
+  AllHaveRoom (b ∷ blocks) = HasSpareRoom b × AllHaveRoom blocks
+
+  -- the first id isn't greater
+  abbrev pub starts_by : Id → List (Id × X) → Bool
+  starts_by id [] = true
+  starts_by id (e ∷ entries) = not (is_lt (id_cmp id e.0))
+
+  -- how many blocks, at the front, start with an id that isn't greater
+  abbrev pub blocks_by : Id → List (List (Id × X) × ℕ) → ℕ
+  blocks_by id blocks = prefix_len (λ b. starts_by id b.0) blocks
+
+  -- the ids rise in the first block and from there on, no other block is empty, and each has room where that is said
+  pub record IsInBlocks (first : List (Id × X) × ℕ) (rest : List (List (Id × X) × ℕ)) (has_room : Bool) : Type 0 where
+    pub rising : IsAscending (first.0 ++ pairs_in rest)
+    pub filled : AreNonEmpty rest
+    pub room : has_room ≡ true → HasSpareRoom first × AllHaveRoom rest

@@ -1,0 +1,381 @@
+//! What stands at the ids of operations where there may be many of them: in blocks, so that one more moves few others.
+ghost use Rattle.std.specs.Prelude.{◌≡◌, ◌+◌, ◌<◌, ◌≤◌, ◌↔◌, ◌∷◌, ◌++◌, ℕ, [], true, false, length, map, filter, take, drop, not, insert, IsTrue, IfSome, OnOk, OnErr, slice_index_or, slice_set};
+ghost use Rattle.lamport_id.specs.declared.id.Id.{Id};
+ghost use Rattle.presence_set.specs.ById.{put_at_id, uncovered, IsAscending};
+ghost use Rattle.presence_set.specs.Blocks.{pairs_in, has_pair, starts_by, blocks_by, AreNonEmpty, HasSpareRoom, AllHaveRoom};
+ghost use Rattle.presence_set.specs.Blocks as Spec;
+
+use crate::ById;
+use lamport_id::Id;
+use op_core::Front;
+use std::alloc::{AllocError, Global};
+use std::marker::Model;
+
+// How many ids a block takes: so many that there are few blocks, and so few that one more moves little.
+const FULL: usize = 256;
+
+/// At most one value for each id, in id order: in blocks, of which the first may be empty. Clauses see a pair: the ids with
+/// their values, and whether there is room for one more.
+pub struct InBlocks<X> {
+    first: ById<X>,
+    rest: Vec<ById<X>>,
+    has_room: bool,
+}
+
+impl<X> Model for InBlocks<X> {
+    ghost use Rattle.std.specs.Prelude.{List, Bool, ◌++◌};
+    ghost use Rattle.lamport_id.specs.declared.id.Id.{Id};
+    ghost use Rattle.presence_set.specs.Blocks.{pairs_in, IsInBlocks};
+
+    ghost Value = { List (Id × X) × Bool };
+
+    ghost view = { λ p. (p.first.0 ++ pairs_in p.rest.items, p.has_room) };
+
+    ghost invariant = { λ p. IsInBlocks p.first p.rest.items p.has_room };
+}
+
+impl<X: Drop> Drop for InBlocks<X> {
+    fn drop(self) {
+        let InBlocks {
+            first: _,
+            rest: _,
+            has_room: _,
+        } = self;
+    }
+}
+
+impl<X: Drop> InBlocks<X> {
+    /// No id. It takes no memory yet.
+    pub fn new(alloc: Global) -> InBlocks<X>
+        ensures { result.0 ≡ [] }
+    {
+        InBlocks {
+            first: ById::new(alloc),
+            rest: Vec::new(alloc),
+            has_room: false,
+        }
+    }
+
+    /// Makes room for one more id. Where memory is wanting, what stands there stays.
+    pub fn reserve_one(&mut self) -> Result<(), AllocError>
+        ensures same { self.new.0 ≡ self.old.0 }
+        ensures grows { self.old.1 ≡ true → self.new.1 ≡ true }
+        ensures room { OnOk result (self.new.1 ≡ true) }
+    {
+        if !self.has_room {
+            make_room(&mut self.first, &mut self.rest)?;
+            self.has_room = true;
+        }
+        Ok(())
+    }
+
+    /// Gives the id this value, in place of any other. The room for one more is taken by it.
+    pub fn put(&mut self, id: Id, value: X)
+        requires { self.old.1 ≡ true }
+        ensures { self.new ≡ (put_at_id self.old.0 id value, false) }
+    {
+        self.has_room = false;
+        put_into(&mut self.first, &mut self.rest, id, value);
+    }
+
+    /// Drops the ids that the front covers.
+    pub fn retain_uncovered(&mut self, front: &Front)
+        ensures { self.new ≡ (uncovered front.now self.old.0, self.old.1) }
+    {
+        self.first.retain_uncovered(front);
+        retain_each(&mut self.rest, front);
+        drop_empty(&mut self.rest);
+    }
+
+    /// Whether there is no id.
+    pub fn is_empty(&self) -> bool
+        ensures { IsTrue result ↔ (self.now.0 ≡ []) }
+    {
+        self.first.is_empty() && self.rest.is_empty()
+    }
+
+    /// The ids with their values, in id order.
+    pub fn entries(&self) -> Entries<'_, X>
+        ensures value { result ≡ self.now.0 }
+        ensures ascending { IsAscending result }
+    {
+        Entries {
+            entries: self.first.entries(),
+            blocks: self.rest.as_slice(),
+        }
+    }
+}
+
+/// Ids with their values, one after another in id order, seen as the list of those that are left.
+#[derive(Drop)]
+pub struct Entries<'a, X> {
+    entries: &'a [(Id, X)],
+    blocks: &'a [ById<X>],
+}
+
+impl<'a, X> Model for Entries<'a, X> {
+    ghost use Rattle.std.specs.Prelude.{List, ◌++◌};
+    ghost use Rattle.lamport_id.specs.declared.id.Id.{Id};
+    ghost use Rattle.presence_set.specs.Blocks.{pairs_in, AreNonEmpty};
+
+    ghost Value = { List (Id × X) };
+
+    ghost view = { λ e. e.entries.now ++ pairs_in e.blocks.now };
+
+    ghost invariant = { λ e. AreNonEmpty e.blocks.now };
+}
+
+impl<'a, X> Entries<'a, X> {
+    /// No id.
+    pub fn none() -> Entries<'a, X>
+        ensures { result ≡ [] }
+    {
+        Entries {
+            entries: &[],
+            blocks: &[],
+        }
+    }
+}
+
+impl<'a, X: Drop> Entries<'a, X> {
+    /// Whether none is left.
+    pub fn is_empty(&self) -> bool
+        ensures { IsTrue result ↔ (self.now ≡ []) }
+    {
+        self.entries.is_empty() && self.blocks.is_empty()
+    }
+}
+
+impl<'a, X: Drop> Iterator for Entries<'a, X> {
+    ghost use Rattle.std.specs.Iterator.{YieldsFirstRef, item_count};
+
+    type Item = &'a (Id, X);
+
+    ghost next_gives = { YieldsFirstRef (λ rest. rest) };
+
+    ghost remaining = { item_count (λ rest. rest) };
+
+    fn next(&mut self) -> Option<&'a (Id, X)> {
+        if let Some((first, rest)) = self.entries.split_first() {
+            self.entries = rest;
+            return Some(first);
+        }
+        let (block, later) = self.blocks.split_first()?;
+        let (first, rest) = block.entries().split_first()?;
+        self.entries = rest;
+        self.blocks = later;
+        Some(first)
+    }
+}
+
+/// How many blocks, at the front, start with an id that isn't greater: found by bisection.
+fn blocks_by<X: Drop>(blocks: &[ById<X>], id: &Id) -> usize
+    requires filled { AreNonEmpty blocks.now }
+    requires rising { IsAscending (pairs_in blocks.now) }
+    ensures value { result ≡ Spec.blocks_by id.now blocks.now }
+    ensures within { result ≤ length blocks.now }
+{
+    blocks.partition_point(
+        |block: &ById<X>| -> bool
+            ensures { result ≡ starts_by id.entry.now block.now.0 }
+        { starts_by(block.entries(), id) },
+    )
+}
+
+/// Whether the first id isn't greater.
+fn starts_by<X>(entries: &[(Id, X)], id: &Id) -> bool
+    ensures { result ≡ starts_by id.now entries.now }
+{
+    match entries.split_first() {
+        None => true,
+        Some((entry, _)) => !(*id < entry.0),
+    }
+}
+
+/// Puts a value into the block where its id belongs.
+fn put_into<X: Drop>(first: &mut ById<X>, rest: &mut Vec<ById<X>>, id: Id, value: X)
+    requires rising { IsAscending (first.old.0 ++ pairs_in rest.old.items) }
+    requires filled { AreNonEmpty rest.old.items }
+    requires first { HasSpareRoom first.old }
+    requires rest { AllHaveRoom rest.old.items }
+    ensures same { first.new.0 ++ pairs_in rest.new.items ≡ put_at_id (first.old.0 ++ pairs_in rest.old.items) id value }
+    ensures filled { AreNonEmpty rest.new.items }
+{
+    match blocks_by(rest.as_slice(), &id).checked_sub(1) {
+        None => first.put(id, value),
+        Some(at) => {
+            let block = &mut rest[at];
+            block.put(id, value);
+        }
+    }
+}
+
+/// Drops the ids that the front covers from each block.
+fn retain_each<X: Drop>(blocks: &mut Vec<ById<X>>, front: &Front)
+    ensures { blocks.new.items ≡ map (λ b. (uncovered front.now b.0, b.1)) blocks.old.items }
+{
+    for at in 0..blocks.len() {
+        let block = &mut blocks[at];
+        block.retain_uncovered(front);
+    }
+}
+
+/// Drops the blocks that are empty.
+fn drop_empty<X: Drop>(blocks: &mut Vec<ById<X>>)
+    ensures { blocks.new.items ≡ filter (λ b. has_pair b.0) blocks.old.items }
+{
+    blocks.retain(
+        |block: &ById<X>| -> bool
+            ensures { result ≡ has_pair block.now.0 }
+        { has_pair(block) },
+    );
+}
+
+/// Whether a block isn't empty.
+fn has_pair<X: Drop>(block: &ById<X>) -> bool
+    ensures { result ≡ has_pair block.now.0 }
+{
+    block.entries().split_first().is_some()
+}
+
+/// Makes room for one more id in each block.
+fn make_room<X: Drop>(first: &mut ById<X>, rest: &mut Vec<ById<X>>) -> Result<(), AllocError>
+    requires { AreNonEmpty rest.old.items }
+    ensures same { first.new.0 ++ pairs_in rest.new.items ≡ first.old.0 ++ pairs_in rest.old.items }
+    ensures filled { AreNonEmpty rest.new.items }
+    ensures room { OnOk result (HasSpareRoom first.new × AllHaveRoom rest.new.items) }
+{
+    make_room_in_first(first, rest)?;
+    make_room_in_rest(rest)
+}
+
+/// Makes room for one more id in the first block: it grows, or is cut in two.
+fn make_room_in_first<X: Drop>(
+    first: &mut ById<X>,
+    rest: &mut Vec<ById<X>>,
+) -> Result<(), AllocError>
+    requires { AreNonEmpty rest.old.items }
+    ensures same { first.new.0 ++ pairs_in rest.new.items ≡ first.old.0 ++ pairs_in rest.old.items }
+    ensures filled { AreNonEmpty rest.new.items }
+    ensures room { OnOk result (HasSpareRoom first.new) }
+{
+    if first.has_room() {
+        return Ok(());
+    }
+    match cut_place(first.len(), rest.is_empty()) {
+        None => first.reserve_one(),
+        Some(place) => cut_first(first, rest, place),
+    }
+}
+
+/// Where a block that is full is cut: in its midst, or, where ids come behind all others, before its last.
+fn cut_place(len: usize, is_last: bool) -> Option<usize>
+    ensures { IfSome result (λ place. (0 < place) × (place < len)) }
+{
+    if len < FULL {
+        return None;
+    }
+    if is_last {
+        Some(len - 1)
+    } else {
+        Some(len / 2)
+    }
+}
+
+/// Cuts the first block in two.
+fn cut_first<X: Drop>(
+    first: &mut ById<X>,
+    rest: &mut Vec<ById<X>>,
+    place: usize,
+) -> Result<(), AllocError>
+    requires filled { AreNonEmpty rest.old.items }
+    requires full { first.old.1 ≤ length first.old.0 }
+    requires inside { place < length first.old.0 }
+    ensures same { first.new.0 ++ pairs_in rest.new.items ≡ first.old.0 ++ pairs_in rest.old.items }
+    ensures filled { AreNonEmpty rest.new.items }
+    ensures room { OnOk result (HasSpareRoom first.new) }
+{
+    rest.reserve(1)?;
+    let high = first.split_off(place)?;
+    match rest.insert(0, high) {
+        Ok(()) => Ok(()),
+        Err(_) => unreachable!(),
+    }
+}
+
+/// Makes room for one more id in each of the other blocks, from the last on.
+fn make_room_in_rest<X: Drop>(rest: &mut Vec<ById<X>>) -> Result<(), AllocError>
+    requires { AreNonEmpty rest.old.items }
+    ensures same { pairs_in rest.new.items ≡ pairs_in rest.old.items }
+    ensures filled { AreNonEmpty rest.new.items }
+    ensures room { OnOk result (AllHaveRoom rest.new.items) }
+{
+    let mut at = rest.len();
+    while at > 0 {
+        at -= 1;
+        make_room_at(rest, at)?;
+    }
+    Ok(())
+}
+
+/// Makes room for one more id in a block: it grows, or is cut in two.
+fn make_room_at<X: Drop>(rest: &mut Vec<ById<X>>, at: usize) -> Result<(), AllocError>
+    requires known { at < length rest.old.items }
+    requires filled { AreNonEmpty rest.old.items }
+    requires later { AllHaveRoom (drop (at + 1) rest.old.items) }
+    ensures same { pairs_in rest.new.items ≡ pairs_in rest.old.items }
+    ensures filled { AreNonEmpty rest.new.items }
+    ensures longer { length rest.old.items ≤ length rest.new.items }
+    ensures room { OnOk result (AllHaveRoom (drop at rest.new.items)) }
+{
+    if rest[at].has_room() {
+        return Ok(());
+    }
+    match cut_place(rest[at].len(), at + 1 == rest.len()) {
+        None => grow_at(rest, at),
+        Some(place) => cut_at(rest, at, place),
+    }
+}
+
+/// Makes a block grow.
+fn grow_at<X: Drop>(rest: &mut Vec<ById<X>>, at: usize) -> Result<(), AllocError>
+    requires { at < length rest.old.items }
+    ensures same { (n : ℕ) × (rest.new.items ≡ slice_set rest.old.items at ((slice_index_or rest.old.items at ([], 0)).0, n)) }
+    ensures room { OnOk result (HasSpareRoom (slice_index_or rest.new.items at ([], 0))) }
+{
+    let block = &mut rest[at];
+    block.reserve_one()
+}
+
+/// Cuts a block in two, each with room for one more id.
+fn cut_at<X: Drop>(rest: &mut Vec<ById<X>>, at: usize, place: usize) -> Result<(), AllocError>
+    requires known { at < length rest.old.items }
+    requires filled { AreNonEmpty rest.old.items }
+    requires later { AllHaveRoom (drop (at + 1) rest.old.items) }
+    requires some { 0 < place }
+    requires inside { place < length (slice_index_or rest.old.items at ([], 0)).0 }
+    ensures same { pairs_in rest.new.items ≡ pairs_in rest.old.items }
+    ensures filled { AreNonEmpty rest.new.items }
+    ensures longer { length rest.old.items ≤ length rest.new.items }
+    ensures room { OnOk result (AllHaveRoom (drop at rest.new.items)) }
+{
+    split_at(rest, at, place)?;
+    grow_at(rest, at + 1)
+}
+
+/// Cuts a block in two.
+fn split_at<X: Drop>(rest: &mut Vec<ById<X>>, at: usize, place: usize) -> Result<(), AllocError>
+    requires known { at < length rest.old.items }
+    requires inside { place < length (slice_index_or rest.old.items at ([], 0)).0 }
+    ensures ok { OnOk result ((n : ℕ) × (place < n) × (m : ℕ) × (rest.new.items
+        ≡ insert (slice_set rest.old.items at (take place (slice_index_or rest.old.items at ([], 0)).0, n)) (at + 1) (drop place (slice_index_or rest.old.items at ([], 0)).0, m))) }
+    ensures err { OnErr result (rest.new.items ≡ rest.old.items) }
+{
+    rest.reserve(1)?;
+    let block = &mut rest[at];
+    let high = block.split_off(place)?;
+    match rest.insert(at + 1, high) {
+        Ok(()) => Ok(()),
+        Err(_) => unreachable!(),
+    }
+}

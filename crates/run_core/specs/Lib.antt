@@ -1,0 +1,3 @@
+pub mod Names
+pub mod Served
+pub mod HasTold

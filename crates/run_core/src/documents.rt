@@ -1,0 +1,98 @@
+//! The documents of a run, each with a ledger of one seat.
+ghost use Rattle.std.specs.Prelude.{◌≡◌, ◌-◌};
+ghost use Rattle.run_core.specs.HasTold.{HasTold};
+ghost use Rattle.doc_ledger.specs.Numbers.{greatest_number};
+
+use crate::run::Maker;
+use doc_ledger::Ledger;
+use doc_words::{Command, Query, Reply};
+use json_scalar::Refusal;
+use lamport_id::ReplicaName;
+use locked_doc::{Answer, Gathering, LockedDoc, Seat, SeatEnd, Totals};
+use session_core::Document;
+use share_ledger::Marker;
+use std::alloc::Global;
+
+/// A document with a ledger of one seat, as a session reaches it.
+#[derive(Drop)]
+pub struct Seated<M: Marker> {
+    locked: LockedDoc<M>,
+    ghost one_seat: { locked.document.seats ≡ 1 },
+}
+
+impl<M: Marker> Document for Seated<M> {
+    type Seat = Seat<M>;
+
+    type Answer = Answer<M>;
+
+    type End = SeatEnd<M>;
+
+    ghost document = { λ d. d.locked.document };
+
+    ghost seat_view = { λ s. s };
+
+    ghost answer_view = { λ a. a };
+
+    ghost has_seat = { λ d s. HasTold d.locked.number d.locked.document s };
+
+    ghost seat_of = { λ e. e };
+
+    fn number_of(seat: &Seat<M>) -> u64 {
+        seat.seat() as u64
+    }
+
+    fn into_reply(answer: Answer<M>) -> Reply {
+        answer.into_reply()
+    }
+
+    fn end(seat: Seat<M>) -> SeatEnd<M> {
+        seat.end()
+    }
+
+    fn open_seat(&mut self) -> Result<Seat<M>, Refusal> {
+        self.locked.keeps_sound();
+        self.locked.open_seat()
+    }
+
+    fn act(&mut self, seat: &mut Seat<M>, command: Command) -> Answer<M> {
+        self.locked.keeps_sound();
+        self.locked.act(seat, command)
+    }
+
+    fn read(&self, seat: &mut Seat<M>, query: Query) -> Answer<M> {
+        self.locked.read(seat, query)
+    }
+}
+
+impl<M: Marker> Seated<M> {
+    ghost use Rattle.std.specs.Prelude.{◌≡◌, ◌∷◌, [], IfErr, IfOk};
+    ghost use Rattle.doc_rules.specs.Seats as seats;
+    ghost use Rattle.doc_rules.specs.Seats.{AreEndsOf, totals_of};
+    ghost use Rattle.locked_doc.specs.Sums.{totals_told};
+    ghost use Rattle.run_core.specs.HasTold.{HasTold};
+
+    /// Adds up what was done at the document, given the end of its seat, if that was opened. The end that a session gave back
+    /// was told just what is logged for it, so it is refused for want of memory alone, and so is no end where no seat was
+    /// opened. Each refusal hands everything back.
+    pub fn gather(self, alloc: Global, ends: Vec<SeatEnd<M>>) -> Result<Totals, Gathering<M>>
+        ensures ok { IfOk result (λ t. AreEndsOf self.locked.number self.locked.document ends.items × (totals_told t ≡ totals_of self.locked.document ends.items)) }
+        ensures err { IfErr result (λ g. (g.doc ≡ self.locked) × (g.ends.items ≡ ends.items)) }
+        ensures given_back { IfErr result (λ g. (end : seats.Seat) → ends.items ≡ end ∷ [] → HasTold self.locked.number self.locked.document end
+            → g.refusal ≡ Refusal.NoMemory) }
+        ensures unopened { IfErr result (λ g. self.locked.document.opened ≡ 0 → ends.items ≡ [] → g.refusal ≡ Refusal.NoMemory) }
+    {
+        self.locked.keeps_sound();
+        self.locked.gather(alloc, ends)
+    }
+}
+
+impl<M: Marker> Maker for Ledger<M> {
+    type Made = Seated<M>;
+
+    ghost room = { λ l. greatest_number - l };
+
+    fn make(&mut self, alloc: Global, name: &ReplicaName) -> Result<Seated<M>, Refusal> {
+        let locked = self.locked(alloc, name, 1)?;
+        Ok(Seated { locked })
+    }
+}

@@ -1,0 +1,1281 @@
+//! The worked rows, each a session over one document.
+use super::{each_row, row, row_of};
+use std::test::Fail;
+
+#[test]
+fn buffer_release(rt: HostRuntime) -> Result<(), Fail> {
+    row(
+        &rt,
+        rt.alloc(),
+        br#"["open","d"]
+["deliver","d",["op",[3,"p"],[["p",2]],[[["m",0]],"k"],["assign",3]]]
+["deliver","d",["op",[2,"p"],[["p",1]],[[["m",0]],"k"],["assign",2]]]
+["held","d"]
+["deliver","d",["op",[1,"p"],[],[[["m",0]],"k"],["assign",1]]]
+["account","d"]
+["values","d",[0,"k"]]
+"#,
+        br#"["opened",1]
+["held",[[2,"p"]]]
+["held",[[1,"p"]]]
+["waiting",[[[2,"p"],[[1,"p"]]],[[3,"p"],[[2,"p"]]]]]
+["applied",3,0,[1,"p"]]
+["account",3]
+["values",[3]]
+"#,
+    )
+}
+
+#[test]
+fn colors_reassigned(rt: HostRuntime) -> Result<(), Fail> {
+    each_row(
+        &rt,
+        rt.alloc(),
+        &[
+            (
+                br##"["open","d"]
+["deliver","d",["op",[1,"p"],[],[[["m",0]],"colors"],["assign",{}]]]
+["deliver","d",["op",[2,"p"],[["p",1]],[[["m",0],["m","colors"]],"blue"],["assign","#0000ff"]]]
+["deliver","d",["op",[3,"p"],[["p",2]],[[["m",0],["m","colors"]],"red"],["assign","#ff0000"]]]
+["deliver","d",["op",[3,"q"],[["p",2]],[[["m",0]],"colors"],["assign",{}]]]
+["deliver","d",["op",[4,"q"],[["p",2],["q",3]],[[["m",0],["m","colors"]],"green"],["assign","#00ff00"]]]
+["keys","d",[0,"colors"]]
+["show","d",[0,"colors"]]
+"##,
+                br##"["opened",1]
+["applied",1,0,[1,"p"]]
+["applied",1,0,[2,"p"]]
+["applied",1,0,[3,"p"]]
+["applied",1,0,[3,"q"]]
+["applied",1,0,[4,"q"]]
+["keys",["green","red"]]
+["show",[["map",[["green",[["val",[4,"q"],"#00ff00"]]],["red",[["val",[3,"p"],"#ff0000"]]]]]]]
+"##,
+            ),
+            (
+                br##"["open","d"]
+["deliver","d",["op",[1,"p"],[],[[["m",0]],"colors"],["assign",{}]]]
+["deliver","d",["op",[2,"p"],[["p",1]],[[["m",0],["m","colors"]],"blue"],["assign","#0000ff"]]]
+["deliver","d",["op",[3,"q"],[["p",2]],[[["m",0]],"colors"],["assign",{}]]]
+["deliver","d",["op",[3,"p"],[["p",2]],[[["m",0],["m","colors"]],"red"],["assign","#ff0000"]]]
+["deliver","d",["op",[4,"q"],[["p",2],["q",3]],[[["m",0],["m","colors"]],"green"],["assign","#00ff00"]]]
+["keys","d",[0,"colors"]]
+["show","d",[0,"colors"]]
+"##,
+                br##"["opened",1]
+["applied",1,0,[1,"p"]]
+["applied",1,0,[2,"p"]]
+["applied",1,0,[3,"q"]]
+["applied",1,0,[3,"p"]]
+["applied",1,0,[4,"q"]]
+["keys",["green","red"]]
+["show",[["map",[["green",[["val",[4,"q"],"#00ff00"]]],["red",[["val",[3,"p"],"#ff0000"]]]]]]]
+"##,
+            ),
+            (
+                br##"["open","d"]
+["deliver","d",["op",[1,"p"],[],[[["m",0]],"colors"],["assign",{}]]]
+["deliver","d",["op",[2,"p"],[["p",1]],[[["m",0],["m","colors"]],"blue"],["assign","#0000ff"]]]
+["deliver","d",["op",[3,"q"],[["p",2]],[[["m",0]],"colors"],["assign",{}]]]
+["deliver","d",["op",[4,"q"],[["p",2],["q",3]],[[["m",0],["m","colors"]],"green"],["assign","#00ff00"]]]
+["deliver","d",["op",[3,"p"],[["p",2]],[[["m",0],["m","colors"]],"red"],["assign","#ff0000"]]]
+["keys","d",[0,"colors"]]
+["show","d",[0,"colors"]]
+"##,
+                br##"["opened",1]
+["applied",1,0,[1,"p"]]
+["applied",1,0,[2,"p"]]
+["applied",1,0,[3,"q"]]
+["applied",1,0,[4,"q"]]
+["applied",1,0,[3,"p"]]
+["keys",["green","red"]]
+["show",[["map",[["green",[["val",[4,"q"],"#00ff00"]]],["red",[["val",[3,"p"],"#ff0000"]]]]]]]
+"##,
+            ),
+        ],
+    )
+}
+
+#[test]
+fn concurrent_deletes(rt: HostRuntime) -> Result<(), Fail> {
+    each_row(
+        &rt,
+        rt.alloc(),
+        &[
+            (
+                br#"["open","d"]
+["deliver","d",["op",[1,"p"],[],[[["m",0],["m","a"]],"b"],["assign","v"]]]
+["deliver","d",["op",[2,"p"],[["p",1]],[[["m",0],["m","a"]],"b"],["delete"]]]
+["deliver","d",["op",[2,"q"],[["p",1]],[[["m",0]],"a"],["delete"]]]
+["keys","d",[0]]
+["show","d",[0]]
+"#,
+                br#"["opened",1]
+["applied",1,0,[1,"p"]]
+["applied",1,0,[2,"p"]]
+["applied",1,0,[2,"q"]]
+["keys",[]]
+["show",[]]
+"#,
+            ),
+            (
+                br#"["open","d"]
+["deliver","d",["op",[1,"p"],[],[[["m",0],["m","a"]],"b"],["assign","v"]]]
+["deliver","d",["op",[2,"q"],[["p",1]],[[["m",0]],"a"],["delete"]]]
+["deliver","d",["op",[2,"p"],[["p",1]],[[["m",0],["m","a"]],"b"],["delete"]]]
+["keys","d",[0]]
+["show","d",[0]]
+"#,
+                br#"["opened",1]
+["applied",1,0,[1,"p"]]
+["applied",1,0,[2,"q"]]
+["applied",1,0,[2,"p"]]
+["keys",[]]
+["show",[]]
+"#,
+            ),
+        ],
+    )
+}
+
+#[test]
+fn concurrent_list_edits(rt: HostRuntime) -> Result<(), Fail> {
+    each_row(
+        &rt,
+        rt.alloc(),
+        &[
+            (
+                br#"["open","d"]
+["deliver","d",["op",[1,"o"],[],[[],0],["assign",{}]]]
+["deliver","d",["op",[2,"o"],[["o",1]],[[["m",0]],"l"],["assign",[]]]]
+["deliver","d",["op",[3,"o"],[["o",2]],[[["m",0],["l","l"]],1],["insert","a"]]]
+["deliver","d",["op",[4,"o"],[["o",3]],[[["m",0],["l","l"]],[3,"o"]],["insert","b"]]]
+["deliver","d",["op",[5,"o"],[["o",4]],[[["m",0],["l","l"]],[4,"o"]],["insert","c"]]]
+["deliver","d",["op",[6,"p"],[["o",5]],[[["m",0],["l","l"]],[4,"o"]],["delete"]]]
+["deliver","d",["op",[7,"p"],[["o",5],["p",6]],[[["m",0],["l","l"]],[3,"o"]],["insert","x"]]]
+["deliver","d",["op",[6,"q"],[["o",5]],[[["m",0],["l","l"]],[3,"o"]],["insert","y"]]]
+["deliver","d",["op",[7,"q"],[["o",5],["q",6]],[[["m",0],["l","l"]],[5,"o"]],["insert","z"]]]
+["items","d",[0,"l"]]
+"#,
+                br#"["opened",1]
+["applied",1,0,[1,"o"]]
+["applied",1,0,[2,"o"]]
+["applied",1,0,[3,"o"]]
+["applied",1,0,[4,"o"]]
+["applied",1,0,[5,"o"]]
+["applied",1,0,[6,"p"]]
+["applied",1,0,[7,"p"]]
+["applied",1,0,[6,"q"]]
+["applied",1,0,[7,"q"]]
+["items",[[[3,"o"],["a"]],[[7,"p"],["x"]],[[6,"q"],["y"]],[[5,"o"],["c"]],[[7,"q"],["z"]]]]
+"#,
+            ),
+            (
+                br#"["open","d"]
+["deliver","d",["op",[1,"o"],[],[[],0],["assign",{}]]]
+["deliver","d",["op",[2,"o"],[["o",1]],[[["m",0]],"l"],["assign",[]]]]
+["deliver","d",["op",[3,"o"],[["o",2]],[[["m",0],["l","l"]],1],["insert","a"]]]
+["deliver","d",["op",[4,"o"],[["o",3]],[[["m",0],["l","l"]],[3,"o"]],["insert","b"]]]
+["deliver","d",["op",[5,"o"],[["o",4]],[[["m",0],["l","l"]],[4,"o"]],["insert","c"]]]
+["deliver","d",["op",[6,"p"],[["o",5]],[[["m",0],["l","l"]],[4,"o"]],["delete"]]]
+["deliver","d",["op",[6,"q"],[["o",5]],[[["m",0],["l","l"]],[3,"o"]],["insert","y"]]]
+["deliver","d",["op",[7,"p"],[["o",5],["p",6]],[[["m",0],["l","l"]],[3,"o"]],["insert","x"]]]
+["deliver","d",["op",[7,"q"],[["o",5],["q",6]],[[["m",0],["l","l"]],[5,"o"]],["insert","z"]]]
+["items","d",[0,"l"]]
+"#,
+                br#"["opened",1]
+["applied",1,0,[1,"o"]]
+["applied",1,0,[2,"o"]]
+["applied",1,0,[3,"o"]]
+["applied",1,0,[4,"o"]]
+["applied",1,0,[5,"o"]]
+["applied",1,0,[6,"p"]]
+["applied",1,0,[6,"q"]]
+["applied",1,0,[7,"p"]]
+["applied",1,0,[7,"q"]]
+["items",[[[3,"o"],["a"]],[[7,"p"],["x"]],[[6,"q"],["y"]],[[5,"o"],["c"]],[[7,"q"],["z"]]]]
+"#,
+            ),
+            (
+                br#"["open","d"]
+["deliver","d",["op",[1,"o"],[],[[],0],["assign",{}]]]
+["deliver","d",["op",[2,"o"],[["o",1]],[[["m",0]],"l"],["assign",[]]]]
+["deliver","d",["op",[3,"o"],[["o",2]],[[["m",0],["l","l"]],1],["insert","a"]]]
+["deliver","d",["op",[4,"o"],[["o",3]],[[["m",0],["l","l"]],[3,"o"]],["insert","b"]]]
+["deliver","d",["op",[5,"o"],[["o",4]],[[["m",0],["l","l"]],[4,"o"]],["insert","c"]]]
+["deliver","d",["op",[6,"p"],[["o",5]],[[["m",0],["l","l"]],[4,"o"]],["delete"]]]
+["deliver","d",["op",[6,"q"],[["o",5]],[[["m",0],["l","l"]],[3,"o"]],["insert","y"]]]
+["deliver","d",["op",[7,"q"],[["o",5],["q",6]],[[["m",0],["l","l"]],[5,"o"]],["insert","z"]]]
+["deliver","d",["op",[7,"p"],[["o",5],["p",6]],[[["m",0],["l","l"]],[3,"o"]],["insert","x"]]]
+["items","d",[0,"l"]]
+"#,
+                br#"["opened",1]
+["applied",1,0,[1,"o"]]
+["applied",1,0,[2,"o"]]
+["applied",1,0,[3,"o"]]
+["applied",1,0,[4,"o"]]
+["applied",1,0,[5,"o"]]
+["applied",1,0,[6,"p"]]
+["applied",1,0,[6,"q"]]
+["applied",1,0,[7,"q"]]
+["applied",1,0,[7,"p"]]
+["items",[[[3,"o"],["a"]],[[7,"p"],["x"]],[[6,"q"],["y"]],[[5,"o"],["c"]],[[7,"q"],["z"]]]]
+"#,
+            ),
+            (
+                br#"["open","d"]
+["deliver","d",["op",[1,"o"],[],[[],0],["assign",{}]]]
+["deliver","d",["op",[2,"o"],[["o",1]],[[["m",0]],"l"],["assign",[]]]]
+["deliver","d",["op",[3,"o"],[["o",2]],[[["m",0],["l","l"]],1],["insert","a"]]]
+["deliver","d",["op",[4,"o"],[["o",3]],[[["m",0],["l","l"]],[3,"o"]],["insert","b"]]]
+["deliver","d",["op",[5,"o"],[["o",4]],[[["m",0],["l","l"]],[4,"o"]],["insert","c"]]]
+["deliver","d",["op",[6,"q"],[["o",5]],[[["m",0],["l","l"]],[3,"o"]],["insert","y"]]]
+["deliver","d",["op",[6,"p"],[["o",5]],[[["m",0],["l","l"]],[4,"o"]],["delete"]]]
+["deliver","d",["op",[7,"p"],[["o",5],["p",6]],[[["m",0],["l","l"]],[3,"o"]],["insert","x"]]]
+["deliver","d",["op",[7,"q"],[["o",5],["q",6]],[[["m",0],["l","l"]],[5,"o"]],["insert","z"]]]
+["items","d",[0,"l"]]
+"#,
+                br#"["opened",1]
+["applied",1,0,[1,"o"]]
+["applied",1,0,[2,"o"]]
+["applied",1,0,[3,"o"]]
+["applied",1,0,[4,"o"]]
+["applied",1,0,[5,"o"]]
+["applied",1,0,[6,"q"]]
+["applied",1,0,[6,"p"]]
+["applied",1,0,[7,"p"]]
+["applied",1,0,[7,"q"]]
+["items",[[[3,"o"],["a"]],[[7,"p"],["x"]],[[6,"q"],["y"]],[[5,"o"],["c"]],[[7,"q"],["z"]]]]
+"#,
+            ),
+            (
+                br#"["open","d"]
+["deliver","d",["op",[1,"o"],[],[[],0],["assign",{}]]]
+["deliver","d",["op",[2,"o"],[["o",1]],[[["m",0]],"l"],["assign",[]]]]
+["deliver","d",["op",[3,"o"],[["o",2]],[[["m",0],["l","l"]],1],["insert","a"]]]
+["deliver","d",["op",[4,"o"],[["o",3]],[[["m",0],["l","l"]],[3,"o"]],["insert","b"]]]
+["deliver","d",["op",[5,"o"],[["o",4]],[[["m",0],["l","l"]],[4,"o"]],["insert","c"]]]
+["deliver","d",["op",[6,"q"],[["o",5]],[[["m",0],["l","l"]],[3,"o"]],["insert","y"]]]
+["deliver","d",["op",[6,"p"],[["o",5]],[[["m",0],["l","l"]],[4,"o"]],["delete"]]]
+["deliver","d",["op",[7,"q"],[["o",5],["q",6]],[[["m",0],["l","l"]],[5,"o"]],["insert","z"]]]
+["deliver","d",["op",[7,"p"],[["o",5],["p",6]],[[["m",0],["l","l"]],[3,"o"]],["insert","x"]]]
+["items","d",[0,"l"]]
+"#,
+                br#"["opened",1]
+["applied",1,0,[1,"o"]]
+["applied",1,0,[2,"o"]]
+["applied",1,0,[3,"o"]]
+["applied",1,0,[4,"o"]]
+["applied",1,0,[5,"o"]]
+["applied",1,0,[6,"q"]]
+["applied",1,0,[6,"p"]]
+["applied",1,0,[7,"q"]]
+["applied",1,0,[7,"p"]]
+["items",[[[3,"o"],["a"]],[[7,"p"],["x"]],[[6,"q"],["y"]],[[5,"o"],["c"]],[[7,"q"],["z"]]]]
+"#,
+            ),
+            (
+                br#"["open","d"]
+["deliver","d",["op",[1,"o"],[],[[],0],["assign",{}]]]
+["deliver","d",["op",[2,"o"],[["o",1]],[[["m",0]],"l"],["assign",[]]]]
+["deliver","d",["op",[3,"o"],[["o",2]],[[["m",0],["l","l"]],1],["insert","a"]]]
+["deliver","d",["op",[4,"o"],[["o",3]],[[["m",0],["l","l"]],[3,"o"]],["insert","b"]]]
+["deliver","d",["op",[5,"o"],[["o",4]],[[["m",0],["l","l"]],[4,"o"]],["insert","c"]]]
+["deliver","d",["op",[6,"q"],[["o",5]],[[["m",0],["l","l"]],[3,"o"]],["insert","y"]]]
+["deliver","d",["op",[7,"q"],[["o",5],["q",6]],[[["m",0],["l","l"]],[5,"o"]],["insert","z"]]]
+["deliver","d",["op",[6,"p"],[["o",5]],[[["m",0],["l","l"]],[4,"o"]],["delete"]]]
+["deliver","d",["op",[7,"p"],[["o",5],["p",6]],[[["m",0],["l","l"]],[3,"o"]],["insert","x"]]]
+["items","d",[0,"l"]]
+"#,
+                br#"["opened",1]
+["applied",1,0,[1,"o"]]
+["applied",1,0,[2,"o"]]
+["applied",1,0,[3,"o"]]
+["applied",1,0,[4,"o"]]
+["applied",1,0,[5,"o"]]
+["applied",1,0,[6,"q"]]
+["applied",1,0,[7,"q"]]
+["applied",1,0,[6,"p"]]
+["applied",1,0,[7,"p"]]
+["items",[[[3,"o"],["a"]],[[7,"p"],["x"]],[[6,"q"],["y"]],[[5,"o"],["c"]],[[7,"q"],["z"]]]]
+"#,
+            ),
+        ],
+    )
+}
+
+#[test]
+fn concurrent_register(rt: HostRuntime) -> Result<(), Fail> {
+    each_row(
+        &rt,
+        rt.alloc(),
+        &[
+            (
+                br#"["open","d"]
+["deliver","d",["op",[1,"p"],[],[[["m",0]],"k"],["assign","A"]]]
+["deliver","d",["op",[2,"p"],[["p",1]],[[["m",0]],"k"],["assign","B"]]]
+["deliver","d",["op",[2,"q"],[["p",1]],[[["m",0]],"k"],["assign","C"]]]
+["values","d",[0,"k"]]
+["conflicts","d",[0,"k"]]
+"#,
+                br#"["opened",1]
+["applied",1,0,[1,"p"]]
+["applied",1,0,[2,"p"]]
+["applied",1,0,[2,"q"]]
+["values",["B","C"]]
+["conflicts",[[[2,"p"],"B"],[[2,"q"],"C"]]]
+"#,
+            ),
+            (
+                br#"["open","d"]
+["deliver","d",["op",[1,"p"],[],[[["m",0]],"k"],["assign","A"]]]
+["deliver","d",["op",[2,"q"],[["p",1]],[[["m",0]],"k"],["assign","C"]]]
+["deliver","d",["op",[2,"p"],[["p",1]],[[["m",0]],"k"],["assign","B"]]]
+["values","d",[0,"k"]]
+["conflicts","d",[0,"k"]]
+"#,
+                br#"["opened",1]
+["applied",1,0,[1,"p"]]
+["applied",1,0,[2,"q"]]
+["applied",1,0,[2,"p"]]
+["values",["B","C"]]
+["conflicts",[[[2,"p"],"B"],[[2,"q"],"C"]]]
+"#,
+            ),
+        ],
+    )
+}
+
+#[test]
+fn counter_and_scalar(rt: HostRuntime) -> Result<(), Fail> {
+    each_row(
+        &rt,
+        rt.alloc(),
+        &[
+            (
+                br#"["open","d"]
+["deliver","d",["op",[1,"p"],[],[[["m",0]],"n"],["add",5]]]
+["deliver","d",["op",[1,"q"],[],[[["m",0]],"n"],["add",-7]]]
+["sum","d",[0,"n"]]
+["deliver","d",["op",[2,"p"],[["p",1]],[[["m",0]],"n"],["assign","x"]]]
+["sum","d",[0,"n"]]
+["show","d",[0,"n"]]
+["conflicts","d",[0,"n"]]
+["delete","d",[0,"n"]]
+["sum","d",[0,"n"]]
+["show","d",[0,"n"]]
+"#,
+                br#"["opened",1]
+["applied",1,0,[1,"p"]]
+["applied",1,0,[1,"q"]]
+["sum","-2"]
+["applied",1,0,[2,"p"]]
+["sum","-7"]
+["show",[["val",[2,"p"],"x"],["cnt","-7"]]]
+["conflicts",[[[2,"p"],"x"]]]
+["applied",1,0,[3,"srv-1"]]
+["sum","0"]
+["show",[]]
+"#,
+            ),
+            (
+                br#"["open","d"]
+["deliver","d",["op",[1,"q"],[],[[["m",0]],"n"],["add",-7]]]
+["deliver","d",["op",[1,"p"],[],[[["m",0]],"n"],["add",5]]]
+["sum","d",[0,"n"]]
+["deliver","d",["op",[2,"p"],[["p",1]],[[["m",0]],"n"],["assign","x"]]]
+["sum","d",[0,"n"]]
+["show","d",[0,"n"]]
+["conflicts","d",[0,"n"]]
+["delete","d",[0,"n"]]
+["sum","d",[0,"n"]]
+["show","d",[0,"n"]]
+"#,
+                br#"["opened",1]
+["applied",1,0,[1,"q"]]
+["applied",1,0,[1,"p"]]
+["sum","-2"]
+["applied",1,0,[2,"p"]]
+["sum","-7"]
+["show",[["val",[2,"p"],"x"],["cnt","-7"]]]
+["conflicts",[[[2,"p"],"x"]]]
+["applied",1,0,[3,"srv-1"]]
+["sum","0"]
+["show",[]]
+"#,
+            ),
+        ],
+    )
+}
+
+#[test]
+fn counter_beyond_i64(rt: HostRuntime) -> Result<(), Fail> {
+    row(
+        &rt,
+        rt.alloc(),
+        br#"["open","d"]
+["add","d",[0,"m"],9223372036854775807]
+["add","d",[0,"m"],9223372036854775807]
+["sum","d",[0,"m"]]
+"#,
+        br#"["opened",1]
+["applied",1,0,[1,"srv-1"]]
+["applied",1,0,[2,"srv-1"]]
+["sum","18446744073709551614"]
+"#,
+    )
+}
+
+#[test]
+fn delete_of_nothing(rt: HostRuntime) -> Result<(), Fail> {
+    row(
+        &rt,
+        rt.alloc(),
+        br#"["open","d"]
+["assign","d",[0],{}]
+["delete","d",[0,"a","b"]]
+["keys","d",[0]]
+["show","d",[0]]
+"#,
+        br#"["opened",1]
+["applied",1,0,[1,"srv-1"]]
+["applied",1,0,[2,"srv-1"]]
+["keys",[]]
+["show",[["map",[]]]]
+"#,
+    )
+}
+
+#[test]
+fn delivered_twice(rt: HostRuntime) -> Result<(), Fail> {
+    row(
+        &rt,
+        rt.alloc(),
+        br#"["open","d"]
+["deliver","d",["op",[1,"p"],[],[[["m",0]],"k"],["assign","A"]]]
+["deliver","d",["op",[1,"p"],[],[[["m",0]],"k"],["assign","A"]]]
+["deliver","d",["op",[1,"p"],[],[[["m",0]],"k"],["assign","Z"]]]
+"#,
+        br#"["opened",1]
+["applied",1,0,[1,"p"]]
+["known"]
+["no",15,"id-conflict"]
+"#,
+    )
+}
+
+#[test]
+fn exchange_of_two(rt: HostRuntime) -> Result<(), Fail> {
+    row(
+        &rt,
+        rt.alloc(),
+        br#"["open","d"]
+["assign","d",[0],{}]
+["assign","d",[0,"k"],"A"]
+["ops","d",[],64]
+["deliver","d",["op",[1,"b-1"],[],[[["m",0]],"k"],["assign","B"]]]
+["front","d"]
+["conflicts","d",[0,"k"]]
+"#,
+        br#"["opened",1]
+["applied",1,0,[1,"srv-1"]]
+["applied",1,0,[2,"srv-1"]]
+["ops",[["op",[1,"srv-1"],[],[[],0],["assign",{}]],["op",[2,"srv-1"],[["srv-1",1]],[[["m",0]],"k"],["assign","A"]]]]
+["applied",1,0,[1,"b-1"]]
+["front",[["b-1",1],["srv-1",2]]]
+["conflicts",[[[1,"b-1"],"B"],[[2,"srv-1"],"A"]]]
+"#,
+    )?;
+    row_of(
+        &rt,
+        rt.alloc(),
+        "b",
+        br#"["open","d"]
+["assign","d",[0,"k"],"B"]
+["deliver","d",["op",[1,"srv-1"],[],[[],0],["assign",{}]]]
+["deliver","d",["op",[2,"srv-1"],[["srv-1",1]],[[["m",0]],"k"],["assign","A"]]]
+["front","d"]
+["conflicts","d",[0,"k"]]
+"#,
+        br#"["opened",1]
+["applied",1,0,[1,"b-1"]]
+["applied",1,0,[1,"srv-1"]]
+["applied",1,0,[2,"srv-1"]]
+["front",[["b-1",1],["srv-1",2]]]
+["conflicts",[[[1,"b-1"],"B"],[[2,"srv-1"],"A"]]]
+"#,
+    )?;
+    Ok(())
+}
+
+#[test]
+fn first_run(rt: HostRuntime) -> Result<(), Fail> {
+    row(
+        &rt,
+        rt.alloc(),
+        br#"["open","d"]
+["assign","d",[0],{}]
+"#,
+        br#"["opened",1]
+["applied",1,0,[1,"srv-1"]]
+"#,
+    )
+}
+
+#[test]
+fn foreign_refusals(rt: HostRuntime) -> Result<(), Fail> {
+    row(
+        &rt,
+        rt.alloc(),
+        br#"["open","d"]
+["deliver","d",["op",[1,"o"],[],[[["m",0]],"l"],["assign",[]]]]
+["deliver","d",["op",[2,"o"],[["o",1]],[[["m",0],["l","l"]],1],["insert","a"]]]
+["deliver","d",["op",[3,"q"],[["o",2]],[[["m",0]],"k"],["assign",1]]]
+["deliver","d",["op",[4,"p"],[["q",3]],[[["m",0]],"k"],["assign",2]]]
+["deliver","d",["op",[2,"q"],[["o",1]],[[["m",0]],"k"],["assign",3]]]
+["deliver","d",["op",[2,"p"],[["o",1]],[[["m",0],["l","l"]],[2,"o"]],["assign","b"]]]
+["deliver","d",["op",[9,"p"],[["o",1]],[[["m",0]],"k"],["assign",2]]]
+["deliver","d",["op",[1,"srv-1"],[],[[["m",0]],"k"],["assign",2]]]
+["front","d"]
+["account","d"]
+"#,
+        br#"["opened",1]
+["applied",1,0,[1,"o"]]
+["applied",1,0,[2,"o"]]
+["applied",1,0,[3,"q"]]
+["no",13,"bad-front"]
+["no",14,"forked",3]
+["no",7,"bad-cursor"]
+["no",13,"bad-front"]
+["no",16,"own-name"]
+["front",[["o",2],["q",3]]]
+["account",3]
+"#,
+    )
+}
+
+#[test]
+fn forget_held(rt: HostRuntime) -> Result<(), Fail> {
+    row(
+        &rt,
+        rt.alloc(),
+        br#"["open","d"]
+["deliver","d",["op",[3,"p"],[["p",2]],[[["m",0]],"k"],["assign",3]]]
+["forget","d",[3,"p"]]
+["held","d"]
+["deliver","d",["op",[1,"p"],[],[[["m",0]],"k"],["assign",1]]]
+["deliver","d",["op",[2,"p"],[["p",1]],[[["m",0]],"k"],["assign",2]]]
+["values","d",[0,"k"]]
+["deliver","d",["op",[3,"p"],[["p",2]],[[["m",0]],"k"],["assign",3]]]
+"#,
+        br#"["opened",1]
+["held",[[2,"p"]]]
+["forgotten"]
+["waiting",[]]
+["applied",1,0,[1,"p"]]
+["applied",1,0,[2,"p"]]
+["values",[2]]
+["applied",1,0,[3,"p"]]
+"#,
+    )
+}
+
+#[test]
+fn hostile(rt: HostRuntime) -> Result<(), Fail> {
+    each_row(
+        &rt,
+        rt.alloc(),
+        &[
+            (
+                br#"["open","d"]
+["deliver","d",["op",[1,"o"],[],[[["m",0]],"l"],["assign",[]]]]
+["deliver","d",["op",[2,"o"],[["o",1]],[[["m",0],["l","l"]],1],["insert","a"]]]
+["deliver","d",["op",[3,"q"],[["o",2]],[[["m",0]],"k"],["assign",1]]]
+["deliver","d",["op",[3,"p"],[["q",2]],[[["m",0]],"k"],["assign",9]]]
+["deliver","d",["op",[2,"q"],[["o",1]],[[["m",0]],"k"],["assign",3]]]
+["held","d"]
+["forget","d",[3,"p"]]
+["held","d"]
+"#,
+                br#"["opened",1]
+["applied",1,0,[1,"o"]]
+["applied",1,0,[2,"o"]]
+["applied",1,0,[3,"q"]]
+["held",[[2,"q"]]]
+["no",14,"forked",3]
+["waiting",[[[3,"p"],[[2,"q"]]]]]
+["forgotten"]
+["waiting",[]]
+"#,
+            ),
+            (
+                br#"["open","d"]
+["deliver","d",["op",[1,"o"],[],[[["m",0]],"l"],["assign",[]]]]
+["deliver","d",["op",[2,"o"],[["o",1]],[[["m",0],["l","l"]],1],["insert","a"]]]
+["deliver","d",["op",[3,"q"],[["o",2]],[[["m",0]],"k"],["assign",1]]]
+["deliver","d",["op",[4,"p"],[["o",2],["q",3]],[[["m",0],["l","l"]],[3,"q"]],["delete"]]]
+"#,
+                br#"["opened",1]
+["applied",1,0,[1,"o"]]
+["applied",1,0,[2,"o"]]
+["applied",1,0,[3,"q"]]
+["no",7,"bad-cursor"]
+"#,
+            ),
+            (
+                br#"["open","d"]
+["deliver","d",["op",[1,"o"],[],[[["m",0]],"l"],["assign",[]]]]
+["deliver","d",["op",[2,"o"],[["o",1]],[[["m",0],["l","l"]],1],["insert","a"]]]
+["deliver","d",["op",[3,"q"],[["o",2]],[[["m",0]],"k"],["assign",1]]]
+["deliver","d",["op",[3,"p"],[["o",2]],[[["m",0],["l","m"]],[2,"o"]],["delete"]]]
+"#,
+                br#"["opened",1]
+["applied",1,0,[1,"o"]]
+["applied",1,0,[2,"o"]]
+["applied",1,0,[3,"q"]]
+["no",7,"bad-cursor"]
+"#,
+            ),
+            (
+                br#"["open","d"]
+["deliver","d",["op",[1,"o"],[],[[["m",0]],"l"],["assign",[]]]]
+["deliver","d",["op",[2,"o"],[["o",1]],[[["m",0],["l","l"]],1],["insert","a"]]]
+["deliver","d",["op",[3,"q"],[["o",2]],[[["m",0]],"k"],["assign",1]]]
+["deliver","d",["op",[1,"q"],[],[[["m",0]],"k"],["assign",9]]]
+"#,
+                br#"["opened",1]
+["applied",1,0,[1,"o"]]
+["applied",1,0,[2,"o"]]
+["applied",1,0,[3,"q"]]
+["no",14,"forked",3]
+"#,
+            ),
+            (
+                br#"["open","d"]
+["deliver","d",["op",[1,"o"],[],[[["m",0]],"l"],["assign",[]]]]
+["deliver","d",["op",[2,"o"],[["o",1]],[[["m",0],["l","l"]],1],["insert","a"]]]
+["deliver","d",["op",[3,"q"],[["o",2]],[[["m",0]],"k"],["assign",1]]]
+["deliver","d",["op",[3,"q"],[["o",2]],[[["m",0]],"k"],["assign",9]]]
+"#,
+                br#"["opened",1]
+["applied",1,0,[1,"o"]]
+["applied",1,0,[2,"o"]]
+["applied",1,0,[3,"q"]]
+["no",15,"id-conflict"]
+"#,
+            ),
+            (
+                br#"["open","d"]
+["deliver","d",["op",[1,"o"],[],[[["m",0]],"l"],["assign",[]]]]
+["deliver","d",["op",[2,"o"],[["o",1]],[[["m",0],["l","l"]],1],["insert","a"]]]
+["deliver","d",["op",[3,"q"],[["o",2]],[[["m",0]],"k"],["assign",1]]]
+["deliver","d",["op",[3,"p"],[["q",2]],[[["m",0]],"k"],["assign",9]]]
+"#,
+                br#"["opened",1]
+["applied",1,0,[1,"o"]]
+["applied",1,0,[2,"o"]]
+["applied",1,0,[3,"q"]]
+["held",[[2,"q"]]]
+"#,
+            ),
+        ],
+    )
+}
+
+#[test]
+fn index_and_head_refusals(rt: HostRuntime) -> Result<(), Fail> {
+    row(
+        &rt,
+        rt.alloc(),
+        br#"["open","d"]
+["assign","d",[0,"l"],[]]
+["delete","d",[0,"l",1]]
+["delete","d",[0,"l",0]]
+["insert","d",[0,"l"],1]
+"#,
+        br#"["opened",1]
+["applied",1,0,[1,"srv-1"]]
+["no",9,"index-past-end"]
+["no",10,"at-head"]
+["no",11,"not-in-list"]
+"#,
+    )
+}
+
+#[test]
+fn local_releases_held(rt: HostRuntime) -> Result<(), Fail> {
+    row(
+        &rt,
+        rt.alloc(),
+        br#"["open","d"]
+["deliver","d",["op",[2,"p"],[["srv-1",1]],[[["m",0]],"k"],["assign",7]]]
+["assign","d",[0],{}]
+["values","d",[0,"k"]]
+["assign","d",[0,"k"],8]
+"#,
+        br#"["opened",1]
+["held",[[1,"srv-1"]]]
+["applied",2,0,[1,"srv-1"]]
+["values",[7]]
+["applied",1,0,[3,"srv-1"]]
+"#,
+    )
+}
+
+#[test]
+fn map_and_list_at_one_key(rt: HostRuntime) -> Result<(), Fail> {
+    each_row(
+        &rt,
+        rt.alloc(),
+        &[
+            (
+                br#"["open","d"]
+["deliver","d",["op",[1,"p"],[],[[["m",0]],"a"],["assign",{}]]]
+["deliver","d",["op",[2,"p"],[["p",1]],[[["m",0],["m","a"]],"x"],["assign","y"]]]
+["deliver","d",["op",[1,"q"],[],[[["m",0]],"a"],["assign",[]]]]
+["deliver","d",["op",[2,"q"],[["q",1]],[[["m",0],["l","a"]],1],["insert","z"]]]
+["show","d",[0,"a"]]
+"#,
+                br#"["opened",1]
+["applied",1,0,[1,"p"]]
+["applied",1,0,[2,"p"]]
+["applied",1,0,[1,"q"]]
+["applied",1,0,[2,"q"]]
+["show",[["map",[["x",[["val",[2,"p"],"y"]]]]],["list",[[["val",[2,"q"],"z"]]]]]]
+"#,
+            ),
+            (
+                br#"["open","d"]
+["deliver","d",["op",[1,"p"],[],[[["m",0]],"a"],["assign",{}]]]
+["deliver","d",["op",[1,"q"],[],[[["m",0]],"a"],["assign",[]]]]
+["deliver","d",["op",[2,"p"],[["p",1]],[[["m",0],["m","a"]],"x"],["assign","y"]]]
+["deliver","d",["op",[2,"q"],[["q",1]],[[["m",0],["l","a"]],1],["insert","z"]]]
+["show","d",[0,"a"]]
+"#,
+                br#"["opened",1]
+["applied",1,0,[1,"p"]]
+["applied",1,0,[1,"q"]]
+["applied",1,0,[2,"p"]]
+["applied",1,0,[2,"q"]]
+["show",[["map",[["x",[["val",[2,"p"],"y"]]]]],["list",[[["val",[2,"q"],"z"]]]]]]
+"#,
+            ),
+            (
+                br#"["open","d"]
+["deliver","d",["op",[1,"p"],[],[[["m",0]],"a"],["assign",{}]]]
+["deliver","d",["op",[1,"q"],[],[[["m",0]],"a"],["assign",[]]]]
+["deliver","d",["op",[2,"q"],[["q",1]],[[["m",0],["l","a"]],1],["insert","z"]]]
+["deliver","d",["op",[2,"p"],[["p",1]],[[["m",0],["m","a"]],"x"],["assign","y"]]]
+["show","d",[0,"a"]]
+"#,
+                br#"["opened",1]
+["applied",1,0,[1,"p"]]
+["applied",1,0,[1,"q"]]
+["applied",1,0,[2,"q"]]
+["applied",1,0,[2,"p"]]
+["show",[["map",[["x",[["val",[2,"p"],"y"]]]]],["list",[[["val",[2,"q"],"z"]]]]]]
+"#,
+            ),
+            (
+                br#"["open","d"]
+["deliver","d",["op",[1,"q"],[],[[["m",0]],"a"],["assign",[]]]]
+["deliver","d",["op",[1,"p"],[],[[["m",0]],"a"],["assign",{}]]]
+["deliver","d",["op",[2,"p"],[["p",1]],[[["m",0],["m","a"]],"x"],["assign","y"]]]
+["deliver","d",["op",[2,"q"],[["q",1]],[[["m",0],["l","a"]],1],["insert","z"]]]
+["show","d",[0,"a"]]
+"#,
+                br#"["opened",1]
+["applied",1,0,[1,"q"]]
+["applied",1,0,[1,"p"]]
+["applied",1,0,[2,"p"]]
+["applied",1,0,[2,"q"]]
+["show",[["map",[["x",[["val",[2,"p"],"y"]]]]],["list",[[["val",[2,"q"],"z"]]]]]]
+"#,
+            ),
+            (
+                br#"["open","d"]
+["deliver","d",["op",[1,"q"],[],[[["m",0]],"a"],["assign",[]]]]
+["deliver","d",["op",[1,"p"],[],[[["m",0]],"a"],["assign",{}]]]
+["deliver","d",["op",[2,"q"],[["q",1]],[[["m",0],["l","a"]],1],["insert","z"]]]
+["deliver","d",["op",[2,"p"],[["p",1]],[[["m",0],["m","a"]],"x"],["assign","y"]]]
+["show","d",[0,"a"]]
+"#,
+                br#"["opened",1]
+["applied",1,0,[1,"q"]]
+["applied",1,0,[1,"p"]]
+["applied",1,0,[2,"q"]]
+["applied",1,0,[2,"p"]]
+["show",[["map",[["x",[["val",[2,"p"],"y"]]]]],["list",[[["val",[2,"q"],"z"]]]]]]
+"#,
+            ),
+            (
+                br#"["open","d"]
+["deliver","d",["op",[1,"q"],[],[[["m",0]],"a"],["assign",[]]]]
+["deliver","d",["op",[2,"q"],[["q",1]],[[["m",0],["l","a"]],1],["insert","z"]]]
+["deliver","d",["op",[1,"p"],[],[[["m",0]],"a"],["assign",{}]]]
+["deliver","d",["op",[2,"p"],[["p",1]],[[["m",0],["m","a"]],"x"],["assign","y"]]]
+["show","d",[0,"a"]]
+"#,
+                br#"["opened",1]
+["applied",1,0,[1,"q"]]
+["applied",1,0,[2,"q"]]
+["applied",1,0,[1,"p"]]
+["applied",1,0,[2,"p"]]
+["show",[["map",[["x",[["val",[2,"p"],"y"]]]]],["list",[[["val",[2,"q"],"z"]]]]]]
+"#,
+            ),
+        ],
+    )
+}
+
+#[test]
+fn misfit_dropped_on_release(rt: HostRuntime) -> Result<(), Fail> {
+    row(
+        &rt,
+        rt.alloc(),
+        br#"["open","d"]
+["deliver","d",["op",[1,"o"],[],[[["m",0]],"l"],["assign",[]]]]
+["deliver","d",["op",[3,"p"],[["o",2]],[[["m",0],["l","l"]],[2,"z"]],["assign",1]]]
+["deliver","d",["op",[2,"o"],[["o",1]],[[["m",0],["l","l"]],1],["insert","a"]]]
+["held","d"]
+"#,
+        br#"["opened",1]
+["applied",1,0,[1,"o"]]
+["held",[[2,"o"]]]
+["applied",1,1,[2,"o"]]
+["waiting",[]]
+"#,
+    )
+}
+
+#[test]
+fn nested_show(rt: HostRuntime) -> Result<(), Fail> {
+    row(
+        &rt,
+        rt.alloc(),
+        br#"["open","d"]
+["assign","d",[0],{}]
+["assign","d",[0,"a"],[]]
+["insert","d",[0,"a",0],{}]
+["assign","d",[0,"a",1,"t"],"x"]
+["show","d",[0]]
+["conflicts","d",[0,"a"]]
+"#,
+        br#"["opened",1]
+["applied",1,0,[1,"srv-1"]]
+["applied",1,0,[2,"srv-1"]]
+["applied",1,0,[3,"srv-1"]]
+["applied",1,0,[4,"srv-1"]]
+["show",[["map",[["a",[["list",[[["map",[["t",[["val",[4,"srv-1"],"x"]]]]]]]]]]]]]]
+["conflicts",[[[2,"srv-1"],[]]]]
+"#,
+    )
+}
+
+#[test]
+fn pull_operations(rt: HostRuntime) -> Result<(), Fail> {
+    row(
+        &rt,
+        rt.alloc(),
+        br#"["open","d"]
+["deliver","d",["op",[1,"p"],[],[[["m",0]],"k"],["assign","A"]]]
+["deliver","d",["op",[2,"p"],[["p",1]],[[["m",0]],"k"],["assign","B"]]]
+["deliver","d",["op",[2,"q"],[["p",1]],[[["m",0]],"k"],["assign","C"]]]
+["ops","d",[["p",1]],1]
+["front","d"]
+["ops","d",[["p",2],["q",2]],8]
+"#,
+        br#"["opened",1]
+["applied",1,0,[1,"p"]]
+["applied",1,0,[2,"p"]]
+["applied",1,0,[2,"q"]]
+["ops",[["op",[2,"p"],[["p",1]],[[["m",0]],"k"],["assign","B"]]]]
+["front",[["p",2],["q",2]]]
+["ops",[]]
+"#,
+    )
+}
+
+#[test]
+fn reassignments(rt: HostRuntime) -> Result<(), Fail> {
+    row(
+        &rt,
+        rt.alloc(),
+        br#"["open","d"]
+["assign","d",[0],{}]
+["assign","d",[0,"a"],1]
+["assign","d",[0,"a"],2]
+["values","d",[0,"a"]]
+["assign","d",[0,"a"],{}]
+["values","d",[0,"a"]]
+["keys","d",[0]]
+["assign","d",[0],{}]
+["keys","d",[0]]
+"#,
+        br#"["opened",1]
+["applied",1,0,[1,"srv-1"]]
+["applied",1,0,[2,"srv-1"]]
+["applied",1,0,[3,"srv-1"]]
+["values",[2]]
+["applied",1,0,[4,"srv-1"]]
+["values",[]]
+["keys",["a"]]
+["applied",1,0,[5,"srv-1"]]
+["keys",[]]
+"#,
+    )
+}
+
+#[test]
+fn request_refusals(rt: HostRuntime) -> Result<(), Fail> {
+    each_row(
+        &rt,
+        rt.alloc(),
+        &[
+            (
+                br#"["keys","d",[0]]
+["open","x"]
+{}
+["frob"]
+[0
+[[[[[[[[[[[[[[[[[[[[[[[[[[[[[[[[[[[[[[[[[[[[[[[[[[[[[[[[[[[[[[[[[[[[[[[[[[[[[[[[[[[[[[[[[[[[[[[[[[[[[[[[[[[[[[[[[[[[[[[[[[[[[[[[[[[[[[[[[[[[[[[[[[[[[[[[[[[[[[[[[[[[[[[[[[[[[[[[[[[[[[[[[[[[[[[[[[[[[[[[]]]]]]]]]]]]]]]]]]]]]]]]]]]]]]]]]]]]]]]]]]]]]]]]]]]]]]]]]]]]]]]]]]]]]]]]]]]]]]]]]]]]]]]]]]]]]]]]]]]]]]]]]]]]]]]]]]]]]]]]]]]]]]]]]]]]]]]]]]]]]]]]]]]]]]]]]]]]]]]]]]]]]]]]]]]]]]]]]]]]]]]]]]]]]]]]]]]]]]]]
+"#,
+                br#"["no",5,"not-open"]
+["no",4,"no-such-document"]
+["no",2,"bad-request"]
+["no",2,"bad-request"]
+["no",1,"not-json"]
+["no",1,"not-json"]
+"#,
+            ),
+            (
+                br#"["open","d"]
+["keys","d",["v"]]
+["forget","d",[1,"p"]]
+["deliver","d",["op",[0,"p"],[],[[["m",0]],"k"],["delete"]]]
+["quit"]
+"#,
+                br#"["opened",1]
+["no",8,"no-such-variable"]
+["no",24,"not-held"]
+["no",12,"bad-operation"]
+["bye"]
+"#,
+            ),
+            (
+                br#"["quit"]
+["open","d"]
+"#,
+                br#"["bye"]
+"#,
+            ),
+        ],
+    )
+}
+
+#[test]
+fn scalar_limits(rt: HostRuntime) -> Result<(), Fail> {
+    each_row(
+        &rt,
+        rt.alloc(),
+        &[
+            (
+                br#"["open","d"]
+["assign","d",[0,"n"],9223372036854775807]
+["assign","d",[0,"n"],9223372036854775808]
+["assign","d",[0,"n"],1.5]
+["assign","d",[0,"n"],{"k":1}]
+["values","d",[0,"n"]]
+"#,
+                br#"["opened",1]
+["applied",1,0,[1,"srv-1"]]
+["no",6,"bad-value"]
+["no",6,"bad-value"]
+["no",6,"bad-value"]
+["values",[9223372036854775807]]
+"#,
+            ),
+            (
+                br#"["open","d"]
+["assign","d",[0,"n"],9223372036854775808]
+["assign","d",[0,"n"],1.5]
+["assign","d",[0,"n"],{"k":1}]
+["assign","d",[0,"n"],9223372036854775807]
+["values","d",[0,"n"]]
+"#,
+                br#"["opened",1]
+["no",6,"bad-value"]
+["no",6,"bad-value"]
+["no",6,"bad-value"]
+["applied",1,0,[1,"srv-1"]]
+["values",[9223372036854775807]]
+"#,
+            ),
+        ],
+    )
+}
+
+#[test]
+fn shopping_list(rt: HostRuntime) -> Result<(), Fail> {
+    row(
+        &rt,
+        rt.alloc(),
+        br#"["open","d"]
+["assign","d",[0],{}]
+["assign","d",[0,"shopping"],[]]
+["insert","d",[0,"shopping",0],"eggs"]
+["let","d","e",[0,"shopping",1]]
+["insert","d",[0,"shopping",0],"cheese"]
+["insert","d",["e"],"milk"]
+["items","d",[0,"shopping"]]
+"#,
+        br#"["opened",1]
+["applied",1,0,[1,"srv-1"]]
+["applied",1,0,[2,"srv-1"]]
+["applied",1,0,[3,"srv-1"]]
+["bound"]
+["applied",1,0,[4,"srv-1"]]
+["applied",1,0,[5,"srv-1"]]
+["items",[[[4,"srv-1"],["cheese"]],[[3,"srv-1"],["eggs"]],[[5,"srv-1"],["milk"]]]]
+"#,
+    )
+}
+
+#[test]
+fn todo_deleted_while_edited(rt: HostRuntime) -> Result<(), Fail> {
+    each_row(
+        &rt,
+        rt.alloc(),
+        &[
+            (
+                br#"["open","d"]
+["deliver","d",["op",[1,"p"],[],[[["m",0]],"todo"],["assign",[]]]]
+["deliver","d",["op",[2,"p"],[["p",1]],[[["m",0],["l","todo"]],1],["insert",{}]]]
+["deliver","d",["op",[3,"p"],[["p",2]],[[["m",0],["l","todo"],["m",[2,"p"]]],"title"],["assign","buy milk"]]]
+["deliver","d",["op",[4,"p"],[["p",3]],[[["m",0],["l","todo"],["m",[2,"p"]]],"done"],["assign",false]]]
+["deliver","d",["op",[5,"p"],[["p",4]],[[["m",0],["l","todo"]],[2,"p"]],["delete"]]]
+["deliver","d",["op",[5,"q"],[["p",4]],[[["m",0],["l","todo"],["m",[2,"p"]]],"done"],["assign",true]]]
+["show","d",[0,"todo"]]
+"#,
+                br#"["opened",1]
+["applied",1,0,[1,"p"]]
+["applied",1,0,[2,"p"]]
+["applied",1,0,[3,"p"]]
+["applied",1,0,[4,"p"]]
+["applied",1,0,[5,"p"]]
+["applied",1,0,[5,"q"]]
+["show",[["list",[[["map",[["done",[["val",[5,"q"],true]]]]]]]]]]
+"#,
+            ),
+            (
+                br#"["open","d"]
+["deliver","d",["op",[1,"p"],[],[[["m",0]],"todo"],["assign",[]]]]
+["deliver","d",["op",[2,"p"],[["p",1]],[[["m",0],["l","todo"]],1],["insert",{}]]]
+["deliver","d",["op",[3,"p"],[["p",2]],[[["m",0],["l","todo"],["m",[2,"p"]]],"title"],["assign","buy milk"]]]
+["deliver","d",["op",[4,"p"],[["p",3]],[[["m",0],["l","todo"],["m",[2,"p"]]],"done"],["assign",false]]]
+["deliver","d",["op",[5,"q"],[["p",4]],[[["m",0],["l","todo"],["m",[2,"p"]]],"done"],["assign",true]]]
+["deliver","d",["op",[5,"p"],[["p",4]],[[["m",0],["l","todo"]],[2,"p"]],["delete"]]]
+["show","d",[0,"todo"]]
+"#,
+                br#"["opened",1]
+["applied",1,0,[1,"p"]]
+["applied",1,0,[2,"p"]]
+["applied",1,0,[3,"p"]]
+["applied",1,0,[4,"p"]]
+["applied",1,0,[5,"q"]]
+["applied",1,0,[5,"p"]]
+["show",[["list",[[["map",[["done",[["val",[5,"q"],true]]]]]]]]]]
+"#,
+            ),
+        ],
+    )
+}
+
+#[test]
+fn variable_after_delete(rt: HostRuntime) -> Result<(), Fail> {
+    row(
+        &rt,
+        rt.alloc(),
+        br#"["open","d"]
+["assign","d",[0,"l"],[]]
+["insert","d",[0,"l",0],"a"]
+["insert","d",[0,"l",1],"b"]
+["let","d","e",[0,"l",1]]
+["delete","d",[0,"l",1]]
+["insert","d",[0,"l",0],"c"]
+["insert","d",["e"],"x"]
+["items","d",[0,"l"]]
+["values","d",["e"]]
+"#,
+        br#"["opened",1]
+["applied",1,0,[1,"srv-1"]]
+["applied",1,0,[2,"srv-1"]]
+["applied",1,0,[3,"srv-1"]]
+["bound"]
+["applied",1,0,[4,"srv-1"]]
+["applied",1,0,[5,"srv-1"]]
+["applied",1,0,[6,"srv-1"]]
+["items",[[[5,"srv-1"],["c"]],[[6,"srv-1"],["x"]],[[3,"srv-1"],["b"]]]]
+["values",[]]
+"#,
+    )
+}
+
+#[test]
+fn version_2(rt: HostRuntime) -> Result<(), Fail> {
+    row(
+        &rt,
+        rt.alloc(),
+        br#"["version"]
+"#,
+        br#"["version",2]
+"#,
+    )
+}
+
+#[test]
+fn wire_refusals_1(rt: HostRuntime) -> Result<(), Fail> {
+    each_row(
+        &rt,
+        rt.alloc(),
+        &[
+            (
+                br#"["open","d"]
+["deliver","d",["op",[1,"P"],[],[[["m",0]],"k"],["delete"]]]
+"#,
+                br#"["opened",1]
+["no",12,"bad-operation"]
+"#,
+            ),
+            (
+                br#"["open","d"]
+["deliver","d",["op",[1,"p"],[],[[],"k"],["delete"]]]
+"#,
+                br#"["opened",1]
+["no",12,"bad-operation"]
+"#,
+            ),
+            (
+                br#"["open","d"]
+["deliver","d",["op",[1,"p"],[],[[],0],["assign",{}]]]
+"#,
+                br#"["opened",1]
+["applied",1,0,[1,"p"]]
+"#,
+            ),
+            (
+                br#"["open","d"]
+["deliver","d",["op",[1,"p"],[],[[["m",0]],1],["delete"]]]
+"#,
+                br#"["opened",1]
+["no",12,"bad-operation"]
+"#,
+            ),
+            (
+                br#"["open","d"]
+["deliver","d",["op",[1,"p"],[],[[["l",0]],1],["delete"]]]
+"#,
+                br#"["opened",1]
+["no",12,"bad-operation"]
+"#,
+            ),
+            (
+                br#"["open","d"]
+["deliver","d",["op",[1,"p"],[],[[["l",0]],1],["insert",null]]]
+"#,
+                br#"["opened",1]
+["applied",1,0,[1,"p"]]
+"#,
+            ),
+        ],
+    )
+}
+
+#[test]
+fn wire_refusals_2(rt: HostRuntime) -> Result<(), Fail> {
+    each_row(
+        &rt,
+        rt.alloc(),
+        &[
+            (
+                br#"["open","d"]
+["deliver","d",["op",[1,"p"],[],[[["m",0]],"k"],["insert",1]]]
+"#,
+                br#"["opened",1]
+["no",12,"bad-operation"]
+"#,
+            ),
+            (
+                br#"["open","d"]
+["deliver","d",["op",[3,"p"],[["q",1],["o",2]],[[["m",0]],"k"],["delete"]]]
+"#,
+                br#"["opened",1]
+["no",13,"bad-front"]
+"#,
+            ),
+            (
+                br#"["open","d"]
+["deliver","d",["op",[2,"p"],[],[[["m",0]],"k"],["delete"]]]
+"#,
+                br#"["opened",1]
+["no",13,"bad-front"]
+"#,
+            ),
+            (
+                br#"["open","d"]
+["deliver","d",["op",[1,"p"],[],[[["m",0]],"k"],["assign",1.5]]]
+"#,
+                br#"["opened",1]
+["no",12,"bad-operation"]
+"#,
+            ),
+            (
+                br#"["open","d"]
+["deliver","d",["op",[1,"p"],[],[[["m",0],["m",0]],"k"],["delete"]]]
+"#,
+                br#"["opened",1]
+["no",12,"bad-operation"]
+"#,
+            ),
+            (
+                br#"["open","d"]
+["deliver","d",["op",[1,"p"],[],[[["m",0],["m","k0"],["m","k1"],["m","k2"],["m","k3"],["m","k4"],["m","k5"],["m","k6"],["m","k7"],["m","k8"],["m","k9"],["m","k10"],["m","k11"],["m","k12"],["m","k13"],["m","k14"],["m","k15"],["m","k16"],["m","k17"],["m","k18"],["m","k19"],["m","k20"],["m","k21"],["m","k22"],["m","k23"],["m","k24"],["m","k25"],["m","k26"],["m","k27"],["m","k28"],["m","k29"]],"k"],["delete"]]]
+"#,
+                br#"["opened",1]
+["no",20,"too-deep"]
+"#,
+            ),
+        ],
+    )
+}
+
+#[test]
+fn wire_refusals_3(rt: HostRuntime) -> Result<(), Fail> {
+    row(
+        &rt,
+        rt.alloc(),
+        br#"["open","d"]
+["deliver","d",["op",[1,"p"],[],[[["m",0],["m","k0"],["m","k1"],["m","k2"],["m","k3"],["m","k4"],["m","k5"],["m","k6"],["m","k7"],["m","k8"],["m","k9"],["m","k10"],["m","k11"],["m","k12"],["m","k13"],["m","k14"],["m","k15"],["m","k16"],["m","k17"],["m","k18"],["m","k19"],["m","k20"],["m","k21"],["m","k22"],["m","k23"],["m","k24"],["m","k25"],["m","k26"],["m","k27"],["m","k28"]],"k"],["delete"]]]
+"#,
+        br#"["opened",1]
+["applied",1,0,[1,"p"]]
+"#,
+    )
+}
+
+#[test]
+fn without_open(rt: HostRuntime) -> Result<(), Fail> {
+    each_row(
+        &rt,
+        rt.alloc(),
+        &[
+            (br#""#, br#""#),
+            (
+                br#"
+"#,
+                br#"["no",1,"not-json"]
+"#,
+            ),
+        ],
+    )
+}
