@@ -4,7 +4,7 @@ use Rattle.std.specs.Prelude.{insert, IfSome, OnOk, OnErr}
 use Rattle.std.specs.Ordering.{is_lt}
 use Rattle.std.specs.List.Sorted.{IsPartitionedBy, IsPartitionPoint}
 use Rattle.std.proofs.lemmas.Bool.{cases_lt}
-use Rattle.std.proofs.lemmas.List.{get_or_past, take_all, take-append-drop, length-take-le, length-drop}
+use Rattle.std.proofs.lemmas.List.{get_or_past, get_or-append_right, take_all, take-append-drop, length-take-le, length-drop}
 use Rattle.std.proofs.lemmas.List.Concat.{flat_map-append, get_or-flat_map}
 use Rattle.std.proofs.lemmas.List.Edits.{insert_end, insert-append_left, insert-append_right, length-insert}
 use Rattle.std.proofs.lemmas.List.Elements.{Contains-append_left, Contains-append_right}
@@ -19,7 +19,7 @@ use Rattle.sorted_lists.proofs.Insertion.{rank-within}
 use Rattle.doc_nodes.specs.declared.node.NodeNumber.{NodeNumber}
 use Rattle.doc_nodes.specs.Children.{number_at}
 use Rattle.doc_nodes.specs.KeyOrder.{key_cmp, key_rank, IsInKeyOrder}
-use Rattle.doc_nodes.specs.Blocks.{joined, AreFilled, AreBlocks, ends_before, block_rank}
+use Rattle.doc_nodes.specs.Blocks.{joined, AreFilled, AreBlocks, IsStart, ends_before, block_rank}
 use Rattle.doc_nodes.proofs.KeyOrder.{keys_ordered}
 use Rattle.doc_nodes.proofs.ChildrenLaws.{number_at-own, number_at-rank, number_at-missing, rising-insert_rank}
 
@@ -136,6 +136,26 @@ ends_within : (blocks : List (List (Key × NodeNumber))) (n : ℕ) (d : List (Ke
 ends_within blocks n d within =
     subst (λ (bs : List (List (Key × NodeNumber))). length (joined (take n blocks)) + length (get_or blocks n d) ≤ length (joined bs))
     (take_all (length blocks) blocks (omega arith)) (starts_rise blocks n (length blocks) d within (omega arith))
+
+-- what stands at a place is found from a start that isn't behind it
+module _ (blocks : List (List (Key × NodeNumber))) (n before at : ℕ) (is : IsStart blocks n before) (le : before ≤ at) where
+  parted : joined (take n blocks) ++ joined (drop n blocks) ≡ joined blocks
+  parted = sym (flat_map-append (λ (b : List (Key × NodeNumber)). b) (take n blocks) (drop n blocks)) ∙ ap joined (take-append-drop n blocks)
+
+  whole : take (length blocks - n) (drop n blocks) ≡ drop n blocks
+  whole = take_all (length blocks - n) (drop n blocks) (omega (arith, length-drop n blocks))
+
+  pub start-rest : at < length (joined blocks) → at - before < length (joined (take (length blocks - n) (drop n blocks)))
+  start-rest inside =
+      let sum : length (joined blocks) ≡ length (joined (take n blocks)) + length (joined (drop n blocks)) =
+      ap length (sym parted) ∙ length-append (joined (take n blocks)) (joined (drop n blocks)) in
+      subst (λ (bs : List (List (Key × NodeNumber))). at - before < length (joined bs)) (sym whole) (omega (arith, sum, is, le, inside))
+
+  pub read-start : (d : Key × NodeNumber) → get_or (joined (take (length blocks - n) (drop n blocks))) (at - before) d ≡ get_or (joined blocks) at d
+  read-start d =
+      ap (λ (bs : List (List (Key × NodeNumber))). get_or (joined bs) (at - before) d) whole
+      ∙ sym (get_or-append_right (joined (take n blocks)) (joined (drop n blocks)) before at d (sym is) le)
+      ∙ ap (λ (l : List (Key × NodeNumber)). get_or l at d) parted
 
 module _ (key : Key) where
   rank-joined : (blocks : List (List (Key × NodeNumber))) → IsInKeyOrder (joined blocks)

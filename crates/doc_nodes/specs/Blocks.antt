@@ -1,5 +1,5 @@
 -- The children of a node in blocks, each in the order of keys.
-use Rattle.std.specs.Prelude.{ℕ, ◌<◌, List, [], ◌∷◌, length, Bool, true}
+use Rattle.std.specs.Prelude.{◌≡◌, ℕ, ◌<◌, List, [], ◌∷◌, length, take, Bool, true}
 use Rattle.std.specs.List.{flat_map, prefix_len}
 use Rattle.std.specs.Ordering.{is_lt}
 use Rattle.doc_words.specs.Words.{Key}
@@ -19,6 +19,10 @@ AreFilled (block ∷ blocks) = (0 < length block) × AreFilled blocks
 pub record AreBlocks (blocks : List (List (Key × NodeNumber))) : Type 0 where
   pub filled : AreFilled blocks
   pub rising : IsInKeyOrder (joined blocks)
+
+-- so many children stand before a block
+abbrev pub IsStart : List (List (Key × NodeNumber)) → ℕ → ℕ → Type 0
+IsStart blocks block before = before ≡ length (joined (take block blocks))
 
 -- a block ends with a lesser key
 abbrev pub ends_before : Key → List (Key × NodeNumber) → Bool

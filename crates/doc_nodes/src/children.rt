@@ -1,14 +1,14 @@
 //! The nodes below a node, in the order of their keys.
 ghost use Rattle.std.specs.Ordering.{is_lt, nat_cmp};
 ghost use Rattle.std.specs.Cmp.Lexicographic.{slice_cmp};
-ghost use Rattle.std.specs.Prelude.{◌≡◌, ◌<◌, ◌≤◌, ◌+◌, ◌++◌, ◌∷◌, [], length, insert, take, drop, None, Some, OnOk, OnErr, IfOk, IfSome, IfNone, Contains, ◌⊎◌, slice_index_or, slice_set};
+ghost use Rattle.std.specs.Prelude.{◌≡◌, ◌<◌, ◌≤◌, ◌+◌, ◌++◌, ◌∷◌, List, [], length, insert, take, drop, None, Some, OnOk, OnErr, IfOk, IfSome, IfNone, Contains, ◌⊎◌, slice_index_or, slice_set};
 ghost use Rattle.crdt_rules.specs.Same.{key_eq};
 ghost use Rattle.op_core.specs.declared.cursor.Key.{Key};
 ghost use Rattle.doc_nodes.specs.declared.node.NodeNumber.{NodeNumber};
 ghost use Rattle.doc_nodes.specs.Children.{element_of, number_at};
 ghost use Rattle.doc_nodes.specs.KeyOrder.{key_cmp, IsInKeyOrder};
 ghost use Rattle.doc_nodes.specs.KeyOrder as KeyOrder;
-ghost use Rattle.doc_nodes.specs.Blocks.{joined, block_rank, AreBlocks};
+ghost use Rattle.doc_nodes.specs.Blocks.{joined, block_rank, AreBlocks, IsStart};
 ghost use Rattle.doc_nodes.specs.Blocks as Blocks;
 
 use crate::node::{NodeNumber, element_in};
@@ -25,6 +25,13 @@ const FULL: usize = 128;
 struct Spot {
     block: usize,
     place: usize,
+}
+
+// How many children stand before a block.
+#[derive(Clone, Copy)]
+struct Start {
+    block: usize,
+    before: usize,
 }
 
 /// Some children of a node, in the order of their keys.
@@ -49,24 +56,26 @@ impl Drop for Block {
 }
 
 /// The nodes below a node, in the order of their keys: in blocks, so that a new one moves few of the others. The last that
-/// was added is looked at first, since it is what an operation asks for next. Clauses see the list of their keys and numbers.
+/// was added is looked at first, since it is what an operation asks for next. Who goes from place to place begins at the block
+/// where he was. Clauses see the list of their keys and numbers.
 pub struct Children {
     blocks: Vec<Block>,
     count: usize,
     latest: Spot,
+    start: Start,
 }
 
 impl Model for Children {
     ghost use Rattle.std.specs.Prelude.{◌≡◌, List, length};
     ghost use Rattle.op_core.specs.declared.cursor.Key.{Key};
     ghost use Rattle.doc_nodes.specs.declared.node.NodeNumber.{NodeNumber};
-    ghost use Rattle.doc_nodes.specs.Blocks.{joined, AreBlocks};
+    ghost use Rattle.doc_nodes.specs.Blocks.{joined, AreBlocks, IsStart};
 
     ghost Value = { List (Key × NodeNumber) };
 
     ghost view = { λ c. joined c.blocks.items };
 
-    ghost invariant = { λ c. AreBlocks c.blocks.items × (c.count ≡ length (joined c.blocks.items)) };
+    ghost invariant = { λ c. AreBlocks c.blocks.items × (c.count ≡ length (joined c.blocks.items)) × IsStart c.blocks.items c.start.block c.start.before };
 }
 
 impl Drop for Children {
@@ -75,6 +84,7 @@ impl Drop for Children {
             blocks: _,
             count: _,
             latest: _,
+            start: _,
         } = self;
     }
 }
@@ -88,6 +98,7 @@ impl Children {
             blocks: Vec::new(alloc),
             count: 0,
             latest: Spot { block: 0, place: 0 },
+            start: first_start(),
         }
     }
 
@@ -110,6 +121,7 @@ impl Children {
         let Some(count) = self.count.checked_add(1) else {
             return Err(AllocError);
         };
+        self.start = first_start();
         let at = block_for(&mut self.blocks, &key)?;
         self.latest = add_entry(&mut self.blocks, at, key, number)?;
         self.count = count;
@@ -134,12 +146,20 @@ impl Children {
         }
     }
 
+    /// Goes to a place, where `element` and `number` then find the child at once if it stands in the block of the place
+    /// before or in the next one.
+    pub fn go_to(&mut self, at: usize)
+        ensures { self.new ≡ self.old }
+    {
+        self.start = start_for(self.blocks.as_slice(), self.start, at);
+    }
+
     /// The element of the child at a place, if its key is one.
     pub fn element(&self, at: usize) -> Option<Id>
         requires { at < length self.now }
         ensures { (d : Key × NodeNumber) → result ≡ element_of (slice_index_or self.now at d).0 }
     {
-        element_in(&entry_at(self.blocks.as_slice(), at).0)
+        element_in(&entry_from(self.blocks.as_slice(), self.start, at).0)
     }
 
     /// The number of the child at a place.
@@ -148,7 +168,7 @@ impl Children {
         ensures value { (d : Key × NodeNumber) → (slice_index_or self.now at d).1 ≡ result }
         ensures found { (d : Key × NodeNumber) → number_at self.now (slice_index_or self.now at d).0 ≡ Some result }
     {
-        entry_at(self.blocks.as_slice(), at).1
+        entry_from(self.blocks.as_slice(), self.start, at).1
     }
 }
 
@@ -378,6 +398,50 @@ fn put_behind(blocks: &mut Vec<Block>, key: Key, number: NodeNumber) -> Result<S
     entries.push((key, number))?;
     blocks.push(Block { entries })?;
     Ok(Spot { block, place: 0 })
+}
+
+/// The start of the first block.
+fn first_start() -> Start
+    ensures { (blocks : List (List (Key × NodeNumber))) → IsStart blocks result.block result.before }
+{
+    Start {
+        block: 0,
+        before: 0,
+    }
+}
+
+/// The start of the block that holds a place, if that is the block of this start or the next one; else of another.
+fn start_for(blocks: &[Block], start: Start, at: usize) -> Start
+    requires { IsStart blocks.now start.block start.before }
+    ensures { IsStart blocks.now result.block result.before }
+{
+    if at < start.before {
+        return first_start();
+    }
+    let Some(block) = blocks.get(start.block) else {
+        return start;
+    };
+    let count = block.entries.len();
+    if at - start.before < count {
+        return start;
+    }
+    Start {
+        block: start.block + 1,
+        before: start.before + count,
+    }
+}
+
+/// The entry at a place, looked for from a start on.
+fn entry_from(blocks: &[Block], start: Start, at: usize) -> &(Key, NodeNumber)
+    requires start { IsStart blocks.now start.block start.before }
+    requires within { at < length (joined blocks.now) }
+    ensures { (d : Key × NodeNumber) → result.now ≡ slice_index_or (joined blocks.now) at d }
+{
+    if at < start.before {
+        entry_at(blocks, at)
+    } else {
+        entry_at(&blocks[start.block..], at - start.before)
+    }
 }
 
 /// The entry at a place, counted over all blocks.

@@ -1,9 +1,11 @@
 //! The clearing of the nodes from one down.
-ghost use Rattle.std.specs.Prelude.{◌≡◌, ◌<◌, length, Some, IsSome};
+ghost use Rattle.std.specs.Prelude.{◌≡◌, ◌<◌, length, Some, IsSome, slice_index_or};
 ghost use Rattle.lamport_id.specs.declared.id.Id.{Id};
+ghost use Rattle.op_core.specs.declared.cursor.Key.{Key};
 ghost use Rattle.doc_nodes.specs.declared.node.NodeNumber.{NodeNumber};
 ghost use Rattle.doc_nodes.specs.Walk.{walk, root};
-ghost use Rattle.doc_nodes.specs.Nodes.{AreTree, ClearsUnder, child_of};
+ghost use Rattle.doc_nodes.specs.Children.{element_of};
+ghost use Rattle.doc_nodes.specs.Nodes.{AreTree, ClearsUnder, node_of, child_of};
 ghost use Rattle.doc_nodes.specs.Marks.{keys_below, keys_to};
 ghost use Rattle.doc_nodes.specs.Backing.{AreBacked, AreBackedFrom};
 ghost use Rattle.doc_nodes.specs.Flags.{plain, AreFlagged, IsFlagged, IsFlaggedBut};
@@ -12,6 +14,7 @@ use crate::finding::root_number;
 use crate::flag::{stands, tell};
 use crate::mark::known_child;
 use crate::node::{Node, NodeNumber, element_in};
+use lamport_id::Id;
 use op_core::{Front, Key, Tagged};
 
 /// Clears a node and those below it. What its own list tells of it is left to the caller. Where nothing makes a node
@@ -30,11 +33,24 @@ pub fn clear_under(nodes: &mut [Node], at: NodeNumber, front: &Front)
     node.clear(front);
     let count = nodes[at.0].children.len();
     for i in 0..count {
-        let child = nodes[at.0].children.number(i);
-        let element = nodes[at.0].children.element(i);
+        let (child, element) = child_at(nodes, at, i);
         clear_under(nodes, child, front);
         tell(nodes, at, element, child);
     }
+}
+
+/// The child of a node at a place, and its element if its key is one. It is found at once after the child before.
+fn child_at(nodes: &mut [Node], at: NodeNumber, place: usize) -> (NodeNumber, Option<Id>)
+    requires known { at.0 < length nodes.old }
+    requires within { place < length (node_of nodes.old at).children }
+    ensures same { nodes.new ≡ nodes.old }
+    ensures number { (d : Key × NodeNumber) → (slice_index_or (node_of nodes.old at).children place d).1 ≡ result.0 }
+    ensures found { (d : Key × NodeNumber) → child_of nodes.old at (slice_index_or (node_of nodes.old at).children place d).0 ≡ Some result.0 }
+    ensures element { (d : Key × NodeNumber) → result.1 ≡ element_of (slice_index_or (node_of nodes.old at).children place d).0 }
+{
+    let children = &mut nodes[at.0].children;
+    children.go_to(place);
+    (children.number(place), children.element(place))
 }
 
 /// Clears a place and what is below it.

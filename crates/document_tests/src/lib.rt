@@ -5,6 +5,8 @@
 #[cfg(test)]
 mod converging;
 #[cfg(test)]
+mod many_keys;
+#[cfg(test)]
 mod plain;
 #[cfg(test)]
 mod trees;

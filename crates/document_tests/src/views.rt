@@ -16,7 +16,7 @@ fn tree_of(alloc: Global, texts: &[&str]) -> Result<Tree, Refusal> {
 }
 
 /// The cursor that names lead to.
-fn at(alloc: Global, tree: &Tree, names: &[&str]) -> Result<Cursor, Fail> {
+pub fn at(alloc: Global, tree: &Tree, names: &[&str]) -> Result<Cursor, Fail> {
     let mut steps = Vec::new(alloc);
     for name in names {
         steps.push(Step::Get(KeyText::new(alloc, name)?))?;

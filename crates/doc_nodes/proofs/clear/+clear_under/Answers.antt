@@ -1,10 +1,9 @@
 use Rattle.std.proofs.Common.{◌≡◌, ◌<◌, ◌+◌, List, false, rules, refl, ◌∙◌, inl, inr, ⊎_elim, sym, ap, subst, set, length, get_or, Some, arith}
 use Rattle.std.proofs.lemmas.List.{get_or_default, get_or-set_same, length-set}
-use Rattle.op_core.specs.declared.cursor.Key.{Key}
 use Rattle.op_core.specs.declared.cursor.Key.TheVariants.{Element, Head}
-use Rattle.doc_nodes.specs.declared.node.NodeNumber.{NodeNumber}
+use Rattle.doc_nodes.specs.declared.node.Node.{Node}
 use Rattle.doc_nodes.specs.Children.{element_of, number_at}
-use Rattle.doc_nodes.specs.Nodes.{blank_node, node_of, child_of, cleared, ClearsUnder}
+use Rattle.doc_nodes.specs.Nodes.{blank_node, node_of, child_of, cleared, AreTree, ClearsUnder}
 use Rattle.doc_nodes.specs.Backing.{AreBackedFrom}
 use Rattle.doc_nodes.specs.Flags.{plain, told, IsFlagged, IsFlaggedBut}
 use Rattle.doc_nodes.proofs.Clearing.{none_yet, one_more, all_done, same_children}
@@ -30,32 +29,49 @@ loop-i-init t c =
           (backed-first front nodes c.args.at c.requires.known c.requires.tree c.requires.backed),
     )
 
+pub child_at-element-requires-clause-within : goal.child_at-element-requires-clause-within
+child_at-element-requires-clause-within t c =
+    let old = c.args.nodes.now in
+    let now = c.loop-i.nodes in
+    let kids : (node_of now c.args.at).children ≡ (node_of (plain old) c.args.at).children =
+    ap (λ z. z.children) (sym (node_of-plain now c.args.at)) ∙ ap (λ z. z.children) c.loop-i.invariant.0.here in
+    omega (arith, c.loop-i.invariant.1, ap length kids, ap (λ z. length z.children) (node_of-plain old c.args.at))
+
 pub clear_under-requires : goal.clear_under-requires
 clear_under-requires t c =
+    let old = c.args.nodes.now in
     let now = c.loop-i.nodes in
-    let same_length : length now ≡ length c.args.nodes.now = c.loop-i.auto.nodes ∙ length-set c.args.nodes.now c.args.at.0 c.clear.new.self in
-    let shape = shape_of-plain c.args.nodes.now now (same_children c.args.front.now (plain c.args.nodes.now) (plain now) c.loop-i.invariant.0.each) in
-    let tree = tree_same c.args.nodes.now now same_length shape c.requires.tree in
-    let kids = ap (λ z. z.children) (get_or_default now c.args.at.0 c.index-nodes-at-in-loop-i.result blank_node (omega arith)) in
-    let key = (get_or (get_or c.loop-i.nodes c.args.at.0 c.index-nodes-at-in-loop-i.result).children c.loop-i.i (Head, c.number-child.result)).0 in
-    let found : child_of now c.args.at key ≡ Some c.number-child.result =
-    ap (λ cs. number_at cs key) (sym kids) ∙ c.number-child.ensures.found (Head, c.number-child.result) in
-    let rises = tree.rising c.args.at key c.number-child.result found in
-    let within = tree.within c.args.at key c.number-child.result found in
-    (omega (arith, rises, within, same_length), (tree, (within, backed_from now (c.args.at.0 + 1) c.number-child.result.0 (omega (arith, rises)) c.loop-i.invariant.3)))
+    let child = c.child_at-element.result.0 in
+    let same_length : length now ≡ length old = c.loop-i.auto.nodes ∙ length-set old c.args.at.0 c.clear.new.self in
+    let shape = shape_of-plain old now (same_children c.args.front.now (plain old) (plain now) c.loop-i.invariant.0.each) in
+    let tree = tree_same old now same_length shape c.requires.tree in
+    let key = (get_or (node_of now c.args.at).children c.loop-i.i (Head, child)).0 in
+    let found : child_of now c.args.at key ≡ Some child = c.child_at-element.ensures.found (Head, child) in
+    let rises = tree.rising c.args.at key child found in
+    let within = tree.within c.args.at key child found in
+    let read = sym c.child_at-element.ensures.same in (
+      omega (arith, rises, within, same_length, ap length read),
+      (
+        subst AreTree read tree,
+        (
+          omega (arith, within, ap length read),
+          subst (λ (l : List Node). AreBackedFrom l child.0) read (backed_from now (c.args.at.0 + 1) child.0 (omega (arith, rises)) c.loop-i.invariant.3),
+        ),
+      ),
+    )
 
 pub tell-requires-clause-child : goal.tell-requires-clause-child
 tell-requires-clause-child t c =
+    let old = c.args.nodes.now in
     let now = c.loop-i.nodes in
-    let same_length : length now ≡ length c.args.nodes.now = c.loop-i.auto.nodes ∙ length-set c.args.nodes.now c.args.at.0 c.clear.new.self in
-    let shape = shape_of-plain c.args.nodes.now now (same_children c.args.front.now (plain c.args.nodes.now) (plain now) c.loop-i.invariant.0.each) in
-    let tree = tree_same c.args.nodes.now now same_length shape c.requires.tree in
-    let kids = ap (λ z. z.children) (get_or_default now c.args.at.0 c.index-nodes-at-in-loop-i.result blank_node (omega (arith, same_length))) in
-    let key = (get_or (get_or c.loop-i.nodes c.args.at.0 c.index-nodes-at-in-loop-i.result).children c.loop-i.i (Head, c.number-child.result)).0 in
-    let found : child_of now c.args.at key ≡ Some c.number-child.result =
-    ap (λ cs. number_at cs key) (sym kids) ∙ c.number-child.ensures.found (Head, c.number-child.result) in
-    let within = tree.within c.args.at key c.number-child.result found in
-    omega (arith, within, c.clear_under.auto.nodes)
+    let child = c.child_at-element.result.0 in
+    let same_length : length now ≡ length old = c.loop-i.auto.nodes ∙ length-set old c.args.at.0 c.clear.new.self in
+    let shape = shape_of-plain old now (same_children c.args.front.now (plain old) (plain now) c.loop-i.invariant.0.each) in
+    let tree = tree_same old now same_length shape c.requires.tree in
+    let key = (get_or (node_of now c.args.at).children c.loop-i.i (Head, child)).0 in
+    let found : child_of now c.args.at key ≡ Some child = c.child_at-element.ensures.found (Head, child) in
+    let within = tree.within c.args.at key child found in
+    omega (arith, within, c.clear_under.auto.nodes, ap length c.child_at-element.ensures.same)
 
 pub loop-i-preserved : goal.loop-i-preserved
 loop-i-preserved t c =
@@ -64,36 +80,36 @@ loop-i-preserved t c =
     let now = c.loop-i.nodes in
     let mid = c.clear_under.new.nodes in
     let at = c.args.at in
-    let child = c.number-child.result in
+    let child = c.child_at-element.result.0 in
+    let read : c.child_at-element.new.nodes ≡ now = c.child_at-element.ensures.same in
+    let clears : ClearsUnder front (plain now) (plain mid) child =
+    subst (λ (l : List Node). ClearsUnder front (plain l) (plain mid) child) read c.clear_under.ensures.clears in
     let same_length : length now ≡ length old = c.loop-i.auto.nodes ∙ length-set old at.0 c.clear.new.self in
-    let read = ap (λ z. z.children) (get_or_default now at.0 c.index-nodes-at-in-loop-i.result blank_node (omega (arith, same_length))) in
-    let kids : (get_or now at.0 c.index-nodes-at-in-loop-i.result).children ≡ (node_of (plain old) at).children =
-    read ∙ ap (λ z. z.children) (sym (node_of-plain now at)) ∙ ap (λ z. z.children) c.loop-i.invariant.0.here in
-    let key = (get_or (get_or now at.0 c.index-nodes-at-in-loop-i.result).children c.loop-i.i (Head, child)).0 in
-    let found : child_of now at key ≡ Some child = ap (λ cs. number_at cs key) (sym read) ∙ c.number-child.ensures.found (Head, child) in
+    let kids : (node_of now at).children ≡ (node_of (plain old) at).children =
+    ap (λ z. z.children) (sym (node_of-plain now at)) ∙ ap (λ z. z.children) c.loop-i.invariant.0.here in
+    let key = (get_or (node_of now at).children c.loop-i.i (Head, child)).0 in
+    let found : child_of now at key ≡ Some child = c.child_at-element.ensures.found (Head, child) in
     let first_shape = shape_of-plain old now (same_children front (plain old) (plain now) c.loop-i.invariant.0.each) in
-    let shape = shape_of-plain now mid (same_children front (plain now) (plain mid) c.clear_under.ensures.clears.each) in
-    let mid_length : length mid ≡ length old = c.clear_under.auto.nodes ∙ same_length in
+    let shape = shape_of-plain now mid (same_children front (plain now) (plain mid) clears.each) in
+    let mid_length : length mid ≡ length old = c.clear_under.auto.nodes ∙ ap length read ∙ same_length in
     let tree = tree_same old mid mid_length (shape ∙ first_shape) c.requires.tree in
-    let again = ap (λ z. z.children) (get_or_default now at.0 c.index-nodes-at-in-loop-i-2.result blank_node (omega (arith, same_length))) in
-    let element : c.element-element.result ≡ element_of key =
-    c.element-element.ensures (Head, child) ∙ ap (λ (cs : List (Key × NodeNumber)). element_of (get_or cs c.loop-i.i (Head, child)).0) (again ∙ sym read) in
-    let is : c.tell.new.nodes ≡ told mid at (element_of key) child = c.tell.ensures ∙ ap (λ e. told mid at e child) element in
+    let is : c.tell.new.nodes ≡ told mid at (element_of key) child = c.tell.ensures ∙ ap (λ e. told mid at e child) (c.child_at-element.ensures.element (Head, child)) in
     let within : at.0 < length mid = omega (arith, mid_length) in (
       one_more front (plain old) (plain now) at (plain c.tell.new.nodes) c.loop-i.i child c.loop-i.invariant.0
           (omega (arith, c.loop-i.invariant.1, ap (λ z. length z.children) (node_of-plain old at)))
-          (λ d. ap (λ cs. (get_or cs c.loop-i.i d).1) (sym kids) ∙ c.number-child.ensures.value d)
+          (λ d. ap (λ cs. (get_or cs c.loop-i.i d).1) (sym kids) ∙ c.child_at-element.ensures.number d)
           key
-          (ap (λ cs. number_at cs key) (sym kids) ∙ c.number-child.ensures.found (Head, child))
-          (subst (λ l. ClearsUnder front (plain now) l child) (sym (ap plain is ∙ told-plain mid at (element_of key) child)) c.clear_under.ensures.clears),
+          (ap (λ cs. number_at cs key) (sym kids) ∙ found)
+          (subst (λ l. ClearsUnder front (plain now) l child) (sym (ap plain is ∙ told-plain mid at (element_of key) child)) clears),
       c.loop-i.invariant.1,
       λ n i right. ⊎_elim
           (λ there. inl (ap (λ f. f n (Element i)) (ap child_of is ∙ told-shape mid at within child (element_of key) ∙ shape) ∙ there))
           (λ still. inr (subst (λ l. IsFlagged l n i) (sym is)
-          (told-but mid at within child tree key (ap (λ f. f at key) shape ∙ found) n i (c.clear_under.ensures.flags n i still))))
+          (told-but mid at within child tree key (ap (λ f. f at key) shape ∙ found) n i
+          (c.clear_under.ensures.flags n i (subst (λ (l : List Node). IsFlagged l n i) (sym read) still)))))
           (c.loop-i.invariant.2 n i right),
       backed-same mid c.tell.new.nodes (at.0 + 1) (ap plain is ∙ told-plain mid at (element_of key) child)
-          (backed-cleared front now mid child (at.0 + 1) c.loop-i.invariant.3 c.clear_under.ensures.clears),
+          (backed-cleared front now mid child (at.0 + 1) c.loop-i.invariant.3 clears),
     )
 
 pub returns-clause-clears : goal.returns-clause-clears

@@ -1,4 +1,4 @@
-use Rattle.std.proofs.Common.{◌≡◌, ◌<◌, [], sym, ap, subst, length, true}
+use Rattle.std.proofs.Common.{◌≡◌, [], sym, ap, subst, true}
 use Rattle.std.proofs.lemmas.List.{nil_from_length}
 use Rattle.std.proofs.lemmas.Result.{on_ok_weaker}
 use Rattle.doc_nodes.specs.Walk.{root}
