@@ -4,6 +4,7 @@ ghost use Rattle.tcp_server.specs.Listening.{TellsAddress};
 
 use std::alloc::Global;
 use std::io;
+use std::io::ErrorKind;
 use std::net::{Net, TcpListener, TcpStream};
 
 /// Writes where the server listens.
@@ -16,8 +17,17 @@ fn tell_address<W: io::Write>(alloc: Global, listener: &TcpListener, out: &mut W
     out.flush()
 }
 
-/// Listens at the address, and writes where. None where it can't be listened at, which standard error is told, where the writer fails,
-/// or for want of memory. That it listens at this address no clause can say.
+/// What is right where the address is no address; nothing where it is one.
+pub fn hint_of(error: &io::Error) -> &'static str {
+    if error.kind() == ErrorKind::InvalidInput {
+        "; HOST:PORT is wanted, as 127.0.0.1:7001 or [::1]:7001"
+    } else {
+        ""
+    }
+}
+
+/// Listens at the address, and writes where. None where it can't be listened at, where the writer fails, or for want of memory:
+/// standard error is told why. That it listens at this address no clause can say.
 pub fn listen<R: Net<Listener = TcpListener, Stream = TcpStream> + Eprint, W: io::Write>(
     rt: &R,
     alloc: Global,
@@ -29,13 +39,17 @@ pub fn listen<R: Net<Listener = TcpListener, Stream = TcpStream> + Eprint, W: io
     let listener = match TcpListener::bind(rt, address) {
         Ok(listener) => listener,
         Err(error) => {
+            let hint = hint_of(&error);
             // A fault of standard error changes nothing.
-            let _told = rt.eprintln(format_args!("jcrdt: cannot listen at {address}: {error}"));
+            let _told = rt.eprintln(format_args!("jcrdt: cannot listen at {address}: {error}{hint}"));
             return None;
         }
     };
     match tell_address(alloc, &listener, out) {
         Ok(()) => Some(listener),
-        Err(_) => None,
+        Err(error) => {
+            let _told = rt.eprintln(format_args!("jcrdt: cannot tell where it listens: {error}"));
+            None
+        }
     }
 }

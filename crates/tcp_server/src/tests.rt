@@ -1,6 +1,7 @@
 //! Sessions over loopback, with both ends in one process.
 ghost use Rattle.std.specs.Prelude.{◌≡◌};
 
+use crate::listening::{hint_of, listen};
 use crate::serving::serve_on;
 use crate::shelving::{new_stock, shelve};
 use doc_ledger::Ledger;
@@ -58,7 +59,7 @@ fn is_told<R: Abort>(rt: &R, replies: &str, done: usize, last: &str) {
 
 fn two<
     M: Marker + Send + Sync,
-    R: Net<Listener = TcpListener, Stream = TcpStream> + Threads + Wait + Abort + Sync,
+    R: Net<Listener = TcpListener, Stream = TcpStream> + Threads + Wait + Eprint + Abort + Sync,
 >(rt: &R, alloc: Global, blank: Blank) -> Result<(), Fail>
     requires { blank ≡ M.name }
 {
@@ -96,7 +97,7 @@ fn two_sessions_over_loopback(rt: HostRuntime) -> Result<(), Fail> {
 /// and then that nothing more comes: its connection isn't reset.
 fn too_long<
     M: Marker + Send + Sync,
-    R: Net<Listener = TcpListener, Stream = TcpStream> + Threads + Wait + Abort + Sync,
+    R: Net<Listener = TcpListener, Stream = TcpStream> + Threads + Wait + Eprint + Abort + Sync,
 >(rt: &R, alloc: Global, blank: Blank) -> Result<(), Fail>
     requires { blank ≡ M.name }
 {
@@ -122,4 +123,41 @@ fn too_long<
 #[test]
 fn line_too_long_is_told(rt: HostRuntime) -> Result<(), Fail> {
     too_long::<Brand, _>(&rt, rt.alloc(), Blank::new())
+}
+
+/// Whether no listener is had at the address, nothing is written, and standard error is told what is right.
+fn is_no_address<R: Net<Listener = TcpListener, Stream = TcpStream> + Eprint>(
+    rt: &R,
+    alloc: Global,
+    address: &str,
+) -> bool {
+    let mut out = Vec::<u8>::new(alloc);
+    let listener = listen(rt, alloc, address, &mut out);
+    let hint = match TcpListener::bind(rt, address) {
+        Ok(_) => "",
+        Err(error) => hint_of(&error),
+    };
+    listener.is_none() && out.is_empty() && hint == "; HOST:PORT is wanted, as 127.0.0.1:7001 or [::1]:7001"
+}
+
+#[test]
+fn no_addresses(rt: HostRuntime) -> Result<(), Fail> {
+    let alloc = rt.alloc();
+    assert!(rt; is_no_address(&rt, alloc, "7001"));
+    assert!(rt; is_no_address(&rt, alloc, "127.0.0.1"));
+    assert!(rt; is_no_address(&rt, alloc, "127.0.0.1:70000"));
+    assert!(rt; is_no_address(&rt, alloc, ""));
+    Ok(())
+}
+
+#[test]
+fn taken_address(rt: HostRuntime) -> Result<(), Fail> {
+    let taken = TcpListener::bind(&rt, "127.0.0.1:0")?;
+    match TcpListener::bind(&rt, taken.local_addr()?) {
+        Ok(_) => Err("it is taken".into()),
+        Err(error) => {
+            assert_eq!(rt; hint_of(&error), "");
+            Ok(())
+        }
+    }
 }
