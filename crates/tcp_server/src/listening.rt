@@ -41,7 +41,9 @@ pub fn listen<R: Net<Listener = TcpListener, Stream = TcpStream> + Eprint, W: io
         Err(error) => {
             let hint = hint_of(&error);
             // A fault of standard error changes nothing.
-            let _told = rt.eprintln(format_args!("jcrdt: cannot listen at {address}: {error}{hint}"));
+            let _told = rt.eprintln(format_args!(
+                "jcrdt: cannot listen at {address}: {error}{hint}"
+            ));
             return None;
         }
     };

@@ -137,7 +137,9 @@ fn is_no_address<R: Net<Listener = TcpListener, Stream = TcpStream> + Eprint>(
         Ok(_) => "",
         Err(error) => hint_of(&error),
     };
-    listener.is_none() && out.is_empty() && hint == "; HOST:PORT is wanted, as 127.0.0.1:7001 or [::1]:7001"
+    listener.is_none()
+        && out.is_empty()
+        && hint == "; HOST:PORT is wanted, as 127.0.0.1:7001 or [::1]:7001"
 }
 
 #[test]
