@@ -4,6 +4,7 @@ ghost use Rattle.copy_report.specs.Report.{Reports, StopsShort};
 ghost use Rattle.jcrdt.specs.CommandLine.{AsksToCheck, is_check};
 
 use crate::command_line::{check_matches, is_check};
+use crate::usage::NO_MEMORY;
 use clap::error::ErrorKind;
 use copy_report::check_file;
 use line_feed::Sink;
@@ -11,7 +12,7 @@ use std::alloc::Global;
 use std::rt::HostRuntime;
 
 /// Tells what the file of the words holds, and gives the program's status: 1 where it is no copy, where it can't be opened, where the
-/// sink fails, or for want of memory; 2 where the words don't ask for a check, with nothing written. That it is the file of the words
+/// sink fails, or for want of memory, and standard error is told which; 2 where the words don't ask for a check, with nothing written. That it is the file of the words
 /// no clause can say.
 pub fn check_words<W: Sink>(rt: &HostRuntime, alloc: Global, words: &[&str], sink: &mut W) -> u8
     requires { W.has_failed sink.old ≡ false }
@@ -34,6 +35,8 @@ pub fn check_words<W: Sink>(rt: &HostRuntime, alloc: Global, words: &[&str], sin
     match check_matches(alloc, words) {
         Ok(matches) => check_file(rt, alloc, matches.get_str("file").unwrap_or(""), sink),
         Err(error) => if error.kind() == ErrorKind::OutOfMemory {
+            // A fault of standard error changes nothing.
+            let _told = rt.eprintln(NO_MEMORY);
             1
         } else {
             2

@@ -1,5 +1,5 @@
-//! What standard error is told of a command line that can't be served. The status says that it can't; of this text no clause
-//! says anything, and `bench/whole-program` has one for each mistake.
+//! What standard error is told of a command line that can't be served, and of want of memory. The status says that it can't; of this
+//! text no clause says anything, and `bench/whole-program` has one for each mistake.
 use crate::command_line::{check_matches, run_matches, serve_matches, sessions_of};
 use clap::error::ErrorKind;
 use clap::{ArgMatches, Error};
@@ -8,7 +8,24 @@ use std::alloc::{AllocError, Global};
 
 /// How the program is called.
 pub const USAGE: &str =
-    "usage: jcrdt run [--name NAME] DOC..\n       jcrdt serve --addr A --sessions N [--name NAME] DOC..\n       jcrdt check --file F\n  NAME: 1 to 24, DOC: 1 to 32 of a-z, 0-9 and -; 1 to 16 documents of different names\n  A: an address to listen at, N: 1 to 256 sessions\n  F: the file of a copy\n  Lines of JSON in, lines of JSON out: see docs/FORMATS.md.";
+    "usage: jcrdt run [--name NAME] DOC..\n       jcrdt serve --addr A --sessions N [--name NAME] DOC..\n       jcrdt check --file F\n  NAME: 1 to 24, DOC: 1 to 32 of a-z, 0-9 and -; 1 to 16 documents of different names\n  A: HOST:PORT to listen at, N: 1 to 256 sessions\n  F: the file of a copy\n  Lines of JSON in, lines of JSON out: see docs/FORMATS.md.";
+
+/// The program's own line.
+pub const VERSION: &str = "jcrdt, version 2 of its requests and operations";
+
+/// What is told for want of memory.
+pub const NO_MEMORY: &str = "jcrdt: memory is wanting";
+
+/// What is told behind the cause, if there is one: how the program is called, or its version where that was asked for.
+pub fn usage_of(words: &[&str]) -> &'static str {
+    match words {
+        [first, ..] => match *first {
+            "version" | "--version" | "-V" => VERSION,
+            _ => USAGE,
+        },
+        [] => USAGE,
+    }
+}
 
 /// What clap says was wrong, without its own usage. Nothing where help was asked for.
 fn clap_cause(alloc: Global, error: &Error) -> Result<Option<String>, AllocError> {

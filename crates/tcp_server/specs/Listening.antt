@@ -1,0 +1,14 @@
+-- What a server tells at its beginning.
+use Rattle.std.specs.Prelude.{ℕ, List, ◌++◌, codes, Option}
+use Rattle.std.specs.Io.KnownBytes.{Appends}
+use Rattle.std.specs.Net.Text.{socket_text}
+use Rattle.std.specs.declared.net.socket_addr.SocketAddr.{SocketAddr}
+
+-- ["listening","ADDRESS"]
+abbrev pub listening_line : SocketAddr → List ℕ
+listening_line address = codes "[\"listening\",\"" ++ (socket_text address ++ codes "\"]\n")
+
+-- it was written of some address that the server listens there
+pub record TellsAddress (held holds : Option (List ℕ)) : Type 0 where
+  pub address : SocketAddr
+  pub told : Appends held holds (listening_line address)

@@ -1,0 +1,57 @@
+//! Where a server listens.
+ghost use Rattle.std.specs.Prelude.{IfSome, OnOk};
+ghost use Rattle.tcp_server.specs.Listening.{TellsAddress};
+
+use std::alloc::Global;
+use std::io;
+use std::io::ErrorKind;
+use std::net::{Net, TcpListener, TcpStream};
+
+/// Writes where the server listens.
+fn tell_address<W: io::Write>(alloc: Global, listener: &TcpListener, out: &mut W) -> io::Result<()>
+    ensures { OnOk result (TellsAddress (W.contents out.old) (W.contents out.new)) }
+{
+    let address = listener.local_addr()?;
+    let line = format!(in alloc; "[\"listening\",\"{address}\"]\n")?;
+    out.write_all(line.as_bytes())?;
+    out.flush()
+}
+
+/// What is right where the address is no address; nothing where it is one.
+pub fn hint_of(error: &io::Error) -> &'static str {
+    if error.kind() == ErrorKind::InvalidInput {
+        "; HOST:PORT is wanted, as 127.0.0.1:7001 or [::1]:7001"
+    } else {
+        ""
+    }
+}
+
+/// Listens at the address, and writes where. None where it can't be listened at, where the writer fails, or for want of memory:
+/// standard error is told why. That it listens at this address no clause can say.
+pub fn listen<R: Net<Listener = TcpListener, Stream = TcpStream> + Eprint, W: io::Write>(
+    rt: &R,
+    alloc: Global,
+    address: &str,
+    out: &mut W,
+) -> Option<TcpListener>
+    ensures { IfSome result (λ listener. TellsAddress (W.contents out.old) (W.contents out.new)) }
+{
+    let listener = match TcpListener::bind(rt, address) {
+        Ok(listener) => listener,
+        Err(error) => {
+            let hint = hint_of(&error);
+            // A fault of standard error changes nothing.
+            let _told = rt.eprintln(format_args!(
+                "jcrdt: cannot listen at {address}: {error}{hint}"
+            ));
+            return None;
+        }
+    };
+    match tell_address(alloc, &listener, out) {
+        Ok(()) => Some(listener),
+        Err(error) => {
+            let _told = rt.eprintln(format_args!("jcrdt: cannot tell where it listens: {error}"));
+            None
+        }
+    }
+}
