@@ -3,3 +3,5 @@ pub mod RowLemmas
 pub mod BatchLemmas
 pub mod NextLemmas
 pub mod SortLemmas
+mod EntryLemmas
+mod Reading

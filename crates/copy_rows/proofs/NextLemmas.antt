@@ -1,11 +1,11 @@
 -- The rows of good documents, in order, are next one after another.
-use Rattle.std.proofs.Common.{◌≡◌, ◌≢◌, ◌+◌, ◌<◌, ◌^◌, ℕ, zero, suc, drop, get_or, Result, Ok, Err, IfErr, List, [], ◌∷◌, ◌++◌, length, map, Bool, true, false, cond, Contains, refl, sym, ap, subst, ◌∙◌, append-nil, append_assoc, arith, length-append, Ordering, Less, Equal, Greater}
+use Rattle.std.proofs.Common.{◌≡◌, ◌≢◌, ◌+◌, ◌<◌, ◌^◌, ℕ, zero, suc, drop, get_or, Result, Ok, Err, IfErr, List, [], ◌∷◌, ◌++◌, length, map, true, false, Contains, refl, sym, ap, subst, ◌∙◌, append-nil, append_assoc, arith, length-append, Ordering, Less, Equal, Greater}
 use Rattle.std.specs.List.{AllByRecursion, list_any}
 use Rattle.std.specs.Ordering.{is_lt}
 use Rattle.std.specs.Str.{bytes_eq}
 use Rattle.op_log.proofs.Fronts.{names_differ}
 use Rattle.sqlite.specs.Order.{Row}
-use Rattle.sqlite_keyed.proofs.ListLemmas.{all-append, all_weaker}
+use Rattle.sqlite_keyed.proofs.ListLemmas.{all-append}
 use Rattle.lamport_id.specs.Name.{is_name}
 use Rattle.doc_words.specs.Words.{name_cmp, Op}
 use Rattle.op_core.specs.Shape.{is_shaped}

@@ -2,5 +2,7 @@
 #![tactic(auto)]
 
 mod parse;
+mod read;
 
-pub use parse::{FORMAT, LAST_EPOCH, Meta, OLD_FORMAT, docs_in, meta_in};
+pub use parse::{FORMAT, LAST_EPOCH, Meta, OLD_FORMAT, meta_in};
+pub use read::read_docs;
