@@ -63,111 +63,124 @@ fn cause(alloc: Global, line: &[u8]) -> u64 {
     }
 }
 
+/// Whether the line is a request of this kind.
+fn is_of_kind(alloc: Global, line: &str, wanted: &str) -> bool {
+    match Request::read(alloc, line.as_bytes()) {
+        Ok(request) => kind(&request) == wanted,
+        Err(_) => false,
+    }
+}
+
+/// A line of each kind, and which it is.
+static REQUESTS: [(&str, &str); 20] = [
+    ("[\"quit\"]", "quit"),
+    ("[\"version\"]", "version"),
+    (" [\"open\" , \"d\"]\r", "open"),
+    ("[\"front\",\"d\"]", "front"),
+    ("[\"held\",\"d\"]", "held"),
+    ("[\"account\",\"d\"]", "account"),
+    ("[\"assign\",\"d\",[0,\"k\"],{}]", "assign"),
+    (
+        "[\"insert\",\"d\",[\"x\",0],-9223372036854775808]",
+        "insert",
+    ),
+    ("[\"add\",\"d\",[0],9223372036854775807]", "add"),
+    ("[\"delete\",\"d\",[0,\"k\",1]]", "delete"),
+    ("[\"let\",\"d\",\"x\",[\"y\"]]", "let"),
+    ("[\"keys\",\"d\",[0]]", "keys"),
+    ("[\"values\",\"d\",[0]]", "values"),
+    ("[\"items\",\"d\",[\"\",18446744073709551615]]", "items"),
+    ("[\"conflicts\",\"d\",[0]]", "conflicts"),
+    ("[\"show\",\"d\",[0]]", "show"),
+    ("[\"sum\",\"d\",[0]]", "sum"),
+    (
+        "[\"deliver\",\"d\",[\"op\",[1,\"p\"],[],[[],0],[\"assign\",{}]]]",
+        "deliver",
+    ),
+    ("[\"ops\",\"d\",[[\"o\",1],[\"q\",2]],64]", "operations"),
+    ("[\"forget\",\"d\",[1,\"p\"]]", "forget"),
+];
+
 #[test]
 fn reads_each_request(rt: HostRuntime) -> Result<(), Fail> {
-    let rows = [
-        ("[\"quit\"]", "quit"),
-        ("[\"version\"]", "version"),
-        (" [\"open\" , \"d\"]\r", "open"),
-        ("[\"front\",\"d\"]", "front"),
-        ("[\"held\",\"d\"]", "held"),
-        ("[\"account\",\"d\"]", "account"),
-        ("[\"assign\",\"d\",[0,\"k\"],{}]", "assign"),
-        (
-            "[\"insert\",\"d\",[\"x\",0],-9223372036854775808]",
-            "insert",
-        ),
-        ("[\"add\",\"d\",[0],9223372036854775807]", "add"),
-        ("[\"delete\",\"d\",[0,\"k\",1]]", "delete"),
-        ("[\"let\",\"d\",\"x\",[\"y\"]]", "let"),
-        ("[\"keys\",\"d\",[0]]", "keys"),
-        ("[\"values\",\"d\",[0]]", "values"),
-        ("[\"items\",\"d\",[\"\",18446744073709551615]]", "items"),
-        ("[\"conflicts\",\"d\",[0]]", "conflicts"),
-        ("[\"show\",\"d\",[0]]", "show"),
-        ("[\"sum\",\"d\",[0]]", "sum"),
-        (
-            "[\"deliver\",\"d\",[\"op\",[1,\"p\"],[],[[],0],[\"assign\",{}]]]",
-            "deliver",
-        ),
-        ("[\"ops\",\"d\",[[\"o\",1],[\"q\",2]],64]", "operations"),
-        ("[\"forget\",\"d\",[1,\"p\"]]", "forget"),
-    ];
-    for (line, wanted) in rows {
-        let request = Request::read(rt.alloc(), line.as_bytes())?;
-        assert!(rt; kind(&request) == wanted, "{line}");
+    for (line, wanted) in &REQUESTS {
+        assert!(rt; is_of_kind(rt.alloc(), line, wanted), "{line}");
     }
     Ok(())
 }
 
+/// Lines that are no request, and the number of the first cause against each.
+static CAUSES: [(&str, u64); 28] = [
+    // no JSON, before all else
+    ("", 1u64),
+    ("[\"quit\"", 1),
+    ("[\"nothing\",1e999]", 1),
+    ("[\"assign\",\"d\",[1],1.5] 0", 1),
+    // no request, before a wrong value
+    ("{}", 2),
+    ("[]", 2),
+    ("[\"nothing\"]", 2),
+    ("[\"open\"]", 2),
+    ("[\"quit\",0]", 2),
+    ("[\"open\",4]", 2),
+    ("[\"keys\",\"d\",[1]]", 2),
+    ("[\"keys\",\"d\",[]]", 2),
+    ("[\"keys\",\"d\",[0,-1]]", 2),
+    ("[\"keys\",\"d\",[0,1.0]]", 2),
+    ("[\"assign\",\"d\",[],1.5]", 2),
+    ("[\"assign\",7,[0],1.5]", 2),
+    ("[\"assign\",\"d\",[0],1.5,0]", 2),
+    ("[\"let\",\"d\",0,[0]]", 2),
+    ("[\"forget\",\"d\",[0,\"p\"]]", 2),
+    ("[\"ops\",\"d\",[[\"q\",1],[\"o\",2]],65]", 2),
+    ("[\"ops\",\"d\",[[\"q\",1],[\"o\",2]],0]", 2),
+    ("[\"ops\",\"d\",[[\"q\",1],[\"o\",0]],1]", 2),
+    // a wrong value, an order of a front
+    ("[\"assign\",\"d\",[0],1.5]", 6),
+    ("[\"insert\",\"nowhere\",[\"unbound\"],[0]]", 6),
+    ("[\"add\",\"d\",[0],9223372036854775808]", 6),
+    ("[\"add\",\"d\",[0],\"1\"]", 6),
+    ("[\"ops\",\"d\",[[\"q\",1],[\"o\",2]],64]", 13),
+    ("[\"ops\",\"d\",[[\"q\",1],[\"q\",2]],1]", 13),
+];
+
 #[test]
 fn tells_the_first_cause(rt: HostRuntime) {
-    let rows = [
-        // no JSON, before all else
-        ("", 1u64),
-        ("[\"quit\"", 1),
-        ("[\"nothing\",1e999]", 1),
-        ("[\"assign\",\"d\",[1],1.5] 0", 1),
-        // no request, before a wrong value
-        ("{}", 2),
-        ("[]", 2),
-        ("[\"nothing\"]", 2),
-        ("[\"open\"]", 2),
-        ("[\"quit\",0]", 2),
-        ("[\"open\",4]", 2),
-        ("[\"keys\",\"d\",[1]]", 2),
-        ("[\"keys\",\"d\",[]]", 2),
-        ("[\"keys\",\"d\",[0,-1]]", 2),
-        ("[\"keys\",\"d\",[0,1.0]]", 2),
-        ("[\"assign\",\"d\",[],1.5]", 2),
-        ("[\"assign\",7,[0],1.5]", 2),
-        ("[\"assign\",\"d\",[0],1.5,0]", 2),
-        ("[\"let\",\"d\",0,[0]]", 2),
-        ("[\"forget\",\"d\",[0,\"p\"]]", 2),
-        ("[\"ops\",\"d\",[[\"q\",1],[\"o\",2]],65]", 2),
-        ("[\"ops\",\"d\",[[\"q\",1],[\"o\",2]],0]", 2),
-        ("[\"ops\",\"d\",[[\"q\",1],[\"o\",0]],1]", 2),
-        // a wrong value, an order of a front
-        ("[\"assign\",\"d\",[0],1.5]", 6),
-        ("[\"insert\",\"nowhere\",[\"unbound\"],[0]]", 6),
-        ("[\"add\",\"d\",[0],9223372036854775808]", 6),
-        ("[\"add\",\"d\",[0],\"1\"]", 6),
-        ("[\"ops\",\"d\",[[\"q\",1],[\"o\",2]],64]", 13),
-        ("[\"ops\",\"d\",[[\"q\",1],[\"q\",2]],1]", 13),
-    ];
-    for (line, number) in rows {
-        assert_eq!(rt; cause(rt.alloc(), line.as_bytes()), number, "{line}");
+    for (line, number) in &CAUSES {
+        assert!(rt; cause(rt.alloc(), line.as_bytes()) == *number, "{line}");
     }
     assert_eq!(rt; cause(rt.alloc(), b"[\"\xff\"]"), 1);
 }
 
+/// What stands for an operation, and the number of the first cause against it.
+static OPERATIONS: [(&str, u64); 8] = [
+    ("0", 12u64),
+    ("[\"op\",[1,\"P\"],[],[[[\"m\",0]],\"k\"],[\"delete\"]]", 12),
+    ("[\"op\",[1,\"p\"],[],[[],\"k\"],[\"delete\"]]", 12),
+    ("[\"op\",[1,\"p\"],[],[[[\"l\",0]],1],[\"delete\"]]", 12),
+    (
+        "[\"op\",[1,\"p\"],[],[[[\"m\",0]],\"k\"],[\"assign\",1.5]]",
+        12,
+    ),
+    // a value that is none, with an order that isn't kept
+    (
+        "[\"op\",[9,\"p\"],[[\"q\",1],[\"o\",2]],[[],0],[\"assign\",[0]]]",
+        12,
+    ),
+    (
+        "[\"op\",[3,\"p\"],[[\"q\",1],[\"o\",2]],[[[\"m\",0]],\"k\"],[\"delete\"]]",
+        13,
+    ),
+    ("[\"op\",[2,\"p\"],[],[[[\"m\",0]],\"k\"],[\"delete\"]]", 13),
+];
+
 #[test]
 fn tells_the_first_cause_against_an_operation(rt: HostRuntime) {
-    let rows = [
-        ("0", 12u64),
-        ("[\"op\",[1,\"P\"],[],[[[\"m\",0]],\"k\"],[\"delete\"]]", 12),
-        ("[\"op\",[1,\"p\"],[],[[],\"k\"],[\"delete\"]]", 12),
-        ("[\"op\",[1,\"p\"],[],[[[\"l\",0]],1],[\"delete\"]]", 12),
-        (
-            "[\"op\",[1,\"p\"],[],[[[\"m\",0]],\"k\"],[\"assign\",1.5]]",
-            12,
-        ),
-        // a value that is none, with an order that isn't kept
-        (
-            "[\"op\",[9,\"p\"],[[\"q\",1],[\"o\",2]],[[],0],[\"assign\",[0]]]",
-            12,
-        ),
-        (
-            "[\"op\",[3,\"p\"],[[\"q\",1],[\"o\",2]],[[[\"m\",0]],\"k\"],[\"delete\"]]",
-            13,
-        ),
-        ("[\"op\",[2,\"p\"],[],[[[\"m\",0]],\"k\"],[\"delete\"]]", 13),
-    ];
-    for (operation, number) in rows {
-        match delivery(rt.alloc(), operation) {
-            Ok(line) => assert_eq!(rt; cause(rt.alloc(), line.as_bytes()), number, "{operation}"),
-            Err(_) => assert!(rt; false),
-        }
+    for (operation, number) in &OPERATIONS {
+        assert!(rt;
+            delivered(rt.alloc(), operation) == Ok(*number),
+            "{operation}"
+        );
     }
 }
 
@@ -177,6 +190,11 @@ fn delivery(alloc: Global, operation: &str) -> Result<String, Refusal> {
     line.push_str(operation)?;
     line.push_str("]")?;
     Ok(line)
+}
+
+/// The number of the cause against an operation that is handed in.
+fn delivered(alloc: Global, operation: &str) -> Result<u64, Refusal> {
+    Ok(cause(alloc, delivery(alloc, operation)?.as_bytes()))
 }
 
 /// The parts with so many of the same between them.
@@ -195,33 +213,47 @@ fn around(
     Ok(line)
 }
 
+/// The number of the cause against such a line.
+fn cause_around(
+    alloc: Global,
+    before: &str,
+    many: usize,
+    piece: &str,
+    after: &str,
+) -> Result<u64, Refusal> {
+    Ok(cause(alloc, around(alloc, before, many, piece, after)?.as_bytes()))
+}
+
+/// Lines at a limit and past it, by their parts, and the number of the cause against each, or 0.
+static LIMITS: [(&str, usize, &str, &str, u64); 7] = [
+    ("[\"assign\",\"d\",[0],\"", 4096, "a", "\"]", 0),
+    ("[\"assign\",\"d\",[0],\"", 4097, "a", "\"]", 6),
+    ("[\"let\",\"d\",\"", 128, "a", "\",[0]]", 0),
+    ("[\"let\",\"d\",\"", 129, "a", "\",[0]]", 2),
+    ("[\"keys\",\"d\",[\"", 129, "a", "\"]]", 2),
+    // a longer text further on is the step's matter
+    ("[\"keys\",\"d\",[0,\"", 129, "a", "\"]]", 0),
+    ("[\"keys\",\"d\",[0", 2000, ",1", "]]", 0),
+];
+
 #[test]
-fn reads_up_to_the_limits(rt: HostRuntime) -> Result<(), Fail> {
-    let rows = [
-        ("[\"assign\",\"d\",[0],\"", 4096, "a", "\"]", 0u64),
-        ("[\"assign\",\"d\",[0],\"", 4097, "a", "\"]", 6),
-        ("[\"let\",\"d\",\"", 128, "a", "\",[0]]", 0),
-        ("[\"let\",\"d\",\"", 129, "a", "\",[0]]", 2),
-        ("[\"keys\",\"d\",[\"", 129, "a", "\"]]", 2),
-        // a longer text further on is the step's matter
-        ("[\"keys\",\"d\",[0,\"", 129, "a", "\"]]", 0),
-        ("[\"keys\",\"d\",[0", 2000, ",1", "]]", 0),
-    ];
-    for (before, many, piece, after, number) in rows {
-        let line = around(rt.alloc(), before, many, piece, after)?;
-        assert_eq!(rt; cause(rt.alloc(), line.as_bytes()), number, "{before}");
+fn reads_up_to_the_limits(rt: HostRuntime) {
+    for (before, many, piece, after, number) in &LIMITS {
+        let found = cause_around(rt.alloc(), before, *many, piece, after);
+        assert!(rt; found == Ok(*number), "{before}");
     }
-    Ok(())
+}
+
+/// The number of the cause against an empty array in so many arrays less one.
+fn cause_of_depth(alloc: Global, depth: usize) -> Result<u64, Refusal> {
+    let opening = around(alloc, "", depth, "[", "")?;
+    cause_around(alloc, opening.as_str(), depth, "]", "")
 }
 
 #[test]
-fn reads_down_to_the_deepest_array(rt: HostRuntime) -> Result<(), Fail> {
-    for (depth, number) in [(127, 2u64), (128, 1)] {
-        let opening = around(rt.alloc(), "", depth, "[", "")?;
-        let line = around(rt.alloc(), opening.as_str(), depth, "]", "")?;
-        assert_eq!(rt; cause(rt.alloc(), line.as_bytes()), number, "{depth}");
-    }
-    Ok(())
+fn reads_down_to_the_deepest_array(rt: HostRuntime) {
+    assert!(rt; cause_of_depth(rt.alloc(), 127) == Ok(2));
+    assert!(rt; cause_of_depth(rt.alloc(), 128) == Ok(1));
 }
 
 /// Whether this is told by that line.
