@@ -263,7 +263,10 @@ fn spot_of(blocks: &[Block], key: &Key) -> Spot
 {
     let at = block_of(blocks, key);
     match blocks.get(at) {
-        None => Spot { block: at, place: 0 },
+        None => Spot {
+            block: at,
+            place: 0,
+        },
         Some(block) => Spot {
             block: at,
             place: rank_of_key(block.entries.as_slice(), key),
