@@ -18,7 +18,7 @@ use Rattle.crdt_rules.proofs.WalkLaws.{id_order}
 use Rattle.sorted_lists.proofs.Keys.{is_Less, apart_back, greater_is, not_less_back}
 use Rattle.sorted_lists.proofs.Rising.{IsRising-split}
 use Rattle.presence_set.specs.ById.{put_at_id, uncovered, IsAscending}
-use Rattle.presence_set.specs.Blocks.{pairs_in, has_pair, starts_by, blocks_by, AreNonEmpty, has_room, settled, HasSpareRoom, AllHaveRoom, HaveRoomBut}
+use Rattle.presence_set.specs.Blocks.{pairs_in, has_pair, starts_by, blocks_by, AreNonEmpty, is_nowhere, settled, HasSpareRoom, AllHaveRoom, HaveRoomBut}
 use Rattle.presence_set.specs.declared.lack.Lack.{Lack}
 use Rattle.presence_set.specs.declared.lack.Lack.TheVariants.{Nowhere, InFirst, InRest, Anywhere}
 use Rattle.presence_set.proofs.Ascending.{ids_ordered}
@@ -36,18 +36,11 @@ not_true : (b : Bool) → not b ≡ true → b ≡ false
 not_true true e = absurd (true≢false (sym e))
 not_true false e = refl
 
-pub settled-same : (lack : Lack) → has_room (settled lack) ≡ has_room lack
+pub settled-same : (lack : Lack) → is_nowhere (settled lack) ≡ is_nowhere lack
 settled-same Nowhere = refl
 settled-same InFirst = refl
 settled-same (InRest at) = refl
 settled-same Anywhere = refl
-
--- room everywhere
-pub nowhere_is : {X : Type 0} (lack : Lack) (first : List (Id × X) × ℕ) (rest : List (List (Id × X) × ℕ)) → has_room lack ≡ true → HaveRoomBut lack first rest → HasSpareRoom first × AllHaveRoom rest
-nowhere_is Nowhere first rest is room = room
-nowhere_is InFirst first rest is room = absurd (true≢false (sym is))
-nowhere_is (InRest at) first rest is room = absurd (true≢false (sym is))
-nowhere_is Anywhere first rest is room = absurd (true≢false (sym is))
 
 module _ {X : Type 0} where
   pub rising_parts : (xs ys : List (Id × X)) → IsAscending (xs ++ ys) → IsAscending xs × IsAscending ys

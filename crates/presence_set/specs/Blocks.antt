@@ -8,9 +8,9 @@ use Rattle.presence_set.specs.declared.lack.Lack.{Lack}
 use Rattle.presence_set.specs.declared.lack.Lack.TheVariants.{Nowhere, InFirst, InRest, Anywhere}
 
 -- no block may lack room
-abbrev pub has_room : Lack → Bool
-has_room Nowhere = true
-has_room _ = false
+abbrev pub is_nowhere : Lack → Bool
+is_nowhere Nowhere = true
+is_nowhere _ = false
 
 -- what is known of it when blocks have gone
 abbrev pub settled : Lack → Lack

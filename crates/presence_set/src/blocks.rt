@@ -27,11 +27,11 @@ pub struct InBlocks<X> {
 impl<X> Model for InBlocks<X> {
     ghost use Rattle.std.specs.Prelude.{List, Bool, ◌++◌};
     ghost use Rattle.lamport_id.specs.declared.id.Id.{Id};
-    ghost use Rattle.presence_set.specs.Blocks.{pairs_in, has_room, IsInBlocks};
+    ghost use Rattle.presence_set.specs.Blocks.{pairs_in, is_nowhere, IsInBlocks};
 
     ghost Value = { List (Id × X) × Bool };
 
-    ghost view = { λ p. (p.first.0 ++ pairs_in p.rest.items, has_room p.lack) };
+    ghost view = { λ p. (p.first.0 ++ pairs_in p.rest.items, is_nowhere p.lack) };
 
     ghost invariant = { λ p. IsInBlocks p.first p.rest.items p.lack };
 }
@@ -65,7 +65,7 @@ impl<X: Drop> InBlocks<X> {
         ensures room { OnOk result (self.new.1 ≡ true) }
     {
         let lack = self.lack;
-        if has_room(lack) {
+        if is_nowhere(lack) {
             return Ok(());
         }
         self.lack = Lack::Anywhere;
@@ -198,8 +198,8 @@ fn starts_by<X>(entries: &[(Id, X)], id: &Id) -> bool
 }
 
 /// Whether no block may lack room.
-fn has_room(lack: Lack) -> bool
-    ensures { result ≡ Spec.has_room lack }
+fn is_nowhere(lack: Lack) -> bool
+    ensures { result ≡ Spec.is_nowhere lack }
 {
     match lack {
         Lack::Nowhere => true,
@@ -225,7 +225,7 @@ fn put_into<X: Drop>(first: &mut ById<X>, rest: &mut Vec<ById<X>>, id: Id, value
     requires rest { AllHaveRoom rest.old.items }
     ensures same { first.new.0 ++ pairs_in rest.new.items ≡ put_at_id (first.old.0 ++ pairs_in rest.old.items) id value }
     ensures filled { AreNonEmpty rest.new.items }
-    ensures taken { Spec.has_room result ≡ false }
+    ensures taken { Spec.is_nowhere result ≡ false }
     ensures room { HaveRoomBut result first.new rest.new.items }
 {
     match blocks_by(rest.as_slice(), &id).checked_sub(1) {

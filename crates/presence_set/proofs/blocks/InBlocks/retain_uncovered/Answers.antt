@@ -3,7 +3,7 @@ use Rattle.doc_words.specs.Words.{id_cmp}
 use Rattle.op_core.specs.Front.{covers}
 use Rattle.sorted_lists.proofs.Rising.{rising-filter}
 use Rattle.presence_set.specs.ById.{uncovered, IsAscending}
-use Rattle.presence_set.specs.Blocks.{pairs_in, has_pair, AreNonEmpty, has_room, HasSpareRoom, AllHaveRoom, HaveRoomBut}
+use Rattle.presence_set.specs.Blocks.{pairs_in, has_pair, AreNonEmpty, is_nowhere, HasSpareRoom, AllHaveRoom, HaveRoomBut}
 use Rattle.presence_set.proofs.BlockLaws.{uncovered-append, pairs_in-cleared, filled-filled, room-cleared, rooms-cleared, rooms-settled, settled-same}
 use Rattle.presence_set.proofs.blocks.InBlocks.retain_uncovered.Goals as goal
 
@@ -36,4 +36,4 @@ returns g c =
     let all : c.retain_uncovered.new.self.0 ++ pairs_in c.drop_empty.new.blocks.items ≡ uncovered front (first.0 ++ pairs_in rest) =
     ap (λ z. z.0 ++ pairs_in c.drop_empty.new.blocks.items) c.retain_uncovered.ensures ∙ ap (λ l. uncovered front first.0 ++ pairs_in l) blocks
     ∙ ap (λ l. uncovered front first.0 ++ l) (pairs_in-cleared front rest) ∙ sym (uncovered-append front first.0 (pairs_in rest)) in
-    rw (← c.self.view_is) (λ i. (all i, (ap has_room c.settled-self-inside.ensures ∙ settled-same c.self.inside.lack) i))
+    rw (← c.self.view_is) (λ i. (all i, (ap is_nowhere c.settled-self-inside.ensures ∙ settled-same c.self.inside.lack) i))
