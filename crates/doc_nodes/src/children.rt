@@ -20,11 +20,19 @@ use std::marker::Model;
 // How many children a block takes, so many that there are few blocks, and so few that one more moves little.
 const FULL: usize = 128;
 
-// Where an entry stood when it was added: its block, and its place there.
+/// Where a child stands: its block, and its place there. It says nothing of what stands there now, so that one that is
+/// out of date, or of other children, costs time alone.
 #[derive(Clone, Copy)]
-struct Spot {
+pub struct Spot {
     block: usize,
     place: usize,
+}
+
+impl Spot {
+    /// The first place.
+    pub fn first() -> Spot {
+        Spot { block: 0, place: 0 }
+    }
 }
 
 // How many children stand before a block.
@@ -97,7 +105,7 @@ impl Children {
         Children {
             blocks: Vec::new(alloc),
             count: 0,
-            latest: Spot { block: 0, place: 0 },
+            latest: Spot::first(),
             start: first_start(),
         }
     }
@@ -110,6 +118,19 @@ impl Children {
             return Some(number);
         }
         number_of(self.blocks.as_slice(), key)
+    }
+
+    /// The same as `find` tells, found at once where the child stands right behind the spot. The spot is then where it stands.
+    pub fn find_beside(&self, key: &Key, spot: &mut Spot) -> Option<NodeNumber>
+        ensures { result ≡ number_at self.now key.now }
+    {
+        let next = spot_behind(self.blocks.as_slice(), *spot);
+        if let Some(number) = number_there(self.blocks.as_slice(), next, key) {
+            *spot = next;
+            return Some(number);
+        }
+        *spot = spot_of(self.blocks.as_slice(), key);
+        number_found(self.blocks.as_slice(), *spot, key)
     }
 
     /// Adds a child at a key that has none, in the order of keys.
@@ -231,23 +252,73 @@ fn number_of(blocks: &[Block], key: &Key) -> Option<NodeNumber>
     requires { AreBlocks blocks.now }
     ensures { result ≡ number_at (joined blocks.now) key.now }
 {
+    number_found(blocks, spot_of(blocks, key), key)
+}
+
+/// Where a key stands, or would stand, found by bisection.
+fn spot_of(blocks: &[Block], key: &Key) -> Spot
+    requires { AreBlocks blocks.now }
+    ensures block { result.block ≡ block_rank key.now blocks.now }
+    ensures place { result.place ≡ KeyOrder.key_rank (slice_index_or blocks.now result.block []) key.now }
+{
     let at = block_of(blocks, key);
     match blocks.get(at) {
-        None => None,
-        Some(block) => number_in(block.entries.as_slice(), key),
+        None => Spot {
+            block: at,
+            place: 0,
+        },
+        Some(block) => Spot {
+            block: at,
+            place: rank_of_key(block.entries.as_slice(), key),
+        },
     }
 }
 
-/// The number at a key in one block.
-fn number_in(entries: &[(Key, NodeNumber)], key: &Key) -> Option<NodeNumber>
-    requires { IsInKeyOrder entries.now }
+/// The number at a key, at the spot where bisection ends.
+fn number_found(blocks: &[Block], spot: Spot, key: &Key) -> Option<NodeNumber>
+    requires blocks { AreBlocks blocks.now }
+    requires block { spot.block ≡ block_rank key.now blocks.now }
+    requires place { spot.place ≡ KeyOrder.key_rank (slice_index_or blocks.now spot.block []) key.now }
+    ensures { result ≡ number_at (joined blocks.now) key.now }
+{
+    match blocks.get(spot.block) {
+        None => None,
+        Some(block) => number_in(block.entries.as_slice(), spot.place, key),
+    }
+}
+
+/// The number at a key in one block, at the place where bisection ends.
+fn number_in(entries: &[(Key, NodeNumber)], at: usize, key: &Key) -> Option<NodeNumber>
+    requires rising { IsInKeyOrder entries.now }
+    requires at { at ≡ KeyOrder.key_rank entries.now key.now }
     ensures { result ≡ number_at entries.now key.now }
 {
-    let at = rank_of_key(entries, key);
     if at < entries.len() && is_same_key(&entries[at].0, key) {
         Some(entries[at].1)
     } else {
         None
+    }
+}
+
+/// The place behind a spot: in its block, or at the start of the next one.
+fn spot_behind(blocks: &[Block], spot: Spot) -> Spot {
+    let Some(block) = blocks.get(spot.block) else {
+        return spot;
+    };
+    let count = block.entries.len();
+    if spot.place >= count {
+        return spot;
+    }
+    if spot.place + 1 < count {
+        Spot {
+            block: spot.block,
+            place: spot.place + 1,
+        }
+    } else {
+        Spot {
+            block: spot.block + 1,
+            place: 0,
+        }
     }
 }
 

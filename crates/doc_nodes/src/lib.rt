@@ -10,7 +10,7 @@ mod mark;
 mod node;
 mod write;
 
-pub use children::{Children, EachChild};
+pub use children::{Children, EachChild, Spot};
 pub use clear::{clear_under, clear_way};
 pub use finding::{find, find_list, keys, known_list, known_node};
 pub use growth::{prepare_way, reserve_order, reserve_value};

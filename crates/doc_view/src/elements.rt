@@ -10,7 +10,7 @@ ghost use Rattle.doc_view.specs.Members.{listed};
 ghost use Rattle.doc_view.specs.Readings.{GivesUnlessMemory, IsNth, ReadsUnlessMemory};
 
 use crate::registers::values_below;
-use doc_tree::{NodeNumber, Tree};
+use doc_tree::{NodeNumber, Spot, Tree};
 use doc_words::{Items, Scalars};
 use json_scalar::Refusal;
 use lamport_id::Id;
@@ -54,8 +54,9 @@ fn items_of(
     ensures { GivesUnlessMemory (λ items. AtNode tree.now list (λ p k. HasItems (tree_facts tree.now) (reads.into_list p k) ids.now items.items)) result }
 {
     let mut items = Vec::new(alloc);
+    let mut spot = Spot::first();
     for id in ids {
-        let item = item_at(alloc, tree, list, id)?;
+        let item = item_at(alloc, tree, list, id, &mut spot)?;
         push_item(&mut items, item)?;
     }
     Ok(items)
@@ -67,10 +68,11 @@ fn item_at(
     tree: &Tree,
     list: NodeNumber,
     id: &Id,
+    spot: &mut Spot,
 ) -> Result<Option<(Id, Scalars)>, Refusal>
     ensures { GivesUnlessMemory (λ item. AtNode tree.now list (λ p k. HasItems (tree_facts tree.now) (reads.into_list p k) (id.now ∷ []) (listed item))) result }
 {
-    match present_element(tree, list, id) {
+    match present_element(tree, list, id, spot) {
         None => Ok(None),
         Some(at) => {
             let scalars = values_below(alloc, tree, at)?;
@@ -88,12 +90,18 @@ fn push_item(items: &mut Vec<(Id, Scalars)>, item: Option<(Id, Scalars)>) -> Res
     Ok(())
 }
 
-/// The number of the node of an element of the list at a node, if the element is present.
-pub fn present_element(tree: &Tree, list: NodeNumber, id: &Id) -> Option<NodeNumber>
+/// The number of the node of an element of the list at a node, if the element is present. The spot is that of the element
+/// that was asked for before.
+pub fn present_element(
+    tree: &Tree,
+    list: NodeNumber,
+    id: &Id,
+    spot: &mut Spot,
+) -> Option<NodeNumber>
     ensures value { AtNode tree.now list (λ p k. IsElementAt tree.now (reads.into_list p k) id.now result) }
     ensures deeper { ForSome result (λ n. (list.0 < n.0) × (n.0 < length tree.now.0)) }
 {
-    match tree.child_of(list, &Key::Element(*id)) {
+    match tree.child_by(list, &Key::Element(*id), spot) {
         None => None,
         Some(at) => { if is_here(tree, at) { Some(at) } else { None } }
     }

@@ -43,6 +43,8 @@ fn scalars_of(alloc: Global, entries: &[(Id, Scalar)]) -> Result<Vec<Scalar>, Re
     ensures { GivesUnlessMemory (λ scalars. scalars.items ≡ map (λ e. e.1) entries.now) result }
 {
     let mut scalars = Vec::new(alloc);
+    // Most registers have one scalar.
+    scalars.reserve_exact(entries.len())?;
     for entry in entries {
         scalars.push(entry.1.try_clone()?)?;
     }

@@ -21,7 +21,7 @@ use crate::elements::present_element;
 use crate::maps::present_text;
 use crate::roles::{puts_list, puts_map};
 use crate::written::{begin_branch, end_branch, put_values};
-use doc_tree::{EachChild, NodeNumber, Tree};
+use doc_tree::{EachChild, NodeNumber, Spot, Tree};
 use doc_words::ShownText;
 use json_scalar::Refusal;
 use json_text::JsonText;
@@ -187,8 +187,9 @@ fn elements_at(
         (λ ds. AtNode tree.now list (λ p k. ShowsThose tree.now (into_list p k) ids.now ds)) text.old text.new is_begun) result }
 {
     let mut is_begun = was_begun;
+    let mut spot = Spot::first();
     for id in ids {
-        is_begun = element_at(alloc, text, tree, list, id, is_begun)?;
+        is_begun = element_at(alloc, text, tree, list, id, &mut spot, is_begun)?;
     }
     Ok(is_begun)
 }
@@ -201,12 +202,13 @@ fn element_at(
     tree: &Tree,
     list: NodeNumber,
     id: &Id,
+    spot: &mut Spot,
     was_begun: bool,
 ) -> Result<bool, Refusal>
     ensures { GivesUnlessMemory (λ is_begun. TellsParts (codes "list") was_begun
         (λ ds. AtNode tree.now list (λ p k. ShowsThose tree.now (into_list p k) (id.now ∷ []) ds)) text.old text.new is_begun) result }
 {
-    match present_element(tree, list, id) {
+    match present_element(tree, list, id, spot) {
         None => Ok(was_begun),
         Some(at) => {
             begin_branch(text, "list", !was_begun)?;

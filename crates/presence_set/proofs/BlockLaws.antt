@@ -1,11 +1,11 @@
 -- Laws of pairs in blocks: which block takes an id, and what a cut and a clearing leave.
-use Rattle.std.proofs.Common.{◌≡◌, ℕ, zero, suc, ◌<◌, ◌≤◌, ◌+◌, inl, inr, List, [], ◌∷◌, ◌++◌, append_assoc, append-nil, length, get_or, set, take, drop, map, filter, Bool, true, false, not, if◌then◌else◌, Contains, refl, sym, ap, ◌∙◌, subst, true≢false, arith, Less, Result, Ok, Err}
+use Rattle.std.proofs.Common.{◌≡◌, ℕ, zero, suc, ◌<◌, ◌≤◌, ◌+◌, List, [], ◌∷◌, ◌++◌, append_assoc, append-nil, length, get_or, set, take, drop, map, filter, Bool, true, false, not, if◌then◌else◌, Contains, refl, sym, ap, ◌∙◌, subst, true≢false, arith, Less, Result, Ok, Err}
 use Rattle.std.specs.Prelude.{insert, OnOk, ⊤}
 use Rattle.std.specs.Ordering.{is_lt}
 use Rattle.std.specs.Bool.{◌==◌}
 use Rattle.std.specs.List.Sorted.{IsPartitionedBy, IsPartitionPoint}
 use Rattle.std.proofs.lemmas.Bool.Decides.{nat_tests}
-use Rattle.std.proofs.lemmas.List.{take-append-drop}
+use Rattle.std.proofs.lemmas.List.{take-append-drop, take-set, length-set, drop-set-lt}
 use Rattle.std.proofs.lemmas.List.Sums.{prefix_len_is}
 use Rattle.std.proofs.lemmas.List.Elements.{Contains-append_left, Contains-append_right}
 use Rattle.doc_words.specs.Words.{Id, id_cmp}
@@ -18,7 +18,9 @@ use Rattle.crdt_rules.proofs.WalkLaws.{id_order}
 use Rattle.sorted_lists.proofs.Keys.{is_Less, apart_back, greater_is, not_less_back}
 use Rattle.sorted_lists.proofs.Rising.{IsRising-split}
 use Rattle.presence_set.specs.ById.{put_at_id, uncovered, IsAscending}
-use Rattle.presence_set.specs.Blocks.{pairs_in, has_pair, starts_by, blocks_by, AreNonEmpty, HasSpareRoom, AllHaveRoom}
+use Rattle.presence_set.specs.Blocks.{pairs_in, has_pair, starts_by, blocks_by, AreNonEmpty, is_nowhere, settled, HasSpareRoom, AllHaveRoom, HaveRoomBut}
+use Rattle.presence_set.specs.declared.lack.Lack.{Lack}
+use Rattle.presence_set.specs.declared.lack.Lack.TheVariants.{Nowhere, InFirst, InRest, Anywhere}
 use Rattle.presence_set.proofs.Ascending.{ids_ordered}
 
 -- less than one that isn't greater
@@ -33,6 +35,12 @@ less_le a b c less over = go (is_lt (id_cmp b c)) refl (id_eq b c) refl
 not_true : (b : Bool) → not b ≡ true → b ≡ false
 not_true true e = absurd (true≢false (sym e))
 not_true false e = refl
+
+pub settled-same : (lack : Lack) → is_nowhere (settled lack) ≡ is_nowhere lack
+settled-same Nowhere = refl
+settled-same InFirst = refl
+settled-same (InRest at) = refl
+settled-same Anywhere = refl
 
 module _ {X : Type 0} where
   pub rising_parts : (xs ys : List (Id × X)) → IsAscending (xs ++ ys) → IsAscending xs × IsAscending ys
@@ -306,6 +314,53 @@ module _ {X : Type 0} where
   rooms-on [] at d within room later = absurd (omega (arith, within))
   rooms-on (b ∷ blocks) zero d within room later = (room, later)
   rooms-on (b ∷ blocks) (suc at) d within room later = rooms-on blocks at d (omega (arith, within)) room later
+
+  -- ---- all but one block have room
+
+  take-spliced : (blocks : List (List (Id × X) × ℕ)) (n : ℕ) (mid : List (List (Id × X) × ℕ)) → take n (spliced blocks n mid) ≡ take n blocks
+  take-spliced [] n mid = refl
+  take-spliced (b ∷ blocks) zero mid = refl
+  take-spliced (b ∷ blocks) (suc n) mid = ap (λ l. b ∷ l) (take-spliced blocks n mid)
+
+  -- what stands before a block that is cut, and of which the second part grows, stays
+  pub split-earlier : (blocks : List (List (Id × X) × ℕ)) (at : ℕ) (a b c : List (Id × X) × ℕ) → at < length blocks
+      → take at (set (insert (set blocks at a) (suc at) b) (suc at) c) ≡ take at blocks
+  split-earlier blocks at a b c within =
+      ap (take at) (ap (λ l. set l (suc at) c) (insert-spliced blocks at a b within) ∙ second-spliced blocks at a b c within)
+      ∙ take-spliced blocks at (a ∷ c ∷ [])
+
+  pub rooms-drop : (n : ℕ) (blocks : List (List (Id × X) × ℕ)) → AllHaveRoom blocks → AllHaveRoom (drop n blocks)
+  rooms-drop zero blocks room = room
+  rooms-drop (suc n) [] room = tt
+  rooms-drop (suc n) (b ∷ blocks) room = rooms-drop n blocks room.1
+
+  pub rooms-take : (n : ℕ) (blocks : List (List (Id × X) × ℕ)) → AllHaveRoom blocks → AllHaveRoom (take n blocks)
+  rooms-take zero blocks room = tt
+  rooms-take (suc n) [] room = tt
+  rooms-take (suc n) (b ∷ blocks) room = (room.0, rooms-take n blocks room.1)
+
+  pub rooms-whole : (n : ℕ) (blocks : List (List (Id × X) × ℕ)) → AllHaveRoom (take n blocks) → AllHaveRoom (drop n blocks) → AllHaveRoom blocks
+  rooms-whole zero blocks earlier later = later
+  rooms-whole (suc n) [] earlier later = tt
+  rooms-whole (suc n) (b ∷ blocks) earlier later = (earlier.0, rooms-whole n blocks earlier.1 later)
+
+  -- once a block is written, each other has the room that it had
+  pub rooms-but : (first : List (Id × X) × ℕ) (blocks : List (List (Id × X) × ℕ)) (at : ℕ) (b : List (Id × X) × ℕ)
+      → HasSpareRoom first → AllHaveRoom blocks → at < length blocks → HaveRoomBut (InRest at) first (set blocks at b)
+  rooms-but first blocks at b room all within = (
+    room,
+    subst (λ n. at < n) (sym (length-set blocks at b)) within,
+    subst AllHaveRoom (sym (take-set blocks at b)) (rooms-take at blocks all),
+    subst AllHaveRoom (sym (drop-set-lt (suc at) blocks at b (omega arith))) (rooms-drop (suc at) blocks all),
+  )
+
+  -- where blocks go and others take nothing, room is known as far as it was everywhere
+  pub rooms-settled : (lack : Lack) (first new : List (Id × X) × ℕ) (blocks more : List (List (Id × X) × ℕ)) → HaveRoomBut lack first blocks
+      → (HasSpareRoom first → HasSpareRoom new) → (AllHaveRoom blocks → AllHaveRoom more) → HaveRoomBut (settled lack) new more
+  rooms-settled Nowhere first new blocks more room one all = (one room.0, all room.1)
+  rooms-settled InFirst first new blocks more room one all = tt
+  rooms-settled (InRest at) first new blocks more room one all = tt
+  rooms-settled Anywhere first new blocks more room one all = tt
 
   -- both parts of a cut have pairs
   pub low_has : (n : ℕ) (xs : List (Id × X)) → 0 < n → n < length xs → has_pair (take n xs) ≡ true

@@ -1,9 +1,21 @@
 -- What stands at ids, in blocks: the pairs of a block, and how many it has room for.
-use Rattle.std.specs.Prelude.{◌≡◌, ◌<◌, ℕ, List, [], ◌∷◌, ◌++◌, length, Bool, true, false, not}
+use Rattle.std.specs.Prelude.{◌≡◌, ◌<◌, ℕ, suc, List, [], ◌∷◌, ◌++◌, length, take, drop, Bool, true, false, not}
 use Rattle.std.specs.List.{flat_map, prefix_len}
 use Rattle.std.specs.Ordering.{is_lt}
 use Rattle.doc_words.specs.Words.{Id, id_cmp}
 use Rattle.presence_set.specs.ById.{IsAscending}
+use Rattle.presence_set.specs.declared.lack.Lack.{Lack}
+use Rattle.presence_set.specs.declared.lack.Lack.TheVariants.{Nowhere, InFirst, InRest, Anywhere}
+
+-- no block may lack room
+abbrev pub is_nowhere : Lack → Bool
+is_nowhere Nowhere = true
+is_nowhere _ = false
+
+-- what is known of it when blocks have gone
+abbrev pub settled : Lack → Lack
+settled Nowhere = Nowhere
+settled _ = Anywhere
 
 module _ {X : Type 0} where
   -- the pairs of all blocks, one block after another
@@ -37,8 +49,15 @@ module _ {X : Type 0} where
   abbrev pub blocks_by : Id → List (List (Id × X) × ℕ) → ℕ
   blocks_by id blocks = prefix_len (λ b. starts_by id b.0) blocks
 
-  -- the ids rise in the first block and from there on, no other block is empty, and each has room where that is said
-  pub record IsInBlocks (first : List (Id × X) × ℕ) (rest : List (List (Id × X) × ℕ)) (has_room : Bool) : Type 0 where
+  -- the blocks that don't lack room have it
+  abbrev pub HaveRoomBut : Lack → List (Id × X) × ℕ → List (List (Id × X) × ℕ) → Type 0
+  HaveRoomBut Nowhere first rest = HasSpareRoom first × AllHaveRoom rest
+  HaveRoomBut InFirst first rest = AllHaveRoom rest
+  HaveRoomBut (InRest at) first rest = HasSpareRoom first × (at < length rest) × AllHaveRoom (take at rest) × AllHaveRoom (drop (suc at) rest)
+  HaveRoomBut Anywhere first rest = Unit {0}
+
+  -- the ids rise in the first block and from there on, no other block is empty, and each has room but where it may lack it
+  pub record IsInBlocks (first : List (Id × X) × ℕ) (rest : List (List (Id × X) × ℕ)) (lack : Lack) : Type 0 where
     pub rising : IsAscending (first.0 ++ pairs_in rest)
     pub filled : AreNonEmpty rest
-    pub room : has_room ≡ true → HasSpareRoom first × AllHaveRoom rest
+    pub room : HaveRoomBut lack first rest

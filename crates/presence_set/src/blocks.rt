@@ -2,10 +2,11 @@
 ghost use Rattle.std.specs.Prelude.{◌≡◌, ◌+◌, ◌<◌, ◌≤◌, ◌↔◌, ◌∷◌, ◌++◌, ℕ, [], true, false, length, map, filter, take, drop, not, insert, IsTrue, IfSome, OnOk, OnErr, slice_index_or, slice_set};
 ghost use Rattle.lamport_id.specs.declared.id.Id.{Id};
 ghost use Rattle.presence_set.specs.ById.{put_at_id, uncovered, IsAscending};
-ghost use Rattle.presence_set.specs.Blocks.{pairs_in, has_pair, starts_by, blocks_by, AreNonEmpty, HasSpareRoom, AllHaveRoom};
+ghost use Rattle.presence_set.specs.Blocks.{pairs_in, has_pair, starts_by, blocks_by, AreNonEmpty, HasSpareRoom, AllHaveRoom, HaveRoomBut};
 ghost use Rattle.presence_set.specs.Blocks as Spec;
 
 use crate::ById;
+use crate::lack::Lack;
 use lamport_id::Id;
 use op_core::Front;
 use std::alloc::{AllocError, Global};
@@ -14,24 +15,25 @@ use std::marker::Model;
 // How many ids a block takes: so many that there are few blocks, and so few that one more moves little.
 const FULL: usize = 256;
 
-/// At most one value for each id, in id order: in blocks, of which the first may be empty. Clauses see a pair: the ids with
-/// their values, and whether there is room for one more.
+/// At most one value for each id, in id order: in blocks, of which the first may be empty. It knows which block may lack
+/// room, so that one more id asks few of them. Clauses see a pair: the ids with their values, and whether there is room for
+/// one more.
 pub struct InBlocks<X> {
     first: ById<X>,
     rest: Vec<ById<X>>,
-    has_room: bool,
+    lack: Lack,
 }
 
 impl<X> Model for InBlocks<X> {
     ghost use Rattle.std.specs.Prelude.{List, Bool, ◌++◌};
     ghost use Rattle.lamport_id.specs.declared.id.Id.{Id};
-    ghost use Rattle.presence_set.specs.Blocks.{pairs_in, IsInBlocks};
+    ghost use Rattle.presence_set.specs.Blocks.{pairs_in, is_nowhere, IsInBlocks};
 
     ghost Value = { List (Id × X) × Bool };
 
-    ghost view = { λ p. (p.first.0 ++ pairs_in p.rest.items, p.has_room) };
+    ghost view = { λ p. (p.first.0 ++ pairs_in p.rest.items, is_nowhere p.lack) };
 
-    ghost invariant = { λ p. IsInBlocks p.first p.rest.items p.has_room };
+    ghost invariant = { λ p. IsInBlocks p.first p.rest.items p.lack };
 }
 
 impl<X: Drop> Drop for InBlocks<X> {
@@ -39,7 +41,7 @@ impl<X: Drop> Drop for InBlocks<X> {
         let InBlocks {
             first: _,
             rest: _,
-            has_room: _,
+            lack: _,
         } = self;
     }
 }
@@ -52,7 +54,7 @@ impl<X: Drop> InBlocks<X> {
         InBlocks {
             first: ById::new(alloc),
             rest: Vec::new(alloc),
-            has_room: false,
+            lack: Lack::Anywhere,
         }
     }
 
@@ -62,10 +64,13 @@ impl<X: Drop> InBlocks<X> {
         ensures grows { self.old.1 ≡ true → self.new.1 ≡ true }
         ensures room { OnOk result (self.new.1 ≡ true) }
     {
-        if !self.has_room {
-            make_room(&mut self.first, &mut self.rest)?;
-            self.has_room = true;
+        let lack = self.lack;
+        if is_nowhere(lack) {
+            return Ok(());
         }
+        self.lack = Lack::Anywhere;
+        make_room(&mut self.first, &mut self.rest, lack)?;
+        self.lack = Lack::Nowhere;
         Ok(())
     }
 
@@ -74,14 +79,14 @@ impl<X: Drop> InBlocks<X> {
         requires { self.old.1 ≡ true }
         ensures { self.new ≡ (put_at_id self.old.0 id value, false) }
     {
-        self.has_room = false;
-        put_into(&mut self.first, &mut self.rest, id, value);
+        self.lack = put_into(&mut self.first, &mut self.rest, id, value);
     }
 
     /// Drops the ids that the front covers.
     pub fn retain_uncovered(&mut self, front: &Front)
         ensures { self.new ≡ (uncovered front.now self.old.0, self.old.1) }
     {
+        self.lack = settled(self.lack);
         self.first.retain_uncovered(front);
         retain_each(&mut self.rest, front);
         drop_empty(&mut self.rest);
@@ -192,20 +197,46 @@ fn starts_by<X>(entries: &[(Id, X)], id: &Id) -> bool
     }
 }
 
-/// Puts a value into the block where its id belongs.
-fn put_into<X: Drop>(first: &mut ById<X>, rest: &mut Vec<ById<X>>, id: Id, value: X)
+/// Whether no block may lack room.
+fn is_nowhere(lack: Lack) -> bool
+    ensures { result ≡ Spec.is_nowhere lack }
+{
+    match lack {
+        Lack::Nowhere => true,
+        Lack::InFirst | Lack::InRest(_) | Lack::Anywhere => false,
+    }
+}
+
+/// What is known of the blocks that may lack room, when some have gone.
+fn settled(lack: Lack) -> Lack
+    ensures { result ≡ Spec.settled lack }
+{
+    match lack {
+        Lack::Nowhere => Lack::Nowhere,
+        Lack::InFirst | Lack::InRest(_) | Lack::Anywhere => Lack::Anywhere,
+    }
+}
+
+/// Puts a value into the block where its id belongs, and tells that this one may lack room then.
+fn put_into<X: Drop>(first: &mut ById<X>, rest: &mut Vec<ById<X>>, id: Id, value: X) -> Lack
     requires rising { IsAscending (first.old.0 ++ pairs_in rest.old.items) }
     requires filled { AreNonEmpty rest.old.items }
     requires first { HasSpareRoom first.old }
     requires rest { AllHaveRoom rest.old.items }
     ensures same { first.new.0 ++ pairs_in rest.new.items ≡ put_at_id (first.old.0 ++ pairs_in rest.old.items) id value }
     ensures filled { AreNonEmpty rest.new.items }
+    ensures taken { Spec.is_nowhere result ≡ false }
+    ensures room { HaveRoomBut result first.new rest.new.items }
 {
     match blocks_by(rest.as_slice(), &id).checked_sub(1) {
-        None => first.put(id, value),
+        None => {
+            first.put(id, value);
+            Lack::InFirst
+        }
         Some(at) => {
             let block = &mut rest[at];
             block.put(id, value);
+            Lack::InRest(at)
         }
     }
 }
@@ -238,8 +269,60 @@ fn has_pair<X: Drop>(block: &ById<X>) -> bool
     block.entries().split_first().is_some()
 }
 
+/// Makes room for one more id in each block that may lack it.
+fn make_room<X: Drop>(
+    first: &mut ById<X>,
+    rest: &mut Vec<ById<X>>,
+    lack: Lack,
+) -> Result<(), AllocError>
+    requires filled { AreNonEmpty rest.old.items }
+    requires room { HaveRoomBut lack first.old rest.old.items }
+    ensures same { first.new.0 ++ pairs_in rest.new.items ≡ first.old.0 ++ pairs_in rest.old.items }
+    ensures filled { AreNonEmpty rest.new.items }
+    ensures room { OnOk result (HasSpareRoom first.new × AllHaveRoom rest.new.items) }
+{
+    match lack {
+        Lack::Nowhere => Ok(()),
+        Lack::InFirst => make_room_in_front(first, rest),
+        Lack::InRest(at) => make_room_at(rest, at),
+        Lack::Anywhere => make_room_in_each(first, rest),
+    }
+}
+
+/// Makes room for one more id in the first block, and in the one that is cut from it.
+fn make_room_in_front<X: Drop>(
+    first: &mut ById<X>,
+    rest: &mut Vec<ById<X>>,
+) -> Result<(), AllocError>
+    requires filled { AreNonEmpty rest.old.items }
+    requires room { AllHaveRoom rest.old.items }
+    ensures same { first.new.0 ++ pairs_in rest.new.items ≡ first.old.0 ++ pairs_in rest.old.items }
+    ensures filled { AreNonEmpty rest.new.items }
+    ensures room { OnOk result (HasSpareRoom first.new × AllHaveRoom rest.new.items) }
+{
+    make_room_in_first(first, rest)?;
+    make_room_in_second(rest)
+}
+
+/// Makes room for one more id in the first of the other blocks, if there is one.
+fn make_room_in_second<X: Drop>(rest: &mut Vec<ById<X>>) -> Result<(), AllocError>
+    requires filled { AreNonEmpty rest.old.items }
+    requires later { AllHaveRoom (drop 1 rest.old.items) }
+    ensures same { pairs_in rest.new.items ≡ pairs_in rest.old.items }
+    ensures filled { AreNonEmpty rest.new.items }
+    ensures room { OnOk result (AllHaveRoom rest.new.items) }
+{
+    if rest.is_empty() {
+        return Ok(());
+    }
+    make_room_at(rest, 0)
+}
+
 /// Makes room for one more id in each block.
-fn make_room<X: Drop>(first: &mut ById<X>, rest: &mut Vec<ById<X>>) -> Result<(), AllocError>
+fn make_room_in_each<X: Drop>(
+    first: &mut ById<X>,
+    rest: &mut Vec<ById<X>>,
+) -> Result<(), AllocError>
     requires { AreNonEmpty rest.old.items }
     ensures same { first.new.0 ++ pairs_in rest.new.items ≡ first.old.0 ++ pairs_in rest.old.items }
     ensures filled { AreNonEmpty rest.new.items }
@@ -257,6 +340,7 @@ fn make_room_in_first<X: Drop>(
     requires { AreNonEmpty rest.old.items }
     ensures same { first.new.0 ++ pairs_in rest.new.items ≡ first.old.0 ++ pairs_in rest.old.items }
     ensures filled { AreNonEmpty rest.new.items }
+    ensures later { AllHaveRoom rest.old.items → AllHaveRoom (drop 1 rest.new.items) }
     ensures room { OnOk result (HasSpareRoom first.new) }
 {
     if first.has_room() {
@@ -293,6 +377,7 @@ fn cut_first<X: Drop>(
     requires inside { place < length first.old.0 }
     ensures same { first.new.0 ++ pairs_in rest.new.items ≡ first.old.0 ++ pairs_in rest.old.items }
     ensures filled { AreNonEmpty rest.new.items }
+    ensures later { AllHaveRoom rest.old.items → AllHaveRoom (drop 1 rest.new.items) }
     ensures room { OnOk result (HasSpareRoom first.new) }
 {
     rest.reserve(1)?;
@@ -326,6 +411,7 @@ fn make_room_at<X: Drop>(rest: &mut Vec<ById<X>>, at: usize) -> Result<(), Alloc
     ensures same { pairs_in rest.new.items ≡ pairs_in rest.old.items }
     ensures filled { AreNonEmpty rest.new.items }
     ensures longer { length rest.old.items ≤ length rest.new.items }
+    ensures earlier { take at rest.new.items ≡ take at rest.old.items }
     ensures room { OnOk result (AllHaveRoom (drop at rest.new.items)) }
 {
     if rest[at].has_room() {
@@ -357,6 +443,7 @@ fn cut_at<X: Drop>(rest: &mut Vec<ById<X>>, at: usize, place: usize) -> Result<(
     ensures same { pairs_in rest.new.items ≡ pairs_in rest.old.items }
     ensures filled { AreNonEmpty rest.new.items }
     ensures longer { length rest.old.items ≤ length rest.new.items }
+    ensures earlier { take at rest.new.items ≡ take at rest.old.items }
     ensures room { OnOk result (AllHaveRoom (drop at rest.new.items)) }
 {
     split_at(rest, at, place)?;

@@ -8,6 +8,7 @@ ghost use Rattle.lamport_id.specs.Order.{id_cmp};
 ghost use Rattle.presence_set.specs.ById.{put_at_id, contains, uncovered, rank, IsAscending};
 
 mod blocks;
+mod lack;
 
 pub use crate::blocks::{Entries, InBlocks};
 pub use doc_words::Role;

@@ -7,14 +7,14 @@ use Rattle.doc_view.proofs.elements.present_element.Goals as goal
 pub returns-in-None-clause-value : goal.returns-in-None-clause-value
 returns-in-None-clause-value c = λ p k at.
     absent_place c.args.tree.now (into_list p k) (Element c.args.id.now)
-    (element_number c.args.tree.now p k c.args.list at c.args.id.now ∙ sym c.child_of.ensures.value ∙ c.in-None.is)
+    (element_number c.args.tree.now p k c.args.list at c.args.id.now ∙ sym c.child_by.ensures.value ∙ c.in-None.is)
 
 pub returns-then-is_here-clause-value : goal.returns-then-is_here-clause-value
 returns-then-is_here-clause-value c = λ p k at.
-    let place = element_number c.args.tree.now p k c.args.list at c.args.id.now ∙ sym c.child_of.ensures.value ∙ c.in-Some.is in
+    let place = element_number c.args.tree.now p k c.args.list at c.args.id.now ∙ sym c.child_by.ensures.value ∙ c.in-Some.is in
     (place, (c.is_here.ensures (into_list p k) (Element c.args.id.now) place).0 c.if-is_here.true)
 
 pub returns-clause-value : goal.returns-clause-value
 returns-clause-value c = λ p k at.
-    let place = element_number c.args.tree.now p k c.args.list at c.args.id.now ∙ sym c.child_of.ensures.value ∙ c.in-Some.is in
+    let place = element_number c.args.tree.now p k c.args.list at c.args.id.now ∙ sym c.child_by.ensures.value ∙ c.in-Some.is in
     λ here. true≢false (sym ((c.is_here.ensures (into_list p k) (Element c.args.id.now) place).1 here) ∙ c.if-is_here.false)

@@ -1,4 +1,4 @@
-use Rattle.std.proofs.Common.{◌≡◌, ℕ, List, ◌<◌, ◌≤◌, ◌+◌, ◌∙◌, [], suc, refl, rules, sym, ap, subst, length, take, drop, set, get_or, arith}
+use Rattle.std.proofs.Common.{◌≡◌, ℕ, List, ◌<◌, ◌+◌, ◌∙◌, [], suc, refl, sym, ap, subst, length, take, drop, set, get_or, arith}
 use Rattle.std.specs.Prelude.{insert}
 use Rattle.std.proofs.lemmas.List.{take-append-drop}
 use Rattle.doc_words.specs.Words.{Id}

@@ -1,4 +1,4 @@
-use Rattle.std.proofs.Common.{◌++◌, ◌∙◌, append_assoc, sym, ap, take, drop}
+use Rattle.std.proofs.Common.{◌++◌, ◌∙◌, append_assoc, sym, ap, take}
 use Rattle.std.specs.Prelude.{insert}
 use Rattle.std.proofs.lemmas.List.{take-append-drop}
 use Rattle.presence_set.specs.Blocks.{pairs_in}

@@ -1,6 +1,6 @@
-use Rattle.std.proofs.Common.{◌≡◌, ◌<◌, ◌+◌, ◌∙◌, [], suc, refl, rules, sym, ap, subst, length, drop, set, get_or, arith}
-use Rattle.presence_set.specs.Blocks.{pairs_in, AreNonEmpty, HasSpareRoom, AllHaveRoom}
-use Rattle.presence_set.proofs.BlockLaws.{grown-pairs_in, grown-filled, grown-rooms, rooms-on, get-set, where_ok}
+use Rattle.std.proofs.Common.{◌∙◌, [], refl, sym, ap, subst, get_or}
+use Rattle.presence_set.specs.Blocks.{pairs_in, AreNonEmpty}
+use Rattle.presence_set.proofs.BlockLaws.{grown-pairs_in, grown-filled}
 use Rattle.presence_set.proofs.blocks.make_room_at.Goals as goal
 
 pub returns-in-None-clause-same : goal.returns-in-None-clause-same

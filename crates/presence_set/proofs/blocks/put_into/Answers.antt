@@ -1,7 +1,7 @@
-use Rattle.std.proofs.Common.{◌≡◌, ◌<◌, ◌∙◌, ◌++◌, [], suc, rules, sym, ap, subst, length, set, get_or, arith}
+use Rattle.std.proofs.Common.{◌≡◌, ◌<◌, ◌∙◌, ◌++◌, suc, rules, sym, ap, subst, length, set, get_or}
 use Rattle.presence_set.specs.ById.{put_at_id, IsAscending}
 use Rattle.presence_set.specs.Blocks.{pairs_in, has_pair, blocks_by, HasSpareRoom}
-use Rattle.presence_set.proofs.BlockLaws.{rising_parts, put_first, put_rest, room_at, filled-set, put_has}
+use Rattle.presence_set.proofs.BlockLaws.{rising_parts, put_first, put_rest, room_at, filled-set, put_has, rooms-but}
 use Rattle.presence_set.proofs.blocks.put_into.Goals as goal
 
 pub blocks_by-requires-clause-rising : goal.blocks_by-requires-clause-rising
@@ -39,3 +39,9 @@ returns-in-Some-clause-filled g c =
     let d = c.index_mut-block.result.now in
     filled-set c.args.rest.now.items c.in-Some.at c.put-in-Some.new.self c.requires.filled
     (ap (λ z. has_pair z.0) c.put-in-Some.ensures ∙ put_has d.0 c.args.id c.args.value)
+
+pub returns-in-Some-clause-room : goal.returns-in-Some-clause-room
+returns-in-Some-clause-room g c =
+    let rest = c.args.rest.now.items in
+    let within : c.in-Some.at < length rest = search rules in
+    rooms-but c.args.first.now rest c.in-Some.at c.put-in-Some.new.self c.requires.first c.requires.rest within

@@ -1,6 +1,6 @@
-use Rattle.std.proofs.Common.{◌≡◌, ◌<◌, ◌≤◌, ◌+◌, ◌∙◌, ◌++◌, suc, rules, refl, sym, ap, subst, length, map, take, drop, set, get_or, arith}
+use Rattle.std.proofs.Common.{◌≡◌, ◌<◌, ◌≤◌, ◌+◌, ◌∙◌, ◌++◌, suc, rules, refl, ap, length, map, take, drop, set, get_or, arith}
 use Rattle.presence_set.specs.ById.{uncovered}
-use Rattle.presence_set.proofs.BlockLaws.{mapped-next, mapped-all, mapped-length}
+use Rattle.presence_set.proofs.BlockLaws.{mapped-next, mapped-all}
 use Rattle.presence_set.proofs.blocks.retain_each.Goals as goal
 
 pub loop-at-init : goal.loop-at-init

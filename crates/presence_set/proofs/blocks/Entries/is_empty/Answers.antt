@@ -1,4 +1,4 @@
-use Rattle.std.proofs.Common.{◌≡◌, ◌++◌, ◌∙◌, [], ap, refl, sym, true≢false}
+use Rattle.std.proofs.Common.{◌≡◌, ◌++◌, ◌∙◌, [], ap, sym, true≢false}
 use Rattle.std.specs.Prelude.{IsTrue}
 use Rattle.presence_set.specs.Blocks.{pairs_in}
 use Rattle.presence_set.proofs.BlockLaws.{pairs_in-nil, nil_if, nil_is}

@@ -3,8 +3,8 @@ use Rattle.doc_words.specs.Words.{id_cmp}
 use Rattle.op_core.specs.Front.{covers}
 use Rattle.sorted_lists.proofs.Rising.{rising-filter}
 use Rattle.presence_set.specs.ById.{uncovered, IsAscending}
-use Rattle.presence_set.specs.Blocks.{pairs_in, has_pair, AreNonEmpty, HasSpareRoom, AllHaveRoom}
-use Rattle.presence_set.proofs.BlockLaws.{uncovered-append, pairs_in-cleared, filled-filled, room-cleared, rooms-cleared}
+use Rattle.presence_set.specs.Blocks.{pairs_in, has_pair, AreNonEmpty, is_nowhere, HasSpareRoom, AllHaveRoom, HaveRoomBut}
+use Rattle.presence_set.proofs.BlockLaws.{uncovered-append, pairs_in-cleared, filled-filled, room-cleared, rooms-cleared, rooms-settled, settled-same}
 use Rattle.presence_set.proofs.blocks.InBlocks.retain_uncovered.Goals as goal
 
 pub invariant_of-self : goal.invariant_of-self
@@ -20,10 +20,10 @@ invariant_of-self g c =
     record {
       rising = subst IsAscending (sym all) (rising-filter id_cmp (λ e. e.0) (λ e. not (covers front e.0)) (first.0 ++ pairs_in rest) c.self.invariant.rising);
       filled = subst AreNonEmpty (sym blocks) (filled-filled (map (λ b. (uncovered front b.0, b.1)) rest));
-      room = λ e. (
-        subst HasSpareRoom (sym c.retain_uncovered.ensures) (room-cleared front first (c.self.invariant.room e).0),
-        subst AllHaveRoom (sym blocks) (rooms-cleared front rest (c.self.invariant.room e).1),
-      );
+      room = subst (λ l. HaveRoomBut l c.retain_uncovered.new.self c.drop_empty.new.blocks.items) (sym c.settled-self-inside.ensures)
+          (rooms-settled c.self.inside.lack first c.retain_uncovered.new.self rest c.drop_empty.new.blocks.items c.self.invariant.room
+          (λ room. subst HasSpareRoom (sym c.retain_uncovered.ensures) (room-cleared front first room))
+          (λ room. subst AllHaveRoom (sym blocks) (rooms-cleared front rest room)));
     }
 
 pub returns : goal.returns
@@ -36,4 +36,4 @@ returns g c =
     let all : c.retain_uncovered.new.self.0 ++ pairs_in c.drop_empty.new.blocks.items ≡ uncovered front (first.0 ++ pairs_in rest) =
     ap (λ z. z.0 ++ pairs_in c.drop_empty.new.blocks.items) c.retain_uncovered.ensures ∙ ap (λ l. uncovered front first.0 ++ pairs_in l) blocks
     ∙ ap (λ l. uncovered front first.0 ++ l) (pairs_in-cleared front rest) ∙ sym (uncovered-append front first.0 (pairs_in rest)) in
-    rw (← c.self.view_is) (λ i. (all i, c.self.inside.has_room))
+    rw (← c.self.view_is) (λ i. (all i, (ap is_nowhere c.settled-self-inside.ensures ∙ settled-same c.self.inside.lack) i))

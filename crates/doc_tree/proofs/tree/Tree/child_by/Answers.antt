@@ -3,9 +3,9 @@ use Rattle.json_scalar.specs.declared.scalar.Scalar.{Scalar}
 use Rattle.doc_nodes.specs.declared.node.Node.{Node}
 use Rattle.doc_nodes.specs.Nodes.{AreTree, child_of}
 use Rattle.doc_tree.proofs.Below.{child_deeper}
-use Rattle.doc_tree.proofs.tree.Tree.child_of.Goals as goal
+use Rattle.doc_tree.proofs.tree.Tree.child_by.Goals as goal
 
 pub returns-in-Some-clause-deeper : goal.returns-in-Some-clause-deeper
 returns-in-Some-clause-deeper c = λ x is.
-    let value : c.find.result ≡ child_of c.args.self.now.0 c.args.at c.args.key.now = search rules in
+    let value : c.find_beside.result ≡ child_of c.args.self.now.0 c.args.at c.args.key.now = search rules in
     child_deeper c.args.self.now.0 (subst (λ (t : List Node × Option Scalar). AreTree t.0) c.self.view_is c.self.invariant.0) c.args.at c.args.key.now x (sym value ∙ is)
