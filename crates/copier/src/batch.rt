@@ -36,16 +36,16 @@ fn next_of<M: Marker>(doc: &LockedDoc<M>, from: usize) -> Result<Operations, Ref
     doc.tail(from, MAX_BATCH)
 }
 
-/// The same of the document in this place. Its lock is taken, and given back.
+/// The same of the document at this index. Its lock is taken, and given back.
 fn next_at<M: Marker, R: Wait>(
     rt: &R,
     library: &Library<M>,
-    place: usize,
+    index: usize,
     from: usize,
 ) -> Result<Operations, Refusal>
-    requires { place < length library.now.names.items }
+    requires { index < length library.now.names.items }
 {
-    let doc = library.shelf.doc(place).lock(rt);
+    let doc = library.shelf.doc(index).lock(rt);
     next_of(&doc, from)
 }
 
@@ -63,19 +63,19 @@ fn note_rows<M: Marker, S: Alter>(
     Ok(())
 }
 
-/// The same of the document in this place. Its lock is taken, and given back.
+/// The same of the document at this index. Its lock is taken, and given back.
 fn note_at<M: Marker, R: Wait, S: Alter>(
     rt: &R,
     library: &Library<M>,
-    place: usize,
+    index: usize,
     copy: &LogCopy<S>,
     name: &str,
 ) -> Result<(), Fault>
-    requires { place < length library.now.names.items }
+    requires { index < length library.now.names.items }
     ensures failed { (result ≡ Err Fault.Store) ↔ (copy.now.has_failed ≡ true) }
     ensures never_else { IfErr result (λ e. e ≡ Fault.Store) }
 {
-    let mut doc = library.shelf.doc(place).lock(rt);
+    let mut doc = library.shelf.doc(index).lock(rt);
     note_rows(&mut doc, copy, name)
 }
 
@@ -99,16 +99,16 @@ fn add_next<S: Alter>(
     copy.add_batch(name, from, entries)
 }
 
-/// Copies the next entries of the document of this name in this place, at most 256, and then notes how many of it the copy has. The
+/// Copies the next entries of the document of this name at this index, at most 256, and then notes how many of it the copy has. The
 /// answer is whether there were any. Its lock isn't held while they are written. A fault notes nothing.
 pub fn copy_some<M: Marker, R: Wait, S: Alter>(
     rt: &R,
     library: &Library<M>,
-    place: usize,
+    index: usize,
     name: &str,
     copy: &mut LogCopy<S>,
 ) -> Result<bool, Fault>
-    requires { place < length library.now.names.items }
+    requires { index < length library.now.names.items }
     ensures some { result ≡ Ok true → AddsNext name.now copy.old.docs copy.new.docs }
     ensures none { result ≡ Ok false → copy.new ≡ copy.old }
     ensures works { OnOk result ((copy.new.epoch ≡ copy.old.epoch) × (copy.new.has_failed ≡ false)) }
@@ -117,23 +117,23 @@ pub fn copy_some<M: Marker, R: Wait, S: Alter>(
     ensures alone { copy.new.is_alone ≡ copy.old.is_alone }
 {
     let from = rows_of(copy, name)?;
-    let Ok(next) = next_at(rt, library, place, from) else {
+    let Ok(next) = next_at(rt, library, index, from) else {
         return Err(Fault::Memory);
     };
     if next.as_slice().is_empty() {
         return Ok(false);
     }
     add_next(copy, name, next.as_slice())?;
-    note_at(rt, library, place, copy, name)?;
+    note_at(rt, library, index, copy, name)?;
     Ok(true)
 }
 
-/// The name of the document in this place.
-fn name_at<M: Marker>(library: &Library<M>, place: usize) -> &str
-    requires { place < length library.now.names.items }
+/// The name of the document at this index.
+fn name_at<M: Marker>(library: &Library<M>, index: usize) -> &str
+    requires { index < length library.now.names.items }
     ensures { Contains library.entry.now.names.items result.now }
 {
-    library.names[place].as_str()
+    library.names[index].as_str()
 }
 
 /// Copies the next entries of each document, and tells whether there were any.
@@ -150,9 +150,9 @@ pub fn copy_each<M: Marker, R: Wait, S: Alter>(
     ensures alone { copy.new.is_alone ≡ copy.old.is_alone }
 {
     let mut any = false;
-    for place in 0..library.names.len() {
-        let name = name_at(library, place);
-        if copy_some(rt, library, place, name, copy)? {
+    for index in 0..library.names.len() {
+        let name = name_at(library, index);
+        if copy_some(rt, library, index, name, copy)? {
             any = true;
         }
     }

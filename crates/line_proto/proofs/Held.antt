@@ -12,6 +12,7 @@ use Rattle.op_core.specs.Wire.{id_data}
 use Rattle.line_feed.specs.Cut.{AppendsCut}
 use Rattle.doc_words.specs.declared.reply.Reply.TheVariants.{Held}
 use Rattle.line_proto.specs.Replies.{line_text, reply_data}
+use Rattle.line_proto.proofs.Pieces.{positive}
 
 -- the ids that are left, to the line's end
 abbrev pub ids_rest : Bool → List Id → List ℕ
@@ -26,9 +27,6 @@ regroup a b t e = simp append_assoc
 
 ids_rest-cons : (later : Bool) (id : Id) (ids : List Id) → ids_rest later (id ∷ ids) ≡ (comma_if later ++ compact_text (id_data id)) ++ ids_rest true ids
 ids_rest-cons later id ids = regroup (comma_if later) (compact_text (id_data id)) (items_text true (items_of (map id_data ids))) (93 ∷ 10 ∷ [])
-
-positive : (i : ℕ) → nat_lt 0 (i + 1) ≡ true
-positive i = grind (arith, nat_tests)
 
 -- the next id is written
 pub ids_rest-more : (missing : List Id) (i : ℕ) (d : Id) → i < length missing

@@ -55,7 +55,7 @@ pub puts-lost : (a b c : Option (List ℕ)) (q t : List ℕ) → PutsText a b []
 puts-lost a b c q t (front, before, e) (more, after, (rest, some, whole)) =
     (front ++ more, Appends-trans a b c front more before after, (rest, some, append_assoc front more rest ∙ ap (λ s. front ++ s) whole ∙ sym e))
 
-positive : (i : ℕ) → nat_lt 0 (i + 1) ≡ true
+pub positive : (i : ℕ) → nat_lt 0 (i + 1) ≡ true
 positive i = grind (arith, nat_tests)
 
 module _ {X : Type 0} (f : X → Data) where

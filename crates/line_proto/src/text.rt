@@ -8,21 +8,25 @@ ghost use Rattle.op_core.specs.Wire.{id_data};
 ghost use Rattle.doc_words.specs.declared.reply.Reply.TheVariants.{Applied, Account, Refused};
 ghost use Rattle.line_proto.specs.Replies.{line_text, told_data, reply_data, worded, count_data};
 ghost use Rattle.line_proto.specs.declared.line_reply.LineReply.TheVariants.{Opened};
+ghost use Rattle.line_proto.specs.declared.text.TheConstants.{SHORT_LINE};
 
 use arrayvec::ArrayString;
 use itoa::Buffer;
 use json_scalar::Refusal;
 use lamport_id::Id;
 
+/// How many bytes the longest line of a fixed number of parts may take.
+pub(crate) const SHORT_LINE: usize = 128;
+
 /// Room for the longest line of a fixed number of parts.
-pub(crate) type Line = ArrayString<128>;
+pub(crate) type Line = ArrayString<SHORT_LINE>;
 
 /// Room for a dozen ids.
 pub(crate) type Piece = ArrayString<1024>;
 
 #[tactic(auto, using(crate::proofs::Texts::digits))]
 fn put_number(line: &mut Line, n: u64)
-    requires { length line.old.bytes + 20 ≤ 128 }
+    requires { length line.old.bytes + 20 ≤ SHORT_LINE }
     ensures bytes { line.new.bytes ≡ line.old.bytes ++ decimal n }
     ensures len { length line.new.bytes ≤ length line.old.bytes + 20 }
 {
@@ -33,7 +37,7 @@ fn put_number(line: &mut Line, n: u64)
 /// A word that needs no escapes, in quotes.
 #[tactic(auto, using(crate::proofs::Texts::words))]
 fn put_word(line: &mut Line, word: &str)
-    requires room { length line.old.bytes + 34 ≤ 128 }
+    requires room { length line.old.bytes + 34 ≤ SHORT_LINE }
     requires name { IsTrue (is_name word.now) }
     ensures bytes { line.new.bytes ≡ line.old.bytes ++ quoted word.now }
     ensures len { length line.new.bytes ≤ length line.old.bytes + 34 }
@@ -44,7 +48,7 @@ fn put_word(line: &mut Line, word: &str)
 }
 
 pub(crate) fn put_id(line: &mut Line, id: &Id)
-    requires { length line.old.bytes + 57 ≤ 128 }
+    requires { length line.old.bytes + 57 ≤ SHORT_LINE }
     ensures bytes { line.new.bytes ≡ line.old.bytes ++ compact_text (id_data id.now) }
     ensures len { length line.new.bytes ≤ length line.old.bytes + 57 }
 {
@@ -93,7 +97,7 @@ pub(crate) fn applied(count: u64, dropped: u64, id: &Id) -> Line
 }
 
 pub(crate) fn fixed(text: &str) -> Line
-    requires { length text.now ≤ 128 }
+    requires { length text.now ≤ SHORT_LINE }
     ensures { result.bytes ≡ text.now }
 {
     let mut line = Line::new();

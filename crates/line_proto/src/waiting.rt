@@ -6,6 +6,7 @@ ghost use Rattle.serde_json.specs.Written.{comma_if, compact_text, items_text};
 ghost use Rattle.op_core.specs.Wire.{id_data};
 ghost use Rattle.doc_words.specs.declared.reply.Reply.TheVariants.{Waiting};
 ghost use Rattle.line_feed.specs.Cut.{AppendsCut};
+ghost use Rattle.line_proto.specs.declared.text.TheConstants.{SHORT_LINE};
 ghost use Rattle.line_proto.specs.Replies.{line_text, reply_data, waiting_data};
 ghost use Rattle.line_proto.specs.Writing.{PutsText};
 
@@ -80,7 +81,7 @@ fn put_ids<W: Sink>(ids: &[Id], piece: &mut Piece, sink: &mut W) -> Result<(), D
 // A short text behind what is at hand, for which room is made.
 fn put<W: Sink>(text: &str, piece: &mut Piece, sink: &mut W) -> Result<(), DeviceFault>
     requires works { W.has_failed sink.old ≡ false }
-    requires short { length text.now ≤ 128 }
+    requires short { length text.now ≤ SHORT_LINE }
     ensures ok { OnOk result (PutsText (W.contents sink.old) (W.contents sink.new) piece.old.bytes piece.new.bytes text.now) }
     ensures cut { OnErr result (AppendsCut (W.contents sink.old) (W.contents sink.new) (piece.old.bytes ++ text.now)) }
     ensures failed { W.has_failed sink.new ≡ is_err result }
@@ -93,7 +94,7 @@ fn put<W: Sink>(text: &str, piece: &mut Piece, sink: &mut W) -> Result<(), Devic
 // An operation's id and the beginning of its array.
 fn wait_start(later: bool, id: &Id) -> Line
     ensures bytes { result.bytes ≡ comma_if later ++ (91 ∷ (compact_text (id_data id.now) ++ 44 ∷ 91 ∷ [])) }
-    ensures len { length result.bytes ≤ 128 }
+    ensures len { length result.bytes ≤ SHORT_LINE }
 {
     let mut line = Line::new();
     if later {

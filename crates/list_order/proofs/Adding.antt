@@ -11,7 +11,7 @@ use Rattle.presence_set.proofs.ByIdLaws.{get-put}
 use Rattle.list_order.specs.declared.slots.Slot.{Slot}
 use Rattle.list_order.specs.declared.slots.SlotNumber.{SlotNumber}
 use Rattle.list_order.specs.declared.marks.Mark.{Mark}
-use Rattle.list_order.specs.declared.marks.Block.{Block}
+use Rattle.list_order.specs.declared.marks.MarkBlock.{MarkBlock}
 use Rattle.list_laws.specs.Order.{insert_after}
 use Rattle.list_order.specs.Entries.{absent, entry_cmp, entry_of_reference}
 use Rattle.list_order.specs.Slots.{slot_at, behind, slots_from, ids_along, number_along, number_for, passed, linked, linked_first}
@@ -64,7 +64,7 @@ module _ (marks later : List Mark) (fresh : SlotNumber) where
   rising_added low (n ∷ front) rest is s h =
       (omega (arith, ap (λ m. m.block) s.0, h.0), subst (λ m. IsInBlockOrder m.block later (front ++ fresh ∷ rest)) (sym s.0) (rising_added (mark_at marks n).block front rest is s.1 h.1))
 
-module _ {slots : List Slot} {first : Option SlotNumber} {index : List (Id × SlotNumber)} {marks : List Mark} {blocks : List Block} {present : ℕ}
+module _ {slots : List Slot} {first : Option SlotNumber} {index : List (Id × SlotNumber)} {marks : List Mark} {blocks : List MarkBlock} {present : ℕ}
     (k : IsMarkedOrder slots first index marks blocks present) where
   module _ (after : Option Id) (known : ForSome after (Contains (ids_along slots (slots_from slots first)))) (id : Id)
       (new : number_along slots (slots_from slots first) id ≡ None) where
@@ -145,7 +145,7 @@ module _ {slots : List Slot} {first : Option SlotNumber} {index : List (Id × Sl
         )
 
   -- cut anew, all is kept
-  pub kept_recut : (new : List Mark) (cut_anew : List Block) → IsRecut marks new cut_anew (slots_from slots first) → IsMarkedOrder slots first index new cut_anew present
+  pub kept_recut : (new : List Mark) (cut_anew : List MarkBlock) → IsRecut marks new cut_anew (slots_from slots first) → IsMarkedOrder slots first index new cut_anew present
   kept_recut new cut_anew r = record {
     order = k.order;
     own = k.own;

@@ -6,7 +6,7 @@ use Rattle.lamport_id.specs.declared.id.Id.{Id}
 use Rattle.list_order.specs.declared.slots.Slot.{Slot}
 use Rattle.list_order.specs.declared.slots.SlotNumber.{SlotNumber}
 use Rattle.list_order.specs.declared.marks.Mark.{Mark}
-use Rattle.list_order.specs.declared.marks.Block.{Block}
+use Rattle.list_order.specs.declared.marks.MarkBlock.{MarkBlock}
 use Rattle.list_order.specs.Slots.{slot_at, IsPath, slots_from, LinksEnd}
 use Rattle.list_order.specs.Marks.{mark_at, count_where, is_marked_in, from_block, start_of, IsInBlockOrder, present_along, bit, block_at, IsCounted}
 use Rattle.list_order.proofs.Paths.{path_from-path, walk_from_path, length-path_from}
@@ -144,7 +144,7 @@ module _ (marks : List Mark) where
       go false ih = ih
 
   -- from block to block
-  module _ (slots : List Slot) (first : Option SlotNumber) (blocks : List Block) (walk : LinksEnd slots first) (counted : IsCounted marks blocks (slots_from slots first) None) where
+  module _ (slots : List Slot) (first : Option SlotNumber) (blocks : List MarkBlock) (walk : LinksEnd slots first) (counted : IsCounted marks blocks (slots_from slots first) None) where
     pub block_step : (k : ℕ) (at : Option SlotNumber) (left : ℕ) → k < length blocks → slots_from slots at ≡ from_block k marks (slots_from slots first)
         → (block_at blocks k).present ≤ left
         → LinksEnd slots (block_at blocks k).end

@@ -6,7 +6,7 @@ use Rattle.std.proofs.Math.Seq.{get_or-append_seam}
 use Rattle.list_order.specs.declared.slots.Slot.{Slot}
 use Rattle.list_order.specs.declared.slots.SlotNumber.{SlotNumber}
 use Rattle.list_order.specs.declared.marks.Mark.{Mark}
-use Rattle.list_order.specs.declared.marks.Block.{Block}
+use Rattle.list_order.specs.declared.marks.MarkBlock.{MarkBlock}
 use Rattle.list_order.specs.Slots.{slot_at, IsPath, slots_from, LinksEnd}
 use Rattle.list_order.specs.Marks.{mark_at, block_at, no_block, count_where, is_marked_in, from_block, start_of, IsCounted, bit, set_block, IsClosed, IsRecut}
 use Rattle.list_order.proofs.Scanning.{IsStep}
@@ -16,7 +16,7 @@ use Rattle.list_order.proofs.Same.{count-same, blocks-same, from-same, rising-sa
 use Rattle.list_order.proofs.Apart.{apart_front, set_here, set_other, set_apart}
 
 -- the blocks as far as the path was gone through
-pub record IsPartlyCut (slots : List Slot) (first : Option SlotNumber) (before marks : List Mark) (blocks : List Block) (at : Option SlotNumber) (present : ℕ) : Type 0 where
+pub record IsPartlyCut (slots : List Slot) (first : Option SlotNumber) (before marks : List Mark) (blocks : List MarkBlock) (at : Option SlotNumber) (present : ℕ) : Type 0 where
   pub done : List SlotNumber
   pub parts : slots_from slots first ≡ done ++ slots_from slots at
   pub same : (n : SlotNumber) → (mark_at marks n).is_present ≡ (mark_at before n).is_present
@@ -77,7 +77,7 @@ module _ (slots : List Slot) (first : Option SlotNumber) (before : List Mark) wh
   }
 
   module _ (walk : LinksEnd slots first) (marked : length before ≡ length slots) where
-    pub put_in : (marks : List Mark) (blocks : List Block) (at : Option SlotNumber) (present : ℕ) (n : SlotNumber)
+    pub put_in : (marks : List Mark) (blocks : List MarkBlock) (at : Option SlotNumber) (present : ℕ) (n : SlotNumber)
         → IsPartlyCut slots first before marks blocks at present → at ≡ Some n → IsStep slots at n
         → IsPartlyCut slots first before (set_block marks n (length blocks)) blocks (slot_at slots n).next (present + bit (mark_at marks n).is_present)
     put_in marks blocks at present n c is s =
@@ -116,7 +116,7 @@ module _ (slots : List Slot) (first : Option SlotNumber) (before : List Mark) wh
         }
 
     -- no count is more than there are slots
-    pub count_fits : (marks : List Mark) (blocks : List Block) (at : Option SlotNumber) (present : ℕ) (n : SlotNumber)
+    pub count_fits : (marks : List Mark) (blocks : List MarkBlock) (at : Option SlotNumber) (present : ℕ) (n : SlotNumber)
         → IsPartlyCut slots first before marks blocks at present → at ≡ Some n → IsStep slots at n → present + bit (mark_at marks n).is_present ≤ length slots
     count_fits marks blocks at present n c is s =
         let one : bit (mark_at marks n).is_present ≤ 1 = bit_small (mark_at marks n).is_present in
@@ -124,13 +124,13 @@ module _ (slots : List Slot) (first : Option SlotNumber) (before : List Mark) wh
         omega (arith, one, c.rest, count_within marks (is_marked_in (length blocks)) c.done, ap length parts, length-append c.done (n ∷ slots_from slots (slot_at slots n).next), length-path_from slots first)
 
   -- the open block is closed, or stays open
-  pub close : (marks : List Mark) (blocks new : List Block) (at : Option SlotNumber) (present left : ℕ)
+  pub close : (marks : List Mark) (blocks new : List MarkBlock) (at : Option SlotNumber) (present left : ℕ)
       → IsPartlyCut slots first before marks blocks at present → IsClosed blocks new present at left
       → IsPartlyCut slots first before marks new at left
   close marks blocks new at present left c (inr (same, rest)) =
       subst (λ l. IsPartlyCut slots first before marks l at left) (sym same) (subst (λ p. IsPartlyCut slots first before marks blocks at p) (sym rest) c)
   close marks blocks new at present left c (inl (longer, none)) =
-      let block : Block = record { present = present; end = at } in
+      let block : MarkBlock = record { present = present; end = at } in
       let len : length (blocks ++ block ∷ []) ≡ length blocks + 1 = length-append blocks (block ∷ []) in
       let last : block_at (blocks ++ block ∷ []) (length blocks) ≡ block = get_or-append_seam blocks block [] no_block in
       subst (λ l. IsPartlyCut slots first before marks l at left) (sym longer) (subst (λ p. IsPartlyCut slots first before marks (blocks ++ block ∷ []) at p) (sym none)
@@ -172,7 +172,7 @@ module _ (slots : List Slot) (first : Option SlotNumber) (before : List Mark) wh
           ap (λ x. x.end) (get_or-append blocks (record { present = present; end = at } ∷ []) no_block k less) ∙ c.counted.ends k less
 
   -- at the end of the path
-  pub all_cut : (marks : List Mark) (blocks : List Block) (at : Option SlotNumber) (present : ℕ) → at ≡ None
+  pub all_cut : (marks : List Mark) (blocks : List MarkBlock) (at : Option SlotNumber) (present : ℕ) → at ≡ None
       → IsPartlyCut slots first before marks blocks at present → IsRecut before marks blocks (slots_from slots first)
   all_cut marks blocks at present is c =
       let whole : slots_from slots first ≡ c.done = c.parts ∙ ap (λ l. c.done ++ l) (ap (slots_from slots) is ∙ walk-None slots) ∙ append-nil c.done in

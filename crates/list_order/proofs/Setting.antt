@@ -8,7 +8,7 @@ use Rattle.presence_set.specs.ById.{get}
 use Rattle.list_order.specs.declared.slots.Slot.{Slot}
 use Rattle.list_order.specs.declared.slots.SlotNumber.{SlotNumber}
 use Rattle.list_order.specs.declared.marks.Mark.{Mark}
-use Rattle.list_order.specs.declared.marks.Block.{Block}
+use Rattle.list_order.specs.declared.marks.MarkBlock.{MarkBlock}
 use Rattle.list_order.specs.Entries.{with_presence}
 use Rattle.list_order.specs.Slots.{slot_at, IsPath, slots_from, number_along}
 use Rattle.list_order.specs.Marks.{mark_at, block_at, no_block, count_where, is_marked, is_marked_in, start_of, bit, moved, set_mark, moved_in, entries_along, IsMarkedOrder, MayMove, MaySet}
@@ -61,7 +61,7 @@ number_is slots (m ∷ path) id n e = go (id_eq (slot_at slots m).id id) refl e 
     go true is h ih = let same : m ≡ n = cc in ap (λ k. (slot_at slots k).id) (sym same) ∙ id_decides.same (slot_at slots m).id id is
     go false is h ih = ih h
 
-module _ {slots : List Slot} {first : Option SlotNumber} {index : List (Id × SlotNumber)} {marks : List Mark} {blocks : List Block} {present : ℕ}
+module _ {slots : List Slot} {first : Option SlotNumber} {index : List (Id × SlotNumber)} {marks : List Mark} {blocks : List MarkBlock} {present : ℕ}
     (k : IsMarkedOrder slots first index marks blocks present) (id : Id) where
   unchanged : get index id ≡ None → (is : Bool) → (m : SlotNumber) → m.0 < length slots → (b : Bool) → id_eq (slot_at slots m).id id ≡ b
       → ◌≡◌ {A = Id × Bool} (if b then ((slot_at slots m).id, is) else ((slot_at slots m).id, (mark_at marks m).is_present)) ((slot_at slots m).id, (mark_at marks m).is_present)
@@ -147,7 +147,7 @@ module _ {slots : List Slot} {first : Option SlotNumber} {index : List (Id × Sl
               ap (λ j. (mark_at new j).block) at ∙ ap (λ x. x.block) here ∙ ap (λ j. (mark_at marks j).block) (sym at)
           go m false f = ap (λ x. x.block) (set_other marks n mark m (λ h. true≢false (sym (eq-eqb m.0 n.0 (ap (λ j. j.0) h)) ∙ f)))
 
-      abbrev block : Block
+      abbrev block : MarkBlock
       block = record { present = moved (block_at blocks was.block).present was.is_present is; end = (block_at blocks was.block).end }
 
       count : (j : ℕ) → (b : Bool) → eqb j was.block ≡ b → j < length blocks → (block_at (set blocks was.block block) j).present ≡ count_where (is_marked_in j) new (slots_from slots first)

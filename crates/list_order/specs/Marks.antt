@@ -5,7 +5,7 @@ use Rattle.presence_set.specs.ById.{get}
 use Rattle.list_order.specs.declared.slots.Slot.{Slot}
 use Rattle.list_order.specs.declared.slots.SlotNumber.{SlotNumber}
 use Rattle.list_order.specs.declared.marks.Mark.{Mark}
-use Rattle.list_order.specs.declared.marks.Block.{Block}
+use Rattle.list_order.specs.declared.marks.MarkBlock.{MarkBlock}
 use Rattle.list_order.specs.Slots.{slot_at, slots_from, IsOrder, LinksEnd}
 
 -- a mark for numbers that name none
@@ -16,10 +16,10 @@ abbrev pub mark_at : List Mark → SlotNumber → Mark
 mark_at marks n = slice_index_or marks n.0 unmarked
 
 -- a block for numbers that name none
-abbrev pub no_block : Block
+abbrev pub no_block : MarkBlock
 no_block = record { present = 0; end = None }
 
-abbrev pub block_at : List Block → ℕ → Block
+abbrev pub block_at : List MarkBlock → ℕ → MarkBlock
 block_at blocks k = slice_index_or blocks k no_block
 
 -- how many marks along a path pass a test
@@ -49,7 +49,7 @@ IsInBlockOrder low marks [] = Unit {0}
 IsInBlockOrder low marks (n ∷ path) = (low ≤ (mark_at marks n).block) × IsInBlockOrder (mark_at marks n).block marks path
 
 -- each block has the count of its present slots, and the slot behind it. What is in no block stands at the end
-pub record IsCounted (marks : List Mark) (blocks : List Block) (path : List SlotNumber) (at : Option SlotNumber) : Type 0 where
+pub record IsCounted (marks : List Mark) (blocks : List MarkBlock) (path : List SlotNumber) (at : Option SlotNumber) : Type 0 where
   pub rising : IsInBlockOrder 0 marks path
   pub counted : (k : ℕ) → k < length blocks → (block_at blocks k).present ≡ count_where (is_marked_in k) marks path
   pub ends : (k : ℕ) → k < length blocks → (block_at blocks k).end ≡ start_of at (from_block (suc k) marks path)
@@ -79,17 +79,17 @@ abbrev pub set_block : List Mark → SlotNumber → ℕ → List Mark
 set_block marks n block = slice_set marks n.0 (record { is_present = (mark_at marks n).is_present; block = block })
 
 -- the open block was closed, or stays open
-abbrev pub IsClosed : List Block → List Block → ℕ → Option SlotNumber → ℕ → Type 0
+abbrev pub IsClosed : List MarkBlock → List MarkBlock → ℕ → Option SlotNumber → ℕ → Type 0
 IsClosed blocks new present end left = ((new ≡ blocks ++ record { present = present; end = end } ∷ []) × (left ≡ 0)) ⊎ ((new ≡ blocks) × (left ≡ present))
 
 -- the same ids are present, and the blocks are cut anew
-pub record IsRecut (marks new : List Mark) (blocks : List Block) (path : List SlotNumber) : Type 0 where
+pub record IsRecut (marks new : List Mark) (blocks : List MarkBlock) (path : List SlotNumber) : Type 0 where
   pub same : (n : SlotNumber) → (mark_at new n).is_present ≡ (mark_at marks n).is_present
   pub len : length new ≡ length marks
   pub counted : IsCounted new blocks path None
 
 -- the blocks with one count moved
-abbrev pub moved_in : List Block → ℕ → Bool → Bool → List Block
+abbrev pub moved_in : List MarkBlock → ℕ → Bool → Bool → List MarkBlock
 moved_in blocks k was is = slice_set blocks k (record { present = moved (block_at blocks k).present was is; end = (block_at blocks k).end })
 
 -- a count may be moved
@@ -98,7 +98,7 @@ pub record MayMove (count : ℕ) (was is : Bool) : Type 0 where
   pub fits : moved count was is < 2 ^ 64
 
 -- a mark may be changed
-pub record MaySet (marks : List Mark) (blocks : List Block) (present : ℕ) (n : SlotNumber) (is : Bool) : Type 0 where
+pub record MaySet (marks : List Mark) (blocks : List MarkBlock) (present : ℕ) (n : SlotNumber) (is : Bool) : Type 0 where
   pub within : n.0 < length marks
   pub all : MayMove present (mark_at marks n).is_present is
   pub in_block : (mark_at marks n).block < length blocks → MayMove (block_at blocks (mark_at marks n).block).present (mark_at marks n).is_present is
@@ -113,7 +113,7 @@ present_along slots marks [] = []
 present_along slots marks (n ∷ path) = if (mark_at marks n).is_present then (slot_at slots n).id ∷ present_along slots marks path else present_along slots marks path
 
 -- the order, its marks and its blocks fit together
-pub record IsMarkedOrder (slots : List Slot) (first : Option SlotNumber) (index : List (Id × SlotNumber)) (marks : List Mark) (blocks : List Block) (present : ℕ) : Type 0 where
+pub record IsMarkedOrder (slots : List Slot) (first : Option SlotNumber) (index : List (Id × SlotNumber)) (marks : List Mark) (blocks : List MarkBlock) (present : ℕ) : Type 0 where
   pub order : IsOrder slots first index
   pub own : (n : SlotNumber) → n.0 < length slots → get index (slot_at slots n).id ≡ Some n
   pub marked : length marks ≡ length slots

@@ -10,7 +10,8 @@ ghost use Rattle.list_order.specs.Entries.{ids_of, present_of, entry_cmp, absent
 ghost use Rattle.list_order.specs.Following.{following};
 
 use crate::marks::{
-    Block, FIRST_CUT, Mark, add_mark, blocks_wanted, mark_at, nth_along, recut_if_due, set_presence,
+    FIRST_CUT, Mark, MarkBlock, add_mark, blocks_wanted, mark_at, nth_along, recut_if_due,
+    set_presence,
 };
 use crate::slots::{
     Slot, SlotNumber, add_entry, behind, ids_from, last_passed, link, number_for, number_of,
@@ -28,7 +29,7 @@ pub struct LinkedOrder {
     first: Option<SlotNumber>,
     index: Vec<(Id, SlotNumber)>,
     marks: Vec<Mark>,
-    blocks: Vec<Block>,
+    blocks: Vec<MarkBlock>,
     present: usize,
     limit: usize,
 }

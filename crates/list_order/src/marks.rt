@@ -20,7 +20,7 @@ pub struct Mark {
 
 /// How many ids of a block are present, and the slot behind the block.
 #[derive(Clone, Copy)]
-pub struct Block {
+pub struct MarkBlock {
     pub present: usize,
     pub end: Option<SlotNumber>,
 }
@@ -91,7 +91,7 @@ pub fn moved(count: usize, was: bool, is: bool) -> usize
 }
 
 /// Moves the count of a block, if there is one of that number.
-pub fn move_count(blocks: &mut Vec<Block>, k: usize, was: bool, is: bool)
+pub fn move_count(blocks: &mut Vec<MarkBlock>, k: usize, was: bool, is: bool)
     requires counted { k < length blocks.old.items → bit was ≤ (block_at blocks.old.items k).present }
     requires fits { k < length blocks.old.items → Spec.moved (block_at blocks.old.items k).present was is < 2 ^ 64 }
     ensures { blocks.new.items ≡ moved_in blocks.old.items k was is }
@@ -134,7 +134,7 @@ pub fn nth_along(
     slots: &[Slot],
     first: Option<SlotNumber>,
     marks: &[Mark],
-    blocks: &[Block],
+    blocks: &[MarkBlock],
     i: usize,
 ) -> Option<Id>
     requires walk { LinksEnd slots.now first }
@@ -173,14 +173,14 @@ fn set_block(marks: &mut Vec<Mark>, n: SlotNumber, block: usize) -> bool
 }
 
 /// Closes a block that is long enough, where there is room for one.
-fn closed(blocks: &mut Vec<Block>, rest: Open, end: Option<SlotNumber>) -> Open
+fn closed(blocks: &mut Vec<MarkBlock>, rest: Open, end: Option<SlotNumber>) -> Open
     ensures { IsClosed blocks.old.items blocks.new.items rest.present end result.present }
 {
     if rest.len >= BLOCK_LEN && blocks.len() < blocks.capacity() {
         let last = blocks.len();
         match blocks.insert(
             last,
-            Block {
+            MarkBlock {
                 present: rest.present,
                 end,
             },
@@ -195,7 +195,12 @@ fn closed(blocks: &mut Vec<Block>, rest: Open, end: Option<SlotNumber>) -> Open
 }
 
 /// Cuts the list into blocks anew.
-fn recut(slots: &[Slot], first: Option<SlotNumber>, marks: &mut Vec<Mark>, blocks: &mut Vec<Block>)
+fn recut(
+    slots: &[Slot],
+    first: Option<SlotNumber>,
+    marks: &mut Vec<Mark>,
+    blocks: &mut Vec<MarkBlock>,
+)
     requires walk { LinksEnd slots.now first }
     requires marked { length marks.old.items ≡ length slots.now }
     ensures cut { IsRecut marks.old.items marks.new.items blocks.new.items (slots_from slots.now first) }
@@ -228,7 +233,7 @@ pub fn recut_if_due(
     slots: &[Slot],
     first: Option<SlotNumber>,
     marks: &mut Vec<Mark>,
-    blocks: &mut Vec<Block>,
+    blocks: &mut Vec<MarkBlock>,
     limit: &mut usize,
 )
     requires walk { LinksEnd slots.now first }
@@ -251,7 +256,7 @@ pub fn blocks_wanted(len: usize, blocks: usize) -> usize {
 /// Marks the id of a slot as present or not, and moves the counts.
 pub fn set_presence(
     marks: &mut Vec<Mark>,
-    blocks: &mut Vec<Block>,
+    blocks: &mut Vec<MarkBlock>,
     present: &mut usize,
     n: SlotNumber,
     is: bool,

@@ -4,12 +4,12 @@ use Rattle.copier.specs.Batches.AreAdded.{none, more}
 use Rattle.copier.proofs.batch.copy_each.Goals.{then-branch, else-branch}
 use Rattle.copier.proofs.batch.copy_each.Goals as goal
 
-pub loop-place-init : goal.loop-place-init
-loop-place-init g c = record { added = none; none = λ _. refl; epoch = refl; works = λ h. h; alone = refl }
+pub loop-index-init : goal.loop-index-init
+loop-index-init g c = record { added = none; none = λ _. refl; epoch = refl; works = λ h. h; alone = refl }
 
-pub loop-place-preserved : goal.loop-place-preserved
-loop-place-preserved g c =
-    let before = c.loop-place.invariant in
+pub loop-index-preserved : goal.loop-index-preserved
+loop-index-preserved g c =
+    let before = c.loop-index.invariant in
     let here : Contains c.args.library.now.names.items c.name_at-name.result.now = c.name_at-name.ensures in
     let works = c.in_ok-copy_some.ensures.works in
     elim c.if-branch.branch [
