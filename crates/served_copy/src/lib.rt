@@ -2,6 +2,7 @@
 #![tactic(auto)]
 
 mod naming;
+mod noting;
 mod restoring;
 mod serving;
 mod telling;

@@ -10,19 +10,23 @@ ghost use Rattle.served_copy.specs.Served.{KeepsRows, ServesCopied, greatest_sea
 ghost use Rattle.served_copy.specs.Totals.{ServesSessions};
 
 use crate::naming::raise;
+use crate::noting::note_documents;
 use crate::restoring::{Stock, restored_stock, shelve};
 use crate::telling::tell_totals;
 use copier::Copier;
 use doc_ledger::Ledger;
 use lamport_id::ReplicaName;
+use log::Log;
 use log_copy::{Fault, LogCopy};
 use server_core::{Connect, Gathered, Library, OpenGate, run_sessions};
+use server_notes::{note_ended, note_stopped};
 use share_ledger::{Blank, Marker};
 use sqlite::Alter;
 use std::alloc::Global;
 use std::io;
 use std::sync::Wait;
 use std::thread::Threads;
+use std::time::Clock;
 
 /// How many seats a document has for so many sessions: one for each, as far as there are numbers for seats.
 fn seats_for(sessions: usize) -> u16
@@ -66,9 +70,17 @@ fn serve_beside<
     }
 }
 
+/// Notes that sessions have ended, and why the copying ended before them, if it did.
+fn note_end<R: Log + Clock>(rt: &R, why: &Option<Fault>) {
+    if let Some(fault) = why {
+        note_stopped(rt, fault);
+    }
+    note_ended(rt);
+}
+
 /// What sessions did over the documents of a shelf, if it could be gathered, and why the copying ended before all was copied, if it
 /// did.
-fn serve_copied<M: Marker + Send + Sync, R: Threads + Wait + Sync, C: Connect, S: Alter>(
+fn serve_copied<M: Marker + Send + Sync, R: Threads + Wait + Sync + Log + Clock, C: Connect, S: Alter>(
     rt: &R,
     alloc: Global,
     library: Library<M>,
@@ -84,6 +96,7 @@ fn serve_copied<M: Marker + Send + Sync, R: Threads + Wait + Sync, C: Connect, S
     let copier = Copier::new(copy);
     let copier = serve_beside(rt, alloc, library, connections, copier, &mut ran);
     let why = copier.end();
+    note_end(rt, &why);
     (ran, why)
 }
 
@@ -102,7 +115,7 @@ fn status_of(fault: Option<Fault>) -> u8
 /// is 1 for want of memory, where the writer fails, or where the copying ended before all was copied.
 fn serve_library<
     M: Marker + Send + Sync,
-    R: Threads + Wait + Sync,
+    R: Threads + Wait + Sync + Log + Clock,
     C: Connect,
     S: Alter,
     W: io::Write,
@@ -137,7 +150,7 @@ fn serve_library<
 /// status is 1 for want of memory, where the writer fails, or where the copying ended before all was copied.
 fn serve_stock<
     M: Marker + Send + Sync,
-    R: Threads + Wait + Sync,
+    R: Threads + Wait + Sync + Log + Clock,
     C: Connect,
     S: Alter,
     W: io::Write,
@@ -183,7 +196,7 @@ fn tell_fault<W: io::Write>(fault: Fault, out: &mut W)
 /// or where the copy is refused, which a line tells, or fails; sessions go on without a copy that fails while they run.
 pub fn serve_over<
     M: Marker + Send + Sync,
-    R: Threads + Wait + Sync,
+    R: Threads + Wait + Sync + Log + Clock,
     C: Connect,
     S: Alter,
     W: io::Write,
@@ -215,7 +228,10 @@ pub fn serve_over<
     let mut ledger = Ledger::<M>::new(blank);
     let seats = seats_for(connections.len());
     match restored_stock(alloc, &mut ledger, copy, &replica, documents, seats) {
-        Ok(stock) => serve_stock(rt, alloc, &replica, stock, documents, connections, copy, out),
+        Ok(stock) => {
+            note_documents(rt, copy, documents);
+            serve_stock(rt, alloc, &replica, stock, documents, connections, copy, out)
+        }
         Err(_) => 1,
     }
 }

@@ -1,11 +1,13 @@
 //! Addresses that can't be listened at.
 use crate::listening::{hint_of, listen};
+use log::Log;
 use std::alloc::Global;
 use std::net::{Net, TcpListener, TcpStream};
 use std::test::Fail;
+use std::time::Clock;
 
 /// Whether no listener is had at the address, nothing is written, and standard error is told what is right.
-fn is_no_address<R: Net<Listener = TcpListener, Stream = TcpStream> + Eprint>(
+fn is_no_address<R: Net<Listener = TcpListener, Stream = TcpStream> + Eprint + Log + Clock>(
     rt: &R,
     alloc: Global,
     address: &str,
