@@ -6,8 +6,6 @@ mod noting;
 mod restoring;
 mod serving;
 mod telling;
-#[cfg(test)]
-mod tests;
 
 pub use naming::raise;
 pub use restoring::{Stock, restored_stock, shelve};
