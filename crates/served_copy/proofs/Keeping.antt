@@ -30,17 +30,17 @@ same_left {ran = ran} {names = names} {old = old} {b = b} {new = new} {f = f} le
 
 pub copied_if_ran : {S X : Type 0} {ran : Option X} {names shelved : List (List ℕ)} {old new : Kept S} {fault : Option Fault} (gathered : X)
     → ran ≡ Some gathered → shelved ≡ names → IsLeft ran shelved old new fault → HasCopied names old new fault
-copied_if_ran gathered is same (inl none) = let both : None ≡ Some gathered = sym none.0 ∙ is in absurd cc
+copied_if_ran gathered is same (inl untouched) = let both : None ≡ Some gathered = sym untouched.0 ∙ is in absurd cc
 copied_if_ran {old = old} {new = new} {fault = fault} gathered is same (inr copied) = subst (λ ns. HasCopied ns old new fault) same copied
 
 pub grown_beside : {S X : Type 0} {ran : Option X} {names shelved : List (List ℕ)} {old new : Kept S} {fault : Option Fault}
     → shelved ≡ names → IsLeft ran shelved old new fault → new.has_failed ≡ false → AddsBatches names old new
-grown_beside same (inl none) works = no_batches none.1
+grown_beside same (inl untouched) works = no_batches untouched.1
 grown_beside {old = old} {new = new} same (inr copied) works = subst (λ ns. AddsBatches ns old new) same (copied.grown works)
 
 pub alone_beside : {S X : Type 0} {ran : Option X} {names : List (List ℕ)} {old new : Kept S} {fault : Option Fault}
     → IsLeft ran names old new fault → new.is_alone ≡ old.is_alone
-alone_beside (inl none) = ap (λ k. k.is_alone) none.1
+alone_beside (inl untouched) = ap (λ k. k.is_alone) untouched.1
 alone_beside (inr copied) = copied.alone
 
 -- a start that came to nothing keeps the rows, unless the store failed

@@ -5,8 +5,6 @@ mod naming;
 mod restoring;
 mod serving;
 mod telling;
-#[cfg(test)]
-mod tests;
 
 pub use naming::raise;
 pub use restoring::{Stock, restored_stock, shelve};
