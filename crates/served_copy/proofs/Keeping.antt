@@ -1,5 +1,4 @@
 -- Rows that stay.
-use Rattle.std.specs.Option.{IfSome}
 use Rattle.std.proofs.Common.{◌≡◌, ◌⊎◌, inl, inr, ◌↔◌, ◌≤◌, ℕ, Bool, true, false, List, Option, Some, None, Result, Err, sym, ap, subst, ◌∙◌, arith}
 use Rattle.copy_docs.specs.declared.fault.Fault.{Fault}
 use Rattle.copy_docs.specs.declared.fault.Fault.TheVariants.{Store}
@@ -31,21 +30,17 @@ same_left {ran = ran} {names = names} {old = old} {b = b} {new = new} {f = f} le
 
 pub copied_if_ran : {S X : Type 0} {ran : Option X} {names shelved : List (List ℕ)} {old new : Kept S} {fault : Option Fault} (gathered : X)
     → ran ≡ Some gathered → shelved ≡ names → IsLeft ran shelved old new fault → HasCopied names old new fault
-copied_if_ran gathered is same (inl gone) = let both : None ≡ Some gathered = sym gone.0 ∙ is in absurd cc
+copied_if_ran gathered is same (inl untouched) = let both : None ≡ Some gathered = sym untouched.0 ∙ is in absurd cc
 copied_if_ran {old = old} {new = new} {fault = fault} gathered is same (inr copied) = subst (λ ns. HasCopied ns old new fault) same copied
-
--- what is said of a value that is there
-pub of_some : {X : Type 0} {o : Option X} {P : X → Type 0} (x : X) → o ≡ Some x → IfSome o P → P x
-of_some {P = P} x is told = subst (λ o. IfSome o P) is told
 
 pub grown_beside : {S X : Type 0} {ran : Option X} {names shelved : List (List ℕ)} {old new : Kept S} {fault : Option Fault}
     → shelved ≡ names → IsLeft ran shelved old new fault → new.has_failed ≡ false → AddsBatches names old new
-grown_beside same (inl gone) works = no_batches gone.1
+grown_beside same (inl untouched) works = no_batches untouched.1
 grown_beside {old = old} {new = new} same (inr copied) works = subst (λ ns. AddsBatches ns old new) same (copied.grown works)
 
 pub alone_beside : {S X : Type 0} {ran : Option X} {names : List (List ℕ)} {old new : Kept S} {fault : Option Fault}
     → IsLeft ran names old new fault → new.is_alone ≡ old.is_alone
-alone_beside (inl gone) = ap (λ k. k.is_alone) gone.1
+alone_beside (inl untouched) = ap (λ k. k.is_alone) untouched.1
 alone_beside (inr copied) = copied.alone
 
 -- a start that came to nothing keeps the rows, unless the store failed

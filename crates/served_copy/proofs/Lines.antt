@@ -1,11 +1,11 @@
 -- What a server tells of itself.
-use Rattle.std.proofs.Common.{◌≡◌, ◌<◌, ◌≤◌, ◌+◌, ◌++◌, ℕ, List, [], map, drop, get_or, length, Option, Result, Ok, Err, OnOk, refl, ap, subst, ◌∙◌, add-one, drop-cons}
+use Rattle.std.proofs.Common.{◌≡◌, ◌<◌, ◌≤◌, ◌+◌, ◌++◌, ℕ, List, [], map, drop, get_or, length, Option, Some, IfSome, vec_len, Result, Ok, Err, OnOk, refl, sym, ap, subst, ◌∙◌, add-one, drop-cons}
 use Rattle.std.proofs.lemmas.List.{drop_all}
 use Rattle.std.specs.Borrow.{Bor}
 use Rattle.std.specs.Io.KnownBytes.{Appends}
 use Rattle.doc_rules.specs.Seats.{Seat}
 use Rattle.locked_doc.specs.declared.gather.Totals.{Totals}
-use Rattle.session_rules.specs.declared.Ending.{Ending}
+use Rattle.server_core.specs.declared.gathering.Gathered.{Gathered}
 use Rattle.server_core.specs.Attended.{AreAttended}
 use Rattle.server_core.specs.Sums.{AreTotalsFrom}
 use Rattle.served_copy.specs.Totals.{ServesSessions, total_line, total_lines}
@@ -27,18 +27,23 @@ pub lines_end : (names : List (Bor (List ℕ))) (totals : List Totals) (i : ℕ)
 lines_end names totals i past = rw (drop_all i names past) refl
 
 -- what sessions did over documents of these names, and what was told of it
-pub serves : (shelved names : List (List ℕ)) (connections : List (Option (List ℕ))) (count : ℕ) (endings : List (Option Ending)) (totals : List Totals)
-    (held holds : Option (List ℕ)) → ((given : List (List (Option Seat))) × AreAttended shelved connections endings given × AreTotalsFrom 0 given totals)
-    → shelved ≡ names → length connections ≡ count → length totals ≡ length shelved → Appends held holds (total_lines names totals) → ServesSessions names count held holds
-serves shelved names connections count endings totals held holds (given, attended, added) same so_many each told =
+pub serves : (shelved names : List (List ℕ)) (connections : List (Option (List ℕ))) (count : ℕ) {ran : Option Gathered} (gathered : Gathered)
+    (held holds : Option (List ℕ)) → ran ≡ Some gathered
+    → IfSome ran (λ g. (given : List (List (Option Seat))) × AreAttended shelved connections g.endings.items given × AreTotalsFrom 0 given g.totals.items)
+    → IfSome ran (λ g. vec_len g.totals ≡ length shelved)
+    → shelved ≡ names → length connections ≡ count → Appends held holds (total_lines names gathered.totals.items) → ServesSessions names count held holds
+serves shelved names connections count gathered held holds is sessions each same so_many told =
+    let (given, attended, added) = subst
+    (λ ran. IfSome ran (λ g. (given : List (List (Option Seat))) × AreAttended shelved connections g.endings.items given × AreTotalsFrom 0 given g.totals.items)) is sessions in
+    let many : vec_len gathered.totals ≡ length shelved = subst (λ ran. IfSome ran (λ g. vec_len g.totals ≡ length shelved)) is each in
     record {
       connections = connections;
-      endings = endings;
+      endings = gathered.endings.items;
       given = given;
-      totals = totals;
+      totals = gathered.totals.items;
       so_many = so_many;
-      attended = subst (λ ns. AreAttended ns connections endings given) same attended;
-      each = each ∙ ap length same;
+      attended = subst (λ ns. AreAttended ns connections gathered.endings.items given) same attended;
+      each = sym gathered.totals.ok.0 ∙ many ∙ ap length same;
       added = added;
       told = told;
     }

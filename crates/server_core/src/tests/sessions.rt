@@ -99,9 +99,10 @@ fn totals_of_many<M: Marker + Send + Sync, R: Threads + Wait + Sync, S: Side<M>>
     for _ in 0..64u8 {
         scripts.push(Script::new(rt, THREE, &replies))?;
     }
-    match run_sessions(rt, alloc, library, scripts, &OpenGate, side) {
-        (Ok(gathered), side) => Ok((gathered.totals, side)),
-        (Err(ungathered), _) => Err(ungathered.refusal),
+    let (gathered, side) = run_sessions(rt, alloc, library, scripts, &OpenGate, side);
+    match gathered {
+        Ok(gathered) => Ok((gathered.totals, side)),
+        Err(ungathered) => Err(ungathered.refusal),
     }
 }
 

@@ -1,9 +1,9 @@
-use Rattle.std.proofs.Common.{◌≡◌, map, length, vec_len, rules, sym, ◌∙◌}
+use Rattle.std.proofs.Common.{map, rules}
 use Rattle.std.proofs.lemmas.List.{length-map}
 use Rattle.std.specs.Io.KnownBytes.{Appends}
 use Rattle.served_copy.specs.Totals.{total_lines}
 use Rattle.served_copy.proofs.Lines.{serves}
-use Rattle.served_copy.proofs.Keeping.{alone_beside, copied_if_ran, grown_beside, of_some}
+use Rattle.served_copy.proofs.Keeping.{alone_beside, copied_if_ran, grown_beside}
 use Rattle.served_copy.proofs.serving.serve_library.Goals as goal
 
 pub returns-in_default-clause-grown : goal.returns-in_default-clause-grown
@@ -14,10 +14,9 @@ returns-in_default-clause-alone g c = alone_beside c.serve_copied-ran.ensures.le
 
 pub returns-in-Ok-clause-served : goal.returns-in-Ok-clause-served
 returns-in-Ok-clause-served g c = λ zero.
-    let totals = c.in-Some.gathered.totals in
-    let many : vec_len totals ≡ length totals.items = totals.ok.0 in
-    let told : Appends (g.W.Write.contents c.args.out.now) (g.W.Write.contents c.tell_totals.new.out) (total_lines (map (λ s. s.now) c.args.names.now) totals.items) = search rules in
-    serves _ _ _ _ _ _ _ _ (of_some c.in-Some.gathered c.in-Some.is c.serve_copied-ran.ensures.sessions) c.requires (length-map _ _) (sym many ∙ of_some c.in-Some.gathered c.in-Some.is c.serve_copied-ran.ensures.each) told
+    let sessions = c.serve_copied-ran.ensures in
+    let told : Appends (g.W.Write.contents c.args.out.now) (g.W.Write.contents c.tell_totals.new.out) (total_lines (map (λ s. s.now) c.args.names.now) c.in-Some.gathered.totals.items) = search rules in
+    serves _ _ _ _ c.in-Some.gathered _ _ c.in-Some.is sessions.sessions sessions.each c.requires (length-map _ _) told
 
 pub returns-in-Ok-clause-copied : goal.returns-in-Ok-clause-copied
 returns-in-Ok-clause-copied g c = λ zero. (copied_if_ran c.in-Some.gathered c.in-Some.is c.requires c.serve_copied-ran.ensures.left).copied (c.status_of.ensures.copied zero)
