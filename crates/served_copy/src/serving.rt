@@ -32,13 +32,7 @@ fn seats_for(sessions: usize) -> u16
 }
 
 /// Serves the connections while the copier runs, and gives that back. What sessions did is kept, if it could be gathered.
-fn serve_beside<
-    'a,
-    M: Marker + Send + Sync,
-    R: Threads + Wait + Sync,
-    C: Connect,
-    S: Alter,
->(
+fn serve_beside<'a, M: Marker + Send + Sync, R: Threads + Wait + Sync, C: Connect, S: Alter>(
     rt: &R,
     alloc: Global,
     library: Library<M>,
@@ -215,7 +209,16 @@ pub fn serve_over<
     let mut ledger = Ledger::<M>::new(blank);
     let seats = seats_for(connections.len());
     match restored_stock(alloc, &mut ledger, copy, &replica, documents, seats) {
-        Ok(stock) => serve_stock(rt, alloc, &replica, stock, documents, connections, copy, out),
+        Ok(stock) => serve_stock(
+            rt,
+            alloc,
+            &replica,
+            stock,
+            documents,
+            connections,
+            copy,
+            out,
+        ),
         Err(_) => 1,
     }
 }
