@@ -1,5 +1,5 @@
 -- Rows that stay.
-use Rattle.std.proofs.Common.{◌≡◌, ◌⊎◌, inl, inr, ◌↔◌, ◌≤◌, ℕ, Bool, true, false, List, Option, Some, None, Result, Err, sym, ap, subst, ◌∙◌, arith}
+use Rattle.std.proofs.Common.{◌≡◌, ◌⊎◌, inl, inr, ◌↔◌, ◌≤◌, ℕ, true, false, List, Option, Some, None, Result, Err, sym, ap, subst, ◌∙◌, arith}
 use Rattle.copy_docs.specs.declared.fault.Fault.{Fault}
 use Rattle.copy_docs.specs.declared.fault.Fault.TheVariants.{Store}
 use Rattle.log_copy.specs.Kept.{Kept}

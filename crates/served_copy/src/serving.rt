@@ -36,13 +36,7 @@ fn seats_for(sessions: usize) -> u16
 }
 
 /// Serves the connections while the copier runs, and gives that back. What sessions did is kept, if it could be gathered.
-fn serve_beside<
-    'a,
-    M: Marker + Send + Sync,
-    R: Threads + Wait + Sync,
-    C: Connect,
-    S: Alter,
->(
+fn serve_beside<'a, M: Marker + Send + Sync, R: Threads + Wait + Sync, C: Connect, S: Alter>(
     rt: &R,
     alloc: Global,
     library: Library<M>,
