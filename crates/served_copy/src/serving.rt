@@ -74,7 +74,12 @@ fn note_end<R: Log + Clock>(rt: &R, why: &Option<Fault>) {
 
 /// What sessions did over the documents of a shelf, if it could be gathered, and why the copying ended before all was copied, if it
 /// did.
-fn serve_copied<M: Marker + Send + Sync, R: Threads + Wait + Sync + Log + Clock, C: Connect, S: Alter>(
+fn serve_copied<
+    M: Marker + Send + Sync,
+    R: Threads + Wait + Sync + Log + Clock,
+    C: Connect,
+    S: Alter,
+>(
     rt: &R,
     alloc: Global,
     library: Library<M>,
@@ -224,7 +229,16 @@ pub fn serve_over<
     match restored_stock(alloc, &mut ledger, copy, &replica, documents, seats) {
         Ok(stock) => {
             note_documents(rt, copy, documents);
-            serve_stock(rt, alloc, &replica, stock, documents, connections, copy, out)
+            serve_stock(
+                rt,
+                alloc,
+                &replica,
+                stock,
+                documents,
+                connections,
+                copy,
+                out,
+            )
         }
         Err(_) => 1,
     }
