@@ -8,7 +8,7 @@ use Rattle.doc_words.specs.Words.{Op, Refusal, NoMemory}
 use Rattle.json_scalar.specs.declared.refusal.Refusal.TheVariants.{SeatsFull, ListsDiffer}
 use Rattle.doc_words.specs.declared.ask.Command.{Command}
 use Rattle.doc_rules.specs.Document.{Document, IsSound, by, logged_by, opens}
-use Rattle.doc_rules.specs.Seats.{Seat, Answer, ActsFor, AnswersFor, AreEndsOf, operation_ids}
+use Rattle.doc_rules.specs.Seats.{Seat, Answer, ActsFor, AnswersFor, AreEndsOf, IsEndOf, operation_ids}
 use Rattle.doc_rules.proofs.Shared.{acts_gives}
 use Rattle.doc_words.specs.declared.ask.Query.{Query}
 use Rattle.locked_doc.specs.Locked.{seat_opened}
@@ -77,3 +77,13 @@ pub none_unopened : (n : ℕ) (d : Document) (ends : List Seat) (refusal : Refus
     → d.opened ≡ 0 → ends ≡ [] → refusal ≡ NoMemory
 none_unopened n d ends refusal (inl memory) unopened none = memory
 none_unopened n d ends refusal (inr (differ, wrong)) unopened none = absurd (wrong (subst (AreEndsOf n d) (sym none) (sym unopened)))
+
+-- the end of the one seat, told of what is logged for it, is right
+pub one_is_right : (n : ℕ) (d : Document) (ends : List Seat) (end : Seat) (refusal : Refusal) → (refusal ≡ NoMemory) ⊎ ((refusal ≡ ListsDiffer) × (AreEndsOf n d ends → ⊥))
+    → d.opened ≤ 1 → ends ≡ end ∷ [] → HasTold n d end → refusal ≡ NoMemory
+one_is_right n d ends end refusal (inl memory) few given told = memory
+one_is_right n d ends end refusal (inr (differ, wrong)) few given told =
+    let first : end.seat ≡ 1 = omega (arith, told.seat.1, told.seat.2, few) in
+    let here : IsEndOf n d 1 end = (told.seat.0, first, told.told ∙ ap (λ k. operation_ids (logged_by k d)) first) in
+    let all : AreEndsOf n d (end ∷ []) = (here, omega (arith, told.seat.1, told.seat.2, few)) in
+    absurd (wrong (subst (AreEndsOf n d) (sym given) all))
