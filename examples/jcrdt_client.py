@@ -14,6 +14,7 @@ import json
 import os
 import socket
 import subprocess
+import tempfile
 
 PROGRAM = os.environ.get("JCRDT", os.path.join(os.path.dirname(os.path.abspath(__file__)), "..", "jcrdt"))
 
@@ -209,10 +210,13 @@ def connected(address):
 
 
 @contextlib.contextmanager
-def serving(documents, sessions, name="srv", options=()):
-    """Starts `jcrdt serve` at a free port of this machine and yields its address. It ends after so many sessions."""
-    words = [PROGRAM, "serve", "--addr", "127.0.0.1:0", "--sessions", str(sessions), "--name", name, *options, *documents]
-    with subprocess.Popen(words, bufsize=0, stdout=subprocess.PIPE) as program:
+def serving(documents, sessions, name="srv", file=None):
+    """Starts `jcrdt serve` at a free port of this machine and yields its address. It starts from the file and copies to it, or to a
+    new one that is gone afterwards, and ends after so many sessions."""
+    with contextlib.ExitStack() as stack:
+        path = file or os.path.join(stack.enter_context(tempfile.TemporaryDirectory()), "copy.db")
+        words = [PROGRAM, "serve", "--addr", "127.0.0.1:0", "--sessions", str(sessions), "--file", path, "--name", name, *documents]
+        program = stack.enter_context(subprocess.Popen(words, bufsize=0, stdout=subprocess.PIPE))
         try:
             line = program.stdout.readline()
             if not line:

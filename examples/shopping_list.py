@@ -1,6 +1,6 @@
 """A shared shopping list: each terminal is one session of a server, and all see the same list.
 
-usage: shopping_list.py ADDRESS      (a server was started by: ./jcrdt serve --addr 127.0.0.1:7000 --sessions 2 list)
+usage: shopping_list.py ADDRESS      (a server was started by: ./jcrdt serve --addr 127.0.0.1:7000 --sessions 2 --file list.db list)
 
 Then line by line: add NAME · bought NUMBER · list · quit
 """

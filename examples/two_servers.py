@@ -1,25 +1,27 @@
-"""Two servers diverge, meet, show a conflict, settle it, and one is started again.
+"""Two servers diverge, meet, show a conflict, settle it, and one is started again: over pipes without a file, over TCP from one.
 
 usage: two_servers.py pipes|tcp
 """
 
 import contextlib
 import json
+import os
 import sys
+import tempfile
 
 import jcrdt_client
 from exchange import exchange, verdict
 from jcrdt_client import Refused
 
 
-def over_pipes(stack, document, name):
-    """Starts a program that serves one client."""
+def over_pipes(stack, document, name, _room):
+    """Starts a program that serves one client, and keeps nothing."""
     return stack.enter_context(jcrdt_client.started([document], name))
 
 
-def over_tcp(stack, document, name):
-    """Starts a server that listens at a port of its own, and ends with its one session."""
-    address = stack.enter_context(jcrdt_client.serving([document], 1, name))
+def over_tcp(stack, document, name, room):
+    """Starts a server that listens at a port of its own, starts from its file, and ends with its one session."""
+    address = stack.enter_context(jcrdt_client.serving([document], 1, name, os.path.join(room, f"{name}.db")))
     return stack.enter_context(jcrdt_client.connected(address))
 
 
@@ -37,7 +39,10 @@ def main(kind):
     document = "plan"
     with contextlib.ExitStack() as stack:
         start = over_tcp if kind == "tcp" else over_pipes
-        alice, bob = start(stack, document, "alice"), start(stack, document, "bob")
+        room = stack.enter_context(tempfile.TemporaryDirectory())
+        bob = start(stack, document, "bob", room)
+        until_alice_ends = stack.enter_context(contextlib.ExitStack())
+        alice = start(until_alice_ends, document, "alice", room)
         alice.open(document)
         bob.open(document)
         alice.put(document, [0], {"title": "Plan", "guests": ["Ada"]})
@@ -60,12 +65,16 @@ def main(kind):
         meet(alice, bob, document)
         tell("settled", alice, bob, document)
 
-        # Alice's document ends with her program. Started again, under a new name, she gets all of it from bob.
+        # Without a file alice's document ends with her program: under a new name she gets all of it from bob. From her file she
+        # has all that she had, and is a new replica of the old name.
         alice.quit()
-        again = start(stack, document, "alice-again")
+        until_alice_ends.close()
+        bob.assign(document, [0, "day"], "Friday")
+        again = start(stack, document, "alice" if kind == "tcp" else "alice-again", room)
         again.open(document)
-        meet(again, bob, document)
         tell("started again", again, bob, document)
+        meet(again, bob, document)
+        print(f"the next change is {again.assign(document, [0, 'hour'], 19)}")
         again.quit()
         bob.quit()
 

@@ -1,7 +1,8 @@
 -- What is copied.
-use Rattle.std.specs.Prelude.{◌≡◌, ◌≢◌, ℕ, Bool, true, false, List, [], Contains, length}
+use Rattle.std.specs.Prelude.{◌≡◌, ◌≢◌, ℕ, Bool, true, false, List, [], Contains, length, Option, None}
 use Rattle.doc_words.specs.Words.{Op}
 use Rattle.copy_docs.specs.Docs.{Doc, IsBatch, add_batch, log_of}
+use Rattle.copy_docs.specs.declared.fault.Fault.{Fault}
 use Rattle.log_copy.specs.Kept.{Kept}
 
 -- the next entries of the document of this name, of which there are some, were added
@@ -21,3 +22,11 @@ pub record AddsBatches {S : Type 0} (names : List (List ℕ)) (old new : Kept S)
   pub any : Bool
   pub added : AreAdded names old.docs any new.docs
   pub epoch : new.epoch ≡ old.epoch
+
+-- What a copier left of a copy, behind documents of these names, and why it ended before all was copied, if it did. With no fault the
+-- copy has batches more, and still works. A fault of memory leaves batches too. After one of the store nothing is known.
+pub record HasCopied {S : Type 0} (names : List (List ℕ)) (old new : Kept S) (fault : Option Fault) : Type 0 where
+  pub copied : fault ≡ None → AddsBatches names old new
+  pub works : fault ≡ None → old.has_failed ≡ false → new.has_failed ≡ false
+  pub grown : new.has_failed ≡ false → AddsBatches names old new
+  pub alone : new.is_alone ≡ old.is_alone

@@ -1,6 +1,6 @@
 //! What a thread beside sessions does to keep a copy behind them.
-ghost use Rattle.std.specs.Prelude.{◌≡◌, ◌⊎◌, OnOk, IfErr, Err, true, None};
-ghost use Rattle.copier.specs.Batches.{AddsBatches};
+ghost use Rattle.std.specs.Prelude.{◌≡◌, ◌⊎◌, OnOk, IfErr, Err, true, false, None};
+ghost use Rattle.copier.specs.Batches.{AddsBatches, HasCopied};
 
 use crate::batch::copy_each;
 use log_copy::{Fault, LogCopy};
@@ -19,6 +19,7 @@ pub fn keep_up<M: Marker, R: Wait, S: Alter>(
 ) -> Result<(), Fault>
     ensures ok { OnOk result (AddsBatches library.now.names.items copy.old copy.new) }
     ensures err { IfErr result (λ e. (e ≡ Fault.Store) ⊎ AddsBatches library.now.names.items copy.old copy.new) }
+    ensures works { OnOk result (copy.old.has_failed ≡ false → copy.new.has_failed ≡ false) }
     ensures failed { result ≡ Err Fault.Store → copy.new.has_failed ≡ true }
     ensures alone { copy.new.is_alone ≡ copy.old.is_alone }
 {
@@ -45,27 +46,35 @@ pub fn keep_up<M: Marker, R: Wait, S: Alter>(
 /// Keeps a copy behind sessions, as `keep_up`. A fault ends the copying alone, and is kept.
 #[derive(Drop)]
 pub struct Copier<'a, S: Alter> {
-    copy: &'a mut LogCopy<S>,
-    fault: Option<Fault>,
+    /// The copy.
+    pub copy: &'a mut LogCopy<S>,
+    /// Why the copying ended before all was copied, if it did.
+    pub fault: Option<Fault>,
 }
 
 impl<'a, S: Alter> Copier<'a, S> {
     /// One that has copied nothing yet.
     pub fn new(copy: &'a mut LogCopy<S>) -> Copier<'a, S>
-        ensures { result.fault ≡ None }
+        ensures same_reference { result.copy.ghost_name ≡ copy.entry.ghost_name }
+        ensures begun { result.copy.now ≡ copy.old }
+        ensures fault { result.fault ≡ None }
     {
         Copier { copy, fault: None }
     }
 
-    /// Why the copying ended before all was copied, if it did.
-    pub fn fault(&self) -> Option<Fault>
-        ensures { result ≡ self.now.fault }
+    /// Lets the copy go, and tells why the copying ended before all was copied, if it did.
+    pub fn end(self) -> Option<Fault>
+        ensures left { self.exit.0.now ≡ self.entry.copy.now }
+        ensures fault { result ≡ self.entry.fault }
     {
-        self.fault
+        let Copier { copy: _, fault } = self;
+        fault
     }
 }
 
 impl<M: Marker, S: Alter> Side<M> for Copier<'_, S> {
+    ghost becomes = { λ names old new. (new.copy.ghost_name ≡ old.copy.ghost_name) × HasCopied names old.copy.now new.copy.now new.fault };
+
     fn run<R: Wait>(&mut self, rt: &R, library: &Library<M>, sessions: u64) {
         self.fault = keep_up(rt, library, sessions, self.copy).err();
     }

@@ -8,7 +8,7 @@ use std::alloc::{AllocError, Global};
 
 /// How the program is called.
 pub const USAGE: &str =
-    "usage: jcrdt run [--name NAME] DOC..\n       jcrdt serve --addr A --sessions N [--name NAME] DOC..\n       jcrdt check --file F\n  NAME: 1 to 24, DOC: 1 to 32 of a-z, 0-9 and -; 1 to 16 documents of different names\n  A: HOST:PORT to listen at, N: 1 to 256 sessions\n  F: the file of a copy\n  Lines of JSON in, lines of JSON out: see docs/FORMATS.md.";
+    "usage: jcrdt run [--name NAME] DOC..\n       jcrdt serve --addr A --sessions N --file F [--name NAME] DOC..\n       jcrdt check --file F\n  NAME: 1 to 24, DOC: 1 to 32 of a-z, 0-9 and -; 1 to 16 documents of different names\n  A: HOST:PORT to listen at, N: 1 to 256 sessions\n  F: the file of a copy, made where it isn't there\n  Lines of JSON in, lines of JSON out: see docs/FORMATS.md.";
 
 /// The program's own line.
 pub const VERSION: &str = "jcrdt, version 2 of its requests and operations";

@@ -1,44 +1,7 @@
--- What a server tells of itself.
-use Rattle.std.proofs.Common.{◌≡◌, ◌<◌, ◌≤◌, ◌+◌, ◌++◌, ℕ, List, [], map, drop, get_or, length, Option, Result, Ok, Err, OnOk, refl, ap, subst, ◌∙◌, add-one, drop-cons}
-use Rattle.std.proofs.lemmas.List.{drop_all}
-use Rattle.std.specs.Borrow.{Bor}
-use Rattle.std.specs.Io.KnownBytes.{Appends}
-use Rattle.doc_rules.specs.Seats.{Seat}
-use Rattle.locked_doc.specs.declared.gather.Totals.{Totals}
-use Rattle.session_rules.specs.declared.Ending.{Ending}
-use Rattle.server_core.specs.Attended.{AreAttended}
-use Rattle.server_core.specs.Sums.{AreTotalsFrom}
-use Rattle.tcp_server.specs.Totals.{ServesSessions, total_line, total_lines}
+-- What a call tells where it ends well.
+use Rattle.std.proofs.Common.{Result, Ok, Err, OnOk}
 
 -- what holds whatever the result is
 pub on_ok : {T E P : Type 0} (r : Result T E) → P → OnOk r P
 on_ok (Ok x) p = p
 on_ok (Err e) p = tt
-
--- the line of one document, and those of the documents behind it
-pub lines_step : (names : List (Bor (List ℕ))) (totals : List Totals) (i : ℕ) (n : Bor (List ℕ)) (t : Totals) → i < length names → i < length totals
-    → total_lines (map (λ s. s.now) (drop i names)) (drop i totals)
-    ≡ total_line (get_or names i n).now (get_or totals i t) ++ total_lines (map (λ s. s.now) (drop (i + 1) names)) (drop (i + 1) totals)
-lines_step names totals i n t within there = rw (drop-cons names i n within, drop-cons totals i t there, add-one) refl
-
--- behind the last document nothing is left to tell
-pub lines_end : (names : List (Bor (List ℕ))) (totals : List Totals) (i : ℕ) → length names ≤ i
-    → total_lines (map (λ s. s.now) (drop i names)) (drop i totals) ≡ []
-lines_end names totals i past = rw (drop_all i names past) refl
-
--- what sessions did over documents of these names, and what was told of it
-pub serves : (shelved names : List (List ℕ)) (connections : List (Option (List ℕ))) (count : ℕ) (endings : List (Option Ending)) (totals : List Totals)
-    (held holds : Option (List ℕ)) → ((given : List (List (Option Seat))) × AreAttended shelved connections endings given × AreTotalsFrom 0 given totals)
-    → shelved ≡ names → length connections ≡ count → length totals ≡ length shelved → Appends held holds (total_lines names totals) → ServesSessions names count held holds
-serves shelved names connections count endings totals held holds (given, attended, added) same so_many each told =
-    record {
-      connections = connections;
-      endings = endings;
-      given = given;
-      totals = totals;
-      so_many = so_many;
-      attended = subst (λ ns. AreAttended ns connections endings given) same attended;
-      each = each ∙ ap length same;
-      added = added;
-      told = told;
-    }

@@ -1,2 +1,1 @@
 pub mod Listening
-pub mod Totals

@@ -1,14 +1,10 @@
-//! Serves new documents over TCP, a session for each connection.
+//! Where a server listens, and the connections that it accepts there.
 #![tactic(auto)]
 
 mod accepting;
 mod listening;
-mod serving;
-mod shelving;
 #[cfg(test)]
 mod tests;
-mod totals;
 
 pub use accepting::{Accepting, Sent, connections};
 pub use listening::listen;
-pub use serving::serve_new;

@@ -2,10 +2,13 @@
 ghost use Rattle.std.specs.Prelude.{IfSome, OnOk};
 ghost use Rattle.tcp_server.specs.Listening.{TellsAddress};
 
+use log::Log;
+use server_notes::note_listening;
 use std::alloc::Global;
 use std::io;
 use std::io::ErrorKind;
 use std::net::{Net, TcpListener, TcpStream};
+use std::time::Clock;
 
 /// Writes where the server listens.
 fn tell_address<W: io::Write>(alloc: Global, listener: &TcpListener, out: &mut W) -> io::Result<()>
@@ -26,14 +29,19 @@ pub fn hint_of(error: &io::Error) -> &'static str {
     }
 }
 
+/// Notes where the server listens.
+fn note_address<R: Log + Clock>(rt: &R, listener: &TcpListener) {
+    if let Ok(address) = listener.local_addr() {
+        note_listening(rt, &address);
+    }
+}
+
 /// Listens at the address, and writes where. None where it can't be listened at, where the writer fails, or for want of memory:
 /// standard error is told why. That it listens at this address no clause can say.
-pub fn listen<R: Net<Listener = TcpListener, Stream = TcpStream> + Eprint, W: io::Write>(
-    rt: &R,
-    alloc: Global,
-    address: &str,
-    out: &mut W,
-) -> Option<TcpListener>
+pub fn listen<
+    R: Net<Listener = TcpListener, Stream = TcpStream> + Eprint + Log + Clock,
+    W: io::Write,
+>(rt: &R, alloc: Global, address: &str, out: &mut W) -> Option<TcpListener>
     ensures { IfSome result (λ listener. TellsAddress (W.contents out.old) (W.contents out.new)) }
 {
     let listener = match TcpListener::bind(rt, address) {
@@ -48,7 +56,10 @@ pub fn listen<R: Net<Listener = TcpListener, Stream = TcpStream> + Eprint, W: io
         }
     };
     match tell_address(alloc, &listener, out) {
-        Ok(()) => Some(listener),
+        Ok(()) => {
+            note_address(rt, &listener);
+            Some(listener)
+        }
         Err(error) => {
             let _told = rt.eprintln(format_args!("jcrdt: cannot tell where it listens: {error}"));
             None

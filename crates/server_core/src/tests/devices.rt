@@ -49,7 +49,7 @@ fn gathered_with<M: Marker + Send + Sync, R: Threads + Wait + Sync>(
         opens: fault.opens,
     })?;
     scripts.push(Script::new(rt, TWO, &whole))?;
-    match run_sessions(rt, alloc, library, scripts, &OpenGate, &mut Idle) {
+    match run_sessions(rt, alloc, library, scripts, &OpenGate, Idle).0 {
         Ok(gathered) => Ok((gathered, failing.into_inner())),
         Err(ungathered) => Err(ungathered.refusal),
     }

@@ -70,7 +70,7 @@ fn told_alone<M: Marker + Send + Sync, R: Threads + Wait + Sync>(
     let replies = Mutex::new(Vec::new(alloc));
     let mut scripts = Vec::new(alloc);
     scripts.push(Script::new(rt, input, &replies))?;
-    match run_sessions(rt, alloc, library, scripts, &OpenGate, &mut Idle) {
+    match run_sessions(rt, alloc, library, scripts, &OpenGate, Idle).0 {
         Ok(_) => Ok(replies.into_inner()),
         Err(ungathered) => Err(ungathered.refusal),
     }

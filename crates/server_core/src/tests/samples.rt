@@ -121,7 +121,7 @@ pub fn run_two<M: Marker + Send + Sync, R: Threads + Wait + Sync, G: Gate + Sync
     let mut scripts = Vec::new(alloc);
     scripts.push(Script::new(rt, first, &one))?;
     scripts.push(Script::new(rt, second, &two))?;
-    match run_sessions(rt, alloc, library, scripts, gate, &mut Idle) {
+    match run_sessions(rt, alloc, library, scripts, gate, Idle).0 {
         Ok(gathered) => Ok(Ran {
             totals: gathered.totals,
             first: one.into_inner(),

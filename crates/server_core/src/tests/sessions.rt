@@ -84,13 +84,13 @@ fn two_sessions(rt: HostRuntime) -> Result<(), Fail> {
     adds_up::<Brand, _>(&rt, rt.alloc(), Blank::new())
 }
 
-/// The totals of 64 sessions of the same lines, with a side.
+/// The totals of 64 sessions of the same lines, with a side, which is given back.
 fn totals_of_many<M: Marker + Send + Sync, R: Threads + Wait + Sync, S: Side<M>>(
     rt: &R,
     alloc: Global,
     blank: Blank,
-    side: &mut S,
-) -> Result<Vec<Totals>, Refusal>
+    side: S,
+) -> Result<(Vec<Totals>, S), Refusal>
     requires { blank ≡ M.name }
 {
     let library = two_documents::<M>(alloc, blank, 64)?;
@@ -99,8 +99,9 @@ fn totals_of_many<M: Marker + Send + Sync, R: Threads + Wait + Sync, S: Side<M>>
     for _ in 0..64u8 {
         scripts.push(Script::new(rt, THREE, &replies))?;
     }
-    match run_sessions(rt, alloc, library, scripts, &OpenGate, side) {
-        Ok(gathered) => Ok(gathered.totals),
+    let (gathered, side) = run_sessions(rt, alloc, library, scripts, &OpenGate, side);
+    match gathered {
+        Ok(gathered) => Ok((gathered.totals, side)),
         Err(ungathered) => Err(ungathered.refusal),
     }
 }
@@ -112,7 +113,7 @@ fn adds_many_up<M: Marker + Send + Sync, R: Threads + Wait + Abort + Sync>(
 ) -> Result<(), Fail>
     requires { blank ≡ M.name }
 {
-    let totals = totals_of_many::<M, R, Idle>(rt, alloc, blank, &mut Idle)?;
+    let (totals, _) = totals_of_many::<M, R, Idle>(rt, alloc, blank, Idle)?;
     first_did(rt, totals.as_slice(), 192, &[3; 64])
 }
 
@@ -157,12 +158,12 @@ fn watches<M: Marker + Send + Sync, R: Threads + Wait + Abort + Sync>(
 ) -> Result<(), Fail>
     requires { blank ≡ M.name }
 {
-    let mut side = Watching {
+    let begins = Watching {
         sessions: 0,
         ended: 0,
         logged: None,
     };
-    let totals = totals_of_many::<M, R, Watching>(rt, alloc, blank, &mut side)?;
+    let (totals, side) = totals_of_many::<M, R, Watching>(rt, alloc, blank, begins)?;
     first_did(rt, totals.as_slice(), 192, &[3; 64])?;
     assert_eq!(rt; (side.sessions, side.ended), (64, 64));
     assert_eq!(rt; side.logged, Some(192));

@@ -4,7 +4,7 @@ use Rattle.copier.proofs.Adding.{grows_all, grows_until}
 use Rattle.copier.proofs.side.keep_up.Goals as goal
 
 pub loop-init : goal.loop-init
-loop-init g c = record { waits = (tt, tt); grown = record { any = false; added = none; epoch = refl }; alone = refl }
+loop-init g c = record { waits = (tt, tt); grown = record { any = false; added = none; epoch = refl }; works = λ h. h; alone = refl }
 
 pub loop-preserved-in-Ok-true : goal.loop-preserved-in-Ok-true
 loop-preserved-in-Ok-true g c =
@@ -12,6 +12,7 @@ loop-preserved-in-Ok-true g c =
     let before = c.loop.invariant in record {
       waits = (tt, tt);
       grown = grows_all before.grown (record { any = c.in-Ok-true.field-0; added = now.ok; epoch = now.works.0 });
+      works = λ h. now.works.1 (before.works h);
       alone = now.alone ∙ before.alone;
     }
 

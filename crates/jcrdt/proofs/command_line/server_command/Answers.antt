@@ -1,16 +1,12 @@
-use Rattle.std.proofs.Common.{◌≡◌, rules, ap₂, ◌∙◌}
+use Rattle.std.proofs.Common.{ap₂, ◌∙◌}
 use Rattle.std.proofs.lemmas.Result.{IfOk-weaker}
-use Rattle.clap.specs.Words.{app_of, rule_of, with_rule, new_app}
-use Rattle.jcrdt.specs.CommandLine.{address_rule, sessions_rule, name_rule, document_rule}
+use Rattle.clap.specs.Words.{with_rule}
 use Rattle.jcrdt.proofs.command_line.server_command.Goals as goal
 
 pub returns : goal.returns
 returns c =
-    let address_is : rule_of c.required-address.result ≡ address_rule = search rules in
-    let sessions_is : rule_of c.required-sessions.result ≡ sessions_rule = search rules in
-    let name_is : rule_of c.long-name.result ≡ name_rule = search rules in
-    let document_is : rule_of c.action-document.result ≡ document_rule = search rules in
-    let first = c.in_ok-arg.ensures.shape (search rules) ∙ ap₂ with_rule c.new-5.ensures.app address_is in
-    let second = c.in_ok-arg-2.ensures.shape (search rules) ∙ ap₂ with_rule first sessions_is in
-    let third = c.in_ok-arg-3.ensures.shape (search rules) ∙ ap₂ with_rule second name_is in
-    IfOk-weaker c.arg-4.result _ _ (λ command adds. adds.shape (search rules) ∙ ap₂ with_rule third document_is) c.arg-4.ensures
+    let addressed = c.in_ok-arg.ensures.shape c.required_option.ensures.local ∙ ap₂ with_rule c.new.ensures.app c.required_option.ensures.rule in
+    let counted = c.in_ok-arg-2.ensures.shape c.required_option-2.ensures.local ∙ ap₂ with_rule addressed c.required_option-2.ensures.rule in
+    let filed = c.in_ok-arg-3.ensures.shape c.required_option-3.ensures.local ∙ ap₂ with_rule counted c.required_option-3.ensures.rule in
+    let named = c.in_ok-arg-4.ensures.shape c.name_option.ensures.local ∙ ap₂ with_rule filed c.name_option.ensures.rule in
+    IfOk-weaker c.arg-5.result _ _ (λ command adds. adds.shape c.document_words.ensures.local ∙ ap₂ with_rule named c.document_words.ensures.rule) c.arg-5.ensures

@@ -13,21 +13,15 @@ returns-then-not-is_good-clause-refused g c = λ two wanted asked.
     let bad : c.is_good.result ≡ false = search rules in
     let wrong : true ≡ false = sym good ∙ bad in cc
 
-pub returns-in-Ok-Some-clause-asked : goal.returns-in-Ok-Some-clause-asked
-returns-in-Ok-Some-clause-asked g c = λ other. (
+pub returns-clause-asked : goal.returns-clause-asked
+returns-clause-asked g c = λ other. (
   record { name = c.args.name.now; documents = map (λ s. s.now) c.args.documents.now; address = c.args.address.now; sessions = c.in-Some.sessions },
   record { named = refl; listed = refl; at = refl; sessions = c.in-Some.ensures; good = search rules },
 )
 
-pub returns-in-Ok-Some-clause-served : goal.returns-in-Ok-Some-clause-served
-returns-in-Ok-Some-clause-served g c = λ zero. (
+pub returns-clause-served : goal.returns-clause-served
+returns-clause-served g c = λ zero. (
   record { name = c.args.name.now; documents = map (λ s. s.now) c.args.documents.now; address = c.args.address.now; sessions = c.in-Some.sessions },
   record { named = refl; listed = refl; at = refl; sessions = c.in-Some.ensures; good = search rules },
-  c.serve_new.ensures.served zero,
-)
-
-pub returns-in-Err-clause-asked : goal.returns-in-Err-clause-asked
-returns-in-Err-clause-asked g c = λ other. (
-  record { name = c.args.name.now; documents = map (λ s. s.now) c.args.documents.now; address = c.args.address.now; sessions = c.in-Some.sessions },
-  record { named = refl; listed = refl; at = refl; sessions = c.in-Some.ensures; good = search rules },
+  c.serve_file.ensures.served zero,
 )

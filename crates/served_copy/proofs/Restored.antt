@@ -1,0 +1,19 @@
+-- Documents that are restored one behind the other.
+use Rattle.std.proofs.Common.{◌≡◌, ◌<◌, ◌+◌, ◌++◌, ◌∷◌, [], ℕ, List, map, take, length, get_or, sym, ap, ap₂, ◌∙◌}
+use Rattle.std.proofs.lemmas.List.{map_more, map_push}
+use Rattle.std.specs.Borrow.{Bor}
+use Rattle.doc_rules.specs.Document.{Document, new_document}
+use Rattle.copy_docs.specs.Docs.{Doc, log_of}
+use Rattle.locked_doc.specs.Locked.{Locked}
+
+-- the documents of one name more
+pub one_restored : (replica : List ℕ) (kept : List Doc) (seats : ℕ) (names : List (Bor (List ℕ))) (i : ℕ) (name : Bor (List ℕ)) (docs new : List Locked) (doc : Locked)
+    → i < length names → new ≡ docs ++ doc ∷ [] → doc.document ≡ new_document replica (log_of (get_or names i name).now kept) seats
+    → map (λ d. d.document) docs ≡ map (λ n. new_document replica (log_of n kept) seats) (map (λ s. s.now) (take i names))
+    → map (λ d. d.document) new ≡ map (λ n. new_document replica (log_of n kept) seats) (map (λ s. s.now) (take (i + 1) names))
+one_restored replica kept seats names i name docs new doc within pushed is before =
+    let document : Locked → Document = λ d. d.document in
+    let made : List ℕ → Document = λ n. new_document replica (log_of n kept) seats in
+    let text : Bor (List ℕ) → List ℕ = λ s. s.now in
+    ap (map document) pushed ∙ map_push document docs doc ∙ ap₂ (λ ys y. ys ++ y ∷ []) before is
+    ∙ sym (ap (map made) (map_more text names i name within) ∙ map_push made (map text (take i names)) (text (get_or names i name)))

@@ -1,0 +1,4 @@
+pub mod Named
+pub mod Restored
+pub mod Totals
+pub mod Served

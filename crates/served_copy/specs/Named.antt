@@ -1,0 +1,26 @@
+-- What a server is named at a start, and what is new to the copy that it starts from.
+use Rattle.std.specs.Prelude.{◌≡◌, ◌<◌, ℕ, Bool, false, List, ◌++◌, codes}
+use Rattle.std.specs.Fmt.{decimal}
+use Rattle.std.specs.List.{list_any}
+use Rattle.std.specs.Str.{bytes_eq}
+use Rattle.doc_words.specs.Words.{Op}
+use Rattle.copy_docs.specs.Docs.{Doc, log_of}
+use Rattle.log_copy.specs.Kept.{Kept}
+
+-- NAME-E, the name of the replica that a server is at the start of this number
+abbrev pub replica_name : List ℕ → ℕ → List ℕ
+replica_name name epoch = name ++ (codes "-" ++ decimal epoch)
+
+abbrev pub is_by : List ℕ → Op → Bool
+is_by replica op = bytes_eq op.id.replica replica
+
+-- the replica has made operations in one of the documents of these names
+abbrev pub is_known : List ℕ → List Doc → List (List ℕ) → Bool
+is_known replica docs names = list_any (λ n. list_any (is_by replica) (log_of n docs)) names
+
+-- The copy has the same rows under a greater epoch, and the replica is named by that: a name that is new to these documents.
+pub record IsRaised {S : Type 0} (name : List ℕ) (names : List (List ℕ)) (replica : List ℕ) (old new : Kept S) : Type 0 where
+  pub named : replica ≡ replica_name name new.epoch
+  pub raised : old.epoch < new.epoch
+  pub unknown : is_known replica old.docs names ≡ false
+  pub kept : new.docs ≡ old.docs

@@ -1,0 +1,33 @@
+-- What a server tells at the end.
+use Rattle.std.specs.Prelude.{◌≡◌, ℕ, List, [], ◌∷◌, ◌++◌, length, codes, Option}
+use Rattle.std.specs.Fmt.{decimal}
+use Rattle.std.specs.Io.KnownBytes.{Appends}
+use Rattle.doc_rules.specs.Seats.{Seat}
+use Rattle.locked_doc.specs.declared.gather.Totals.{Totals}
+use Rattle.session_rules.specs.declared.Ending.{Ending}
+use Rattle.server_core.specs.Attended.{AreAttended}
+use Rattle.server_core.specs.Sums.{AreTotalsFrom}
+
+-- ["total",DOC,ACCEPTED,LOGGED,COPIED]
+abbrev pub total_line : List ℕ → Totals → List ℕ
+total_line name t =
+    codes "[\"total\",\"" ++ (name ++ (codes "\"," ++ (decimal t.accepted ++ (codes "," ++ (decimal t.logged ++ (codes "," ++ (decimal t.copied ++ codes "]\n")))))))
+
+-- a line for each document, in their order
+abbrev pub total_lines : List (List ℕ) → List Totals → List ℕ
+total_lines (name ∷ names) (t ∷ ts) = total_line name t ++ total_lines names ts
+total_lines [] ts = []
+total_lines (name ∷ names) [] = []
+
+-- So many connections, each with a session over documents of these names, or with none; and then a line of totals for each
+-- document, which are those of the seats that these sessions had. Where known, the bytes are those that a connection has to read.
+pub record ServesSessions (names : List (List ℕ)) (count : ℕ) (held holds : Option (List ℕ)) : Type 0 where
+  pub connections : List (Option (List ℕ))
+  pub endings : List (Option Ending)
+  pub given : List (List (Option Seat))
+  pub totals : List Totals
+  pub so_many : length connections ≡ count
+  pub attended : AreAttended names connections endings given
+  pub each : length totals ≡ length names
+  pub added : AreTotalsFrom 0 given totals
+  pub told : Appends held holds (total_lines names totals)

@@ -1,0 +1,245 @@
+//! Serving from a copy.
+ghost use Rattle.std.specs.Prelude.{◌≡◌, ◌⊎◌, ◌≤◌, List, Option, None, false, length, map, IfSome, min, vec_len};
+ghost use Rattle.doc_rules.specs.Seats as seats;
+ghost use Rattle.doc_ledger.specs.Numbers.{greatest_number};
+ghost use Rattle.server_core.specs.Attended.{AreAttended};
+ghost use Rattle.server_core.specs.Sums.{AreTotalsFrom};
+ghost use Rattle.copier.specs.Batches.{AddsBatches, HasCopied};
+ghost use Rattle.served_copy.specs.Restored.{restored};
+ghost use Rattle.served_copy.specs.Served.{KeepsRows, ServesCopied, greatest_seat};
+ghost use Rattle.served_copy.specs.Totals.{ServesSessions};
+
+use crate::naming::raise;
+use crate::noting::note_documents;
+use crate::restoring::{Stock, restored_stock, shelve};
+use crate::telling::tell_totals;
+use copier::Copier;
+use doc_ledger::Ledger;
+use lamport_id::ReplicaName;
+use log::Log;
+use log_copy::{Fault, LogCopy};
+use server_core::{Connect, Gathered, Library, OpenGate, run_sessions};
+use server_notes::{note_ended, note_stopped};
+use share_ledger::{Blank, Marker};
+use sqlite::Alter;
+use std::alloc::Global;
+use std::io;
+use std::sync::Wait;
+use std::thread::Threads;
+use std::time::Clock;
+
+/// How many seats a document has for so many sessions: one for each, as far as there are numbers for seats.
+fn seats_for(sessions: usize) -> u16
+    ensures { result ≡ min sessions greatest_seat }
+{
+    sessions.min(usize::from(u16::MAX)) as u16
+}
+
+/// Serves the connections while the copier runs, and gives that back. What sessions did is kept, if it could be gathered.
+fn serve_beside<'a, M: Marker + Send + Sync, R: Threads + Wait + Sync, C: Connect, S: Alter>(
+    rt: &R,
+    alloc: Global,
+    library: Library<M>,
+    connections: Vec<C>,
+    copier: Copier<'a, S>,
+    ran: &mut Option<Gathered>,
+) -> Copier<'a, S>
+    ensures sessions { IfSome ran.new (λ g. (given : List (List (Option seats.Seat)))
+        × AreAttended library.names.items (map C.requests connections.items) g.endings.items given × AreTotalsFrom 0 given g.totals.items) }
+    ensures each { IfSome ran.new (λ g. vec_len g.totals ≡ length library.names.items) }
+    ensures same_reference { result.copy.ghost_name ≡ copier.entry.copy.ghost_name }
+    // The copier has run, or memory was wanting before the first session.
+    ensures left { ((ran.new ≡ None) × (result.copy.now ≡ copier.entry.copy.now)) ⊎ HasCopied library.names.items copier.entry.copy.now result.copy.now result.fault }
+{
+    let (gathered, copier) = run_sessions(rt, alloc, library, connections, &OpenGate, copier);
+    match gathered {
+        Ok(gathered) => {
+            *ran = Some(gathered);
+            copier
+        }
+        Err(_) => {
+            *ran = None;
+            copier
+        }
+    }
+}
+
+/// Notes that sessions have ended, and why the copying ended before them, if it did.
+fn note_end<R: Log + Clock>(rt: &R, why: &Option<Fault>) {
+    if let Some(fault) = why {
+        note_stopped(rt, fault);
+    }
+    note_ended(rt);
+}
+
+/// What sessions did over the documents of a shelf, if it could be gathered, and why the copying ended before all was copied, if it
+/// did.
+fn serve_copied<
+    M: Marker + Send + Sync,
+    R: Threads + Wait + Sync + Log + Clock,
+    C: Connect,
+    S: Alter,
+>(
+    rt: &R,
+    alloc: Global,
+    library: Library<M>,
+    connections: Vec<C>,
+    copy: &mut LogCopy<S>,
+) -> (Option<Gathered>, Option<Fault>)
+    ensures sessions { IfSome result.0 (λ g. (given : List (List (Option seats.Seat)))
+        × AreAttended library.names.items (map C.requests connections.items) g.endings.items given × AreTotalsFrom 0 given g.totals.items) }
+    ensures each { IfSome result.0 (λ g. vec_len g.totals ≡ length library.names.items) }
+    ensures left { ((result.0 ≡ None) × (copy.new ≡ copy.old)) ⊎ HasCopied library.names.items copy.old copy.new result.1 }
+{
+    let mut ran = None;
+    let copier = Copier::new(copy);
+    let copier = serve_beside(rt, alloc, library, connections, copier, &mut ran);
+    let why = copier.end();
+    note_end(rt, &why);
+    (ran, why)
+}
+
+/// The status once all is told: 1 where the copying ended before all was copied.
+fn status_of(fault: Option<Fault>) -> u8
+    ensures bound { result ≤ 1 }
+    ensures copied { result ≡ 0 → fault ≡ None }
+{
+    match fault {
+        None => 0,
+        Some(_) => 1,
+    }
+}
+
+/// Serves these connections over the documents of a library, which are copied meanwhile, and writes the totals at the end. The status
+/// is 1 for want of memory, where the writer fails, or where the copying ended before all was copied.
+fn serve_library<
+    M: Marker + Send + Sync,
+    R: Threads + Wait + Sync + Log + Clock,
+    C: Connect,
+    S: Alter,
+    W: io::Write,
+>(
+    rt: &R,
+    alloc: Global,
+    library: Library<M>,
+    names: &[&str],
+    connections: Vec<C>,
+    copy: &mut LogCopy<S>,
+    out: &mut W,
+) -> u8
+    requires { library.names.items ≡ map (λ s. s.now) names.now }
+    ensures status { result ≤ 1 }
+    ensures served { result ≡ 0 → ServesSessions (map (λ s. s.now) names.now) (length connections.items) (W.contents out.old) (W.contents out.new) }
+    ensures copied { result ≡ 0 → AddsBatches (map (λ s. s.now) names.now) copy.old copy.new }
+    ensures works { result ≡ 0 → copy.old.has_failed ≡ false → copy.new.has_failed ≡ false }
+    ensures grown { copy.new.has_failed ≡ false → AddsBatches (map (λ s. s.now) names.now) copy.old copy.new }
+    ensures alone { copy.new.is_alone ≡ copy.old.is_alone }
+{
+    let (ran, fault) = serve_copied(rt, alloc, library, connections, copy);
+    let Some(gathered) = ran else {
+        return 1;
+    };
+    match tell_totals(alloc, names, gathered.totals.as_slice(), out) {
+        Ok(()) => status_of(fault),
+        Err(_) => 1,
+    }
+}
+
+/// Serves these connections over documents of these names that were restored from the copy, and writes the totals at the end. The
+/// status is 1 for want of memory, where the writer fails, or where the copying ended before all was copied.
+fn serve_stock<
+    M: Marker + Send + Sync,
+    R: Threads + Wait + Sync + Log + Clock,
+    C: Connect,
+    S: Alter,
+    W: io::Write,
+>(
+    rt: &R,
+    alloc: Global,
+    replica: &ReplicaName,
+    stock: Stock<M>,
+    names: &[&str],
+    connections: Vec<C>,
+    copy: &mut LogCopy<S>,
+    out: &mut W,
+) -> u8
+    requires names { stock.names.items ≡ map (λ s. s.now) names.now }
+    requires restored { map (λ d. d.document) stock.docs.items ≡ restored replica.now copy.old.docs (min (length connections.items) greatest_seat) (map (λ s. s.now) names.now) }
+    ensures status { result ≤ 1 }
+    ensures served { result ≡ 0 → ServesSessions (map (λ s. s.now) names.now) (length connections.items) (W.contents out.old) (W.contents out.new) }
+    ensures copied { result ≡ 0 → AddsBatches (map (λ s. s.now) names.now) copy.old copy.new }
+    ensures works { result ≡ 0 → copy.old.has_failed ≡ false → copy.new.has_failed ≡ false }
+    ensures grown { copy.new.has_failed ≡ false → AddsBatches (map (λ s. s.now) names.now) copy.old copy.new }
+    ensures alone { copy.new.is_alone ≡ copy.old.is_alone }
+{
+    let _ = replica;
+    let Ok(library) = shelve(alloc, stock) else {
+        return 1;
+    };
+    serve_library(rt, alloc, library, names, connections, copy, out)
+}
+
+/// Tells that the copy was refused, where it was. Of another fault nothing is told.
+fn tell_fault<W: io::Write>(fault: Fault, out: &mut W)
+    ensures untold { (fault ≡ Fault.Refused) ⊎ (out.new ≡ out.old) }
+{
+    if fault == Fault::Refused {
+        // Where the writer fails the status is 1 all the same.
+        let _told = out.write_all(b"[\"no\",26,\"copy-refused\"]\n");
+        let _flushed = out.flush();
+    }
+}
+
+/// Serves these connections, one session each, on documents of these names: raises the epoch of the copy, restores the documents from
+/// it, copies what is logged meanwhile, and writes the totals at the end. The status is 1 for want of memory, where the writer fails,
+/// or where the copy is refused, which a line tells, or fails; sessions go on without a copy that fails while they run.
+pub fn serve_over<
+    M: Marker + Send + Sync,
+    R: Threads + Wait + Sync + Log + Clock,
+    C: Connect,
+    S: Alter,
+    W: io::Write,
+>(
+    rt: &R,
+    alloc: Global,
+    blank: Blank,
+    name: &str,
+    documents: &[&str],
+    connections: Vec<C>,
+    copy: &mut LogCopy<S>,
+    out: &mut W,
+) -> u8
+    requires blank { blank ≡ M.name }
+    requires few { length documents.now ≤ greatest_number }
+    ensures status { result ≤ 1 }
+    ensures served { result ≡ 0 → ServesCopied name.now (map (λ s. s.now) documents.now) (length connections.items) copy.old copy.new (W.contents out.old) (W.contents out.new) }
+    // However it ends, no row is lost.
+    ensures kept { copy.new.has_failed ≡ false → KeepsRows (map (λ s. s.now) documents.now) copy.old copy.new }
+    ensures alone { copy.new.is_alone ≡ copy.old.is_alone }
+{
+    let replica = match raise(alloc, copy, name, documents) {
+        Ok(replica) => replica,
+        Err(fault) => {
+            tell_fault(fault, out);
+            return 1;
+        }
+    };
+    let mut ledger = Ledger::<M>::new(blank);
+    let seats = seats_for(connections.len());
+    match restored_stock(alloc, &mut ledger, copy, &replica, documents, seats) {
+        Ok(stock) => {
+            note_documents(rt, copy, documents);
+            serve_stock(
+                rt,
+                alloc,
+                &replica,
+                stock,
+                documents,
+                connections,
+                copy,
+                out,
+            )
+        }
+        Err(_) => 1,
+    }
+}
