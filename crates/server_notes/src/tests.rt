@@ -3,9 +3,9 @@ use crate::{note_ended, note_listening, note_restored, note_stopped};
 use log::sink::Memory;
 use log::{Level, Logged};
 use std::alloc::{Alloc, AllocError};
+use std::io;
 use std::process::Abort;
 use std::rt::HostRuntime;
-use std::io;
 use std::time::{Clock, Duration};
 
 /// A clock that stands still.

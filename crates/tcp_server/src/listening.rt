@@ -38,12 +38,10 @@ fn note_address<R: Log + Clock>(rt: &R, listener: &TcpListener) {
 
 /// Listens at the address, and writes where. None where it can't be listened at, where the writer fails, or for want of memory:
 /// standard error is told why. That it listens at this address no clause can say.
-pub fn listen<R: Net<Listener = TcpListener, Stream = TcpStream> + Eprint + Log + Clock, W: io::Write>(
-    rt: &R,
-    alloc: Global,
-    address: &str,
-    out: &mut W,
-) -> Option<TcpListener>
+pub fn listen<
+    R: Net<Listener = TcpListener, Stream = TcpStream> + Eprint + Log + Clock,
+    W: io::Write,
+>(rt: &R, alloc: Global, address: &str, out: &mut W) -> Option<TcpListener>
     ensures { IfSome result (λ listener. TellsAddress (W.contents out.old) (W.contents out.new)) }
 {
     let listener = match TcpListener::bind(rt, address) {
