@@ -2,6 +2,7 @@
 ghost use Rattle.std.specs.Prelude.{◌≡◌};
 
 use super::serving::{THREE, TWO, empty, holds, serve, serve_scripts};
+use log::Log;
 use log_copy::LogCopy;
 use server_core::doubles::Script;
 use share_ledger::{Blank, Marker};
@@ -11,6 +12,7 @@ use std::marker::Brand;
 use std::sync::{Mutex, Wait};
 use std::test::*;
 use std::thread::Threads;
+use std::time::Clock;
 
 /// So many bytes are the first two lines of three, and a part of the third.
 const FAILS_AFTER: usize = 40;
@@ -35,7 +37,7 @@ fn one_fails<'a, R: Wait>(
 }
 
 /// Serves them.
-fn served_with_fault<M: Marker + Send + Sync, R: Threads + Wait + Sync, S: Alter>(
+fn served_with_fault<M: Marker + Send + Sync, R: Threads + Wait + Sync + Log + Clock, S: Alter>(
     rt: &R,
     alloc: Global,
     blank: Blank,

@@ -3,6 +3,7 @@ ghost use Rattle.std.specs.Prelude.{◌≡◌};
 
 use copy_report::check_over;
 use line_feed::Writer;
+use log::Log;
 use log_copy::LogCopy;
 use served_copy::serve_over;
 use server_core::doubles::Script;
@@ -14,6 +15,7 @@ use std::process::Abort;
 use std::sync::{Mutex, Wait};
 use std::test::Fail;
 use std::thread::Threads;
+use std::time::Clock;
 
 pub const THREE: &[u8] = br#"["open","d"]
 ["assign","d",[0,"a"],1]
@@ -64,7 +66,7 @@ pub fn empty(alloc: Global) -> Result<LogCopy<MemStore>, AllocError> {
 }
 
 /// Serves these connections by the server of this name, over at most 16 documents.
-pub fn serve_scripts<M: Marker + Send + Sync, R: Threads + Wait + Sync, S: Alter>(
+pub fn serve_scripts<M: Marker + Send + Sync, R: Threads + Wait + Sync + Log + Clock, S: Alter>(
     rt: &R,
     alloc: Global,
     blank: Blank,
@@ -107,7 +109,7 @@ fn scripts_of<'a, R: Wait>(
 }
 
 /// Serves a session of each of these inputs.
-pub fn serve_each<M: Marker + Send + Sync, R: Threads + Wait + Sync, S: Alter>(
+pub fn serve_each<M: Marker + Send + Sync, R: Threads + Wait + Sync + Log + Clock, S: Alter>(
     rt: &R,
     alloc: Global,
     blank: Blank,
@@ -130,7 +132,7 @@ pub fn serve_each<M: Marker + Send + Sync, R: Threads + Wait + Sync, S: Alter>(
 }
 
 /// The same, with a table of its own.
-pub fn serve<R: Threads + Wait + Sync, S: Alter>(
+pub fn serve<R: Threads + Wait + Sync + Log + Clock, S: Alter>(
     rt: &R,
     alloc: Global,
     name: &str,
@@ -170,7 +172,7 @@ fn did<R: Abort>(rt: &R, served: &Served, start: &Start<'_>) -> Result<(), Fail>
 }
 
 /// Starts the server srv over the copy.
-fn started<R: Threads + Wait + Abort + Sync, S: Alter>(
+fn started<R: Threads + Wait + Abort + Sync + Log + Clock, S: Alter>(
     rt: &R,
     alloc: Global,
     documents: &[&str],
@@ -182,7 +184,7 @@ fn started<R: Threads + Wait + Abort + Sync, S: Alter>(
 }
 
 /// The same of one start after another, with a check of the copy behind each.
-pub fn each_start<R: Threads + Wait + Abort + Sync, S: Alter>(
+pub fn each_start<R: Threads + Wait + Abort + Sync + Log + Clock, S: Alter>(
     rt: &R,
     alloc: Global,
     documents: &[&str],

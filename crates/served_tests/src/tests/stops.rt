@@ -1,5 +1,6 @@
 //! Disks that stop while a server runs.
 use super::serving::{Served, THREE, adopted, holds, serve};
+use log::Log;
 use log_copy::LogCopy;
 use sqlite::{Connection, FileStore, Options};
 use sqlite_disk::{Crash, Files, Fuse, Memory};
@@ -8,6 +9,7 @@ use std::process::Abort;
 use std::sync::Wait;
 use std::test::*;
 use std::thread::Threads;
+use std::time::Clock;
 
 type Stopping = Fuse<Memory>;
 
@@ -66,7 +68,7 @@ fn went_on<R: Abort>(rt: &R, served: &Served, status: u8, totals: &[u8]) -> Resu
 }
 
 /// A server whose disk stops after so many calls ends so, and leaves this in the files.
-fn ends<R: Threads + Wait + Abort + Sync>(
+fn ends<R: Threads + Wait + Abort + Sync + Log + Clock>(
     rt: &R,
     alloc: Global,
     calls: u64,
