@@ -69,7 +69,8 @@ const LONG_NAME: &str = "a-name-of-thirty-one-characters";
 fn refused_start_is_told(rt: HostRuntime) -> Result<(), Fail> {
     let alloc = rt.alloc();
     let mut copy = empty(alloc)?;
-    let served = serve(&rt, alloc, LONG_NAME, &["d"], &[THREE], &mut copy)?;
+    let served =
+        serve::<Brand, _, _>(&rt, alloc, Blank::new(), LONG_NAME, &["d"], &[THREE], &mut copy)?;
     assert_eq!(rt; served.totals.as_slice(), b"[\"no\",26,\"copy-refused\"]\n".as_slice());
     assert_eq!(rt; served.status, 1);
     assert!(rt; served.replies.is_empty());

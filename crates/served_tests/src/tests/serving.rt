@@ -10,7 +10,6 @@ use server_core::doubles::Script;
 use share_ledger::{Blank, Marker};
 use sqlite::{Alter, Connection, MemStore};
 use std::alloc::{AllocError, Global};
-use std::marker::Brand;
 use std::process::Abort;
 use std::sync::{Mutex, Wait};
 use std::test::Fail;
@@ -94,22 +93,8 @@ pub fn serve_scripts<M: Marker + Send + Sync, R: Threads + Wait + Sync + Log + C
     (status, totals)
 }
 
-/// A connection for each of these inputs, which write to these replies.
-fn scripts_of<'a, R: Wait>(
-    rt: &'a R,
-    alloc: Global,
-    inputs: &[&'a [u8]],
-    replies: &'a Mutex<Vec<u8>>,
-) -> Result<Vec<Script<'a, R>>, AllocError> {
-    let mut scripts = Vec::new(alloc);
-    for input in inputs {
-        scripts.push(Script::new(rt, input, replies))?;
-    }
-    Ok(scripts)
-}
-
-/// Serves a session of each of these inputs.
-pub fn serve_each<M: Marker + Send + Sync, R: Threads + Wait + Sync + Log + Clock, S: Alter>(
+/// Serves a session of each of these inputs, by a new table of shares.
+pub fn serve<M: Marker + Send + Sync, R: Threads + Wait + Sync + Log + Clock, S: Alter>(
     rt: &R,
     alloc: Global,
     blank: Blank,
@@ -121,7 +106,10 @@ pub fn serve_each<M: Marker + Send + Sync, R: Threads + Wait + Sync + Log + Cloc
     requires { blank ≡ M.name }
 {
     let replies = Mutex::new(Vec::new(alloc));
-    let scripts = scripts_of(rt, alloc, inputs, &replies)?;
+    let mut scripts = Vec::new(alloc);
+    for input in inputs {
+        scripts.push(Script::new(rt, input, &replies))?;
+    }
     let (status, totals) =
         serve_scripts::<M, R, S>(rt, alloc, blank, name, documents, scripts, copy);
     Ok(Served {
@@ -129,18 +117,6 @@ pub fn serve_each<M: Marker + Send + Sync, R: Threads + Wait + Sync + Log + Cloc
         totals,
         replies: replies.into_inner(),
     })
-}
-
-/// The same, with a table of its own.
-pub fn serve<R: Threads + Wait + Sync + Log + Clock, S: Alter>(
-    rt: &R,
-    alloc: Global,
-    name: &str,
-    documents: &[&str],
-    inputs: &[&[u8]],
-    copy: &mut LogCopy<S>,
-) -> Result<Served, AllocError> {
-    serve_each::<Brand, R, S>(rt, alloc, Blank::new(), name, documents, inputs, copy)
 }
 
 /// What a check of the copy prints.
@@ -171,29 +147,22 @@ fn did<R: Abort>(rt: &R, served: &Served, start: &Start<'_>) -> Result<(), Fail>
     Ok(())
 }
 
-/// Starts the server srv over the copy.
-fn started<R: Threads + Wait + Abort + Sync + Log + Clock, S: Alter>(
+/// Starts the server srv over the copy, and checks the copy once it has ended.
+pub fn started<
+    M: Marker + Send + Sync,
+    R: Threads + Wait + Abort + Sync + Log + Clock,
+    S: Alter,
+>(
     rt: &R,
     alloc: Global,
+    blank: Blank,
     documents: &[&str],
     start: &Start<'_>,
     copy: &mut LogCopy<S>,
-) -> Result<(), Fail> {
-    let served = serve(rt, alloc, "srv", documents, start.inputs, copy)?;
-    did(rt, &served, start)
-}
-
-/// The same of one start after another, with a check of the copy behind each.
-pub fn each_start<R: Threads + Wait + Abort + Sync + Log + Clock, S: Alter>(
-    rt: &R,
-    alloc: Global,
-    documents: &[&str],
-    starts: &[Start<'_>],
-    copy: &mut LogCopy<S>,
-) -> Result<(), Fail> {
-    for start in starts {
-        started(rt, alloc, documents, start, copy)?;
-        holds(rt, alloc, copy, start.report)?;
-    }
-    Ok(())
+) -> Result<(), Fail>
+    requires { blank ≡ M.name }
+{
+    let served = serve::<M, R, S>(rt, alloc, blank, "srv", documents, start.inputs, copy)?;
+    did(rt, &served, start)?;
+    holds(rt, alloc, copy, start.report)
 }

@@ -1,5 +1,7 @@
 //! One start after another from the same copy.
-use super::serving::{Start, THREE, TWO, each_start, empty};
+use super::serving::{Start, THREE, TWO, empty, started};
+use share_ledger::Blank;
+use std::marker::Brand;
 use std::test::*;
 
 const SERVE_CHECK_SERVE: [Start<'static>; 2] = [
@@ -20,7 +22,10 @@ const SERVE_CHECK_SERVE: [Start<'static>; 2] = [
 #[test]
 fn serve_check_serve(rt: HostRuntime) -> Result<(), Fail> {
     let mut copy = empty(rt.alloc())?;
-    each_start(&rt, rt.alloc(), &["d"], &SERVE_CHECK_SERVE, &mut copy)
+    for start in &SERVE_CHECK_SERVE {
+        started::<Brand, _, _>(&rt, rt.alloc(), Blank::new(), &["d"], start, &mut copy)?;
+    }
+    Ok(())
 }
 
 const FIRST: &[u8] = br#"["open","d"]
@@ -59,7 +64,10 @@ const RESTART: [Start<'static>; 2] = [
 #[test]
 fn restart_from_copy(rt: HostRuntime) -> Result<(), Fail> {
     let mut copy = empty(rt.alloc())?;
-    each_start(&rt, rt.alloc(), &["d"], &RESTART, &mut copy)
+    for start in &RESTART {
+        started::<Brand, _, _>(&rt, rt.alloc(), Blank::new(), &["d"], start, &mut copy)?;
+    }
+    Ok(())
 }
 
 const MADE_UP: &[u8] = br#"["open","d"]
@@ -85,7 +93,10 @@ const NAMES_MADE_UP: [Start<'static>; 2] = [
 #[test]
 fn name_that_a_peer_made_up_is_not_used(rt: HostRuntime) -> Result<(), Fail> {
     let mut copy = empty(rt.alloc())?;
-    each_start(&rt, rt.alloc(), &["d"], &NAMES_MADE_UP, &mut copy)
+    for start in &NAMES_MADE_UP {
+        started::<Brand, _, _>(&rt, rt.alloc(), Blank::new(), &["d"], start, &mut copy)?;
+    }
+    Ok(())
 }
 
 const BOTH: &[u8] = br#"["open","e"]
@@ -125,5 +136,8 @@ const TWO_DOCUMENTS: [Start<'static>; 2] = [
 #[test]
 fn documents_in_their_places(rt: HostRuntime) -> Result<(), Fail> {
     let mut copy = empty(rt.alloc())?;
-    each_start(&rt, rt.alloc(), &["d", "e"], &TWO_DOCUMENTS, &mut copy)
+    for start in &TWO_DOCUMENTS {
+        started::<Brand, _, _>(&rt, rt.alloc(), Blank::new(), &["d", "e"], start, &mut copy)?;
+    }
+    Ok(())
 }

@@ -1,10 +1,14 @@
 //! Disks that stop while a server runs.
+ghost use Rattle.std.specs.Prelude.{◌≡◌};
+
 use super::serving::{Served, THREE, adopted, holds, serve};
 use log::Log;
 use log_copy::LogCopy;
+use share_ledger::{Blank, Marker};
 use sqlite::{Connection, FileStore, Options};
 use sqlite_disk::{Crash, Files, Fuse, Memory};
 use std::alloc::{AllocError, Global};
+use std::marker::Brand;
 use std::process::Abort;
 use std::sync::Wait;
 use std::test::*;
@@ -67,35 +71,51 @@ fn went_on<R: Abort>(rt: &R, served: &Served, status: u8, totals: &[u8]) -> Resu
     Ok(())
 }
 
-/// A server whose disk stops after so many calls ends so, and leaves this in the files.
-fn ends<R: Threads + Wait + Abort + Sync + Log + Clock>(
-    rt: &R,
-    alloc: Global,
+/// How a server ends whose disk stops after so many calls, and what it leaves in the files.
+struct End<'a> {
     calls: u64,
     status: u8,
-    totals: &[u8],
-    report: &[u8],
-) -> Result<(), Fail> {
-    let mut copy = copy_that_stops(alloc, calls)?;
-    let served = serve(rt, alloc, "srv", &["d"], &[THREE], &mut copy)?;
-    went_on(rt, &served, status, totals)?;
-    left_holds(rt, alloc, copy, report)
+    totals: &'a [u8],
+    report: &'a [u8],
+}
+
+/// A server whose disk stops ends so.
+fn ends<M: Marker + Send + Sync, R: Threads + Wait + Abort + Sync + Log + Clock>(
+    rt: &R,
+    alloc: Global,
+    blank: Blank,
+    documents: &[&str],
+    end: &End<'_>,
+) -> Result<(), Fail>
+    requires { blank ≡ M.name }
+{
+    let mut copy = copy_that_stops(alloc, end.calls)?;
+    let served = serve::<M, _, _>(rt, alloc, blank, "srv", documents, &[THREE], &mut copy)?;
+    went_on(rt, &served, end.status, end.totals)?;
+    left_holds(rt, alloc, copy, end.report)
 }
 
 // The start takes 28 calls, and the first batch ten or so more.
+const STOPS_WHILE_SERVING: End<'static> = End {
+    calls: 30,
+    status: 1,
+    totals: b"[\"total\",\"d\",3,3,0]\n",
+    report: b"[\"epoch\",1]\n",
+};
+
+const NEVER_STOPS: End<'static> = End {
+    calls: u64::MAX,
+    status: 0,
+    totals: b"[\"total\",\"d\",3,3,3]\n",
+    report: b"[\"doc\",\"d\",3,[[\"srv-1\",3]]]\n[\"epoch\",1]\n",
+};
+
 #[test]
 fn disk_that_stops_while_serving(rt: HostRuntime) -> Result<(), Fail> {
-    ends(&rt, rt.alloc(), 30, 1, b"[\"total\",\"d\",3,3,0]\n", b"[\"epoch\",1]\n")
+    ends::<Brand, _>(&rt, rt.alloc(), Blank::new(), &["d"], &STOPS_WHILE_SERVING)
 }
 
 #[test]
 fn disk_that_never_stops(rt: HostRuntime) -> Result<(), Fail> {
-    ends(
-        &rt,
-        rt.alloc(),
-        u64::MAX,
-        0,
-        b"[\"total\",\"d\",3,3,3]\n",
-        b"[\"doc\",\"d\",3,[[\"srv-1\",3]]]\n[\"epoch\",1]\n",
-    )
+    ends::<Brand, _>(&rt, rt.alloc(), Blank::new(), &["d"], &NEVER_STOPS)
 }
