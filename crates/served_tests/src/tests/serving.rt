@@ -110,8 +110,9 @@ pub fn serve<M: Marker + Send + Sync, R: Threads + Wait + Sync + Log + Clock, S:
     for input in inputs {
         scripts.push(Script::new(rt, input, &replies))?;
     }
-    let (status, totals) =
-        serve_scripts::<M, R, S>(rt, alloc, blank, name, documents, scripts, copy);
+    let (status, totals) = serve_scripts::<M, R, S>(
+        rt, alloc, blank, name, documents, scripts, copy,
+    );
     Ok(Served {
         status,
         totals,
@@ -148,11 +149,7 @@ fn did<R: Abort>(rt: &R, served: &Served, start: &Start<'_>) -> Result<(), Fail>
 }
 
 /// Starts the server srv over the copy, and checks the copy once it has ended.
-pub fn started<
-    M: Marker + Send + Sync,
-    R: Threads + Wait + Abort + Sync + Log + Clock,
-    S: Alter,
->(
+pub fn started<M: Marker + Send + Sync, R: Threads + Wait + Abort + Sync + Log + Clock, S: Alter>(
     rt: &R,
     alloc: Global,
     blank: Blank,
