@@ -213,3 +213,28 @@ fn further_tables(rt: HostRuntime) -> Result<(), Fail> {
     );
     Ok(())
 }
+
+// Rows of several documents that were written in turn, more than are read ahead at once.
+const DOCUMENTS_IN_TURN: [(Step<'static>, StepAnswer); 11] = [
+    (Step::Open, StepAnswer::Done),
+    (Step::Add("b", 0, 0, 100), StepAnswer::Done),
+    (Step::Add("c", 0, 0, 1), StepAnswer::Done),
+    (Step::Add("a", 0, 0, 70), StepAnswer::Done),
+    (Step::Add("b", 100, 100, 256), StepAnswer::Done),
+    (Step::Add("a", 70, 70, 200), StepAnswer::Done),
+    (Step::Open, StepAnswer::Done),
+    (Step::Docs, StepAnswer::Rows(3)),
+    (Step::Load("a"), StepAnswer::Rows(200)),
+    (Step::Load("b"), StepAnswer::Rows(256)),
+    (Step::Load("c"), StepAnswer::Rows(1)),
+];
+
+#[test]
+fn documents_in_turn(rt: HostRuntime) -> Result<(), Fail> {
+    let log = samples::log(rt.alloc(), 256)?;
+    assert_eq!(rt;
+        told_otherwise(rt.alloc(), log.as_slice(), &DOCUMENTS_IN_TURN)?,
+        None
+    );
+    Ok(())
+}

@@ -195,6 +195,21 @@ fn an_operation_that_does_not_fit(rt: HostRuntime) -> Result<(), Fail> {
     Ok(())
 }
 
+// A table beside the two changes nothing of what is refused.
+const BESIDE_A_TABLE: [&str; 4] = [
+    "CREATE TABLE note (id INTEGER PRIMARY KEY) STRICT; DROP TABLE entry",
+    "CREATE TABLE note (id INTEGER PRIMARY KEY) STRICT; UPDATE meta SET value = 3 WHERE name = 'format'",
+    "CREATE TABLE note (id INTEGER PRIMARY KEY) STRICT; INSERT INTO entry (doc, place, text) VALUES ('d', 2, '[]')",
+    r#"CREATE TABLE note (id INTEGER PRIMARY KEY) STRICT; UPDATE meta SET value = 1 WHERE name = 'format';
+    INSERT INTO entry (doc, place, text) VALUES ('d', 2, '["op",[2,"p"],[["p",1]],[[["m",0]],"k"],["add",1]]')"#,
+];
+
+#[test]
+fn beside_a_table(rt: HostRuntime) -> Result<(), Fail> {
+    assert_eq!(rt; first_other(rt.alloc(), &BESIDE_A_TABLE, REFUSED)?, None);
+    Ok(())
+}
+
 // A connection in the middle of a transaction.
 #[test]
 fn transaction_under_way(rt: HostRuntime) -> Result<(), Fail> {

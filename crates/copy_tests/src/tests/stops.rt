@@ -222,3 +222,61 @@ fn stops_while_raised(rt: HostRuntime) -> Result<(), Fail> {
     assert!(rt; of_file > Some(1), "{of_file:?}");
     Ok(())
 }
+
+// Beside a further table.
+const BESIDE: [(Step<'static>, StepAnswer); 5] = [
+    (
+        Step::Run(
+            "BEGIN; CREATE TABLE note (size INTEGER NOT NULL) STRICT; INSERT INTO note (size) VALUES (41); COMMIT",
+        ),
+        StepAnswer::Done,
+    ),
+    (Step::Open, StepAnswer::Done),
+    (Step::Up, StepAnswer::Number(1)),
+    (Step::Add("d", 0, 0, 5), StepAnswer::Done),
+    (Step::Add("d", 5, 5, 9), StepAnswer::Done),
+];
+
+const NOTE: &str = "SELECT size FROM note";
+
+const AFTER_BESIDE: [&[(Step<'static>, StepAnswer)]; 6] = [
+    &[(Step::Open, StepAnswer::Done)],
+    &[
+        (Step::Ask(NOTE), StepAnswer::Number(41)),
+        (Step::Open, StepAnswer::Done),
+        (Step::Restore("d", 0, 0), StepAnswer::Done),
+    ],
+    &[
+        (Step::Ask(NOTE), StepAnswer::Number(41)),
+        (Step::Open, StepAnswer::Done),
+        (Step::Restore("d", 0, 0), StepAnswer::Done),
+    ],
+    &[
+        (Step::Ask(NOTE), StepAnswer::Number(41)),
+        (Step::Open, StepAnswer::Done),
+        (Step::Restore("d", 0, 5), StepAnswer::Done),
+        (Step::UpFrom(1), StepAnswer::Done),
+    ],
+    &[
+        (Step::Ask(NOTE), StepAnswer::Number(41)),
+        (Step::Open, StepAnswer::Done),
+        (Step::Restore("d", 5, 9), StepAnswer::Done),
+        (Step::UpFrom(1), StepAnswer::Done),
+    ],
+    &[
+        (Step::Ask(NOTE), StepAnswer::Number(41)),
+        (Step::Open, StepAnswer::Done),
+        (Step::Restore("d", 9, 9), StepAnswer::Done),
+        (Step::UpFrom(1), StepAnswer::Done),
+    ],
+];
+
+#[test]
+fn stops_beside_a_table(rt: HostRuntime) -> Result<(), Fail> {
+    let log = samples::operations(rt.alloc(), &samples::CONCURRENT_LIST_EDITS)?;
+    let of_log = calls_in_all(rt.alloc(), log.as_slice(), &BESIDE, &AFTER_BESIDE, true);
+    assert!(rt; of_log > Some(20), "{of_log:?}");
+    let of_file = calls_in_all(rt.alloc(), log.as_slice(), &BESIDE, &AFTER_BESIDE, false);
+    assert!(rt; of_file > Some(2), "{of_file:?}");
+    Ok(())
+}

@@ -1,0 +1,5 @@
+//! Servers over a copy: what they serve and copy, and what the next one starts from.
+mod faults;
+mod serving;
+mod starts;
+mod stops;
