@@ -27,10 +27,10 @@ use std::alloc::Global;
 /// Of the start: `TooDeep` if its path has more than 30 keys, and `BadCursor` if it isn't placed, a text has more than
 /// 128 bytes, or an element doesn't stand in the list at its path. Of each step in turn: `AtHead` if the cursor stands at a
 /// head, `TooDeep` if its path has 30 keys, `BadCursor` for a text of more than 128 bytes, and `IndexPastEnd`.
-pub fn resolve(alloc: Global, tree: &Tree, start: Cursor, steps: &[Step]) -> Result<Cursor, Refusal>
+pub fn resolve(tree: &Tree, start: Cursor, steps: &[Step]) -> Result<Cursor, Refusal>
     ensures { result ≢ Err NoMemory → rules.Resolves (tree_facts tree.now) start steps.now result }
 {
-    let from = checked(alloc, tree, start)?;
+    let from = checked(tree, start)?;
     follow(tree, from, steps)
 }
 
@@ -118,53 +118,49 @@ fn to_key(from: Cursor, key: Option<Key>) -> Result<Cursor, Refusal>
 }
 
 /// The start, unless there is a cause against it.
-fn checked(alloc: Global, tree: &Tree, start: Cursor) -> Result<Cursor, Refusal>
-    ensures { UnlessMemory result (rules.checked_start (tree_facts tree.now) start) }
+fn checked(tree: &Tree, start: Cursor) -> Result<Cursor, Refusal>
+    ensures { result ≡ rules.checked_start (tree_facts tree.now) start }
 {
     if start.path.as_slice().len() > MAX_PATH_LEN {
         return Err(Refusal::TooDeep);
     }
-    if !stands(alloc, tree, &start)? {
+    if !stands(tree, start.path.as_slice(), &start.key) {
         return Err(Refusal::BadCursor);
     }
     Ok(start)
 }
 
-fn stands(alloc: Global, tree: &Tree, cursor: &Cursor) -> Result<bool, Refusal>
-    ensures { GivesUnlessMemory (λ b. b ≡ (is_placed cursor.now.path cursor.now.key && rules.way_stands (tree_facts tree.now) [] cursor.now.path cursor.now.key)) result }
+fn stands(tree: &Tree, path: &[Tagged], key: &Key) -> bool
+    ensures { result ≡ (is_placed path.now key.now && rules.way_stands (tree_facts tree.now) [] path.now key.now) }
 {
-    if !is_placed(cursor.path.as_slice(), &cursor.key) {
-        return Ok(false);
-    }
-    all_stand(alloc, tree, cursor.path.as_slice(), &cursor.key)
+    is_placed(path, key) && all_stand(tree, path, key)
 }
 
 /// Each key is within its limit and stands where it is named.
-fn all_stand(alloc: Global, tree: &Tree, path: &[Tagged], key: &Key) -> Result<bool, Refusal>
-    ensures { GivesUnlessMemory (λ b. b ≡ rules.way_stands (tree_facts tree.now) [] path.now key.now) result }
+fn all_stand(tree: &Tree, path: &[Tagged], key: &Key) -> bool
+    ensures { result ≡ rules.way_stands (tree_facts tree.now) [] path.now key.now }
 {
-    let mut before = Path::new(alloc);
-    for tag in path {
-        if !stands_in(alloc, tree, &before, tag.key())? {
-            return Ok(false);
+    for (depth, tag) in path.iter().enumerate() {
+        if !stands_in(tree, &path[..depth], tag.key()) {
+            return false;
         }
-        before.push(tag.try_clone()?)?;
     }
-    stands_in(alloc, tree, &before, key)
+    stands_in(tree, path, key)
 }
 
-fn stands_in(alloc: Global, tree: &Tree, before: &Path, key: &Key) -> Result<bool, Refusal>
-    ensures { GivesUnlessMemory (λ b. b ≡ (rules.is_short key.now && rules.stands_in (tree_facts tree.now) before.now key.now)) result }
+/// The key is within its limit, and stands where the path leads. It looks for elements alone.
+fn stands_in(tree: &Tree, path: &[Tagged], key: &Key) -> bool
+    ensures { result ≡ (rules.is_short key.now && rules.stands_in (tree_facts tree.now) path.now key.now) }
 {
     match key {
-        Key::Doc => Ok(true),
-        Key::Text(text) => Ok(is_short(text)),
-        Key::Element(id) => Ok(is_listed(tree, before, id)),
-        Key::Head => Ok(true),
+        Key::Doc => true,
+        Key::Text(text) => is_short(text),
+        Key::Element(id) => is_listed(tree, path, id),
+        Key::Head => true,
     }
 }
 
-fn is_listed(tree: &Tree, list: &Path, id: &Id) -> bool
+fn is_listed(tree: &Tree, list: &[Tagged], id: &Id) -> bool
     ensures { result ≡ list_any (id_eq id.now) ((tree_facts tree.now).order list.now) }
 {
     tree.has_element(list, id)

@@ -21,7 +21,7 @@ pub fn at(alloc: Global, tree: &Tree, names: &[&str]) -> Result<Cursor, Fail> {
     for name in names {
         steps.push(Step::Get(KeyText::new(alloc, name)?))?;
     }
-    let cursor = resolve(alloc, tree, whole(alloc), steps.as_slice())?;
+    let cursor = resolve(tree, whole(alloc), steps.as_slice())?;
     Ok(cursor)
 }
 
@@ -147,11 +147,11 @@ fn counter_and_scalar(rt: HostRuntime) -> Result<(), Fail> {
 fn index_and_head_refusals(rt: HostRuntime) -> Result<(), Fail> {
     let tree = map_and_list(rt.alloc())?;
     let list = at(rt.alloc(), &tree, &["a"])?;
-    let head = resolve(rt.alloc(), &tree, list, &[Step::Index(0)])?;
+    let head = resolve(&tree, list, &[Step::Index(0)])?;
     assert_eq!(rt; sum(&tree, &head), Err(Refusal::AtHead));
     let list = at(rt.alloc(), &tree, &["a"])?;
     assert_eq!(rt;
-        resolve(rt.alloc(), &tree, list, &[Step::Index(2)]),
+        resolve(&tree, list, &[Step::Index(2)]),
         Err(Refusal::IndexPastEnd)
     );
     Ok(())
@@ -165,7 +165,7 @@ fn is_at_head<T>(read: &Result<T, Refusal>) -> bool {
 fn reads_at_a_head(rt: HostRuntime) -> Result<(), Fail> {
     let tree = map_and_list(rt.alloc())?;
     let list = at(rt.alloc(), &tree, &["a"])?;
-    let head = resolve(rt.alloc(), &tree, list, &[Step::Index(0)])?;
+    let head = resolve(&tree, list, &[Step::Index(0)])?;
     assert!(rt; is_at_head(&keys(rt.alloc(), &tree, &head)));
     assert!(rt; is_at_head(&values(rt.alloc(), &tree, &head)));
     assert!(rt; is_at_head(&items(rt.alloc(), &tree, &head)));

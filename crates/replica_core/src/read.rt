@@ -34,7 +34,7 @@ pub fn read(
     ensures account { query ≡ Query.Account → result ≡ Reply.Account mine }
 {
     match query {
-        Query::Resolve(place) => resolve_place(alloc, tree, log, place),
+        Query::Resolve(place) => resolve_place(tree, log, place),
         Query::Look(look, place) => look_at_place(alloc, tree, log, look, place),
         Query::Operations(front, limit) => operations(log, &front, limit),
         Query::Front => whole_front(log),
@@ -50,19 +50,19 @@ fn look_at_place(alloc: Global, tree: &Tree, log: &OpLog, look: Look, place: Pla
 {
     keeps_good(log);
     let Place { start, steps } = place;
-    match resolve(alloc, tree, start, steps.as_slice()) {
+    match resolve(tree, start, steps.as_slice()) {
         Ok(cursor) => look_at(alloc, tree, look, &cursor),
         Err(cause) => Reply::Refused(cause),
     }
 }
 
 // Where the steps of a place lead.
-fn resolve_place(alloc: Global, tree: &Tree, log: &OpLog, place: Place) -> Reply
+fn resolve_place(tree: &Tree, log: &OpLog, place: Place) -> Reply
     requires { AgreesWith tree.now log.now.operations }
     ensures { (name : List ℕ) (held : List Op) (mine : ℕ) → MayAnswer (replica_of name log.now.operations held) mine (query.Resolve place) result }
 {
     let Place { start, steps } = place;
-    match resolve(alloc, tree, start, steps.as_slice()) {
+    match resolve(tree, start, steps.as_slice()) {
         Ok(cursor) => Reply::Resolved(cursor),
         Err(cause) => Reply::Refused(cause),
     }

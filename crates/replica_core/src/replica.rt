@@ -125,7 +125,7 @@ impl Replica {
     {
         keeps_limits(&mutation);
         let Place { start, steps } = place;
-        let resolved = resolve(self.alloc, &self.tree, start, steps.as_slice());
+        let resolved = resolve(&self.tree, start, steps.as_slice());
         change(
             self.name,
             &mut self.tree,

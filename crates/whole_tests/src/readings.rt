@@ -28,7 +28,7 @@ fn place(alloc: Global, tree: &Tree, names: &[&str]) -> Result<Cursor, Refusal> 
         path: Path::new(alloc),
         key: Key::Doc,
     };
-    resolve(alloc, tree, start, steps.as_slice())
+    resolve(tree, start, steps.as_slice())
 }
 
 /// What the tree says at the place to which names lead.

@@ -12,4 +12,4 @@ returns-in_err-from c =
     let f = tree_facts c.args.tree.now in
     let e = c.in_err-from.field-0.0 in
     rw (exit.1, exit.2)
-    (λ other. subst (λ (from : Result Cursor Refusal). Leads f c.args.steps.now from (Err e)) (c.in_err-from.ensures other) (leads_err f c.args.steps.now e))
+    (λ other. subst (λ (from : Result Cursor Refusal). Leads f c.args.steps.now from (Err e)) c.in_err-from.ensures (leads_err f c.args.steps.now e))

@@ -13,21 +13,21 @@ pub index-requires : goal.index-requires
 index-requires c =
     let nodes = c.self.inside.nodes.items in
     let found : list_node_at nodes c.args.path.now ≡ Some c.in-Some.at =
-    ap (list_node_at nodes) (sym c.keys.ensures) ∙ ap (λ l. list_node_at l c.keys.result.now) (sym c.as_slice.ensures.value) ∙ sym c.find_list.ensures ∙ c.in-Some.is in
+    ap (λ l. list_node_at l c.args.path.now) (sym c.as_slice.ensures.value) ∙ sym c.find_list.ensures ∙ c.in-Some.is in
     subst (λ n. c.in-Some.at.0 < n) (sym c.self.inside.nodes.ok.0) (list_node_within nodes c.self.invariant.0 c.args.path.now c.in-Some.at found)
 
 pub returns-in-None : goal.returns-in-None
 returns-in-None c =
     let nodes = c.self.inside.nodes.items in
     let absent : list_node_at nodes c.args.path.now ≡ None =
-    ap (list_node_at nodes) (sym c.keys.ensures) ∙ ap (λ l. list_node_at l c.keys.result.now) (sym c.as_slice.ensures.value) ∙ sym c.find_list.ensures ∙ c.in-None.is in
+    ap (λ l. list_node_at l c.args.path.now) (sym c.as_slice.ensures.value) ∙ sym c.find_list.ensures ∙ c.in-None.is in
     ap (list_any (id_eq c.args.id.now)) (ids_absent nodes c.args.path.now absent ∙ ap (λ t. (tree_facts t).order c.args.path.now) c.self.view_is)
 
 pub returns-in-Some : goal.returns-in-Some
 returns-in-Some c =
     let nodes = c.self.inside.nodes.items in
     let found : list_node_at nodes c.args.path.now ≡ Some c.in-Some.at =
-    ap (list_node_at nodes) (sym c.keys.ensures) ∙ ap (λ l. list_node_at l c.keys.result.now) (sym c.as_slice.ensures.value) ∙ sym c.find_list.ensures ∙ c.in-Some.is in
+    ap (λ l. list_node_at l c.args.path.now) (sym c.as_slice.ensures.value) ∙ sym c.find_list.ensures ∙ c.in-Some.is in
     let read : c.index.result.now ≡ node_of nodes c.in-Some.at =
     c.index.ensures
     ∙ get_or_default nodes c.in-Some.at.0 c.index.result.now blank_node (list_node_within nodes c.self.invariant.0 c.args.path.now c.in-Some.at found) in
