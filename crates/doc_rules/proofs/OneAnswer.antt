@@ -4,6 +4,7 @@ use Rattle.std.proofs.lemmas.Cmp.{nat_list_cmp_total}
 use Rattle.std.proofs.lemmas.Map.Lookups.{exact_bytes}
 use Rattle.std.proofs.lemmas.Bool.{both_ways}
 use Rattle.std.specs.Prelude.{MatchResult}
+use Rattle.serde_json.specs.Data.{Data, string}
 use Rattle.serde_json.specs.Written.{compact_text}
 use Rattle.doc_words.specs.Words.{Id, name_cmp, Refusal, Scalar, Val, Cursor, Key, Tagged}
 use Rattle.op_core.specs.declared.cursor.Key.TheVariants.{Text, Element}
@@ -14,6 +15,7 @@ use Rattle.crdt_rules.proofs.WalkLaws.{id_order}
 use Rattle.doc_rules.specs.Sorted.{AreAll, AreThose}
 use Rattle.doc_rules.specs.Sorted.AreThose.{none, keep, skip}
 use Rattle.op_core.specs.Shape.{is_head}
+use Rattle.op_core.specs.Wire.{list_data}
 use Rattle.json_scalar.specs.Refusal.{and_then}
 use Rattle.doc_words.specs.declared.ask.Look.{Look}
 use Rattle.doc_words.specs.declared.ask.Look.TheVariants as look
@@ -30,6 +32,7 @@ use Rattle.doc_rules.specs.Answers.{told_as, ReadsHere, LooksHere, ReadsAt, Read
 use Rattle.doc_rules.specs.Role.{value_put_at}
 use Rattle.doc_rules.specs.Views.{Values, IsPresent, into_map, into_list, AreKeys, AreEntries, AreValues, HaveValues, AreItems, AreTerms, total, IsSum, AreConflicts, ReadsPlace}
 use Rattle.doc_rules.specs.Shown.{Shown, MapShown, ListShown, Fields, Elements, shown, no_map, a_map, no_list, a_list, no_fields, field, no_elements, element, names, HasList, total_shown, ShowsCount, Shows, ShowsMap, ShowsList, ShowsFields, ShowsElements, shown_data, ShowsText}
+use Rattle.doc_rules.specs.Told.{item_data, ToldAs, KeysText, ItemsText}
 
 -- ---- lists that hold exactly these
 
@@ -136,6 +139,19 @@ module _ (f : Facts) (values : Values) where
   pub one_text : (p : List Tagged) (k : Key) (x y : List ℕ) → ShowsText f values p k x → ShowsText f values p k y → x ≡ y
   one_text p k x y a b = a.2 ∙ ap (λ e. compact_text (shown_data e)) (one_shown p k a.0 b.0 a.1 b.1) ∙ sym b.2
 
+  -- ---- readings that are told as text
+
+  one_told : {X : Type 0} (json : X → Data) (reads : List Tagged → Key → List X → Type 0)
+      → ((p : List Tagged) (k : Key) (xs ys : List X) → reads p k xs → reads p k ys → xs ≡ ys)
+      → (p : List Tagged) (k : Key) (x y : List ℕ) → ToldAs json reads p k x → ToldAs json reads p k y → x ≡ y
+  one_told json reads one p k x y a b = a.2 ∙ ap (λ xs. compact_text (list_data (map json xs))) (one p k a.0 b.0 a.1 b.1) ∙ sym b.2
+
+  pub one_keys_text : (p : List Tagged) (k : Key) (x y : List ℕ) → KeysText f p k x → KeysText f p k y → x ≡ y
+  one_keys_text = one_told string (AreKeys f) one_keys
+
+  pub one_items_text : (p : List Tagged) (k : Key) (x y : List ℕ) → ItemsText f p k x → ItemsText f p k y → x ≡ y
+  one_items_text = one_told item_data (AreItems f) one_items
+
 -- ---- where steps lead
 
 module _ (f : Facts) where
@@ -172,9 +188,9 @@ one_here : {X : Type 0} (reads : List Tagged → Key → X → Type 0) (tell : X
 one_here reads tell one c x y a b = a.2 ∙ ap (told_as tell) (one_reading reads one c a.0 b.0 a.1 b.1) ∙ sym b.2
 
 pub one_look : (f : Facts) (values : Values) (l : Look) (c : Cursor) (x y : Reply) → LooksHere f values l c x → LooksHere f values l c y → x ≡ y
-one_look f values look.Keys = one_here (AreKeys f) reply.Keys (one_keys f values)
+one_look f values look.Keys = one_here (KeysText f) reply.Keys (one_keys_text f values)
 one_look f values look.Values = one_here (AreValues f) reply.Values (one_values f values)
-one_look f values look.Items = one_here (AreItems f) reply.Items (one_items f values)
+one_look f values look.Items = one_here (ItemsText f) reply.Items (one_items_text f values)
 one_look f values look.Conflicts = one_here (AreConflicts f values) reply.Conflicts (one_conflicts f values)
 one_look f values look.Show = one_here (ShowsText f values) reply.Show (one_text f values)
 one_look f values look.Sum = one_here (IsSum f) reply.Sum (one_sum f values)

@@ -12,11 +12,12 @@ use Rattle.doc_words.specs.declared.reply.Reply.TheVariants as reply
 use Rattle.crdt_rules.specs.Dependencies.{missing}
 use Rattle.crdt_rules.specs.Facts.{Facts}
 use Rattle.crdt_rules.specs.Pull.{front_of}
-use Rattle.doc_rules.specs.Views.{Values, AreKeys, AreValues, AreItems, AreConflicts, IsSum, ReadsPlace}
+use Rattle.doc_rules.specs.Views.{Values, AreValues, AreConflicts, IsSum, ReadsPlace}
 use Rattle.doc_rules.specs.Replica.{Replica, replica_facts}
 use Rattle.doc_rules.specs.Resolve.{Resolves}
 use Rattle.doc_rules.specs.Role.{value_put_at}
 use Rattle.doc_rules.specs.Shown.{ShowsText}
+use Rattle.doc_rules.specs.Told.{KeysText, ItemsText}
 
 -- what a reading is told as, or the cause against it
 abbrev pub told_as : {X : Type 0} → (X → Reply) → Result X Refusal → Reply
@@ -29,9 +30,9 @@ ReadsHere {X} reads tell c answer = (result : Result X Refusal) × ReadsPlace re
 
 -- what a look at a cursor is told
 abbrev pub LooksHere : Facts → Values → Look → Cursor → Reply → Type 0
-LooksHere f values look.Keys = ReadsHere (AreKeys f) reply.Keys
+LooksHere f values look.Keys = ReadsHere (KeysText f) reply.Keys
 LooksHere f values look.Values = ReadsHere (AreValues f) reply.Values
-LooksHere f values look.Items = ReadsHere (AreItems f) reply.Items
+LooksHere f values look.Items = ReadsHere (ItemsText f) reply.Items
 LooksHere f values look.Conflicts = ReadsHere (AreConflicts f values) reply.Conflicts
 LooksHere f values look.Show = ReadsHere (ShowsText f values) reply.Show
 LooksHere f values look.Sum = ReadsHere (IsSum f) reply.Sum

@@ -9,3 +9,4 @@ pub mod ShowLaws
 pub mod ByNumber
 pub mod Growing
 pub mod Telling
+pub mod TellingAll

@@ -1,7 +1,8 @@
 -- What is told as text.
-use Rattle.std.specs.Prelude.{◌≡◌, ℕ, List, [], ◌∷◌, ◌++◌, Bool, true, false}
+use Rattle.std.specs.Prelude.{◌≡◌, ℕ, List, [], ◌∷◌, ◌++◌, map, Bool, true, false}
 use Rattle.json.specs.Token.{Token, begin_array, end_array, string}
 use Rattle.serde_json.specs.Data.{Data}
+use Rattle.op_core.specs.Wire.{list_data}
 use Rattle.json_text.specs.Tokens.{data_tokens, all_tokens}
 
 -- a value for which this holds is told behind the old text
@@ -11,6 +12,14 @@ TellsOne holds old new = (d : Data) × holds d × (new ≡ old ++ data_tokens d)
 -- so it is with values, one behind another
 abbrev pub Tells : (List Data → Type 0) → List Token → List Token → Type 0
 Tells holds old new = (ds : List Data) × holds ds × (new ≡ old ++ all_tokens ds)
+
+-- all of which this holds are told behind the old text, each as this JSON
+abbrev pub TellsAll : {X : Type 0} → (X → Data) → (List X → Type 0) → List Token → List Token → Type 0
+TellsAll {X} json holds old new = (xs : List X) × holds xs × (new ≡ old ++ all_tokens (map json xs))
+
+-- as one array
+abbrev pub TellsArray : {X : Type 0} → (X → Data) → (List X → Type 0) → List Token → List Token → Type 0
+TellsArray {X} json holds old new = (xs : List X) × holds xs × (new ≡ old ++ data_tokens (list_data (map json xs)))
 
 -- ---- a branch, whose beginning is told with its first part, unless it is told before
 

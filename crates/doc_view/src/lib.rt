@@ -8,6 +8,7 @@ mod registers;
 mod resolving;
 mod roles;
 mod shown;
+mod told;
 mod written;
 
 pub use elements::items;
@@ -16,3 +17,4 @@ pub use registers::{sum, values};
 pub use resolving::resolve;
 pub use roles::conflicts;
 pub use shown::show;
+pub use told::{items_text, keys_text};

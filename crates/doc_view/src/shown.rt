@@ -22,7 +22,7 @@ use crate::maps::present_text;
 use crate::roles::{puts_list, puts_map};
 use crate::written::{begin_branch, end_branch, put_values};
 use doc_tree::{EachChild, NodeNumber, Spot, Tree};
-use doc_words::ShownText;
+use doc_words::CompactText;
 use json_scalar::Refusal;
 use json_text::JsonText;
 use lamport_id::Id;
@@ -31,7 +31,7 @@ use std::alloc::Global;
 
 /// The compact JSON text of all that stands at a cursor and below it: an array of its branches. `AtHead` where the cursor
 /// stands at a head.
-pub fn show(alloc: Global, tree: &Tree, cursor: &Cursor) -> Result<ShownText, Refusal>
+pub fn show(alloc: Global, tree: &Tree, cursor: &Cursor) -> Result<CompactText, Refusal>
     ensures { ReadsUnlessMemory (ShowsText (tree_facts tree.now) (tree_values tree.now)) cursor.now result }
 {
     if cursor.key.is_head() {
@@ -40,12 +40,12 @@ pub fn show(alloc: Global, tree: &Tree, cursor: &Cursor) -> Result<ShownText, Re
     text_at(alloc, tree, &cursor.path, &cursor.key)
 }
 
-fn text_at(alloc: Global, tree: &Tree, path: &Path, key: &Key) -> Result<ShownText, Refusal>
+fn text_at(alloc: Global, tree: &Tree, path: &Path, key: &Key) -> Result<CompactText, Refusal>
     ensures { GivesUnlessMemory (ShowsText (tree_facts tree.now) (tree_values tree.now) path.now key.now) result }
 {
     let mut text = JsonText::new(alloc);
     put_shown(alloc, &mut text, tree, path, key)?;
-    Ok(ShownText::from(text.into_string()))
+    Ok(CompactText::from(text.into_string()))
 }
 
 fn put_shown(

@@ -1,6 +1,9 @@
-//! The parts of a shown element, as text.
+//! The parts of elements, as text.
 ghost use Rattle.std.specs.Prelude.{◌≡◌, ◌++◌, map, not};
+ghost use Rattle.json_scalar.specs.Scalar.{scalar_data};
+ghost use Rattle.op_core.specs.Wire.{list_data};
 ghost use Rattle.doc_rules.specs.Shown.{value_entry_data, count_branch, total_shown};
+ghost use Rattle.doc_rules.specs.Told.{item_data};
 ghost use Rattle.doc_view.specs.Telling.{beginning, ending};
 ghost use Rattle.json_text.specs.Tokens.{all_tokens, data_tokens, Puts};
 
@@ -71,4 +74,33 @@ pub fn end_branch(text: &mut JsonText, was_begun: bool) -> Result<(), Refusal>
     }
     text.end_list()?;
     text.end_list()
+}
+
+/// An element of a list, with the scalars of its register.
+#[tactic(auto, using(json_text::proofs::Texts::pairs))]
+pub fn put_item(text: &mut JsonText, id: &Id, entries: &[(Id, Scalar)]) -> Result<(), Refusal>
+    ensures { Puts (data_tokens (item_data (id.now, map (λ e. e.1) entries.now))) text.old text.new result }
+{
+    text.begin_list()?;
+    id.put_in(text)?;
+    put_scalars(text, entries)?;
+    text.end_list()
+}
+
+#[tactic(auto, using(json_text::proofs::Texts::lists))]
+fn put_scalars(text: &mut JsonText, entries: &[(Id, Scalar)]) -> Result<(), Refusal>
+    ensures { Puts (data_tokens (list_data (map scalar_data (map (λ e. e.1) entries.now)))) text.old text.new result }
+{
+    text.begin_list()?;
+    put_each_scalar(text, entries)?;
+    text.end_list()
+}
+
+fn put_each_scalar(text: &mut JsonText, entries: &[(Id, Scalar)]) -> Result<(), Refusal>
+    ensures { Puts (all_tokens (map scalar_data (map (λ e. e.1) entries.now))) text.old text.new result }
+{
+    for entry in entries {
+        entry.1.put_in(text)?;
+    }
+    Ok(())
 }

@@ -10,5 +10,5 @@ mod role;
 pub use ask::{Command, Look, Query};
 pub use lists::{Conflicts, Ids, Items, Listed, Operations, Scalars, Texts, Waiting};
 pub use place::{Place, Step, Steps};
-pub use reply::{Reply, ShownText};
+pub use reply::{CompactText, Reply};
 pub use role::Role;

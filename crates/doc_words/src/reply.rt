@@ -2,27 +2,27 @@
 ghost use Rattle.std.specs.Prelude.{◌≡◌};
 ghost use Rattle.doc_words.specs.Resolved.{resolved_or};
 
-use crate::lists::{Conflicts, Ids, Items, Operations, Scalars, Texts, Waiting};
+use crate::lists::{Conflicts, Ids, Operations, Scalars, Waiting};
 use json_scalar::Refusal;
 use lamport_id::Id;
 use op_core::{Cursor, Front};
 use std::marker::Model;
 
-/// The compact JSON text of a shown element. A contract sees it as its bytes.
+/// The compact JSON text of what is told. A contract sees it as its bytes.
 #[derive(Debug, Drop)]
-pub struct ShownText {
+pub struct CompactText {
     text: String,
 }
 
-impl Model for ShownText {
+impl Model for CompactText {
     ghost use Rattle.std.specs.Prelude.{ℕ, List, string_bytes};
 
     ghost Value = { List ℕ };
 
-    ghost view = { λ s. string_bytes s.text };
+    ghost view = { λ t. string_bytes t.text };
 }
 
-impl ShownText {
+impl CompactText {
     /// The text.
     pub fn as_str(&self) -> &str
         ensures { result.now ≡ self.now }
@@ -31,13 +31,13 @@ impl ShownText {
     }
 }
 
-impl From<String> for ShownText {
+impl From<String> for CompactText {
     ghost use Rattle.std.specs.Prelude.{string_bytes};
 
-    ghost from_gives = { λ text shown. shown ≡ string_bytes text };
+    ghost from_gives = { λ text told. told ≡ string_bytes text };
 
-    fn from(text: String) -> ShownText {
-        ShownText { text }
+    fn from(text: String) -> CompactText {
+        CompactText { text }
     }
 }
 
@@ -61,16 +61,16 @@ pub enum Reply {
     Forgotten,
     /// Where the steps led.
     Resolved(Cursor),
-    /// The names of the present members of the map.
-    Keys(Texts),
+    /// The names of the present members of the map, as JSON text.
+    Keys(CompactText),
     /// The scalars of the register.
     Values(Scalars),
-    /// The present elements of the list, each with the scalars of its register.
-    Items(Items),
+    /// The present elements of the list, each with the scalars of its register, as JSON text.
+    Items(CompactText),
     /// The present values, each with the id of the operation that put it.
     Conflicts(Conflicts),
-    /// All that stands at the place and below.
-    Show(ShownText),
+    /// All that stands at the place and below, as JSON text.
+    Show(CompactText),
     /// The sum of the counter.
     Sum(i128),
     /// Logged operations that the front doesn't cover, in the order of the log.

@@ -84,8 +84,8 @@ name_of-is_name CopyRefused = refl
 
 pub ruleset causes = (name_of-is_name)
 
--- the pieces of a shown element's line
-pub shown_pieces : (word text : List ℕ) → (word ++ text) ++ 93 ∷ 10 ∷ [] ≡ (word ++ (text ++ 93 ∷ [])) ++ 10 ∷ []
-shown_pieces word text = simp append_assoc
+-- the pieces of a line around a text
+pub around_pieces : (front text : List ℕ) → (front ++ text) ++ 93 ∷ 10 ∷ [] ≡ (front ++ (text ++ 93 ∷ [])) ++ 10 ∷ []
+around_pieces front text = simp append_assoc
 
-pub ruleset shown = (shown_pieces)
+pub ruleset around = (around_pieces)

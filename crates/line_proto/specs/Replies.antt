@@ -30,9 +30,6 @@ ids_data ids = list_data (map id_data ids)
 abbrev pub scalars_data : List Scalar → Data
 scalars_data scalars = list_data (map scalar_data scalars)
 
-abbrev pub item_data : Id × List Scalar → Data
-item_data e = pair_data e.0 (scalars_data e.1)
-
 abbrev pub conflict_data : Id × Val → Data
 conflict_data e = pair_data e.0 (val_data e.1)
 
@@ -44,16 +41,16 @@ abbrev pub refusal_items : Refusal → List Data
 refusal_items (refusal.Forked last) = count_data 14 ∷ string (codes "forked") ∷ count_data last ∷ []
 refusal_items r = count_data (number_of r) ∷ string (name_of r) ∷ []
 
--- A document's reply. A shown element is kept as text: `told_text` tells it, and it has no JSON here.
+-- A document's reply. What is told as text is kept so: `reply_text` tells it, and it has no JSON here.
 abbrev pub reply_data : Reply → Data
 reply_data (Applied count dropped id) = worded (codes "applied") (count_data count ∷ count_data dropped ∷ id_data id ∷ [])
 reply_data Known = worded (codes "known") []
 reply_data (Held missing) = worded (codes "held") (ids_data missing ∷ [])
 reply_data Forgotten = worded (codes "forgotten") []
 reply_data (Resolved cursor) = worded (codes "cursor") (cursor_data cursor ∷ [])
-reply_data (Keys texts) = worded (codes "keys") (list_data (map string texts) ∷ [])
+reply_data (Keys text) = null
 reply_data (Values scalars) = worded (codes "values") (scalars_data scalars ∷ [])
-reply_data (Items items) = worded (codes "items") (list_data (map item_data items) ∷ [])
+reply_data (Items text) = null
 reply_data (Conflicts vals) = worded (codes "conflicts") (list_data (map conflict_data vals) ∷ [])
 reply_data (Show text) = null
 reply_data (Sum total) = worded (codes "sum") (string (signed_decimal total) ∷ [])
@@ -70,12 +67,14 @@ told_data Version = worded (codes "version") (count_data 2 ∷ [])
 told_data Bye = worded (codes "bye") []
 told_data (Answered reply) = reply_data reply
 
--- `["show",ELEMENT]`, for the text of the element
-abbrev pub shown_text : List ℕ → List ℕ
-shown_text text = codes "[\"show\"," ++ (text ++ 93 ∷ [])
+-- an array of a word and a value, for what stands before the value and for the value's text
+abbrev pub around : List ℕ → List ℕ → List ℕ
+around front text = front ++ (text ++ 93 ∷ [])
 
 abbrev pub reply_text : Reply → List ℕ
-reply_text (Show text) = shown_text text
+reply_text (Keys text) = around (codes "[\"keys\",") text
+reply_text (Items text) = around (codes "[\"items\",") text
+reply_text (Show text) = around (codes "[\"show\",") text
 reply_text reply = compact_text (reply_data reply)
 
 -- the compact text of what is told

@@ -1,10 +1,10 @@
 //! The lines that are made whole before they are written.
 ghost use Rattle.std.specs.Prelude.{◌≡◌, [], ◌∷◌, true, IfOk};
 ghost use Rattle.line_feed.specs.Cut.{line_of};
-ghost use Rattle.line_proto.specs.Replies.{line_text, worded, shown_text, reply_text};
+ghost use Rattle.line_proto.specs.Replies.{line_text, worded, around, reply_text};
 ghost use Rattle.line_proto.specs.Writing.{is_lengthy};
 
-use doc_words::Reply;
+use doc_words::{CompactText, Reply};
 use json_scalar::Refusal;
 use json_text::{AsJson, JsonText};
 use std::alloc::Global;
@@ -12,8 +12,8 @@ use std::alloc::Global;
 /// Bytes for which there is room at first: most lines have less.
 const FIRST_ROOM: usize = 256;
 
-/// Bytes of a shown element's line beside the element.
-const AROUND_SHOWN: usize = 10;
+/// Bytes of a line around the text that it tells.
+const AROUND: usize = 11;
 
 /// The line of a reply of many parts, written straight from these. The refusal says that memory is wanting.
 pub(crate) fn lengthy_line(alloc: Global, reply: &Reply) -> Result<Vec<u8>, Refusal>
@@ -22,11 +22,11 @@ pub(crate) fn lengthy_line(alloc: Global, reply: &Reply) -> Result<Vec<u8>, Refu
 {
     match reply {
         Reply::Resolved(cursor) => told_line(alloc, "cursor", cursor),
-        Reply::Keys(texts) => told_line(alloc, "keys", texts),
+        Reply::Keys(text) => text_line(alloc, "[\"keys\",", text),
         Reply::Values(scalars) => told_line(alloc, "values", scalars),
-        Reply::Items(items) => told_line(alloc, "items", items),
+        Reply::Items(text) => text_line(alloc, "[\"items\",", text),
         Reply::Conflicts(values) => told_line(alloc, "conflicts", values),
-        Reply::Show(text) => shown_line(alloc, text.as_str()),
+        Reply::Show(text) => text_line(alloc, "[\"show\",", text),
         Reply::Sum(total) => told_line(alloc, "sum", total),
         Reply::Operations(ops) => told_line(alloc, "ops", ops),
         Reply::Front(front) => told_line(alloc, "front", front),
@@ -46,12 +46,14 @@ fn told_line<X: AsJson>(alloc: Global, word: &str, part: &X) -> Result<Vec<u8>, 
     Ok(line)
 }
 
-#[tactic(auto, using(crate::proofs::Texts::shown))]
-fn shown_line(alloc: Global, text: &str) -> Result<Vec<u8>, Refusal>
-    ensures { IfOk result (λ line. line.items ≡ line_of (shown_text text.now)) }
+// `front` is what stands before the text.
+#[tactic(auto, using(crate::proofs::Texts::around))]
+fn text_line(alloc: Global, front: &str, text: &CompactText) -> Result<Vec<u8>, Refusal>
+    ensures { IfOk result (λ line. line.items ≡ line_of (around front.now text.now)) }
 {
-    let mut line = Vec::with_capacity(alloc, text.len() + AROUND_SHOWN)?;
-    line.extend_from_slice(b"[\"show\",")?;
+    let text = text.as_str();
+    let mut line = Vec::with_capacity(alloc, text.len() + AROUND)?;
+    line.extend_from_slice(front.as_bytes())?;
     line.extend_from_slice(text.as_bytes())?;
     line.extend_from_slice(b"]\n")?;
     Ok(line)

@@ -1,12 +1,10 @@
-use doc_words::{
-    Conflicts, Ids, Items, Look, Operations, Reply, Scalars, ShownText, Texts, Waiting,
-};
+use doc_words::{CompactText, Conflicts, Ids, Look, Operations, Reply, Scalars, Waiting};
 use json_scalar::{Refusal, Scalar, Val};
 use lamport_id::{Id, ReplicaName};
 use line_feed::Writer;
 use line_feed::doubles::FailAfter;
 use line_proto::{Ask, LineReply, Request, WriteFault};
-use op_core::{Front, KeyText, Mutation, read_wire};
+use op_core::{Front, Mutation, read_wire};
 use serde_json::Value;
 use std::alloc::Global;
 use std::test::Fail;
@@ -358,14 +356,11 @@ fn tells_what_is_missing(rt: HostRuntime) -> Result<(), Fail> {
 
 #[test]
 fn tells_readings(rt: HostRuntime) -> Result<(), Fail> {
-    let texts = vec![in rt.alloc();
-        KeyText::new(rt.alloc(), "")?,
-        KeyText::new(rt.alloc(), "a\"b")?,
-    ]?;
+    let keys = String::from_str(rt.alloc(), "[\"\",\"a\\\"b\"]")?;
     assert!(rt;
         tells(
             rt.alloc(),
-            LineReply::Answered(Reply::Keys(Texts::from(texts))),
+            LineReply::Answered(Reply::Keys(CompactText::from(keys))),
             "[\"keys\",[\"\",\"a\\\"b\"]]\n"
         )
     );
@@ -389,12 +384,11 @@ fn tells_readings(rt: HostRuntime) -> Result<(), Fail> {
 
 #[test]
 fn tells_elements(rt: HostRuntime) -> Result<(), Fail> {
-    let scalars = Scalars::from(vec![in rt.alloc(); Scalar::Int(1)]?);
-    let items = vec![in rt.alloc(); (own_id()?, scalars)]?;
+    let items = String::from_str(rt.alloc(), "[[[3,\"srv-1\"],[1]]]")?;
     assert!(rt;
         tells(
             rt.alloc(),
-            LineReply::Answered(Reply::Items(Items::from(items))),
+            LineReply::Answered(Reply::Items(CompactText::from(items))),
             "[\"items\",[[[3,\"srv-1\"],[1]]]]\n"
         )
     );
@@ -402,7 +396,7 @@ fn tells_elements(rt: HostRuntime) -> Result<(), Fail> {
     assert!(rt;
         tells(
             rt.alloc(),
-            LineReply::Answered(Reply::Show(ShownText::from(shown))),
+            LineReply::Answered(Reply::Show(CompactText::from(shown))),
             "[\"show\",[[\"val\",[2,\"p\"],\"x\"]]]\n"
         )
     );

@@ -10,8 +10,8 @@ ghost use Rattle.replica_core.specs.AgreesWith.{AgreesWith};
 ghost use Rattle.replica_core.specs.Whole.{replica_of};
 
 use doc_tree::Tree;
-use doc_view::{conflicts, items, keys, resolve, show, sum, values};
-use doc_words::{Conflicts, Items, Look, Place, Query, Reply, Scalars, ShownText, Texts};
+use doc_view::{conflicts, items_text, keys_text, resolve, show, sum, values};
+use doc_words::{CompactText, Conflicts, Look, Place, Query, Reply, Scalars};
 use hold_buffer::HoldBuffer;
 use json_scalar::Refusal;
 use op_core::{Cursor, Front};
@@ -73,9 +73,9 @@ fn look_at(alloc: Global, tree: &Tree, look: Look, cursor: &Cursor) -> Reply
     ensures { (result ≡ Reply.Refused Refusal.NoMemory) ⊎ LooksHere (tree_facts tree.now) (tree_values tree.now) look cursor.now result }
 {
     match look {
-        Look::Keys => keys_reply(keys(alloc, tree, cursor)),
+        Look::Keys => keys_reply(keys_text(alloc, tree, cursor)),
         Look::Values => values_reply(values(alloc, tree, cursor)),
-        Look::Items => items_reply(items(alloc, tree, cursor)),
+        Look::Items => items_reply(items_text(alloc, tree, cursor)),
         Look::Conflicts => conflicts_reply(conflicts(alloc, tree, cursor)),
         Look::Show => show_reply(show(alloc, tree, cursor)),
         Look::Sum => sum_reply(sum(tree, cursor)),
@@ -113,11 +113,11 @@ fn waiting(log: &OpLog, held: &HoldBuffer) -> Reply
     }
 }
 
-fn keys_reply(answer: Result<Texts, Refusal>) -> Reply
+fn keys_reply(answer: Result<CompactText, Refusal>) -> Reply
     ensures { result ≡ told_as (λ x. Reply.Keys x) answer }
 {
     match answer {
-        Ok(keys) => Reply::Keys(keys),
+        Ok(text) => Reply::Keys(text),
         Err(cause) => Reply::Refused(cause),
     }
 }
@@ -131,11 +131,11 @@ fn values_reply(answer: Result<Scalars, Refusal>) -> Reply
     }
 }
 
-fn items_reply(answer: Result<Items, Refusal>) -> Reply
+fn items_reply(answer: Result<CompactText, Refusal>) -> Reply
     ensures { result ≡ told_as (λ x. Reply.Items x) answer }
 {
     match answer {
-        Ok(items) => Reply::Items(items),
+        Ok(text) => Reply::Items(text),
         Err(cause) => Reply::Refused(cause),
     }
 }
@@ -149,7 +149,7 @@ fn conflicts_reply(answer: Result<Conflicts, Refusal>) -> Reply
     }
 }
 
-fn show_reply(answer: Result<ShownText, Refusal>) -> Reply
+fn show_reply(answer: Result<CompactText, Refusal>) -> Reply
     ensures { result ≡ told_as (λ x. Reply.Show x) answer }
 {
     match answer {

@@ -6,8 +6,9 @@ use Rattle.doc_words.specs.declared.reply.Reply.TheVariants as reply
 use Rattle.doc_tree.specs.Nodes.{tree_facts}
 use Rattle.doc_view.specs.TreeValues.{tree_values}
 use Rattle.doc_rules.specs.Answers.{LooksHere}
-use Rattle.doc_rules.specs.Views.{AreKeys, AreValues, AreItems, AreConflicts, IsSum}
+use Rattle.doc_rules.specs.Views.{AreValues, AreConflicts, IsSum}
 use Rattle.doc_rules.specs.Shown.{ShowsText}
+use Rattle.doc_rules.specs.Told.{KeysText, ItemsText}
 use Rattle.replica_core.proofs.Looking.{told_here}
 use Rattle.replica_core.proofs.read.look_at.Goals as goal
 
@@ -15,7 +16,7 @@ pub returns-in-Keys : goal.returns-in-Keys
 returns-in-Keys c =
     rw c.in-Keys.is
     (subst (λ (a : Reply). (a ≡ reply.Refused NoMemory) ⊎ LooksHere (tree_facts c.args.tree.now) (tree_values c.args.tree.now) look.Keys c.args.cursor.now a)
-    (sym c.keys_reply.ensures) (told_here (AreKeys (tree_facts c.args.tree.now)) (λ x. reply.Keys x) c.args.cursor.now c.keys.result c.keys.ensures))
+    (sym c.keys_reply.ensures) (told_here (KeysText (tree_facts c.args.tree.now)) (λ x. reply.Keys x) c.args.cursor.now c.keys_text.result c.keys_text.ensures))
 
 pub returns-in-Values : goal.returns-in-Values
 returns-in-Values c =
@@ -27,7 +28,7 @@ pub returns-in-Items : goal.returns-in-Items
 returns-in-Items c =
     rw c.in-Items.is
     (subst (λ (a : Reply). (a ≡ reply.Refused NoMemory) ⊎ LooksHere (tree_facts c.args.tree.now) (tree_values c.args.tree.now) look.Items c.args.cursor.now a)
-    (sym c.items_reply.ensures) (told_here (AreItems (tree_facts c.args.tree.now)) (λ x. reply.Items x) c.args.cursor.now c.items.result c.items.ensures))
+    (sym c.items_reply.ensures) (told_here (ItemsText (tree_facts c.args.tree.now)) (λ x. reply.Items x) c.args.cursor.now c.items_text.result c.items_text.ensures))
 
 pub returns-in-Conflicts : goal.returns-in-Conflicts
 returns-in-Conflicts c =
