@@ -17,7 +17,7 @@ use Rattle.doc_rules.specs.Replica.{Replica, replica_facts}
 use Rattle.doc_rules.specs.Resolve.{Resolves}
 use Rattle.doc_rules.specs.Role.{value_put_at}
 use Rattle.doc_rules.specs.Shown.{ShowsText}
-use Rattle.doc_rules.specs.Told.{KeysText, ItemsText}
+use Rattle.doc_rules.specs.Told.{KeysText, ItemsText, operations_text}
 
 -- what a reading is told as, or the cause against it
 abbrev pub told_as : {X : Type 0} → (X → Reply) → Result X Refusal → Reply
@@ -50,7 +50,7 @@ since front log = filter (λ o. not (covers front o.id)) log
 abbrev pub Reads : Replica → ℕ → Query → Reply → Type 0
 Reads r mine (query.Resolve place) answer = ReadsAt r place (λ c a. a ≡ reply.Resolved c) answer
 Reads r mine (query.Look look place) answer = ReadsAt r place (LooksHere (replica_facts r) (value_put_at r.log) look) answer
-Reads r mine (query.Operations front limit) answer = answer ≡ reply.Operations (take limit (since front r.log))
+Reads r mine (query.Operations front limit) answer = answer ≡ reply.Operations (operations_text (take limit (since front r.log)))
 Reads r mine query.Front answer = answer ≡ reply.Front (front_of r.log)
 Reads r mine query.Held answer = answer ≡ reply.Waiting (map (λ o. (o.id, missing o r.log)) r.held)
 Reads r mine query.Account answer = answer ≡ reply.Account mine

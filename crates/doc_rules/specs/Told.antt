@@ -1,10 +1,10 @@
--- Readings that are told as JSON text.
+-- What is told as JSON text.
 use Rattle.std.specs.Prelude.{◌≡◌, ℕ, List, [], ◌∷◌, map}
 use Rattle.serde_json.specs.Data.{Data, string}
 use Rattle.serde_json.specs.Written.{compact_text}
-use Rattle.doc_words.specs.Words.{Id, Scalar, Key, Tagged}
+use Rattle.doc_words.specs.Words.{Id, Scalar, Key, Tagged, Op}
 use Rattle.json_scalar.specs.Scalar.{scalar_data}
-use Rattle.op_core.specs.Wire.{id_data, list_data}
+use Rattle.op_core.specs.Wire.{id_data, list_data, wire}
 use Rattle.crdt_rules.specs.Facts.{Facts}
 use Rattle.doc_rules.specs.Views.{AreKeys, AreItems}
 
@@ -23,3 +23,7 @@ KeysText f = ToldAs string (AreKeys f)
 -- the text of the present elements of the list at a place, each with its scalars
 abbrev pub ItemsText : Facts → List Tagged → Key → List ℕ → Type 0
 ItemsText f = ToldAs item_data (AreItems f)
+
+-- the text of operations, in their order
+abbrev pub operations_text : List Op → List ℕ
+operations_text ops = compact_text (list_data (map wire ops))

@@ -1,13 +1,12 @@
 -- All of a reading, told one behind another.
 use Rattle.std.proofs.Common.{◌≡◌, List, [], ◌∷◌, ◌++◌, map, Option, Some, Result, Ok, Err, refl, sym, ap, ◌∙◌, append_assoc, append-nil}
 use Rattle.std.specs.Prelude.{⊤}
-use Rattle.std.proofs.lemmas.List.{map-append}
 use Rattle.json.specs.Token.{Token, begin_array, end_array}
 use Rattle.serde_json.specs.Data.{Data}
 use Rattle.op_core.specs.Wire.{list_data}
 use Rattle.json_scalar.specs.Scalar.{scalar_data}
 use Rattle.json_text.specs.Tokens.{data_tokens, all_tokens, Puts}
-use Rattle.json_text.proofs.Texts.{all_tokens-append, put_list}
+use Rattle.json_text.proofs.Texts.{put_list}
 use Rattle.doc_words.specs.Words.{Id, Refusal, Scalar, Key, Tagged}
 use Rattle.doc_nodes.specs.declared.node.Node.{Node}
 use Rattle.doc_nodes.specs.declared.node.NodeNumber.{NodeNumber}
@@ -17,16 +16,6 @@ use Rattle.doc_view.specs.Readings.{GivesUnlessMemory}
 use Rattle.doc_view.specs.Telling.{TellsAll, TellsArray}
 
 module _ {X : Type 0} (json : X → Data) where
-  pub told_nothing : (old : List Token) → old ≡ old ++ all_tokens (map json [])
-  told_nothing old = sym (append-nil old)
-
-  -- some, and others behind them
-  pub told_further : (old mid new : List Token) (xs ys : List X) → mid ≡ old ++ all_tokens (map json xs) → new ≡ mid ++ all_tokens (map json ys)
-      → new ≡ old ++ all_tokens (map json (xs ++ ys))
-  told_further old mid new xs ys first then =
-      then ∙ ap (λ ts. ts ++ all_tokens (map json ys)) first ∙ append_assoc old (all_tokens (map json xs)) (all_tokens (map json ys))
-      ∙ ap (λ ts. old ++ ts) (sym (ap all_tokens (map-append json xs ys) ∙ all_tokens-append (map json xs) (map json ys)))
-
   module _ (holds : List X → Type 0) (old new : List Token) where
     pub one_told : (x : X) (r : Result ⊤ Refusal) → holds (x ∷ []) → Puts (data_tokens (json x)) old new r → GivesUnlessMemory (λ _. TellsAll json holds old new) r
     one_told x (Ok done) h w = (x ∷ [], h, w ∙ ap (λ ts. old ++ ts) (sym (append-nil (data_tokens (json x)))))

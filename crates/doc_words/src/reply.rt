@@ -2,7 +2,7 @@
 ghost use Rattle.std.specs.Prelude.{◌≡◌};
 ghost use Rattle.doc_words.specs.Resolved.{resolved_or};
 
-use crate::lists::{Conflicts, Ids, Operations, Scalars, Waiting};
+use crate::lists::{Conflicts, Ids, Scalars, Waiting};
 use json_scalar::Refusal;
 use lamport_id::Id;
 use op_core::{Cursor, Front};
@@ -73,8 +73,8 @@ pub enum Reply {
     Show(CompactText),
     /// The sum of the counter.
     Sum(i128),
-    /// Logged operations that the front doesn't cover, in the order of the log.
-    Operations(Operations),
+    /// Logged operations that the front doesn't cover, in the order of the log, as JSON text.
+    Operations(CompactText),
     /// The front of the whole log.
     Front(Front),
     /// The held operations, and what each waits for.

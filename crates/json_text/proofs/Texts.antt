@@ -61,3 +61,19 @@ pub put_three : (old : List Token) (a b c : Data)
 put_three old a b c = simp append_assoc
 
 pub ruleset threes = (put_three)
+
+module _ {X : Type 0} (json : X → Data) where
+  pub told_nothing : (old : List Token) → old ≡ old ++ all_tokens (map json [])
+  told_nothing old = sym (append-nil old)
+
+  -- some, and others behind them
+  pub told_further : (old mid new : List Token) (xs ys : List X) → mid ≡ old ++ all_tokens (map json xs) → new ≡ mid ++ all_tokens (map json ys)
+      → new ≡ old ++ all_tokens (map json (xs ++ ys))
+  told_further old mid new xs ys first then =
+      then ∙ ap (λ ts. ts ++ all_tokens (map json ys)) first ∙ append_assoc old (all_tokens (map json xs)) (all_tokens (map json ys))
+      ∙ ap (λ ts. old ++ ts) (sym (ap all_tokens (map-append json xs ys) ∙ all_tokens-append (map json xs) (map json ys)))
+
+  -- and one more
+  pub told_one_more : (old mid new : List Token) (xs : List X) (x : X) → mid ≡ old ++ all_tokens (map json xs) → new ≡ mid ++ data_tokens (json x)
+      → new ≡ old ++ all_tokens (map json (xs ++ x ∷ []))
+  told_one_more old mid new xs x first then = told_further old mid new xs (x ∷ []) first (then ∙ ap (λ ts. mid ++ ts) (sym (append-nil (data_tokens (json x)))))

@@ -54,7 +54,7 @@ reply_data (Items text) = null
 reply_data (Conflicts vals) = worded (codes "conflicts") (list_data (map conflict_data vals) ∷ [])
 reply_data (Show text) = null
 reply_data (Sum total) = worded (codes "sum") (string (signed_decimal total) ∷ [])
-reply_data (Operations ops) = worded (codes "ops") (list_data (map wire ops) ∷ [])
+reply_data (Operations text) = null
 reply_data (Front front) = worded (codes "front") (front_data front ∷ [])
 reply_data (Waiting held) = worded (codes "waiting") (list_data (map waiting_data held) ∷ [])
 reply_data (Account n) = worded (codes "account") (count_data n ∷ [])
@@ -75,6 +75,7 @@ abbrev pub reply_text : Reply → List ℕ
 reply_text (Keys text) = around (codes "[\"keys\",") text
 reply_text (Items text) = around (codes "[\"items\",") text
 reply_text (Show text) = around (codes "[\"show\",") text
+reply_text (Operations text) = around (codes "[\"ops\",") text
 reply_text reply = compact_text (reply_data reply)
 
 -- the compact text of what is told

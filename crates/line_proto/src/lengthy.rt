@@ -28,7 +28,7 @@ pub(crate) fn lengthy_line(alloc: Global, reply: &Reply) -> Result<Vec<u8>, Refu
         Reply::Conflicts(values) => told_line(alloc, "conflicts", values),
         Reply::Show(text) => text_line(alloc, "[\"show\",", text),
         Reply::Sum(total) => told_line(alloc, "sum", total),
-        Reply::Operations(ops) => told_line(alloc, "ops", ops),
+        Reply::Operations(text) => text_line(alloc, "[\"ops\",", text),
         Reply::Front(front) => told_line(alloc, "front", front),
         Reply::Applied { .. } | Reply::Known | Reply::Held(_) => unreachable!(),
         Reply::Waiting(_) => unreachable!(),

@@ -1,11 +1,10 @@
-use doc_words::{CompactText, Conflicts, Ids, Look, Operations, Reply, Scalars, Waiting};
+use doc_words::{CompactText, Conflicts, Ids, Look, Reply, Scalars, Waiting};
 use json_scalar::{Refusal, Scalar, Val};
 use lamport_id::{Id, ReplicaName};
 use line_feed::Writer;
 use line_feed::doubles::FailAfter;
 use line_proto::{Ask, LineReply, Request, WriteFault};
-use op_core::{Front, Mutation, read_wire};
-use serde_json::Value;
+use op_core::{Front, Mutation};
 use std::alloc::Global;
 use std::test::Fail;
 
@@ -418,16 +417,12 @@ fn tells_conflicts(rt: HostRuntime) -> Result<(), Fail> {
 
 #[test]
 fn tells_the_log(rt: HostRuntime) -> Result<(), Fail> {
-    let wire = "[\"op\",[1,\"p\"],[],[[[\"m\",0]],\"n\"],[\"add\",-7]]";
-    let operation = read_wire(
-        rt.alloc(),
-        &Value::from_str(rt.alloc(), wire).or(Err(Refusal::NotJson))?,
-    )?;
-    let operations = Operations::from(vec![in rt.alloc(); operation]?);
+    let operations = "[[\"op\",[1,\"p\"],[],[[[\"m\",0]],\"n\"],[\"add\",-7]]]";
+    let text = CompactText::from(String::from_str(rt.alloc(), operations)?);
     assert!(rt;
         tells(
             rt.alloc(),
-            LineReply::Answered(Reply::Operations(operations)),
+            LineReply::Answered(Reply::Operations(text)),
             "[\"ops\",[[\"op\",[1,\"p\"],[],[[[\"m\",0]],\"n\"],[\"add\",-7]]]]\n"
         )
     );

@@ -6,6 +6,7 @@ mod copies;
 mod front;
 mod index;
 mod log;
+mod told;
 
 pub use check::{MAX_OPERATIONS, MAX_REPLICAS};
 pub use log::{OpLog, keeps_good};

@@ -9,12 +9,14 @@ ghost use Rattle.crdt_rules.specs.Fits.{last_counter, Fits, replicas};
 ghost use Rattle.crdt_rules.specs.Log.{IsGood};
 ghost use Rattle.crdt_rules.specs.Pull.{front_of};
 ghost use Rattle.doc_rules.specs.Answers.{since};
+ghost use Rattle.doc_rules.specs.Told.{operations_text};
 ghost use Rattle.doc_rules.specs.Replica.{find_id};
 
 use crate::copies::{copies, entries, first_uncovered};
 use crate::front::{self, Entry};
 use crate::index::{self, Link};
-use doc_words::{Ids, Operations};
+use crate::told::text_of_uncovered;
+use doc_words::{CompactText, Ids, Operations};
 use json_scalar::Refusal;
 use lamport_id::{Id, ReplicaName};
 use op_core::{Front, Operation, id_of};
@@ -158,6 +160,15 @@ impl OpLog {
         let alloc = *self.entries.allocator();
         let start = index::first_uncovered(&self.entries, &self.links, &self.lasts, front);
         Ok(Operations::from(first_uncovered(alloc, &self.entries[start..], front, limit)?))
+    }
+
+    /// What `since` gives, as the compact JSON text of an array. It is refused for want of memory alone.
+    pub fn since_text(&self, front: &Front, limit: usize) -> Result<CompactText, Refusal>
+        ensures { UnlessMemory result (Ok (operations_text (take limit (since front.now self.now.operations)))) }
+    {
+        let alloc = *self.entries.allocator();
+        let start = index::first_uncovered(&self.entries, &self.links, &self.lasts, front);
+        text_of_uncovered(alloc, &self.entries[start..], front, limit)
     }
 
     /// The operations after the first `from`, at most `max` of them. It is refused for want of memory alone.

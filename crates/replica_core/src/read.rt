@@ -86,8 +86,8 @@ fn look_at(alloc: Global, tree: &Tree, look: Look, cursor: &Cursor) -> Reply
 fn operations(log: &OpLog, front: &Front, limit: u64) -> Reply
     ensures { (name : List ℕ) (held : List Op) (mine : ℕ) → MayAnswer (replica_of name log.now.operations held) mine (query.Operations front.now limit) result }
 {
-    match log.since(front, limit as usize) {
-        Ok(operations) => Reply::Operations(operations),
+    match log.since_text(front, limit as usize) {
+        Ok(text) => Reply::Operations(text),
         Err(_) => Reply::Refused(Refusal::NoMemory),
     }
 }

@@ -7,7 +7,8 @@ use Rattle.doc_rules.specs.Sorted.AreThose.{none, keep, skip}
 use Rattle.doc_rules.specs.Told.{item_data}
 use Rattle.doc_view.specs.ByNumber.{AtNode, HasItems}
 use Rattle.doc_view.proofs.ByNumber.{entries_by_number}
-use Rattle.doc_view.proofs.TellingAll.{told_nothing, one_told}
+use Rattle.json_text.proofs.Texts.{told_nothing}
+use Rattle.doc_view.proofs.TellingAll.{one_told}
 use Rattle.doc_view.proofs.told.put_element.Goals as goal
 
 pub returns-in-None : goal.returns-in-None

@@ -7,7 +7,7 @@ use Rattle.doc_rules.specs.Sorted.AreThose.{none}
 use Rattle.doc_rules.specs.Told.{item_data}
 use Rattle.doc_view.specs.ByNumber.{HasItems}
 use Rattle.doc_view.proofs.ByNumber.{items_step}
-use Rattle.doc_view.proofs.TellingAll.{told_nothing, told_further}
+use Rattle.json_text.proofs.Texts.{told_nothing, told_further}
 use Rattle.doc_view.proofs.told.put_elements.Goals as goal
 
 pub loop-id-init : goal.loop-id-init

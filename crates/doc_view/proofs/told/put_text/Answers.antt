@@ -9,7 +9,8 @@ use Rattle.doc_rules.specs.Sorted.{AreThose}
 use Rattle.doc_view.specs.ByNumber.{IsTextAt}
 use Rattle.doc_view.specs.Members.{texts_at}
 use Rattle.json_text.specs.Tokens.{Puts}
-use Rattle.doc_view.proofs.TellingAll.{told_nothing, one_told}
+use Rattle.json_text.proofs.Texts.{told_nothing}
+use Rattle.doc_view.proofs.TellingAll.{one_told}
 use Rattle.doc_view.proofs.told.put_text.Goals as goal
 
 pub returns-in-None : goal.returns-in-None

@@ -11,7 +11,7 @@ use Rattle.doc_rules.specs.Sorted.AreThose.{none}
 use Rattle.doc_view.specs.Members.{texts_in}
 use Rattle.doc_view.proofs.Lists.{drop_gives, drop_none}
 use Rattle.doc_view.proofs.MapLaws.{texts_step}
-use Rattle.doc_view.proofs.TellingAll.{told_nothing, told_further}
+use Rattle.json_text.proofs.Texts.{told_nothing, told_further}
 use Rattle.doc_view.proofs.told.put_texts.Goals as goal
 
 pub loop-child-init : goal.loop-child-init
