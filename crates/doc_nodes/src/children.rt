@@ -120,13 +120,19 @@ impl Children {
         number_of(self.blocks.as_slice(), key)
     }
 
-    /// The same as `find` tells, found at once where the child stands right behind the spot. The spot is then where it stands.
+    /// The same as `find` tells, found at once where the child stands right behind the spot or right before it. The spot is
+    /// then where it stands.
     pub fn find_beside(&self, key: &Key, spot: &mut Spot) -> Option<NodeNumber>
         ensures { result ≡ number_at self.now key.now }
     {
         let next = spot_behind(self.blocks.as_slice(), *spot);
         if let Some(number) = number_there(self.blocks.as_slice(), next, key) {
             *spot = next;
+            return Some(number);
+        }
+        let last = spot_before(self.blocks.as_slice(), *spot);
+        if let Some(number) = number_there(self.blocks.as_slice(), last, key) {
+            *spot = last;
             return Some(number);
         }
         *spot = spot_of(self.blocks.as_slice(), key);
@@ -319,6 +325,26 @@ fn spot_behind(blocks: &[Block], spot: Spot) -> Spot {
             block: spot.block + 1,
             place: 0,
         }
+    }
+}
+
+/// The place before a spot: in its block, or at the end of the block before.
+fn spot_before(blocks: &[Block], spot: Spot) -> Spot {
+    if spot.place > 0 {
+        return Spot {
+            block: spot.block,
+            place: spot.place - 1,
+        };
+    }
+    if spot.block == 0 {
+        return spot;
+    }
+    match blocks.get(spot.block - 1) {
+        None => spot,
+        Some(block) => Spot {
+            block: spot.block - 1,
+            place: block.entries.len().saturating_sub(1),
+        },
     }
 }
 

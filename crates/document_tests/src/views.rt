@@ -2,7 +2,7 @@
 use crate::written::{operation, operations};
 use converge_laws::replay_all;
 use doc_tree::Tree;
-use doc_view::{conflicts, items, keys, resolve, show, sum, values};
+use doc_view::{conflicts, items, items_text, keys, keys_text, resolve, show, sum, values};
 use doc_words::{Scalars, Step};
 use json_scalar::Refusal;
 use lamport_id::Id;
@@ -118,6 +118,57 @@ fn reads_a_place(rt: HostRuntime) -> Result<(), Fail> {
     Ok(())
 }
 
+fn items_told(alloc: Global, tree: &Tree, names: &[&str], text: &str) -> Result<bool, Fail> {
+    let cursor = at(alloc, tree, names)?;
+    let items = items_text(alloc, tree, &cursor)?;
+    Ok(items.as_str() == text)
+}
+
+fn keys_told(alloc: Global, tree: &Tree, names: &[&str], text: &str) -> Result<bool, Fail> {
+    let cursor = at(alloc, tree, names)?;
+    let keys = keys_text(alloc, tree, &cursor)?;
+    Ok(keys.as_str() == text)
+}
+
+#[test]
+fn tells_items_as_text(rt: HostRuntime) -> Result<(), Fail> {
+    let tree = tree_of(
+        rt.alloc(),
+        &[
+            r#"["op",[1,"p"],[],[[["m",0]],"l"],["assign",[]]]"#,
+            r#"["op",[2,"p"],[["p",1]],[[["m",0],["l","l"]],1],["insert",1]]"#,
+            r#"["op",[3,"p"],[["p",2]],[[["m",0],["l","l"]],1],["insert",null]]"#,
+            r#"["op",[4,"p"],[["p",3]],[[["m",0],["l","l"]],1],["insert","d\"d"]]"#,
+            r#"["op",[5,"p"],[["p",4]],[[["m",0],["l","l"]],[3,"p"]],["delete"]]"#,
+            r#"["op",[5,"q"],[["p",4]],[[["m",0],["l","l"]],[2,"p"]],["assign",true]]"#,
+            r#"["op",[6,"p"],[["p",5]],[[["m",0],["l","l"]],[2,"p"]],["assign",-7]]"#,
+        ],
+    )?;
+    let due = r#"[[[4,"p"],["d\"d"]],[[2,"p"],[true,-7]]]"#;
+    assert!(rt; items_told(rt.alloc(), &tree, &["l"], due)?);
+    assert!(rt; items_told(rt.alloc(), &tree, &[], "[]")?);
+    assert!(rt; items_told(rt.alloc(), &tree, &["absent"], "[]")?);
+    Ok(())
+}
+
+#[test]
+fn tells_keys_as_text(rt: HostRuntime) -> Result<(), Fail> {
+    let tree = tree_of(
+        rt.alloc(),
+        &[
+            r#"["op",[1,"p"],[],[[["m",0]],"m"],["assign",{}]]"#,
+            r#"["op",[2,"p"],[["p",1]],[[["m",0],["m","m"]],"b"],["assign",1]]"#,
+            r#"["op",[3,"p"],[["p",2]],[[["m",0],["m","m"]],"c"],["assign",2]]"#,
+            r#"["op",[4,"p"],[["p",3]],[[["m",0],["m","m"]],"a\"a"],["assign",3]]"#,
+            r#"["op",[5,"p"],[["p",4]],[[["m",0],["m","m"]],"b"],["delete"]]"#,
+        ],
+    )?;
+    assert!(rt; keys_told(rt.alloc(), &tree, &["m"], r#"["a\"a","c"]"#)?);
+    assert!(rt; keys_told(rt.alloc(), &tree, &[], r#"["m"]"#)?);
+    assert!(rt; keys_told(rt.alloc(), &tree, &["absent"], "[]")?);
+    Ok(())
+}
+
 #[test]
 fn counter_and_scalar(rt: HostRuntime) -> Result<(), Fail> {
     let tree = tree_of(
@@ -171,6 +222,8 @@ fn reads_at_a_head(rt: HostRuntime) -> Result<(), Fail> {
     assert!(rt; is_at_head(&items(rt.alloc(), &tree, &head)));
     assert!(rt; is_at_head(&conflicts(rt.alloc(), &tree, &head)));
     assert!(rt; is_at_head(&show(rt.alloc(), &tree, &head)));
+    assert!(rt; is_at_head(&keys_text(rt.alloc(), &tree, &head)));
+    assert!(rt; is_at_head(&items_text(rt.alloc(), &tree, &head)));
     Ok(())
 }
 
