@@ -14,7 +14,7 @@ returns-clause-tree c =
     let none : child_of items c.args.at c.in_ok-key.key ≡ None =
     ap (child_of items c.args.at) c.in_ok-key.ensures.ok ∙ ap (λ z. number_at z.children c.args.key.now) (sym node) ∙ sym c.find.ensures ∙ c.in_default.is in
     let fresh : IsFresh c.new-fresh.result =
-    record { presence = c.new-fresh.ensures.presence; register = c.new-fresh.ensures.register; counter = c.new-fresh.ensures.counter; order = c.new-fresh.ensures.order; children = c.new-fresh.ensures.children } in
+    record { presence = c.new-fresh.ensures.presence; register = c.new-fresh.ensures.register; counter = c.new-fresh.ensures.counter; order = c.new-fresh.ensures.order; children = c.new-fresh.ensures.children; leads = c.new-fresh.ensures.leads } in
     subst AreTree (sym c.in_ok-add_child.ensures.ok)
     (tree_added items c.requires.tree c.args.at c.requires.known c.in_ok-key.key none (record { 0 = length items }) refl c.new-fresh.result fresh)
 
@@ -25,7 +25,7 @@ returns-clause-grows c =
     let none : child_of items c.args.at c.in_ok-key.key ≡ None =
     ap (child_of items c.args.at) c.in_ok-key.ensures.ok ∙ ap (λ z. number_at z.children c.args.key.now) (sym node) ∙ sym c.find.ensures ∙ c.in_default.is in
     let fresh : IsFresh c.new-fresh.result =
-    record { presence = c.new-fresh.ensures.presence; register = c.new-fresh.ensures.register; counter = c.new-fresh.ensures.counter; order = c.new-fresh.ensures.order; children = c.new-fresh.ensures.children } in
+    record { presence = c.new-fresh.ensures.presence; register = c.new-fresh.ensures.register; counter = c.new-fresh.ensures.counter; order = c.new-fresh.ensures.order; children = c.new-fresh.ensures.children; leads = c.new-fresh.ensures.leads } in
     subst (Grows items) (sym c.in_ok-add_child.ensures.ok)
     (grows_added items c.requires.tree c.args.at c.requires.known c.in_ok-key.key none (record { 0 = length items }) refl c.new-fresh.result fresh)
 
@@ -36,7 +36,7 @@ returns-clause-child c =
     let none : child_of items c.args.at c.in_ok-key.key ≡ None =
     ap (child_of items c.args.at) c.in_ok-key.ensures.ok ∙ ap (λ z. number_at z.children c.args.key.now) (sym node) ∙ sym c.find.ensures ∙ c.in_default.is in
     let fresh : IsFresh c.new-fresh.result =
-    record { presence = c.new-fresh.ensures.presence; register = c.new-fresh.ensures.register; counter = c.new-fresh.ensures.counter; order = c.new-fresh.ensures.order; children = c.new-fresh.ensures.children } in
+    record { presence = c.new-fresh.ensures.presence; register = c.new-fresh.ensures.register; counter = c.new-fresh.ensures.counter; order = c.new-fresh.ensures.order; children = c.new-fresh.ensures.children; leads = c.new-fresh.ensures.leads } in
     let number : ◌≡◌ {A = NodeNumber} (record { 0 = length items }) (record { 0 = c.len.result }) = λ i. record { 0 = (sym c.args.nodes.now.ok.0 ∙ sym c.len.ensures) i } in
     ap (child_of c.add_child.new.nodes.items c.args.at) (sym c.in_ok-key.ensures.ok)
     ∙ ap (λ l. child_of l c.args.at c.in_ok-key.key) c.in_ok-add_child.ensures.ok
