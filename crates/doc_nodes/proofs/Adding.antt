@@ -40,6 +40,7 @@ module _ (nodes : List Node) (n : NodeNumber) (within : n.0 < length nodes) wher
     pub counter_room : (node_of nodes n).counter.1 ≤ node.counter.1
     pub order_room : (node_of nodes n).order.1 ≤ node.order.1
     pub children : node.children ≡ (node_of nodes n).children
+    pub leads : node.leads ≡ (node_of nodes n).leads
 
   pub grows_room : (node : Node) → SaysTheSame node → Grows nodes (set nodes n.0 node)
   grows_room node same = record {
@@ -48,6 +49,7 @@ module _ (nodes : List Node) (n : NodeNumber) (within : n.0 < length nodes) wher
     register = unwritten nodes n within (λ z. z.register.0) node same.register;
     counter = unwritten nodes n within (λ z. z.counter.0) node same.counter;
     order = unwritten nodes n within (λ z. z.order.0) node same.order;
+    leads = unwritten nodes n within (λ z. z.leads) node same.leads;
     presence_room = no_less_room node same.presence_room;
     register_room = no_less (λ z. z.register.1) node same.register_room;
     counter_room = no_less (λ z. z.counter.1) node same.counter_room;
@@ -175,6 +177,7 @@ module _ (nodes : List Node) (tree : AreTree nodes) (n : NodeNumber) (within : n
     register = same_part (λ z. z.register.0) refl is_fresh.register;
     counter = same_part (λ z. z.counter.0) refl is_fresh.counter;
     order = same_part (λ z. z.order.0) refl is_fresh.order;
+    leads = same_part (λ z. z.leads) refl is_fresh.leads;
     presence_room = no_fewer;
     register_room = fewer (λ z. z.register.1) refl refl;
     counter_room = fewer (λ z. z.counter.1) refl refl;

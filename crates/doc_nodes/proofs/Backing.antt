@@ -1,7 +1,8 @@
 -- What stands in the nodes is backed, after each write.
 use Rattle.std.proofs.Common.{◌≡◌, ℕ, ℤ, ◌+◌, ◌<◌, ◌≤◌, List, [], ◌∷◌, ◌++◌, append-nil, append_assoc, length, set, Bool, true, false, if◌then◌else◌, Option, Some, None, ◌⊎◌, inl, inr, ⊎_elim, refl, sym, ap, ◌∙◌, subst, true≢false, arith}
-use Rattle.std.specs.Prelude.{is_some, option_and_then}
+use Rattle.std.specs.Prelude.{is_some, option_and_then, ◌&&◌, ◌||◌}
 use Rattle.std.proofs.lemmas.Bool.{cases_eq, cases_lt}
+use Rattle.std.proofs.Math.Bool.{or-true}
 use Rattle.std.proofs.lemmas.List.{get_or_past}
 use Rattle.doc_words.specs.Words.{Id, Key, Scalar}
 use Rattle.op_core.specs.Front.{covers}
@@ -15,16 +16,16 @@ use Rattle.doc_nodes.specs.declared.node.NodeNumber.{NodeNumber}
 use Rattle.doc_nodes.specs.declared.node.Node.{Node}
 use Rattle.doc_nodes.specs.Walk.{walk, root}
 use Rattle.doc_nodes.specs.Nodes.{blank_node, node_of, child_of, cleared, AreTree, ClearsUnder}
-use Rattle.doc_nodes.specs.Marks.{role_before, MarksAlong}
+use Rattle.doc_nodes.specs.Marks.{passes, role_before, leads_after, MarksAlong}
 use Rattle.doc_nodes.specs.Writes.{with_scalar, with_number, with_entry}
 use Rattle.doc_nodes.specs.Growth.{Grows}
 use Rattle.doc_nodes.specs.Flags.{plain, unflagged, is_some_entry, node_stands}
 use Rattle.doc_nodes.specs.Backing.{HasEntry, IsPresentBy, IsBacked, AreBackedFrom, AreBacked}
 use Rattle.doc_nodes.proofs.Walks.{parts_of, walk_join}
-use Rattle.doc_nodes.proofs.Clearing.{same_children}
+use Rattle.doc_nodes.proofs.Clearing.{ClearsFirst, none_yet, same_children}
 use Rattle.doc_nodes.proofs.Marking.{here-set, other-set, eq_number, shape-set}
 use Rattle.doc_nodes.proofs.WriteFacts.{unwritten}
-use Rattle.doc_nodes.proofs.Plain.{node_of-plain, child_of-plain, tree-plain}
+use Rattle.doc_nodes.proofs.Plain.{node_of-plain, child_of-plain, length-plain, write-plain, tree-plain}
 
 -- what stands in entries
 module _ {X : Type 0} where
@@ -106,7 +107,11 @@ node-untouched front node none backed =
 
 -- fewer nodes are asked
 pub backed_from : (nodes : List Node) (m n : ℕ) → m ≤ n → AreBackedFrom nodes m → AreBackedFrom nodes n
-backed_from nodes m n less backed = record { each = backed.each; above = λ p k c i le down there. backed.above p k c i (omega (arith, less, le)) down there }
+backed_from nodes m n less backed = record {
+  each = backed.each;
+  above = λ p k c i le down there. backed.above p k c i (omega (arith, less, le)) down there;
+  leads = λ p k c i le down there. backed.leads p k c i (omega (arith, less, le)) down there;
+}
 
 -- the lists of the nodes are of no account
 pub backed-plain : (nodes : List Node) (m : ℕ) → AreBackedFrom nodes m → AreBackedFrom (plain nodes) m
@@ -115,6 +120,9 @@ backed-plain nodes m backed = record {
   above = λ n k c i le down there.
       subst (λ z. IsPresentBy z i) (sym (node_of-plain nodes n))
       (backed.above n k c i le (ap (λ f. f n k) (sym (child_of-plain nodes)) ∙ down) (subst (λ z. IsPresentBy z i) (node_of-plain nodes c) there));
+  leads = λ n k c i le down there.
+      ap (λ z. z.leads) (node_of-plain nodes n)
+      ∙ backed.leads n k c i le (ap (λ f. f n k) (sym (child_of-plain nodes)) ∙ down) (subst (λ z. IsPresentBy z i) (node_of-plain nodes c) there);
 }
 
 pub backed_of-plain : (nodes : List Node) (m : ℕ) → AreBackedFrom (plain nodes) m → AreBackedFrom nodes m
@@ -123,14 +131,16 @@ backed_of-plain nodes m backed = record {
   above = λ n k c i le down there.
       subst (λ z. IsPresentBy z i) (node_of-plain nodes n)
       (backed.above n k c i le (ap (λ f. f n k) (child_of-plain nodes) ∙ down) (subst (λ z. IsPresentBy z i) (sym (node_of-plain nodes c)) there));
+  leads = λ n k c i le down there.
+      ap (λ z. z.leads) (sym (node_of-plain nodes n))
+      ∙ backed.leads n k c i le (ap (λ f. f n k) (child_of-plain nodes) ∙ down) (subst (λ z. IsPresentBy z i) (sym (node_of-plain nodes c)) there);
 }
 
 pub backed-same : (old new : List Node) (m : ℕ) → plain new ≡ plain old → AreBackedFrom old m → AreBackedFrom new m
 backed-same old new m same backed = backed_of-plain new m (subst (λ l. AreBackedFrom l m) (sym same) (backed-plain old m backed))
 
 -- Where nothing makes a node present, nothing stands in it or below it, so it is cleared as it is.
-module _ (front : List (List ℕ × ℕ)) (nodes : List Node) (n : NodeNumber) (tree : AreTree nodes) (backed : AreBackedFrom nodes n.0)
-    (none : (node_of nodes n).presence.0 ≡ []) where
+module _ (front : List (List ℕ × ℕ)) (nodes : List Node) (n : NodeNumber) (tree : AreTree nodes) (backed : AreBackedFrom nodes n.0) where
   absent_below : (p : NodeNumber) (keys : List Key) (j : NodeNumber) → n.0 ≤ p.0 → (node_of nodes p).presence.0 ≡ [] → walk (child_of nodes) p keys ≡ Some j
       → (node_of nodes j).presence.0 ≡ []
   absent_below p [] j le absent e = let same : p ≡ j = cc in subst (λ z. (node_of nodes z).presence.0 ≡ []) same absent
@@ -140,13 +150,38 @@ module _ (front : List (List ℕ × ℕ)) (nodes : List Node) (n : NodeNumber) (
       (none_stands (node_of nodes step.0).presence.0 (λ i there. no_entry (node_of nodes p).presence.0 i absent (backed.above p k step.0 i le step.1 there)))
       step.2
 
-  clears_nothing : ClearsUnder front nodes nodes n
-  clears_nothing = record {
+  clears_nothing : (node_of nodes n).presence.0 ≡ [] → ClearsUnder front nodes nodes n
+  clears_nothing none = record {
     each = λ j. inl refl;
     changed = λ j. inl refl;
     inside = λ j keys e. sym (node-untouched front (node_of nodes j) (absent_below n keys j (omega arith) none e) (backed.each j));
     outside = λ j off. refl;
   }
+
+  -- where no child may be present, the node alone is cleared
+  clears_alone : n.0 < length nodes → (node_of nodes n).leads ≡ false → ClearsUnder front nodes (set nodes n.0 (cleared front (node_of nodes n))) n
+  clears_alone within none = record {
+    each = alone.each;
+    changed = alone.changed;
+    inside = inside;
+    outside = alone.outside;
+  }
+    where
+      alone : ClearsFirst front nodes (set nodes n.0 (cleared front (node_of nodes n))) n 0
+      alone = none_yet front nodes (set nodes n.0 (cleared front (node_of nodes n))) n within refl
+
+      inside : (j : NodeNumber) (keys : List Key) → walk (child_of nodes) n keys ≡ Some j
+          → node_of (set nodes n.0 (cleared front (node_of nodes n))) j ≡ cleared front (node_of nodes j)
+      inside j [] e = let same : n ≡ j = cc in subst (λ z. node_of (set nodes n.0 (cleared front (node_of nodes n))) z ≡ cleared front (node_of nodes z)) same alone.here
+      inside j (k ∷ keys) e =
+          let step = parts_of (child_of nodes) (λ m. walk (child_of nodes) m keys) (child_of nodes n k) j e in
+          let child = none_stands (node_of nodes step.0).presence.0 (λ i there. true≢false (sym (backed.leads n k step.0 i (omega arith) step.1 there) ∙ none)) in
+          let absent = absent_below step.0 keys j (omega (arith, tree.rising n k step.0 step.1)) child step.2 in
+          ⊎_elim (λ still. still ∙ sym (node-untouched front (node_of nodes j) absent (backed.each j))) (λ done. done) (alone.each j)
+
+some_entry : (entries : List (Id × Role)) (i : Id) → HasEntry entries i → is_some_entry entries ≡ true
+some_entry [] i there = there
+some_entry (e ∷ entries) i there = refl
 
 no_entries : (entries : List (Id × Role)) → is_some_entry entries ≡ false → entries ≡ []
 no_entries [] none = refl
@@ -157,6 +192,13 @@ pub clears-absent : (front : List (List ℕ × ℕ)) (nodes : List Node) (n : No
 clears-absent front nodes n tree backed absent =
     clears_nothing front (plain nodes) n (tree-plain nodes tree) (backed-plain nodes n.0 backed)
     (ap (λ z. z.presence.0) (node_of-plain nodes n) ∙ no_entries (node_of nodes n).presence.0 absent)
+
+pub clears-childless : (front : List (List ℕ × ℕ)) (nodes : List Node) (n : NodeNumber) → n.0 < length nodes → AreTree nodes → AreBackedFrom nodes n.0 → (node_of nodes n).leads ≡ false
+    → ClearsUnder front (plain nodes) (plain (set nodes n.0 (cleared front (node_of nodes n)))) n
+clears-childless front nodes n within tree backed none =
+    subst (λ l. ClearsUnder front (plain nodes) l n) (sym (write-plain nodes n (cleared front) (λ z. refl)))
+    (clears_alone front (plain nodes) n (tree-plain nodes tree) (backed-plain nodes n.0 backed) (subst (λ z. n.0 < z) (sym (length-plain nodes)) within)
+    (ap (λ z. z.leads) (node_of-plain nodes n) ∙ none))
 
 -- a node is cleared, and not yet those below it: those below are backed still
 pub backed-first : (front : List (List ℕ × ℕ)) (nodes : List Node) (at : NodeNumber) → at.0 < length nodes → AreTree nodes → AreBackedFrom nodes at.0
@@ -171,6 +213,11 @@ backed-first front nodes at within tree backed = record {
       subst (λ z. IsPresentBy z i) (sym (other-set nodes at n node (λ e. absurd (omega (arith, e, le)))))
       (backed.above n k c i (omega (arith, le)) before
       (subst (λ z. IsPresentBy z i) (other-set nodes at c node (λ e. absurd (omega (arith, e, le, tree.rising n k c before)))) there));
+  leads = λ n k c i le down there.
+      let before : child_of nodes n k ≡ Some c = ap (λ f. f n k) (sym (shape-set nodes at node within refl)) ∙ down in
+      ap (λ z. z.leads) (other-set nodes at n node (λ e. absurd (omega (arith, e, le))))
+      ∙ backed.leads n k c i (omega (arith, le)) before
+      (subst (λ z. IsPresentBy z i) (other-set nodes at c node (λ e. absurd (omega (arith, e, le, tree.rising n k c before)))) there);
 }
   where
     node : Node
@@ -188,6 +235,9 @@ module _ (front : List (List ℕ × ℕ)) (old new : List Node) (n : NodeNumber)
         (λ done. subst IsBacked (sym done) (node-cleared front (node_of old j) (backed.each j)))
         (clears.each j);
     above = above;
+    leads = λ p k c i le down there.
+        ⊎_elim (λ still. ap (λ z. z.leads) still) (λ done. ap (λ z. z.leads) done) (clears.each p)
+        ∙ backed.leads p k c i le (ap (λ f. f p k) (sym (same_children front old new clears.each)) ∙ down) (before c i there);
   }
     where
       before : (c : NodeNumber) (i : Id) → IsPresentBy (node_of new c) i → IsPresentBy (node_of old c) i
@@ -241,6 +291,28 @@ module _ (id : Id) (role : Role) (old new : List Node) (keys : List Key) (tree :
       let here = marks.along last.1 (last.2 ∷ rest) last.0 (split ∙ ap (λ l. l ++ rest) last.3 ∙ append_assoc last.1 (last.2 ∷ []) rest) last.4 in
       subst (λ z. IsPresentBy (node_of new z) id) one.0 (subst (λ z. IsPresentBy z id) (sym here) (stands-own (node_of old last.0).presence.0 id Through))
 
+  -- a node that leads on, and is present, leads on after it
+  still_leads : (j : NodeNumber) (i : Id) → IsPresentBy (node_of old j) i → (node_of old j).leads ≡ true → (node_of new j).leads ≡ true
+  still_leads j i there leads = ⊎_elim
+      (λ still. ap (λ z. z.leads) still ∙ leads)
+      (λ way. ap (λ z. z.leads) (marks.along way.0 way.1 j way.2 way.3) ∙ kept (role_before way.1 role))
+      (marks.changed j)
+    where
+      kept : (r : Role) → leads_after r (node_of old j) ≡ true
+      kept r =
+          ap (λ b. passes r || (b && is_some_entry (node_of old j).presence.0)) leads
+          ∙ ap (λ b. passes r || b) (some_entry (node_of old j).presence.0 i there)
+          ∙ or-true (passes r)
+
+  leads_above : (p : NodeNumber) (k : Key) (c : NodeNumber) → child_of old p k ≡ Some c → (front rest : List Key) → keys ≡ front ++ rest
+      → walk (child_of old) root front ≡ Some c → (node_of new p).leads ≡ true
+  leads_above p k c down [] rest split way = let same : root ≡ c = cc in absurd (omega (arith, tree.rising p k c down, ap (λ z. z.0) same))
+  leads_above p k c down (q ∷ front) rest split way =
+      let last = last_of (child_of old) root q front c way in
+      let one = tree.unique last.0 p last.2 k c last.5 down in
+      let here = marks.along last.1 (last.2 ∷ rest) last.0 (split ∙ ap (λ l. l ++ rest) last.3 ∙ append_assoc last.1 (last.2 ∷ []) rest) last.4 in
+      subst (λ z. (node_of new z).leads ≡ true) one.0 (ap (λ z. z.leads) here)
+
   backed_along : AreBacked old → AreBacked new
   backed_along backed = record {
     each = λ j. record {
@@ -254,6 +326,17 @@ module _ (id : Id) (role : Role) (old new : List Node) (keys : List Key) (tree :
         (λ way. ⊎_elim
         (λ own. subst (IsPresentBy (node_of new p)) own (present_above p k c was way.0 way.1 way.2 way.3))
         (λ before. still_present p i (backed.above p k c i le was before))
+        (stands-in_put (node_of old c).presence.0 id (role_before way.1 role) i (subst (λ z. IsPresentBy z i) (marks.along way.0 way.1 c way.2 way.3) there)))
+        (marks.changed c);
+    leads = λ p k c i le down there.
+        let was : child_of old p k ≡ Some c = ap (λ f. f p k) (sym marks.shape) ∙ down in
+        let stays : IsPresentBy (node_of old c) i → (node_of new p).leads ≡ true =
+        λ before. still_leads p i (backed.above p k c i le was before) (backed.leads p k c i le was before) in
+        ⊎_elim
+        (λ still. stays (subst (λ z. IsPresentBy z i) still there))
+        (λ way. ⊎_elim
+        (λ own. leads_above p k c was way.0 way.1 way.2 way.3)
+        stays
         (stands-in_put (node_of old c).presence.0 id (role_before way.1 role) i (subst (λ z. IsPresentBy z i) (marks.along way.0 way.1 c way.2 way.3) there)))
         (marks.changed c);
   }
@@ -273,8 +356,8 @@ module _ (id : Id) (role : Role) (old new : List Node) (keys : List Key) (tree :
 
 -- a node is written elsewhere than in its presence and its children
 pub backed-set : (nodes : List Node) (at : NodeNumber) (node : Node) → at.0 < length nodes → node.children ≡ (node_of nodes at).children
-    → node.presence ≡ (node_of nodes at).presence → IsBacked node → AreBacked nodes → AreBacked (set nodes at.0 node)
-backed-set nodes at node within children presence here backed = record {
+    → node.presence ≡ (node_of nodes at).presence → node.leads ≡ (node_of nodes at).leads → IsBacked node → AreBacked nodes → AreBacked (set nodes at.0 node)
+backed-set nodes at node within children presence leads here backed = record {
   each = λ n. ⊎_elim
       (λ e. subst (λ z. IsBacked (node_of (set nodes at.0 node) z)) (sym (eq_number n at e)) (subst IsBacked (sym (here-set nodes at node within)) here))
       (λ apart. subst IsBacked (sym (other-set nodes at n node apart)) (backed.each n))
@@ -283,6 +366,10 @@ backed-set nodes at node within children presence here backed = record {
       subst (λ z. HasEntry z.0 i) (sym (unwritten nodes at within (λ z. z.presence) node presence n))
       (backed.above n k c i le (ap (λ f. f n k) (sym (shape-set nodes at node within children)) ∙ down)
       (subst (λ z. HasEntry z.0 i) (unwritten nodes at within (λ z. z.presence) node presence c) there));
+  leads = λ n k c i le down there.
+      unwritten nodes at within (λ z. z.leads) node leads n
+      ∙ backed.leads n k c i le (ap (λ f. f n k) (sym (shape-set nodes at node within children)) ∙ down)
+      (subst (λ z. HasEntry z.0 i) (unwritten nodes at within (λ z. z.presence) node presence c) there);
 }
 
 -- the nodes grow
@@ -298,6 +385,12 @@ backed-grown old new grows backed = record {
       (λ less. subst (λ l. HasEntry l i) (sym (grows.presence n)) (backed.above n k c i le (grows.back n k c down less) was))
       (λ past. absurd (no_entry (node_of old c).presence.0 i (ap (λ z. z.presence.0) (get_or_past old c.0 blank_node past)) was))
       (cases_lt c.0 (length old));
+  leads = λ n k c i le down there.
+      let was = subst (λ l. HasEntry l i) (grows.presence c) there in
+      ⊎_elim
+      (λ less. grows.leads n ∙ backed.leads n k c i le (grows.back n k c down less) was)
+      (λ past. absurd (no_entry (node_of old c).presence.0 i (ap (λ z. z.presence.0) (get_or_past old c.0 blank_node past)) was))
+      (cases_lt c.0 (length old));
 }
 
 -- nothing stands anywhere
@@ -309,4 +402,5 @@ backed-empty nodes presence register counter = record {
     counter = λ i there. absurd (no_entry (node_of nodes n).counter.0 i (counter n) there);
   };
   above = λ n k c i le down there. absurd (no_entry (node_of nodes c).presence.0 i (presence c) there);
+  leads = λ n k c i le down there. absurd (no_entry (node_of nodes c).presence.0 i (presence c) there);
 }

@@ -19,11 +19,13 @@ pub record IsBacked (node : Node) : Type 0 where
   pub register : (i : Id) → HasEntry node.register.0 i → IsPresentBy node i
   pub counter : (i : Id) → HasEntry node.counter.0 i → IsPresentBy node i
 
--- and each that makes a child present makes its parent present, where the parent's number is m or greater
+-- and each that makes a child present makes its parent present, which then leads on, where the parent's number is m or greater
 pub record AreBackedFrom (nodes : List Node) (m : ℕ) : Type 0 where
   pub each : (n : NodeNumber) → IsBacked (node_of nodes n)
   pub above : (n : NodeNumber) (k : Key) (c : NodeNumber) (i : Id) → m ≤ n.0 → child_of nodes n k ≡ Some c
       → IsPresentBy (node_of nodes c) i → IsPresentBy (node_of nodes n) i
+  pub leads : (n : NodeNumber) (k : Key) (c : NodeNumber) (i : Id) → m ≤ n.0 → child_of nodes n k ≡ Some c
+      → IsPresentBy (node_of nodes c) i → (node_of nodes n).leads ≡ true
 
 -- so it is with all nodes
 abbrev pub AreBacked : List Node → Type 0

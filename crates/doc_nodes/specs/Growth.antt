@@ -1,5 +1,5 @@
 -- Growth of the nodes that changes nothing of what they say.
-use Rattle.std.specs.Prelude.{◌≡◌, ◌<◌, ◌≤◌, List, [], length, insert, Some, IsSome, true}
+use Rattle.std.specs.Prelude.{◌≡◌, ◌<◌, ◌≤◌, List, [], length, insert, Some, IsSome, true, false}
 use Rattle.op_core.specs.declared.cursor.Key.{Key}
 use Rattle.doc_nodes.specs.declared.node.NodeNumber.{NodeNumber}
 use Rattle.doc_nodes.specs.declared.node.Node.{Node}
@@ -15,6 +15,7 @@ pub record Grows (old new : List Node) : Type 0 where
   pub register : (n : NodeNumber) → (node_of new n).register.0 ≡ (node_of old n).register.0
   pub counter : (n : NodeNumber) → (node_of new n).counter.0 ≡ (node_of old n).counter.0
   pub order : (n : NodeNumber) → (node_of new n).order.0 ≡ (node_of old n).order.0
+  pub leads : (n : NodeNumber) → (node_of new n).leads ≡ (node_of old n).leads
   pub presence_room : (n : NodeNumber) → (node_of old n).presence.1 ≡ true → (node_of new n).presence.1 ≡ true
   pub register_room : (n : NodeNumber) → (node_of old n).register.1 ≤ (node_of new n).register.1
   pub counter_room : (n : NodeNumber) → (node_of old n).counter.1 ≤ (node_of new n).counter.1
@@ -38,3 +39,4 @@ pub record IsFresh (node : Node) : Type 0 where
   pub counter : node.counter.0 ≡ []
   pub order : node.order.0 ≡ []
   pub children : node.children ≡ []
+  pub leads : node.leads ≡ false

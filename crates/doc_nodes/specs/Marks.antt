@@ -1,5 +1,5 @@
 -- The marks of an operation on the nodes that it passes, and where it ends.
-use Rattle.std.specs.Prelude.{◌≡◌, ◌≢◌, ◌⊎◌, ◌<◌, List, [], ◌∷◌, ◌++◌, length, Some, ◌&&◌, ◌||◌, IsSome, true, false}
+use Rattle.std.specs.Prelude.{◌≡◌, ◌≢◌, ◌⊎◌, ◌<◌, List, [], ◌∷◌, ◌++◌, length, Some, ◌&&◌, ◌||◌, IsSome, Bool, true, false}
 use Rattle.doc_words.specs.Words.{Id, Key, Tagged}
 use Rattle.op_core.specs.Shape.{key_of}
 use Rattle.crdt_rules.specs.Same.{id_eq}
@@ -12,10 +12,20 @@ use Rattle.doc_nodes.specs.declared.node.NodeNumber.{NodeNumber}
 use Rattle.doc_nodes.specs.declared.node.Node.{Node}
 use Rattle.doc_nodes.specs.Walk.{walk}
 use Rattle.doc_nodes.specs.Nodes.{node_of, child_of, AreTree}
+use Rattle.doc_nodes.specs.Flags.{is_some_entry}
+
+-- an operation in this role goes on to a child
+abbrev pub passes : Role → Bool
+passes Through = true
+passes _ = false
+
+-- whether a child may be present after an operation in a role: one may that was, as long as the node is present
+abbrev pub leads_after : Role → Node → Bool
+leads_after role node = passes role || (node.leads && is_some_entry node.presence.0)
 
 -- a node that an operation makes present, in a role; it takes the room that was made for it
 abbrev pub marked : Id → Role → Node → Node
-marked id role node = record node { presence = (put_at_id node.presence.0 id role, false) }
+marked id role node = record node { presence = (put_at_id node.presence.0 id role, false); leads = leads_after role node }
 
 -- the role in a node from which keys still lead on
 abbrev pub role_before : List Key → Role → Role

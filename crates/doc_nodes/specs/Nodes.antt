@@ -13,7 +13,7 @@ use Rattle.doc_nodes.specs.Walk.{trail, list_trail, walk, root, IsTree}
 
 -- a node in which nothing stands
 abbrev pub blank_node : Node
-blank_node = record { presence = ([], false); register = ([], 0); counter = ([], 0); order = ([], 0); children = [] }
+blank_node = record { presence = ([], false); register = ([], 0); counter = ([], 0); order = ([], 0); children = []; leads = false }
 
 abbrev pub node_of : List Node → NodeNumber → Node
 node_of nodes n = slice_index_or nodes n.0 blank_node

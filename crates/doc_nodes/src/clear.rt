@@ -11,14 +11,14 @@ ghost use Rattle.doc_nodes.specs.Backing.{AreBacked, AreBackedFrom};
 ghost use Rattle.doc_nodes.specs.Flags.{plain, AreFlagged, IsFlagged, IsFlaggedBut};
 
 use crate::finding::root_number;
-use crate::flag::{stands, tell};
+use crate::flag::{leads, stands, tell};
 use crate::mark::known_child;
 use crate::node::{Node, NodeNumber, element_in};
 use lamport_id::Id;
 use op_core::{Front, Key, Tagged};
 
 /// Clears a node and those below it. What its own list tells of it is left to the caller. Where nothing makes a node
-/// present, nothing stands in it or below it, and it goes no further.
+/// present, nothing stands in it or below it, and it goes no further; nor does it where no child is present.
 pub fn clear_under(nodes: &mut [Node], at: NodeNumber, front: &Front)
     requires tree { AreTree nodes.old }
     requires known { at.0 < length nodes.old }
@@ -31,6 +31,9 @@ pub fn clear_under(nodes: &mut [Node], at: NodeNumber, front: &Front)
     }
     let node = &mut nodes[at.0];
     node.clear(front);
+    if !leads(nodes, at) {
+        return;
+    }
     let count = nodes[at.0].children.len();
     for i in 0..count {
         let (child, element) = child_at(nodes, at, i);

@@ -27,6 +27,14 @@ pub fn stands(nodes: &[Node], at: NodeNumber) -> bool
     !nodes[at.0].presence.is_empty()
 }
 
+/// Whether a child of a node may be present.
+pub fn leads(nodes: &[Node], at: NodeNumber) -> bool
+    requires { at.0 < length nodes.now }
+    ensures { result ≡ (node_of nodes.now at).leads }
+{
+    nodes[at.0].leads
+}
+
 /// Says in the list of a node whether an element is present.
 fn flag(nodes: &mut [Node], at: NodeNumber, id: &Id, is_present: bool)
     requires { at.0 < length nodes.old }

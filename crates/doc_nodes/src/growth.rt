@@ -143,14 +143,38 @@ pub fn grown_child(nodes: &mut Vec<Node>, at: NodeNumber, key: &Key) -> Result<N
     ensures child { IfOk result (λ c. child_of nodes.new.items at key.now ≡ Some c) }
     ensures memory { IfErr result (λ cause. cause ≡ NoMemory) }
 {
-    if let Some(child) = nodes[at.0].children.find(key) {
-        return Ok(child);
+    match seek_child(nodes, at, key) {
+        Some(child) => Ok(child),
+        None => new_child(nodes, at, key),
     }
+}
+
+/// A new child of a node, at a key that has none.
+fn new_child(nodes: &mut Vec<Node>, at: NodeNumber, key: &Key) -> Result<NodeNumber, Refusal>
+    requires tree { AreTree nodes.old.items }
+    requires known { at.0 < length nodes.old.items }
+    requires missing { child_of nodes.old.items at key.now ≡ None }
+    ensures tree { AreTree nodes.new.items }
+    ensures grows { Grows nodes.old.items nodes.new.items }
+    ensures few { length nodes.new.items ≤ length nodes.old.items + 1 }
+    ensures child { IfOk result (λ c. child_of nodes.new.items at key.now ≡ Some c) }
+    ensures memory { IfErr result (λ cause. cause ≡ NoMemory) }
+{
     let key = key_copy(key)?;
     let fresh = Node::new(*nodes.allocator());
     let number = NodeNumber(nodes.len());
     add_child(nodes, at, key, fresh)?;
     Ok(number)
+}
+
+/// The child of a node at a key, if there is one. Who asks for it again finds it at once.
+fn seek_child(nodes: &mut Vec<Node>, at: NodeNumber, key: &Key) -> Option<NodeNumber>
+    requires known { at.0 < length nodes.old.items }
+    ensures same { nodes.new.items ≡ nodes.old.items }
+    ensures value { result ≡ child_of nodes.old.items at key.now }
+{
+    let children = &mut nodes[at.0].children;
+    children.seek(key)
 }
 
 /// A copy of a key.

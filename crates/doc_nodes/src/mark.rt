@@ -5,6 +5,7 @@ ghost use Rattle.doc_nodes.specs.declared.node.NodeNumber.{NodeNumber};
 ghost use Rattle.doc_nodes.specs.Walk.{walk, root};
 ghost use Rattle.doc_nodes.specs.Nodes.{AreTree, node_of, child_of};
 ghost use Rattle.doc_nodes.specs.Marks.{marked, keys_below, keys_to, HasRoomAlong, IsReady, MarksAlong};
+ghost use Rattle.doc_nodes.specs.Marks as Marks;
 ghost use Rattle.doc_nodes.specs.Flags.{plain, AreFlagged, AreFlaggedBut, IsFlaggedBut};
 
 use crate::finding::root_number;
@@ -66,7 +67,21 @@ pub fn mark(nodes: &mut [Node], at: NodeNumber, id: &Id, role: Role)
     ensures { nodes.new ≡ slice_set nodes.old at.0 (marked id.now role (node_of nodes.old at)) }
 {
     let node = &mut nodes[at.0];
+    node.leads = leads_after(node, role);
     node.presence.put(*id, role);
+}
+
+/// Whether a child of a node may be present after an operation in a role. What was so before is so still if the node is
+/// present: where it is not, no child is.
+fn leads_after(node: &Node, role: Role) -> bool
+    ensures { result ≡ Marks.leads_after role node.now }
+{
+    match role {
+        Role::Through => true,
+        Role::Map | Role::List | Role::Scalar | Role::Counter => {
+            node.leads && !node.presence.is_empty()
+        }
+    }
 }
 
 /// The child of a node at a key that has one.

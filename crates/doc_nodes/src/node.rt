@@ -42,6 +42,8 @@ pub struct Node {
     pub order: ListOrder,
     /// The nodes at the keys of its map and at the elements of its list.
     pub children: Children,
+    /// Whether a child may be present. Where it is false, none is.
+    pub leads: bool,
 }
 
 impl Drop for Node {
@@ -52,12 +54,13 @@ impl Drop for Node {
             counter: _,
             order: _,
             children: _,
+            leads: _,
         } = self;
     }
 }
 
 impl Node {
-    ghost use Rattle.std.specs.Prelude.{◌≡◌, []};
+    ghost use Rattle.std.specs.Prelude.{◌≡◌, [], false};
     ghost use Rattle.doc_nodes.specs.Nodes.{cleared};
 
     /// A node in which nothing stands. It takes no memory yet.
@@ -67,6 +70,7 @@ impl Node {
         ensures counter { result.counter.0 ≡ [] }
         ensures order { result.order.0 ≡ [] }
         ensures children { result.children ≡ [] }
+        ensures leads { result.leads ≡ false }
     {
         Node {
             presence: Presence::new(alloc),
@@ -74,6 +78,7 @@ impl Node {
             counter: Counter::new(alloc),
             order: ListOrder::new(alloc),
             children: Children::new(alloc),
+            leads: false,
         }
     }
 

@@ -8,7 +8,8 @@ use Rattle.doc_nodes.specs.Backing.{AreBackedFrom}
 use Rattle.doc_nodes.specs.Flags.{plain, told, IsFlagged, IsFlaggedBut}
 use Rattle.doc_nodes.proofs.Clearing.{none_yet, one_more, all_done, same_children}
 use Rattle.doc_nodes.proofs.Plain.{node_of-plain, length-plain, shape_of-plain, write-plain, told-plain, tree_same}
-use Rattle.doc_nodes.proofs.Backing.{backed_from, backed-same, backed-first, backed-cleared, clears-absent}
+use Rattle.doc_nodes.proofs.Backing.{backed_from, backed-same, backed-first, backed-cleared, clears-absent, clears-childless}
+use Rattle.doc_nodes.proofs.Marking.{here-set}
 use Rattle.doc_nodes.proofs.Flagging.{flag-set, told-but, told-shape}
 use Rattle.doc_nodes.proofs.clear.+clear_under.Goals as goal
 
@@ -122,3 +123,24 @@ returns-then-not-stands-clause-clears t c =
     let nodes = c.args.nodes.now in
     let absent : c.stands.result ≡ false = search rules in
     clears-absent c.args.front.now nodes c.args.at c.requires.tree c.requires.backed (sym c.stands.ensures ∙ absent)
+
+pub returns-then-not-leads-clause-clears : goal.returns-then-not-leads-clause-clears
+returns-then-not-leads-clause-clears t c =
+    let front = c.args.front.now in
+    let nodes = c.args.nodes.now in
+    let at = c.args.at in
+    let is : c.clear.new.self ≡ cleared front (node_of nodes at) =
+    c.clear.ensures ∙ ap (cleared front) (get_or_default nodes at.0 c.index-nodes-at.result blank_node c.requires.known) in
+    let none : (node_of nodes at).leads ≡ false =
+    ap (λ (z : Node). z.leads) (sym is) ∙ ap (λ (z : Node). z.leads) (sym (here-set nodes at c.clear.new.self c.requires.known)) ∙ sym c.leads.ensures ∙ c.if-not-leads.true in
+    subst (λ z. ClearsUnder front (plain nodes) (plain (set nodes at.0 z)) at) (sym is)
+    (clears-childless front nodes at c.requires.known c.requires.tree c.requires.backed none)
+
+pub returns-then-not-leads-clause-flags : goal.returns-then-not-leads-clause-flags
+returns-then-not-leads-clause-flags t c = λ n i right.
+    let nodes = c.args.nodes.now in
+    let at = c.args.at in
+    let is : c.clear.new.self ≡ cleared c.args.front.now (node_of nodes at) =
+    c.clear.ensures ∙ ap (cleared c.args.front.now) (get_or_default nodes at.0 c.index-nodes-at.result blank_node c.requires.known) in
+    subst (λ z. IsFlaggedBut (set nodes at.0 z) at n i) (sym is)
+    (flag-set nodes at c.requires.known (cleared c.args.front.now (node_of nodes at)) refl refl n i right)

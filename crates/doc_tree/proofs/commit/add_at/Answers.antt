@@ -68,7 +68,7 @@ returns-clause-backed c =
     subst AreBacked (sym c.count.ensures)
     (backed-set new m (with_number id n (node_of new m))
     (within-marked id Counter old new c.requires.tree c.args.path.now c.args.key.now m c.known_node-end.ensures c.mark_way.ensures.marks c.mark_way.auto.nodes)
-    refl refl
+    refl refl refl
     (node-counted id n (node_of new m)
     (present-marked id Counter old new keys c.requires.tree c.mark_way.ensures.marks m (known_way old c.args.path.now c.args.key.now m c.known_node-end.ensures).1)
     (backed.each m))

@@ -5,38 +5,35 @@ use Rattle.doc_nodes.specs.Children.{number_at}
 use Rattle.doc_nodes.specs.Nodes.{blank_node, node_of, child_of, AreTree}
 use Rattle.doc_nodes.specs.Growth.{Grows, IsFresh}
 use Rattle.doc_nodes.proofs.Adding.{tree_added, grows_added, child_new}
-use Rattle.doc_nodes.proofs.growth.grown_child.Goals as goal
+use Rattle.doc_nodes.proofs.growth.new_child.Goals as goal
 
 pub returns-clause-tree : goal.returns-clause-tree
 returns-clause-tree c =
     let items = c.args.nodes.now.items in
-    let node : c.index.result.now ≡ node_of items c.args.at = c.index.ensures ∙ get_or_default items c.args.at.0 c.index.result.now blank_node c.requires.known in
     let none : child_of items c.args.at c.in_ok-key.key ≡ None =
-    ap (child_of items c.args.at) c.in_ok-key.ensures.ok ∙ ap (λ z. number_at z.children c.args.key.now) (sym node) ∙ sym c.find.ensures ∙ c.in_default.is in
+    ap (child_of items c.args.at) c.in_ok-key.ensures.ok ∙ c.requires.missing in
     let fresh : IsFresh c.new-fresh.result =
-    record { presence = c.new-fresh.ensures.presence; register = c.new-fresh.ensures.register; counter = c.new-fresh.ensures.counter; order = c.new-fresh.ensures.order; children = c.new-fresh.ensures.children } in
+    record { presence = c.new-fresh.ensures.presence; register = c.new-fresh.ensures.register; counter = c.new-fresh.ensures.counter; order = c.new-fresh.ensures.order; children = c.new-fresh.ensures.children; leads = c.new-fresh.ensures.leads } in
     subst AreTree (sym c.in_ok-add_child.ensures.ok)
     (tree_added items c.requires.tree c.args.at c.requires.known c.in_ok-key.key none (record { 0 = length items }) refl c.new-fresh.result fresh)
 
 pub returns-clause-grows : goal.returns-clause-grows
 returns-clause-grows c =
     let items = c.args.nodes.now.items in
-    let node : c.index.result.now ≡ node_of items c.args.at = c.index.ensures ∙ get_or_default items c.args.at.0 c.index.result.now blank_node c.requires.known in
     let none : child_of items c.args.at c.in_ok-key.key ≡ None =
-    ap (child_of items c.args.at) c.in_ok-key.ensures.ok ∙ ap (λ z. number_at z.children c.args.key.now) (sym node) ∙ sym c.find.ensures ∙ c.in_default.is in
+    ap (child_of items c.args.at) c.in_ok-key.ensures.ok ∙ c.requires.missing in
     let fresh : IsFresh c.new-fresh.result =
-    record { presence = c.new-fresh.ensures.presence; register = c.new-fresh.ensures.register; counter = c.new-fresh.ensures.counter; order = c.new-fresh.ensures.order; children = c.new-fresh.ensures.children } in
+    record { presence = c.new-fresh.ensures.presence; register = c.new-fresh.ensures.register; counter = c.new-fresh.ensures.counter; order = c.new-fresh.ensures.order; children = c.new-fresh.ensures.children; leads = c.new-fresh.ensures.leads } in
     subst (Grows items) (sym c.in_ok-add_child.ensures.ok)
     (grows_added items c.requires.tree c.args.at c.requires.known c.in_ok-key.key none (record { 0 = length items }) refl c.new-fresh.result fresh)
 
 pub returns-clause-child : goal.returns-clause-child
 returns-clause-child c =
     let items = c.args.nodes.now.items in
-    let node : c.index.result.now ≡ node_of items c.args.at = c.index.ensures ∙ get_or_default items c.args.at.0 c.index.result.now blank_node c.requires.known in
     let none : child_of items c.args.at c.in_ok-key.key ≡ None =
-    ap (child_of items c.args.at) c.in_ok-key.ensures.ok ∙ ap (λ z. number_at z.children c.args.key.now) (sym node) ∙ sym c.find.ensures ∙ c.in_default.is in
+    ap (child_of items c.args.at) c.in_ok-key.ensures.ok ∙ c.requires.missing in
     let fresh : IsFresh c.new-fresh.result =
-    record { presence = c.new-fresh.ensures.presence; register = c.new-fresh.ensures.register; counter = c.new-fresh.ensures.counter; order = c.new-fresh.ensures.order; children = c.new-fresh.ensures.children } in
+    record { presence = c.new-fresh.ensures.presence; register = c.new-fresh.ensures.register; counter = c.new-fresh.ensures.counter; order = c.new-fresh.ensures.order; children = c.new-fresh.ensures.children; leads = c.new-fresh.ensures.leads } in
     let number : ◌≡◌ {A = NodeNumber} (record { 0 = length items }) (record { 0 = c.len.result }) = λ i. record { 0 = (sym c.args.nodes.now.ok.0 ∙ sym c.len.ensures) i } in
     ap (child_of c.add_child.new.nodes.items c.args.at) (sym c.in_ok-key.ensures.ok)
     ∙ ap (λ l. child_of l c.args.at c.in_ok-key.key) c.in_ok-add_child.ensures.ok

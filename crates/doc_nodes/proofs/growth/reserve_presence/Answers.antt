@@ -1,0 +1,20 @@
+use Rattle.std.proofs.Common.{ap, ◌∙◌}
+use Rattle.std.proofs.lemmas.List.{get_or_default}
+use Rattle.doc_nodes.specs.declared.node.Node.{Node}
+use Rattle.doc_nodes.specs.Nodes.{blank_node}
+use Rattle.doc_nodes.proofs.Marking.{tree-set}
+use Rattle.doc_nodes.proofs.growth.reserve_presence.Goals as goal
+
+pub returns-in_err-reserve_one-clause-tree : goal.returns-in_err-reserve_one-clause-tree
+returns-in_err-reserve_one-clause-tree c =
+    let items = c.args.nodes.now.items in
+    let node = c.index_mut-node.result.now in
+    tree-set items c.args.at (record node { presence = c.reserve_one.new.self }) c.requires.known
+    (ap (λ (z : Node). z.children) (c.index_mut-node.ensures.value ∙ get_or_default items c.args.at.0 node blank_node c.requires.known)) c.requires.tree
+
+pub returns-clause-tree : goal.returns-clause-tree
+returns-clause-tree c =
+    let items = c.args.nodes.now.items in
+    let node = c.index_mut-node.result.now in
+    tree-set items c.args.at (record node { presence = c.reserve_one.new.self }) c.requires.known
+    (ap (λ (z : Node). z.children) (c.index_mut-node.ensures.value ∙ get_or_default items c.args.at.0 node blank_node c.requires.known)) c.requires.tree
