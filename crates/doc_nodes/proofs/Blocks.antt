@@ -399,11 +399,6 @@ module _ {T E : Type 0} {P Q X : Type 0} where
   either_way (Ok x) f g ok err = f ok
   either_way (Err e) f g ok err = g err
 
-module _ {T E : Type 0} {P X : Type 0} where
-  pub where_ok : (r : Result T E) → (P → X) → OnOk r P → OnOk r X
-  where_ok (Ok x) f ok = f ok
-  where_ok (Err e) f ok = tt
-
 pub where_some : {X : Type 0} {P Q : X → Type 0} (r : Option X) → ((x : X) → P x → Q x) → IfSome r P → IfSome r Q
 where_some None f some = tt
 where_some (Some x) f some = f x some

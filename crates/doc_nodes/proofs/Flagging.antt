@@ -9,7 +9,7 @@ use Rattle.crdt_rules.proofs.SameLaws.{id_decides, eq_from}
 use Rattle.list_order.proofs.Entries.{entry-with, entry-insert}
 use Rattle.doc_nodes.specs.declared.node.NodeNumber.{NodeNumber}
 use Rattle.doc_nodes.specs.declared.node.Node.{Node}
-use Rattle.doc_nodes.specs.Children.{element_of}
+use Rattle.crdt_rules.specs.Context.{reference}
 use Rattle.doc_nodes.specs.Walk.{root}
 use Rattle.doc_nodes.specs.Nodes.{blank_node, node_of, child_of, AreTree}
 use Rattle.doc_nodes.specs.Writes.{with_entry}
@@ -114,17 +114,17 @@ module _ (nodes : List Node) (at : NodeNumber) (within : at.0 < length nodes) (c
 
   -- then what was told of all but the child is right for all
   pub told-but : AreTree nodes → (k : Key) → child_of nodes at k ≡ Some child → (n : NodeNumber) (i : Id) → IsFlaggedBut nodes child n i
-      → IsFlagged (told nodes at (element_of k) child) n i
+      → IsFlagged (told nodes at (reference k) child) n i
   told-but tree k found n i (inl there) = let one = tree.unique n at (Element i) k child there found in at_key k found one.0 one.1
     where
-      at_key : (k : Key) → child_of nodes at k ≡ Some child → n ≡ at → Element i ≡ k → IsFlagged (told nodes at (element_of k) child) n i
+      at_key : (k : Key) → child_of nodes at k ≡ Some child → n ≡ at → Element i ≡ k → IsFlagged (told nodes at (reference k) child) n i
       at_key (Element id) found here same = flag-told id found n i (inr (here, cc))
       at_key Doc found here same = absurd (cc)
       at_key Head found here same = absurd (cc)
       at_key (Text t) found here same = absurd (cc)
   told-but tree k found n i (inr right) = at_key k found
     where
-      at_key : (k : Key) → child_of nodes at k ≡ Some child → IsFlagged (told nodes at (element_of k) child) n i
+      at_key : (k : Key) → child_of nodes at k ≡ Some child → IsFlagged (told nodes at (reference k) child) n i
       at_key (Element id) found = flag-told id found n i (inl right)
       at_key Doc found = right
       at_key Head found = right
@@ -140,10 +140,10 @@ module _ (nodes mid last : List Node) (at m child : NodeNumber) (k : Key)
     (first : (n : NodeNumber) (i : Id) → IsFlagged nodes n i → IsFlaggedBut mid at n i) (shape : child_of mid ≡ child_of nodes)
     (below : (n : NodeNumber) (i : Id) → IsFlaggedBut mid m n i → IsFlaggedBut last child n i) (same : child_of last ≡ child_of mid)
     (tree : AreTree last) (within : at.0 < length last) (found : child_of last at k ≡ Some child) where
-  pub marked-but : (n : NodeNumber) (i : Id) → IsFlaggedBut nodes m n i → IsFlaggedBut (told last at (element_of k) child) at n i
+  pub marked-but : (n : NodeNumber) (i : Id) → IsFlaggedBut nodes m n i → IsFlaggedBut (told last at (reference k) child) at n i
   marked-but n i (inl there) = inr (told-but last at within child tree k found n i (below n i (inl (ap (λ f. f n (Element i)) shape ∙ there))))
   marked-but n i (inr right) = ⊎_elim
-      (λ there. inl (ap (λ f. f n (Element i)) (told-shape last at within child (element_of k) ∙ same) ∙ there))
+      (λ there. inl (ap (λ f. f n (Element i)) (told-shape last at within child (reference k) ∙ same) ∙ there))
       (λ kept. inr (told-but last at within child tree k found n i (below n i (inr kept))))
       (first n i right)
 

@@ -39,7 +39,3 @@ made_step nodes n c k keys room down made = record { reached = subst (λ o. IsSo
 pub on_both_ok : {T E P Q R : Type 0} (r : Result T E) → (P → Q → R) → OnOk r P → OnOk r Q → OnOk r R
 on_both_ok (Ok x) f h g = f h g
 on_both_ok (Err e) f h g = h
-
-pub always_on_ok : {T E P : Type 0} (r : Result T E) → P → OnOk r P
-always_on_ok (Ok x) p = p
-always_on_ok (Err e) p = tt

@@ -7,7 +7,7 @@ use Rattle.doc_words.specs.declared.role.Role.{Role}
 use Rattle.doc_words.specs.declared.role.Role.TheVariants.{Through}
 use Rattle.doc_nodes.specs.declared.node.NodeNumber.{NodeNumber}
 use Rattle.doc_nodes.specs.declared.node.Node.{Node}
-use Rattle.doc_nodes.specs.Children.{element_of}
+use Rattle.crdt_rules.specs.Context.{reference}
 use Rattle.doc_nodes.specs.Walk.{walk}
 use Rattle.doc_nodes.specs.Nodes.{node_of, child_of, AreTree}
 use Rattle.doc_nodes.specs.Marks.{marked, MarksAlong}
@@ -40,13 +40,13 @@ module _ (id : Id) (role : Role) (nodes new : List Node) (end : NodeNumber) (wit
 -- a step on the way
 module _ (id : Id) (role : Role) (nodes mid last new : List Node) (at c : NodeNumber) (k : Key) (keys : List Key) (tree : AreTree nodes) (within : at.0 < length nodes)
     (first : mid ≡ set nodes at.0 (marked id Through (node_of nodes at))) (down : child_of mid at k ≡ Some c)
-    (below : MarksAlong id role (plain mid) (plain last) c keys) (tells : new ≡ told last at (element_of k) c) where
+    (below : MarksAlong id role (plain mid) (plain last) c keys) (tells : new ≡ told last at (reference k) c) where
   pub marks_passed : MarksAlong id role (plain nodes) (plain new) at (k ∷ keys)
   marks_passed =
       mark_step id role (plain nodes) at (subst (λ z. at.0 < z) (sym (length-plain nodes)) within) (tree-plain nodes tree) k keys c (plain new)
       (ap (λ f. f at k) (child_of-plain nodes) ∙ child_before id nodes mid at c k within first down)
       (subst (λ l. MarksAlong id role l (plain new) c keys) (ap plain first ∙ write-plain nodes at (marked id Through) (λ z. refl))
-      (subst (λ l. MarksAlong id role (plain mid) l c keys) (sym (ap plain tells ∙ told-plain last at (element_of k) c)) below))
+      (subst (λ l. MarksAlong id role (plain mid) l c keys) (sym (ap plain tells ∙ told-plain last at (reference k) c)) below))
 
   shape : child_of mid ≡ child_of nodes
   shape = ap child_of first ∙ shape-set nodes at (marked id Through (node_of nodes at)) within refl

@@ -5,7 +5,8 @@ ghost use Rattle.std.specs.Prelude.{◌≡◌, ◌<◌, ◌≤◌, ◌+◌, ◌+
 ghost use Rattle.crdt_rules.specs.Same.{key_eq};
 ghost use Rattle.op_core.specs.declared.cursor.Key.{Key};
 ghost use Rattle.doc_nodes.specs.declared.node.NodeNumber.{NodeNumber};
-ghost use Rattle.doc_nodes.specs.Children.{element_of, number_at};
+ghost use Rattle.crdt_rules.specs.Context.{reference};
+ghost use Rattle.doc_nodes.specs.Children.{number_at};
 ghost use Rattle.doc_nodes.specs.KeyOrder.{key_cmp, IsInKeyOrder};
 ghost use Rattle.doc_nodes.specs.KeyOrder as KeyOrder;
 ghost use Rattle.doc_nodes.specs.Blocks.{joined, block_rank, AreBlocks, IsStart};
@@ -196,7 +197,7 @@ impl Children {
     /// The element of the child at a place, if its key is one.
     pub fn element(&self, at: usize) -> Option<Id>
         requires { at < length self.now }
-        ensures { (d : Key × NodeNumber) → result ≡ element_of (slice_index_or self.now at d).0 }
+        ensures { (d : Key × NodeNumber) → result ≡ reference (slice_index_or self.now at d).0 }
     {
         element_in(&entry_from(self.blocks.as_slice(), self.start, at).0)
     }

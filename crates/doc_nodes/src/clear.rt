@@ -4,7 +4,7 @@ ghost use Rattle.lamport_id.specs.declared.id.Id.{Id};
 ghost use Rattle.op_core.specs.declared.cursor.Key.{Key};
 ghost use Rattle.doc_nodes.specs.declared.node.NodeNumber.{NodeNumber};
 ghost use Rattle.doc_nodes.specs.Walk.{walk, root};
-ghost use Rattle.doc_nodes.specs.Children.{element_of};
+ghost use Rattle.crdt_rules.specs.Context.{reference};
 ghost use Rattle.doc_nodes.specs.Nodes.{AreTree, ClearsUnder, node_of, child_of};
 ghost use Rattle.doc_nodes.specs.Marks.{keys_below, keys_to};
 ghost use Rattle.doc_nodes.specs.Backing.{AreBacked, AreBackedFrom};
@@ -49,7 +49,7 @@ fn child_at(nodes: &mut [Node], at: NodeNumber, place: usize) -> (NodeNumber, Op
     ensures same { nodes.new ≡ nodes.old }
     ensures number { (d : Key × NodeNumber) → (slice_index_or (node_of nodes.old at).children place d).1 ≡ result.0 }
     ensures found { (d : Key × NodeNumber) → child_of nodes.old at (slice_index_or (node_of nodes.old at).children place d).0 ≡ Some result.0 }
-    ensures element { (d : Key × NodeNumber) → result.1 ≡ element_of (slice_index_or (node_of nodes.old at).children place d).0 }
+    ensures element { (d : Key × NodeNumber) → result.1 ≡ reference (slice_index_or (node_of nodes.old at).children place d).0 }
 {
     let children = &mut nodes[at.0].children;
     children.go_to(place);

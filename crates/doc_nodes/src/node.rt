@@ -1,6 +1,6 @@
 //! Nodes, and what stands in each.
 ghost use Rattle.std.specs.Prelude.{◌≡◌, []};
-ghost use Rattle.doc_nodes.specs.Children.{element_of};
+ghost use Rattle.crdt_rules.specs.Context.{reference};
 
 use crate::children::Children;
 use json_scalar::Scalar;
@@ -22,7 +22,7 @@ pub type Counter = ById<i64>;
 
 /// The id of an element's key.
 pub fn element_in(key: &Key) -> Option<Id>
-    ensures { result ≡ element_of key.now }
+    ensures { result ≡ reference key.now }
 {
     match key {
         Key::Element(id) => Some(*id),

@@ -1,6 +1,6 @@
 -- Laws of pairs in blocks: which block takes an id, and what a cut and a clearing leave.
-use Rattle.std.proofs.Common.{◌≡◌, ℕ, zero, suc, ◌<◌, ◌≤◌, ◌+◌, List, [], ◌∷◌, ◌++◌, append_assoc, append-nil, length, get_or, set, take, drop, map, filter, Bool, true, false, not, if◌then◌else◌, Contains, refl, sym, ap, ◌∙◌, subst, true≢false, arith, Less, Result, Ok, Err}
-use Rattle.std.specs.Prelude.{insert, OnOk, ⊤}
+use Rattle.std.proofs.Common.{◌≡◌, ℕ, zero, suc, ◌<◌, ◌≤◌, ◌+◌, List, [], ◌∷◌, ◌++◌, append_assoc, append-nil, length, get_or, set, take, drop, map, filter, Bool, true, false, not, if◌then◌else◌, Contains, refl, sym, ap, ◌∙◌, subst, true≢false, arith, Less}
+use Rattle.std.specs.Prelude.{insert}
 use Rattle.std.specs.Ordering.{is_lt}
 use Rattle.std.specs.Bool.{◌==◌}
 use Rattle.std.specs.List.Sorted.{IsPartitionedBy, IsPartitionPoint}
@@ -411,12 +411,6 @@ module _ {X : Type 0} where
   take-short zero xs = omega arith
   take-short (suc n) [] = omega arith
   take-short (suc n) (x ∷ xs) = let on = take-short n xs in omega (arith, on)
-
--- ---- what holds after a call that may be refused
-module _ {E : Type 0} {P X : Type 0} where
-  pub where_ok : (r : Result ⊤ E) → (P → X) → OnOk r P → OnOk r X
-  where_ok (Ok x) f ok = f ok
-  where_ok (Err e) f ok = tt
 
 -- where a list's length is zero nothing stands in it
 module _ {A : Type 0} where

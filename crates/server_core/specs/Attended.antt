@@ -1,7 +1,7 @@
 -- What became of connections.
 use Rattle.std.specs.Prelude.{◌≡◌, ℕ, List, [], ◌∷◌, Option, Some, None}
 use Rattle.doc_rules.specs.Seats as seats
-use Rattle.session_rules.specs.Session.{Opened}
+use Rattle.session_rules.specs.Session.{OpenDocument}
 use Rattle.session_rules.specs.Shelf.{begins_at_shelf, shared}
 use Rattle.session_rules.specs.declared.Ending.{Ending}
 use Rattle.session_core.specs.Ended.{Ends}
@@ -13,7 +13,7 @@ pub record IsEndedSession (names : List (List ℕ)) (had : Option (List ℕ)) (w
   pub has : Option (List ℕ)
   pub held : Option (List ℕ)
   pub holds : Option (List ℕ)
-  pub opened : List Opened
+  pub opened : List OpenDocument
   pub session : Ends (shared names) begins_at_shelf had has held holds why (record { documents = tt; opened = opened })
   pub given_back : AreSeatEnds names opened ends
 

@@ -1,6 +1,7 @@
 use Rattle.std.proofs.Common.{◌≡◌, ◌<◌, ◌≤◌, ◌+◌, [], ◌⊎◌, ◌∙◌, inl, inr, ⊎_elim, sym, ap, subst, length, arith}
 use Rattle.doc_nodes.specs.Blocks.{joined, block_rank, AreBlocks}
-use Rattle.doc_nodes.proofs.Blocks.{block_rank-within, rising_at, joined-open, blocks-open, joined-own, blocks-own, either_way, where_ok}
+use Rattle.doc_nodes.proofs.Blocks.{block_rank-within, rising_at, joined-open, blocks-open, joined-own, blocks-own, either_way}
+use Rattle.std.proofs.lemmas.Result.{on_ok_weaker}
 use Rattle.doc_nodes.proofs.children.add_entry.Goals as goal
 
 pub open_block-requires : goal.open_block-requires
@@ -22,7 +23,7 @@ returns-in-Some-clause-ok c =
     let at : c.args.at ≡ block_rank key blocks = c.requires.at in
     let which : (n ≡ block_rank key blocks) ⊎ ((n + 1 ≡ block_rank key blocks) × (block_rank key blocks ≡ length blocks)) =
     ⊎_elim (λ here. inl (here ∙ at)) (λ last. inr (last.0 ∙ at, sym at ∙ last.1 ∙ ap length c.as_slice.ensures.value)) c.in-Some.ensures.open.1 in
-    where_ok c.put_in.result (λ is. ap joined is ∙ joined-open key c.args.number blocks c.requires.blocks n within which) c.put_in.ensures.ok
+    on_ok_weaker c.put_in.result (λ is. ap joined is ∙ joined-open key c.args.number blocks c.requires.blocks n within which) c.put_in.ensures.ok
 
 pub returns-in-Some-clause-blocks : goal.returns-in-Some-clause-blocks
 returns-in-Some-clause-blocks c =
@@ -44,7 +45,7 @@ returns-in-None-clause-ok c =
     let key = c.args.key in
     let past : block_rank key blocks ≡ length blocks =
     sym c.requires.at ∙ c.in-None.ensures.none ∙ ap length c.as_slice.ensures.value in
-    where_ok c.put_behind.result (λ is. ap joined is ∙ joined-own key c.args.number blocks c.requires.blocks (omega (arith, past))) c.put_behind.ensures.ok
+    on_ok_weaker c.put_behind.result (λ is. ap joined is ∙ joined-own key c.args.number blocks c.requires.blocks (omega (arith, past))) c.put_behind.ensures.ok
 
 pub returns-in-None-clause-blocks : goal.returns-in-None-clause-blocks
 returns-in-None-clause-blocks c =

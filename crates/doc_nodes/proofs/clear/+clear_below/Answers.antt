@@ -3,7 +3,7 @@ use Rattle.std.specs.Prelude.{IsSome}
 use Rattle.std.proofs.lemmas.List.{nil_from_length}
 use Rattle.op_core.specs.Shape.{key_of}
 use Rattle.doc_nodes.specs.declared.node.NodeNumber.{NodeNumber}
-use Rattle.doc_nodes.specs.Children.{element_of}
+use Rattle.crdt_rules.specs.Context.{reference}
 use Rattle.doc_nodes.specs.Walk.{walk}
 use Rattle.doc_nodes.specs.Nodes.{child_of, ClearsUnder}
 use Rattle.doc_nodes.specs.Marks.{keys_below}
@@ -22,12 +22,12 @@ returns-in-None-clause-clears t c = λ m way.
     let end = c.known_child-end.result in
     let key = c.args.key.now in
     let keys : keys_below c.args.way.now key ≡ key ∷ [] = ap (λ w. keys_below w key) (nil_from_length c.args.way.now c.in-None.ensures.cases) in
-    let is : c.tell.new.nodes ≡ told mid c.args.at (element_of key) end = c.tell.ensures ∙ ap (λ e. told mid c.args.at e end) c.element_in.ensures in
+    let is : c.tell.new.nodes ≡ told mid c.args.at (reference key) end = c.tell.ensures ∙ ap (λ e. told mid c.args.at e end) c.element_in.ensures in
     let there : ◌≡◌ {A = Option NodeNumber} (Some end) (Some m) =
     walk_on (child_of nodes) c.args.at end m key [] c.known_child-end.ensures (subst (λ l. walk (child_of nodes) c.args.at l ≡ Some m) keys way) in
     let same : end ≡ m = cc in
     subst (λ z. ClearsUnder c.args.front.now (plain nodes) (plain c.tell.new.nodes) z) same
-    (subst (λ l. ClearsUnder c.args.front.now (plain nodes) l end) (sym (ap plain is ∙ told-plain mid c.args.at (element_of key) end)) c.clear_under.ensures.clears)
+    (subst (λ l. ClearsUnder c.args.front.now (plain nodes) l end) (sym (ap plain is ∙ told-plain mid c.args.at (reference key) end)) c.clear_under.ensures.clears)
 
 pub returns-in-None-clause-flags : goal.returns-in-None-clause-flags
 returns-in-None-clause-flags t c = λ n i right.
@@ -35,7 +35,7 @@ returns-in-None-clause-flags t c = λ n i right.
     let mid = c.clear_under.new.nodes in
     let end = c.known_child-end.result in
     let key = c.args.key.now in
-    let is : c.tell.new.nodes ≡ told mid c.args.at (element_of key) end = c.tell.ensures ∙ ap (λ e. told mid c.args.at e end) c.element_in.ensures in
+    let is : c.tell.new.nodes ≡ told mid c.args.at (reference key) end = c.tell.ensures ∙ ap (λ e. told mid c.args.at e end) c.element_in.ensures in
     let shape = shape_of-plain nodes mid (same_children c.args.front.now (plain nodes) (plain mid) c.clear_under.ensures.clears.each) in
     let same : length mid ≡ length nodes = c.clear_under.auto.nodes in
     subst (λ l. IsFlagged l n i) (sym is)

@@ -2,7 +2,8 @@ use Rattle.std.proofs.Common.{◌≡◌, ◌<◌, ◌+◌, List, false, rules, r
 use Rattle.std.proofs.lemmas.List.{get_or_default, get_or-set_same, length-set}
 use Rattle.op_core.specs.declared.cursor.Key.TheVariants.{Element, Head}
 use Rattle.doc_nodes.specs.declared.node.Node.{Node}
-use Rattle.doc_nodes.specs.Children.{element_of, number_at}
+use Rattle.crdt_rules.specs.Context.{reference}
+use Rattle.doc_nodes.specs.Children.{number_at}
 use Rattle.doc_nodes.specs.Nodes.{blank_node, node_of, child_of, cleared, AreTree, ClearsUnder}
 use Rattle.doc_nodes.specs.Backing.{AreBackedFrom}
 use Rattle.doc_nodes.specs.Flags.{plain, told, IsFlagged, IsFlaggedBut}
@@ -94,22 +95,22 @@ loop-i-preserved t c =
     let shape = shape_of-plain now mid (same_children front (plain now) (plain mid) clears.each) in
     let mid_length : length mid ≡ length old = c.clear_under.auto.nodes ∙ ap length read ∙ same_length in
     let tree = tree_same old mid mid_length (shape ∙ first_shape) c.requires.tree in
-    let is : c.tell.new.nodes ≡ told mid at (element_of key) child = c.tell.ensures ∙ ap (λ e. told mid at e child) (c.child_at-element.ensures.element (Head, child)) in
+    let is : c.tell.new.nodes ≡ told mid at (reference key) child = c.tell.ensures ∙ ap (λ e. told mid at e child) (c.child_at-element.ensures.element (Head, child)) in
     let within : at.0 < length mid = omega (arith, mid_length) in (
       one_more front (plain old) (plain now) at (plain c.tell.new.nodes) c.loop-i.i child c.loop-i.invariant.0
           (omega (arith, c.loop-i.invariant.1, ap (λ z. length z.children) (node_of-plain old at)))
           (λ d. ap (λ cs. (get_or cs c.loop-i.i d).1) (sym kids) ∙ c.child_at-element.ensures.number d)
           key
           (ap (λ cs. number_at cs key) (sym kids) ∙ found)
-          (subst (λ l. ClearsUnder front (plain now) l child) (sym (ap plain is ∙ told-plain mid at (element_of key) child)) clears),
+          (subst (λ l. ClearsUnder front (plain now) l child) (sym (ap plain is ∙ told-plain mid at (reference key) child)) clears),
       c.loop-i.invariant.1,
       λ n i right. ⊎_elim
-          (λ there. inl (ap (λ f. f n (Element i)) (ap child_of is ∙ told-shape mid at within child (element_of key) ∙ shape) ∙ there))
+          (λ there. inl (ap (λ f. f n (Element i)) (ap child_of is ∙ told-shape mid at within child (reference key) ∙ shape) ∙ there))
           (λ still. inr (subst (λ l. IsFlagged l n i) (sym is)
           (told-but mid at within child tree key (ap (λ f. f at key) shape ∙ found) n i
           (c.clear_under.ensures.flags n i (subst (λ (l : List Node). IsFlagged l n i) (sym read) still)))))
           (c.loop-i.invariant.2 n i right),
-      backed-same mid c.tell.new.nodes (at.0 + 1) (ap plain is ∙ told-plain mid at (element_of key) child)
+      backed-same mid c.tell.new.nodes (at.0 + 1) (ap plain is ∙ told-plain mid at (reference key) child)
           (backed-cleared front now mid child (at.0 + 1) c.loop-i.invariant.3 clears),
     )
 

@@ -2,7 +2,7 @@ use Rattle.std.proofs.Common.{◌≡◌, ◌∙◌, [], ◌∷◌, sym, ap, subs
 use Rattle.std.proofs.lemmas.List.{nil_from_length}
 use Rattle.op_core.specs.Shape.{key_of}
 use Rattle.doc_nodes.specs.Nodes.{node_of, child_of}
-use Rattle.doc_nodes.specs.Children.{element_of}
+use Rattle.crdt_rules.specs.Context.{reference}
 use Rattle.doc_words.specs.declared.role.Role.TheVariants.{Through}
 use Rattle.doc_nodes.specs.declared.node.NodeNumber.{NodeNumber}
 use Rattle.doc_nodes.specs.Walk.{walk}
@@ -48,7 +48,7 @@ returns-in-None-clause-marks t c =
     record { tree = c.requires.tree; within = c.requires.known; reached = c.requires.reached; room = c.requires.room } in
     let keys : keys_below c.args.way.now key ≡ key ∷ [] = ap (λ w. keys_below w key) (nil_from_length c.args.way.now c.in-None.ensures.cases) in
     let at_end = step_down id nodes mid c.args.at end key [] (subst (λ l. IsReady nodes c.args.at l) keys ready) c.mark.ensures c.known_child-end.ensures in
-    let is : c.tell.new.nodes ≡ told last c.args.at (element_of key) end = c.tell.ensures ∙ ap (λ e. told last c.args.at e end) c.element_in.ensures in
+    let is : c.tell.new.nodes ≡ told last c.args.at (reference key) end = c.tell.ensures ∙ ap (λ e. told last c.args.at e end) c.element_in.ensures in
     subst (λ l. MarksAlong id c.args.role (plain nodes) (plain c.tell.new.nodes) c.args.at l) (sym keys)
     (marks_passed id c.args.role nodes mid last c.tell.new.nodes c.args.at end key [] c.requires.tree c.requires.known c.mark.ensures c.known_child-end.ensures
     (marks_end id c.args.role mid last end at_end.within c.mark-in-None.ensures) is)
@@ -65,7 +65,7 @@ returns-in-None-clause-flags t c = λ m way n i doubted.
     record { tree = c.requires.tree; within = c.requires.known; reached = c.requires.reached; room = c.requires.room } in
     let keys : keys_below c.args.way.now key ≡ key ∷ [] = ap (λ w. keys_below w key) (nil_from_length c.args.way.now c.in-None.ensures.cases) in
     let at_end = step_down id nodes mid c.args.at end key [] (subst (λ l. IsReady nodes c.args.at l) keys ready) c.mark.ensures c.known_child-end.ensures in
-    let is : c.tell.new.nodes ≡ told last c.args.at (element_of key) end = c.tell.ensures ∙ ap (λ e. told last c.args.at e end) c.element_in.ensures in
+    let is : c.tell.new.nodes ≡ told last c.args.at (reference key) end = c.tell.ensures ∙ ap (λ e. told last c.args.at e end) c.element_in.ensures in
     let before = child_before id nodes mid c.args.at end key c.requires.known c.mark.ensures c.known_child-end.ensures in
     let there : ◌≡◌ {A = Option NodeNumber} (Some end) (Some m) =
     walk_on (child_of nodes) c.args.at end m key [] before (subst (λ l. walk (child_of nodes) c.args.at l ≡ Some m) keys way) in
@@ -86,8 +86,8 @@ returns-in-Some-clause-marks t c =
     let below = c.known_child-below.result in
     let way : keys_below c.args.way.now c.args.key.now ≡ key ∷ rest = ap (λ w. keys_below w c.args.key.now) c.in-Some.ensures.cases.0 in
     let down : child_of mid c.args.at key ≡ Some below = ap (child_of mid c.args.at) (sym c.key.ensures) ∙ c.known_child-below.ensures in
-    let is : c.tell-in-Some.new.nodes ≡ told last c.args.at (element_of key) below =
-    c.tell-in-Some.ensures ∙ ap (λ e. told last c.args.at e below) (c.element_in-in-Some.ensures ∙ ap element_of c.key-in-Some.ensures) in
+    let is : c.tell-in-Some.new.nodes ≡ told last c.args.at (reference key) below =
+    c.tell-in-Some.ensures ∙ ap (λ e. told last c.args.at e below) (c.element_in-in-Some.ensures ∙ ap reference c.key-in-Some.ensures) in
     subst (λ l. MarksAlong id c.args.role (plain nodes) (plain c.tell-in-Some.new.nodes) c.args.at l) (sym way)
     (marks_passed id c.args.role nodes mid last c.tell-in-Some.new.nodes c.args.at below key rest c.requires.tree c.requires.known c.mark.ensures down
     c.mark_below.ensures.marks is)
@@ -103,8 +103,8 @@ returns-in-Some-clause-flags t c = λ m reached n i doubted.
     let below = c.known_child-below.result in
     let way : keys_below c.args.way.now c.args.key.now ≡ key ∷ rest = ap (λ w. keys_below w c.args.key.now) c.in-Some.ensures.cases.0 in
     let down : child_of mid c.args.at key ≡ Some below = ap (child_of mid c.args.at) (sym c.key.ensures) ∙ c.known_child-below.ensures in
-    let is : c.tell-in-Some.new.nodes ≡ told last c.args.at (element_of key) below =
-    c.tell-in-Some.ensures ∙ ap (λ e. told last c.args.at e below) (c.element_in-in-Some.ensures ∙ ap element_of c.key-in-Some.ensures) in
+    let is : c.tell-in-Some.new.nodes ≡ told last c.args.at (reference key) below =
+    c.tell-in-Some.ensures ∙ ap (λ e. told last c.args.at e below) (c.element_in-in-Some.ensures ∙ ap reference c.key-in-Some.ensures) in
     let before = child_before id nodes mid c.args.at below key c.requires.known c.mark.ensures down in
     let on = walk_on (child_of nodes) c.args.at below m key rest before (subst (λ l. walk (child_of nodes) c.args.at l ≡ Some m) way reached) in
     let shape : child_of mid ≡ child_of nodes = ap child_of c.mark.ensures ∙ shape-set nodes c.args.at (marked id Through (node_of nodes c.args.at)) c.requires.known refl in

@@ -1,9 +1,10 @@
 use Rattle.std.proofs.Common.{◌≡◌, ℕ, List, ◌<◌, ◌+◌, ◌∙◌, [], suc, refl, sym, ap, subst, length, take, drop, set, get_or, arith}
 use Rattle.std.specs.Prelude.{insert}
 use Rattle.std.proofs.lemmas.List.{take-append-drop}
+use Rattle.std.proofs.lemmas.Result.{on_ok_weaker}
 use Rattle.doc_words.specs.Words.{Id}
 use Rattle.presence_set.specs.Blocks.{pairs_in, AreNonEmpty, HasSpareRoom, AllHaveRoom}
-use Rattle.presence_set.proofs.BlockLaws.{split-pairs_in, split-filled, split-rooms, split-length, grown-pairs_in, grown-filled, low_has, high_has, get-set, take-short, where_ok}
+use Rattle.presence_set.proofs.BlockLaws.{split-pairs_in, split-filled, split-rooms, split-length, grown-pairs_in, grown-filled, low_has, high_has, get-set, take-short}
 use Rattle.presence_set.proofs.blocks.cut_at.Goals as goal
 
 pub returns-clause-same : goal.returns-clause-same
@@ -55,7 +56,7 @@ returns-clause-room g c =
     ∙ ap (λ n. set (insert (set rest at (take c.args.place block.0, cut.0)) n (drop c.args.place block.0, cut.2)) n new) (sym one) in
     let is : get_or c.grow_at.new.rest.items (at + 1) ([], 0) ≡ new =
     ap (λ l. get_or l (at + 1) ([], 0)) c.grow_at.ensures.same.1 ∙ get-set c.split_at.new.rest.items (at + 1) new ([], 0) within in
-    where_ok c.grow_at.result
+    on_ok_weaker c.grow_at.result
     (λ room. subst (λ l. AllHaveRoom (drop at l)) (sym parts)
     (split-rooms rest at (take c.args.place block.0, cut.0) (drop c.args.place block.0, cut.2) new c.requires.known
     (subst (λ n. AllHaveRoom (drop n rest)) (sym one) c.requires.later) short (subst HasSpareRoom is room)))
