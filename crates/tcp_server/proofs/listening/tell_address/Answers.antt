@@ -2,7 +2,7 @@ use Rattle.std.proofs.Common.{◌∙◌, subst}
 use Rattle.std.specs.Io.KnownBytes.{Appends}
 use Rattle.std.proofs.KnownBytes.{Appends-kept}
 use Rattle.tcp_server.specs.Listening.{listening_line}
-use Rattle.tcp_server.proofs.Telling.{on_ok}
+use Rattle.server_notes.proofs.Telling.{on_ok}
 use Rattle.tcp_server.proofs.listening.tell_address.Goals as goal
 
 pub returns : goal.returns
