@@ -43,23 +43,42 @@ pub fn keep_up<M: Marker, R: Wait, S: Alter>(
     Ok(())
 }
 
-/// Keeps a copy behind sessions, as `keep_up`. A fault ends the copying alone, and is kept.
+/// Is told of a copier's fault. Nothing is claimed of it.
+pub trait Watch {
+    /// Is called once, by a copier that a fault ends, as soon as it has met it: sessions may still run.
+    fn stopped(&self, why: &Fault);
+}
+
+/// Tells the watch why the copying ended, if by a fault.
+fn tell_stopped<T: Watch>(watch: &T, fault: &Option<Fault>) {
+    if let Some(why) = fault {
+        watch.stopped(why);
+    }
+}
+
+/// Keeps a copy behind sessions, as `keep_up`. A fault ends the copying alone: the watch is told of it at once, and it is kept.
 #[derive(Drop)]
-pub struct Copier<'a, S: Alter> {
+pub struct Copier<'a, S: Alter, T: Watch> {
     /// The copy.
     pub copy: &'a mut LogCopy<S>,
+    /// Who is told of a fault.
+    pub watch: &'a T,
     /// Why the copying ended before all was copied, if it did.
     pub fault: Option<Fault>,
 }
 
-impl<'a, S: Alter> Copier<'a, S> {
+impl<'a, S: Alter, T: Watch> Copier<'a, S, T> {
     /// One that has copied nothing yet.
-    pub fn new(copy: &'a mut LogCopy<S>) -> Copier<'a, S>
+    pub fn new(copy: &'a mut LogCopy<S>, watch: &'a T) -> Copier<'a, S, T>
         ensures same_reference { result.copy.ghost_name ≡ copy.entry.ghost_name }
         ensures begun { result.copy.now ≡ copy.old }
         ensures fault { result.fault ≡ None }
     {
-        Copier { copy, fault: None }
+        Copier {
+            copy,
+            watch,
+            fault: None,
+        }
     }
 
     /// Lets the copy go, and tells why the copying ended before all was copied, if it did.
@@ -67,15 +86,20 @@ impl<'a, S: Alter> Copier<'a, S> {
         ensures left { self.exit.0.now ≡ self.entry.copy.now }
         ensures fault { result ≡ self.entry.fault }
     {
-        let Copier { copy: _, fault } = self;
+        let Copier {
+            copy: _,
+            watch: _,
+            fault,
+        } = self;
         fault
     }
 }
 
-impl<M: Marker, S: Alter> Side<M> for Copier<'_, S> {
+impl<M: Marker, S: Alter, T: Watch> Side<M> for Copier<'_, S, T> {
     ghost becomes = { λ names old new. (new.copy.ghost_name ≡ old.copy.ghost_name) × HasCopied names old.copy.now new.copy.now new.fault };
 
     fn run<R: Wait>(&mut self, rt: &R, library: &Library<M>, sessions: u64) {
         self.fault = keep_up(rt, library, sessions, self.copy).err();
+        tell_stopped(self.watch, &self.fault);
     }
 }
