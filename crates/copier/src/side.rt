@@ -44,7 +44,7 @@ pub fn keep_up<M: Marker, R: Wait, S: Alter>(
 }
 
 /// Is told of a copier's fault. Nothing is claimed of it.
-pub trait Watch: Drop {
+pub trait Watch {
     /// Is called once, by a copier that a fault ends, as soon as it has met it: sessions may still run.
     fn stopped(&self, why: &Fault);
 }
@@ -62,14 +62,14 @@ pub struct Copier<'a, S: Alter, T: Watch> {
     /// The copy.
     pub copy: &'a mut LogCopy<S>,
     /// Who is told of a fault.
-    pub watch: T,
+    pub watch: &'a T,
     /// Why the copying ended before all was copied, if it did.
     pub fault: Option<Fault>,
 }
 
 impl<'a, S: Alter, T: Watch> Copier<'a, S, T> {
     /// One that has copied nothing yet.
-    pub fn new(copy: &'a mut LogCopy<S>, watch: T) -> Copier<'a, S, T>
+    pub fn new(copy: &'a mut LogCopy<S>, watch: &'a T) -> Copier<'a, S, T>
         ensures same_reference { result.copy.ghost_name ≡ copy.entry.ghost_name }
         ensures begun { result.copy.now ≡ copy.old }
         ensures fault { result.fault ≡ None }
@@ -100,6 +100,6 @@ impl<M: Marker, S: Alter, T: Watch> Side<M> for Copier<'_, S, T> {
 
     fn run<R: Wait>(&mut self, rt: &R, library: &Library<M>, sessions: u64) {
         self.fault = keep_up(rt, library, sessions, self.copy).err();
-        tell_stopped(&self.watch, &self.fault);
+        tell_stopped(self.watch, &self.fault);
     }
 }

@@ -10,16 +10,16 @@ ghost use Rattle.served_copy.specs.Served.{KeepsRows, ServesCopied, greatest_sea
 ghost use Rattle.served_copy.specs.Totals.{ServesSessions};
 
 use crate::naming::raise;
-use crate::noting::note_documents;
+use crate::noting::{Noting, note_documents};
 use crate::restoring::{Stock, restored_stock, shelve};
 use crate::telling::tell_totals;
-use copier::Copier;
+use copier::{Copier, Watch};
 use doc_ledger::Ledger;
 use lamport_id::ReplicaName;
 use log::Log;
 use log_copy::{Fault, LogCopy};
 use server_core::{Connect, Gathered, Library, OpenGate, run_sessions};
-use server_notes::{note_ended, note_stopped};
+use server_notes::note_ended;
 use share_ledger::{Blank, Marker};
 use sqlite::Alter;
 use std::alloc::Global;
@@ -36,14 +36,21 @@ fn seats_for(sessions: usize) -> u16
 }
 
 /// Serves the connections while the copier runs, and gives that back. What sessions did is kept, if it could be gathered.
-fn serve_beside<'a, M: Marker + Send + Sync, R: Threads + Wait + Sync, C: Connect, S: Alter>(
+fn serve_beside<
+    'a,
+    M: Marker + Send + Sync,
+    R: Threads + Wait + Sync,
+    C: Connect,
+    S: Alter,
+    T: Watch,
+>(
     rt: &R,
     alloc: Global,
     library: Library<M>,
     connections: Vec<C>,
-    copier: Copier<'a, S>,
+    copier: Copier<'a, S, T>,
     ran: &mut Option<Gathered>,
-) -> Copier<'a, S>
+) -> Copier<'a, S, T>
     ensures sessions { IfSome ran.new (λ g. (given : List (List (Option seats.Seat)))
         × AreAttended library.names.items (map C.requests connections.items) g.endings.items given × AreTotalsFrom 0 given g.totals.items) }
     ensures each { IfSome ran.new (λ g. vec_len g.totals ≡ length library.names.items) }
@@ -62,14 +69,6 @@ fn serve_beside<'a, M: Marker + Send + Sync, R: Threads + Wait + Sync, C: Connec
             copier
         }
     }
-}
-
-/// Notes that sessions have ended, and why the copying ended before them, if it did.
-fn note_end<R: Log + Clock>(rt: &R, why: &Option<Fault>) {
-    if let Some(fault) = why {
-        note_stopped(rt, fault);
-    }
-    note_ended(rt);
 }
 
 /// What sessions did over the documents of a shelf, if it could be gathered, and why the copying ended before all was copied, if it
@@ -92,10 +91,11 @@ fn serve_copied<
     ensures left { ((result.0 ≡ None) × (copy.new ≡ copy.old)) ⊎ HasCopied library.names.items copy.old copy.new result.1 }
 {
     let mut ran = None;
-    let copier = Copier::new(copy);
+    let noting = Noting { rt };
+    let copier = Copier::new(copy, &noting);
     let copier = serve_beside(rt, alloc, library, connections, copier, &mut ran);
     let why = copier.end();
-    note_end(rt, &why);
+    note_ended(rt);
     (ran, why)
 }
 
