@@ -1,8 +1,6 @@
 use Rattle.std.proofs.Common.{◌≡◌, ◌∙◌, sym, ap, subst, length, refl, Some, None}
-use Rattle.std.proofs.lemmas.List.{get_or_default}
 use Rattle.doc_nodes.specs.declared.node.NodeNumber.{NodeNumber}
-use Rattle.doc_nodes.specs.Children.{number_at}
-use Rattle.doc_nodes.specs.Nodes.{blank_node, node_of, child_of, AreTree}
+use Rattle.doc_nodes.specs.Nodes.{child_of, AreTree}
 use Rattle.doc_nodes.specs.Growth.{Grows, IsFresh}
 use Rattle.doc_nodes.proofs.Adding.{tree_added, grows_added, child_new}
 use Rattle.doc_nodes.proofs.growth.new_child.Goals as goal

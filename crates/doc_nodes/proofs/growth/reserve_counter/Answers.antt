@@ -9,12 +9,12 @@ pub returns-in_err-reserve_one-clause-tree : goal.returns-in_err-reserve_one-cla
 returns-in_err-reserve_one-clause-tree c =
     let items = c.args.nodes.now.items in
     let node = c.index_mut-node.result.now in
-    tree-set items c.args.at (record node { counter = c.reserve_one.new.self }) c.requires.known
+    tree-set items c.args.at _ c.requires.known
     (ap (λ (z : Node). z.children) (c.index_mut-node.ensures.value ∙ get_or_default items c.args.at.0 node blank_node c.requires.known)) c.requires.tree
 
 pub returns-clause-tree : goal.returns-clause-tree
 returns-clause-tree c =
     let items = c.args.nodes.now.items in
     let node = c.index_mut-node.result.now in
-    tree-set items c.args.at (record node { counter = c.reserve_one.new.self }) c.requires.known
+    tree-set items c.args.at _ c.requires.known
     (ap (λ (z : Node). z.children) (c.index_mut-node.ensures.value ∙ get_or_default items c.args.at.0 node blank_node c.requires.known)) c.requires.tree
