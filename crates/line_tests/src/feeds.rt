@@ -1,7 +1,6 @@
-use crate::doubles::{FailAfter, InPieces};
-use crate::feed::{LineFeed, Outcome};
-use crate::reading::{Reader, Source};
-use crate::writing::{Sink, Writer, write_line};
+//! Lines from a source in pieces, and devices that fail.
+use line_feed::doubles::{FailAfter, InPieces};
+use line_feed::{LineFeed, Outcome, Reader, Sink, Source, Writer, write_line};
 use std::io;
 use std::io::{ErrorKind, Read, Write};
 use std::test::Fail;
