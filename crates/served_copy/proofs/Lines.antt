@@ -1,5 +1,5 @@
 -- What a server tells of itself.
-use Rattle.std.proofs.Common.{◌≡◌, ◌<◌, ◌≤◌, ◌+◌, ◌++◌, ℕ, List, [], map, drop, get_or, length, Option, Some, IfSome, vec_len, Result, Ok, Err, OnOk, refl, sym, ap, subst, ◌∙◌, add-one, drop-cons}
+use Rattle.std.proofs.Common.{◌≡◌, ◌<◌, ◌≤◌, ◌+◌, ◌++◌, ℕ, List, [], map, drop, get_or, length, Option, Some, IfSome, vec_len, refl, sym, ap, subst, ◌∙◌, add-one, drop-cons}
 use Rattle.std.proofs.lemmas.List.{drop_all}
 use Rattle.std.specs.Borrow.{Bor}
 use Rattle.std.specs.Io.KnownBytes.{Appends}
@@ -9,11 +9,6 @@ use Rattle.server_core.specs.declared.gathering.Gathered.{Gathered}
 use Rattle.server_core.specs.Attended.{AreAttended}
 use Rattle.server_core.specs.Sums.{AreTotalsFrom}
 use Rattle.served_copy.specs.Totals.{ServesSessions, total_line, total_lines}
-
--- what holds whatever the result is
-pub on_ok : {T E P : Type 0} (r : Result T E) → P → OnOk r P
-on_ok (Ok x) p = p
-on_ok (Err e) p = tt
 
 -- the line of one document, and those of the documents behind it
 pub lines_step : (names : List (Bor (List ℕ))) (totals : List Totals) (i : ℕ) (n : Bor (List ℕ)) (t : Totals) → i < length names → i < length totals
