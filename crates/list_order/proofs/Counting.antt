@@ -52,7 +52,7 @@ module _ (marks : List Mark) where
   from-zero (n ∷ path) = rw (leb-zero (mark_at marks n).block) refl
 
   -- what rises from a later block on has none of an earlier
-  count-later : (k low : ℕ) (path : List SlotNumber) → k < low → IsInBlockOrder low marks path → count_where (is_marked_in k) marks path ≡ 0
+  pub count-later : (k low : ℕ) (path : List SlotNumber) → k < low → IsInBlockOrder low marks path → count_where (is_marked_in k) marks path ≡ 0
   count-later k low [] less h = refl
   count-later k low (n ∷ path) less h =
       rw (not_other k (mark_at marks n).block (λ e. omega (arith, h.0, e)) (mark_at marks n).is_present) (count-later k (mark_at marks n).block path (omega (arith, h.0)) h.1)
@@ -124,7 +124,7 @@ module _ (marks : List Mark) where
           by false e f ih = ih
           by true false e ih = absurd (true≢false (sym (eq-eqb (mark_at marks n).block k (omega (arith, h.0, leb-false (suc k) (mark_at marks n).block f))) ∙ e))
 
-  length-from : (k : ℕ) (path : List SlotNumber) → length (from_block k marks path) ≤ length path
+  pub length-from : (k : ℕ) (path : List SlotNumber) → length (from_block k marks path) ≤ length path
   length-from k [] = omega arith
   length-from k (n ∷ path) = go (nat_le k (mark_at marks n).block) (length-from k path)
     where
@@ -133,7 +133,7 @@ module _ (marks : List Mark) where
       go false ih = omega arith
 
   -- what stands from a block on is a path
-  path-from : (slots : List Slot) (k : ℕ) (at : Option SlotNumber) (path : List SlotNumber) → IsPath slots at path
+  pub path-from : (slots : List Slot) (k : ℕ) (at : Option SlotNumber) (path : List SlotNumber) → IsPath slots at path
       → IsPath slots (start_of None (from_block k marks path)) (from_block k marks path)
   path-from slots k at [] h = refl
   path-from slots k at (n ∷ path) h = go (nat_le k (mark_at marks n).block) (path-from slots k (slot_at slots n).next path h.2)

@@ -1,5 +1,6 @@
 -- Blocks that are cut along a path.
-use Rattle.std.proofs.Common.{◌≡◌, ◌<◌, ◌≤◌, ◌+◌, ℕ, suc, List, [], ◌∷◌, ◌++◌, append_assoc, append-nil, length, length-append, set, length-set, Bool, true, false, ◌&&◌, eqb, eqb-true, eq-eqb, if◌then◌else◌, Option, Some, None, inl, inr, refl, sym, ap, ◌∙◌, subst, true≢false, arith}
+use Rattle.std.proofs.Common.{◌≡◌, ◌<◌, ◌≤◌, ◌+◌, ◌-◌, ℕ, zero, suc, List, [], ◌∷◌, ◌++◌, append_assoc, append-nil, length, length-append, set, length-set, Bool, true, false, ◌&&◌, eqb, eqb-true, eq-eqb, nat_le, if◌then◌else◌, Option, Some, None, inl, inr, refl, sym, ap, ◌∙◌, subst, true≢false, arith}
+use Rattle.std.proofs.lemmas.Bool.{leb-true, leb-false}
 use Rattle.std.proofs.lemmas.Bool.Decides.{nat_tests}
 use Rattle.std.proofs.Math.ListN.{get_or-append}
 use Rattle.std.proofs.Math.Seq.{get_or-append_seam}
@@ -8,10 +9,10 @@ use Rattle.list_order.specs.declared.slots.SlotNumber.{SlotNumber}
 use Rattle.list_order.specs.declared.marks.Mark.{Mark}
 use Rattle.list_order.specs.declared.marks.MarkBlock.{MarkBlock}
 use Rattle.list_order.specs.Slots.{slot_at, IsPath, slots_from, LinksEnd}
-use Rattle.list_order.specs.Marks.{mark_at, block_at, no_block, count_where, is_marked_in, from_block, start_of, IsCounted, bit, set_block, IsClosed, IsRecut}
+use Rattle.list_order.specs.Marks.{mark_at, block_at, no_block, count_where, is_marked_in, from_block, start_of, IsInBlockOrder, IsCounted, bit, set_block, IsClosed, IsRecut}
 use Rattle.list_order.proofs.Scanning.{IsStep}
-use Rattle.list_order.proofs.Paths.{walk-None, length-path_from}
-use Rattle.list_order.proofs.Counting.{Along, along-map, IsSameMark, not_other}
+use Rattle.list_order.proofs.Paths.{path_from-path, walk_from_path, walk-None, length-path_from}
+use Rattle.list_order.proofs.Counting.{Along, along-map, from-zero, count-later, rising-from, length-from, path-from, IsSameMark, not_other}
 use Rattle.list_order.proofs.Same.{count-same, blocks-same, from-same, rising-same, count-append, count_within, from-none, count-none, start-append, rising-append, along-snoc}
 use Rattle.list_order.proofs.Apart.{apart_front, set_here, set_other, set_apart}
 
@@ -64,17 +65,112 @@ last_marked marks k path n is =
     go true = refl
     go false = refl
 
+-- the path up to its first slot in block k or a later one
+abbrev before_block : List Mark → ℕ → List SlotNumber → List SlotNumber
+before_block marks k [] = []
+before_block marks k (n ∷ path) = if nat_le k (mark_at marks n).block then [] else n ∷ before_block marks k path
+
+module _ (marks : List Mark) (k : ℕ) where
+  split : (path : List SlotNumber) → path ≡ before_block marks k path ++ from_block k marks path
+  split [] = refl
+  split (n ∷ path) = go (nat_le k (mark_at marks n).block) (split path)
+    where
+      go : (b : Bool) → path ≡ before_block marks k path ++ from_block k marks path
+          → n ∷ path ≡ (if b then [] else n ∷ before_block marks k path) ++ (if b then n ∷ path else from_block k marks path)
+      go true ih = refl
+      go false ih = ap (λ l. n ∷ l) ih
+
+  within_front : (path : List SlotNumber) → Along (λ n. (mark_at marks n).block < k) (before_block marks k path)
+  within_front [] = tt
+  within_front (n ∷ path) = go (nat_le k (mark_at marks n).block) refl (within_front path)
+    where
+      go : (b : Bool) → nat_le k (mark_at marks n).block ≡ b → Along (λ m. (mark_at marks m).block < k) (before_block marks k path)
+          → Along (λ m. (mark_at marks m).block < k) (if b then [] else n ∷ before_block marks k path)
+      go true e ih = tt
+      go false e ih = (omega (arith, leb-false k (mark_at marks n).block e), ih)
+
+  rising_front : (low : ℕ) (path : List SlotNumber) → IsInBlockOrder low marks path → IsInBlockOrder low marks (before_block marks k path)
+  rising_front low [] h = tt
+  rising_front low (n ∷ path) h = go (nat_le k (mark_at marks n).block) (rising_front (mark_at marks n).block path h.1)
+    where
+      go : (b : Bool) → IsInBlockOrder (mark_at marks n).block marks (before_block marks k path) → IsInBlockOrder low marks (if b then [] else n ∷ before_block marks k path)
+      go true ih = tt
+      go false ih = (h.0, ih)
+
+-- where a block starts is found in what stands before a later one, or right behind it
+start_front : (marks : List Mark) (j k : ℕ) → j < k → (path : List SlotNumber)
+    → start_of None (from_block (suc j) marks path) ≡ start_of (start_of None (from_block k marks path)) (from_block (suc j) marks (before_block marks k path))
+start_front marks j k less [] = refl
+start_front marks j k less (n ∷ path) = go (nat_le k (mark_at marks n).block) refl (nat_le (suc j) (mark_at marks n).block) refl (start_front marks j k less path)
+  where
+    go : (b : Bool) → nat_le k (mark_at marks n).block ≡ b → (c : Bool) → nat_le (suc j) (mark_at marks n).block ≡ c
+        → start_of None (from_block (suc j) marks path) ≡ start_of (start_of None (from_block k marks path)) (from_block (suc j) marks (before_block marks k path))
+        → start_of None (if c then n ∷ path else from_block (suc j) marks path)
+        ≡ start_of (start_of None (if b then n ∷ path else from_block k marks path)) (from_block (suc j) marks (if b then [] else n ∷ before_block marks k path))
+    go true e true f ih = refl
+    go true e false f ih = absurd (omega (arith, less, leb-true k (mark_at marks n).block e, leb-false (suc j) (mark_at marks n).block f))
+    go false e true f ih = rw f refl
+    go false e false f ih = rw f ih
+
 module _ (slots : List Slot) (first : Option SlotNumber) (before : List Mark) where
-  pub begin_cut : IsPartlyCut slots first before before [] first 0
-  begin_cut = record {
-    done = [];
-    parts = refl;
-    same = λ n. refl;
-    len = refl;
-    counted = record { rising = tt; counted = λ k h. absurd (omega arith); ends = λ k h. absurd (omega arith) };
-    within = tt;
-    rest = refl;
-  }
+  -- what stands in the blocks is cut
+  begin_at : (blocks : List MarkBlock) (at : Option SlotNumber) → IsCounted before blocks (slots_from slots first) None
+      → slots_from slots at ≡ from_block (length blocks) before (slots_from slots first)
+      → (0 < length blocks → at ≡ start_of None (from_block (length blocks) before (slots_from slots first)))
+      → IsPartlyCut slots first before before blocks at 0
+  begin_at blocks at c rest starts =
+      let path : List SlotNumber = slots_from slots first in
+      let done : List SlotNumber = before_block before (length blocks) path in
+      let parts : path ≡ done ++ from_block (length blocks) before path = split before (length blocks) path in
+      let within : Along (λ n. (mark_at before n).block < length blocks) done = within_front before (length blocks) path in
+      record {
+        done = done;
+        parts = parts ∙ ap (λ l. done ++ l) (sym rest);
+        same = λ n. refl;
+        len = refl;
+        counted = record {
+          rising = rising_front before (length blocks) 0 path c.rising;
+          counted = λ k h.
+              c.counted k h
+              ∙ ap (count_where (is_marked_in k) before) parts
+              ∙ count-append before (is_marked_in k) done (from_block (length blocks) before path)
+              ∙ ap (λ m. count_where (is_marked_in k) before done + m) (count-later before k (length blocks) (from_block (length blocks) before path) h (rising-from before (length blocks) 0 path c.rising))
+              ∙ omega arith;
+          ends = λ k h.
+              c.ends k h
+              ∙ start_front before k (length blocks) h path
+              ∙ ap (λ o. start_of o (from_block (suc k) before done)) (sym (starts (omega (arith, h))));
+        };
+        within = along-map (λ n h. omega (arith, h)) done within;
+        rest = sym (count-none before (length blocks) done within);
+      }
+
+  -- from the slot behind the last block on
+  pub begin_cut : (blocks : List MarkBlock) (at : Option SlotNumber) → LinksEnd slots first → IsCounted before blocks (slots_from slots first) None
+      → (length blocks ≡ 0 → at ≡ first) → (0 < length blocks → at ≡ (block_at blocks (length blocks - 1)).end)
+      → LinksEnd slots at × IsPartlyCut slots first before before blocks at 0
+  begin_cut blocks at walk c none last = go (length blocks) refl
+    where
+      path : List SlotNumber
+      path = slots_from slots first
+
+      go : (k : ℕ) → length blocks ≡ k → LinksEnd slots at × IsPartlyCut slots first before before blocks at 0
+      go zero e =
+          let here : at ≡ first = none e in (
+            subst (LinksEnd slots) (sym here) walk,
+            begin_at blocks at c (ap (slots_from slots) here ∙ sym (from-zero before path) ∙ ap (λ m. from_block m before path) (sym e)) (λ h. absurd (omega (arith, e, h))),
+          )
+      go (suc k) e =
+          let within : k < length blocks = omega (arith, e) in
+          let before_last : length blocks - 1 ≡ k = omega (arith, e) in
+          let here : at ≡ start_of None (from_block (length blocks) before path) =
+          last (omega (arith, e)) ∙ ap (λ m. (block_at blocks m).end) before_last ∙ c.ends k within ∙ ap (λ m. start_of None (from_block m before path)) (sym e) in
+          let on : IsPath slots at (from_block (length blocks) before path) =
+          subst (λ o. IsPath slots o (from_block (length blocks) before path)) (sym here) (path-from before slots (length blocks) first path walk.path) in
+          let short : length (from_block (length blocks) before path) ≤ length slots = omega (arith, length-from before (length blocks) path, length-path_from slots first) in (
+            walk_from_path slots at (from_block (length blocks) before path) on short,
+            begin_at blocks at c (path_from-path slots at (from_block (length blocks) before path) on short) (λ h. here),
+          )
 
   module _ (walk : LinksEnd slots first) (marked : length before ≡ length slots) where
     pub put_in : (marks : List Mark) (blocks : List MarkBlock) (at : Option SlotNumber) (present : ℕ) (n : SlotNumber)

@@ -10,8 +10,8 @@ ghost use Rattle.list_order.specs.Entries.{ids_of, present_of, entry_cmp, absent
 ghost use Rattle.list_order.specs.Following.{following};
 
 use crate::marks::{
-    FIRST_CUT, Mark, MarkBlock, add_mark, blocks_wanted, mark_at, nth_along, recut_if_due,
-    set_presence,
+    Mark, MarkBlock, NextCuts, add_mark, blocks_wanted, first_cuts, mark_at, nth_along,
+    recut_if_due, set_presence,
 };
 use crate::slots::{
     Slot, SlotNumber, add_entry, behind, ids_from, last_passed, link, number_for, number_of,
@@ -31,7 +31,7 @@ pub struct LinkedOrder {
     marks: Vec<Mark>,
     blocks: Vec<MarkBlock>,
     present: usize,
-    limit: usize,
+    next_cuts: NextCuts,
 }
 
 impl Model for LinkedOrder {
@@ -56,7 +56,7 @@ impl Drop for LinkedOrder {
             marks: _,
             blocks: _,
             present: _,
-            limit: _,
+            next_cuts: _,
         } = self;
     }
 }
@@ -73,7 +73,7 @@ impl LinkedOrder {
             marks: Vec::new(alloc),
             blocks: Vec::new(alloc),
             present: 0,
-            limit: FIRST_CUT,
+            next_cuts: first_cuts(),
         }
     }
 
@@ -109,7 +109,7 @@ impl LinkedOrder {
             self.first,
             &mut self.marks,
             &mut self.blocks,
-            &mut self.limit,
+            &mut self.next_cuts,
         );
     }
 

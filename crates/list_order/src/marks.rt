@@ -8,8 +8,8 @@ ghost use Rattle.list_order.specs.Marks as Spec;
 use crate::slots::{Slot, SlotNumber, slot_at};
 use lamport_id::Id;
 
-/// How many slots a block has when the blocks are cut.
-const BLOCK_LEN: usize = 64;
+/// How many slots a block has at least when it is closed.
+const LEAST_BLOCK: usize = 64;
 
 /// Whether the id of a slot is present, and the block in which the slot stands.
 #[derive(Clone, Copy)]
@@ -172,11 +172,16 @@ fn set_block(marks: &mut Vec<Mark>, n: SlotNumber, block: usize) -> bool
     marks[n.0].is_present
 }
 
-/// Closes a block that is long enough, where there is room for one.
-fn closed(blocks: &mut Vec<MarkBlock>, rest: Open, end: Option<SlotNumber>) -> Open
+/// Closes a block that has so many slots, where there is room for one.
+fn closed(
+    blocks: &mut Vec<MarkBlock>,
+    rest: Open,
+    end: Option<SlotNumber>,
+    block_len: usize,
+) -> Open
     ensures { IsClosed blocks.old.items blocks.new.items rest.present end result.present }
 {
-    if rest.len >= BLOCK_LEN && blocks.len() < blocks.capacity() {
+    if rest.len >= block_len && blocks.len() < blocks.capacity() {
         let last = blocks.len();
         match blocks.insert(
             last,
@@ -194,47 +199,25 @@ fn closed(blocks: &mut Vec<MarkBlock>, rest: Open, end: Option<SlotNumber>) -> O
     }
 }
 
-/// Cuts the list into blocks anew.
-fn recut(
-    slots: &[Slot],
-    first: Option<SlotNumber>,
-    marks: &mut Vec<Mark>,
-    blocks: &mut Vec<MarkBlock>,
-)
-    requires walk { LinksEnd slots.now first }
-    requires marked { length marks.old.items ≡ length slots.now }
-    ensures cut { IsRecut marks.old.items marks.new.items blocks.new.items (slots_from slots.now first) }
-    ensures capacity { vec_capacity marks.new ≡ vec_capacity marks.old }
+/// The first slot that stands behind all blocks.
+fn behind_blocks(blocks: &[MarkBlock], first: Option<SlotNumber>) -> Option<SlotNumber>
+    ensures none { length blocks.now ≡ 0 → result ≡ first }
+    ensures last { 0 < length blocks.now → result ≡ (block_at blocks.now (length blocks.now - 1)).end }
 {
-    blocks.clear();
-    let mut rest = Open { len: 0, present: 0 };
-    let mut at = first;
-    while let Some(n) = at {
-        let is_present = set_block(marks, n, blocks.len());
-        at = slot_at(slots, n).next;
-        let longer = Open {
-            len: rest.len.saturating_add(1),
-            present: rest.present + bit(is_present),
-        };
-        rest = closed(blocks, longer, at);
+    if blocks.is_empty() {
+        first
+    } else {
+        blocks[blocks.len() - 1].end
     }
 }
 
-/// How long a list is that is cut for the first time.
-pub const FIRST_CUT: usize = 128;
-
-/// How long a list is to be when it is cut the next time.
-fn next_limit(len: usize) -> usize {
-    len.saturating_add(64 + len / 64)
-}
-
-/// Cuts the list into blocks anew, where enough slots are new.
-pub fn recut_if_due(
+/// Cuts what stands behind the blocks into blocks of this length, too.
+fn cut_on(
     slots: &[Slot],
     first: Option<SlotNumber>,
     marks: &mut Vec<Mark>,
     blocks: &mut Vec<MarkBlock>,
-    limit: &mut usize,
+    block_len: usize,
 )
     requires walk { LinksEnd slots.now first }
     requires marked { length marks.old.items ≡ length slots.now }
@@ -242,15 +225,95 @@ pub fn recut_if_due(
     ensures cut { IsRecut marks.old.items marks.new.items blocks.new.items (slots_from slots.now first) }
     ensures capacity { vec_capacity marks.new ≡ vec_capacity marks.old }
 {
-    if *limit < slots.len() {
-        recut(slots, first, marks, blocks);
-        *limit = next_limit(slots.len());
+    let mut rest = Open { len: 0, present: 0 };
+    let mut at = behind_blocks(blocks.as_slice(), first);
+    while let Some(n) = at {
+        let is_present = set_block(marks, n, blocks.len());
+        at = slot_at(slots, n).next;
+        let longer = Open {
+            len: rest.len.saturating_add(1),
+            present: rest.present + bit(is_present),
+        };
+        rest = closed(blocks, longer, at, block_len);
+    }
+}
+
+/// How long a list is to be when its blocks are cut the next time.
+#[derive(Clone, Copy)]
+pub struct NextCuts {
+    /// All of them.
+    pub whole: usize,
+    /// What stands behind the last of them.
+    pub tail: usize,
+}
+
+/// How long a list is that is cut for the first time.
+const FIRST_CUT: usize = 128;
+
+/// When a new list is cut.
+pub fn first_cuts() -> NextCuts {
+    NextCuts {
+        whole: FIRST_CUT,
+        tail: FIRST_CUT,
+    }
+}
+
+/// How many slots a block has when a list of this length is cut. A longer list has longer blocks, so that there are fewer to go
+/// through.
+fn block_len(len: usize) -> usize {
+    LEAST_BLOCK.saturating_add(len / 256)
+}
+
+/// When a list of this length that was just cut is cut again.
+fn cuts_behind(len: usize) -> NextCuts {
+    NextCuts {
+        whole: len.saturating_add(64 + len / 64),
+        tail: len.saturating_add(LEAST_BLOCK),
+    }
+}
+
+/// When a list of this length of which so many slots were put into new blocks at its end is cut again. Those don't make
+/// other blocks longer.
+fn cuts_behind_tail(whole: usize, len: usize, cut: usize) -> NextCuts {
+    NextCuts {
+        whole: whole.saturating_add(cut),
+        tail: len.saturating_add(LEAST_BLOCK),
+    }
+}
+
+/// Cuts the list into blocks anew, where enough slots are new, and else what stands behind the blocks, where that may have become long.
+pub fn recut_if_due(
+    slots: &[Slot],
+    first: Option<SlotNumber>,
+    marks: &mut Vec<Mark>,
+    blocks: &mut Vec<MarkBlock>,
+    next: &mut NextCuts,
+)
+    requires walk { LinksEnd slots.now first }
+    requires marked { length marks.old.items ≡ length slots.now }
+    requires counted { IsCounted marks.old.items blocks.old.items (slots_from slots.now first) None }
+    ensures cut { IsRecut marks.old.items marks.new.items blocks.new.items (slots_from slots.now first) }
+    ensures capacity { vec_capacity marks.new ≡ vec_capacity marks.old }
+{
+    let len = slots.len();
+    if next.whole < len {
+        blocks.clear();
+        cut_on(slots, first, marks, blocks, block_len(len));
+        *next = cuts_behind(len);
+    } else if next.tail < len {
+        let before = blocks.len();
+        cut_on(slots, first, marks, blocks, block_len(len));
+        let cut = blocks
+            .len()
+            .saturating_sub(before)
+            .saturating_mul(block_len(len));
+        *next = cuts_behind_tail(next.whole, len, cut);
     }
 }
 
 /// How many more blocks a list of this length is to have room for.
 pub fn blocks_wanted(len: usize, blocks: usize) -> usize {
-    (len / BLOCK_LEN).saturating_sub(blocks)
+    (len / LEAST_BLOCK).saturating_sub(blocks)
 }
 
 /// Marks the id of a slot as present or not, and moves the counts.

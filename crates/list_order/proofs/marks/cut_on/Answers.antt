@@ -1,16 +1,17 @@
-use Rattle.std.proofs.Common.{◌≡◌, ◌<◌, ◌+◌, ◌∙◌, sym, ap, subst, refl, length, arith}
+use Rattle.std.proofs.Common.{◌≡◌, ◌<◌, ◌+◌, ◌-◌, ◌∙◌, sym, ap, subst, refl, length, arith}
 use Rattle.list_order.specs.Slots.{slot_at, slots_from, LinksEnd}
-use Rattle.list_order.specs.Marks.{mark_at, bit, set_block}
+use Rattle.list_order.specs.Marks.{mark_at, block_at, bit, set_block}
 use Rattle.list_order.proofs.Scanning.{step}
 use Rattle.list_order.proofs.Cutting.{IsPartlyCut, begin_cut, put_in, count_fits, close, all_cut}
-use Rattle.list_order.proofs.marks.recut.Goals as goal
+use Rattle.list_order.proofs.marks.cut_on.Goals as goal
 
 pub loop-at-init : goal.loop-at-init
-loop-at-init c = record {
-  walk = c.requires.walk;
-  cut = subst (λ l. IsPartlyCut c.args.slots.now c.args.first c.args.marks.now.items c.args.marks.now.items l c.args.first 0) (sym c.clear.ensures.items) (begin_cut c.args.slots.now c.args.first c.args.marks.now.items);
-  capacity = refl;
-}
+loop-at-init c =
+    let begun =
+    begin_cut c.args.slots.now c.args.first c.args.marks.now.items c.args.blocks.now.items c.behind_blocks-at.result c.requires.walk c.requires.counted
+    (subst (λ l. length l ≡ 0 → c.behind_blocks-at.result ≡ c.args.first) c.as_slice.ensures.value c.behind_blocks-at.ensures.none)
+    (subst (λ l. 0 < length l → c.behind_blocks-at.result ≡ (block_at l (length l - 1)).end) c.as_slice.ensures.value c.behind_blocks-at.ensures.last) in
+    record { walk = begun.0; cut = begun.1; capacity = refl }
 
 pub set_block-is_present-requires : goal.set_block-is_present-requires
 set_block-is_present-requires c =

@@ -1,7 +1,7 @@
 use Rattle.std.proofs.Common.{◌≡◌, length, vec_capacity}
 use Rattle.list_order.specs.Slots.{slots_from, LinksEnd}
 use Rattle.list_order.proofs.Cutting.{IsPartlyCut}
-use Rattle.list_order.proofs.marks.recut.Given as goal
+use Rattle.list_order.proofs.marks.cut_on.Given as goal
 
 abbrev pub invariant-loop-at : goal.invariant-loop-at
 invariant-loop-at l = record {
