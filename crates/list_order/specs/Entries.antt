@@ -1,5 +1,5 @@
 -- The ids of a list in its order, each with whether it is present.
-use Rattle.std.specs.Prelude.{◌≡◌, ℕ, List, [], ◌∷◌, map, filter, Bool, false, Option, Some, None, if◌then◌else◌}
+use Rattle.std.specs.Prelude.{ℕ, List, [], map, filter, Bool, false, Option, Some, None, if◌then◌else◌}
 use Rattle.std.specs.declared.cmp.Ordering.{Ordering}
 use Rattle.doc_words.specs.Words.{Id, id_cmp}
 use Rattle.crdt_rules.specs.Same.{id_eq}
