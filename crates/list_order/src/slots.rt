@@ -3,13 +3,14 @@ ghost use Rattle.std.specs.Prelude.{◌≡◌, ◌+◌, ◌<◌, ◌≤◌, leng
 ghost use Rattle.std.specs.Option.{ForSome};
 ghost use Rattle.std.specs.Ordering.{is_lt};
 ghost use Rattle.lamport_id.specs.Order.{id_cmp};
-ghost use Rattle.presence_set.specs.ById.{get, put_at_id, IsAscending};
+ghost use Rattle.presence_set.specs.ById.{get, put_at_id, rank, IsAscending};
 ghost use Rattle.list_order.specs.Slots.{ids_along, linked, linked_first, passed, slots_from, LinksEnd};
 ghost use Rattle.list_order.specs.Slots as Spec;
 
 use lamport_id::Id;
 use presence_set::rank_of;
 use std::alloc::{AllocError, Global};
+use std::cmp::Ordering;
 
 /// The number of a slot.
 #[derive(Clone, Copy)]
@@ -121,12 +122,29 @@ pub fn ids_from(
     Ok(ids)
 }
 
+/// How many entries have a lesser id. The last entry is looked at first: what is typed is asked for next.
+fn rank_near_end(index: &[(Id, SlotNumber)], id: &Id) -> usize
+    requires { IsAscending index.now }
+    ensures value { result ≡ rank index.now id.now }
+    ensures within { result ≤ length index.now }
+{
+    if index.is_empty() {
+        return 0;
+    }
+    let last = index.len() - 1;
+    match index[last].0.cmp(id) {
+        Ordering::Less => index.len(),
+        Ordering::Equal => last,
+        Ordering::Greater => rank_of(index, id),
+    }
+}
+
 /// The slot of an id.
 pub fn number_of(index: &[(Id, SlotNumber)], id: &Id) -> Option<SlotNumber>
     requires { IsAscending index.now }
     ensures { result ≡ get index.now id.now }
 {
-    let at = rank_of(index, id);
+    let at = rank_near_end(index, id);
     if at < index.len() && index[at].0 == *id {
         Some(index[at].1)
     } else {
@@ -154,7 +172,7 @@ pub fn add_entry(index: &mut Vec<(Id, SlotNumber)>, id: &Id, number: SlotNumber)
     ensures len { length index.new.items ≡ length index.old.items + 1 }
     ensures capacity { vec_capacity index.new ≡ vec_capacity index.old }
 {
-    let at = rank_of(index.as_slice(), id);
+    let at = rank_near_end(index.as_slice(), id);
     match index.insert(at, (*id, number)) {
         Ok(()) => {}
         Err(_) => unreachable!(),
