@@ -25,10 +25,6 @@ insert_row row = record { text = codes "INSERT INTO entry (doc, place, text) VAL
 abbrev pub update_epoch : ℕ → Statement
 update_epoch epoch = record { text = codes "UPDATE meta SET value = ?1 WHERE name = 'epoch'"; params = Int (pos epoch) ∷ [] }
 
--- the rows in one transaction
-abbrev pub batch_of : List Row → List Statement
-batch_of rows = (begin_it ∷ map insert_row rows) ++ commit_it ∷ []
-
 abbrev pub update_format : ℕ → Statement
 update_format format = record { text = codes "UPDATE meta SET value = ?1 WHERE name = 'format'"; params = Int (pos format) ∷ [] }
 
@@ -46,6 +42,10 @@ create_entry_it = record { text = entry_text; params = [] }
 
 abbrev pub insert_numbers : Statement
 insert_numbers = record { text = codes "INSERT INTO meta (name, value) VALUES ('format', 2), ('epoch', 0)"; params = [] }
+
+-- the rows in one transaction
+abbrev pub batch_of : List Row → List Statement
+batch_of rows = (begin_it ∷ map insert_row rows) ++ commit_it ∷ []
 
 -- both tables with their first rows, in a transaction
 abbrev pub filling_of_tables : List Statement
