@@ -1,10 +1,12 @@
 -- Statements that were run one after another, whatever tables the database has.
-use Rattle.std.specs.Prelude.{◌≡◌, ℕ, pos, List, [], ◌∷◌, ◌++◌, map, Ok, codes}
+use Rattle.std.specs.Prelude.{◌≡◌, ◌⊎◌, ℕ, pos, List, [], ◌∷◌, ◌++◌, map, Result, Ok, Err, codes}
 use Rattle.sqlite_trees.specs.declared.store.Store.{Ghosts}
 use Rattle.sqlite.specs.declared.types.Value.TheVariants.{Int}
 use Rattle.sqlite.specs.Order.{Row}
 use Rattle.sqlite.specs.Held.{Held, state}
-use Rattle.sqlite.specs.State.{Executes}
+use Rattle.sqlite.specs.State.{Executes, Shown, FailsToQuery}
+use Rattle.sqlite.specs.declared.error.Error.{Error}
+use Rattle.copy_schema.specs.Tables.{meta_text, entry_text}
 
 -- a text with its parameters
 pub record Statement : Type 0 where
@@ -23,15 +25,61 @@ insert_row row = record { text = codes "INSERT INTO entry (doc, place, text) VAL
 abbrev pub update_epoch : ℕ → Statement
 update_epoch epoch = record { text = codes "UPDATE meta SET value = ?1 WHERE name = 'epoch'"; params = Int (pos epoch) ∷ [] }
 
+abbrev pub update_format : ℕ → Statement
+update_format format = record { text = codes "UPDATE meta SET value = ?1 WHERE name = 'format'"; params = Int (pos format) ∷ [] }
+
+abbrev pub roll_it_back : Statement
+roll_it_back = record { text = codes "ROLLBACK"; params = [] }
+
+abbrev pub select_meta : Statement
+select_meta = record { text = codes "SELECT rowid, name, value FROM meta ORDER BY name DESC"; params = [] }
+
+abbrev pub create_meta_it : Statement
+create_meta_it = record { text = meta_text; params = [] }
+
+abbrev pub create_entry_it : Statement
+create_entry_it = record { text = entry_text; params = [] }
+
+abbrev pub insert_numbers : Statement
+insert_numbers = record { text = codes "INSERT INTO meta (name, value) VALUES ('format', 2), ('epoch', 0)"; params = [] }
+
 -- the rows in one transaction
 abbrev pub batch_of : List Row → List Statement
 batch_of rows = (begin_it ∷ map insert_row rows) ++ commit_it ∷ []
 
+-- both tables with their first rows, in a transaction
+abbrev pub filling_of_tables : List Statement
+filling_of_tables = begin_it ∷ create_meta_it ∷ create_entry_it ∷ insert_numbers ∷ []
+
+abbrev pub making_of_tables : List Statement
+making_of_tables = filling_of_tables ++ commit_it ∷ []
+
+-- ---- what was run
+
+-- the database was given it and nothing else, and gave this answer
+abbrev pub RunsTo : {S : Type 0} → Ghosts S → Statement → Held S → Held S → Result ℕ Error → Type 0
+RunsTo g it old new answer = Executes it.text it.params (state g old) (state g new) answer
+
 -- the database ran it, and answered Ok
 abbrev pub Ran : {S : Type 0} → Ghosts S → Statement → Held S → Held S → Type 0
-Ran g it old new = (count : ℕ) × Executes it.text it.params (state g old) (state g new) (Ok count)
+Ran g it old new = (count : ℕ) × RunsTo g it old new (Ok count)
 
 -- each after the one before it, and nothing between
 abbrev pub RanAll : {S : Type 0} → Ghosts S → List Statement → Held S → Held S → Type 0
 RanAll g [] old new = old ≡ new
 RanAll {S} g (it ∷ more) old new = (mid : Held S) × Ran g it old mid × RanAll g more mid new
+
+-- one of them failed by this error, after those before it ran, and none behind it was tried
+abbrev pub StopsBy : {S : Type 0} → Ghosts S → List Statement → Held S → Held S → Error → Type 0
+StopsBy g [] old new error = ⊥
+StopsBy {S} g (it ∷ more) old new error = RunsTo g it old new (Err error) ⊎ ((mid : Held S) × Ran g it old mid × StopsBy g more mid new error)
+
+-- ---- what was asked
+
+-- the database showed these rows for it
+abbrev pub ShowsFor : {S : Type 0} → Ghosts S → Statement → Held S → Held S → List Row → Type 0
+ShowsFor g it old new rows = Shown it.text it.params (state g old) (state g new) rows
+
+-- the database answered it by this error
+abbrev pub FailsFor : {S : Type 0} → Ghosts S → Statement → Held S → Held S → Error → Type 0
+FailsFor g it old new error = FailsToQuery it.text it.params (state g old) (state g new) error
