@@ -4,6 +4,7 @@ mod files;
 mod formats;
 mod kept;
 mod refused;
+mod reports;
 mod restored;
 mod samples;
 mod steps;

@@ -1,6 +1,7 @@
 //! Operations handed in out of order, twice, and against the rules, also against several at once; held ones given up, and
 //! released by changes of one's own; documents behind locks, on a shelf, and what their seats add up to; and want of memory.
 mod causes;
+mod counters;
 mod foreign;
 mod gathering;
 mod released;

@@ -8,9 +8,6 @@ use log::{Log, info, warn};
 use std::fmt::Display;
 use std::time::Clock;
 
-#[cfg(test)]
-mod tests;
-
 /// The time of a clock, in whole seconds, if it tells one.
 fn time_of<R: Clock>(rt: &R) -> Option<Timestamp> {
     let now = Timestamp::now(rt).ok()?;

@@ -15,6 +15,3 @@ mod halves;
 
 pub use calls::{Calls, Stamp};
 pub use counters::{Blank, Book, Marker, Share, Table};
-
-#[cfg(test)]
-mod tests;

@@ -1,7 +1,7 @@
 //! Notes as they stand on standard error.
-use crate::{note_ended, note_listening, note_restored, note_stopped};
 use log::sink::Memory;
 use log::{Level, Logged};
+use server_notes::{note_ended, note_listening, note_restored, note_stopped};
 use std::alloc::{Alloc, AllocError};
 use std::io;
 use std::process::Abort;
