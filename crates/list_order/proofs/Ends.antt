@@ -1,22 +1,15 @@
 -- The last entry of an index, which is looked at first.
-use Rattle.std.proofs.Common.{◌≡◌, ◌+◌, ◌-◌, ℕ, zero, suc, nat_eq, List, length, get_or, true, false, true≢false, Bool, Less, Equal, refl, sym, ap, ◌∙◌, arith}
+use Rattle.std.proofs.Common.{◌≡◌, ◌+◌, ◌-◌, ℕ, zero, suc, nat_eq, List, length, get_or, false, true≢false, Less, Equal, sym, ap, ◌∙◌, arith}
 use Rattle.std.proofs.lemmas.List.{get_or_default}
 use Rattle.std.specs.Ordering.{is_lt, is_eq}
 use Rattle.lamport_id.specs.Order.{id_cmp}
 use Rattle.lamport_id.specs.declared.id.Id.{Id}
 use Rattle.presence_set.specs.ById.{rank, IsAscending}
 use Rattle.presence_set.proofs.Ascending.{ids_ordered}
+use Rattle.presence_set.proofs.ByIdLaws.{not_less_itself}
 use Rattle.sorted_lists.proofs.Bisection.{lesser_first, rank_is}
 use Rattle.sorted_lists.proofs.Rising.{rising_index}
-use Rattle.sorted_lists.proofs.Keys.{is_Less, same}
-use Rattle.list_laws.proofs.IdOrder.{irreflexive}
-
-not_less_itself : (id : Id) → is_lt (id_cmp id id) ≡ false
-not_less_itself id = go (is_lt (id_cmp id id)) refl
-  where
-    go : (b : Bool) → is_lt (id_cmp id id) ≡ b → is_lt (id_cmp id id) ≡ false
-    go true e = absurd (irreflexive ids_ordered.order {x = id} (is_Less (id_cmp id id) e))
-    go false e = e
+use Rattle.sorted_lists.proofs.Keys.{same}
 
 pub one_behind : (n : ℕ) → nat_eq n 0 ≡ false → n ≡ n - 1 + 1
 one_behind zero e = absurd (true≢false e)
