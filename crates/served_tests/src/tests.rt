@@ -4,3 +4,4 @@ mod notes;
 mod serving;
 mod starts;
 mod stops;
+mod watched;

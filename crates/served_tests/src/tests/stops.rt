@@ -32,7 +32,10 @@ fn copy_over(
 }
 
 /// A copy over new files, the first of which stops after so many calls.
-fn copy_that_stops(alloc: Global, calls: u64) -> Result<LogCopy<FileStore<Stopping>>, AllocError> {
+pub fn copy_that_stops(
+    alloc: Global,
+    calls: u64,
+) -> Result<LogCopy<FileStore<Stopping>>, AllocError> {
     let files = Files {
         log: Fuse::new(Memory::new(alloc), calls),
         db: Fuse::new(Memory::new(alloc), u64::MAX),

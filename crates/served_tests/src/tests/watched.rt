@@ -1,0 +1,120 @@
+//! Who watches a copier is told of a fault as soon as the copier has met it, and of nothing else.
+ghost use Rattle.std.specs.Prelude.{◌≡◌};
+
+use super::serving::{THREE, empty, serve};
+use super::stops::copy_that_stops;
+use copier::{Copier, Watch};
+use doc_ledger::Ledger;
+use lamport_id::ReplicaName;
+use log::Log;
+use log_copy::{Fault, LogCopy};
+use served_copy::{restored_stock, shelve};
+use server_core::{Library, Side};
+use share_ledger::{Blank, Marker};
+use sqlite::Alter;
+use std::alloc::{AllocError, Global};
+use std::marker::Brand;
+use std::process::Abort;
+use std::sync::{Mutex, Wait};
+use std::test::*;
+use std::thread::Threads;
+use std::time::Clock;
+
+/// Counts how often it is told of a fault.
+#[derive(Drop)]
+struct Counting<'a, R: Wait> {
+    rt: &'a R,
+    times: &'a Mutex<u32>,
+}
+
+impl<R: Wait> Watch for Counting<'_, R> {
+    fn stopped(&self, _why: &Fault) {
+        let mut times = self.times.lock(self.rt);
+        *times = times.saturating_add(1);
+    }
+}
+
+/// The document d with the operations that a server logged, none of which stands in another copy.
+fn with_three<M: Marker + Send + Sync, R: Threads + Wait + Sync + Log + Clock>(
+    rt: &R,
+    alloc: Global,
+    blank: Blank,
+) -> Result<LogCopy<sqlite::MemStore>, AllocError>
+    requires { blank ≡ M.name }
+{
+    let mut copy = empty(alloc)?;
+    let _served = serve::<M, R, _>(rt, alloc, blank, "srv", &["d"], &[THREE], &mut copy)?;
+    Ok(copy)
+}
+
+/// The document d of a copy behind a lock. Where it can't be had memory is said to be wanting.
+fn library_of<M: Marker, S: Alter>(
+    alloc: Global,
+    blank: Blank,
+    copy: &LogCopy<S>,
+) -> Result<Library<M>, AllocError>
+    requires { blank ≡ M.name }
+{
+    let Some(replica) = ReplicaName::read(b"srv-2") else {
+        return Err(AllocError);
+    };
+    let mut ledger = Ledger::<M>::new(blank);
+    let Ok(stock) = restored_stock(alloc, &mut ledger, copy, &replica, &["d"], 1) else {
+        return Err(AllocError);
+    };
+    match shelve(alloc, stock) {
+        Ok(library) => Ok(library),
+        Err(_) => Err(AllocError),
+    }
+}
+
+/// Copies the library's documents beside so many sessions, none of which ends, and gives how often the watch was told of a fault.
+fn told<M: Marker, R: Wait, S: Alter>(
+    rt: &R,
+    library: &Library<M>,
+    sessions: u64,
+    copy: &mut LogCopy<S>,
+) -> u32 {
+    let times = Mutex::new(0);
+    let counting = Counting { rt, times: &times };
+    let mut copier = Copier::new(copy, &counting);
+    copier.run(rt, library, sessions);
+    let _why = copier.end();
+    times.into_inner()
+}
+
+/// The same where the library is that of a full copy, and has a table of its own.
+fn told_beside<M: Marker, R: Wait, F: Alter, S: Alter>(
+    rt: &R,
+    alloc: Global,
+    blank: Blank,
+    full: &LogCopy<F>,
+    sessions: u64,
+    copy: &mut LogCopy<S>,
+) -> Result<u32, AllocError>
+    requires { blank ≡ M.name }
+{
+    let library = library_of::<M, F>(alloc, blank, full)?;
+    Ok(told::<M, R, S>(rt, &library, sessions, copy))
+}
+
+// To adopt new files takes 20 calls, and the first batch ten or so more.
+const STOPS_IN_THE_FIRST_BATCH: u64 = 24;
+
+#[test]
+fn fault_is_told_while_a_session_runs(rt: HostRuntime) -> Result<(), Fail> {
+    let full = with_three::<Brand, _>(&rt, rt.alloc(), Blank::new())?;
+    let mut copy = copy_that_stops(rt.alloc(), STOPS_IN_THE_FIRST_BATCH)?;
+    let times = told_beside::<Brand, _, _, _>(&rt, rt.alloc(), Blank::new(), &full, 1, &mut copy)?;
+    assert_eq!(rt; times, 1);
+    Ok(())
+}
+
+#[test]
+fn nothing_is_told_without_a_fault(rt: HostRuntime) -> Result<(), Fail> {
+    let full = with_three::<Brand, _>(&rt, rt.alloc(), Blank::new())?;
+    let mut copy = empty(rt.alloc())?;
+    let times = told_beside::<Brand, _, _, _>(&rt, rt.alloc(), Blank::new(), &full, 0, &mut copy)?;
+    assert_eq!(rt; times, 0);
+    Ok(())
+}
