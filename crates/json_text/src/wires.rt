@@ -1,7 +1,8 @@
 //! Places, fronts and operations as JSON.
 ghost use Rattle.op_core.specs.Wire.{cursor_data, entry_data, front_data, key_data, mutation_data, tagged_data, wire};
 ghost use Rattle.op_core.specs.declared.mutation.Mutation.TheVariants.{Add, Delete};
-ghost use Rattle.json_text.specs.Tokens.{data_tokens, Puts};
+ghost use Rattle.std.specs.Prelude.{map};
+ghost use Rattle.json_text.specs.Tokens.{all_tokens, data_tokens, Puts};
 
 use crate::parts::AsJson;
 use crate::text::JsonText;
@@ -59,9 +60,21 @@ impl AsJson for (ReplicaName, u64) {
 impl AsJson for Front {
     ghost json = { front_data };
 
+    #[tactic(auto, using(crate::proofs::Texts::lists))]
     fn put_in(&self, text: &mut JsonText) -> Result<(), Refusal> {
-        text.list(self.as_slice())
+        text.begin_list()?;
+        put_pairs(text, self)?;
+        text.end_list()
     }
+}
+
+fn put_pairs(text: &mut JsonText, front: &Front) -> Result<(), Refusal>
+    ensures { Puts (all_tokens (map entry_data front.now)) text.old text.new result }
+{
+    for at in 0..front.len() {
+        front.pair_at(at).put_in(text)?;
+    }
+    Ok(())
 }
 
 impl AsJson for Mutation {

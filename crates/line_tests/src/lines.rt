@@ -431,7 +431,7 @@ fn tells_the_log(rt: HostRuntime) -> Result<(), Fail> {
 
 #[test]
 fn tells_fronts_and_what_waits(rt: HostRuntime) -> Result<(), Fail> {
-    let front = Front::from(vec![in rt.alloc(); (own_id()?.replica, 3u64)]?);
+    let front = Front::from_pairs(rt.alloc(), &[(own_id()?.replica, 3u64)])?;
     assert!(rt;
         tells(
             rt.alloc(),

@@ -1,8 +1,8 @@
 -- Fronts that ascend, compared entry by entry.
-use Rattle.std.proofs.Common.{◌≡◌, ◌≢◌, ℕ, ◌<◌, ◌≤◌, zero, suc, inl, inr, List, [], ◌∷◌, true, false, ◌&&◌, ◌||◌, ◌==◌, ◌+◌, nat_le, Contains, length, take, drop, get_or, ◌-◌, arith, refl, sym, ap, subst, ◌∙◌, Less, Equal, Greater}
-use Rattle.std.proofs.Math.Dec.{eqb-suc-zero}
+use Rattle.std.proofs.Common.{◌≡◌, ◌≢◌, ℕ, ◌<◌, ◌≤◌, zero, suc, inl, inr, List, [], ◌∷◌, true, false, ◌&&◌, ◌||◌, ◌==◌, ◌+◌, nat_le, Contains, length, drop, get_or, Bool, leb-true, leb-false, arith, refl, sym, ap, subst, ◌∙◌, Less, Equal, Greater}
 use Rattle.std.proofs.lemmas.Bool.{and_parts}
-use Rattle.std.proofs.lemmas.List.{take_all}
+use Rattle.std.specs.List.{zip}
+use Rattle.std.proofs.lemmas.List.{drop_all, get_or_default}
 use Rattle.std.proofs.Math.Bool.{or-false}
 use Rattle.op_core.specs.Front.{max_counter}
 use lib.Pointwise.{bytes_decides}
@@ -12,7 +12,8 @@ use Rattle.op_core.specs.Shape.{is_shaped, is_shallow, has_form, has_front}
 use Rattle.op_core.proofs.Fronts.{ascending-rest}
 use Rattle.list_laws.proofs.Members.{Contains-here, Contains-there, Contains-cases}
 use Rattle.crdt_rules.proofs.Tests.{any_none}
-use Rattle.op_log.proofs.Cursors.{drop_at}
+use Rattle.op_log.proofs.Pairs.{drop_pair}
+use Rattle.op_core.proofs.FrontPairs.{length-pairs}
 use Rattle.doc_rules.proofs.WholeFront.{rising_from_ascending}
 use Rattle.op_log.proofs.Fronts.{NamesRise, names_differ}
 use Rattle.doc_rules.proofs.OneAnswer.{name_order}
@@ -73,45 +74,60 @@ ascending-drop front zero h = h
 ascending-drop [] (suc i) h = refl
 ascending-drop (e ∷ rest) (suc i) h = ascending-drop rest i (ascending-rest e rest h)
 
--- what is left of the one front and of the other, and the first entry of each
-module _ (front other : List (List ℕ × ℕ)) (i : ℕ) (e n : List ℕ × ℕ) (some : 1 ≤ length front) (first : e ≡ get_or front 0 e) (within : i < length other)
-    (next : n ≡ get_or other i n) where
-  whole : front ≡ e ∷ drop 1 front
-  whole = drop_at front 0 e some first
+-- two fronts, of which the one is left from place k on and the other from place j on, and the names that stand there
+module _ (names others : List (List ℕ)) (counters reached : List ℕ) (len : length names ≡ length counters) (other_len : length others ≡ length reached)
+    (ascends : is_ascending (zip names counters) ≡ true) (other_ascends : is_ascending (zip others reached) ≡ true) (k j : ℕ) (within : k < length names)
+    (there : j < length others) (name other : List ℕ) (named : name ≡ get_or names k name) (met : other ≡ get_or others j other) where
+  left : drop k (zip names counters) ≡ (name, get_or counters k 0) ∷ drop (suc k) (zip names counters)
+  left = drop_pair names counters len k name within named
 
-  other_whole : drop i other ≡ n ∷ drop (suc i) other
-  other_whole = drop_at other i n within next
+  right : drop j (zip others reached) ≡ (other, get_or reached j 0) ∷ drop (suc j) (zip others reached)
+  right = drop_pair others reached other_len j other there met
 
-  module _ (ascends : is_ascending front ≡ true) (other_ascends : is_ascending other ≡ true) where
-    here : is_ascending (e ∷ drop 1 front) ≡ true
-    here = subst (λ f. is_ascending f ≡ true) whole ascends
+  left_ascends : is_ascending ((name, get_or counters k 0) ∷ drop (suc k) (zip names counters)) ≡ true
+  left_ascends = subst (λ f. is_ascending f ≡ true) left (ascending-drop (zip names counters) k ascends)
 
-    there : is_ascending (n ∷ drop (suc i) other) ≡ true
-    there = subst (λ f. is_ascending f ≡ true) other_whole (ascending-drop other i other_ascends)
+  right_ascends : is_ascending ((other, get_or reached j 0) ∷ drop (suc j) (zip others reached)) ≡ true
+  right_ascends = subst (λ f. is_ascending f ≡ true) right (ascending-drop (zip others reached) j other_ascends)
 
-    pub turn_less : name_cmp e.0 n.0 ≡ Less → is_le front (drop i other) ≡ false
-    turn_less less = (λ j. is_le (whole j) (other_whole j)) ∙ le_less e (drop 1 front) n (drop (suc i) other) there less
+  pub turn_less : name_cmp name other ≡ Less → is_le (drop k (zip names counters)) (drop j (zip others reached)) ≡ false
+  turn_less less =
+      (λ i. is_le (left i) (right i))
+      ∙ le_less (name, get_or counters k 0) (drop (suc k) (zip names counters)) (other, get_or reached j 0) (drop (suc j) (zip others reached)) right_ascends less
 
-    pub turn_equal : name_cmp e.0 n.0 ≡ Equal → is_le front (drop i other) ≡ (nat_le e.1 n.1 && is_le (drop 1 front) (drop (suc i) other))
-    turn_equal equal = (λ j. is_le (whole j) (other_whole j)) ∙ le_equal e (drop 1 front) n (drop (suc i) other) here there equal
+  pub turn_equal : name_cmp name other ≡ Equal
+      → is_le (drop k (zip names counters)) (drop j (zip others reached))
+      ≡ (nat_le (get_or counters k 0) (get_or reached j 0) && is_le (drop (suc k) (zip names counters)) (drop (suc j) (zip others reached)))
+  turn_equal equal =
+      (λ i. is_le (left i) (right i))
+      ∙ le_equal (name, get_or counters k 0) (drop (suc k) (zip names counters)) (other, get_or reached j 0) (drop (suc j) (zip others reached)) left_ascends right_ascends equal
 
-    pub turn_greater : name_cmp e.0 n.0 ≡ Greater → is_le front (drop i other) ≡ is_le front (drop (suc i) other)
-    turn_greater greater =
-        (λ j. is_le (whole j) (other_whole j)) ∙ le_greater e (drop 1 front) n (drop (suc i) other) here greater
-        ∙ ap (λ f. is_le f (drop (suc i) other)) (sym whole)
+  pub turn_greater : name_cmp name other ≡ Greater
+      → is_le (drop k (zip names counters)) (drop j (zip others reached)) ≡ is_le (drop k (zip names counters)) (drop (suc j) (zip others reached))
+  turn_greater greater =
+      (λ i. is_le (left i) (right i))
+      ∙ le_greater (name, get_or counters k 0) (drop (suc k) (zip names counters)) (other, get_or reached j 0) (drop (suc j) (zip others reached)) left_ascends greater
+      ∙ ap (λ f. is_le f (drop (suc j) (zip others reached))) (sym left)
 
-    pub turn_ascends : is_ascending (drop 1 front) ≡ true
-    turn_ascends = ascending-rest e (drop 1 front) here
+-- where the one front is at its end
+pub at_end : (names : List (List ℕ)) (counters : List ℕ) (len : length names ≡ length counters) (k : ℕ) (others : List (List ℕ × ℕ)) → length names ≤ k
+    → is_le (drop k (zip names counters)) others ≡ true
+at_end names counters len k others past =
+    ap (λ f. is_le f others) (drop_all k (zip names counters) (omega (arith, length-pairs names counters len, len, past)))
 
--- all behind the first entry, by its length
-pub behind_first : (front : List (List ℕ × ℕ)) → take (length front - 1) (drop 1 front) ≡ drop 1 front
-behind_first [] = take_all (length {A = List ℕ × ℕ} [] - 1) [] (omega arith)
-behind_first (e ∷ rest) = take_all (length (e ∷ rest) - 1) rest (omega arith)
+-- where the other one is
+pub other_at_end : (names : List (List ℕ)) (counters : List ℕ) (len : length names ≡ length counters) (k : ℕ) → k < length names
+    → is_le (drop k (zip names counters)) [] ≡ false
+other_at_end names counters len k within =
+    ap (λ f. is_le f []) (drop_pair names counters len k (get_or names k []) within (get_or_default names k [] (get_or names k []) within))
 
--- where the other front is at its end
-pub le_end : (front : List (List ℕ × ℕ)) → (length front == 0) ≡ is_le front []
-le_end [] = refl
-le_end (e ∷ rest) = eqb-suc-zero (length rest)
+-- so it is at its end, or not
+pub ends_there : (names : List (List ℕ)) (counters : List ℕ) (len : length names ≡ length counters) (k : ℕ) → nat_le (length names) k ≡ is_le (drop k (zip names counters)) []
+ends_there names counters len k = go (nat_le (length names) k) refl
+  where
+    go : (b : Bool) → nat_le (length names) k ≡ b → nat_le (length names) k ≡ is_le (drop k (zip names counters)) []
+    go true is = is ∙ sym (at_end names counters len k [] (leb-true (length names) k is))
+    go false is = is ∙ sym (other_at_end names counters len k (leb-false (length names) k is))
 
 -- the front of an operation ascends
 pub shaped_ascending : (op : Op) → is_shaped op ≡ true → is_ascending op.front ≡ true

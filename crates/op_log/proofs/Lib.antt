@@ -7,5 +7,6 @@ pub mod Uncovered
 pub mod Firsts
 pub mod Comparing
 pub mod Cursors
+pub mod Pairs
 pub mod WholeFronts
 pub mod Deciding

@@ -57,7 +57,7 @@ impl OpLog {
         if !self.knows_front(op.front()) {
             return Err(Refusal::BadFront);
         }
-        if front::last_of(op.front().as_slice(), op.id().replica) != last {
+        if front::counter_in(op.front(), op.id().replica) != last {
             return Err(Refusal::Forked {
                 last: last.unwrap_or(0),
             });
@@ -80,28 +80,20 @@ impl OpLog {
         requires { is_ascending front.now ≡ true }
         ensures { result ≡ knows_front front.now self.now.operations }
     {
-        self.knows_entries(front.as_slice(), front.as_slice())
-    }
-
-    // Whether each of these entries is a logged operation, whose own front is at most this one.
-    fn knows_entries(&self, front: &[Entry], entries: &[Entry]) -> bool
-        requires { is_ascending front.now ≡ true }
-        ensures { result ≡ list_all (λ e. list_any (λ o. id_eq o.id (id_of e) && is_le o.front front.now) self.now.operations) entries.now }
-    {
-        for entry in entries {
-            if !self.knows_entry(front, entry) {
+        for at in 0..front.len() {
+            if !self.knows_entry(front, front.pair_at(at)) {
                 return false;
             }
         }
         true
     }
 
-    // Whether the entry is a logged operation, whose own front is at most this one.
-    fn knows_entry(&self, front: &[Entry], entry: &Entry) -> bool
+    // Whether the pair is a logged operation, whose own front is at most this one.
+    fn knows_entry(&self, front: &Front, entry: Entry) -> bool
         requires { is_ascending front.now ≡ true }
-        ensures { result ≡ list_any (λ o. id_eq o.id (id_of entry.now) && is_le o.front front.now) self.now.operations }
+        ensures { result ≡ list_any (λ o. id_eq o.id (id_of entry) && is_le o.front front.now) self.now.operations }
     {
-        match self.get(id_of(entry)) {
+        match self.get(id_of(entry.0, entry.1)) {
             Some(op) => is_front_at_most(op, front),
             None => false,
         }
@@ -147,10 +139,10 @@ fn inserts_at(path: &[Tagged], op: &Operation) -> bool
 
 // Whether the front of an operation is at most another.
 #[tactic(auto, using(crate::proofs::Comparing::shaped_ascending))]
-fn is_front_at_most(op: &Operation, front: &[Entry]) -> bool
+fn is_front_at_most(op: &Operation, front: &Front) -> bool
     requires { is_ascending front.now ≡ true }
     ensures { result ≡ is_le op.now.front front.now }
 {
     keeps_shape(op);
-    front::is_at_most(op.front().as_slice(), front)
+    front::is_at_most(op.front(), front)
 }

@@ -2,7 +2,6 @@
 ghost use Rattle.std.specs.Prelude.{◌≡◌, take, IfOk, IfErr};
 ghost use Rattle.doc_rules.specs.Answers.{since};
 
-use crate::front::Entry;
 use json_scalar::Refusal;
 use op_core::{Front, Operation};
 use std::alloc::Global;
@@ -40,16 +39,4 @@ pub fn first_uncovered(
         }
     }
     Ok(found)
-}
-
-/// A copy of these entries. It is refused for want of memory alone.
-pub fn entries(alloc: Global, front: &[Entry]) -> Result<Vec<Entry>, Refusal>
-    ensures ok { IfOk result (λ copied. copied.items ≡ front.now) }
-    ensures err { IfErr result (λ e. e ≡ Refusal.NoMemory) }
-{
-    let mut copied = Vec::with_capacity(alloc, front.len())?;
-    for entry in front {
-        copied.push(*entry)?;
-    }
-    Ok(copied)
 }

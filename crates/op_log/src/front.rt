@@ -1,5 +1,6 @@
 //! The front of a log: for each replica the counter of its last operation.
-ghost use Rattle.std.specs.Prelude.{◌≡◌, ◌+◌, ◌<◌, ◌≤◌, true, vec_len, MatchResult};
+ghost use Rattle.std.specs.Prelude.{◌≡◌, ◌+◌, ◌<◌, ◌≤◌, true, length, vec_len, MatchResult};
+ghost use Rattle.std.specs.List.{zip};
 ghost use Rattle.std.specs.Vec.{vec_capacity};
 ghost use Rattle.lamport_id.specs.Order.{name_cmp};
 ghost use Rattle.op_core.specs.Front.{is_ascending, is_le};
@@ -8,6 +9,7 @@ ghost use Rattle.op_log.specs.Front.{PutsEntry};
 ghost use Rattle.sorted_lists.specs.Sorted.{IsPlace, IsGap};
 
 use lamport_id::ReplicaName;
+use op_core::{Front, Operation};
 use std::cmp::Ordering;
 
 /// A replica, and the counter of its last operation.
@@ -47,23 +49,78 @@ pub fn put_last(front: &mut Vec<Entry>, name: ReplicaName, counter: u64)
     }
 }
 
-/// Whether the other front covers the id of each entry. Both ascend, so they are compared entry by entry.
-pub fn is_at_most(front: &[Entry], other: &[Entry]) -> bool
+/// The counter that a front says of the replica, if it names it.
+pub fn counter_in(front: &Front, name: ReplicaName) -> Option<u64>
+    requires { is_ascending front.now ≡ true }
+    ensures { result ≡ entry_of front.now name }
+{
+    let (names, counters) = front.parts();
+    counter_among(names, counters, name)
+}
+
+fn counter_among(names: &[ReplicaName], counters: &[u64], name: ReplicaName) -> Option<u64>
+    requires len { length names.now ≡ length counters.now }
+    requires ascending { is_ascending (zip names.now counters.now) ≡ true }
+    ensures { result ≡ entry_of (zip names.now counters.now) name }
+{
+    match names.binary_search(&name) {
+        Ok(at) => Some(counters[at]),
+        Err(_) => None,
+    }
+}
+
+/// Whether the other front covers the id of each pair. Both ascend, so they are compared pair by pair.
+pub fn is_at_most(front: &Front, other: &Front) -> bool
     requires ascending { is_ascending front.now ≡ true }
     requires other_ascending { is_ascending other.now ≡ true }
     ensures { result ≡ is_le front.now other.now }
 {
-    let mut rest = front;
-    for next in other {
-        let [first, later @ ..] = rest else {
+    let (names, counters) = front.parts();
+    let (others, reached) = other.parts();
+    are_at_most(names, counters, others, reached)
+}
+
+fn are_at_most(
+    names: &[ReplicaName],
+    counters: &[u64],
+    others: &[ReplicaName],
+    reached: &[u64],
+) -> bool
+    requires len { length names.now ≡ length counters.now }
+    requires other_len { length others.now ≡ length reached.now }
+    requires ascending { is_ascending (zip names.now counters.now) ≡ true }
+    requires other_ascending { is_ascending (zip others.now reached.now) ≡ true }
+    ensures { result ≡ is_le (zip names.now counters.now) (zip others.now reached.now) }
+{
+    let mut first = 0;
+    for at in 0..others.len() {
+        if first >= names.len() {
             return true;
-        };
-        match first.0.cmp(&next.0) {
+        }
+        match names[first].cmp(&others[at]) {
             Ordering::Less => return false,
-            Ordering::Equal if next.1 < first.1 => return false,
-            Ordering::Equal => rest = later,
+            Ordering::Equal if reached[at] < counters[first] => return false,
+            Ordering::Equal => first += 1,
             Ordering::Greater => {}
         }
     }
-    rest.is_empty()
+    first >= names.len()
+}
+
+/// The same operation, which shares the names of its front with the operation at a place, or with the last one, where
+/// they have the same.
+pub fn sharing(op: Operation, entries: &[Operation], at: usize) -> Operation
+    ensures { result ≡ op }
+{
+    let op = sharing_with(op, entries.get(at));
+    sharing_with(op, entries.last())
+}
+
+fn sharing_with(op: Operation, other: Option<&Operation>) -> Operation
+    ensures { result ≡ op }
+{
+    match other {
+        Some(other) => op.sharing(other),
+        None => op,
+    }
 }

@@ -1,5 +1,6 @@
 //! The log.
-ghost use Rattle.std.specs.Prelude.{◌≡◌, ◌+◌, ◌≤◌, [], ◌∷◌, ◌++◌, length, take, drop, map, filter, not, ◌==◌, OnOk, IfOk, IfErr, Ok};
+ghost use Rattle.std.specs.Prelude.{◌≡◌, ◌+◌, ◌<◌, ◌≤◌, ℕ, List, [], ◌∷◌, ◌++◌, length, get_or, take, drop, map, filter, not, ◌==◌, OnOk, IfOk, IfErr, Ok};
+ghost use Rattle.std.specs.List.{zip, list_all};
 ghost use Rattle.std.specs.Option.{option_copied};
 ghost use Rattle.json_scalar.specs.Refusal.{UnlessMemory};
 ghost use Rattle.op_core.specs.Limits.{most_replicas};
@@ -12,7 +13,7 @@ ghost use Rattle.doc_rules.specs.Answers.{since};
 ghost use Rattle.doc_rules.specs.Told.{operations_text};
 ghost use Rattle.doc_rules.specs.Replica.{find_id};
 
-use crate::copies::{copies, entries, first_uncovered};
+use crate::copies::{copies, first_uncovered};
 use crate::front::{self, Entry};
 use crate::index::{self, Link};
 use crate::told::text_of_uncovered;
@@ -128,7 +129,8 @@ impl OpLog {
         Ok(())
     }
 
-    /// Adds an operation that fits, in room that was reserved. It takes no memory.
+    /// Adds an operation that fits, in room that was reserved. It takes no memory, and where the names of its front are those
+    /// of its replica's operation before it or of the last one, it gives its own back.
     pub fn append(&mut self, op: Operation)
         requires fits { Fits op self.old.operations }
         requires room { 1 ≤ self.old.room }
@@ -141,6 +143,7 @@ impl OpLog {
         self.links.push(link).unwrap();
         front::put_last(&mut self.lasts, replica, self.entries.len() as u64);
         front::put_last(&mut self.front, replica, counter);
+        let op = front::sharing(op, &self.entries, link.before);
         self.entries.push(op).unwrap();
     }
 
@@ -149,7 +152,7 @@ impl OpLog {
         ensures { UnlessMemory result (Ok (front_of self.now.operations)) }
     {
         let alloc = *self.front.allocator();
-        Ok(Front::from(entries(alloc, &self.front)?))
+        Front::from_pairs(alloc, &self.front)
     }
 
     /// The first operations that the front does not cover, at most `limit` of them, in their order. The search starts at the
@@ -185,10 +188,8 @@ impl OpLog {
     pub fn is_ready(&self, op: &Operation) -> bool
         ensures { result ≡ is_ready op.now self.now.operations }
     {
-        op.front()
-            .as_slice()
-            .iter()
-            .all(|entry| self.contains(id_of(entry)))
+        let (names, counters) = op.front().parts();
+        self.contains_all(names, counters)
     }
 
     /// The ids of the front of an operation that are not logged, in the order of the front. It is refused for want of
@@ -197,22 +198,39 @@ impl OpLog {
         ensures { UnlessMemory result (Ok (missing op.now self.now.operations)) }
     {
         let alloc = *self.entries.allocator();
-        Ok(Ids::from(self.unlogged(alloc, op.front().as_slice())?))
+        Ok(Ids::from(self.unlogged(alloc, op.front())?))
     }
 
-    // The ids of these entries that are not logged.
-    fn unlogged(&self, alloc: Global, front: &[Entry]) -> Result<Vec<Id>, Refusal>
+    fn contains_all(&self, names: &[ReplicaName], counters: &[u64]) -> bool
+        ensures { result ≡ list_all (λ e. is_logged self.now.operations (id_of e)) (zip names.now counters.now) }
+    {
+        names
+            .iter()
+            .zip(counters.iter())
+            .all(|pair| self.contains(id_of(*pair.0, *pair.1)))
+    }
+
+    // The ids of a front that are not logged.
+    fn unlogged(&self, alloc: Global, front: &Front) -> Result<Vec<Id>, Refusal>
         ensures ok { IfOk result (λ ids. ids.items ≡ filter (λ i. not (is_logged self.now.operations i)) (map id_of front.now)) }
         ensures err { IfErr result (λ e. e ≡ Refusal.NoMemory) }
     {
         let mut ids = Vec::new(alloc);
-        for entry in front {
-            if !self.contains(id_of(entry)) {
-                ids.push(id_of(entry))?;
+        for at in 0..front.len() {
+            if !self.contains(id_at(front, at)) {
+                ids.push(id_at(front, at))?;
             }
         }
         Ok(ids)
     }
+}
+
+fn id_at(front: &Front, at: usize) -> Id
+    requires { at < length front.now }
+    ensures { (d : List ℕ × ℕ) → result ≡ id_of (get_or front.now at d) }
+{
+    let (name, counter) = front.pair_at(at);
+    id_of(name, counter)
 }
 
 /// Each log is good. It does nothing: by a call a caller's proof knows of a value what its type says.

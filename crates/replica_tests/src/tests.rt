@@ -43,7 +43,8 @@ fn made(
         key: Key::Doc,
     };
     let mutation = Mutation::Assign(Val::Scalar(Scalar::Null));
-    Ok(Operation::shaped(id, Front::from(front), cursor, mutation).expect(rt, "shape"))
+    let front = Front::from_pairs(alloc, &front)?;
+    Ok(Operation::shaped(id, front, cursor, mutation).expect(rt, "shape"))
 }
 
 // The operation of `p` with this counter, after its operation with the counter before.

@@ -4,8 +4,6 @@
 mod documents;
 mod names;
 mod run;
-#[cfg(test)]
-mod tests;
 
 pub use documents::Seated;
 pub use names::{MAX_DOCUMENTS, MAX_NAME_BYTES, first_replica, is_among, is_good, is_name};

@@ -10,4 +10,4 @@ mod telling;
 pub use naming::raise;
 pub use restoring::{Stock, restored_stock, shelve};
 pub use serving::serve_over;
-pub use telling::tell_totals;
+pub use telling::{tell_fault, tell_totals};

@@ -12,7 +12,7 @@ ghost use Rattle.served_copy.specs.Totals.{ServesSessions};
 use crate::naming::raise;
 use crate::noting::{Noting, note_documents};
 use crate::restoring::{Stock, restored_stock, shelve};
-use crate::telling::tell_totals;
+use crate::telling::{tell_fault, tell_totals};
 use copier::{Copier, Watch};
 use doc_ledger::Ledger;
 use lamport_id::ReplicaName;
@@ -177,17 +177,6 @@ fn serve_stock<
         return 1;
     };
     serve_library(rt, alloc, library, names, connections, copy, out)
-}
-
-/// Tells that the copy was refused, where it was. Of another fault nothing is told.
-fn tell_fault<W: io::Write>(fault: Fault, out: &mut W)
-    ensures untold { (fault ≡ Fault.Refused) ⊎ (out.new ≡ out.old) }
-{
-    if fault == Fault::Refused {
-        // Where the writer fails the status is 1 all the same.
-        let _told = out.write_all(b"[\"no\",26,\"copy-refused\"]\n");
-        let _flushed = out.flush();
-    }
 }
 
 /// Serves these connections, one session each, on documents of these names: raises the epoch of the copy, restores the documents from

@@ -1,11 +1,24 @@
 //! What a server tells when its sessions have ended.
-ghost use Rattle.std.specs.Prelude.{◌≡◌, length, map, OnOk};
+ghost use Rattle.std.specs.Prelude.{◌≡◌, ◌⊎◌, length, map, OnOk};
 ghost use Rattle.std.specs.Io.KnownBytes.{Appends};
 ghost use Rattle.served_copy.specs.Totals.{total_line, total_lines};
 
+use copy_report::REFUSED_LINE;
 use locked_doc::Totals;
+use log_copy::Fault;
 use std::alloc::Global;
 use std::io;
+
+/// Tells that the copy was refused, where it was. Of another fault nothing is told.
+pub fn tell_fault<W: io::Write>(fault: Fault, out: &mut W)
+    ensures untold { (fault ≡ Fault.Refused) ⊎ (out.new ≡ out.old) }
+{
+    if fault == Fault::Refused {
+        // Where the writer fails no more can be told.
+        let _told = out.write_all(REFUSED_LINE);
+        let _flushed = out.flush();
+    }
+}
 
 /// Writes the totals of a document.
 fn tell_total<W: io::Write>(

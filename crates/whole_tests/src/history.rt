@@ -41,7 +41,7 @@ impl Seen {
                 entries.push((name_of(text)?, *counter))?;
             }
         }
-        Ok(Front::from(entries))
+        Front::from_pairs(alloc, &entries)
     }
 
     /// A replica makes an operation.

@@ -46,15 +46,14 @@ const NO_SHAPE: &str = r#"["op",[9,"p"],[["o",1]],[[["m",0]],"k"],["assign",2]]"
 
 fn is_front(reply: Reply, first: (&str, u64), second: (&str, u64)) -> bool {
     match &reply {
-        Reply::Front(front) => match front.as_slice() {
-            [one, other] => is_entry(one, first) && is_entry(other, second),
-            _ => false,
-        },
+        Reply::Front(front) => {
+            front.len() == 2 && is_entry(front.pair_at(0), first) && is_entry(front.pair_at(1), second)
+        }
         _ => false,
     }
 }
 
-fn is_entry(entry: &(ReplicaName, u64), due: (&str, u64)) -> bool {
+fn is_entry(entry: (ReplicaName, u64), due: (&str, u64)) -> bool {
     *entry.0.as_bytes() == *due.0.as_bytes() && entry.1 == due.1
 }
 

@@ -174,7 +174,7 @@ pub fn later(alloc: Global, counter: u64) -> Result<Operation, Refusal> {
     };
     Operation::shaped(
         Id { counter, replica },
-        Front::from(entries),
+        Front::from_pairs(alloc, &entries)?,
         cursor,
         Mutation::Delete,
     )

@@ -93,7 +93,7 @@ fn query(alloc: Global, which: usize) -> Result<Query, Refusal> {
         4 => Query::Look(Look::Conflicts, member(alloc, "k")?),
         5 => Query::Look(Look::Sum, member(alloc, "n")?),
         6 => Query::Resolve(member(alloc, "k")?),
-        7 => Query::Operations(Front::from(Vec::new(alloc)), 100),
+        7 => Query::Operations(Front::from_pairs(alloc, &[])?, 100),
         8 => Query::Front,
         9 => Query::Held,
         _ => Query::Account,

@@ -166,9 +166,7 @@ fn front_of(alloc: Global, replica: &str, last: u64) -> Result<Front, Refusal> {
     let Some(name) = ReplicaName::read(replica.as_bytes()) else {
         return Err(Refusal::BadFront);
     };
-    let mut entries = Vec::new(alloc);
-    entries.push((name, last))?;
-    Ok(Front::from(entries))
+    Front::from_pairs(alloc, &[(name, last)])
 }
 
 /// Operations, followed by those of others that their front does not cover.

@@ -23,7 +23,7 @@ invariant_of-self c =
     c.last_of-last.ensures ∙ ap (λ (l : List (List ℕ × ℕ)). entry_of l c.id-counter.result.replica) c.deref.ensures.value
     ∙ ap (λ i. entry_of c.self.inside.lasts.items i.replica) id in
     let links : c.push.new.self.items ≡ c.self.inside.links.items ++ c.next_link-link.result ∷ [] = rw (c.push.ensures.items, c.unwrap.ensures) refl in
-    let entries : c.push-2.new.self.items ≡ c.self.inside.entries.items ++ c.args.op ∷ [] = rw (c.push-2.ensures.items, c.unwrap-2.ensures) refl in
+    let entries : c.push-2.new.self.items ≡ c.self.inside.entries.items ++ c.args.op ∷ [] = rw (c.push-2.ensures.items, c.unwrap-2.ensures, c.sharing-op.ensures) refl in
     rw (links, entries)
     (IsIndexed-append c.self.invariant c.args.op c.last_of-last.result c.next_link-link.result c.put_last.new.front.items c.put_last-2.new.front.items fits last
     (rw c.deref-2.ensures.value at c.next_link-link.ensures.before)

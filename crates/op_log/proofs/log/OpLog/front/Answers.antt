@@ -5,6 +5,7 @@ use Rattle.op_log.proofs.log.OpLog.front.Goals as goal
 
 pub returns : goal.returns
 returns c other =
-    ap Ok
-    (c.from.ensures ∙ c.in_ok-entries.ensures.ok ∙ c.deref.ensures.value ∙ front_is c.self.inside.entries.items c.self.inside.front.items c.self.invariant.front
+    c.from_pairs.ensures other
+    ∙ ap Ok
+    (c.deref.ensures.value ∙ front_is c.self.inside.entries.items c.self.inside.front.items c.self.invariant.front
     ∙ ap (λ l. front_of l.operations) c.self.view_is)

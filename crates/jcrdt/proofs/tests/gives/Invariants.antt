@@ -1,0 +1,4 @@
+use Rattle.jcrdt.proofs.tests.gives.Given as goal
+
+abbrev pub ghosts-written : goal.ghosts-written
+ghosts-written g a = record { name = a.blank }

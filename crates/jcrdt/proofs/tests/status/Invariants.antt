@@ -1,4 +1,0 @@
-use Rattle.jcrdt.proofs.tests.status.Given as goal
-
-abbrev pub ghosts-written : goal.ghosts-written
-ghosts-written g a = record { name = a.blank }

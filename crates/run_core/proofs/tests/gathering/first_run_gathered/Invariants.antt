@@ -1,4 +1,0 @@
-use Rattle.run_core.proofs.tests.gathering.first_run_gathered.Given as goal
-
-abbrev pub ghosts-first_run : goal.ghosts-first_run
-ghosts-first_run g a = record { name = a.blank }

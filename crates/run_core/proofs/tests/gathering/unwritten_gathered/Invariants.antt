@@ -1,4 +1,0 @@
-use Rattle.run_core.proofs.tests.gathering.unwritten_gathered.Given as goal
-
-abbrev pub ghosts-unwritten : goal.ghosts-unwritten
-ghosts-unwritten g a = record { name = a.blank }

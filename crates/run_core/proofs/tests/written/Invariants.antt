@@ -1,4 +1,0 @@
-use Rattle.run_core.proofs.tests.written.Given as goal
-
-abbrev pub ghosts-written_over : goal.ghosts-written_over
-ghosts-written_over a = record { name = a.blank }

@@ -1,4 +1,0 @@
-use Rattle.server_core.proofs.tests.devices.sink_fails_in_mid_reply.Given as goal
-
-abbrev pub ghosts-fails_alone : goal.ghosts-fails_alone
-ghosts-fails_alone g a = record { name = a.blank }

@@ -1,4 +1,0 @@
-use Rattle.server_core.proofs.tests.rows.buffer_release.Given as goal
-
-abbrev pub ghosts-told_alone : goal.ghosts-told_alone
-ghosts-told_alone g a = record { name = a.blank }

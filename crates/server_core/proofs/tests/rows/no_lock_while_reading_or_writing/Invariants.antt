@@ -1,4 +1,0 @@
-use Rattle.server_core.proofs.tests.rows.no_lock_while_reading_or_writing.Given as goal
-
-abbrev pub ghosts-looks : goal.ghosts-looks
-ghosts-looks g a = record { name = a.blank }

@@ -1,4 +1,0 @@
-use Rattle.server_core.proofs.tests.sessions.many_sessions.Given as goal
-
-abbrev pub ghosts-adds_many_up : goal.ghosts-adds_many_up
-ghosts-adds_many_up g a = record { name = a.blank }

@@ -1,4 +1,0 @@
-use Rattle.server_core.proofs.tests.sessions.side_sees_all_end.Given as goal
-
-abbrev pub ghosts-watches : goal.ghosts-watches
-ghosts-watches g a = record { name = a.blank }

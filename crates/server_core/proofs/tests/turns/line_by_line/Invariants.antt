@@ -1,4 +1,0 @@
-use Rattle.server_core.proofs.tests.turns.line_by_line.Given as goal
-
-abbrev pub ghosts-told_in_order : goal.ghosts-told_in_order
-ghosts-told_in_order g a = record { name = a.blank }

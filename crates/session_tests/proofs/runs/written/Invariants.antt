@@ -1,0 +1,4 @@
+use Rattle.session_tests.proofs.runs.written.Given as goal
+
+abbrev pub ghosts-written_over : goal.ghosts-written_over
+ghosts-written_over a = record { name = a.blank }

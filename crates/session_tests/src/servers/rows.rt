@@ -1,0 +1,171 @@
+//! Worked rows, each as the one session of a run over a shelf, and that no lock is taken while a line is read or a reply is written.
+ghost use Rattle.std.specs.Prelude.{◌≡◌};
+
+use super::samples::two_documents;
+use json_scalar::Refusal;
+use line_feed::{DeviceFault, Reader, Sink, Source, Writer};
+use server_core::doubles::Script;
+use server_core::{Idle, Library, OpenGate, run_sessions, serve_session};
+use session_rules::Ending;
+use share_ledger::{Blank, Marker};
+use std::alloc::Global;
+use std::marker::Brand;
+use std::process::Abort;
+use std::sync::{Mutex, Wait};
+use std::test::*;
+use std::thread::Threads;
+
+const SHOPPING: &[u8] = br#"["open","a"]
+["assign","a",[0],{}]
+["assign","a",[0,"shopping"],[]]
+["insert","a",[0,"shopping",0],"eggs"]
+["let","a","e",[0,"shopping",1]]
+["insert","a",[0,"shopping",0],"cheese"]
+["insert","a",["e"],"milk"]
+["items","a",[0,"shopping"]]
+["account","a"]
+["quit"]
+"#;
+
+const SHOPPED: &[u8] = br#"["opened",1]
+["applied",1,0,[1,"srv-1"]]
+["applied",1,0,[2,"srv-1"]]
+["applied",1,0,[3,"srv-1"]]
+["bound"]
+["applied",1,0,[4,"srv-1"]]
+["applied",1,0,[5,"srv-1"]]
+["items",[[[4,"srv-1"],["cheese"]],[[3,"srv-1"],["eggs"]],[[5,"srv-1"],["milk"]]]]
+["account",5]
+["bye"]
+"#;
+
+const RELEASING: &[u8] = br#"["open","b"]
+["deliver","b",["op",[3,"p"],[["p",2]],[[["m",0]],"k"],["assign",3]]]
+["deliver","b",["op",[2,"p"],[["p",1]],[[["m",0]],"k"],["assign",2]]]
+["held","b"]
+["deliver","b",["op",[1,"p"],[],[[["m",0]],"k"],["assign",1]]]
+["account","b"]
+["values","b",[0,"k"]]
+"#;
+
+const RELEASED: &[u8] = br#"["opened",1]
+["held",[[2,"p"]]]
+["held",[[1,"p"]]]
+["waiting",[[[2,"p"],[[1,"p"]]],[[3,"p"],[[2,"p"]]]]]
+["applied",3,0,[1,"p"]]
+["account",3]
+["values",[3]]
+"#;
+
+/// What the one session of a run is told.
+fn told_alone<M: Marker + Send + Sync, R: Threads + Wait + Sync>(
+    rt: &R,
+    alloc: Global,
+    blank: Blank,
+    input: &[u8],
+) -> Result<Vec<u8>, Refusal>
+    requires { blank ≡ M.name }
+{
+    let library = two_documents::<M>(alloc, blank, 1)?;
+    let replies = Mutex::new(Vec::new(alloc));
+    let mut scripts = Vec::new(alloc);
+    scripts.push(Script::new(rt, input, &replies))?;
+    match run_sessions(rt, alloc, library, scripts, &OpenGate, Idle).0 {
+        Ok(_) => Ok(replies.into_inner()),
+        Err(ungathered) => Err(ungathered.refusal),
+    }
+}
+
+#[test]
+fn shopping(rt: HostRuntime) -> Result<(), Fail> {
+    let told = told_alone::<Brand, _>(&rt, rt.alloc(), Blank::new(), SHOPPING)?;
+    assert_eq!(rt; told.as_slice(), SHOPPED);
+    Ok(())
+}
+
+#[test]
+fn buffer_release(rt: HostRuntime) -> Result<(), Fail> {
+    let told = told_alone::<Brand, _>(&rt, rt.alloc(), Blank::new(), RELEASING)?;
+    assert_eq!(rt; told.as_slice(), RELEASED);
+    Ok(())
+}
+
+/// A device that looks, at each call, whether a document is locked.
+#[derive(Drop)]
+struct Looking<'a, M: Marker, D> {
+    library: &'a Library<M>,
+    device: D,
+    found: bool,
+}
+
+/// Whether the lock of a document is taken.
+fn is_locked<M: Marker>(library: &Library<M>) -> bool {
+    for place in 0..library.shelf.len() {
+        if library.shelf.doc(place).try_lock().is_none() {
+            return true;
+        }
+    }
+    false
+}
+
+impl<M: Marker, D: Source> Source for Looking<'_, M, D> {
+    ghost remaining = { λ s. D.remaining s.device };
+
+    ghost has_failed = { λ s. D.has_failed s.device };
+
+    ghost reads = { λ s. D.reads s.device };
+
+    fn read_some(&mut self, buf: &mut [u8]) -> Result<usize, DeviceFault> {
+        if is_locked(self.library) {
+            self.found = true;
+        }
+        self.device.read_some(buf)
+    }
+
+    fn failed(&self) -> bool {
+        Source::failed(&self.device)
+    }
+}
+
+impl<M: Marker, D: Sink> Sink for Looking<'_, M, D> {
+    ghost contents = { λ s. D.contents s.device };
+
+    ghost has_failed = { λ s. D.has_failed s.device };
+
+    fn write_some(&mut self, bytes: &[u8]) -> Result<usize, DeviceFault> {
+        if is_locked(self.library) {
+            self.found = true;
+        }
+        self.device.write_some(bytes)
+    }
+
+    fn failed(&self) -> bool {
+        Sink::failed(&self.device)
+    }
+}
+
+fn looks<M: Marker, R: Wait + Abort>(rt: &R, alloc: Global, blank: Blank) -> Result<(), Fail>
+    requires { blank ≡ M.name }
+{
+    let library = two_documents::<M>(alloc, blank, 1)?;
+    let mut source = Looking {
+        library: &library,
+        device: Reader::new(SHOPPING),
+        found: false,
+    };
+    let mut sink = Looking {
+        library: &library,
+        device: Writer::new(Vec::new(alloc)),
+        found: false,
+    };
+    let served = serve_session(rt, alloc, &library, &OpenGate, 1, &mut source, &mut sink)?;
+    assert_eq!(rt; served.why, Ending::Quit);
+    assert!(rt; !source.found);
+    assert!(rt; !sink.found);
+    Ok(())
+}
+
+#[test]
+fn no_lock_while_reading_or_writing(rt: HostRuntime) -> Result<(), Fail> {
+    looks::<Brand, _>(&rt, rt.alloc(), Blank::new())
+}
