@@ -10,3 +10,4 @@ pub mod Cursors
 pub mod Pairs
 pub mod WholeFronts
 pub mod Deciding
+pub mod Below

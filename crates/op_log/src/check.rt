@@ -1,17 +1,19 @@
 //! Whether an operation fits a log.
-ghost use Rattle.std.specs.Prelude.{◌≡◌, ◌↔◌, ◌&&◌, [], ◌∷◌, length, true, nat_le, IsOk};
+ghost use Rattle.std.specs.Prelude.{◌≡◌, ◌<◌, ◌↔◌, ◌&&◌, [], ◌∷◌, Contains, Some, length, get_or, true, nat_le, IfSome, IsOk, IsTrue};
+ghost use Rattle.std.specs.Option.{option_copied};
 ghost use Rattle.std.specs.List.{list_any, list_all};
 ghost use Rattle.op_core.specs.Limits.{most_replicas};
 ghost use Rattle.op_core.specs.Front.{id_of, is_ascending, is_le};
 ghost use Rattle.op_core.specs.Op.{Op};
 ghost use Rattle.op_core.specs.Shape.{is_shaped};
 ghost use Rattle.crdt_rules.specs.Facts.{inserts};
+ghost use Rattle.crdt_rules.specs.Log.{IsGood};
 ghost use Rattle.crdt_rules.specs.Fits.{Fits, is_element, knows_key, knows_cursor, knows_front, replicas};
 ghost use Rattle.crdt_rules.specs.Same.{id_eq};
 ghost use Rattle.doc_rules.specs.Cause.{cause_of, room_cause};
 
 use crate::front::{self, Entry};
-use crate::log::OpLog;
+use crate::log::{OpLog, keeps_good};
 use json_scalar::Refusal;
 use lamport_id::{Id, ReplicaName};
 use op_core::{Cursor, Front, Key, Mutation, Operation, Tagged, id_of, keeps_shape};
@@ -76,16 +78,47 @@ impl OpLog {
         self.last_counter(name).is_some() || count < MAX_REPLICAS
     }
 
+    // What the front of a logged operation says is known already: where that is at most this front, its pairs need no look.
     fn knows_front(&self, front: &Front) -> bool
         requires { is_ascending front.now ≡ true }
         ensures { result ≡ knows_front front.now self.now.operations }
     {
+        let below = self.last_below(front);
         for at in 0..front.len() {
-            if !self.knows_entry(front, front.pair_at(at)) {
+            if !self.knows_pair(front, below, at) {
                 return false;
             }
         }
         true
+    }
+
+    // The last operation, if its front is at most this one.
+    fn last_below(&self, front: &Front) -> Option<&Operation>
+        requires { is_ascending front.now ≡ true }
+        ensures below { IfSome (option_copied result) (λ op. Contains self.now.operations op × (is_le op.front front.now ≡ true)) }
+        ensures good { IsGood self.now.operations }
+    {
+        keeps_good(self);
+        let last = self.as_slice().last()?;
+        if is_front_at_most(last, front) {
+            Some(last)
+        } else {
+            None
+        }
+    }
+
+    // Whether the pair at a place is a logged operation, whose own front is at most this one. Those of an operation below are.
+    fn knows_pair(&self, front: &Front, below: Option<&Operation>, at: usize) -> bool
+        requires ascending { is_ascending front.now ≡ true }
+        requires within { at < length front.now }
+        requires below { IfSome (option_copied below) (λ op. Contains self.now.operations op × (is_le op.front front.now ≡ true)) }
+        ensures { result ≡ list_any (λ o. id_eq o.id (id_of (get_or front.now at ([], 0))) && is_le o.front front.now) self.now.operations }
+    {
+        if has_pair(below, front, at) {
+            keeps_good(self);
+            return true;
+        }
+        self.knows_entry(front, front.pair_at(at))
     }
 
     // Whether the pair is a logged operation, whose own front is at most this one.
@@ -129,6 +162,23 @@ impl OpLog {
             None => false,
         }
     }
+}
+
+// Whether the operation's front has the pair that stands at this place of a front, at the same place.
+fn has_pair(op: Option<&Operation>, front: &Front, at: usize) -> bool
+    requires { at < length front.now }
+    ensures { IsTrue result → (o : Op) × (option_copied op.entry ≡ Some o) × Contains o.front (get_or front.now at ([], 0)) }
+{
+    match op {
+        Some(op) => has_pair_at(op.front(), at, front.pair_at(at)),
+        None => false,
+    }
+}
+
+fn has_pair_at(front: &Front, at: usize, pair: Entry) -> bool
+    ensures { IsTrue result → Contains front.now pair }
+{
+    at < front.len() && front.pair_at(at) == pair
 }
 
 fn inserts_at(path: &[Tagged], op: &Operation) -> bool
