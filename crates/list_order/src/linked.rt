@@ -1,6 +1,6 @@
 //! The ids of a list as linked slots.
 
-ghost use Rattle.std.specs.Prelude.{◌≡◌, ◌+◌, ◌<◌, ◌≤◌, [], length, min, Contains, IfOk, OnOk, Some, None, IsSome, slice_get, vec_capacity, option_to_list, ◌++◌};
+ghost use Rattle.std.specs.Prelude.{◌≡◌, ◌+◌, ◌<◌, ◌≤◌, [], length, min, Contains, IfOk, IfSome, OnOk, Some, None, IsSome, slice_get, vec_capacity, option_to_list, ◌++◌};
 ghost use Rattle.std.specs.Option.{ForSome};
 ghost use Rattle.std.specs.List.{list_any};
 ghost use Rattle.crdt_rules.specs.Same.{id_eq};
@@ -129,10 +129,14 @@ impl LinkedOrder {
         }
     }
 
-    /// The i-th present id. It is found from block to block, and then from slot to slot.
+    /// The i-th present id. It is found from block to block, and then from slot to slot; but the newest id at once, where it is the
+    /// last one: what is typed at the end of a list is asked for next.
     pub fn nth_present(&self, i: usize) -> Option<Id>
         ensures { result ≡ slice_get (present_of self.now.0) i }
     {
+        if let Some(id) = self.newest_at_end(i) {
+            return Some(id);
+        }
         nth_along(
             self.slots.as_slice(),
             self.first,
@@ -140,6 +144,23 @@ impl LinkedOrder {
             self.blocks.as_slice(),
             i,
         )
+    }
+
+    // The newest id, if none stands behind it and it is the i-th present one.
+    fn newest_at_end(&self, i: usize) -> Option<Id>
+        ensures { IfSome result (λ id. slice_get (present_of self.now.0) i ≡ Some id) }
+    {
+        if self.slots.is_empty() {
+            return None;
+        }
+        let newest = SlotNumber(self.slots.len() - 1);
+        let slot = slot_at(self.slots.as_slice(), newest);
+        let is_present = mark_at(self.marks.as_slice(), newest).is_present;
+        if slot.next.is_none() && is_present && i < self.present && self.present - i == 1 {
+            Some(slot.id)
+        } else {
+            None
+        }
     }
 
     /// The entries of the list in its order, to be gone through one after another. Nothing is copied.
