@@ -4,7 +4,7 @@ use Rattle.doc_words.specs.Words.{Id, Scalar, Key, Tagged}
 use Rattle.op_core.specs.declared.cursor.Key.TheVariants.{Element}
 use Rattle.doc_nodes.specs.declared.node.Node.{Node}
 use Rattle.doc_tree.specs.Nodes.{tree_facts}
-use Rattle.doc_rules.specs.Views.{AreElements, into_list}
+use Rattle.doc_rules.specs.Views.{IsPresent}
 use Rattle.doc_rules.specs.Sorted.{AreThose}
 use Rattle.doc_rules.specs.Sorted.AreThose.{none, keep, skip}
 use Rattle.doc_view.proofs.Presence.{present_or_not}
@@ -30,5 +30,6 @@ module _ {X : Type 0} {holds : X → Type 0} where
       go false d rest = skip (λ h. true≢false (sym (d.1 h))) rest
 
 -- a list has its present elements, whether they are read or not
-pub elements_exist : (tree : List Node × Option Scalar) (p : List Tagged) (k : Key) → (ids : List Id) × AreElements (tree_facts tree) p k ids
-elements_exist tree p k = those_exist (λ i. present_or_not tree (into_list p k) (Element i)) ((tree_facts tree).order (into_list p k))
+pub elements_in : (tree : List Node × Option Scalar) (list : List Tagged)
+    → (ids : List Id) × AreThose (λ i. IsPresent (tree_facts tree) list (Element i)) ((tree_facts tree).order list) ids
+elements_in tree list = those_exist (λ i. present_or_not tree list (Element i)) ((tree_facts tree).order list)

@@ -3,7 +3,6 @@
 
 mod elements;
 mod maps;
-mod place;
 mod registers;
 mod resolving;
 mod roles;

@@ -5,16 +5,15 @@ ghost use Rattle.doc_words.specs.Words.{Id, NoMemory, UnlessMemory, Cursor};
 ghost use Rattle.json_scalar.specs.declared.refusal.Refusal.TheVariants.{IndexPastEnd};
 ghost use Rattle.json_scalar.specs.Refusal.{and_then};
 ghost use Rattle.op_core.specs.Shape.{is_placed};
-ghost use Rattle.op_core.specs.declared.cursor.Key.TheVariants.{Text};
+ghost use Rattle.op_core.specs.declared.cursor.Key.TheVariants.{Text, Element};
 ghost use Rattle.doc_words.specs.declared.place.Step.TheVariants.{Index};
-ghost use Rattle.doc_rules.specs.Views.{into_map, into_list, AreElements};
+ghost use Rattle.doc_rules.specs.Views.{into_map, into_list, IsPresent};
+ghost use Rattle.doc_rules.specs.Sorted.{AreThose};
 ghost use Rattle.crdt_rules.specs.Same.{id_eq};
 ghost use Rattle.doc_tree.specs.Nodes.{tree_facts};
 ghost use Rattle.doc_rules.specs.Resolve as rules;
-ghost use Rattle.doc_view.specs.Readings.{GivesUnlessMemory};
 
 use crate::elements::element_by_index;
-use crate::place::into_list;
 use doc_tree::Tree;
 use doc_words::Step;
 use json_scalar::Refusal;
@@ -30,7 +29,8 @@ use std::alloc::Global;
 pub fn resolve(tree: &Tree, start: Cursor, steps: &[Step]) -> Result<Cursor, Refusal>
     ensures { result ≢ Err NoMemory → rules.Resolves (tree_facts tree.now) start steps.now result }
 {
-    let from = checked(tree, start)?;
+    let mut from = checked(tree, start)?;
+    from.path.reserve(steps.len())?;
     follow(tree, from, steps)
 }
 
@@ -83,38 +83,38 @@ fn below_map(from: Cursor, key: Key) -> Result<Cursor, Refusal>
     Ok(Cursor { path, key })
 }
 
-fn below_list(from: Cursor, key: Key) -> Result<Cursor, Refusal>
-    ensures { UnlessMemory result (Ok (record { path = into_list from.path from.key; key = key })) }
+fn below_list(from: Cursor) -> Result<Path, Refusal>
+    ensures { UnlessMemory result (Ok (into_list from.path from.key)) }
 {
     let mut path = from.path;
     path.push(Tagged::List(from.key))?;
-    Ok(Cursor { path, key })
+    Ok(path)
 }
 
 fn to_index(tree: &Tree, from: Cursor, index: u64) -> Result<Cursor, Refusal>
     ensures { result ≢ Err NoMemory → rules.Goes (tree_facts tree.now) from (Index index) result }
 {
     may_go_on(&from)?;
-    let key = key_at(tree, &from, index)?;
-    to_key(from, key)
+    let path = below_list(from)?;
+    let key = key_at(tree, &path, index);
+    at_key(path, key)
 }
 
-/// The key to which an index leads. The head is before all elements, so that none is read for it.
-fn key_at(tree: &Tree, from: &Cursor, index: u64) -> Result<Option<Key>, Refusal>
-    ensures { GivesUnlessMemory (λ key. (ids : List Id) × AreElements (tree_facts tree.now) from.now.path from.now.key ids × (key ≡ rules.key_at ids index)) result }
+fn at_key(path: Path, key: Option<Key>) -> Result<Cursor, Refusal>
+    ensures { result ≡ and_then (ok_or key IndexPastEnd) (λ k. Ok (record { path = path; key = k })) }
+{
+    let key = key.ok_or(Refusal::IndexPastEnd)?;
+    Ok(Cursor { path, key })
+}
+
+/// The key to which an index leads in a list. The head is before all elements, so that none is read for it.
+fn key_at(tree: &Tree, list: &Path, index: u64) -> Option<Key>
+    ensures { (ids : List Id) × AreThose (λ i. IsPresent (tree_facts tree.now) list.now (Element i)) ((tree_facts tree.now).order list.now) ids × (result ≡ rules.key_at ids index) }
 {
     if index == 0 {
-        return Ok(Some(Key::Head));
+        return Some(Key::Head);
     }
-    let list = into_list(&from.path, &from.key)?;
-    let id = element_by_index(tree, &list, index - 1);
-    Ok(id.map(Key::Element))
-}
-
-fn to_key(from: Cursor, key: Option<Key>) -> Result<Cursor, Refusal>
-    ensures { UnlessMemory result (and_then (ok_or key IndexPastEnd) (λ k. Ok (record { path = into_list from.path from.key; key = k }))) }
-{
-    below_list(from, key.ok_or(Refusal::IndexPastEnd)?)
+    element_by_index(tree, list, index - 1).map(Key::Element)
 }
 
 /// The start, unless there is a cause against it.

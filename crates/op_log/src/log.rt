@@ -147,12 +147,16 @@ impl OpLog {
         self.entries.push(op).unwrap();
     }
 
-    /// The front of the log: each replica with the counter of its last operation. It is refused for want of memory alone.
+    /// The front of the log: each replica with the counter of its last operation. It shares its names with that of the last
+    /// operation where they have the same. It is refused for want of memory alone.
     pub fn front(&self) -> Result<Front, Refusal>
         ensures { UnlessMemory result (Ok (front_of self.now.operations)) }
     {
         let alloc = *self.front.allocator();
-        Front::from_pairs(alloc, &self.front)
+        match self.entries.last() {
+            Some(last) => Front::from_pairs_beside(alloc, &self.front, last.front()),
+            None => Front::from_pairs(alloc, &self.front),
+        }
     }
 
     /// The first operations that the front does not cover, at most `limit` of them, in their order. The search starts at the

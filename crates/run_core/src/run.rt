@@ -10,9 +10,10 @@ use json_scalar::Refusal;
 use lamport_id::ReplicaName;
 use line_feed::{Sink, Source};
 use line_proto::Name;
-use session_core::{Alone, Document, run_alone};
+use session_core::{Alone, Document, Ended, run_alone};
 use session_rules::Ending;
 use std::alloc::Global;
+use std::mem::ManuallyDrop;
 
 /// What makes the documents of a session.
 pub trait Maker {
@@ -89,7 +90,12 @@ fn serve<M: Maker, R: Source, W: Sink>(
         return 1;
     };
     match run_alone(alloc, source, sink, documents) {
-        Ok(ended) => status_of(ended.why),
+        Ok(Ended { why, documents, .. }) => {
+            // The program ends with its run, and its memory goes back whole: to let go of each operation by itself would take a
+            // sixth of the run.
+            let _kept = ManuallyDrop::new(documents);
+            status_of(why)
+        }
         Err(_) => 1,
     }
 }

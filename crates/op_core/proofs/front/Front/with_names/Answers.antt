@@ -3,18 +3,18 @@ use Rattle.std.specs.List.{zip}
 use Rattle.std.specs.Arc.{arc_slice_items}
 use Rattle.op_core.specs.Front.{is_ascending}
 use Rattle.op_core.proofs.FrontPairs.{zip-parts, length-firsts}
-use Rattle.op_core.proofs.front.Front.from_pairs.Goals as goal
+use Rattle.op_core.proofs.front.Front.with_names.Goals as goal
 
 pub invariant_of-result : goal.invariant_of-result
 invariant_of-result c =
     let pairs : List (List ℕ × ℕ) = c.args.pairs.now in
-    let names : arc_slice_items c.in_ok-names.names ≡ map (λ (e : List ℕ × ℕ). e.0) pairs = c.in_ok-names.ensures ∙ c.in_ok-names_of.ensures.ok in
+    let names : arc_slice_items c.args.names ≡ map (λ (e : List ℕ × ℕ). e.0) pairs = c.requires in
     let counters : c.in_ok-counters.counters.items ≡ map (λ (e : List ℕ × ℕ). e.1) pairs = c.in_ok-counters.ensures.ok in
     rw (names, counters) (length-firsts pairs, c.ascends-in_order.ensures ∙ ap is_ascending (sym (zip-parts pairs)))
 
 pub returns : goal.returns
 returns c other =
     let pairs : List (List ℕ × ℕ) = c.args.pairs.now in
-    let names : arc_slice_items c.in_ok-names.names ≡ map (λ (e : List ℕ × ℕ). e.0) pairs = c.in_ok-names.ensures ∙ c.in_ok-names_of.ensures.ok in
+    let names : arc_slice_items c.args.names ≡ map (λ (e : List ℕ × ℕ). e.0) pairs = c.requires in
     let counters : c.in_ok-counters.counters.items ≡ map (λ (e : List ℕ × ℕ). e.1) pairs = c.in_ok-counters.ensures.ok in
     ap Ok ((λ i. zip (names i) (counters i)) ∙ zip-parts pairs)
