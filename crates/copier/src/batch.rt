@@ -6,7 +6,7 @@ ghost use Rattle.sqlite.specs.Held.{state};
 ghost use Rattle.sqlite.specs.State.{HasCleanDisk};
 ghost use Rattle.doc_words.specs.Words.{Op};
 ghost use Rattle.doc_rules.specs.Document.{copied_to, tail};
-ghost use Rattle.copy_tables.specs.Content.{Holds};
+ghost use Rattle.copy_schema.specs.Content.{Holds};
 ghost use Rattle.copy_docs.specs.Docs.{IsBatch, add_batch, log_of};
 ghost use Rattle.log_copy.specs.Kept.{content};
 ghost use Rattle.copier.specs.Batches.{AddsNext, AreAdded, AddsBatches};

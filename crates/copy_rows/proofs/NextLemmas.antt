@@ -14,7 +14,7 @@ use Rattle.list_laws.proofs.Members.{Contains-here, Contains-there}
 use Rattle.crdt_rules.specs.Log.{IsGood}
 use Rattle.crdt_rules.proofs.Logs.{good_split}
 use Rattle.doc_rules.proofs.OneAnswer.{name_order}
-use Rattle.copy_tables.specs.Content.{entry_row, rows_from}
+use Rattle.copy_schema.specs.Content.{entry_row, rows_from}
 use Rattle.copy_docs.specs.Docs.{Doc, AreInOrder, AreGood, is_named, op_text, log_of, longer_by, extend, put_doc, add_log, UnlessWanting}
 use Rattle.copy_docs.specs.declared.fault.Fault.{Fault}
 use Rattle.copy_docs.specs.declared.fault.Fault.TheVariants.{Refused, Store, Memory}

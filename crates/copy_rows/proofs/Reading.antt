@@ -12,7 +12,7 @@ use Rattle.sqlite.proofs.Callers.{IsPlain, begun_plain, given_begin, unchanged_t
 use Rattle.sqlite.proofs.StateLemmas.{survives_then, survives_weaker}
 use Rattle.copy_schema.specs.Tables.{copy_schema}
 use Rattle.copy_schema.proofs.TextLemmas.{read_entries_text, read_entries_is}
-use Rattle.copy_tables.specs.Content.{Content, Holds}
+use Rattle.copy_schema.specs.Content.{Content, Holds}
 use Rattle.copy_tables.specs.Steps.{StaysOutside}
 use Rattle.copy_rows.proofs.EntryLemmas.{first_entries, reads_entries_only}
 use Rattle.op_core.specs.Op.{Op}

@@ -16,7 +16,7 @@ use Rattle.sqlite_keyed.proofs.SortLemmas.{sorted_unique}
 use Rattle.sqlite_sql.proofs.QueryLemmas.{key_cmp_total}
 use Rattle.lamport_id.specs.Order.{name_cmp}
 use Rattle.list_laws.proofs.Members.{Contains-here, Contains-there}
-use Rattle.copy_tables.specs.Content.{Content, Holds, meta_row, entry_row, rows_from, meta_columns, entry_columns, meta_tree, entry_tree, meta_cmp, row_cmp, rising}
+use Rattle.copy_schema.specs.Content.{Content, Holds, meta_row, entry_row, rows_from, meta_columns, entry_columns, meta_tree, entry_tree, meta_cmp, row_cmp, rising}
 use Rattle.copy_docs.specs.Docs.{Doc, AreInOrder, op_text}
 use Rattle.copy_rows.specs.Rows.{doc_rows, rows_of}
 

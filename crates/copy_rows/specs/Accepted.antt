@@ -6,7 +6,7 @@ use Rattle.lamport_id.specs.Name.{is_name}
 use Rattle.op_core.specs.Op.{Op}
 use Rattle.crdt_rules.specs.Effect.{is_add}
 use Rattle.crdt_rules.specs.Log.{IsGood}
-use Rattle.copy_tables.specs.Content.{Content, entry_row}
+use Rattle.copy_schema.specs.Content.{Content, entry_row}
 use Rattle.copy_docs.specs.Docs.{Doc, AreInOrder, AreGood, op_text, log_of, add_log}
 use Rattle.copy_rows.specs.Rows.{rows_of}
 use Rattle.copy_rows.specs.declared.parse.TheConstants.{LAST_EPOCH}

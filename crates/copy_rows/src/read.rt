@@ -4,7 +4,7 @@ ghost use Rattle.std.specs.List.Sorted.{IsPermutation};
 ghost use Rattle.sqlite.specs.Held.{state};
 ghost use Rattle.sqlite.specs.State.{HasCleanDisk, Survives, IsUnchanged};
 ghost use Rattle.copy_schema.specs.Tables.{copy_schema};
-ghost use Rattle.copy_tables.specs.Content.{Content, Holds, entry_tree, entry_columns};
+ghost use Rattle.copy_schema.specs.Content.{Content, Holds, entry_tree, entry_columns};
 ghost use Rattle.copy_tables.specs.Steps.{StaysOutside};
 ghost use Rattle.copy_docs.specs.Docs.{AreInOrder, AreGood};
 ghost use Rattle.copy_rows.specs.Accepted.{AreWritable, IsSoundContent};

@@ -5,7 +5,7 @@ ghost use Rattle.sqlite.specs.Tree.{Trees};
 ghost use Rattle.sqlite.specs.Held.{state};
 ghost use Rattle.sqlite.specs.State.{HasCleanDisk};
 ghost use Rattle.lamport_id.specs.Name.{is_name};
-ghost use Rattle.copy_tables.specs.Content.{Holds};
+ghost use Rattle.copy_schema.specs.Content.{Holds};
 ghost use Rattle.copy_docs.specs.Docs.{log_of};
 ghost use Rattle.copy_rows.specs.declared.parse.TheConstants.{LAST_EPOCH};
 ghost use Rattle.log_copy.specs.Kept.{content};

@@ -91,11 +91,7 @@ fn add<S: Alter>(
 fn check<S: Alter>(alloc: Global, copy: &LogCopy<S>, due: &str) -> StepAnswer {
     let mut out = Vec::<u8>::new(alloc);
     let status = check_over(alloc, copy, &mut Writer::new(&mut out));
-    if status == 0 && out.as_slice() == due.as_bytes() {
-        StepAnswer::Done
-    } else {
-        StepAnswer::Other
-    }
+    told_so(status == 0 && out.as_slice() == due.as_bytes())
 }
 
 fn edit<S: Alter>(alloc: Global, copy: &LogCopy<S>, doc: &str, due: &str) -> StepAnswer {

@@ -91,17 +91,15 @@ const BATCHES: [(Step<'static>, StepAnswer); 5] = [
     (Step::Add("d", 7, 7, 9), StepAnswer::Done),
 ];
 
+const AS_NEW: [(Step<'static>, StepAnswer); 3] = [
+    (Step::Open, StepAnswer::Done),
+    (Step::Restore("d", 0, 0), StepAnswer::Done),
+    (Step::UpFrom(0), StepAnswer::Done),
+];
+
 const AFTER_BATCHES: [&[(Step<'static>, StepAnswer)]; 6] = [
-    &[
-        (Step::Open, StepAnswer::Done),
-        (Step::Restore("d", 0, 0), StepAnswer::Done),
-        (Step::UpFrom(0), StepAnswer::Done),
-    ],
-    &[
-        (Step::Open, StepAnswer::Done),
-        (Step::Restore("d", 0, 0), StepAnswer::Done),
-        (Step::UpFrom(0), StepAnswer::Done),
-    ],
+    &AS_NEW,
+    &AS_NEW,
     &[
         (Step::Open, StepAnswer::Done),
         (Step::Restore("d", 0, 5), StepAnswer::Done),
