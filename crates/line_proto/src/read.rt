@@ -125,8 +125,9 @@ fn read_plain(alloc: Global, verb: &Value, document: &Value) -> Result<Request, 
 {
     let verb = verb.as_str().ok_or(Refusal::BadRequest)?;
     let document = document.as_str().ok_or(Refusal::BadRequest)?;
+    let name = Name::new(alloc, document)?;
     let ask = plain_ask(verb).ok_or(Refusal::BadRequest)?;
-    Ok(Request::Of(Name::new(alloc, document)?, ask))
+    Ok(Request::Of(name, ask))
 }
 
 fn plain_ask(verb: &str) -> Option<Ask>
@@ -155,8 +156,9 @@ fn read_short(
 {
     let verb = verb.as_str().ok_or(Refusal::BadRequest)?;
     let document = document.as_str().ok_or(Refusal::BadRequest)?;
+    let name = Name::new(alloc, document)?;
     let ask = short_ask(alloc, verb, third)?;
-    Ok(Request::Of(Name::new(alloc, document)?, ask))
+    Ok(Request::Of(name, ask))
 }
 
 fn short_ask(alloc: Global, verb: &str, third: &Value) -> Result<Ask, Refusal>
@@ -229,8 +231,9 @@ fn read_long(
 {
     let verb = verb.as_str().ok_or(Refusal::BadRequest)?;
     let document = document.as_str().ok_or(Refusal::BadRequest)?;
+    let name = Name::new(alloc, document)?;
     let ask = long_ask(alloc, verb, third, fourth)?;
-    Ok(Request::Of(Name::new(alloc, document)?, ask))
+    Ok(Request::Of(name, ask))
 }
 
 fn long_ask(alloc: Global, verb: &str, third: &Value, fourth: &Value) -> Result<Ask, Refusal>
