@@ -1,15 +1,18 @@
 //! The front of a log: for each replica the counter of its last operation.
-ghost use Rattle.std.specs.Prelude.{◌≡◌, ◌+◌, ◌<◌, ◌≤◌, true, length, vec_len, MatchResult};
+ghost use Rattle.std.specs.Prelude.{◌≡◌, ◌+◌, ◌<◌, ◌≤◌, true, length, vec_len, MatchResult, Ok};
 ghost use Rattle.std.specs.List.{zip};
 ghost use Rattle.std.specs.Vec.{vec_capacity};
+ghost use Rattle.json_scalar.specs.Refusal.{UnlessMemory};
 ghost use Rattle.lamport_id.specs.Order.{name_cmp};
 ghost use Rattle.op_core.specs.Front.{is_ascending, is_le};
 ghost use Rattle.crdt_rules.specs.Dependencies.{entry_of};
 ghost use Rattle.op_log.specs.Front.{PutsEntry};
 ghost use Rattle.sorted_lists.specs.Sorted.{IsPlace, IsGap};
 
+use json_scalar::Refusal;
 use lamport_id::ReplicaName;
 use op_core::{Front, Operation};
+use std::alloc::Global;
 use std::cmp::Ordering;
 
 /// A replica, and the counter of its last operation.
@@ -105,6 +108,21 @@ fn are_at_most(
         }
     }
     first >= names.len()
+}
+
+/// The front of these pairs, which shares its names with that of the last operation where they have the same. It is refused
+/// for want of memory alone.
+pub fn beside_last(
+    alloc: Global,
+    pairs: &[Entry],
+    entries: &[Operation],
+) -> Result<Front, Refusal>
+    ensures { UnlessMemory result (Ok pairs.now) }
+{
+    match entries.last() {
+        Some(last) => Front::from_pairs_beside(alloc, pairs, last.front()),
+        None => Front::from_pairs(alloc, pairs),
+    }
 }
 
 /// The same operation, which shares the names of its front with the operation at a place, or with the last one, where

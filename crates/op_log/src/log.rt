@@ -153,10 +153,7 @@ impl OpLog {
         ensures { UnlessMemory result (Ok (front_of self.now.operations)) }
     {
         let alloc = *self.front.allocator();
-        match self.entries.last() {
-            Some(last) => Front::from_pairs_beside(alloc, &self.front, last.front()),
-            None => Front::from_pairs(alloc, &self.front),
-        }
+        front::beside_last(alloc, &self.front, &self.entries)
     }
 
     /// The first operations that the front does not cover, at most `limit` of them, in their order. The search starts at the

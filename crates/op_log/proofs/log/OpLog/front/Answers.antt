@@ -5,7 +5,7 @@ use Rattle.op_log.proofs.log.OpLog.front.Goals as goal
 
 pub returns : goal.returns
 returns c other =
-    c.from_pairs.ensures other
+    c.beside_last.ensures other
     ∙ ap Ok
     (c.deref.ensures.value ∙ front_is c.self.inside.entries.items c.self.inside.front.items c.self.invariant.front
     ∙ ap (λ l. front_of l.operations) c.self.view_is)
