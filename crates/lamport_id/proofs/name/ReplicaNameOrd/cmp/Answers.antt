@@ -7,5 +7,5 @@ use Rattle.lamport_id.proofs.name.ReplicaNameOrd.cmp.Goals as goal
 
 pub returns : goal.returns
 returns c =
-    rw (← c.self.view_is, ← c.other.view_is) (c.cmp.ensures ∙ (λ i. slice_cmp nat_cmp (c.self.invariant.1 i) (c.other.invariant.1 i))
+    rw (← c.self.view_is, ← c.other.view_is) (c.order.ensures ∙ (λ i. slice_cmp nat_cmp (c.self.invariant.1 i) (c.other.invariant.1 i))
     ∙ cmp-padded (unpadded c.self.inside.bytes) (unpadded c.other.inside.bytes) c.self.invariant.0 c.other.invariant.0)
