@@ -6,7 +6,7 @@ ghost use Rattle.jcrdt.specs.CommandLine.{AsksToCheck, is_check};
 use crate::command_line::{check_matches, is_check};
 use crate::usage::NO_MEMORY;
 use clap::error::ErrorKind;
-use copy_report::check_file;
+use copy_files::check_file;
 use line_feed::Sink;
 use std::alloc::Global;
 use std::rt::HostRuntime;

@@ -1,7 +1,8 @@
 //! Real files.
 use super::samples;
 use super::steps::{Step, StepAnswer, first_other};
-use log_copy::{Fault, LogCopy};
+use copy_files::open_file;
+use log_copy::Fault;
 use op_core::Operation;
 use sqlite::Connection;
 use std::fs;
@@ -18,7 +19,7 @@ const PATH: &str = "copy_test/copy.db";
 const BYTES: &str = "no database, but some bytes that a person wrote";
 
 fn told_by(rt: &HostRuntime, path: &str) -> Option<Fault> {
-    match LogCopy::open(rt, path) {
+    match open_file(rt, path) {
         Ok(_) => None,
         Err(fault) => Some(fault),
     }

@@ -1,5 +1,6 @@
 //! What is told of a copy that was opened, and of one that was not.
-use copy_report::{check_file, check_opened};
+use copy_files::check_file;
+use copy_report::check_opened;
 use line_feed::Writer;
 use line_feed::doubles::FailAfter;
 use log_copy::{Fault, LogCopy};
