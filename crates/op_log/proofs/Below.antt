@@ -4,11 +4,12 @@ use Rattle.std.proofs.lemmas.Bool.{and_from}
 use Rattle.std.specs.List.{list_any}
 use Rattle.doc_words.specs.Words.{Op}
 use Rattle.op_core.specs.Front.{id_of, covers, is_le}
+use Rattle.crdt_rules.specs.Dependencies.{is_logged}
 use Rattle.crdt_rules.specs.Log.{IsGood}
 use Rattle.crdt_rules.specs.Same.{id_eq}
 use Rattle.crdt_rules.proofs.Fronts.{covers_at, covers_from}
 use Rattle.crdt_rules.proofs.Logs.{fits_inside}
-use Rattle.crdt_rules.proofs.Readings.{known_from}
+use Rattle.crdt_rules.proofs.Readings.{known_from, logged_at}
 use Rattle.crdt_rules.proofs.SameLaws.{id_decides}
 use Rattle.crdt_rules.proofs.Tests.{any_at, all_at, all_from}
 
@@ -30,3 +31,9 @@ known_below log o front e good logged below c =
     any_at (λ p. id_eq p.id (id_of e) && is_le p.front front) log (inside.within k.0 k.1)
     (and_from (id_eq (k.0).id (id_of e)) (is_le (k.0).front front) (subst (λ j. id_eq (k.0).id j ≡ true) k.2 (id_decides.itself (k.0).id))
     (le_through (k.0).front o.front front k.3 below))
+
+pub logged_below : (log : List Op) (o : Op) (e : List ℕ × ℕ) → IsGood log → Contains log o → Contains o.front e → is_logged log (id_of e) ≡ true
+logged_below log o e good logged c =
+    let inside = fits_inside log good logged in
+    let k = known_from o.front inside.before inside.fits.front e c in
+    logged_at log k.0 (id_of e) (inside.within k.0 k.1) k.2

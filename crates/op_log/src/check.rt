@@ -114,7 +114,7 @@ impl OpLog {
         requires below { IfSome (option_copied below) (λ op. Contains self.now.operations op × (is_le op.front front.now ≡ true)) }
         ensures { result ≡ list_any (λ o. id_eq o.id (id_of (get_or front.now at ([], 0))) && is_le o.front front.now) self.now.operations }
     {
-        if has_pair(below, front, at) {
+        if front::has_pair(below, front, at) {
             keeps_good(self);
             return true;
         }
@@ -162,23 +162,6 @@ impl OpLog {
             None => false,
         }
     }
-}
-
-// Whether the operation's front has the pair that stands at this place of a front, at the same place.
-fn has_pair(op: Option<&Operation>, front: &Front, at: usize) -> bool
-    requires { at < length front.now }
-    ensures { IsTrue result → (o : Op) × (option_copied op.entry ≡ Some o) × Contains o.front (get_or front.now at ([], 0)) }
-{
-    match op {
-        Some(op) => has_pair_at(op.front(), at, front.pair_at(at)),
-        None => false,
-    }
-}
-
-fn has_pair_at(front: &Front, at: usize, pair: Entry) -> bool
-    ensures { IsTrue result → Contains front.now pair }
-{
-    at < front.len() && front.pair_at(at) == pair
 }
 
 fn inserts_at(path: &[Tagged], op: &Operation) -> bool

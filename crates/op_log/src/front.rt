@@ -1,6 +1,8 @@
 //! The front of a log: for each replica the counter of its last operation.
-ghost use Rattle.std.specs.Prelude.{◌≡◌, ◌+◌, ◌<◌, ◌≤◌, true, length, vec_len, MatchResult, Ok};
+ghost use Rattle.std.specs.Prelude.{[], Contains, IsTrue, Some, get_or, ◌≡◌, ◌+◌, ◌<◌, ◌≤◌, true, length, vec_len, MatchResult, Ok};
 ghost use Rattle.std.specs.List.{zip};
+ghost use Rattle.std.specs.Option.{option_copied};
+ghost use Rattle.op_core.specs.Op.{Op};
 ghost use Rattle.std.specs.Vec.{vec_capacity};
 ghost use Rattle.json_scalar.specs.Refusal.{UnlessMemory};
 ghost use Rattle.lamport_id.specs.Order.{name_cmp};
@@ -141,4 +143,21 @@ fn sharing_with(op: Operation, other: Option<&Operation>) -> Operation
         Some(other) => op.sharing(other),
         None => op,
     }
+}
+
+/// Whether the operation's front has the pair that stands at this place of a front, at the same place.
+pub fn has_pair(op: Option<&Operation>, front: &Front, at: usize) -> bool
+    requires { at < length front.now }
+    ensures { IsTrue result → (o : Op) × (option_copied op.entry ≡ Some o) × Contains o.front (get_or front.now at ([], 0)) }
+{
+    match op {
+        Some(op) => has_pair_at(op.front(), at, front.pair_at(at)),
+        None => false,
+    }
+}
+
+fn has_pair_at(front: &Front, at: usize, pair: Entry) -> bool
+    ensures { IsTrue result → Contains front.now pair }
+{
+    at < front.len() && front.pair_at(at) == pair
 }

@@ -1,6 +1,6 @@
 //! The log.
-ghost use Rattle.std.specs.Prelude.{◌≡◌, ◌+◌, ◌<◌, ◌≤◌, ℕ, List, [], ◌∷◌, ◌++◌, length, get_or, take, drop, map, filter, not, ◌==◌, OnOk, IfOk, IfErr, Ok};
-ghost use Rattle.std.specs.List.{zip, list_all};
+ghost use Rattle.std.specs.Prelude.{◌≡◌, ◌+◌, ◌<◌, ◌≤◌, ℕ, List, [], ◌∷◌, ◌++◌, length, get_or, take, drop, map, filter, not, ◌==◌, Contains, OnOk, IfOk, IfErr, IfSome, Ok};
+ghost use Rattle.std.specs.List.{list_all};
 ghost use Rattle.std.specs.Option.{option_copied};
 ghost use Rattle.json_scalar.specs.Refusal.{UnlessMemory};
 ghost use Rattle.op_core.specs.Limits.{most_replicas};
@@ -189,8 +189,7 @@ impl OpLog {
     pub fn is_ready(&self, op: &Operation) -> bool
         ensures { result ≡ is_ready op.now self.now.operations }
     {
-        let (names, counters) = op.front().parts();
-        self.contains_all(names, counters)
+        self.logs_front(op.front())
     }
 
     /// The ids of the front of an operation that are not logged, in the order of the front. It is refused for want of
@@ -202,13 +201,30 @@ impl OpLog {
         Ok(Ids::from(self.unlogged(alloc, op.front())?))
     }
 
-    fn contains_all(&self, names: &[ReplicaName], counters: &[u64]) -> bool
-        ensures { result ≡ list_all (λ e. is_logged self.now.operations (id_of e)) (zip names.now counters.now) }
+    // Whether the id of each pair is logged. Those that the front of the last operation says too are.
+    fn logs_front(&self, front: &Front) -> bool
+        ensures { result ≡ list_all (λ e. is_logged self.now.operations (id_of e)) front.now }
     {
-        names
-            .iter()
-            .zip(counters.iter())
-            .all(|pair| self.contains(id_of(*pair.0, *pair.1)))
+        let last = self.as_slice().last();
+        for at in 0..front.len() {
+            if !self.logs_pair(front, last, at) {
+                return false;
+            }
+        }
+        true
+    }
+
+    // Whether the id of the pair at a place is logged.
+    fn logs_pair(&self, front: &Front, last: Option<&Operation>, at: usize) -> bool
+        requires within { at < length front.now }
+        requires logged { IfSome (option_copied last) (λ op. Contains self.now.operations op) }
+        ensures { result ≡ is_logged self.now.operations (id_of (get_or front.now at ([], 0))) }
+    {
+        if front::has_pair(last, front, at) {
+            keeps_good(self);
+            return true;
+        }
+        self.contains(id_at(front, at))
     }
 
     // The ids of a front that are not logged.

@@ -1,7 +1,7 @@
 use Rattle.std.proofs.Common.{◌≡◌, ◌<◌, ℕ, length, nat_eq, eqb-true, sym, subst, ◌∙◌}
 use Rattle.std.proofs.lemmas.Bool.{and_parts}
 use lib.Pointwise.{pointwise, bytes_decides}
-use Rattle.op_log.proofs.check.has_pair_at.Goals as goal
+use Rattle.op_log.proofs.front.has_pair_at.Goals as goal
 
 pub returns-then-at-len : goal.returns-then-at-len
 returns-then-at-len c =
