@@ -41,6 +41,7 @@ fn with_counters<M: Marker>(
     replica: Replica,
     ledgers: Ledgers<M>,
 ) -> Result<LockedDoc<M>, Refusal>
+    requires { replica.log ≡ M.begun ledgers.number }
     ensures made { IfOk result (λ doc. (doc.number ≡ ledgers.number) × (doc.document ≡ document_of replica (replicate (length replica.log) 0) ledgers.seats 0 (length replica.log))) }
     ensures memory { IfErr result (λ cause. cause ≡ Refusal.NoMemory) }
 {
@@ -91,14 +92,16 @@ impl<M: Marker> Ledger<M> {
         Ok(ledgers)
     }
 
-    /// A new document with so many seats, for the replica of this name. The one error is `NoMemory`.
+    /// A new document with so many seats, for the replica of this name, where the document of the next number begins with nothing.
+    /// The one error is `NoMemory`.
     pub fn locked(
         &mut self,
         alloc: Global,
         name: &ReplicaName,
         seats: u16,
     ) -> Result<LockedDoc<M>, Refusal>
-        requires { 1 ≤ greatest_number - self.old }
+        requires number { 1 ≤ greatest_number - self.old }
+        requires begun { M.begun self.old ≡ [] }
         ensures made { IfOk result (λ doc. (doc.number ≡ self.old) × (doc.document ≡ new_document name.now [] seats)) }
         ensures memory { IfErr result (λ cause. cause ≡ Refusal.NoMemory) }
         ensures next { IfOk result (λ doc. self.new ≡ self.old + 1) }
@@ -108,8 +111,9 @@ impl<M: Marker> Ledger<M> {
         with_counters(alloc, Replica::new(alloc, *name)?, ledgers)
     }
 
-    /// A document of these operations with so many seats, for the replica of this name. They are of seat 0, and noted as copied. An
-    /// error is `NoMemory`, or the cause against the first that does not fit those before it.
+    /// A document of these operations with so many seats, for the replica of this name. They are what the document of the next number
+    /// begins with, of seat 0, and noted as copied. An error is `NoMemory`, or the cause against the first that does not fit those
+    /// before it.
     pub fn restored(
         &mut self,
         alloc: Global,
@@ -117,7 +121,8 @@ impl<M: Marker> Ledger<M> {
         operations: &[Operation],
         seats: u16,
     ) -> Result<LockedDoc<M>, Refusal>
-        requires { 1 ≤ greatest_number - self.old }
+        requires number { 1 ≤ greatest_number - self.old }
+        requires begun { operations.now ≡ M.begun self.old }
         ensures made { IfOk result (λ doc. (doc.number ≡ self.old) × (doc.document ≡ new_document name.now operations.now seats)) }
         ensures good { OnOk result (IsGood operations.now) }
         ensures err { IfErr result (λ cause. (cause ≡ Refusal.NoMemory) ⊎ ((place : ℕ) × IsFirstMisfit operations.now place cause)) }

@@ -1,7 +1,8 @@
 //! The documents of a run, each with a ledger of one seat.
 ghost use Rattle.std.specs.Prelude.{◌≡◌, ◌-◌};
-ghost use Rattle.run_core.specs.HasTold.{HasTold};
+ghost use Rattle.share_ledger.specs.Begun.{BeginEmpty};
 ghost use Rattle.doc_ledger.specs.Numbers.{greatest_number};
+ghost use Rattle.run_core.specs.HasTold.{HasTold};
 
 use crate::run::Maker;
 use doc_ledger::Ledger;
@@ -10,8 +11,9 @@ use json_scalar::Refusal;
 use lamport_id::ReplicaName;
 use locked_doc::{Answer, Gathering, LockedDoc, Seat, SeatEnd, Totals};
 use session_core::Document;
-use share_ledger::Marker;
+use share_ledger::{Blank, Marker};
 use std::alloc::Global;
+use std::marker::Model;
 
 /// A document with a ledger of one seat, as a session reaches it.
 #[derive(Drop)]
@@ -86,13 +88,43 @@ impl<M: Marker> Seated<M> {
     }
 }
 
-impl<M: Marker> Maker for Ledger<M> {
+/// A ledger whose documents all begin with nothing. Contracts see it as the number of the next one.
+#[derive(Drop)]
+pub struct NewDocuments<M: Marker> {
+    ledger: Ledger<M>,
+}
+
+impl<M: Marker> Model for NewDocuments<M> {
+    ghost use Rattle.std.specs.Prelude.{ℕ};
+    ghost use Rattle.share_ledger.specs.Begun.{BeginEmpty};
+
+    ghost Value = { ℕ };
+
+    ghost view = { λ d. d.ledger };
+
+    ghost invariant = { λ d. BeginEmpty M.begun };
+}
+
+impl<M: Marker> NewDocuments<M> {
+    /// One that has made no document yet. It takes no memory.
+    pub fn new(blank: Blank) -> NewDocuments<M>
+        requires blank { blank ≡ M.name }
+        requires begun { BeginEmpty M.begun }
+        ensures { result ≡ 0 }
+    {
+        NewDocuments {
+            ledger: Ledger::new(blank),
+        }
+    }
+}
+
+impl<M: Marker> Maker for NewDocuments<M> {
     type Made = Seated<M>;
 
-    ghost room = { λ l. greatest_number - l };
+    ghost room = { λ d. greatest_number - d };
 
     fn make(&mut self, alloc: Global, name: &ReplicaName) -> Result<Seated<M>, Refusal> {
-        let locked = self.locked(alloc, name, 1)?;
+        let locked = self.ledger.locked(alloc, name, 1)?;
         Ok(Seated { locked })
     }
 }

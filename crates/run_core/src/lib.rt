@@ -5,6 +5,6 @@ mod documents;
 mod names;
 mod run;
 
-pub use documents::Seated;
+pub use documents::{NewDocuments, Seated};
 pub use names::{MAX_DOCUMENTS, MAX_NAME_BYTES, first_replica, is_among, is_good, is_name};
 pub use run::{Maker, run_over};

@@ -8,6 +8,9 @@ use Rattle.locked_doc.specs.declared.gather.Totals.{Totals}
 use Rattle.server_core.specs.declared.gathering.Gathered.{Gathered}
 use Rattle.server_core.specs.Attended.{AreAttended}
 use Rattle.server_core.specs.Sums.{AreTotalsFrom}
+use Rattle.op_core.specs.Op.{Op}
+use Rattle.copy_docs.specs.Docs.{Doc}
+use Rattle.served_copy.specs.Restored.{entries_at}
 use Rattle.served_copy.specs.Totals.{ServesSessions, total_line, total_lines}
 
 -- the line of one document, and those of the documents behind it
@@ -22,14 +25,15 @@ pub lines_end : (names : List (Bor (List ℕ))) (totals : List Totals) (i : ℕ)
 lines_end names totals i past = rw (drop_all i names past) refl
 
 -- what sessions did over documents of these names, and what was told of it
-pub serves : (shelved names : List (List ℕ)) (connections : List (Option (List ℕ))) (count : ℕ) {ran : Option Gathered} (gathered : Gathered)
+pub serves : (begun : ℕ → List Op) (docs : List Doc) (shelved names : List (List ℕ)) (connections : List (Option (List ℕ))) (count : ℕ) {ran : Option Gathered} (gathered : Gathered)
     (held holds : Option (List ℕ)) → ran ≡ Some gathered
-    → IfSome ran (λ g. (given : List (List (Option Seat))) × AreAttended shelved connections g.endings.items given × AreTotalsFrom 0 given g.totals.items)
+    → IfSome ran (λ g. (given : List (List (Option Seat))) × AreAttended shelved connections g.endings.items given × AreTotalsFrom begun 0 given g.totals.items)
     → IfSome ran (λ g. vec_len g.totals ≡ length shelved)
-    → shelved ≡ names → length connections ≡ count → Appends held holds (total_lines names gathered.totals.items) → ServesSessions names count held holds
-serves shelved names connections count gathered held holds is sessions each same so_many told =
+    → begun ≡ entries_at docs names → shelved ≡ names → length connections ≡ count → Appends held holds (total_lines names gathered.totals.items)
+    → ServesSessions docs names count held holds
+serves begun docs shelved names connections count gathered held holds is sessions each restored same so_many told =
     let (given, attended, added) = subst
-    (λ ran. IfSome ran (λ g. (given : List (List (Option Seat))) × AreAttended shelved connections g.endings.items given × AreTotalsFrom 0 given g.totals.items)) is sessions in
+    (λ ran. IfSome ran (λ g. (given : List (List (Option Seat))) × AreAttended shelved connections g.endings.items given × AreTotalsFrom begun 0 given g.totals.items)) is sessions in
     let many : vec_len gathered.totals ≡ length shelved = subst (λ ran. IfSome ran (λ g. vec_len g.totals ≡ length shelved)) is each in
     record {
       connections = connections;
@@ -39,6 +43,6 @@ serves shelved names connections count gathered held holds is sessions each same
       so_many = so_many;
       attended = subst (λ ns. AreAttended ns connections gathered.endings.items given) same attended;
       each = sym gathered.totals.ok.0 ∙ many ∙ ap length same;
-      added = added;
+      added = subst (λ first. AreTotalsFrom first 0 given gathered.totals.items) restored added;
       told = told;
     }

@@ -1,10 +1,12 @@
 -- Documents that are restored one behind the other.
 use Rattle.std.proofs.Common.{◌≡◌, ◌<◌, ◌+◌, ◌++◌, ◌∷◌, [], ℕ, List, map, take, length, get_or, sym, ap, ap₂, ◌∙◌}
-use Rattle.std.proofs.lemmas.List.{map_more, map_push}
+use Rattle.std.proofs.lemmas.List.{get_or-map, map_more, map_push}
 use Rattle.std.specs.Borrow.{Bor}
+use Rattle.op_core.specs.Op.{Op}
 use Rattle.doc_rules.specs.Document.{Document, new_document}
 use Rattle.copy_docs.specs.Docs.{Doc, log_of}
 use Rattle.locked_doc.specs.Locked.{Locked}
+use Rattle.served_copy.specs.Restored.{entries_at}
 
 -- the documents of one name more
 pub one_restored : (replica : List ℕ) (kept : List Doc) (seats : ℕ) (names : List (Bor (List ℕ))) (i : ℕ) (name : Bor (List ℕ)) (docs new : List Locked) (doc : Locked)
@@ -17,3 +19,10 @@ one_restored replica kept seats names i name docs new doc within pushed is befor
     let text : Bor (List ℕ) → List ℕ = λ s. s.now in
     ap (map document) pushed ∙ map_push document docs doc ∙ ap₂ (λ ys y. ys ++ y ∷ []) before is
     ∙ sym (ap (map made) (map_more text names i name within) ∙ map_push made (map text (take i names)) (text (get_or names i name)))
+
+-- the document of the next number begins with the entries of the next name
+pub begins_here : (begun : ℕ → List Op) (kept : List Doc) (names : List (Bor (List ℕ))) (number i : ℕ) (name : Bor (List ℕ)) → begun ≡ entries_at kept (map (λ s. s.now) names)
+    → number ≡ i → i < length names → log_of (get_or names i name).now kept ≡ begun number
+begins_here begun kept names number i name are here within =
+    let at : begun number ≡ log_of (get_or (map (λ s. s.now) names) i []) kept = ap begun here ∙ ap (λ (f : ℕ → List Op). f i) are in
+    sym (at ∙ ap (λ n. log_of n kept) (get_or-map (λ (s : Bor (List ℕ)). s.now) names i name [] within))

@@ -7,6 +7,8 @@ use Rattle.locked_doc.specs.declared.gather.Totals.{Totals}
 use Rattle.session_rules.specs.declared.Ending.{Ending}
 use Rattle.server_core.specs.Attended.{AreAttended}
 use Rattle.server_core.specs.Sums.{AreTotalsFrom}
+use Rattle.copy_docs.specs.Docs.{Doc}
+use Rattle.served_copy.specs.Restored.{entries_at}
 
 -- ["total",DOC,ACCEPTED,LOGGED,COPIED]
 abbrev pub total_line : List ℕ → Totals → List ℕ
@@ -20,8 +22,9 @@ total_lines [] ts = []
 total_lines (name ∷ names) [] = []
 
 -- So many connections, each with a session over documents of these names, or with none; and then a line of totals for each
--- document, which are those of the seats that these sessions had. Where known, the bytes are those that a connection has to read.
-pub record ServesSessions (names : List (List ℕ)) (count : ℕ) (held holds : Option (List ℕ)) : Type 0 where
+-- document, which are those of the seats that these sessions had. Each document began with just the entries that it has in these
+-- documents of a copy. Where known, the bytes are those that a connection has to read.
+pub record ServesSessions (docs : List Doc) (names : List (List ℕ)) (count : ℕ) (held holds : Option (List ℕ)) : Type 0 where
   pub connections : List (Option (List ℕ))
   pub endings : List (Option Ending)
   pub given : List (List (Option Seat))
@@ -29,5 +32,5 @@ pub record ServesSessions (names : List (List ℕ)) (count : ℕ) (held holds : 
   pub so_many : length connections ≡ count
   pub attended : AreAttended names connections endings given
   pub each : length totals ≡ length names
-  pub added : AreTotalsFrom 0 given totals
+  pub added : AreTotalsFrom (entries_at docs names) 0 given totals
   pub told : Appends held holds (total_lines names totals)

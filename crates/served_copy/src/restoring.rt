@@ -3,7 +3,7 @@ ghost use Rattle.std.specs.Prelude.{◌≡◌, ◌⊎◌, ◌-◌, ◌+◌, ◌�
 ghost use Rattle.doc_rules.specs.Document.{new_document};
 ghost use Rattle.doc_ledger.specs.Numbers.{greatest_number};
 ghost use Rattle.copy_docs.specs.Docs.{log_of};
-ghost use Rattle.served_copy.specs.Restored.{restored};
+ghost use Rattle.served_copy.specs.Restored.{entries_at, restored};
 
 use doc_ledger::Ledger;
 use json_scalar::Refusal;
@@ -46,9 +46,10 @@ fn restored_doc<M: Marker, S: Alter>(
     name: &str,
     seats: u16,
 ) -> Result<LockedDoc<M>, Fault>
-    requires { 1 ≤ greatest_number - ledger.old }
+    requires number { 1 ≤ greatest_number - ledger.old }
+    requires begun { log_of name.now copy.now.docs ≡ M.begun ledger.old }
     ensures made { IfOk result (λ doc. doc.document ≡ new_document replica.now (log_of name.now copy.now.docs) seats) }
-    ensures room { greatest_number - ledger.old ≤ (greatest_number - ledger.new) + 1 }
+    ensures next { IfOk result (λ doc. ledger.new ≡ ledger.old + 1) }
     ensures never_refused { IfErr result (λ e. (e ≡ Fault.Store) ⊎ (e ≡ Fault.Memory)) }
     ensures failed { result ≡ Err Fault.Store → copy.now.has_failed ≡ true }
 {
@@ -71,7 +72,7 @@ fn push_doc<M: Marker>(docs: &mut Vec<LockedDoc<M>>, doc: LockedDoc<M>) -> Resul
     }
 }
 
-/// The documents of these names as the copy has them, with so many seats each, for the replica of this name.
+/// The documents of these names as the copy has them, with so many seats each, for the replica of this name: the first of a ledger.
 fn restored_docs<M: Marker, S: Alter>(
     alloc: Global,
     ledger: &mut Ledger<M>,
@@ -80,7 +81,9 @@ fn restored_docs<M: Marker, S: Alter>(
     names: &[&str],
     seats: u16,
 ) -> Result<Vec<LockedDoc<M>>, Fault>
-    requires { length names.now ≤ greatest_number - ledger.old }
+    requires few { length names.now ≤ greatest_number }
+    requires first { ledger.old ≡ 0 }
+    requires begun { M.begun ≡ entries_at copy.now.docs (map (λ s. s.now) names.now) }
     ensures documents { IfOk result (λ docs. map (λ d. d.document) docs.items ≡ map (λ n. new_document replica.now (log_of n copy.now.docs) seats) (map (λ s. s.now) names.now)) }
     ensures each { IfOk result (λ docs. length docs.items ≡ length names.now) }
     ensures never_refused { IfErr result (λ e. (e ≡ Fault.Store) ⊎ (e ≡ Fault.Memory)) }
@@ -95,7 +98,8 @@ fn restored_docs<M: Marker, S: Alter>(
 }
 
 /// Documents of these names as the copy has them, with so many seats each, for the replica of this name: their entries are seat 0's,
-/// and noted as copied. A copy is never refused here: the error is `Memory`, or `Store` after a fault.
+/// and noted as copied. They are the first of a ledger, whose documents begin so. A copy is never refused here: the error is `Memory`,
+/// or `Store` after a fault.
 pub fn restored_stock<M: Marker, S: Alter>(
     alloc: Global,
     ledger: &mut Ledger<M>,
@@ -104,7 +108,9 @@ pub fn restored_stock<M: Marker, S: Alter>(
     names: &[&str],
     seats: u16,
 ) -> Result<Stock<M>, Fault>
-    requires { length names.now ≤ greatest_number - ledger.old }
+    requires few { length names.now ≤ greatest_number }
+    requires first { ledger.old ≡ 0 }
+    requires begun { M.begun ≡ entries_at copy.now.docs (map (λ s. s.now) names.now) }
     ensures names { IfOk result (λ stock. stock.names.items ≡ map (λ s. s.now) names.now) }
     ensures documents { IfOk result (λ stock. map (λ d. d.document) stock.docs.items ≡ restored replica.now copy.now.docs seats (map (λ s. s.now) names.now)) }
     ensures never_refused { IfErr result (λ e. (e ≡ Fault.Store) ⊎ (e ≡ Fault.Memory)) }

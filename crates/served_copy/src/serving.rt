@@ -5,7 +5,7 @@ ghost use Rattle.doc_ledger.specs.Numbers.{greatest_number};
 ghost use Rattle.server_core.specs.Attended.{AreAttended};
 ghost use Rattle.server_core.specs.Sums.{AreTotalsFrom};
 ghost use Rattle.copier.specs.Batches.{AddsBatches, HasCopied};
-ghost use Rattle.served_copy.specs.Restored.{restored};
+ghost use Rattle.served_copy.specs.Restored.{entries_at};
 ghost use Rattle.served_copy.specs.Served.{KeepsRows, ServesCopied, greatest_seat};
 ghost use Rattle.served_copy.specs.Totals.{ServesSessions};
 
@@ -24,6 +24,7 @@ use share_ledger::{Blank, Marker};
 use sqlite::Alter;
 use std::alloc::Global;
 use std::io;
+use std::marker::Brand;
 use std::sync::Wait;
 use std::thread::Threads;
 use std::time::Clock;
@@ -52,7 +53,7 @@ fn serve_beside<
     ran: &mut Option<Gathered>,
 ) -> Copier<'a, S, T>
     ensures sessions { IfSome ran.new (λ g. (given : List (List (Option seats.Seat)))
-        × AreAttended library.names.items (map C.requests connections.items) g.endings.items given × AreTotalsFrom 0 given g.totals.items) }
+        × AreAttended library.names.items (map C.requests connections.items) g.endings.items given × AreTotalsFrom M.begun 0 given g.totals.items) }
     ensures each { IfSome ran.new (λ g. vec_len g.totals ≡ length library.names.items) }
     ensures same_reference { result.copy.ghost_name ≡ copier.entry.copy.ghost_name }
     // The copier has run, or memory was wanting before the first session.
@@ -86,7 +87,7 @@ fn serve_copied<
     copy: &mut LogCopy<S>,
 ) -> (Option<Gathered>, Option<Fault>)
     ensures sessions { IfSome result.0 (λ g. (given : List (List (Option seats.Seat)))
-        × AreAttended library.names.items (map C.requests connections.items) g.endings.items given × AreTotalsFrom 0 given g.totals.items) }
+        × AreAttended library.names.items (map C.requests connections.items) g.endings.items given × AreTotalsFrom M.begun 0 given g.totals.items) }
     ensures each { IfSome result.0 (λ g. vec_len g.totals ≡ length library.names.items) }
     ensures left { ((result.0 ≡ None) × (copy.new ≡ copy.old)) ⊎ HasCopied library.names.items copy.old copy.new result.1 }
 {
@@ -127,9 +128,10 @@ fn serve_library<
     copy: &mut LogCopy<S>,
     out: &mut W,
 ) -> u8
-    requires { library.names.items ≡ map (λ s. s.now) names.now }
+    requires names { library.names.items ≡ map (λ s. s.now) names.now }
+    requires begun { M.begun ≡ entries_at copy.old.docs (map (λ s. s.now) names.now) }
     ensures status { result ≤ 1 }
-    ensures served { result ≡ 0 → ServesSessions (map (λ s. s.now) names.now) (length connections.items) (W.contents out.old) (W.contents out.new) }
+    ensures served { result ≡ 0 → ServesSessions copy.old.docs (map (λ s. s.now) names.now) (length connections.items) (W.contents out.old) (W.contents out.new) }
     ensures copied { result ≡ 0 → AddsBatches (map (λ s. s.now) names.now) copy.old copy.new }
     ensures works { result ≡ 0 → copy.old.has_failed ≡ false → copy.new.has_failed ≡ false }
     ensures grown { copy.new.has_failed ≡ false → AddsBatches (map (λ s. s.now) names.now) copy.old copy.new }
@@ -145,7 +147,7 @@ fn serve_library<
     }
 }
 
-/// Serves these connections over documents of these names that were restored from the copy, and writes the totals at the end. The
+/// Serves these connections over these documents, which were restored from the copy, and writes the totals at the end. The
 /// status is 1 for want of memory, where the writer fails, or where the copying ended before all was copied.
 fn serve_stock<
     M: Marker + Send + Sync,
@@ -156,7 +158,6 @@ fn serve_stock<
 >(
     rt: &R,
     alloc: Global,
-    replica: &ReplicaName,
     stock: Stock<M>,
     names: &[&str],
     connections: Vec<C>,
@@ -164,25 +165,24 @@ fn serve_stock<
     out: &mut W,
 ) -> u8
     requires names { stock.names.items ≡ map (λ s. s.now) names.now }
-    requires restored { map (λ d. d.document) stock.docs.items ≡ restored replica.now copy.old.docs (min (length connections.items) greatest_seat) (map (λ s. s.now) names.now) }
+    requires begun { M.begun ≡ entries_at copy.old.docs (map (λ s. s.now) names.now) }
     ensures status { result ≤ 1 }
-    ensures served { result ≡ 0 → ServesSessions (map (λ s. s.now) names.now) (length connections.items) (W.contents out.old) (W.contents out.new) }
+    ensures served { result ≡ 0 → ServesSessions copy.old.docs (map (λ s. s.now) names.now) (length connections.items) (W.contents out.old) (W.contents out.new) }
     ensures copied { result ≡ 0 → AddsBatches (map (λ s. s.now) names.now) copy.old copy.new }
     ensures works { result ≡ 0 → copy.old.has_failed ≡ false → copy.new.has_failed ≡ false }
     ensures grown { copy.new.has_failed ≡ false → AddsBatches (map (λ s. s.now) names.now) copy.old copy.new }
     ensures alone { copy.new.is_alone ≡ copy.old.is_alone }
 {
-    let _ = replica;
     let Ok(library) = shelve(alloc, stock) else {
         return 1;
     };
     serve_library(rt, alloc, library, names, connections, copy, out)
 }
 
-/// Serves these connections, one session each, on documents of these names: raises the epoch of the copy, restores the documents from
-/// it, copies what is logged meanwhile, and writes the totals at the end. The status is 1 for want of memory, where the writer fails,
-/// or where the copy is refused, which a line tells, or fails; sessions go on without a copy that fails while they run.
-pub fn serve_over<
+/// Serves these connections, one session each, on documents of these names that it restores from the copy, for the replica of this
+/// name, copies what is logged meanwhile, and writes the totals at the end. The status is 1 for want of memory, where the writer fails,
+/// or where the copy fails.
+fn serve_restored<
     M: Marker + Send + Sync,
     R: Threads + Wait + Sync + Log + Clock,
     C: Connect,
@@ -192,13 +192,50 @@ pub fn serve_over<
     rt: &R,
     alloc: Global,
     blank: Blank,
-    name: &str,
+    replica: &ReplicaName,
     documents: &[&str],
     connections: Vec<C>,
     copy: &mut LogCopy<S>,
     out: &mut W,
 ) -> u8
     requires blank { blank ≡ M.name }
+    requires begun { M.begun ≡ entries_at copy.old.docs (map (λ s. s.now) documents.now) }
+    requires few { length documents.now ≤ greatest_number }
+    ensures status { result ≤ 1 }
+    ensures served { result ≡ 0 → ServesSessions copy.old.docs (map (λ s. s.now) documents.now) (length connections.items) (W.contents out.old) (W.contents out.new) }
+    ensures copied { result ≡ 0 → AddsBatches (map (λ s. s.now) documents.now) copy.old copy.new }
+    ensures works { result ≡ 0 → copy.old.has_failed ≡ false → copy.new.has_failed ≡ false }
+    ensures grown { copy.new.has_failed ≡ false → AddsBatches (map (λ s. s.now) documents.now) copy.old copy.new }
+    ensures alone { copy.new.is_alone ≡ copy.old.is_alone }
+{
+    let mut ledger = Ledger::<M>::new(blank);
+    let seats = seats_for(connections.len());
+    match restored_stock(alloc, &mut ledger, copy, replica, documents, seats) {
+        Ok(stock) => {
+            note_documents(rt, copy, documents);
+            serve_stock(rt, alloc, stock, documents, connections, copy, out)
+        }
+        Err(_) => 1,
+    }
+}
+
+/// Serves these connections, one session each, on documents of these names: raises the epoch of the copy, restores the documents from
+/// it, copies what is logged meanwhile, and writes the totals at the end. The status is 1 for want of memory, where the writer fails,
+/// or where the copy is refused, which a line tells, or fails; sessions go on without a copy that fails while they run.
+pub fn serve_over<
+    R: Threads + Wait + Sync + Log + Clock,
+    C: Connect,
+    S: Alter,
+    W: io::Write,
+>(
+    rt: &R,
+    alloc: Global,
+    name: &str,
+    documents: &[&str],
+    connections: Vec<C>,
+    copy: &mut LogCopy<S>,
+    out: &mut W,
+) -> u8
     requires few { length documents.now ≤ greatest_number }
     ensures status { result ≤ 1 }
     ensures served { result ≡ 0 → ServesCopied name.now (map (λ s. s.now) documents.now) (length connections.items) copy.old copy.new (W.contents out.old) (W.contents out.new) }
@@ -206,29 +243,20 @@ pub fn serve_over<
     ensures kept { copy.new.has_failed ≡ false → KeepsRows (map (λ s. s.now) documents.now) copy.old copy.new }
     ensures alone { copy.new.is_alone ≡ copy.old.is_alone }
 {
-    let replica = match raise(alloc, copy, name, documents) {
-        Ok(replica) => replica,
+    match raise(alloc, copy, name, documents) {
+        Ok(replica) => serve_restored::<Brand, R, C, S, W>(
+            rt,
+            alloc,
+            Blank::new(),
+            &replica,
+            documents,
+            connections,
+            copy,
+            out,
+        ),
         Err(fault) => {
             tell_fault(fault, out);
-            return 1;
+            1
         }
-    };
-    let mut ledger = Ledger::<M>::new(blank);
-    let seats = seats_for(connections.len());
-    match restored_stock(alloc, &mut ledger, copy, &replica, documents, seats) {
-        Ok(stock) => {
-            note_documents(rt, copy, documents);
-            serve_stock(
-                rt,
-                alloc,
-                &replica,
-                stock,
-                documents,
-                connections,
-                copy,
-                out,
-            )
-        }
-        Err(_) => 1,
     }
 }

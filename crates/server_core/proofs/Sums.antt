@@ -1,6 +1,7 @@
 -- The totals of documents, one after another.
 use Rattle.std.proofs.Common.{◌≡◌, ℕ, zero, suc, ◌+◌, List, [], ◌∷◌, ◌++◌, length, map, Option, refl, subst, arith}
 use Rattle.std.specs.List.{flat_map}
+use Rattle.op_core.specs.Op.{Op}
 use Rattle.doc_rules.specs.Seats.{Seat}
 use Rattle.locked_doc.specs.declared.gather.Totals.{Totals}
 use Rattle.server_core.specs.Sums.{AreTotals, AreTotalsFrom, ends_behind, first_end, later_ends}
@@ -10,12 +11,12 @@ behind-next zero sessions = refl
 behind-next (suc k) sessions = behind-next k (map later_ends sessions)
 
 -- one more behind them
-pub one_more : (n : ℕ) (sessions : List (List (Option Seat))) (totals : List Totals) (t : Totals) → AreTotalsFrom n sessions totals
-    → AreTotals (n + length totals) (flat_map first_end (ends_behind (length totals) sessions)) t → AreTotalsFrom n sessions (totals ++ t ∷ [])
-one_more n sessions [] t are next = let here : n + 0 ≡ n = omega arith in (subst (λ k. AreTotals k (flat_map first_end sessions) t) here next, tt)
-one_more n sessions (x ∷ totals) t are next =
+pub one_more : (begun : ℕ → List Op) (n : ℕ) (sessions : List (List (Option Seat))) (totals : List Totals) (t : Totals) → AreTotalsFrom begun n sessions totals
+    → AreTotals begun (n + length totals) (flat_map first_end (ends_behind (length totals) sessions)) t → AreTotalsFrom begun n sessions (totals ++ t ∷ [])
+one_more begun n sessions [] t are next = let here : n + 0 ≡ n = omega arith in (subst (λ k. AreTotals begun k (flat_map first_end sessions) t) here next, tt)
+one_more begun n sessions (x ∷ totals) t are next =
     let there : n + length (x ∷ totals) ≡ suc n + length totals = omega arith in (
       are.0,
-      one_more (suc n) (map later_ends sessions) totals t are.1
-          (subst (λ k. AreTotals k (flat_map first_end (ends_behind (length totals) (map later_ends sessions))) t) there next),
+      one_more begun (suc n) (map later_ends sessions) totals t are.1
+          (subst (λ k. AreTotals begun k (flat_map first_end (ends_behind (length totals) (map later_ends sessions))) t) there next),
     )

@@ -1,5 +1,6 @@
 //! Runs over bytes in memory: the worked rows, the order of causes, pieces of 1, 7 and 4,096 bytes, faults, and names.
 ghost use Rattle.std.specs.Prelude.{◌≡◌, ◌<◌};
+ghost use Rattle.share_ledger.specs.Begun.{BeginEmpty};
 
 mod causes;
 mod gathering;
@@ -13,7 +14,7 @@ use line_feed::doubles::{FailAfter, InPieces};
 use line_feed::{Reader, Writer};
 use line_proto::Name;
 use locked_doc::Shelf;
-use run_core::run_over;
+use run_core::{NewDocuments, run_over};
 use server_core::doubles::Script;
 use server_core::{Idle, Library, OpenGate, Signal, run_sessions};
 use share_ledger::{Blank, Marker};
@@ -38,18 +39,19 @@ fn written_over<M: Marker>(
     read_after: usize,
     write_after: usize,
 ) -> Result<(u8, Vec<u8>), AllocError>
-    requires named { blank ≡ M.name }
+    requires blank { blank ≡ M.name }
+    requires begun { BeginEmpty M.begun }
     requires some { 0 < piece }
 {
     let mut out = Vec::new(alloc);
     let mut source = FailAfter::new(InPieces::new(Reader::new(input), piece), read_after);
     let mut sink = FailAfter::new(InPieces::new(Writer::new(&mut out), piece), write_after);
-    let mut ledger = Ledger::<M>::new(blank);
+    let mut made = NewDocuments::<M>::new(blank);
     let (name, documents) = match names.split_first() {
         Some((name, documents)) => (*name, documents),
         None => ("", names),
     };
-    let status = run_over(alloc, &mut ledger, name, documents, &mut source, &mut sink);
+    let status = run_over(alloc, &mut made, name, documents, &mut source, &mut sink);
     Ok((status, out))
 }
 
@@ -97,7 +99,8 @@ fn row_of<R: Abort>(
 
 /// A new document `d` with one seat, on a shelf.
 fn one_document<M: Marker>(alloc: Global, blank: Blank) -> Result<Library<M>, Refusal>
-    requires { blank ≡ M.name }
+    requires blank { blank ≡ M.name }
+    requires begun { BeginEmpty M.begun }
 {
     let mut ledger = Ledger::<M>::new(blank);
     let replica = ReplicaName::read(b"srv-1").ok_or(Refusal::BadRequest)?;
@@ -137,7 +140,8 @@ fn written_on_shelf<M: Marker + Send + Sync, R: Threads + Wait + Sync>(
     blank: Blank,
     input: &[u8],
 ) -> Result<Vec<u8>, Refusal>
-    requires { blank ≡ M.name }
+    requires blank { blank ≡ M.name }
+    requires begun { BeginEmpty M.begun }
 {
     served_alone(rt, alloc, one_document::<M>(alloc, blank)?, input)
 }

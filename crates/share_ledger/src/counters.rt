@@ -1,4 +1,5 @@
-ghost use Rattle.std.specs.Prelude.{◌≡◌, ℕ, ◌+◌, ◌^◌, ◌<◌, ◌≤◌};
+ghost use Rattle.std.specs.Prelude.{◌≡◌, ℕ, List, [], ◌+◌, ◌^◌, ◌<◌, ◌≤◌};
+ghost use Rattle.op_core.specs.Op.{Op};
 ghost use Rattle.share_ledger.specs.Counters.{seat_counter, ledger_place, IsSamePlace};
 
 use crate::halves::{Half, Rest};
@@ -8,10 +9,15 @@ use std::marker::{Brand, Model, PhantomData};
 /// the one table that `M` names. It has no member at run time, and a caller that makes a table picks the name by `Brand`.
 pub trait Marker {
     ghost name: { ℕ };
+
+    /// With which operations the document of each number begins. No counter depends on it: the documents of the table do.
+    ghost begun: { ℕ → List Op };
 }
 
 impl Marker for Brand {
     ghost name = { 0 };
+
+    ghost begun = { λ _. [] };
 }
 
 /// A new table, which no marker names yet. Contracts see it as its name. It takes no bytes.

@@ -1,6 +1,7 @@
 //! Seats of a document and of another, and what their ends add up to.
 ghost use Rattle.std.specs.Prelude.{◌≡◌, ◌≤◌};
 ghost use Rattle.share_ledger.specs.Counters.{ledger_place};
+ghost use Rattle.share_ledger.specs.Begun.{BeginEmpty};
 
 use super::samples::{Deed, Digest, command, document, told_by};
 use doc_words::Query;
@@ -90,7 +91,8 @@ fn refuses_with<M: Marker, R: Abort>(
 
 // The end of a seat of the document of number 1.
 fn elsewhere<M: Marker>(alloc: Global, table: &mut Table<M>) -> Result<SeatEnd<M>, Refusal>
-    requires { table.old ≤ ledger_place 1 0 }
+    requires place { table.old ≤ ledger_place 1 0 }
+    requires begun { BeginEmpty M.begun }
 {
     let mut doc = document(alloc, table, 1, 1)?;
     let seat = doc.open_seat()?;
@@ -104,7 +106,8 @@ fn gather_totals(rt: HostRuntime) -> Result<(), Fail> {
 
 // A document with 3 seats: seat 1 assigns three times, seat 2 twice, seat 3 isn't opened.
 fn gathers<M: Marker, R: Abort>(rt: &R, alloc: Global, blank: Blank) -> Result<(), Fail>
-    requires { blank ≡ M.name }
+    requires blank { blank ≡ M.name }
+    requires begun { BeginEmpty M.begun }
 {
     let mut table = blank.named::<M>();
     let mut doc = document(alloc, &mut table, 0, 3)?;
@@ -169,7 +172,8 @@ fn release_counts_for_releaser(rt: HostRuntime) -> Result<(), Fail> {
 
 // What one seat handed in and another seat's call released is the second seat's.
 fn releases<M: Marker, R: Abort>(rt: &R, alloc: Global, blank: Blank) -> Result<(), Fail>
-    requires { blank ≡ M.name }
+    requires blank { blank ≡ M.name }
+    requires begun { BeginEmpty M.begun }
 {
     let mut table = blank.named::<M>();
     let mut doc = document(alloc, &mut table, 0, 2)?;

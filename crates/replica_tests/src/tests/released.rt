@@ -1,5 +1,6 @@
 //! The worked row on operations that are handed in out of order, on a document behind a lock.
 ghost use Rattle.std.specs.Prelude.{◌≡◌};
+ghost use Rattle.share_ledger.specs.Begun.{BeginEmpty};
 
 use super::samples::{Deed, Digest, are_ids, are_numbers, command, document, told_by, values_at};
 use doc_words::{Query, Reply};
@@ -64,7 +65,8 @@ fn buffer_release(rt: HostRuntime) -> Result<(), Fail> {
 }
 
 fn releases<M: Marker, R: Abort>(rt: &R, alloc: Global, blank: Blank) -> Result<(), Fail>
-    requires { blank ≡ M.name }
+    requires blank { blank ≡ M.name }
+    requires begun { BeginEmpty M.begun }
 {
     let mut table = blank.named::<M>();
     let mut doc = document(alloc, &mut table, 0, 1)?;

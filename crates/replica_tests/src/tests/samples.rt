@@ -1,5 +1,6 @@
 //! Operations and commands by their written forms, what is told of them, and a replica and a document to try them on.
-ghost use Rattle.std.specs.Prelude.{◌≡◌, ◌+◌, ◌≤◌, IfOk, OnOk};
+ghost use Rattle.std.specs.Prelude.{◌≡◌, [], ◌+◌, ◌≤◌, IfOk, OnOk};
+ghost use Rattle.share_ledger.specs.Begun.{BeginEmpty};
 ghost use Rattle.share_ledger.specs.Counters.{ledger_place};
 
 use doc_words::{Command, Look, Place, Query, Reply, Steps};
@@ -158,7 +159,9 @@ pub fn are_ids(ids: &[Id], due: &[(u64, &str)]) -> bool {
 }
 
 /// A replica named srv-1 whose log is empty.
-pub fn server(alloc: Global) -> Result<Replica, Refusal> {
+pub fn server(alloc: Global) -> Result<Replica, Refusal>
+    ensures { IfOk result (λ replica. replica.log ≡ []) }
+{
     let name = ReplicaName::read(b"srv-1").ok_or(Refusal::BadRequest)?;
     Replica::new(alloc, name)
 }
@@ -187,7 +190,8 @@ pub fn document<M: Marker>(
     number: u16,
     seats: u16,
 ) -> Result<LockedDoc<M>, Refusal>
-    requires { table.old ≤ ledger_place number 0 }
+    requires place { table.old ≤ ledger_place number 0 }
+    requires begun { BeginEmpty M.begun }
     ensures ok { IfOk result (λ d. d.number ≡ number) }
     ensures table { OnOk result (table.new ≤ ledger_place number seats + 1) }
 {

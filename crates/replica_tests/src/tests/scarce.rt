@@ -4,7 +4,7 @@
 //! `rt test` refuses none. `bench/each-allocation replica_tests TEST..` runs a test of this file once for each of its allocations,
 //! with that one refused. `rt try --test --fail-alloc N` refuses the Nth of each test, for one N a run, and the tests of the other
 //! files fail under it, since they expect ample memory.
-ghost use Rattle.std.specs.Prelude.{◌≡◌, ◌≤◌, IfOk};
+ghost use Rattle.std.specs.Prelude.{◌≡◌, ◌≤◌, ℕ, IfOk};
 ghost use Rattle.share_ledger.specs.Counters.{ledger_place};
 
 use super::is_conflict_at;
@@ -284,7 +284,9 @@ fn document_again<M: Marker, R: Abort>(
     alloc: Global,
     replica: Replica,
     ledgers: Ledgers<M>,
-) -> Result<LockedDoc<M>, Refusal> {
+) -> Result<LockedDoc<M>, Refusal>
+    requires { replica.log ≡ M.begun ledgers.number }
+{
     match LockedDoc::new(alloc, replica, ledgers) {
         Ok(doc) => Ok(doc),
         Err((replica, ledgers)) => {
@@ -317,15 +319,21 @@ fn misfit_with_memory_wanting(rt: HostRuntime) -> Result<(), Fail> {
 
 #[test]
 fn memory_wanting(rt: HostRuntime) -> Result<(), Fail> {
-    wants::<Brand, _>(&rt, rt.alloc(), Blank::new())
+    let replica = replica_again(rt.alloc())?;
+    wants::<Brand, _>(&rt, rt.alloc(), Blank::new(), replica)
 }
 
-fn wants<M: Marker, R: Abort>(rt: &R, alloc: Global, blank: Blank) -> Result<(), Fail>
-    requires { blank ≡ M.name }
+fn wants<M: Marker, R: Abort>(
+    rt: &R,
+    alloc: Global,
+    blank: Blank,
+    replica: Replica,
+) -> Result<(), Fail>
+    requires blank { blank ≡ M.name }
+    requires begun { (number : ℕ) → M.begun number ≡ replica.log }
 {
     let mut table = blank.named::<M>();
     let ledgers = ledgers_again(alloc, &mut table)?;
-    let replica = replica_again(alloc)?;
     let mut doc = document_again(rt, alloc, replica, ledgers)?;
     let mut seat = doc.open_seat()?;
     for step in &STEPS {
@@ -395,15 +403,21 @@ fn adds_up<R: Abort>(rt: &R, totals: &Totals) -> Result<(), Fail> {
 // A document that finds no room on a shelf is handed back.
 #[test]
 fn shelf_wanting(rt: HostRuntime) -> Result<(), Fail> {
-    puts::<Brand, _>(&rt, rt.alloc(), Blank::new())
+    let replica = replica_again(rt.alloc())?;
+    puts::<Brand, _>(&rt, rt.alloc(), Blank::new(), replica)
 }
 
-fn puts<M: Marker, R: Abort>(rt: &R, alloc: Global, blank: Blank) -> Result<(), Fail>
-    requires { blank ≡ M.name }
+fn puts<M: Marker, R: Abort>(
+    rt: &R,
+    alloc: Global,
+    blank: Blank,
+    replica: Replica,
+) -> Result<(), Fail>
+    requires blank { blank ≡ M.name }
+    requires begun { (number : ℕ) → M.begun number ≡ replica.log }
 {
     let mut table = blank.named::<M>();
     let ledgers = ledgers_again(alloc, &mut table)?;
-    let replica = replica_again(alloc)?;
     let doc = document_again(rt, alloc, replica, ledgers)?;
     let mut shelf = Shelf::new(alloc);
     if let Err(doc) = shelf.put(doc) {

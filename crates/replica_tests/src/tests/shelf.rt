@@ -1,6 +1,7 @@
 //! Two documents on a shelf, asked through their locks, and what their seats did, added up.
 ghost use Rattle.std.specs.Prelude.{◌≡◌, ◌<◌, ◌≤◌, IfOk};
 ghost use Rattle.share_ledger.specs.Counters.{ledger_place};
+ghost use Rattle.share_ledger.specs.Begun.{BeginEmpty};
 
 use super::samples::{Deed, Digest, are_numbers, command, document, told_by, values_at};
 use json_scalar::Refusal;
@@ -21,7 +22,8 @@ fn asks_through_the_lock(rt: HostRuntime) -> Result<(), Fail> {
 
 // A document with one seat, and one with two, of which one stays free.
 fn asks<M: Marker, R: Abort + Wait>(rt: &R, alloc: Global, blank: Blank) -> Result<(), Fail>
-    requires { blank ≡ M.name }
+    requires blank { blank ≡ M.name }
+    requires begun { BeginEmpty M.begun }
 {
     let mut table = blank.named::<M>();
     let shelf = shelf_of_two(alloc, &mut table)?;
@@ -33,7 +35,8 @@ fn asks<M: Marker, R: Abort + Wait>(rt: &R, alloc: Global, blank: Blank) -> Resu
 
 // The documents of number 0 with one seat and of number 1 with two, in this order.
 fn shelf_of_two<M: Marker>(alloc: Global, table: &mut Table<M>) -> Result<Shelf<M>, Refusal>
-    requires { table.old ≤ ledger_place 0 0 }
+    requires place { table.old ≤ ledger_place 0 0 }
+    requires begun { BeginEmpty M.begun }
     ensures { IfOk result (λ shelf. shelf ≡ 2) }
 {
     let first = document(alloc, table, 0, 1)?;

@@ -1,14 +1,10 @@
 //! Sessions that fail, and starts that are refused.
-ghost use Rattle.std.specs.Prelude.{◌≡◌};
-
 use super::serving::{THREE, TWO, empty, holds, serve, serve_scripts};
 use log::Log;
 use log_copy::LogCopy;
 use server_core::doubles::Script;
-use share_ledger::{Blank, Marker};
 use sqlite::Alter;
 use std::alloc::{AllocError, Global};
-use std::marker::Brand;
 use std::process::Abort;
 use std::sync::{Mutex, Wait};
 use std::test::*;
@@ -38,28 +34,25 @@ fn one_fails<'a, R: Wait>(
 }
 
 /// Serves them.
-fn served_with_fault<M: Marker + Send + Sync, R: Threads + Wait + Sync + Log + Clock, S: Alter>(
+fn served_with_fault<R: Threads + Wait + Sync + Log + Clock, S: Alter>(
     rt: &R,
     alloc: Global,
-    blank: Blank,
     documents: &[&str],
     copy: &mut LogCopy<S>,
 ) -> Result<(u8, Vec<u8>), AllocError>
-    requires { blank ≡ M.name }
 {
     let replies = Mutex::new(Vec::new(alloc));
     let scripts = one_fails(rt, alloc, &replies)?;
-    Ok(serve_scripts::<M, R, S>(rt, alloc, blank, "srv", documents, scripts, copy))
+    Ok(serve_scripts(rt, alloc, "srv", documents, scripts, copy))
 }
 
 #[test]
 fn session_that_fails_is_copied_so_far(rt: HostRuntime) -> Result<(), Fail> {
     let alloc = rt.alloc();
     let mut copy = empty(alloc)?;
-    let (status, totals) = served_with_fault::<Brand, _, _>(
+    let (status, totals) = served_with_fault(
         &rt,
         alloc,
-        Blank::new(),
         &["d"],
         &mut copy,
     )?;
@@ -77,16 +70,14 @@ fn session_that_fails_is_copied_so_far(rt: HostRuntime) -> Result<(), Fail> {
 const LONG_NAME: &str = "a-name-of-thirty-one-characters";
 
 /// A server of a name that is too long does not start, and says so; the epoch of the copy is raised, and no more.
-fn refused_start<M: Marker + Send + Sync, R: Threads + Wait + Abort + Sync + Log + Clock>(
+fn refused_start<R: Threads + Wait + Abort + Sync + Log + Clock>(
     rt: &R,
     alloc: Global,
-    blank: Blank,
     documents: &[&str],
 ) -> Result<(), Fail>
-    requires { blank ≡ M.name }
 {
     let mut copy = empty(alloc)?;
-    let served = serve::<M, R, _>(rt, alloc, blank, LONG_NAME, documents, &[THREE], &mut copy)?;
+    let served = serve(rt, alloc, LONG_NAME, documents, &[THREE], &mut copy)?;
     assert_eq!(rt;
         served.totals.as_slice(),
         b"[\"no\",26,\"copy-refused\"]\n".as_slice()
@@ -98,5 +89,5 @@ fn refused_start<M: Marker + Send + Sync, R: Threads + Wait + Abort + Sync + Log
 
 #[test]
 fn refused_start_is_told(rt: HostRuntime) -> Result<(), Fail> {
-    refused_start::<Brand, _>(&rt, rt.alloc(), Blank::new(), &["d"])
+    refused_start(&rt, rt.alloc(), &["d"])
 }

@@ -1,13 +1,10 @@
 //! A server over a copy. It is called in a function that promises nothing, so that the proof of a test carries none of its clauses.
-ghost use Rattle.std.specs.Prelude.{◌≡◌};
-
 use copy_report::check_over;
 use line_feed::Writer;
 use log::Log;
 use log_copy::LogCopy;
 use served_copy::serve_over;
 use server_core::doubles::Script;
-use share_ledger::{Blank, Marker};
 use sqlite::{Alter, Connection, MemStore};
 use std::alloc::{AllocError, Global};
 use std::process::Abort;
@@ -65,25 +62,22 @@ pub fn empty(alloc: Global) -> Result<LogCopy<MemStore>, AllocError> {
 }
 
 /// Serves these connections by the server of this name, over at most 16 documents.
-pub fn serve_scripts<M: Marker + Send + Sync, R: Threads + Wait + Sync + Log + Clock, S: Alter>(
+pub fn serve_scripts<R: Threads + Wait + Sync + Log + Clock, S: Alter>(
     rt: &R,
     alloc: Global,
-    blank: Blank,
     name: &str,
     documents: &[&str],
     scripts: Vec<Script<'_, R>>,
     copy: &mut LogCopy<S>,
 ) -> (u8, Vec<u8>)
-    requires { blank ≡ M.name }
 {
     let mut totals = Vec::new(alloc);
     if documents.len() > 16 {
         return (2, totals);
     }
-    let status = serve_over::<M, R, _, S, _>(
+    let status = serve_over(
         rt,
         alloc,
-        blank,
         name,
         documents,
         scripts,
@@ -94,24 +88,22 @@ pub fn serve_scripts<M: Marker + Send + Sync, R: Threads + Wait + Sync + Log + C
 }
 
 /// Serves a session of each of these inputs, by a new table of shares.
-pub fn serve<M: Marker + Send + Sync, R: Threads + Wait + Sync + Log + Clock, S: Alter>(
+pub fn serve<R: Threads + Wait + Sync + Log + Clock, S: Alter>(
     rt: &R,
     alloc: Global,
-    blank: Blank,
     name: &str,
     documents: &[&str],
     inputs: &[&[u8]],
     copy: &mut LogCopy<S>,
 ) -> Result<Served, AllocError>
-    requires { blank ≡ M.name }
 {
     let replies = Mutex::new(Vec::new(alloc));
     let mut scripts = Vec::new(alloc);
     for input in inputs {
         scripts.push(Script::new(rt, input, &replies))?;
     }
-    let (status, totals) = serve_scripts::<M, R, S>(
-        rt, alloc, blank, name, documents, scripts, copy,
+    let (status, totals) = serve_scripts(
+        rt, alloc, name, documents, scripts, copy,
     );
     Ok(Served {
         status,
@@ -149,17 +141,15 @@ fn did<R: Abort>(rt: &R, served: &Served, start: &Start<'_>) -> Result<(), Fail>
 }
 
 /// Starts the server srv over the copy, and checks the copy once it has ended.
-pub fn started<M: Marker + Send + Sync, R: Threads + Wait + Abort + Sync + Log + Clock, S: Alter>(
+pub fn started<R: Threads + Wait + Abort + Sync + Log + Clock, S: Alter>(
     rt: &R,
     alloc: Global,
-    blank: Blank,
     documents: &[&str],
     start: &Start<'_>,
     copy: &mut LogCopy<S>,
 ) -> Result<(), Fail>
-    requires { blank ≡ M.name }
 {
-    let served = serve::<M, R, S>(rt, alloc, blank, "srv", documents, start.inputs, copy)?;
+    let served = serve(rt, alloc, "srv", documents, start.inputs, copy)?;
     did(rt, &served, start)?;
     holds(rt, alloc, copy, start.report)
 }

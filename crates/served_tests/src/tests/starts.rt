@@ -1,7 +1,5 @@
 //! One start after another from the same copy.
 use super::serving::{Start, THREE, TWO, empty, started};
-use share_ledger::Blank;
-use std::marker::Brand;
 use std::test::*;
 
 const SERVE_CHECK_SERVE: [Start<'static>; 2] = [
@@ -23,7 +21,7 @@ const SERVE_CHECK_SERVE: [Start<'static>; 2] = [
 fn serve_check_serve(rt: HostRuntime) -> Result<(), Fail> {
     let mut copy = empty(rt.alloc())?;
     for start in &SERVE_CHECK_SERVE {
-        started::<Brand, _, _>(&rt, rt.alloc(), Blank::new(), &["d"], start, &mut copy)?;
+        started(&rt, rt.alloc(), &["d"], start, &mut copy)?;
     }
     Ok(())
 }
@@ -65,7 +63,7 @@ const RESTART: [Start<'static>; 2] = [
 fn restart_from_copy(rt: HostRuntime) -> Result<(), Fail> {
     let mut copy = empty(rt.alloc())?;
     for start in &RESTART {
-        started::<Brand, _, _>(&rt, rt.alloc(), Blank::new(), &["d"], start, &mut copy)?;
+        started(&rt, rt.alloc(), &["d"], start, &mut copy)?;
     }
     Ok(())
 }
@@ -94,7 +92,7 @@ const NAMES_MADE_UP: [Start<'static>; 2] = [
 fn name_that_a_peer_made_up_is_not_used(rt: HostRuntime) -> Result<(), Fail> {
     let mut copy = empty(rt.alloc())?;
     for start in &NAMES_MADE_UP {
-        started::<Brand, _, _>(&rt, rt.alloc(), Blank::new(), &["d"], start, &mut copy)?;
+        started(&rt, rt.alloc(), &["d"], start, &mut copy)?;
     }
     Ok(())
 }
@@ -137,7 +135,7 @@ const TWO_DOCUMENTS: [Start<'static>; 2] = [
 fn documents_in_their_places(rt: HostRuntime) -> Result<(), Fail> {
     let mut copy = empty(rt.alloc())?;
     for start in &TWO_DOCUMENTS {
-        started::<Brand, _, _>(&rt, rt.alloc(), Blank::new(), &["d", "e"], start, &mut copy)?;
+        started(&rt, rt.alloc(), &["d", "e"], start, &mut copy)?;
     }
     Ok(())
 }

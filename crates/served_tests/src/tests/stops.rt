@@ -1,14 +1,10 @@
 //! Disks that stop while a server runs.
-ghost use Rattle.std.specs.Prelude.{◌≡◌};
-
 use super::serving::{Served, THREE, adopted, holds, serve};
 use log::Log;
 use log_copy::LogCopy;
-use share_ledger::{Blank, Marker};
 use sqlite::{Connection, FileStore, Options};
 use sqlite_disk::{Crash, Files, Fuse, Memory};
 use std::alloc::{AllocError, Global};
-use std::marker::Brand;
 use std::process::Abort;
 use std::sync::Wait;
 use std::test::*;
@@ -80,17 +76,15 @@ struct End<'a> {
 }
 
 /// A server whose disk stops ends so.
-fn ends<M: Marker + Send + Sync, R: Threads + Wait + Abort + Sync + Log + Clock>(
+fn ends<R: Threads + Wait + Abort + Sync + Log + Clock>(
     rt: &R,
     alloc: Global,
-    blank: Blank,
     documents: &[&str],
     end: &End<'_>,
 ) -> Result<(), Fail>
-    requires { blank ≡ M.name }
 {
     let mut copy = copy_that_stops(alloc, end.calls)?;
-    let served = serve::<M, _, _>(rt, alloc, blank, "srv", documents, &[THREE], &mut copy)?;
+    let served = serve(rt, alloc, "srv", documents, &[THREE], &mut copy)?;
     went_on(rt, &served, end.status, end.totals)?;
     left_holds(rt, alloc, copy, end.report)
 }
@@ -112,10 +106,10 @@ const NEVER_STOPS: End<'static> = End {
 
 #[test]
 fn disk_that_stops_while_serving(rt: HostRuntime) -> Result<(), Fail> {
-    ends::<Brand, _>(&rt, rt.alloc(), Blank::new(), &["d"], &STOPS_WHILE_SERVING)
+    ends(&rt, rt.alloc(), &["d"], &STOPS_WHILE_SERVING)
 }
 
 #[test]
 fn disk_that_never_stops(rt: HostRuntime) -> Result<(), Fail> {
-    ends::<Brand, _>(&rt, rt.alloc(), Blank::new(), &["d"], &NEVER_STOPS)
+    ends(&rt, rt.alloc(), &["d"], &NEVER_STOPS)
 }

@@ -1,5 +1,7 @@
 //! Who watches a copier is told of a fault as soon as the copier has met it, and of nothing else.
-ghost use Rattle.std.specs.Prelude.{◌≡◌};
+ghost use Rattle.std.specs.Prelude.{◌≡◌, ◌≤◌, length, map};
+ghost use Rattle.doc_ledger.specs.Numbers.{greatest_number};
+ghost use Rattle.served_copy.specs.Restored.{entries_at};
 
 use super::serving::{THREE, empty, serve};
 use super::stops::copy_that_stops;
@@ -35,31 +37,31 @@ impl<R: Wait> Watch for Counting<'_, R> {
 }
 
 /// The document d with the operations that a server logged, none of which stands in another copy.
-fn with_three<M: Marker + Send + Sync, R: Threads + Wait + Sync + Log + Clock>(
+fn with_three<R: Threads + Wait + Sync + Log + Clock>(
     rt: &R,
     alloc: Global,
-    blank: Blank,
-) -> Result<LogCopy<sqlite::MemStore>, AllocError>
-    requires { blank ≡ M.name }
-{
+) -> Result<LogCopy<sqlite::MemStore>, AllocError> {
     let mut copy = empty(alloc)?;
-    let _served = serve::<M, R, _>(rt, alloc, blank, "srv", &["d"], &[THREE], &mut copy)?;
+    let _served = serve(rt, alloc, "srv", &["d"], &[THREE], &mut copy)?;
     Ok(copy)
 }
 
-/// The document d of a copy behind a lock. Where it can't be had memory is said to be wanting.
+/// The documents of these names of a copy behind locks. Where they can't be had memory is said to be wanting.
 fn library_of<M: Marker, S: Alter>(
     alloc: Global,
     blank: Blank,
     copy: &LogCopy<S>,
+    documents: &[&str],
 ) -> Result<Library<M>, AllocError>
-    requires { blank ≡ M.name }
+    requires blank { blank ≡ M.name }
+    requires begun { M.begun ≡ entries_at copy.now.docs (map (λ s. s.now) documents.now) }
+    requires few { length documents.now ≤ greatest_number }
 {
     let Some(replica) = ReplicaName::read(b"srv-2") else {
         return Err(AllocError);
     };
     let mut ledger = Ledger::<M>::new(blank);
-    let Ok(stock) = restored_stock(alloc, &mut ledger, copy, &replica, &["d"], 1) else {
+    let Ok(stock) = restored_stock(alloc, &mut ledger, copy, &replica, documents, 1) else {
         return Err(AllocError);
     };
     match shelve(alloc, stock) {
@@ -89,12 +91,15 @@ fn told_beside<M: Marker, R: Wait, F: Alter, S: Alter>(
     alloc: Global,
     blank: Blank,
     full: &LogCopy<F>,
+    documents: &[&str],
     sessions: u64,
     copy: &mut LogCopy<S>,
 ) -> Result<u32, AllocError>
-    requires { blank ≡ M.name }
+    requires blank { blank ≡ M.name }
+    requires begun { M.begun ≡ entries_at full.now.docs (map (λ s. s.now) documents.now) }
+    requires few { length documents.now ≤ greatest_number }
 {
-    let library = library_of::<M, F>(alloc, blank, full)?;
+    let library = library_of::<M, F>(alloc, blank, full, documents)?;
     Ok(told::<M, R, S>(rt, &library, sessions, copy))
 }
 
@@ -103,18 +108,34 @@ const STOPS_IN_THE_FIRST_BATCH: u64 = 24;
 
 #[test]
 fn fault_is_told_while_a_session_runs(rt: HostRuntime) -> Result<(), Fail> {
-    let full = with_three::<Brand, _>(&rt, rt.alloc(), Blank::new())?;
+    let full = with_three(&rt, rt.alloc())?;
     let mut copy = copy_that_stops(rt.alloc(), STOPS_IN_THE_FIRST_BATCH)?;
-    let times = told_beside::<Brand, _, _, _>(&rt, rt.alloc(), Blank::new(), &full, 1, &mut copy)?;
+    let times = told_beside::<Brand, _, _, _>(
+        &rt,
+        rt.alloc(),
+        Blank::new(),
+        &full,
+        &["d"],
+        1,
+        &mut copy,
+    )?;
     assert_eq!(rt; times, 1);
     Ok(())
 }
 
 #[test]
 fn nothing_is_told_without_a_fault(rt: HostRuntime) -> Result<(), Fail> {
-    let full = with_three::<Brand, _>(&rt, rt.alloc(), Blank::new())?;
+    let full = with_three(&rt, rt.alloc())?;
     let mut copy = empty(rt.alloc())?;
-    let times = told_beside::<Brand, _, _, _>(&rt, rt.alloc(), Blank::new(), &full, 0, &mut copy)?;
+    let times = told_beside::<Brand, _, _, _>(
+        &rt,
+        rt.alloc(),
+        Blank::new(),
+        &full,
+        &["d"],
+        0,
+        &mut copy,
+    )?;
     assert_eq!(rt; times, 0);
     Ok(())
 }

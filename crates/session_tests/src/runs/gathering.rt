@@ -1,14 +1,14 @@
 //! Sessions whose seats are given back and gathered.
 ghost use Rattle.std.specs.Prelude.{◌≡◌, ◌≤◌};
+ghost use Rattle.share_ledger.specs.Begun.{BeginEmpty};
 
-use doc_ledger::Ledger;
 use json_scalar::Refusal;
 use lamport_id::ReplicaName;
 use line_feed::doubles::FailAfter;
 use line_feed::{Reader, Writer};
 use line_proto::Name;
 use locked_doc::{SeatEnd, Totals};
-use run_core::{Maker, Seated};
+use run_core::{Maker, NewDocuments, Seated};
 use session_core::{Alone, Ended, run_alone};
 use session_rules::Ending;
 use share_ledger::{Blank, Marker};
@@ -20,17 +20,17 @@ use std::test::Fail;
 /// New documents `d` and `e`.
 fn two_documents<M: Marker>(
     alloc: Global,
-    ledger: &mut Ledger<M>,
+    maker: &mut NewDocuments<M>,
 ) -> Result<Alone<Seated<M>>, Refusal>
-    requires { ledger.old ≡ 0 }
+    requires { maker.old ≡ 0 }
 {
     let replica = ReplicaName::read(b"srv-1").ok_or(Refusal::BadRequest)?;
     let mut names = Vec::new(alloc);
     names.push(Name::new(alloc, "d")?)?;
     names.push(Name::new(alloc, "e")?)?;
     let mut documents = Vec::new(alloc);
-    documents.push(ledger.make(alloc, &replica)?)?;
-    documents.push(ledger.make(alloc, &replica)?)?;
+    documents.push(maker.make(alloc, &replica)?)?;
+    documents.push(maker.make(alloc, &replica)?)?;
     Ok(Alone { names, documents })
 }
 
@@ -41,10 +41,11 @@ fn session<M: Marker>(
     input: &[u8],
     write_after: usize,
 ) -> Result<Ended<Seated<M>>, Refusal>
-    requires { blank ≡ M.name }
+    requires blank { blank ≡ M.name }
+    requires begun { BeginEmpty M.begun }
 {
-    let mut ledger = Ledger::<M>::new(blank);
-    let documents = two_documents(alloc, &mut ledger)?;
+    let mut maker = NewDocuments::<M>::new(blank);
+    let documents = two_documents(alloc, &mut maker)?;
     let mut out = Vec::new(alloc);
     let mut sink = FailAfter::new(Writer::new(&mut out), write_after);
     run_alone(alloc, &mut Reader::new(input), &mut sink, documents)
@@ -110,7 +111,8 @@ fn gathers<M: Marker, R: Abort>(
 
 /// The first run, in which the document `e` isn't opened.
 fn first_run<M: Marker, R: Abort>(rt: &R, alloc: Global, blank: Blank) -> Result<(), Fail>
-    requires { blank ≡ M.name }
+    requires blank { blank ≡ M.name }
+    requires begun { BeginEmpty M.begun }
 {
     let input = b"[\"open\",\"d\"]\n[\"assign\",\"d\",[0],{}]\n";
     let ended = session::<M>(alloc, blank, input, usize::MAX)?;
@@ -119,7 +121,8 @@ fn first_run<M: Marker, R: Abort>(rt: &R, alloc: Global, blank: Blank) -> Result
 
 /// What is released counts for the seat, and a seat that did nothing for nothing.
 fn released<M: Marker, R: Abort>(rt: &R, alloc: Global, blank: Blank) -> Result<(), Fail>
-    requires { blank ≡ M.name }
+    requires blank { blank ≡ M.name }
+    requires begun { BeginEmpty M.begun }
 {
     let input = br#"["open","e"]
 ["open","d"]
@@ -134,7 +137,8 @@ fn released<M: Marker, R: Abort>(rt: &R, alloc: Global, blank: Blank) -> Result<
 
 /// What was done counts, though its reply could not be written.
 fn unwritten<M: Marker, R: Abort>(rt: &R, alloc: Global, blank: Blank) -> Result<(), Fail>
-    requires { blank ≡ M.name }
+    requires blank { blank ≡ M.name }
+    requires begun { BeginEmpty M.begun }
 {
     let input = b"[\"open\",\"e\"]\n[\"assign\",\"e\",[0],{}]\n";
     let ended = session::<M>(alloc, blank, input, 13)?;

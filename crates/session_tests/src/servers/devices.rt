@@ -1,5 +1,6 @@
 //! Sessions whose connection fails: they end alone, and what they did is in the totals.
 ghost use Rattle.std.specs.Prelude.{◌≡◌};
+ghost use Rattle.share_ledger.specs.Begun.{BeginEmpty};
 
 use super::samples::{first_did, two_documents};
 use json_scalar::Refusal;
@@ -34,7 +35,8 @@ fn gathered_with<M: Marker + Send + Sync, R: Threads + Wait + Sync>(
     blank: Blank,
     fault: Fault,
 ) -> Result<(Gathered, Vec<u8>), Refusal>
-    requires { blank ≡ M.name }
+    requires blank { blank ≡ M.name }
+    requires begun { BeginEmpty M.begun }
 {
     let library = two_documents::<M>(alloc, blank, 2)?;
     let failing = Mutex::new(Vec::new(alloc));
@@ -64,7 +66,8 @@ fn fails_alone<M: Marker + Send + Sync, R: Threads + Wait + Abort + Sync>(
     done: u64,
     why: Option<Ending>,
 ) -> Result<(), Fail>
-    requires { blank ≡ M.name }
+    requires blank { blank ≡ M.name }
+    requires begun { BeginEmpty M.begun }
 {
     let (gathered, told) = gathered_with::<M, R>(rt, alloc, blank, fault)?;
     let totals = gathered.totals.as_slice();

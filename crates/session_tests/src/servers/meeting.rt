@@ -1,5 +1,6 @@
 //! A gate that is passed only where sessions at two documents run at the same time.
 ghost use Rattle.std.specs.Prelude.{◌≡◌};
+ghost use Rattle.share_ledger.specs.Begun.{BeginEmpty};
 
 use super::samples::run_two;
 use server_core::Gate;
@@ -63,7 +64,8 @@ fn meets<M: Marker + Send + Sync, R: Threads + Wait + Abort + Sync>(
     alloc: Global,
     blank: Blank,
 ) -> Result<(), Fail>
-    requires { blank ≡ M.name }
+    requires blank { blank ≡ M.name }
+    requires begun { BeginEmpty M.begun }
 {
     let gate = Meeting {
         first_inside: AtomicU64::new(0),

@@ -1,5 +1,6 @@
 //! Worked rows, each as the one session of a run over a shelf, and that no lock is taken while a line is read or a reply is written.
 ghost use Rattle.std.specs.Prelude.{◌≡◌};
+ghost use Rattle.share_ledger.specs.Begun.{BeginEmpty};
 
 use super::samples::two_documents;
 use json_scalar::Refusal;
@@ -64,7 +65,8 @@ fn told_alone<M: Marker + Send + Sync, R: Threads + Wait + Sync>(
     blank: Blank,
     input: &[u8],
 ) -> Result<Vec<u8>, Refusal>
-    requires { blank ≡ M.name }
+    requires blank { blank ≡ M.name }
+    requires begun { BeginEmpty M.begun }
 {
     let library = two_documents::<M>(alloc, blank, 1)?;
     let replies = Mutex::new(Vec::new(alloc));
@@ -145,7 +147,8 @@ impl<M: Marker, D: Sink> Sink for Looking<'_, M, D> {
 }
 
 fn looks<M: Marker, R: Wait + Abort>(rt: &R, alloc: Global, blank: Blank) -> Result<(), Fail>
-    requires { blank ≡ M.name }
+    requires blank { blank ≡ M.name }
+    requires begun { BeginEmpty M.begun }
 {
     let library = two_documents::<M>(alloc, blank, 1)?;
     let mut source = Looking {

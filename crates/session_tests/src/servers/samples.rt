@@ -1,6 +1,7 @@
 //! Documents on a shelf, and sessions over them.
 ghost use Rattle.std.specs.Prelude.{◌≡◌, ◌+◌, ◌≤◌, IfOk};
 ghost use Rattle.share_ledger.specs.Counters.{ledger_place};
+ghost use Rattle.share_ledger.specs.Begun.{BeginEmpty};
 
 use json_scalar::Refusal;
 use lamport_id::ReplicaName;
@@ -37,7 +38,8 @@ fn document<M: Marker>(
     number: u16,
     seats: u16,
 ) -> Result<LockedDoc<M>, Refusal>
-    requires { table.old ≤ ledger_place number 0 }
+    requires place { table.old ≤ ledger_place number 0 }
+    requires begun { BeginEmpty M.begun }
     ensures { IfOk result (λ d. table.new ≤ ledger_place number seats + 1) }
 {
     let name = ReplicaName::read(b"srv-1").ok_or(Refusal::BadRequest)?;
@@ -87,7 +89,8 @@ pub fn two_documents<M: Marker>(
     blank: Blank,
     seats: u16,
 ) -> Result<Library<M>, Refusal>
-    requires { blank ≡ M.name }
+    requires blank { blank ≡ M.name }
+    requires begun { BeginEmpty M.begun }
 {
     let mut table = blank.named::<M>();
     let a = document(alloc, &mut table, 0, seats)?;
@@ -113,7 +116,8 @@ pub fn run_two<M: Marker + Send + Sync, R: Threads + Wait + Sync, G: Gate + Sync
     first: &[u8],
     second: &[u8],
 ) -> Result<Ran, Refusal>
-    requires { blank ≡ M.name }
+    requires blank { blank ≡ M.name }
+    requires begun { BeginEmpty M.begun }
 {
     let library = two_documents::<M>(alloc, blank, 2)?;
     let one = Mutex::new(Vec::new(alloc));

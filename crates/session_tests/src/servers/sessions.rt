@@ -1,5 +1,6 @@
 //! Sessions at one document: their replies, and what they did, added up.
 ghost use Rattle.std.specs.Prelude.{◌≡◌};
+ghost use Rattle.share_ledger.specs.Begun.{BeginEmpty};
 
 use super::samples::{THREE, TWO, first_did, run_two, two_documents};
 use json_scalar::Refusal;
@@ -63,7 +64,8 @@ fn adds_up<M: Marker + Send + Sync, R: Threads + Wait + Abort + Sync>(
     alloc: Global,
     blank: Blank,
 ) -> Result<(), Fail>
-    requires { blank ≡ M.name }
+    requires blank { blank ≡ M.name }
+    requires begun { BeginEmpty M.begun }
 {
     let ran = run_two::<M, R, OpenGate>(rt, alloc, blank, &OpenGate, THREE, TWO)?;
     let first = filled(alloc, THREE_TOLD, ran.first.as_slice())?;
@@ -91,7 +93,8 @@ fn totals_of_many<M: Marker + Send + Sync, R: Threads + Wait + Sync, S: Side<M>>
     blank: Blank,
     side: S,
 ) -> Result<(Vec<Totals>, S), Refusal>
-    requires { blank ≡ M.name }
+    requires blank { blank ≡ M.name }
+    requires begun { BeginEmpty M.begun }
 {
     let library = two_documents::<M>(alloc, blank, 64)?;
     let replies = Mutex::new(Vec::new(alloc));
@@ -111,7 +114,8 @@ fn adds_many_up<M: Marker + Send + Sync, R: Threads + Wait + Abort + Sync>(
     alloc: Global,
     blank: Blank,
 ) -> Result<(), Fail>
-    requires { blank ≡ M.name }
+    requires blank { blank ≡ M.name }
+    requires begun { BeginEmpty M.begun }
 {
     let (totals, _) = totals_of_many::<M, R, Idle>(rt, alloc, blank, Idle)?;
     first_did(rt, totals.as_slice(), 192, &[3; 64])
@@ -156,7 +160,8 @@ fn watches<M: Marker + Send + Sync, R: Threads + Wait + Abort + Sync>(
     alloc: Global,
     blank: Blank,
 ) -> Result<(), Fail>
-    requires { blank ≡ M.name }
+    requires blank { blank ≡ M.name }
+    requires begun { BeginEmpty M.begun }
 {
     let begins = Watching {
         sessions: 0,

@@ -1,5 +1,6 @@
 //! Two sessions at one document, whose lines come to it in a given order: what each is told, from the first line to the last.
 ghost use Rattle.std.specs.Prelude.{◌≡◌};
+ghost use Rattle.share_ledger.specs.Begun.{BeginEmpty};
 
 use super::samples::{THREE, TWO, first_did, run_two};
 use server_core::Gate;
@@ -57,7 +58,8 @@ fn told_in_order<M: Marker + Send + Sync, R: Threads + Wait + Abort + Sync>(
     first: &[u8],
     second: &[u8],
 ) -> Result<(), Fail>
-    requires { blank ≡ M.name }
+    requires blank { blank ≡ M.name }
+    requires begun { BeginEmpty M.begun }
 {
     let gate = Turns {
         order,

@@ -1,4 +1,5 @@
+use Rattle.std.proofs.Common.{[]}
 use Rattle.jcrdt.proofs.tests.gives.Given as goal
 
 abbrev pub ghosts-written : goal.ghosts-written
-ghosts-written g a = record { name = a.blank }
+ghosts-written g a = record { name = a.blank; begun = λ _. [] }

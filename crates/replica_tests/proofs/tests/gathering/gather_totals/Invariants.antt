@@ -1,4 +1,5 @@
+use Rattle.std.proofs.Common.{[]}
 use Rattle.replica_tests.proofs.tests.gathering.gather_totals.Given as goal
 
 abbrev pub ghosts-gathers : goal.ghosts-gathers
-ghosts-gathers g a = record { name = a.blank }
+ghosts-gathers g a = record { name = a.blank; begun = λ _. [] }

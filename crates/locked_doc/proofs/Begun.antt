@@ -1,0 +1,33 @@
+-- What a document begins with stays its beginning.
+use Rattle.std.proofs.Common.{◌≡◌, ◌≢◌, ℕ, ◌-◌, ◌<◌, List, [], ◌++◌, length, replicate, append_assoc, append-nil, refl, sym, ap, ◌∙◌, arith}
+use Rattle.op_core.specs.Op.{Op}
+use Rattle.doc_words.specs.declared.ask.Command.{Command}
+use Rattle.doc_words.specs.declared.reply.Reply.{Reply}
+use Rattle.doc_rules.specs.Replica.{Replica}
+use Rattle.doc_rules.specs.Events.{Event}
+use Rattle.doc_rules.specs.Document.{Document, IsSound, by, count_of, for_seat}
+use Rattle.doc_rules.proofs.Shares.{by-replicate_same}
+use Rattle.doc_rules.proofs.Shared.{acts_gives, share_is}
+use Rattle.locked_doc.specs.Locked.{Begins, document_of}
+
+-- a new document begins with all that it has
+pub begins_new : (first : List Op) (r : Replica) (count seats opened copied : ℕ) → r.log ≡ first → count ≡ length r.log
+    → Begins first (document_of r (replicate count 0) seats opened copied)
+begins_new first r count seats opened copied is so_many =
+    ([], is ∙ sym (append-nil first), ap (λ n. by 0 r.log (replicate n 0)) so_many ∙ by-replicate_same 0 r.log ∙ is)
+
+-- what is logged for a seat comes behind it
+pub begins_after : (first : List Op) (d : Document) (seat : ℕ) (command : Command) (reply : Reply) (s : Replica) (seats_of : List ℕ) (seats opened copied : ℕ)
+    → length d.seats_of ≡ length d.replica.log → 0 < seat → Event d.replica command reply s → seats_of ≡ d.seats_of ++ replicate (length s.log - length d.replica.log) seat
+    → Begins first d → Begins first (document_of s seats_of seats opened copied)
+begins_after first d seat command reply s seats_of seats opened copied each some event grown begun =
+    let given = acts_gives d (for_seat seat s d) seat command reply each (s, event, refl) in
+    let other : seat ≢ 0 = λ none. absurd (omega (arith, some, none)) in (
+      begun.0 ++ given.new,
+      given.log ∙ ap (λ log. log ++ given.new) begun.1 ∙ append_assoc first begun.0 given.new,
+      ap (by 0 s.log) grown ∙ given.others 0 other ∙ begun.2,
+    )
+
+-- so many of its operations are of seat 0
+pub share_of_first : (first : List Op) (d : Document) → IsSound d → Begins first d → count_of 0 d.seats_of ≡ length first
+share_of_first first d sound begun = sym (share_is d 0 sound) ∙ ap length begun.2
