@@ -66,6 +66,18 @@ fn status_of(why: Ending) -> u8
     }
 }
 
+/// The status of a session that has ended. The program ends with its run, and the memory of the documents goes back whole: to let go
+/// of each operation by itself would take a sixth of the run.
+fn let_go<D: Document>(ended: Ended<D>) -> u8
+    ensures bound { result ≤ 1 }
+    ensures fault { result ≡ 1 → (ended.why ≡ Ending.ReadFault) ⊎ (ended.why ≡ Ending.WriteFault) }
+    ensures no_fault { result ≡ 0 → (ended.why ≢ Ending.ReadFault) × (ended.why ≢ Ending.WriteFault) }
+{
+    let Ended { why, documents, .. } = ended;
+    let _kept = ManuallyDrop::new(documents);
+    status_of(why)
+}
+
 /// Runs a session over new documents of these names, for the replica of this name.
 fn serve<M: Maker, R: Source, W: Sink>(
     alloc: Global,
@@ -90,12 +102,7 @@ fn serve<M: Maker, R: Source, W: Sink>(
         return 1;
     };
     match run_alone(alloc, source, sink, documents) {
-        Ok(Ended { why, documents, .. }) => {
-            // The program ends with its run, and its memory goes back whole: to let go of each operation by itself would take a
-            // sixth of the run.
-            let _kept = ManuallyDrop::new(documents);
-            status_of(why)
-        }
+        Ok(ended) => let_go(ended),
         Err(_) => 1,
     }
 }
