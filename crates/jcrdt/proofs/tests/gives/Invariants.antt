@@ -2,4 +2,4 @@ use Rattle.std.proofs.Common.{[]}
 use Rattle.jcrdt.proofs.tests.gives.Given as goal
 
 abbrev pub ghosts-written : goal.ghosts-written
-ghosts-written g a = record { name = a.blank; begun = λ _. [] }
+ghosts-written a = record { name = a.blank; begun = λ _. [] }
