@@ -11,9 +11,7 @@ pub fn are_equal(a: &[u8], b: &[u8]) -> bool
     ensures { result ≡ pointwise nat_eq a.now b.now }
 {
     match (a.split_first_chunk::<8>(), b.split_first_chunk::<8>()) {
-        (Some((x, rest)), Some((y, other))) => {
-            word(*x) == word(*y) && are_equal(rest, other)
-        }
+        (Some((x, rest)), Some((y, other))) => { word(*x) == word(*y) && are_equal(rest, other) }
         _ => a == b,
     }
 }

@@ -114,11 +114,7 @@ fn are_at_most(
 
 /// The front of these pairs, which shares its names with that of the last operation where they have the same. It is refused
 /// for want of memory alone.
-pub fn beside_last(
-    alloc: Global,
-    pairs: &[Entry],
-    entries: &[Operation],
-) -> Result<Front, Refusal>
+pub fn beside_last(alloc: Global, pairs: &[Entry], entries: &[Operation]) -> Result<Front, Refusal>
     ensures { UnlessMemory result (Ok pairs.now) }
 {
     match entries.last() {

@@ -222,12 +222,7 @@ fn serve_restored<
 /// Serves these connections, one session each, on documents of these names: raises the epoch of the copy, restores the documents from
 /// it, copies what is logged meanwhile, and writes the totals at the end. The status is 1 for want of memory, where the writer fails,
 /// or where the copy is refused, which a line tells, or fails; sessions go on without a copy that fails while they run.
-pub fn serve_over<
-    R: Threads + Wait + Sync + Log + Clock,
-    C: Connect,
-    S: Alter,
-    W: io::Write,
->(
+pub fn serve_over<R: Threads + Wait + Sync + Log + Clock, C: Connect, S: Alter, W: io::Write>(
     rt: &R,
     alloc: Global,
     name: &str,

@@ -47,7 +47,9 @@ const NO_SHAPE: &str = r#"["op",[9,"p"],[["o",1]],[[["m",0]],"k"],["assign",2]]"
 fn is_front(reply: Reply, first: (&str, u64), second: (&str, u64)) -> bool {
     match &reply {
         Reply::Front(front) => {
-            front.len() == 2 && is_entry(front.pair_at(0), first) && is_entry(front.pair_at(1), second)
+            front.len() == 2
+                && is_entry(front.pair_at(0), first)
+                && is_entry(front.pair_at(1), second)
         }
         _ => false,
     }

@@ -39,8 +39,7 @@ fn served_with_fault<R: Threads + Wait + Sync + Log + Clock, S: Alter>(
     alloc: Global,
     documents: &[&str],
     copy: &mut LogCopy<S>,
-) -> Result<(u8, Vec<u8>), AllocError>
-{
+) -> Result<(u8, Vec<u8>), AllocError> {
     let replies = Mutex::new(Vec::new(alloc));
     let scripts = one_fails(rt, alloc, &replies)?;
     Ok(serve_scripts(rt, alloc, "srv", documents, scripts, copy))
@@ -50,12 +49,7 @@ fn served_with_fault<R: Threads + Wait + Sync + Log + Clock, S: Alter>(
 fn session_that_fails_is_copied_so_far(rt: HostRuntime) -> Result<(), Fail> {
     let alloc = rt.alloc();
     let mut copy = empty(alloc)?;
-    let (status, totals) = served_with_fault(
-        &rt,
-        alloc,
-        &["d"],
-        &mut copy,
-    )?;
+    let (status, totals) = served_with_fault(&rt, alloc, &["d"], &mut copy)?;
     assert_eq!(rt; totals.as_slice(), b"[\"total\",\"d\",3,3,3]\n".as_slice());
     assert_eq!(rt; status, 0);
     holds(
@@ -74,8 +68,7 @@ fn refused_start<R: Threads + Wait + Abort + Sync + Log + Clock>(
     rt: &R,
     alloc: Global,
     documents: &[&str],
-) -> Result<(), Fail>
-{
+) -> Result<(), Fail> {
     let mut copy = empty(alloc)?;
     let served = serve(rt, alloc, LONG_NAME, documents, &[THREE], &mut copy)?;
     assert_eq!(rt;

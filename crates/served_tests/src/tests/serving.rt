@@ -69,21 +69,12 @@ pub fn serve_scripts<R: Threads + Wait + Sync + Log + Clock, S: Alter>(
     documents: &[&str],
     scripts: Vec<Script<'_, R>>,
     copy: &mut LogCopy<S>,
-) -> (u8, Vec<u8>)
-{
+) -> (u8, Vec<u8>) {
     let mut totals = Vec::new(alloc);
     if documents.len() > 16 {
         return (2, totals);
     }
-    let status = serve_over(
-        rt,
-        alloc,
-        name,
-        documents,
-        scripts,
-        copy,
-        &mut totals,
-    );
+    let status = serve_over(rt, alloc, name, documents, scripts, copy, &mut totals);
     (status, totals)
 }
 
@@ -95,16 +86,13 @@ pub fn serve<R: Threads + Wait + Sync + Log + Clock, S: Alter>(
     documents: &[&str],
     inputs: &[&[u8]],
     copy: &mut LogCopy<S>,
-) -> Result<Served, AllocError>
-{
+) -> Result<Served, AllocError> {
     let replies = Mutex::new(Vec::new(alloc));
     let mut scripts = Vec::new(alloc);
     for input in inputs {
         scripts.push(Script::new(rt, input, &replies))?;
     }
-    let (status, totals) = serve_scripts(
-        rt, alloc, name, documents, scripts, copy,
-    );
+    let (status, totals) = serve_scripts(rt, alloc, name, documents, scripts, copy);
     Ok(Served {
         status,
         totals,
@@ -147,8 +135,7 @@ pub fn started<R: Threads + Wait + Abort + Sync + Log + Clock, S: Alter>(
     documents: &[&str],
     start: &Start<'_>,
     copy: &mut LogCopy<S>,
-) -> Result<(), Fail>
-{
+) -> Result<(), Fail> {
     let served = serve(rt, alloc, "srv", documents, start.inputs, copy)?;
     did(rt, &served, start)?;
     holds(rt, alloc, copy, start.report)

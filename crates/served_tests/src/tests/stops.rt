@@ -81,8 +81,7 @@ fn ends<R: Threads + Wait + Abort + Sync + Log + Clock>(
     alloc: Global,
     documents: &[&str],
     end: &End<'_>,
-) -> Result<(), Fail>
-{
+) -> Result<(), Fail> {
     let mut copy = copy_that_stops(alloc, end.calls)?;
     let served = serve(rt, alloc, "srv", documents, &[THREE], &mut copy)?;
     went_on(rt, &served, end.status, end.totals)?;

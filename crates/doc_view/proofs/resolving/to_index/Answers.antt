@@ -25,11 +25,10 @@ returns c = λ other.
     let from = c.args.from in
     let read = c.in_ok-path.ensures (λ e. absurd (cc)) in
     let path : c.in_ok-path.path ≡ into_list from.path from.key = cc in
-    let there = rw path at c.key_at-key.ensures in
-    (
+    let there = rw path at c.key_at-key.ensures in (
       there.0,
       there.1,
       c.at_key.ensures
-      ∙ (λ i. and_then (ok_or (there.2 i) IndexPastEnd) (λ k. Ok (record { path = path i; key = k })))
-      ∙ ap (λ (may : Result ⊤ Refusal). and_then may (λ _. at_index from there.0 c.args.index)) c.in_ok-may_go_on.ensures,
+          ∙ (λ i. and_then (ok_or (there.2 i) IndexPastEnd) (λ k. Ok (record { path = path i; key = k })))
+          ∙ ap (λ (may : Result ⊤ Refusal). and_then may (λ _. at_index from there.0 c.args.index)) c.in_ok-may_go_on.ensures,
     )
