@@ -1,4 +1,4 @@
-//! Bytes, equal or in order.
+//! Bytes, equal or in order, told quickly where they are few or differ soon.
 ghost use Rattle.std.specs.Prelude.{◌≡◌, nat_eq};
 ghost use Rattle.std.specs.Int.{to_le_bytes, w64};
 ghost use Rattle.std.specs.Cmp.Lexicographic.{pointwise, slice_cmp};
@@ -16,14 +16,28 @@ pub fn are_equal(a: &[u8], b: &[u8]) -> bool
     }
 }
 
-/// How these bytes stand to those. Where they are the same, that is told soonest.
+/// How these bytes stand to those: what is the same is passed eight bytes at a time, and then byte by byte.
 pub fn order(a: &[u8], b: &[u8]) -> Ordering
     ensures { result ≡ slice_cmp nat_cmp a.now b.now }
 {
-    if are_equal(a, b) {
-        Ordering::Equal
-    } else {
-        a.cmp(b)
+    match (a.split_first_chunk::<8>(), b.split_first_chunk::<8>()) {
+        (Some((x, rest)), Some((y, other))) if word(*x) == word(*y) => order(rest, other),
+        _ => order_by_byte(a, b),
+    }
+}
+
+/// How these bytes stand to those, for what differs soon.
+fn order_by_byte(a: &[u8], b: &[u8]) -> Ordering
+    ensures { result ≡ slice_cmp nat_cmp a.now b.now }
+{
+    match (a.split_first(), b.split_first()) {
+        (None, None) => Ordering::Equal,
+        (None, Some(_)) => Ordering::Less,
+        (Some(_), None) => Ordering::Greater,
+        (Some((x, rest)), Some((y, other))) => match x.cmp(y) {
+            Ordering::Equal => order_by_byte(rest, other),
+            unequal => unequal,
+        },
     }
 }
 
