@@ -12,7 +12,18 @@ pub fn are_equal(a: &[u8], b: &[u8]) -> bool
 {
     match (a.split_first_chunk::<8>(), b.split_first_chunk::<8>()) {
         (Some((x, rest)), Some((y, other))) => { word(*x) == word(*y) && are_equal(rest, other) }
-        _ => a == b,
+        _ => are_equal_by_byte(a, b),
+    }
+}
+
+/// Whether these are the same bytes, for few of them.
+fn are_equal_by_byte(a: &[u8], b: &[u8]) -> bool
+    ensures { result ≡ pointwise nat_eq a.now b.now }
+{
+    match (a.split_first(), b.split_first()) {
+        (None, None) => true,
+        (Some((x, rest)), Some((y, other))) => *x == *y && are_equal_by_byte(rest, other),
+        _ => false,
     }
 }
 
