@@ -6,5 +6,5 @@ use Rattle.op_core.proofs.front.Front.max_counter.Goals as goal
 
 pub returns : goal.returns
 returns c =
-    rw (← c.self.view_is) (c.greatest.ensures ∙ ap greatest c.as_slice.ensures.value
+    rw (← c.self.view_is) (c.greatest.ensures ∙ ap greatest c.as_slice.ensures
     ∙ sym (greatest-pairs (arc_slice_items c.self.inside.names) c.self.inside.counters.items c.self.invariant.0))
