@@ -180,6 +180,11 @@ fn blocks_by<X: Drop>(blocks: &[ById<X>], id: &Id) -> usize
     ensures value { result ≡ Spec.blocks_by id.now blocks.now }
     ensures within { result ≤ length blocks.now }
 {
+    // Most ids belong to the last block.
+    let count = blocks.len();
+    if count > 0 && starts_by(blocks[count - 1].entries(), id) {
+        return count;
+    }
     blocks.partition_point(
         |block: &ById<X>| -> bool
             ensures { result ≡ starts_by id.entry.now block.now.0 }

@@ -149,5 +149,10 @@ pub fn rank_of<X>(entries: &[(Id, X)], id: &Id) -> usize
     ensures value { result ≡ rank entries.now id.now }
     ensures within { result ≤ length entries.now }
 {
+    // Most ids come behind all others.
+    let count = entries.len();
+    if count > 0 && entries[count - 1].0 < *id {
+        return count;
+    }
     entries.partition_point(|entry| entry.0 < *id)
 }
