@@ -154,6 +154,11 @@ pub last_stands : {log : List Op} {lasts : List (List ℕ × ℕ)} → AreLasts 
 last_stands are name None is = tt
 last_stands are name (Some k) is = (name, (are.each name k (sym is)).here)
 
+pub last_within : {log : List Op} {lasts : List (List ℕ × ℕ)} → AreLasts log lasts → (name : List ℕ) (last : Option ℕ) → last ≡ entry_of lasts name
+    → IfSome last (λ k. k < length log)
+last_within are name None is = tt
+last_within are name (Some k) is = stands-within (are.each name k (sym is)).here
+
 -- the link of a place
 link_at : {log : List Op} {links : List Link} → AreLinks log links → (name : List ℕ) (k : ℕ) (d : Link) → StandsAt log name k → IsLink log name k (get_or links k d)
 link_at {log} {links} are name k d at =

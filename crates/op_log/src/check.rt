@@ -8,7 +8,7 @@ ghost use Rattle.op_core.specs.Op.{Op};
 ghost use Rattle.op_core.specs.Shape.{is_shaped};
 ghost use Rattle.crdt_rules.specs.Facts.{inserts};
 ghost use Rattle.crdt_rules.specs.Log.{IsGood};
-ghost use Rattle.crdt_rules.specs.Fits.{Fits, is_element, knows_key, knows_cursor, knows_front, replicas};
+ghost use Rattle.crdt_rules.specs.Fits.{Fits, is_element, knows_key, knows_cursor, knows_front, last_counter, replicas};
 ghost use Rattle.crdt_rules.specs.Same.{id_eq};
 ghost use Rattle.doc_rules.specs.Cause.{cause_of, room_cause};
 
@@ -40,10 +40,17 @@ impl OpLog {
     pub fn check_room(&self, name: ReplicaName) -> Result<(), Refusal>
         ensures { (op : Op) → op.id.replica ≡ name → result ≡ room_cause op self.now.operations }
     {
+        self.room_for(self.last_counter(name))
+    }
+
+    // The same of a replica whose last counter is this one, if it has one.
+    fn room_for(&self, last: Option<u64>) -> Result<(), Refusal>
+        ensures { (op : Op) → last_counter self.now.operations op.id.replica ≡ last → result ≡ room_cause op self.now.operations }
+    {
         if self.len() >= MAX_OPERATIONS {
             return Err(Refusal::LogFull);
         }
-        if !self.admits(name) {
+        if !self.admits(last) {
             return Err(Refusal::TooManyReplicas);
         }
         Ok(())
@@ -67,15 +74,15 @@ impl OpLog {
         if !self.knows_cursor(op.front(), op.cursor()) {
             return Err(Refusal::BadCursor);
         }
-        self.check_room(op.id().replica)
+        self.room_for(last)
     }
 
-    // Whether the replicas are few enough with this one.
-    fn admits(&self, name: ReplicaName) -> bool
-        ensures { (op : Op) → op.id.replica ≡ name → result ≡ nat_le (length (replicas (op ∷ self.now.operations))) most_replicas }
+    // Whether the replicas are few enough with the one whose last counter is this one, if it has one.
+    fn admits(&self, last: Option<u64>) -> bool
+        ensures { (op : Op) → last_counter self.now.operations op.id.replica ≡ last → result ≡ nat_le (length (replicas (op ∷ self.now.operations))) most_replicas }
     {
         let count = self.replica_count();
-        self.last_counter(name).is_some() || count < MAX_REPLICAS
+        last.is_some() || count < MAX_REPLICAS
     }
 
     // What the front of a logged operation says is known already: where that is at most this front, its pairs need no look.

@@ -39,18 +39,26 @@ pub fn last_of(front: &[Entry], name: ReplicaName) -> Option<u64>
     }
 }
 
-/// Makes the counter the last of the replica, in room that was reserved.
-pub fn put_last(front: &mut Vec<Entry>, name: ReplicaName, counter: u64)
+/// Makes the counter the last of the replica, in room that was reserved, and gives the one that it had, if it had one.
+pub fn put_last(front: &mut Vec<Entry>, name: ReplicaName, counter: u64) -> Option<u64>
     requires ascending { is_ascending front.old.items ≡ true }
     requires room { vec_len front.old < vec_capacity front.old }
+    ensures before { result ≡ entry_of front.old.items name }
     ensures ascending { is_ascending front.new.items ≡ true }
     ensures puts { PutsEntry front.old.items front.new.items name counter }
     ensures len { vec_len front.new ≤ vec_len front.old + 1 }
     ensures capacity { vec_capacity front.old ≤ vec_capacity front.new }
 {
     match search(front, name) {
-        Ok(at) => front[at] = (name, counter),
-        Err(at) => front.insert(at, (name, counter)).unwrap(),
+        Ok(at) => {
+            let before = front[at].1;
+            front[at] = (name, counter);
+            Some(before)
+        }
+        Err(at) => {
+            front.insert(at, (name, counter)).unwrap();
+            None
+        }
     }
 }
 
@@ -123,13 +131,22 @@ pub fn beside_last(alloc: Global, pairs: &[Entry], entries: &[Operation]) -> Res
     }
 }
 
-/// The same operation, which shares the names of its front with the operation at a place, or with the last one, where
-/// they have the same.
+/// The same operation, which shares the names of its front with the operation of its replica before it, which stands at a
+/// place, or with the last one, where they have the same.
 pub fn sharing(op: Operation, entries: &[Operation], at: usize) -> Operation
     ensures { result ≡ op }
 {
-    let op = sharing_with(op, entries.get(at));
-    sharing_with(op, entries.last())
+    let other = alike(op.front(), entries, at);
+    sharing_with(op, other)
+}
+
+// The operation whose names a front may have. The fronts of a replica lose no name, so as many as before it are the same; else
+// they may be those that the last operation has.
+fn alike<'a>(front: &Front, entries: &'a [Operation], at: usize) -> Option<&'a Operation> {
+    match entries.get(at) {
+        Some(before) if before.front().len() == front.len() => Some(before),
+        _ => entries.last(),
+    }
 }
 
 fn sharing_with(op: Operation, other: Option<&Operation>) -> Operation

@@ -138,12 +138,11 @@ impl OpLog {
         ensures room { self.old.room ≤ self.new.room + 1 }
     {
         let Id { counter, replica } = op.id();
-        let last = front::last_of(&self.lasts, replica);
+        let last = front::put_last(&mut self.lasts, replica, self.entries.len() as u64);
+        front::put_last(&mut self.front, replica, counter);
         let link = index::next_link(&self.entries, &self.links, last);
         self.links.push(link).unwrap();
-        front::put_last(&mut self.lasts, replica, self.entries.len() as u64);
-        front::put_last(&mut self.front, replica, counter);
-        let op = front::sharing(op, &self.entries, link.before);
+        let op = front::sharing(op, &self.entries, link.before as usize);
         self.entries.push(op).unwrap();
     }
 

@@ -1,6 +1,14 @@
+use Rattle.std.proofs.Common.{◌≡◌, ℕ, List, Some, get_or, sym, ap, ◌∙◌}
 use Rattle.doc_rules.proofs.WholeFront.{rising_ascends, rising_from_ascending}
-use Rattle.op_log.proofs.Fronts.{put_at_place, put_in_gap, NamesRise-set, NamesRise-insert}
+use Rattle.op_log.proofs.Fronts.{entry_of-place, entry_of-gap, put_at_place, put_in_gap, NamesRise-set, NamesRise-insert}
 use Rattle.op_log.proofs.front.put_last.Goals as goal
+
+pub returns-in-Ok-clause-before : goal.returns-in-Ok-clause-before
+returns-in-Ok-clause-before c =
+    let rise = rising_from_ascending c.args.front.now.items c.requires.ascending in
+    let read : c.index.result.now ≡ get_or c.args.front.now.items c.in-Ok.at c.index.result.now = c.index.ensures in
+    ap (λ (e : List ℕ × ℕ). Some e.1) read
+    ∙ sym (entry_of-place c.args.front.now.items c.args.name c.in-Ok.at c.index.result.now rise (rw c.deref.ensures.value at c.in-Ok.ensures))
 
 pub returns-in-Ok-clause-ascending : goal.returns-in-Ok-clause-ascending
 returns-in-Ok-clause-ascending c =
@@ -12,6 +20,9 @@ pub returns-in-Ok-clause-puts : goal.returns-in-Ok-clause-puts
 returns-in-Ok-clause-puts c =
     let rise = rising_from_ascending c.args.front.now.items c.requires.ascending in
     put_at_place c.args.front.now.items c.args.name c.args.counter c.in-Ok.at rise (rw c.deref.ensures.value at c.in-Ok.ensures)
+
+pub returns-in-Err-clause-before : goal.returns-in-Err-clause-before
+returns-in-Err-clause-before c = sym (entry_of-gap c.args.front.now.items c.args.name c.in-Err.at (rw c.deref.ensures.value at c.in-Err.ensures))
 
 pub returns-in-Err-clause-ascending : goal.returns-in-Err-clause-ascending
 returns-in-Err-clause-ascending c =
