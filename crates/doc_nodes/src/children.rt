@@ -1,7 +1,7 @@
 //! The nodes below a node, in the order of their keys.
 ghost use Rattle.std.specs.Ordering.{is_lt, nat_cmp};
-ghost use Rattle.std.specs.Cmp.Lexicographic.{pointwise, slice_cmp};
-ghost use Rattle.std.specs.Prelude.{◌≡◌, ◌<◌, ◌≤◌, ◌+◌, ◌++◌, ◌∷◌, List, [], length, insert, take, drop, None, Some, OnOk, OnErr, IfOk, IfSome, IfNone, Contains, ◌⊎◌, nat_eq, slice_index_or, slice_set};
+ghost use Rattle.std.specs.Cmp.Lexicographic.{slice_cmp};
+ghost use Rattle.std.specs.Prelude.{◌≡◌, ◌<◌, ◌≤◌, ◌+◌, ◌++◌, ◌∷◌, List, [], length, insert, take, drop, None, Some, OnOk, OnErr, IfOk, IfSome, IfNone, Contains, ◌⊎◌, slice_index_or, slice_set};
 ghost use Rattle.crdt_rules.specs.Same.{key_eq};
 ghost use Rattle.op_core.specs.declared.cursor.Key.{Key};
 ghost use Rattle.doc_nodes.specs.declared.node.NodeNumber.{NodeNumber};
@@ -14,7 +14,7 @@ ghost use Rattle.doc_nodes.specs.Blocks as Blocks;
 
 use crate::node::{NodeNumber, element_in};
 use lamport_id::Id;
-use lamport_id::bytes::{are_equal, order};
+use lamport_id::bytes::order;
 use op_core::Key;
 use std::alloc::{AllocError, Global};
 use std::marker::Model;
@@ -638,15 +638,5 @@ fn is_lesser_text(a: &str, b: &str) -> bool
 fn is_same_key(a: &Key, b: &Key) -> bool
     ensures { result ≡ key_eq a.now b.now }
 {
-    match (a, b) {
-        (Key::Text(x), Key::Text(y)) => is_same_text(x.as_str(), y.as_str()),
-        _ => a == b,
-    }
-}
-
-/// Whether two texts are the same.
-fn is_same_text(a: &str, b: &str) -> bool
-    ensures { result ≡ pointwise nat_eq a.now b.now }
-{
-    are_equal(a.as_bytes(), b.as_bytes())
+    a == b
 }
