@@ -56,6 +56,8 @@ impl<W: Sink> Sink for FailAfter<W> {
 
     ghost has_failed = { λ s. s.failed || W.has_failed s.device };
 
+    ghost kept = { λ s. W.kept s.device };
+
     fn write_some(&mut self, bytes: &[u8]) -> Result<usize, DeviceFault> {
         let room = bytes.len().min(self.left);
         if room == 0 {
@@ -65,6 +67,10 @@ impl<W: Sink> Sink for FailAfter<W> {
         let n = self.device.write_some(&bytes[..room])?;
         self.left -= n;
         Ok(n)
+    }
+
+    fn hand_on(&mut self) -> Result<(), DeviceFault> {
+        self.device.hand_on()
     }
 
     fn failed(&self) -> bool {
@@ -122,9 +128,15 @@ impl<W: Sink> Sink for InPieces<W> {
 
     ghost has_failed = { λ s. W.has_failed s.device };
 
+    ghost kept = { λ s. W.kept s.device };
+
     fn write_some(&mut self, bytes: &[u8]) -> Result<usize, DeviceFault> {
         let room = bytes.len().min(self.most);
         self.device.write_some(&bytes[..room])
+    }
+
+    fn hand_on(&mut self) -> Result<(), DeviceFault> {
+        self.device.hand_on()
     }
 
     fn failed(&self) -> bool {

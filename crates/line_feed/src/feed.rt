@@ -1,5 +1,6 @@
 //! Lines of a source.
 ghost use Rattle.std.specs.Prelude.{◌≡◌, ◌-◌, ℕ, Bool, true, false, List, [], ◌++◌, ◌+◌, ◌<◌, ◌≤◌, ◌↔◌, length, take, IsTrue, IfOk, MatchResult, is_err, position, slice_range, vec_len};
+ghost use Rattle.std.specs.List.{list_any};
 ghost use Rattle.std.specs.Io.KnownBytes.{Consumes, IsAtEnd, Keeps};
 ghost use Rattle.line_feed.specs.Lines.{is_newline, HasNoNewline};
 ghost use Rattle.line_feed.specs.Feed.{Advances, Gives, Stops};
@@ -48,6 +49,13 @@ fn newline_at(bytes: &[u8]) -> Option<usize>
     ensures { result ≡ position is_newline bytes.now }
 {
     bytes.iter().position(|b| *b == b'\n')
+}
+
+/// Whether there is a newline byte.
+fn has_newline(bytes: &[u8]) -> bool
+    ensures { result ≡ list_any is_newline bytes.now }
+{
+    newline_at(bytes).is_some()
 }
 
 /// One read behind the first `len` bytes.
@@ -182,6 +190,13 @@ impl LineFeed {
         &self.buffer[self.line_start..self.line_end]
     }
 
+    /// Whether a whole line is held already, so that the next one isn't read for.
+    pub fn has_line(&self) -> bool
+        ensures { result ≡ list_any is_newline self.now.held }
+    {
+        has_newline(&self.buffer[self.start..self.end])
+    }
+
     /// Looks for the next line, with at most 65,537 reads, each of as much as the source gives. Once the source has
     /// come to its end, it isn't read again. A last piece that no newline ends is a line too, if it isn't empty.
     ///
@@ -192,6 +207,7 @@ impl LineFeed {
         requires works { R.has_failed source.old ≡ false }
         ensures gives { (read : List ℕ) × Consumes (R.remaining source.old) (R.remaining source.new) read
             × Gives self.old read result self.new }
+        ensures held { list_any is_newline self.old.held ≡ true → result ≡ Outcome.Line }
         ensures stays_ended { self.old.ended ≡ true → result ≡ Outcome.End }
         ensures at_end { (self.old.ended ≡ true → IsAtEnd (R.remaining source.old))
             → self.new.ended ≡ true → IsAtEnd (R.remaining source.new) }
@@ -206,6 +222,7 @@ impl LineFeed {
         requires works { R.has_failed source.old ≡ false }
         ensures advances { (read : List ℕ) × Consumes (R.remaining source.old) (R.remaining source.new) read
             × Advances self.old read result self.new }
+        ensures held { list_any is_newline self.old.held ≡ true → result ≡ Outcome.Line }
         ensures stays_ended { self.old.ended ≡ true → result ≡ Outcome.End }
         ensures at_end { (self.old.ended ≡ true → IsAtEnd (R.remaining source.old))
             → self.new.ended ≡ true → IsAtEnd (R.remaining source.new) }

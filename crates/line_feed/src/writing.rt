@@ -1,8 +1,8 @@
 //! Where bytes go.
-ghost use Rattle.std.specs.Prelude.{◌≡◌, ℕ, Bool, false, List, Option, ◌<◌, length, is_err, IfOk, OnOk, OnErr};
+ghost use Rattle.std.specs.Prelude.{◌≡◌, ℕ, Bool, false, List, [], Option, ◌<◌, length, is_err, IfOk, OnOk, OnErr};
 ghost use Rattle.std.specs.Io.{WritesAtMost};
-ghost use Rattle.std.specs.Io.KnownBytes.{Appends, WriteAppends};
-ghost use Rattle.line_feed.specs.Cut.{AppendsCut, line_of};
+ghost use Rattle.std.specs.Io.KnownBytes.{Appends, Keeps, WriteAppends};
+ghost use Rattle.line_feed.specs.Cut.{AppendsCut, LosesLast, line_of};
 
 use crate::DeviceFault;
 use std::io::Write;
@@ -15,6 +15,9 @@ pub trait Sink {
     /// Whether it has failed. It isn't written to from then on.
     ghost has_failed: { Self → Bool };
 
+    /// What it has taken and its device hasn't. None, where it hands on at once what it takes.
+    ghost kept: { Self → List ℕ } = { λ _. [] };
+
     /// Takes bytes from the front of `bytes`, at least one, and says how many. One call of the device, which isn't
     /// made again. `DeviceFault` where that call fails; then the device has taken none, and the sink has failed.
     fn write_some(&mut self, bytes: &[u8]) -> Result<usize, DeviceFault>
@@ -23,6 +26,15 @@ pub trait Sink {
         ensures at_least { IfOk result (λ n. 0 < n) }
         ensures bound { WritesAtMost result bytes.now }
         ensures bytes { WriteAppends (contents self.old) (contents self.new) result bytes.now }
+        ensures failed { has_failed self.new ≡ is_err result };
+
+    /// Hands on to the device what it keeps back. `DeviceFault` where the device fails before it has taken all of that; then the
+    /// last byte at least counts as not taken, and the sink has failed.
+    fn hand_on(&mut self) -> Result<(), DeviceFault>
+        requires works { has_failed self.old ≡ false }
+        ensures bytes { OnOk result (Keeps (contents self.old) (contents self.new)) }
+        ensures lost { OnErr result (LosesLast (contents self.old) (contents self.new)) }
+        ensures empty { OnOk result (kept self.new ≡ []) }
         ensures failed { has_failed self.new ≡ is_err result };
 
     /// Whether a call has failed, after which the device isn't written to again.
@@ -71,6 +83,10 @@ impl<W: Write> Sink for Writer<W> {
                 Err(DeviceFault)
             }
         }
+    }
+
+    fn hand_on(&mut self) -> Result<(), DeviceFault> {
+        Ok(())
     }
 
     fn failed(&self) -> bool {

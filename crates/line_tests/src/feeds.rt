@@ -1,6 +1,10 @@
-//! Lines from a source in pieces, and devices that fail.
+//! Lines from a source in pieces, devices that fail, and what an outbox hands on.
+ghost use Rattle.std.specs.Prelude.{◌≡◌, false};
+
 use line_feed::doubles::{FailAfter, InPieces};
-use line_feed::{LineFeed, Outcome, Reader, Sink, Source, Writer, write_line};
+use line_feed::{
+    DeviceFault, LineFeed, Outbox, Outcome, Reader, Sink, Source, Writer, write_all, write_line,
+};
 use std::io;
 use std::io::{ErrorKind, Read, Write};
 use std::test::Fail;
@@ -90,4 +94,59 @@ fn a_sink_that_fails_within_a_line_has_its_front(rt: HostRuntime) {
     assert!(rt; sink.failed());
     let FailAfter { device, .. } = sink;
     assert!(rt; device.into_inner().as_slice() == b"abc".as_slice());
+}
+
+/// A writer that counts how often it was called.
+#[derive(Drop)]
+struct Counted {
+    calls: u8,
+    bytes: Vec<u8>,
+}
+
+impl Write for Counted {
+    fn write(&mut self, buf: &[u8]) -> io::Result<usize> {
+        self.calls = self.calls.saturating_add(1);
+        self.bytes.write(buf)
+    }
+
+    fn flush(&mut self) -> io::Result<()> {
+        Ok(())
+    }
+}
+
+/// Three short lines, which are handed on then.
+fn three_lines<W: Sink>(sink: &mut W) -> Result<(), DeviceFault>
+    requires { W.has_failed sink.old ≡ false }
+{
+    write_line(sink, b"ab")?;
+    write_line(sink, b"cd")?;
+    write_line(sink, b"ef")?;
+    sink.hand_on()
+}
+
+#[test]
+fn an_outbox_writes_at_once_what_it_kept(rt: HostRuntime) {
+    let mut device = Counted {
+        calls: 0,
+        bytes: Vec::new(rt.alloc()),
+    };
+    let told = three_lines(&mut Outbox::new(rt.alloc(), Writer::new(&mut device)));
+    assert!(rt; told.is_ok() && device.calls == 1);
+    assert!(rt; device.bytes.as_slice() == b"ab\ncd\nef\n".as_slice());
+}
+
+#[test]
+fn an_outbox_over_a_sink_that_fails_has_handed_a_front_on(rt: HostRuntime) {
+    let mut out = Vec::new(rt.alloc());
+    let told = three_lines(&mut Outbox::new(rt.alloc(), FailAfter::new(Writer::new(&mut out), 4)));
+    assert!(rt; told.is_err() && out.as_slice() == b"ab\nc".as_slice());
+}
+
+#[test]
+fn an_outbox_hands_on_what_it_has_no_room_for(rt: HostRuntime) -> Result<(), Fail> {
+    let long = vec![in rt.alloc(); b'x'; 20_000]?;
+    let mut out = Vec::new(rt.alloc());
+    let told = write_all(&mut Outbox::new(rt.alloc(), Writer::new(&mut out)), long.as_slice());
+    assert!(rt; told.is_ok() && out.as_slice() == long.as_slice());
+    Ok(())
 }

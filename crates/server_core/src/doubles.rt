@@ -30,6 +30,10 @@ impl<R: Wait> Sink for Kept<'_, R> {
         Ok(bytes.len())
     }
 
+    fn hand_on(&mut self) -> Result<(), DeviceFault> {
+        Ok(())
+    }
+
     fn failed(&self) -> bool {
         self.failed
     }

@@ -6,6 +6,7 @@ mod causes;
 mod gathering;
 mod limits;
 mod rows;
+mod waiting;
 
 use doc_ledger::Ledger;
 use json_scalar::Refusal;

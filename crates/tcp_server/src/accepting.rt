@@ -1,7 +1,7 @@
 //! Connections that a listener accepts.
 ghost use Rattle.std.specs.Prelude.{◌≡◌, length, IfOk};
 
-use line_feed::{DeviceFault, Reader, Writer};
+use line_feed::{DeviceFault, Outbox, Reader, Writer};
 use server_core::Connect;
 use std::alloc::{AllocError, Global};
 use std::io;
@@ -50,23 +50,26 @@ impl Read for Sent {
 pub struct Accepting<'a> {
     /// The listener.
     pub listener: &'a TcpListener,
+    /// Where the room for its replies comes from.
+    pub alloc: Global,
 }
 
 impl Connect for Accepting<'_> {
     type Source = Reader<Sent>;
 
-    type Sink = Writer<TcpStream>;
+    type Sink = Outbox<Writer<TcpStream>>;
 
-    fn open(self) -> Result<(Reader<Sent>, Writer<TcpStream>), DeviceFault> {
+    fn open(self) -> Result<(Reader<Sent>, Outbox<Writer<TcpStream>>), DeviceFault> {
         let Ok((stream, _)) = self.listener.accept() else {
             return Err(DeviceFault);
         };
-        // Each reply goes out at once. Where that can't be had the system may hold it back for a while, and nothing is lost.
+        // What is handed on goes out at once. Where that can't be had the system may hold it back for a while, and nothing is lost.
         let _at_once = stream.set_nodelay(true);
         let Ok(other) = stream.try_clone() else {
             return Err(DeviceFault);
         };
-        Ok((Reader::new(Sent { stream }), Writer::new(other)))
+        let sink = Outbox::new(self.alloc, Writer::new(other));
+        Ok((Reader::new(Sent { stream }), sink))
     }
 }
 
@@ -80,7 +83,7 @@ pub fn connections<'a>(
 {
     let mut all = Vec::new(alloc);
     for _ in 0..sessions {
-        all.push(Accepting { listener })?;
+        all.push(Accepting { listener, alloc })?;
     }
     Ok(all)
 }

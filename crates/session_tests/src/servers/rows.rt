@@ -134,11 +134,17 @@ impl<M: Marker, D: Sink> Sink for Looking<'_, M, D> {
 
     ghost has_failed = { λ s. D.has_failed s.device };
 
+    ghost kept = { λ s. D.kept s.device };
+
     fn write_some(&mut self, bytes: &[u8]) -> Result<usize, DeviceFault> {
         if is_locked(self.library) {
             self.found = true;
         }
         self.device.write_some(bytes)
+    }
+
+    fn hand_on(&mut self) -> Result<(), DeviceFault> {
+        self.device.hand_on()
     }
 
     fn failed(&self) -> bool {

@@ -1,0 +1,94 @@
+//! A sink that writes in larger pieces.
+ghost use Rattle.std.specs.Prelude.{◌≡◌, ◌≤◌, ◌<◌, ◌++◌, [], false, length, drop, slice_range, is_err, OnOk, OnErr};
+ghost use Rattle.std.specs.Io.KnownBytes.{Appends};
+ghost use Rattle.std.specs.Option.{option_map};
+
+use crate::DeviceFault;
+use crate::writing::Sink;
+use std::alloc::Global;
+
+/// Bytes for which an outbox has room.
+const OUTBOX_ROOM: usize = 16_384;
+
+/// A sink over another one that keeps back what it takes, as far as it has room, until it is told to hand it on. What has no room is
+/// handed on behind what was kept.
+#[derive(Drop)]
+pub struct Outbox<W> {
+    sink: W,
+    kept: Vec<u8>,
+    // how many of the kept bytes the other sink has taken
+    sent: usize,
+    ghost within: { sent ≤ length kept.items },
+}
+
+impl<W: Sink> Outbox<W> {
+    /// An outbox over the sink that keeps nothing yet. Where its 16 kilobytes can't be had, it hands on at once what it takes.
+    pub fn new(alloc: Global, sink: W) -> Self
+        ensures sink { result.sink ≡ sink }
+        ensures empty { drop result.sent result.kept.items ≡ [] }
+    {
+        let kept = match Vec::with_capacity(alloc, OUTBOX_ROOM) {
+            Ok(room) => room,
+            Err(_) => Vec::new(alloc),
+        };
+        Outbox {
+            sink,
+            kept,
+            sent: 0,
+        }
+    }
+}
+
+/// Writes what stands behind the first `sent` bytes, and counts there what the sink takes.
+fn send<W: Sink>(sink: &mut W, bytes: &[u8], sent: &mut usize) -> Result<(), DeviceFault>
+    requires works { W.has_failed sink.old ≡ false }
+    requires within { sent.old ≤ length bytes.now }
+    ensures from { sent.old ≤ sent.new }
+    ensures to { sent.new ≤ length bytes.now }
+    ensures bytes { Appends (W.contents sink.old) (W.contents sink.new) (slice_range bytes.now sent.old sent.new) }
+    ensures all { OnOk result (sent.new ≡ length bytes.now) }
+    ensures part { OnErr result (sent.new < length bytes.now) }
+    ensures failed { W.has_failed sink.new ≡ is_err result }
+{
+    while *sent < bytes.len() {
+        *sent += sink.write_some(&bytes[*sent..])?;
+    }
+    Ok(())
+}
+
+impl<W: Sink> Sink for Outbox<W> {
+    ghost contents = { λ s. option_map (λ taken. taken ++ drop s.sent s.kept.items) (W.contents s.sink) };
+
+    ghost has_failed = { λ s. W.has_failed s.sink };
+
+    ghost kept = { λ s. drop s.sent s.kept.items };
+
+    fn write_some(&mut self, bytes: &[u8]) -> Result<usize, DeviceFault> {
+        if bytes.len() <= self.kept.capacity() - self.kept.len() {
+            self.kept.extend_from_slice(bytes).unwrap();
+            return Ok(bytes.len());
+        }
+        send(&mut self.sink, self.kept.as_slice(), &mut self.sent)?;
+        self.kept.clear();
+        self.sent = 0;
+        self.sink.write_some(bytes)
+    }
+
+    fn hand_on(&mut self) -> Result<(), DeviceFault> {
+        match send(&mut self.sink, self.kept.as_slice(), &mut self.sent) {
+            Ok(()) => {
+                self.kept.clear();
+                self.sent = 0;
+                Ok(())
+            }
+            Err(fault) => {
+                let _lost = self.kept.pop();
+                Err(fault)
+            }
+        }
+    }
+
+    fn failed(&self) -> bool {
+        Sink::failed(&self.sink)
+    }
+}
