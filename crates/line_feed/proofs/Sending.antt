@@ -29,7 +29,7 @@ lost_last (Some x) (Some y) kept left (Some l) from to appends p q is some =
     let rest : drop to kept ≡ drop to left ++ l ∷ [] = ap (drop to) is ∙ drop-append-le to left (l ∷ []) within in (
       l,
       ap (λ k. x ++ k) (drop_split kept from to p) ∙ sym (append_assoc x (slice_range kept from to) (drop to kept))
-      ∙ (λ i. sym appends i ++ rest i) ∙ sym (append_assoc y (drop to left) (l ∷ [])),
+          ∙ (λ i. sym appends i ++ rest i) ∙ sym (append_assoc y (drop to left) (l ∷ [])),
     )
 
 -- What was taken behind what was there, and then kept.

@@ -146,7 +146,10 @@ fn an_outbox_over_a_sink_that_fails_has_handed_a_front_on(rt: HostRuntime) {
 fn an_outbox_hands_on_what_it_has_no_room_for(rt: HostRuntime) -> Result<(), Fail> {
     let long = vec![in rt.alloc(); b'x'; 20_000]?;
     let mut out = Vec::new(rt.alloc());
-    let told = write_all(&mut Outbox::new(rt.alloc(), Writer::new(&mut out)), long.as_slice());
+    let told = write_all(
+        &mut Outbox::new(rt.alloc(), Writer::new(&mut out)),
+        long.as_slice(),
+    );
     assert!(rt; told.is_ok() && out.as_slice() == long.as_slice());
     Ok(())
 }

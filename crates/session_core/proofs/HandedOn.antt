@@ -36,11 +36,11 @@ used_up_empty kept held answered (inr at_hand) up = absurd (up at_hand.1)
 pub keeps_on : (kept held : List ℕ) (answered : ℕ) (waits : Bool) → waits ≡ (answered + 1 == MAX_LINES || not (list_any is_newline held)) → answered < MAX_LINES
     → (waits ≡ true → kept ≡ []) → KeepsOn kept held (answered + 1)
 keeps_on kept held answered waits is more empty = by (answered + 1 == MAX_LINES) (list_any is_newline held) refl refl
-    where
-      by : (last has : Bool) → (answered + 1 == MAX_LINES) ≡ last → list_any is_newline held ≡ has → KeepsOn kept held (answered + 1)
-      by true has p q = inl (empty (is ∙ rw p refl))
-      by false false p q = inl (empty (is ∙ rw (p, q) refl))
-      by false true p q = inr (q, omega (arith, more, eqb-false _ _ p))
+  where
+    by : (last has : Bool) → (answered + 1 == MAX_LINES) ≡ last → list_any is_newline held ≡ has → KeepsOn kept held (answered + 1)
+    by true has p q = inl (empty (is ∙ rw p refl))
+    by false false p q = inl (empty (is ∙ rw (p, q) refl))
+    by false true p q = inr (q, omega (arith, more, eqb-false _ _ p))
 
 -- a session that ends keeps nothing
 pub ends_empty : (given : Outcome) (waits : Bool) (kept keeps held : List ℕ) (why : Ending) → KeepsFor kept held

@@ -1,4 +1,7 @@
 //! A client that waits for its replies.
+ghost use Rattle.std.specs.Prelude.{◌≡◌};
+ghost use Rattle.share_ledger.specs.Begun.{BeginEmpty};
+
 use line_feed::{Outbox, Reader, Writer};
 use run_core::{NewDocuments, run_over};
 use share_ledger::{Blank, Marker};
@@ -8,9 +11,6 @@ use std::io::{Read, Write};
 use std::marker::Brand;
 use std::sync::atomic::{AtomicU64, Ordering};
 use std::test::Fail;
-
-ghost use Rattle.std.specs.Prelude.{◌≡◌};
-ghost use Rattle.share_ledger.specs.Begun.{BeginEmpty};
 
 /// Counts the replies that come, and how often some come.
 #[derive(Drop)]
@@ -62,7 +62,13 @@ impl Read for Client<'_> {
     }
 }
 
-fn waits<M: Marker>(alloc: Global, blank: Blank, in_vain: &AtomicU64, lines: &AtomicU64, writes: &AtomicU64) -> u8
+fn waits<M: Marker>(
+    alloc: Global,
+    blank: Blank,
+    in_vain: &AtomicU64,
+    lines: &AtomicU64,
+    writes: &AtomicU64,
+) -> u8
     requires blank { blank ≡ M.name }
     requires begun { BeginEmpty M.begun }
 {
@@ -74,7 +80,14 @@ fn waits<M: Marker>(alloc: Global, blank: Blank, in_vain: &AtomicU64, lines: &At
     };
     let mut sink = Outbox::new(alloc, Writer::new(Replies { lines, writes }));
     let mut made = NewDocuments::<M>::new(blank);
-    run_over(alloc, &mut made, "srv", &["d"], &mut Reader::new(client), &mut sink)
+    run_over(
+        alloc,
+        &mut made,
+        "srv",
+        &["d"],
+        &mut Reader::new(client),
+        &mut sink,
+    )
 }
 
 #[test]
