@@ -2,7 +2,9 @@
 ghost use Rattle.std.specs.Prelude.{◌≡◌};
 ghost use Rattle.share_ledger.specs.Begun.{BeginEmpty};
 
-use super::samples::{Deed, Digest, are_ids, are_numbers, command, document, told_by, values_at};
+use super::samples::{
+    Deed, Digest, are_ids, are_numbers, command, document, holds, is_told, told_by, values_at,
+};
 use doc_words::{Query, Reply};
 use json_scalar::Refusal;
 use locked_doc::{LockedDoc, Seat};
@@ -22,8 +24,8 @@ fn delivers<M: Marker, R: Abort>(
 ) -> Result<(), Refusal> {
     for (text, answer) in due {
         let command = command(alloc, Deed::Deliver, text)?;
-        let reply = doc.act(seat, command).into_reply();
-        assert_eq!(rt; told_by(reply), *answer, "{text}");
+        let told = told_by(doc.act(seat, command).into_reply());
+        is_told(rt, told, *answer, text);
     }
     Ok(())
 }
@@ -71,12 +73,23 @@ fn releases<M: Marker, R: Abort>(rt: &R, alloc: Global, blank: Blank) -> Result<
     let mut table = blank.named::<M>();
     let mut doc = document(alloc, &mut table, 0, 1)?;
     let mut seat = doc.open_seat()?;
-    delivers(rt, alloc, &mut doc, &mut seat, &OUT_OF_ORDER)?;
-    assert!(rt; are_waiting(doc.read(&mut seat, Query::Held).into_reply()));
-    delivers(rt, alloc, &mut doc, &mut seat, &FIRST)?;
-    let account = doc.read(&mut seat, Query::Account).into_reply();
-    assert_eq!(rt; told_by(account), Digest::Account(3));
-    let values = doc.read(&mut seat, values_at(alloc, "k")?).into_reply();
-    assert!(rt; are_numbers(values, &[3]));
+    hands_in(rt, alloc, &mut doc, &mut seat)?;
+    Ok(())
+}
+
+fn hands_in<M: Marker, R: Abort>(
+    rt: &R,
+    alloc: Global,
+    doc: &mut LockedDoc<M>,
+    seat: &mut Seat<M>,
+) -> Result<(), Refusal> {
+    delivers(rt, alloc, doc, seat, &OUT_OF_ORDER)?;
+    let held = doc.read(seat, Query::Held).into_reply();
+    holds(rt, are_waiting(held), "what is held");
+    delivers(rt, alloc, doc, seat, &FIRST)?;
+    let account = told_by(doc.read(seat, Query::Account).into_reply());
+    is_told(rt, account, Digest::Account(3), "account");
+    let values = doc.read(seat, values_at(alloc, "k")?).into_reply();
+    holds(rt, are_numbers(values, &[3]), "values at k");
     Ok(())
 }
