@@ -4,8 +4,8 @@ ghost use Rattle.share_ledger.specs.Counters.{ledger_place};
 ghost use Rattle.share_ledger.specs.Begun.{BeginEmpty};
 
 use super::samples::{
-    Deed, Digest, adds_up, are_ids, command, document, holds, is_count, is_told, tail_count,
-    told_by,
+    Deed, Digest, adds_up, are_ids, command, document, hands_in, holds, is_count, is_told,
+    tail_count, told_by,
 };
 use doc_words::Query;
 use json_scalar::Refusal;
@@ -101,11 +101,12 @@ fn elsewhere<M: Marker>(alloc: Global, table: &mut Table<M>) -> Result<Vec<SeatE
 
 #[test]
 fn gather_totals(rt: HostRuntime) -> Result<(), Fail> {
-    gathers::<Brand, _>(&rt, rt.alloc(), Blank::new())
+    gathers::<Brand, _>(&rt, rt.alloc(), Blank::new())?;
+    Ok(())
 }
 
 // A document with 3 seats: seat 1 assigns three times, seat 2 twice, seat 3 isn't opened.
-fn gathers<M: Marker, R: Abort>(rt: &R, alloc: Global, blank: Blank) -> Result<(), Fail>
+fn gathers<M: Marker, R: Abort>(rt: &R, alloc: Global, blank: Blank) -> Result<(), Refusal>
     requires blank { blank ≡ M.name }
     requires begun { BeginEmpty M.begun }
 {
@@ -113,9 +114,7 @@ fn gathers<M: Marker, R: Abort>(rt: &R, alloc: Global, blank: Blank) -> Result<(
     let mut doc = document(alloc, &mut table, 0, 3)?;
     let mut ends = elsewhere(alloc, &mut table)?;
     assigned(rt, alloc, &mut doc, &mut ends)?;
-    let back = refuses_each(rt, alloc, doc, ends)?;
-    gathers_all(rt, alloc, back)?;
-    Ok(())
+    refuses_each(rt, alloc, doc, ends)
 }
 
 // Puts the ends of two seats that assigned around that of another document, the last of them first.
@@ -161,7 +160,7 @@ fn refuses_each<M: Marker, R: Abort>(
     alloc: Global,
     doc: LockedDoc<M>,
     last_first: Vec<SeatEnd<M>>,
-) -> Result<Gathering<M>, Refusal> {
+) -> Result<(), Refusal> {
     let mut left = last_first;
     let mut back = refuses(rt, alloc, doc, Vec::new(alloc))?;
     for _ in 0..left.len() {
@@ -169,7 +168,7 @@ fn refuses_each<M: Marker, R: Abort>(
             back = refuses_with(rt, alloc, back, end)?;
         }
     }
-    Ok(back)
+    gathers_all(rt, alloc, back)
 }
 
 // With seat 1 behind seat 2, and then before it.
@@ -221,19 +220,19 @@ fn are_both<M: Marker>(ends: &[SeatEnd<M>]) -> bool {
 
 #[test]
 fn release_counts_for_releaser(rt: HostRuntime) -> Result<(), Fail> {
-    releases::<Brand, _>(&rt, rt.alloc(), Blank::new())
+    releases::<Brand, _>(&rt, rt.alloc(), Blank::new())?;
+    Ok(())
 }
 
 // What one seat handed in and another seat's call released is the second seat's.
-fn releases<M: Marker, R: Abort>(rt: &R, alloc: Global, blank: Blank) -> Result<(), Fail>
+fn releases<M: Marker, R: Abort>(rt: &R, alloc: Global, blank: Blank) -> Result<(), Refusal>
     requires blank { blank ≡ M.name }
     requires begun { BeginEmpty M.begun }
 {
     let mut table = blank.named::<M>();
     let mut doc = document(alloc, &mut table, 0, 2)?;
     let mut other = document(alloc, &mut table, 1, 1)?;
-    counts_for_second(rt, alloc, &mut doc, &mut other)?;
-    Ok(())
+    counts_for_second(rt, alloc, &mut doc, &mut other)
 }
 
 fn counts_for_second<M: Marker, R: Abort>(
@@ -255,14 +254,12 @@ fn second_releases<M: Marker, R: Abort>(
     one: &mut Seat<M>,
     two: &mut Seat<M>,
 ) -> Result<(), Refusal> {
-    let first = delivers(alloc, doc, one, SECOND)?;
-    is_told(rt, first, Digest::Held, SECOND);
-    let second = delivers(alloc, doc, two, FIRST)?;
-    is_told(rt, second, Digest::Applied(2, 0, 1), FIRST);
-    holds(rt, accounts(doc, one, two) == (0, 2), "accounts");
+    hands_in(rt, alloc, doc, one, (SECOND, Digest::Held))?;
+    hands_in(rt, alloc, doc, two, (FIRST, Digest::Applied(2, 0, 1)))?;
+    holds(rt, have_accounts(doc, one, two, (0, 2)), "accounts");
     holds(rt, is_full(doc), "no seat is left");
-    holds(rt, is_turned_away(alloc, other, one)?, "turned away");
-    holds(rt, accounts(doc, one, two) == (0, 2), "accounts again");
+    turns_away(rt, alloc, other, one)?;
+    holds(rt, have_accounts(doc, one, two, (0, 2)), "accounts again");
     doc.note_copied(2);
     is_count(rt, tail_count(doc, 1, 5)?, 1, "operations behind the first");
     Ok(())
@@ -272,37 +269,34 @@ fn is_full<M: Marker>(doc: &mut LockedDoc<M>) -> bool {
     matches!(&doc.open_seat(), Err(Refusal::SeatsFull))
 }
 
-fn delivers<M: Marker>(
+// Whether two seats are told these as their accounts, which are their shares.
+fn have_accounts<M: Marker>(
+    doc: &LockedDoc<M>,
+    one: &mut Seat<M>,
+    two: &mut Seat<M>,
+    due: (u64, u64),
+) -> bool {
+    is_account(doc, one, due.0) && is_account(doc, two, due.1)
+}
+
+fn is_account<M: Marker>(doc: &LockedDoc<M>, seat: &mut Seat<M>, due: u64) -> bool {
+    let told = told_by(doc.read(seat, Query::Account).into_reply());
+    told == Digest::Account(due) && seat.account() == due
+}
+
+// A document answers a seat that isn't its own by not-open, with nothing changed, its own first seat not opened.
+fn turns_away<M: Marker, R: Abort>(
+    rt: &R,
     alloc: Global,
     doc: &mut LockedDoc<M>,
     seat: &mut Seat<M>,
-    text: &str,
-) -> Result<Digest, Refusal> {
-    let delivery = command(alloc, Deed::Deliver, text)?;
-    Ok(told_by(doc.act(seat, delivery).into_reply()))
-}
-
-// What two seats are told as their accounts, which are their shares.
-fn accounts<M: Marker>(doc: &LockedDoc<M>, one: &mut Seat<M>, two: &mut Seat<M>) -> (u64, u64) {
-    let first = told_by(doc.read(one, Query::Account).into_reply());
-    let second = told_by(doc.read(two, Query::Account).into_reply());
-    if first == Digest::Account(one.account()) && second == Digest::Account(two.account()) {
-        (one.account(), two.account())
-    } else {
-        (1000, 1000)
-    }
-}
-
-// Whether a document answers a seat that isn't its own by not-open, with nothing changed, its own first seat not opened.
-fn is_turned_away<M: Marker>(
-    alloc: Global,
-    doc: &mut LockedDoc<M>,
-    seat: &mut Seat<M>,
-) -> Result<bool, Refusal> {
+) -> Result<(), Refusal> {
     let away = Digest::Refused(Refusal::NotOpen);
     let before = seat.account();
-    let acted = delivers(alloc, doc, seat, FIRST)?;
+    hands_in(rt, alloc, doc, seat, (FIRST, away))?;
     let read = told_by(doc.read(seat, Query::Account).into_reply());
+    is_told(rt, read, away, "account elsewhere");
     let counts = (seat.account(), doc.opened(), tail_count(doc, 0, 5)?);
-    Ok(acted == away && read == away && counts == (before, 0, 0))
+    holds(rt, counts == (before, 0, 0), "nothing is changed elsewhere");
+    Ok(())
 }

@@ -6,7 +6,7 @@ ghost use Rattle.share_ledger.specs.Counters.{ledger_place};
 use doc_words::{Command, Look, Place, Query, Reply, Steps};
 use json_scalar::{Refusal, Scalar};
 use lamport_id::{Id, ReplicaName};
-use locked_doc::{Ledgers, LockedDoc, SeatEnd, Totals};
+use locked_doc::{Ledgers, LockedDoc, Seat, SeatEnd, Totals};
 use op_core::{Cursor, Front, Key, KeyText, Mutation, Operation, Path, Tagged, read_wire};
 use replica_core::{Applied, Delivered, Misfit, Replica};
 use serde_json::Value;
@@ -210,25 +210,23 @@ pub fn member(alloc: Global, name: &str) -> Result<Place, Refusal> {
 
 /// The query for the values at this member.
 pub fn values_at(alloc: Global, name: &str) -> Result<Query, Refusal> {
-    Ok(Query::Look(Look::Values, member(alloc, name)?))
+    look_at(alloc, Look::Values, name)
 }
 
-/// Whether these are the scalars, each a number.
-pub fn are_numbers(reply: Reply, due: &[i64]) -> bool {
+/// The query that looks so at this member.
+pub fn look_at(alloc: Global, look: Look, name: &str) -> Result<Query, Refusal> {
+    Ok(Query::Look(look, member(alloc, name)?))
+}
+
+/// Whether this number is the one scalar.
+pub fn is_number(reply: Reply, due: i64) -> bool {
     match &reply {
-        Reply::Values(scalars) => scalars.as_slice().len() == due.len()
-            && all_numbers(scalars.as_slice(), due),
+        Reply::Values(scalars) => match scalars.as_slice() {
+            [scalar] => *scalar == Scalar::Int(due),
+            _ => false,
+        },
         _ => false,
     }
-}
-
-fn all_numbers(scalars: &[Scalar], due: &[i64]) -> bool {
-    for (scalar, number) in scalars.iter().zip(due) {
-        if *scalar != Scalar::Int(*number) {
-            return false;
-        }
-    }
-    true
 }
 
 /// Whether these are the ids.
@@ -274,6 +272,30 @@ fn later(alloc: Global, counter: u64) -> Result<Operation, Refusal> {
         cursor,
         Mutation::Delete,
     )
+}
+
+/// Hands in an operation through a document's seat, and asserts what is told of it.
+pub fn hands_in<M: Marker, R: Abort>(
+    rt: &R,
+    alloc: Global,
+    doc: &mut LockedDoc<M>,
+    seat: &mut Seat<M>,
+    due: (&str, Digest),
+) -> Result<(), Refusal> {
+    let delivery = command(alloc, Deed::Deliver, due.0)?;
+    let told = told_by(doc.act(seat, delivery).into_reply());
+    is_told(rt, told, due.1, due.0);
+    Ok(())
+}
+
+/// A list of one end, which finds room at the second try at the latest.
+pub fn alone<M: Marker>(alloc: Global, end: SeatEnd<M>) -> Result<Vec<SeatEnd<M>>, Refusal> {
+    let mut ends = Vec::new(alloc);
+    if ends.reserve(1).is_err() {
+        ends.reserve(1)?;
+    }
+    ends.push_reserved(end);
+    Ok(ends)
 }
 
 /// How many operations a document tells of those logged from this place on, of which so many are asked for at most.

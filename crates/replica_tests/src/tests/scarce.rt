@@ -9,8 +9,8 @@ ghost use Rattle.share_ledger.specs.Counters.{ledger_place};
 
 use super::is_conflict_at;
 use super::samples::{
-    Deed, Digest, adds_up, are_totals, command, holding, holds, is_count, is_told, member,
-    restored, server, tail_count, told_by, whole,
+    Deed, Digest, adds_up, alone, are_totals, command, holding, holds, is_count, is_told, look_at,
+    member, restored, server, tail_count, told_by, whole,
 };
 use doc_words::{Command, Look, Query, Reply};
 use json_scalar::Refusal;
@@ -87,19 +87,19 @@ fn command_again(alloc: Global, deed: Deed, text: &str) -> Result<Command, Refus
 const READINGS: usize = 11;
 
 fn query(alloc: Global, which: usize) -> Result<Query, Refusal> {
-    Ok(match which {
-        0 => Query::Look(Look::Show, whole(alloc)),
-        1 => Query::Look(Look::Keys, whole(alloc)),
-        2 => Query::Look(Look::Values, member(alloc, "k")?),
-        3 => Query::Look(Look::Items, member(alloc, "l")?),
-        4 => Query::Look(Look::Conflicts, member(alloc, "k")?),
-        5 => Query::Look(Look::Sum, member(alloc, "n")?),
-        6 => Query::Resolve(member(alloc, "k")?),
-        7 => Query::Operations(Front::from_pairs(alloc, &[])?, 100),
-        8 => Query::Front,
-        9 => Query::Held,
-        _ => Query::Account,
-    })
+    match which {
+        0 => Ok(Query::Look(Look::Show, whole(alloc))),
+        1 => Ok(Query::Look(Look::Keys, whole(alloc))),
+        2 => look_at(alloc, Look::Values, "k"),
+        3 => look_at(alloc, Look::Items, "l"),
+        4 => look_at(alloc, Look::Conflicts, "k"),
+        5 => look_at(alloc, Look::Sum, "n"),
+        6 => Ok(Query::Resolve(member(alloc, "k")?)),
+        7 => Ok(Query::Operations(Front::from_pairs(alloc, &[])?, 100)),
+        8 => Ok(Query::Front),
+        9 => Ok(Query::Held),
+        _ => Ok(Query::Account),
+    }
 }
 
 // The text of a reading, which is refused for want of memory alone.
@@ -215,22 +215,18 @@ fn lets_go(answer: Digest, due: Digest) -> bool {
     }
 }
 
-// Hands in again what may have been dropped.
-fn makes_up<M: Marker, R: Abort>(
-    rt: &R,
+// Hands in again what may have been dropped, and answers whether it is logged now.
+fn makes_up<M: Marker>(
     alloc: Global,
     doc: &mut LockedDoc<M>,
     seat: &mut Seat<M>,
-) -> Result<(), Refusal> {
-    for text in [SECOND, THIRD] {
-        let mut answer = acts(alloc, doc, seat, Deed::Deliver, text)?;
-        if answer == Digest::Refused(Refusal::NoMemory) {
-            answer = acts(alloc, doc, seat, Deed::Deliver, text)?;
-        }
-        let is = matches!(&answer, Digest::Known | Digest::Applied(_, 0, _));
-        holds(rt, is, text);
+    text: &str,
+) -> Result<bool, Refusal> {
+    let mut answer = acts(alloc, doc, seat, Deed::Deliver, text)?;
+    if answer == Digest::Refused(Refusal::NoMemory) {
+        answer = acts(alloc, doc, seat, Deed::Deliver, text)?;
     }
-    Ok(())
+    Ok(matches!(&answer, Digest::Known | Digest::Applied(_, 0, _)))
 }
 
 // How many readings, from the first on, tell the same three times over, of which one at most met want of memory.
@@ -254,9 +250,18 @@ fn reads_alike<M: Marker>(
     which: usize,
 ) -> Result<bool, Refusal> {
     let one = reading_again(alloc, doc, seat, which)?;
-    let two = reading_again(alloc, doc, seat, which)?;
-    let three = reading_again(alloc, doc, seat, which)?;
-    Ok(one == two && two == three)
+    let due = one.as_str();
+    Ok(reads(alloc, doc, seat, which, due)? && reads(alloc, doc, seat, which, due)?)
+}
+
+fn reads<M: Marker>(
+    alloc: Global,
+    doc: &LockedDoc<M>,
+    seat: &mut Seat<M>,
+    which: usize,
+    due: &str,
+) -> Result<bool, Refusal> {
+    Ok(reading_again(alloc, doc, seat, which)?.as_str() == due)
 }
 
 fn shows<M: Marker>(alloc: Global, doc: &LockedDoc<M>, seat: &mut Seat<M>, due: &str) -> bool {
@@ -337,7 +342,8 @@ fn misfit_with_memory_wanting(rt: HostRuntime) -> Result<(), Fail> {
 #[test]
 fn memory_wanting(rt: HostRuntime) -> Result<(), Fail> {
     let replica = replica_again(rt.alloc())?;
-    wants::<Brand, _>(&rt, rt.alloc(), Blank::new(), replica)
+    wants::<Brand, _>(&rt, rt.alloc(), Blank::new(), replica)?;
+    Ok(())
 }
 
 fn wants<M: Marker, R: Abort>(
@@ -345,30 +351,39 @@ fn wants<M: Marker, R: Abort>(
     alloc: Global,
     blank: Blank,
     replica: Replica,
-) -> Result<(), Fail>
+) -> Result<(), Refusal>
     requires blank { blank ≡ M.name }
     requires begun { (number : ℕ) → M.begun number ≡ replica.log }
 {
     let mut table = blank.named::<M>();
     let ledgers = ledgers_again(alloc, &mut table)?;
     let mut doc = document_again(rt, alloc, replica, ledgers)?;
-    let mut seat = doc.open_seat()?;
-    works(rt, alloc, &mut doc, &mut seat)?;
-    gathers(rt, alloc, doc, seat.end())?;
-    Ok(())
+    let end = works(rt, alloc, &mut doc)?;
+    gathers(rt, alloc, doc, end)
 }
 
-// Does all steps, and reads all in the end.
+// The end of a seat that did all steps, and read all in the end.
 fn works<M: Marker, R: Abort>(
+    rt: &R,
+    alloc: Global,
+    doc: &mut LockedDoc<M>,
+) -> Result<SeatEnd<M>, Refusal> {
+    let mut seat = doc.open_seat()?;
+    for step in &STEPS {
+        obeys(rt, alloc, doc, &mut seat, step)?;
+    }
+    ends_well(rt, alloc, doc, &mut seat)?;
+    Ok(seat.end())
+}
+
+fn ends_well<M: Marker, R: Abort>(
     rt: &R,
     alloc: Global,
     doc: &mut LockedDoc<M>,
     seat: &mut Seat<M>,
 ) -> Result<(), Refusal> {
-    for step in &STEPS {
-        obeys(rt, alloc, doc, seat, step)?;
-    }
-    makes_up(rt, alloc, doc, seat)?;
+    holds(rt, makes_up(alloc, doc, seat, SECOND)?, SECOND);
+    holds(rt, makes_up(alloc, doc, seat, THIRD)?, THIRD);
     let alike = readings_alike(alloc, doc, seat)?;
     is_count(rt, alike, READINGS, "readings that tell the same again");
     let is = shows(alloc, doc, seat, SHOWN) || shows(alloc, doc, seat, SHOWN);
@@ -401,16 +416,6 @@ fn gathers<M: Marker, R: Abort>(
     Ok(())
 }
 
-// A list of one end, which finds room at the second try at the latest.
-fn alone<M: Marker>(alloc: Global, end: SeatEnd<M>) -> Result<Vec<SeatEnd<M>>, Refusal> {
-    let mut ends = Vec::new(alloc);
-    if ends.reserve(1).is_err() {
-        ends.reserve(1)?;
-    }
-    ends.push_reserved(end);
-    Ok(ends)
-}
-
 fn gathers_again<M: Marker>(alloc: Global, back: Gathering<M>) -> bool {
     let Gathering { refusal, doc, ends } = back;
     let is_all = refusal == Refusal::NoMemory && ends.len() == 1;
@@ -421,7 +426,8 @@ fn gathers_again<M: Marker>(alloc: Global, back: Gathering<M>) -> bool {
 #[test]
 fn shelf_wanting(rt: HostRuntime) -> Result<(), Fail> {
     let replica = replica_again(rt.alloc())?;
-    puts::<Brand, _>(&rt, rt.alloc(), Blank::new(), replica)
+    puts::<Brand, _>(&rt, rt.alloc(), Blank::new(), replica)?;
+    Ok(())
 }
 
 fn puts<M: Marker, R: Abort>(
@@ -429,7 +435,7 @@ fn puts<M: Marker, R: Abort>(
     alloc: Global,
     blank: Blank,
     replica: Replica,
-) -> Result<(), Fail>
+) -> Result<(), Refusal>
     requires blank { blank ≡ M.name }
     requires begun { (number : ℕ) → M.begun number ≡ replica.log }
 {
@@ -437,17 +443,17 @@ fn puts<M: Marker, R: Abort>(
     let ledgers = ledgers_again(alloc, &mut table)?;
     let doc = document_again(rt, alloc, replica, ledgers)?;
     let mut shelf = Shelf::new(alloc);
-    holds(rt, finds_room(&mut shelf, doc)?, "room at the second try");
+    holds(rt, finds_room(&mut shelf, doc), "room at the second try");
     is_count(rt, shelf.len(), 1, "documents on the shelf");
     Ok(())
 }
 
-fn finds_room<M: Marker>(shelf: &mut Shelf<M>, doc: LockedDoc<M>) -> Result<bool, Refusal> {
+fn finds_room<M: Marker>(shelf: &mut Shelf<M>, doc: LockedDoc<M>) -> bool {
     match shelf.put(doc) {
-        Ok(()) => Ok(true),
+        Ok(()) => true,
         Err(doc) => {
-            let is_all = shelf.len() == 0 && tail_again(&doc)? == 2;
-            Ok(shelf.put(doc).is_ok() && is_all)
+            let is_all = shelf.len() == 0 && matches!(tail_again(&doc), Ok(2));
+            shelf.put(doc).is_ok() && is_all
         }
     }
 }

@@ -4,7 +4,7 @@ ghost use Rattle.share_ledger.specs.Counters.{ledger_place};
 ghost use Rattle.share_ledger.specs.Begun.{BeginEmpty};
 
 use super::samples::{
-    Deed, Digest, adds_up, are_numbers, command, document, holds, is_told, told_by, values_at,
+    Deed, Digest, adds_up, alone, command, document, holds, is_number, is_told, told_by, values_at,
 };
 use json_scalar::Refusal;
 use locked_doc::{LockedDoc, Seat, SeatEnd, Shelf};
@@ -19,11 +19,12 @@ const ASSIGNMENT: &str = r#"["op",[1,"srv-1"],[],[[["m",0]],"k"],["assign",7]]"#
 
 #[test]
 fn asks_through_the_lock(rt: HostRuntime) -> Result<(), Fail> {
-    asks::<Brand, _>(&rt, rt.alloc(), Blank::new())
+    asks::<Brand, _>(&rt, rt.alloc(), Blank::new())?;
+    Ok(())
 }
 
 // A document with one seat, and one with two, of which one stays free.
-fn asks<M: Marker, R: Abort + Wait>(rt: &R, alloc: Global, blank: Blank) -> Result<(), Fail>
+fn asks<M: Marker, R: Abort + Wait>(rt: &R, alloc: Global, blank: Blank) -> Result<(), Refusal>
     requires blank { blank ≡ M.name }
     requires begun { BeginEmpty M.begun }
 {
@@ -118,7 +119,7 @@ fn assigns_and_reads<M: Marker, R: Abort + Wait>(
     is_told(rt, here, Digest::Applied(1, 0, 1), "here");
     let asked = values_at(alloc, "k")?;
     let values = shelf.read(rt, 1, seat, asked).into_reply();
-    holds(rt, are_numbers(values, &[7]), "values at k");
+    holds(rt, is_number(values, 7), "values at k");
     holds(
         rt,
         (seat.number(), seat.account()) == (1, 1),
@@ -172,6 +173,8 @@ fn is_added_up<M: Marker>(
 
 fn gathers<M: Marker>(alloc: Global, doc: LockedDoc<M>, end: SeatEnd<M>, logged: u64) -> bool {
     let is_one = doc.opened() == 1;
-    let mut ends = Vec::new(alloc);
-    is_one && ends.push(end).is_ok() && adds_up(alloc, doc, ends, &[logged], (logged, logged, 0))
+    match alone(alloc, end) {
+        Ok(ends) => adds_up(alloc, doc, ends, &[logged], (logged, logged, 0)) && is_one,
+        Err(_) => false,
+    }
 }
