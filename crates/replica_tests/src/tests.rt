@@ -9,157 +9,94 @@ mod samples;
 mod scarce;
 mod shelf;
 
-use json_scalar::{Refusal, Scalar, Val};
-use lamport_id::{Id, ReplicaName};
-use op_core::{Cursor, Front, Key, Mutation, Operation, Path};
-use replica_core::{Applied, Delivered, Misfit, Replica};
-use samples::whole;
+use json_scalar::Refusal;
+use replica_core::{Misfit, Replica};
+use samples::{Deed, Digest, holds, named, tells};
 use std::alloc::Global;
 use std::process::Abort;
 use std::test::Fail;
 
-fn name(text: &[u8]) -> Result<ReplicaName, Fail> {
-    Ok(ReplicaName::read(text).ok_or("name")?)
-}
+// Assignments of null to the document.
+const FIRST: &str = r#"["op",[1,"p"],[],[[],0],["assign",null]]"#;
 
-// An assignment of null to the document, made by a replica after one other operation, if there is one.
-fn made(
-    rt: &impl Abort,
+const SECOND: &str = r#"["op",[2,"p"],[["p",1]],[[],0],["assign",null]]"#;
+
+const FIRST_OF_Q: &str = r#"["op",[1,"q"],[],[[],0],["assign",null]]"#;
+
+const SECOND_OF_Q: &str = r#"["op",[2,"q"],[["p",1]],[[],0],["assign",null]]"#;
+
+// Asserts what a new replica of this name tells of each operation, and how many are logged in the end.
+fn tells_anew<R: Abort>(
+    rt: &R,
     alloc: Global,
-    counter: u64,
-    replica: &[u8],
-    after: Option<(ReplicaName, u64)>,
-) -> Result<Operation, Fail> {
-    let mut front = Vec::new(alloc);
-    if let Some(entry) = after {
-        front.push(entry)?;
-    }
-    let id = Id {
-        counter,
-        replica: name(replica)?,
-    };
-    let cursor = Cursor {
-        path: Path::new(alloc),
-        key: Key::Doc,
-    };
-    let mutation = Mutation::Assign(Val::Scalar(Scalar::Null));
-    let front = Front::from_pairs(alloc, &front)?;
-    Ok(Operation::shaped(id, front, cursor, mutation).expect(rt, "shape"))
-}
-
-// The operation of `p` with this counter, after its operation with the counter before.
-fn assignment(rt: &impl Abort, alloc: Global, counter: u64) -> Result<Operation, Fail> {
-    if counter > 1 {
-        made(rt, alloc, counter, b"p", Some((name(b"p")?, counter - 1)))
-    } else {
-        made(rt, alloc, counter, b"p", None)
-    }
-}
-
-// How many were logged, and how many dropped.
-fn counts(answer: Result<Delivered, Refusal>) -> (u64, u64) {
-    match answer {
-        Ok(
-            Delivered::Applied(
-                Applied {
-                    count,
-                    dropped,
-                    id: _,
-                },
-            ),
-        ) => (count, dropped),
-        Ok(_) => (0, 0),
-        Err(_) => (0, 1000),
-    }
-}
-
-fn is_held(answer: Result<Delivered, Refusal>) -> bool {
-    match answer {
-        Ok(Delivered::Held(_)) => true,
-        _ => false,
-    }
-}
-
-fn is_known(answer: Result<Delivered, Refusal>) -> bool {
-    match answer {
-        Ok(Delivered::Known) => true,
-        _ => false,
-    }
+    name: &[u8],
+    rows: &[(Deed, &str, Digest)],
+    logged: usize,
+) -> Result<(), Fail> {
+    let mut replica = named(alloc, name)?;
+    tells(rt, alloc, &mut replica, rows, logged)?;
+    Ok(())
 }
 
 #[test]
 fn delivered_twice(rt: HostRuntime) -> Result<(), Fail> {
-    let mut replica = Replica::new(rt.alloc(), name(b"srv-1")?).expect(&rt, "memory");
-    assert_eq!(rt;
-        counts(replica.deliver(assignment(&rt, rt.alloc(), 1)?)),
-        (1, 0)
-    );
-    assert!(rt; is_known(replica.deliver(assignment(&rt, rt.alloc(), 1)?)));
-    assert_eq!(rt; replica.log().len(), 1);
-    Ok(())
+    let rows = [
+        (Deed::Deliver, FIRST, Digest::Applied(1, 0, 1)),
+        (Deed::Deliver, FIRST, Digest::Known),
+    ];
+    tells_anew(&rt, rt.alloc(), b"srv-1", &rows, 1)
 }
 
 #[test]
 fn forget_held(rt: HostRuntime) -> Result<(), Fail> {
-    let mut replica = Replica::new(rt.alloc(), name(b"srv-1")?).expect(&rt, "memory");
-    let later = assignment(&rt, rt.alloc(), 2)?;
-    let id = later.id();
-    assert!(rt; is_held(replica.deliver(later)));
-    assert!(rt; replica.forget(id).is_ok());
-    assert_eq!(rt;
-        counts(replica.deliver(assignment(&rt, rt.alloc(), 1)?)),
-        (1, 0)
-    );
-    Ok(())
+    let rows = [
+        (Deed::Deliver, SECOND, Digest::Held),
+        (Deed::Forget, SECOND, Digest::Forgotten),
+        (Deed::Deliver, FIRST, Digest::Applied(1, 0, 1)),
+    ];
+    tells_anew(&rt, rt.alloc(), b"srv-1", &rows, 1)
 }
 
 #[test]
 fn local_releases_held(rt: HostRuntime) -> Result<(), Fail> {
-    let mut replica = Replica::new(rt.alloc(), name(b"p")?).expect(&rt, "memory");
-    let later = made(&rt, rt.alloc(), 2, b"q", Some((name(b"p")?, 1)))?;
-    assert!(rt; is_held(replica.deliver(later)));
-    let first = replica
-        .local(whole(rt.alloc()), Mutation::Delete)
-        .expect(&rt, "change");
-    assert_eq!(rt; (first.count, first.dropped, first.id.counter), (2, 0, 1));
-    Ok(())
+    let first = r#"["op",[1,"p"],[],[[],0],["delete"]]"#;
+    let rows = [
+        (Deed::Deliver, SECOND_OF_Q, Digest::Held),
+        (Deed::Make, first, Digest::Applied(2, 0, 1)),
+    ];
+    tells_anew(&rt, rt.alloc(), b"p", &rows, 2)
 }
 
 #[test]
 fn misfit_dropped_on_release(rt: HostRuntime) -> Result<(), Fail> {
-    let mut replica = Replica::new(rt.alloc(), name(b"srv-1")?).expect(&rt, "memory");
-    assert_eq!(rt;
-        counts(replica.deliver(made(&rt, rt.alloc(), 1, b"q", None)?)),
-        (1, 0)
-    );
-    let forked = made(&rt, rt.alloc(), 2, b"q", Some((name(b"p")?, 1)))?;
-    assert!(rt; is_held(replica.deliver(forked)));
-    assert_eq!(rt;
-        counts(replica.deliver(assignment(&rt, rt.alloc(), 1)?)),
-        (1, 1)
-    );
-    Ok(())
+    let rows = [
+        (Deed::Deliver, FIRST_OF_Q, Digest::Applied(1, 0, 1)),
+        (Deed::Deliver, SECOND_OF_Q, Digest::Held),
+        (Deed::Deliver, FIRST, Digest::Applied(1, 1, 1)),
+    ];
+    tells_anew(&rt, rt.alloc(), b"srv-1", &rows, 2)
 }
 
 #[test]
 fn forget_not_held(rt: HostRuntime) -> Result<(), Fail> {
-    let mut replica = Replica::new(rt.alloc(), name(b"srv-1")?).expect(&rt, "memory");
-    let id = assignment(&rt, rt.alloc(), 1)?.id();
-    assert!(rt; replica.forget(id) == Err(Refusal::NotHeld));
-    Ok(())
+    let rows = [(Deed::Forget, FIRST, Digest::Refused(Refusal::NotHeld))];
+    tells_anew(&rt, rt.alloc(), b"srv-1", &rows, 0)
 }
 
 #[test]
 fn restored(rt: HostRuntime) -> Result<(), Fail> {
-    let mut operations = Vec::new(rt.alloc());
-    operations.push(assignment(&rt, rt.alloc(), 1)?)?;
-    operations.push(assignment(&rt, rt.alloc(), 2)?)?;
-    let good = Replica::restore(rt.alloc(), name(b"srv-2")?, &operations);
-    assert!(rt; good.is_ok());
-    operations.push(assignment(&rt, rt.alloc(), 2)?)?;
-    let misfit = Replica::restore(rt.alloc(), name(b"srv-2")?, &operations);
-    assert!(rt; is_conflict_at(misfit, 2));
+    let alloc = rt.alloc();
+    holds(&rt, restores(alloc, &[FIRST, SECOND]), "two that fit");
+    let is = is_conflict_at(
+        samples::restored(alloc, b"srv-2", &[FIRST, SECOND, SECOND]),
+        2,
+    );
+    holds(&rt, is, "one of them twice");
     Ok(())
+}
+
+fn restores(alloc: Global, texts: &[&str]) -> bool {
+    samples::restored(alloc, b"srv-2", texts).is_ok()
 }
 
 fn is_conflict_at(answer: Result<Replica, Misfit>, expected: usize) -> bool {

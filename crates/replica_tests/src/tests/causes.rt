@@ -1,9 +1,10 @@
 //! Deliveries against which two causes stand, and what is told of them. The log or the held operations decide one cause at least.
-use super::samples::{Digest, changed, delivered, given_up, later, member, operation, server};
+use super::samples::{Deed, Digest, goes_on, holds, operation, server, tells};
 use json_scalar::Refusal;
-use op_core::{Mutation, Operation};
+use op_core::Operation;
 use replica_core::Replica;
 use std::alloc::Global;
+use std::process::Abort;
 use std::test::Fail;
 
 const LOGGED: [&str; 3] = [
@@ -18,39 +19,51 @@ const OWN_AND_WAITING: &str = r#"["op",[2,"srv-1"],[["p",1]],[[["m",0]],"k"],["a
 // What (2,p) waits for.
 const FIRST: &str = r#"["op",[1,"p"],[],[[["m",0]],"k"],["assign",1]]"#;
 
-// A replica whose log is these three.
-fn knowing(alloc: Global) -> Result<Replica, Refusal> {
-    let mut replica = server(alloc)?;
+// The first of one replica more than a log may have, where there are 256.
+const ONE_TOO_MANY: &str = r#"["op",[1,"r256"],[],[[["m",0]],"k"],["assign",1]]"#;
+
+// A change of the replica's own.
+const DELETION: &str = r#"["op",[4,"srv-1"],[["o",2],["q",3]],[[["m",0]],"k"],["delete"]]"#;
+
+// What a replica was handed in before.
+#[derive(Clone, Copy)]
+enum Before {
+    // The three.
+    Three,
+    // 256 operations, from (2,p) to (257,p), which are held, since (1,p) is not logged.
+    Held,
+    // One operation of each of 256 others: p, and r1 to r255.
+    Crowd,
+    // These, and so many more of p that the log is full.
+    Full,
+}
+
+// Hands in what is to be handed in before, and answers how many are held then.
+fn hands_in(alloc: Global, replica: &mut Replica, before: Before) -> Result<u64, Refusal> {
+    match before {
+        Before::Three => knows(alloc, replica),
+        Before::Held => goes_on(alloc, replica, 257),
+        Before::Crowd => crowds(alloc, replica),
+        Before::Full => {
+            crowds(alloc, replica)?;
+            goes_on(alloc, replica, 99_745)
+        }
+    }
+}
+
+fn knows(alloc: Global, replica: &mut Replica) -> Result<u64, Refusal> {
     for text in &LOGGED {
         replica.deliver(operation(alloc, text)?)?;
     }
-    Ok(replica)
+    Ok(0)
 }
 
-// What is told of an operation when these three are logged.
-fn handed_in(alloc: Global, text: &str) -> Result<Digest, Refusal> {
-    let mut replica = knowing(alloc)?;
-    let op = operation(alloc, text)?;
-    Ok(delivered(replica.deliver(op)))
-}
-
-// A replica that holds 256 operations, from (2,p) to (257,p), since (1,p) is not logged.
-fn holding(alloc: Global) -> Result<Replica, Refusal> {
-    let mut replica = server(alloc)?;
-    for counter in 2..258 {
-        replica.deliver(later(alloc, counter)?)?;
-    }
-    Ok(replica)
-}
-
-// A replica that logged one operation of each of 256 others: p, and r1 to r255.
-fn crowded(alloc: Global) -> Result<Replica, Refusal> {
-    let mut replica = server(alloc)?;
+fn crowds(alloc: Global, replica: &mut Replica) -> Result<u64, Refusal> {
     replica.deliver(operation(alloc, FIRST)?)?;
     for number in 1..256 {
         replica.deliver(first_of(alloc, number)?)?;
     }
-    Ok(replica)
+    Ok(0)
 }
 
 // The first operation of the replica with this number, which depends on none.
@@ -61,180 +74,152 @@ fn first_of(alloc: Global, number: u64) -> Result<Operation, Refusal> {
     operation(alloc, text.as_str())
 }
 
-#[test]
-fn known_before_own_name(rt: HostRuntime) -> Result<(), Fail> {
-    let alloc = rt.alloc();
-    let mut replica = knowing(alloc)?;
-    let made = changed(replica.local(member(alloc, "k")?, Mutation::Delete));
-    assert_eq!(rt; made, Digest::Applied(1, 0, 4));
-    let same = operation(
-        alloc,
-        r#"["op",[4,"srv-1"],[["o",2],["q",3]],[[["m",0]],"k"],["delete"]]"#,
-    )?;
-    assert_eq!(rt; delivered(replica.deliver(same)), Digest::Known);
+// Asserts how many are held and logged before, what is told of each operation then, and that so many are logged in the end.
+fn tells_after<R: Abort>(
+    rt: &R,
+    alloc: Global,
+    before: (Before, u64, usize),
+    rows: &[(Deed, &str, Digest)],
+    logged: usize,
+) -> Result<(), Fail> {
+    let mut replica = server(alloc)?;
+    let held = hands_in(alloc, &mut replica, before.0)?;
+    let is = held == before.1 && replica.log().len() == before.2;
+    holds(rt, is, "how many are held and logged before");
+    tells(rt, alloc, &mut replica, rows, logged)?;
     Ok(())
 }
 
 #[test]
+fn known_before_own_name(rt: HostRuntime) -> Result<(), Fail> {
+    let rows = [
+        (Deed::Make, DELETION, Digest::Applied(1, 0, 4)),
+        (Deed::Deliver, DELETION, Digest::Known),
+    ];
+    tells_after(&rt, rt.alloc(), (Before::Three, 0, 3), &rows, 4)
+}
+
+#[test]
 fn id_conflict_before_own_name(rt: HostRuntime) -> Result<(), Fail> {
-    let alloc = rt.alloc();
-    let mut replica = knowing(alloc)?;
-    let made = changed(replica.local(member(alloc, "k")?, Mutation::Delete));
-    assert_eq!(rt; made, Digest::Applied(1, 0, 4));
-    let other = operation(
-        alloc,
-        r#"["op",[4,"srv-1"],[["o",2],["q",3]],[[["m",0]],"k"],["assign",2]]"#,
-    )?;
-    assert_eq!(rt;
-        delivered(replica.deliver(other)),
-        Digest::Refused(Refusal::IdConflict)
-    );
-    Ok(())
+    let text = r#"["op",[4,"srv-1"],[["o",2],["q",3]],[[["m",0]],"k"],["assign",2]]"#;
+    let rows = [
+        (Deed::Make, DELETION, Digest::Applied(1, 0, 4)),
+        (Deed::Deliver, text, Digest::Refused(Refusal::IdConflict)),
+    ];
+    tells_after(&rt, rt.alloc(), (Before::Three, 0, 3), &rows, 4)
 }
 
 #[test]
 fn id_conflict_before_forked(rt: HostRuntime) -> Result<(), Fail> {
     let text = r#"["op",[2,"o"],[["o",1]],[[["m",0],["l","l"]],1],["insert","b"]]"#;
-    assert_eq!(rt;
-        handed_in(rt.alloc(), text)?,
-        Digest::Refused(Refusal::IdConflict)
-    );
-    Ok(())
+    let rows = [(Deed::Deliver, text, Digest::Refused(Refusal::IdConflict))];
+    tells_after(&rt, rt.alloc(), (Before::Three, 0, 3), &rows, 3)
 }
 
 #[test]
 fn own_name_before_missing_front_id(rt: HostRuntime) -> Result<(), Fail> {
-    let alloc = rt.alloc();
-    let mut replica = knowing(alloc)?;
-    let op = operation(alloc, OWN_AND_WAITING)?;
-    let id = op.id();
-    assert_eq!(rt;
-        delivered(replica.deliver(op)),
-        Digest::Refused(Refusal::OwnName)
-    );
-    assert_eq!(rt;
-        given_up(replica.forget(id)),
-        Digest::Refused(Refusal::NotHeld)
-    );
-    Ok(())
+    let rows = [
+        (
+            Deed::Deliver,
+            OWN_AND_WAITING,
+            Digest::Refused(Refusal::OwnName),
+        ),
+        (
+            Deed::Forget,
+            OWN_AND_WAITING,
+            Digest::Refused(Refusal::NotHeld),
+        ),
+    ];
+    tells_after(&rt, rt.alloc(), (Before::Three, 0, 3), &rows, 3)
 }
 
 #[test]
 fn held_once_more_before_held_full(rt: HostRuntime) -> Result<(), Fail> {
-    let alloc = rt.alloc();
-    let mut replica = holding(alloc)?;
-    assert_eq!(rt; delivered(replica.deliver(later(alloc, 2)?)), Digest::Held);
-    assert_eq!(rt;
-        delivered(replica.deliver(later(alloc, 257)?)),
-        Digest::Held
-    );
-    assert_eq!(rt;
-        delivered(replica.deliver(later(alloc, 258)?)),
-        Digest::Refused(Refusal::HeldFull)
-    );
-    Ok(())
+    let first = r#"["op",[2,"p"],[["p",1]],[[],0],["delete"]]"#;
+    let last = r#"["op",[257,"p"],[["p",256]],[[],0],["delete"]]"#;
+    let next = r#"["op",[258,"p"],[["p",257]],[[],0],["delete"]]"#;
+    let rows = [
+        (Deed::Deliver, first, Digest::Held),
+        (Deed::Deliver, last, Digest::Held),
+        (Deed::Deliver, next, Digest::Refused(Refusal::HeldFull)),
+    ];
+    tells_after(&rt, rt.alloc(), (Before::Held, 256, 0), &rows, 0)
 }
 
 #[test]
 fn id_conflict_before_held_full(rt: HostRuntime) -> Result<(), Fail> {
-    let alloc = rt.alloc();
-    let mut replica = holding(alloc)?;
-    let other = operation(
-        alloc,
-        r#"["op",[257,"p"],[["p",256]],[[["m",0]],"k"],["delete"]]"#,
-    )?;
-    assert_eq!(rt;
-        delivered(replica.deliver(other)),
-        Digest::Refused(Refusal::IdConflict)
-    );
-    Ok(())
+    let text = r#"["op",[257,"p"],[["p",256]],[[["m",0]],"k"],["delete"]]"#;
+    let rows = [(Deed::Deliver, text, Digest::Refused(Refusal::IdConflict))];
+    tells_after(&rt, rt.alloc(), (Before::Held, 256, 0), &rows, 0)
 }
 
 #[test]
 fn own_name_before_held_full(rt: HostRuntime) -> Result<(), Fail> {
-    let alloc = rt.alloc();
-    let mut replica = holding(alloc)?;
-    let own = operation(alloc, OWN_AND_WAITING)?;
-    assert_eq!(rt;
-        delivered(replica.deliver(own)),
-        Digest::Refused(Refusal::OwnName)
-    );
-    Ok(())
+    let rows = [(
+        Deed::Deliver,
+        OWN_AND_WAITING,
+        Digest::Refused(Refusal::OwnName),
+    )];
+    tells_after(&rt, rt.alloc(), (Before::Held, 256, 0), &rows, 0)
 }
 
 // It names no operation of its replica, which has two, and is held still, since another is missing.
 #[test]
 fn missing_front_id_before_forked(rt: HostRuntime) -> Result<(), Fail> {
     let text = r#"["op",[3,"o"],[["z",2]],[[["m",0]],"k"],["assign",2]]"#;
-    assert_eq!(rt; handed_in(rt.alloc(), text)?, Digest::Held);
-    Ok(())
+    let rows = [(Deed::Deliver, text, Digest::Held)];
+    tells_after(&rt, rt.alloc(), (Before::Three, 0, 3), &rows, 3)
 }
 
 #[test]
 fn bad_front_before_forked(rt: HostRuntime) -> Result<(), Fail> {
     let text = r#"["op",[4,"o"],[["q",3]],[[["m",0]],"k"],["assign",2]]"#;
-    assert_eq!(rt;
-        handed_in(rt.alloc(), text)?,
-        Digest::Refused(Refusal::BadFront)
-    );
-    Ok(())
+    let rows = [(Deed::Deliver, text, Digest::Refused(Refusal::BadFront))];
+    tells_after(&rt, rt.alloc(), (Before::Three, 0, 3), &rows, 3)
 }
 
 #[test]
 fn bad_front_before_bad_cursor(rt: HostRuntime) -> Result<(), Fail> {
     let text = r#"["op",[4,"p"],[["q",3]],[[["m",0],["l","l"]],[2,"o"]],["assign","b"]]"#;
-    assert_eq!(rt;
-        handed_in(rt.alloc(), text)?,
-        Digest::Refused(Refusal::BadFront)
-    );
-    Ok(())
+    let rows = [(Deed::Deliver, text, Digest::Refused(Refusal::BadFront))];
+    tells_after(&rt, rt.alloc(), (Before::Three, 0, 3), &rows, 3)
 }
 
 #[test]
 fn forked_before_bad_cursor(rt: HostRuntime) -> Result<(), Fail> {
     let text = r#"["op",[2,"q"],[["o",1]],[[["m",0],["l","l"]],[2,"o"]],["assign","b"]]"#;
-    assert_eq!(rt;
-        handed_in(rt.alloc(), text)?,
-        Digest::Refused(Refusal::Forked { last: 3 })
-    );
-    Ok(())
+    let rows = [(
+        Deed::Deliver,
+        text,
+        Digest::Refused(Refusal::Forked { last: 3 }),
+    )];
+    tells_after(&rt, rt.alloc(), (Before::Three, 0, 3), &rows, 3)
 }
 
 #[test]
 fn bad_cursor_before_too_many_replicas(rt: HostRuntime) -> Result<(), Fail> {
-    let alloc = rt.alloc();
-    let mut replica = crowded(alloc)?;
-    let astray = operation(
-        alloc,
-        r#"["op",[1,"x"],[],[[["m",0],["l","l"]],[1,"r1"]],["assign","b"]]"#,
-    )?;
-    assert_eq!(rt;
-        delivered(replica.deliver(astray)),
-        Digest::Refused(Refusal::BadCursor)
-    );
-    assert_eq!(rt;
-        delivered(replica.deliver(first_of(alloc, 256)?)),
-        Digest::Refused(Refusal::TooManyReplicas)
-    );
-    Ok(())
+    let text = r#"["op",[1,"x"],[],[[["m",0],["l","l"]],[1,"r1"]],["assign","b"]]"#;
+    let rows = [
+        (Deed::Deliver, text, Digest::Refused(Refusal::BadCursor)),
+        (
+            Deed::Deliver,
+            ONE_TOO_MANY,
+            Digest::Refused(Refusal::TooManyReplicas),
+        ),
+    ];
+    tells_after(&rt, rt.alloc(), (Before::Crowd, 0, 256), &rows, 256)
 }
 
 // It takes half a second, and two minutes under `rt try`, whose limit is then to be raised (`--seconds 600`).
 #[test]
 fn log_full_before_too_many_replicas(rt: HostRuntime) -> Result<(), Fail> {
-    let alloc = rt.alloc();
-    let mut replica = crowded(alloc)?;
-    for counter in 2..99_746 {
-        replica.deliver(later(alloc, counter)?)?;
-    }
-    assert_eq!(rt; replica.log().len(), 100_000);
-    assert_eq!(rt;
-        delivered(replica.deliver(first_of(alloc, 256)?)),
-        Digest::Refused(Refusal::LogFull)
-    );
-    assert_eq!(rt;
-        changed(replica.local(member(alloc, "k")?, Mutation::Delete)),
-        Digest::Refused(Refusal::LogFull)
-    );
-    Ok(())
+    let rows = [
+        (
+            Deed::Deliver,
+            ONE_TOO_MANY,
+            Digest::Refused(Refusal::LogFull),
+        ),
+        (Deed::Make, DELETION, Digest::Refused(Refusal::LogFull)),
+    ];
+    tells_after(&rt, rt.alloc(), (Before::Full, 0, 100_000), &rows, 100_000)
 }

@@ -1,41 +1,50 @@
 //! The worked row on what is refused of operations that are handed in.
-use super::samples::{Digest, delivered, later, operation, server};
+use super::samples::{Deed, Digest, goes_on, holds, operation, server, tells};
 use doc_words::{Query, Reply};
 use json_scalar::Refusal;
 use lamport_id::ReplicaName;
+use op_core::Operation;
 use std::test::Fail;
 
-const FOREIGN: [(&str, Digest); 8] = [
+const FOREIGN: [(Deed, &str, Digest); 8] = [
     (
+        Deed::Deliver,
         r#"["op",[1,"o"],[],[[["m",0]],"l"],["assign",[]]]"#,
         Digest::Applied(1, 0, 1),
     ),
     (
+        Deed::Deliver,
         r#"["op",[2,"o"],[["o",1]],[[["m",0],["l","l"]],1],["insert","a"]]"#,
         Digest::Applied(1, 0, 2),
     ),
     (
+        Deed::Deliver,
         r#"["op",[3,"q"],[["o",2]],[[["m",0]],"k"],["assign",1]]"#,
         Digest::Applied(1, 0, 3),
     ),
     (
+        Deed::Deliver,
         r#"["op",[4,"p"],[["q",3]],[[["m",0]],"k"],["assign",2]]"#,
         Digest::Refused(Refusal::BadFront),
     ),
     (
+        Deed::Deliver,
         r#"["op",[2,"q"],[["o",1]],[[["m",0]],"k"],["assign",3]]"#,
         Digest::Refused(Refusal::Forked { last: 3 }),
     ),
     (
+        Deed::Deliver,
         r#"["op",[2,"p"],[["o",1]],[[["m",0],["l","l"]],[2,"o"]],["assign","b"]]"#,
         Digest::Refused(Refusal::BadCursor),
     ),
     (
+        Deed::Deliver,
         r#"["op",[1,"srv-1"],[],[[["m",0]],"k"],["assign",2]]"#,
         Digest::Refused(Refusal::OwnName),
     ),
     // Again: it is known, and nothing is logged twice.
     (
+        Deed::Deliver,
         r#"["op",[3,"q"],[["o",2]],[[["m",0]],"k"],["assign",1]]"#,
         Digest::Known,
     ),
@@ -59,19 +68,18 @@ fn is_entry(entry: (ReplicaName, u64), due: (&str, u64)) -> bool {
     *entry.0.as_bytes() == *due.0.as_bytes() && entry.1 == due.1
 }
 
+fn is_bad_front(op: Result<Operation, Refusal>) -> bool {
+    matches!(&op, Err(Refusal::BadFront))
+}
+
 #[test]
 fn foreign_refusals(rt: HostRuntime) -> Result<(), Fail> {
     let alloc = rt.alloc();
     let mut replica = server(alloc)?;
-    for (text, due) in &FOREIGN {
-        let op = operation(alloc, text)?;
-        assert_eq!(rt; delivered(replica.deliver(op)), *due, "{text}");
-    }
-    let shape = operation(alloc, NO_SHAPE);
-    assert!(rt; matches!(&shape, Err(Refusal::BadFront)));
-    let front = replica.read(0, Query::Front);
-    assert!(rt; is_front(front, ("o", 2), ("q", 3)));
-    assert_eq!(rt; replica.log().len(), 3);
+    tells(&rt, alloc, &mut replica, &FOREIGN, 3)?;
+    let is_front = is_front(replica.read(0, Query::Front), ("o", 2), ("q", 3));
+    holds(&rt, is_front, "front");
+    holds(&rt, is_bad_front(operation(alloc, NO_SHAPE)), NO_SHAPE);
     Ok(())
 }
 
@@ -79,14 +87,13 @@ fn foreign_refusals(rt: HostRuntime) -> Result<(), Fail> {
 fn foreign_refusals_held_full(rt: HostRuntime) -> Result<(), Fail> {
     let alloc = rt.alloc();
     let mut replica = server(alloc)?;
-    for counter in 2..258 {
-        let op = later(alloc, counter)?;
-        assert_eq!(rt; delivered(replica.deliver(op)), Digest::Held);
-    }
-    let last = later(alloc, 258)?;
-    assert_eq!(rt;
-        delivered(replica.deliver(last)),
-        Digest::Refused(Refusal::HeldFull)
+    let held = goes_on(alloc, &mut replica, 257)?;
+    holds(&rt, held == 256, "how many are held");
+    let next = (
+        Deed::Deliver,
+        r#"["op",[258,"p"],[["p",257]],[[],0],["delete"]]"#,
+        Digest::Refused(Refusal::HeldFull),
     );
+    tells(&rt, alloc, &mut replica, &[next], 0)?;
     Ok(())
 }

@@ -3,10 +3,12 @@ ghost use Rattle.std.specs.Prelude.{◌≡◌, ◌≤◌};
 ghost use Rattle.share_ledger.specs.Counters.{ledger_place};
 ghost use Rattle.share_ledger.specs.Begun.{BeginEmpty};
 
-use super::samples::{Deed, Digest, command, document, told_by};
+use super::samples::{
+    Deed, Digest, adds_up, are_ids, command, document, hands_in, holds, is_count, is_told,
+    tail_count, told_by,
+};
 use doc_words::Query;
 use json_scalar::Refusal;
-use lamport_id::Id;
 use locked_doc::{Gathering, LockedDoc, Seat, SeatEnd};
 use share_ledger::{Blank, Marker, Table};
 use std::alloc::Global;
@@ -36,24 +38,9 @@ fn assigns<M: Marker>(
     Ok(true)
 }
 
-// Whether a seat's end was told of its document's own operations of these counters.
-fn is_told<M: Marker>(end: &SeatEnd<M>, seat: u16, counters: &[u64]) -> bool {
-    if end.number() != 0 || end.seat() != seat {
-        return false;
-    }
-    counts_to(end.told(), counters)
-}
-
-fn counts_to(ids: &[Id], counters: &[u64]) -> bool {
-    if ids.len() != counters.len() {
-        return false;
-    }
-    for (id, counter) in ids.iter().zip(counters) {
-        if id.counter != *counter {
-            return false;
-        }
-    }
-    true
+// Whether a seat's end was told of these operations of its document.
+fn was_told<M: Marker>(end: &SeatEnd<M>, seat: u16, ids: &[(u64, &str)]) -> bool {
+    end.number() == 0 && end.seat() == seat && are_ids(end.told(), ids)
 }
 
 // Gathers ends that don't fit the document, and answers what is handed back.
@@ -62,15 +49,25 @@ fn refuses<M: Marker, R: Abort>(
     alloc: Global,
     doc: LockedDoc<M>,
     ends: Vec<SeatEnd<M>>,
-) -> Result<Gathering<M>, Fail> {
+) -> Result<Gathering<M>, Refusal> {
     let count = ends.len();
-    let Err(back) = doc.gather(alloc, ends) else {
-        return Err(Fail::from("gathered"));
-    };
-    assert_eq!(rt; back.refusal, Refusal::ListsDiffer);
-    assert_eq!(rt; back.ends.len(), count);
-    assert_eq!(rt; (back.doc.number(), back.doc.opened()), (0, 2));
-    Ok(back)
+    match doc.gather(alloc, ends) {
+        Ok(_) => {
+            holds(rt, false, "gathered");
+            Err(Refusal::ListsDiffer)
+        }
+        Err(back) => {
+            holds(rt, is_all(&back, count), "what is handed back");
+            Ok(back)
+        }
+    }
+}
+
+// Whether all that was handed in is handed back, since the ends were not those of the document's seats.
+fn is_all<M: Marker>(back: &Gathering<M>, count: usize) -> bool {
+    back.refusal == Refusal::ListsDiffer
+        && back.ends.len() == count
+        && (back.doc.number(), back.doc.opened()) == (0, 2)
 }
 
 // The same with one more end behind those that were handed back.
@@ -79,7 +76,7 @@ fn refuses_with<M: Marker, R: Abort>(
     alloc: Global,
     back: Gathering<M>,
     end: SeatEnd<M>,
-) -> Result<Gathering<M>, Fail> {
+) -> Result<Gathering<M>, Refusal> {
     let Gathering {
         refusal: _,
         doc,
@@ -89,142 +86,217 @@ fn refuses_with<M: Marker, R: Abort>(
     refuses(rt, alloc, doc, ends)
 }
 
-// The end of a seat of the document of number 1.
-fn elsewhere<M: Marker>(alloc: Global, table: &mut Table<M>) -> Result<SeatEnd<M>, Refusal>
+// A list of the end of a seat of the document of number 1.
+fn elsewhere<M: Marker>(alloc: Global, table: &mut Table<M>) -> Result<Vec<SeatEnd<M>>, Refusal>
     requires place { table.old ≤ ledger_place 1 0 }
     requires begun { BeginEmpty M.begun }
 {
+    let mut ends = Vec::new(alloc);
+    ends.reserve(1)?;
     let mut doc = document(alloc, table, 1, 1)?;
     let seat = doc.open_seat()?;
-    Ok(seat.end())
+    ends.push_reserved(seat.end());
+    Ok(ends)
 }
 
 #[test]
 fn gather_totals(rt: HostRuntime) -> Result<(), Fail> {
-    gathers::<Brand, _>(&rt, rt.alloc(), Blank::new())
+    gathers::<Brand, _>(&rt, rt.alloc(), Blank::new())?;
+    Ok(())
 }
 
 // A document with 3 seats: seat 1 assigns three times, seat 2 twice, seat 3 isn't opened.
-fn gathers<M: Marker, R: Abort>(rt: &R, alloc: Global, blank: Blank) -> Result<(), Fail>
+fn gathers<M: Marker, R: Abort>(rt: &R, alloc: Global, blank: Blank) -> Result<(), Refusal>
     requires blank { blank ≡ M.name }
     requires begun { BeginEmpty M.begun }
 {
     let mut table = blank.named::<M>();
     let mut doc = document(alloc, &mut table, 0, 3)?;
-    let other = elsewhere(alloc, &mut table)?;
-    let mut one = doc.open_seat()?;
-    let mut two = doc.open_seat()?;
-    assert!(rt; assigns(alloc, &mut doc, &mut one, &[1, 2, 3])?);
-    assert!(rt; assigns(alloc, &mut doc, &mut two, &[4, 5])?);
-    gathers_wrong(rt, alloc, doc, one.end(), two.end(), other)
+    let mut ends = elsewhere(alloc, &mut table)?;
+    assigned(rt, alloc, &mut doc, &mut ends)?;
+    refuses_each(rt, alloc, doc, ends)
 }
 
-// Without an end, with the end of another document in the place of one, and with that one too many.
-fn gathers_wrong<M: Marker, R: Abort>(
+// Puts the ends of two seats that assigned around that of another document, the last of them first.
+fn assigned<M: Marker, R: Abort>(
+    rt: &R,
+    alloc: Global,
+    doc: &mut LockedDoc<M>,
+    ends: &mut Vec<SeatEnd<M>>,
+) -> Result<(), Refusal> {
+    let mut one = doc.open_seat()?;
+    let mut two = doc.open_seat()?;
+    both_assign(rt, alloc, doc, &mut one, &mut two)?;
+    around(ends, two.end(), one.end())
+}
+
+fn around<M: Marker>(
+    ends: &mut Vec<SeatEnd<M>>,
+    before: SeatEnd<M>,
+    after: SeatEnd<M>,
+) -> Result<(), Refusal> {
+    ends.reserve(2)?;
+    ends.push_reserved(before);
+    ends.reverse();
+    ends.push_reserved(after);
+    Ok(())
+}
+
+fn both_assign<M: Marker, R: Abort>(
+    rt: &R,
+    alloc: Global,
+    doc: &mut LockedDoc<M>,
+    one: &mut Seat<M>,
+    two: &mut Seat<M>,
+) -> Result<(), Refusal> {
+    holds(rt, assigns(alloc, doc, one, &[1, 2, 3])?, "seat 1 assigns");
+    holds(rt, assigns(alloc, doc, two, &[4, 5])?, "seat 2 assigns");
+    Ok(())
+}
+
+// Without an end, with that of seat 1 alone, with the end of another document in the place of one, and with that one too many.
+fn refuses_each<M: Marker, R: Abort>(
     rt: &R,
     alloc: Global,
     doc: LockedDoc<M>,
-    one: SeatEnd<M>,
-    two: SeatEnd<M>,
-    other: SeatEnd<M>,
-) -> Result<(), Fail> {
-    let none = refuses(rt, alloc, doc, Vec::new(alloc))?;
-    let alone = refuses_with(rt, alloc, none, one)?;
-    let with_other = refuses_with(rt, alloc, alone, other)?;
-    let with_all = refuses_with(rt, alloc, with_other, two)?;
-    gathers_all(rt, alloc, with_all)
+    last_first: Vec<SeatEnd<M>>,
+) -> Result<(), Refusal> {
+    let mut left = last_first;
+    let mut back = refuses(rt, alloc, doc, Vec::new(alloc))?;
+    for _ in 0..left.len() {
+        if let Some(end) = left.pop() {
+            back = refuses_with(rt, alloc, back, end)?;
+        }
+    }
+    gathers_all(rt, alloc, back)
 }
 
 // With seat 1 behind seat 2, and then before it.
-fn gathers_all<M: Marker, R: Abort>(rt: &R, alloc: Global, back: Gathering<M>) -> Result<(), Fail> {
+fn gathers_all<M: Marker, R: Abort>(
+    rt: &R,
+    alloc: Global,
+    back: Gathering<M>,
+) -> Result<(), Refusal> {
     let Gathering {
         refusal: _,
         doc,
         mut ends,
     } = back;
-    assert_eq!(rt; ends.len(), 3);
+    holds(rt, turns(&mut ends), "three ends");
+    let turned = refuses(rt, alloc, doc, ends)?;
+    gathers_turned(rt, alloc, turned);
+    Ok(())
+}
+
+// Takes out the middle of three ends, and turns the others around.
+fn turns<M: Marker>(ends: &mut Vec<SeatEnd<M>>) -> bool {
+    if ends.len() != 3 {
+        return false;
+    }
     drop(ends.remove(1));
     ends.reverse();
-    let mut turned = refuses(rt, alloc, doc, ends)?;
-    turned.ends.reverse();
-    assert!(rt; are_both(turned.ends.as_slice()));
-    let totals = turned
-        .doc
-        .gather(alloc, turned.ends)
-        .ok()
-        .ok_or("gathered")?;
-    assert_eq!(rt; totals.by_seat.as_slice(), [3, 2].as_slice());
-    assert_eq!(rt; (totals.accepted, totals.logged, totals.copied), (5, 5, 0));
-    Ok(())
+    true
+}
+
+fn gathers_turned<M: Marker, R: Abort>(rt: &R, alloc: Global, turned: Gathering<M>) {
+    let Gathering {
+        refusal: _,
+        doc,
+        mut ends,
+    } = turned;
+    ends.reverse();
+    holds(rt, are_both(ends.as_slice()), "what both were told");
+    let is = adds_up(alloc, doc, ends, &[3, 2], (5, 5, 0));
+    holds(rt, is, "what they add up to");
 }
 
 fn are_both<M: Marker>(ends: &[SeatEnd<M>]) -> bool {
     match ends {
-        [one, two] => is_told(one, 1, &[1, 2, 3]) && is_told(two, 2, &[4, 5]),
+        [one, two] => was_told(one, 1, &[(1, "srv-1"), (2, "srv-1"), (3, "srv-1")])
+            && was_told(two, 2, &[(4, "srv-1"), (5, "srv-1")]),
         _ => false,
     }
 }
 
 #[test]
 fn release_counts_for_releaser(rt: HostRuntime) -> Result<(), Fail> {
-    releases::<Brand, _>(&rt, rt.alloc(), Blank::new())
+    releases::<Brand, _>(&rt, rt.alloc(), Blank::new())?;
+    Ok(())
 }
 
 // What one seat handed in and another seat's call released is the second seat's.
-fn releases<M: Marker, R: Abort>(rt: &R, alloc: Global, blank: Blank) -> Result<(), Fail>
+fn releases<M: Marker, R: Abort>(rt: &R, alloc: Global, blank: Blank) -> Result<(), Refusal>
     requires blank { blank ≡ M.name }
     requires begun { BeginEmpty M.begun }
 {
     let mut table = blank.named::<M>();
     let mut doc = document(alloc, &mut table, 0, 2)?;
     let mut other = document(alloc, &mut table, 1, 1)?;
+    counts_for_second(rt, alloc, &mut doc, &mut other)
+}
+
+fn counts_for_second<M: Marker, R: Abort>(
+    rt: &R,
+    alloc: Global,
+    doc: &mut LockedDoc<M>,
+    other: &mut LockedDoc<M>,
+) -> Result<(), Refusal> {
     let mut one = doc.open_seat()?;
     let mut two = doc.open_seat()?;
-    assert_eq!(rt; delivers(alloc, &mut doc, &mut one, SECOND)?, Digest::Held);
-    assert_eq!(rt;
-        delivers(alloc, &mut doc, &mut two, FIRST)?,
-        Digest::Applied(2, 0, 1)
-    );
-    assert_eq!(rt; accounts(&doc, &mut one, &mut two), (0, 2));
-    assert!(rt; matches!(&doc.open_seat(), Err(Refusal::SeatsFull)));
-    assert!(rt; is_turned_away(alloc, &mut other, &mut one)?);
-    assert_eq!(rt; accounts(&doc, &mut one, &mut two), (0, 2));
+    second_releases(rt, alloc, doc, other, &mut one, &mut two)
+}
+
+fn second_releases<M: Marker, R: Abort>(
+    rt: &R,
+    alloc: Global,
+    doc: &mut LockedDoc<M>,
+    other: &mut LockedDoc<M>,
+    one: &mut Seat<M>,
+    two: &mut Seat<M>,
+) -> Result<(), Refusal> {
+    hands_in(rt, alloc, doc, one, (SECOND, Digest::Held))?;
+    hands_in(rt, alloc, doc, two, (FIRST, Digest::Applied(2, 0, 1)))?;
+    holds(rt, have_accounts(doc, one, two, (0, 2)), "accounts");
+    holds(rt, is_full(doc), "no seat is left");
+    turns_away(rt, alloc, other, one)?;
+    holds(rt, have_accounts(doc, one, two, (0, 2)), "accounts again");
     doc.note_copied(2);
-    assert_eq!(rt; doc.tail(1, 5)?.as_slice().len(), 1);
+    is_count(rt, tail_count(doc, 1, 5)?, 1, "operations behind the first");
     Ok(())
 }
 
-fn delivers<M: Marker>(
+fn is_full<M: Marker>(doc: &mut LockedDoc<M>) -> bool {
+    matches!(&doc.open_seat(), Err(Refusal::SeatsFull))
+}
+
+// Whether two seats are told these as their accounts, which are their shares.
+fn have_accounts<M: Marker>(
+    doc: &LockedDoc<M>,
+    one: &mut Seat<M>,
+    two: &mut Seat<M>,
+    due: (u64, u64),
+) -> bool {
+    is_account(doc, one, due.0) && is_account(doc, two, due.1)
+}
+
+fn is_account<M: Marker>(doc: &LockedDoc<M>, seat: &mut Seat<M>, due: u64) -> bool {
+    let told = told_by(doc.read(seat, Query::Account).into_reply());
+    told == Digest::Account(due) && seat.account() == due
+}
+
+// A document answers a seat that isn't its own by not-open, with nothing changed, its own first seat not opened.
+fn turns_away<M: Marker, R: Abort>(
+    rt: &R,
     alloc: Global,
     doc: &mut LockedDoc<M>,
     seat: &mut Seat<M>,
-    text: &str,
-) -> Result<Digest, Refusal> {
-    let delivery = command(alloc, Deed::Deliver, text)?;
-    Ok(told_by(doc.act(seat, delivery).into_reply()))
-}
-
-// What two seats are told as their accounts, which are their shares.
-fn accounts<M: Marker>(doc: &LockedDoc<M>, one: &mut Seat<M>, two: &mut Seat<M>) -> (u64, u64) {
-    let first = told_by(doc.read(one, Query::Account).into_reply());
-    let second = told_by(doc.read(two, Query::Account).into_reply());
-    if first == Digest::Account(one.account()) && second == Digest::Account(two.account()) {
-        (one.account(), two.account())
-    } else {
-        (1000, 1000)
-    }
-}
-
-// Whether a document answers a seat that isn't its own by not-open, with nothing changed, its own first seat not opened.
-fn is_turned_away<M: Marker>(
-    alloc: Global,
-    doc: &mut LockedDoc<M>,
-    seat: &mut Seat<M>,
-) -> Result<bool, Refusal> {
+) -> Result<(), Refusal> {
     let away = Digest::Refused(Refusal::NotOpen);
     let before = seat.account();
-    let acted = delivers(alloc, doc, seat, FIRST)?;
+    hands_in(rt, alloc, doc, seat, (FIRST, away))?;
     let read = told_by(doc.read(seat, Query::Account).into_reply());
-    let is_empty = doc.tail(0, 5)?.as_slice().is_empty();
-    Ok(acted == away && read == away && is_empty && seat.account() == before && doc.opened() == 0)
+    is_told(rt, read, away, "account elsewhere");
+    let counts = (seat.account(), doc.opened(), tail_count(doc, 0, 5)?);
+    holds(rt, counts == (before, 0, 0), "nothing is changed elsewhere");
+    Ok(())
 }

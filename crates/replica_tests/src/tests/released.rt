@@ -2,7 +2,9 @@
 ghost use Rattle.std.specs.Prelude.{◌≡◌};
 ghost use Rattle.share_ledger.specs.Begun.{BeginEmpty};
 
-use super::samples::{Deed, Digest, are_ids, are_numbers, command, document, told_by, values_at};
+use super::samples::{
+    Digest, are_ids, document, hands_in, holds, is_number, is_told, told_by, values_at,
+};
 use doc_words::{Query, Reply};
 use json_scalar::Refusal;
 use locked_doc::{LockedDoc, Seat};
@@ -12,37 +14,20 @@ use std::marker::Brand;
 use std::process::Abort;
 use std::test::*;
 
-// Hands in operations one after another; each is answered as is due.
-fn delivers<M: Marker, R: Abort>(
-    rt: &R,
-    alloc: Global,
-    doc: &mut LockedDoc<M>,
-    seat: &mut Seat<M>,
-    due: &[(&str, Digest)],
-) -> Result<(), Refusal> {
-    for (text, answer) in due {
-        let command = command(alloc, Deed::Deliver, text)?;
-        let reply = doc.act(seat, command).into_reply();
-        assert_eq!(rt; told_by(reply), *answer, "{text}");
-    }
-    Ok(())
-}
+const THIRD: (&str, Digest) = (
+    r#"["op",[3,"p"],[["p",2]],[[["m",0]],"k"],["assign",3]]"#,
+    Digest::Held,
+);
 
-const OUT_OF_ORDER: [(&str, Digest); 2] = [
-    (
-        r#"["op",[3,"p"],[["p",2]],[[["m",0]],"k"],["assign",3]]"#,
-        Digest::Held,
-    ),
-    (
-        r#"["op",[2,"p"],[["p",1]],[[["m",0]],"k"],["assign",2]]"#,
-        Digest::Held,
-    ),
-];
+const SECOND: (&str, Digest) = (
+    r#"["op",[2,"p"],[["p",1]],[[["m",0]],"k"],["assign",2]]"#,
+    Digest::Held,
+);
 
-const FIRST: [(&str, Digest); 1] = [(
+const FIRST: (&str, Digest) = (
     r#"["op",[1,"p"],[],[[["m",0]],"k"],["assign",1]]"#,
     Digest::Applied(3, 0, 1),
-)];
+);
 
 // Whether the second of p waits for its first, and the third for the second.
 fn are_waiting(reply: Reply) -> bool {
@@ -61,22 +46,34 @@ fn are_waiting(reply: Reply) -> bool {
 
 #[test]
 fn buffer_release(rt: HostRuntime) -> Result<(), Fail> {
-    releases::<Brand, _>(&rt, rt.alloc(), Blank::new())
+    releases::<Brand, _>(&rt, rt.alloc(), Blank::new())?;
+    Ok(())
 }
 
-fn releases<M: Marker, R: Abort>(rt: &R, alloc: Global, blank: Blank) -> Result<(), Fail>
+fn releases<M: Marker, R: Abort>(rt: &R, alloc: Global, blank: Blank) -> Result<(), Refusal>
     requires blank { blank ≡ M.name }
     requires begun { BeginEmpty M.begun }
 {
     let mut table = blank.named::<M>();
     let mut doc = document(alloc, &mut table, 0, 1)?;
     let mut seat = doc.open_seat()?;
-    delivers(rt, alloc, &mut doc, &mut seat, &OUT_OF_ORDER)?;
-    assert!(rt; are_waiting(doc.read(&mut seat, Query::Held).into_reply()));
-    delivers(rt, alloc, &mut doc, &mut seat, &FIRST)?;
-    let account = doc.read(&mut seat, Query::Account).into_reply();
-    assert_eq!(rt; told_by(account), Digest::Account(3));
-    let values = doc.read(&mut seat, values_at(alloc, "k")?).into_reply();
-    assert!(rt; are_numbers(values, &[3]));
+    third_first(rt, alloc, &mut doc, &mut seat)
+}
+
+fn third_first<M: Marker, R: Abort>(
+    rt: &R,
+    alloc: Global,
+    doc: &mut LockedDoc<M>,
+    seat: &mut Seat<M>,
+) -> Result<(), Refusal> {
+    hands_in(rt, alloc, doc, seat, THIRD)?;
+    hands_in(rt, alloc, doc, seat, SECOND)?;
+    let held = doc.read(seat, Query::Held).into_reply();
+    holds(rt, are_waiting(held), "what is held");
+    hands_in(rt, alloc, doc, seat, FIRST)?;
+    let account = told_by(doc.read(seat, Query::Account).into_reply());
+    is_told(rt, account, Digest::Account(3), "account");
+    let values = doc.read(seat, values_at(alloc, "k")?).into_reply();
+    holds(rt, is_number(values, 3), "values at k");
     Ok(())
 }

@@ -6,12 +6,28 @@ ghost use Rattle.share_ledger.specs.Counters.{ledger_place};
 use doc_words::{Command, Look, Place, Query, Reply, Steps};
 use json_scalar::{Refusal, Scalar};
 use lamport_id::{Id, ReplicaName};
-use locked_doc::{Ledgers, LockedDoc};
+use locked_doc::{Ledgers, LockedDoc, Seat, SeatEnd, Totals};
 use op_core::{Cursor, Front, Key, KeyText, Mutation, Operation, Path, Tagged, read_wire};
-use replica_core::{Applied, Delivered, Replica};
+use replica_core::{Applied, Delivered, Misfit, Replica};
 use serde_json::Value;
 use share_ledger::{Marker, Table};
 use std::alloc::Global;
+use std::process::Abort;
+
+/// Asserts that this is so. It is proved once, where an assertion in each test would be proved in each.
+pub fn holds<R: Abort>(rt: &R, is: bool, what: &str) {
+    assert!(rt; is, "{what}");
+}
+
+/// Asserts that there are so many of what is told of.
+pub fn is_count<R: Abort>(rt: &R, count: usize, due: usize, what: &str) {
+    assert_eq!(rt; count, due, "{what}");
+}
+
+/// Asserts that an answer is the one that is due of this operation.
+pub fn is_told<R: Abort>(rt: &R, told: Digest, due: Digest, text: &str) {
+    assert_eq!(rt; told, due, "{text}");
+}
 
 /// What an answer tells, but for lists: of an operation that was logged how many were logged and how many dropped, and its counter.
 #[derive(Clone, Copy, Debug, PartialEq, Eq)]
@@ -37,7 +53,7 @@ pub fn told_by(reply: Reply) -> Digest {
     }
 }
 
-pub fn delivered(answer: Result<Delivered, Refusal>) -> Digest {
+fn delivered(answer: Result<Delivered, Refusal>) -> Digest {
     match &answer {
         Ok(Delivered::Applied(applied)) => logged(applied),
         Ok(Delivered::Known) => Digest::Known,
@@ -46,7 +62,7 @@ pub fn delivered(answer: Result<Delivered, Refusal>) -> Digest {
     }
 }
 
-pub fn changed(answer: Result<Applied, Refusal>) -> Digest {
+fn changed(answer: Result<Applied, Refusal>) -> Digest {
     match &answer {
         Ok(applied) => logged(applied),
         Err(refusal) => Digest::Refused(*refusal),
@@ -57,7 +73,7 @@ fn logged(applied: &Applied) -> Digest {
     Digest::Applied(applied.count, applied.dropped, applied.id.counter)
 }
 
-pub fn given_up(answer: Result<(), Refusal>) -> Digest {
+fn given_up(answer: Result<(), Refusal>) -> Digest {
     match &answer {
         Ok(()) => Digest::Forgotten,
         Err(refusal) => Digest::Refused(*refusal),
@@ -82,6 +98,25 @@ pub fn operation(alloc: Global, text: &str) -> Result<Operation, Refusal> {
     }
 }
 
+/// The replica of this name with these in its log.
+pub fn restored(alloc: Global, name: &[u8], texts: &[&str]) -> Result<Replica, Misfit> {
+    let Some(name) = ReplicaName::read(name) else {
+        return Err(Misfit::NoMemory);
+    };
+    match operations(alloc, texts) {
+        Ok(ops) => Replica::restore(alloc, name, ops.as_slice()),
+        Err(_) => Err(Misfit::NoMemory),
+    }
+}
+
+fn operations(alloc: Global, texts: &[&str]) -> Result<Vec<Operation>, Refusal> {
+    let mut ops = Vec::new(alloc);
+    for text in texts {
+        ops.push(operation(alloc, text)?)?;
+    }
+    Ok(ops)
+}
+
 pub fn command(alloc: Global, deed: Deed, text: &str) -> Result<Command, Refusal> {
     let op = operation(alloc, text)?;
     match deed {
@@ -97,6 +132,57 @@ fn change(alloc: Global, op: &Operation) -> Result<Command, Refusal> {
     let mutation = op.mutation().try_clone()?;
     let steps = Steps::from(Vec::new(alloc));
     Ok(Command::Change(Place { start, steps }, mutation))
+}
+
+/// Does with an operation what is to be done, and answers what is told of it.
+pub fn done(
+    alloc: Global,
+    replica: &mut Replica,
+    deed: Deed,
+    text: &str,
+) -> Result<Digest, Refusal> {
+    let op = operation(alloc, text)?;
+    match deed {
+        Deed::Deliver => Ok(delivered(replica.deliver(op))),
+        Deed::Make => made(alloc, replica, &op),
+        Deed::Forget => Ok(given_up(replica.forget(op.id()))),
+    }
+}
+
+// Asks for the change that makes an operation.
+fn made(alloc: Global, replica: &mut Replica, op: &Operation) -> Result<Digest, Refusal> {
+    let start = op.cursor().try_clone()?;
+    let mutation = op.mutation().try_clone()?;
+    let steps = Steps::from(Vec::new(alloc));
+    Ok(changed(replica.local(Place { start, steps }, mutation)))
+}
+
+/// Asserts what is told of each operation, one after another, and how many are logged in the end.
+pub fn tells<R: Abort>(
+    rt: &R,
+    alloc: Global,
+    replica: &mut Replica,
+    rows: &[(Deed, &str, Digest)],
+    logged: usize,
+) -> Result<(), Refusal> {
+    for (deed, text, due) in rows {
+        let told = done(alloc, replica, *deed, text)?;
+        is_told(rt, told, *due, text);
+    }
+    is_count(rt, replica.log().len(), logged, "logged operations");
+    Ok(())
+}
+
+/// Hands in the operations of p from the second up to this counter, each of which knows the one before it, and answers how many
+/// of them are held.
+pub fn goes_on(alloc: Global, replica: &mut Replica, last: u64) -> Result<u64, Refusal> {
+    let mut held = 0u64;
+    for counter in 2..=last {
+        if delivered(replica.deliver(later(alloc, counter)?)) == Digest::Held {
+            held = held.saturating_add(1);
+        }
+    }
+    Ok(held)
 }
 
 /// The place of the whole document.
@@ -124,25 +210,23 @@ pub fn member(alloc: Global, name: &str) -> Result<Place, Refusal> {
 
 /// The query for the values at this member.
 pub fn values_at(alloc: Global, name: &str) -> Result<Query, Refusal> {
-    Ok(Query::Look(Look::Values, member(alloc, name)?))
+    look_at(alloc, Look::Values, name)
 }
 
-/// Whether these are the scalars, each a number.
-pub fn are_numbers(reply: Reply, due: &[i64]) -> bool {
+/// The query that looks so at this member.
+pub fn look_at(alloc: Global, look: Look, name: &str) -> Result<Query, Refusal> {
+    Ok(Query::Look(look, member(alloc, name)?))
+}
+
+/// Whether this number is the one scalar.
+pub fn is_number(reply: Reply, due: i64) -> bool {
     match &reply {
-        Reply::Values(scalars) => scalars.as_slice().len() == due.len()
-            && all_numbers(scalars.as_slice(), due),
+        Reply::Values(scalars) => match scalars.as_slice() {
+            [scalar] => *scalar == Scalar::Int(due),
+            _ => false,
+        },
         _ => false,
     }
-}
-
-fn all_numbers(scalars: &[Scalar], due: &[i64]) -> bool {
-    for (scalar, number) in scalars.iter().zip(due) {
-        if *scalar != Scalar::Int(*number) {
-            return false;
-        }
-    }
-    true
 }
 
 /// Whether these are the ids.
@@ -158,16 +242,23 @@ pub fn are_ids(ids: &[Id], due: &[(u64, &str)]) -> bool {
     true
 }
 
+/// A replica of this name whose log is empty.
+pub fn named(alloc: Global, name: &[u8]) -> Result<Replica, Refusal>
+    ensures { IfOk result (λ replica. replica.log ≡ []) }
+{
+    let name = ReplicaName::read(name).ok_or(Refusal::BadRequest)?;
+    Replica::new(alloc, name)
+}
+
 /// A replica named srv-1 whose log is empty.
 pub fn server(alloc: Global) -> Result<Replica, Refusal>
     ensures { IfOk result (λ replica. replica.log ≡ []) }
 {
-    let name = ReplicaName::read(b"srv-1").ok_or(Refusal::BadRequest)?;
-    Replica::new(alloc, name)
+    named(alloc, b"srv-1")
 }
 
-/// The operation of p with this counter, above 1, which knows the one before it.
-pub fn later(alloc: Global, counter: u64) -> Result<Operation, Refusal> {
+// The operation of p with this counter, above 1, which knows the one before it.
+fn later(alloc: Global, counter: u64) -> Result<Operation, Refusal> {
     let replica = ReplicaName::read(b"p").ok_or(Refusal::BadRequest)?;
     let mut entries = Vec::new(alloc);
     entries.push((replica, counter.saturating_sub(1)))?;
@@ -183,6 +274,59 @@ pub fn later(alloc: Global, counter: u64) -> Result<Operation, Refusal> {
     )
 }
 
+/// Hands in an operation through a document's seat, and asserts what is told of it.
+pub fn hands_in<M: Marker, R: Abort>(
+    rt: &R,
+    alloc: Global,
+    doc: &mut LockedDoc<M>,
+    seat: &mut Seat<M>,
+    due: (&str, Digest),
+) -> Result<(), Refusal> {
+    let delivery = command(alloc, Deed::Deliver, due.0)?;
+    let told = told_by(doc.act(seat, delivery).into_reply());
+    is_told(rt, told, due.1, due.0);
+    Ok(())
+}
+
+/// A list of one end, which finds room at the second try at the latest.
+pub fn alone<M: Marker>(alloc: Global, end: SeatEnd<M>) -> Result<Vec<SeatEnd<M>>, Refusal> {
+    let mut ends = Vec::new(alloc);
+    if ends.reserve(1).is_err() {
+        ends.reserve(1)?;
+    }
+    ends.push_reserved(end);
+    Ok(ends)
+}
+
+/// How many operations a document tells of those logged from this place on, of which so many are asked for at most.
+pub fn tail_count<M: Marker>(
+    doc: &LockedDoc<M>,
+    from: usize,
+    most: usize,
+) -> Result<usize, Refusal> {
+    Ok(doc.tail(from, most)?.as_slice().len())
+}
+
+/// Whether the ends of a document's seats are gathered, and add up to this.
+pub fn adds_up<M: Marker>(
+    alloc: Global,
+    doc: LockedDoc<M>,
+    ends: Vec<SeatEnd<M>>,
+    by_seat: &[u64],
+    sums: (u64, u64, u64),
+) -> bool {
+    match doc.gather(alloc, ends) {
+        Ok(totals) => are_totals(&totals, by_seat, sums),
+        Err(_) => false,
+    }
+}
+
+/// Whether so many were logged for each seat, and in sum so many are accepted, logged and copied.
+pub fn are_totals(totals: &Totals, by_seat: &[u64], sums: (u64, u64, u64)) -> bool {
+    *totals.by_seat.as_slice() == *by_seat
+        && (totals.accepted, totals.logged, totals.copied) == sums
+}
+
 /// A document of the replica `srv-1` with so many seats.
 pub fn document<M: Marker>(
     alloc: Global,
@@ -196,7 +340,20 @@ pub fn document<M: Marker>(
     ensures table { OnOk result (table.new ≤ ledger_place number seats + 1) }
 {
     let ledgers = Ledgers::make(alloc, table, number, seats)?;
-    LockedDoc::new(alloc, server(alloc)?, ledgers)
-        .ok()
-        .ok_or(Refusal::NoMemory)
+    holding(alloc, server(alloc)?, ledgers)
+}
+
+/// A document of this replica.
+pub fn holding<M: Marker>(
+    alloc: Global,
+    replica: Replica,
+    ledgers: Ledgers<M>,
+) -> Result<LockedDoc<M>, Refusal>
+    requires { replica.log ≡ M.begun ledgers.number }
+    ensures { IfOk result (λ d. d.number ≡ ledgers.number) }
+{
+    match LockedDoc::new(alloc, replica, ledgers) {
+        Ok(doc) => Ok(doc),
+        Err((_replica, _ledgers)) => Err(Refusal::NoMemory),
+    }
 }

@@ -8,12 +8,14 @@ ghost use Rattle.std.specs.Prelude.{◌≡◌, ◌≤◌, ℕ, IfOk};
 ghost use Rattle.share_ledger.specs.Counters.{ledger_place};
 
 use super::is_conflict_at;
-use super::samples::{Deed, Digest, command, member, operation, server, told_by, whole};
+use super::samples::{
+    Deed, Digest, adds_up, alone, are_totals, command, holding, holds, is_count, is_told, look_at,
+    member, restored, server, tail_count, told_by, whole,
+};
 use doc_words::{Command, Look, Query, Reply};
 use json_scalar::Refusal;
-use lamport_id::ReplicaName;
-use locked_doc::{Gathering, Ledgers, LockedDoc, Seat, SeatEnd, Shelf, Totals};
-use op_core::{Front, Operation};
+use locked_doc::{Gathering, Ledgers, LockedDoc, Seat, SeatEnd, Shelf};
+use op_core::Front;
 use replica_core::{Misfit, Replica};
 use share_ledger::{Blank, Marker, Table};
 use std::alloc::Global;
@@ -85,19 +87,19 @@ fn command_again(alloc: Global, deed: Deed, text: &str) -> Result<Command, Refus
 const READINGS: usize = 11;
 
 fn query(alloc: Global, which: usize) -> Result<Query, Refusal> {
-    Ok(match which {
-        0 => Query::Look(Look::Show, whole(alloc)),
-        1 => Query::Look(Look::Keys, whole(alloc)),
-        2 => Query::Look(Look::Values, member(alloc, "k")?),
-        3 => Query::Look(Look::Items, member(alloc, "l")?),
-        4 => Query::Look(Look::Conflicts, member(alloc, "k")?),
-        5 => Query::Look(Look::Sum, member(alloc, "n")?),
-        6 => Query::Resolve(member(alloc, "k")?),
-        7 => Query::Operations(Front::from_pairs(alloc, &[])?, 100),
-        8 => Query::Front,
-        9 => Query::Held,
-        _ => Query::Account,
-    })
+    match which {
+        0 => Ok(Query::Look(Look::Show, whole(alloc))),
+        1 => Ok(Query::Look(Look::Keys, whole(alloc))),
+        2 => look_at(alloc, Look::Values, "k"),
+        3 => look_at(alloc, Look::Items, "l"),
+        4 => look_at(alloc, Look::Conflicts, "k"),
+        5 => look_at(alloc, Look::Sum, "n"),
+        6 => Ok(Query::Resolve(member(alloc, "k")?)),
+        7 => Ok(Query::Operations(Front::from_pairs(alloc, &[])?, 100)),
+        8 => Ok(Query::Front),
+        9 => Ok(Query::Held),
+        _ => Ok(Query::Account),
+    }
 }
 
 // The text of a reading, which is refused for want of memory alone.
@@ -108,12 +110,14 @@ fn reading<M: Marker>(
     which: usize,
 ) -> Result<String, Refusal> {
     let asked = query(alloc, which)?;
-    let reply = doc.read(seat, asked).into_reply();
-    if let Reply::Refused(refusal) = &reply {
-        return Err(*refusal);
+    text_of(alloc, doc.read(seat, asked).into_reply())
+}
+
+fn text_of(alloc: Global, reply: Reply) -> Result<String, Refusal> {
+    match &reply {
+        Reply::Refused(refusal) => Err(*refusal),
+        _ => Ok(format!(in alloc; "{reply:?}")?),
     }
-    let text = format!(in alloc; "{reply:?}")?;
-    Ok(text)
 }
 
 fn reading_again<M: Marker>(
@@ -152,6 +156,35 @@ fn picture_again<M: Marker>(
     }
 }
 
+// Does a deed, and answers what is told of it.
+fn acts<M: Marker>(
+    alloc: Global,
+    doc: &mut LockedDoc<M>,
+    seat: &mut Seat<M>,
+    deed: Deed,
+    text: &str,
+) -> Result<Digest, Refusal> {
+    let command = command_again(alloc, deed, text)?;
+    Ok(told_by(doc.act(seat, command).into_reply()))
+}
+
+// The same, and whether all readings are as before where memory was wanting.
+fn acts_or_leaves<M: Marker>(
+    alloc: Global,
+    doc: &mut LockedDoc<M>,
+    seat: &mut Seat<M>,
+    deed: Deed,
+    text: &str,
+) -> Result<(Digest, bool), Refusal> {
+    let before = picture_again(alloc, doc, seat)?;
+    let answer = acts(alloc, doc, seat, deed, text)?;
+    if answer != Digest::Refused(Refusal::NoMemory) {
+        return Ok((answer, true));
+    }
+    let after = picture_again(alloc, doc, seat)?;
+    Ok((answer, after == before))
+}
+
 // Does one step. Where memory is wanting nothing has changed, and the step succeeds when it is done again.
 fn obeys<M: Marker, R: Abort>(
     rt: &R,
@@ -159,23 +192,16 @@ fn obeys<M: Marker, R: Abort>(
     doc: &mut LockedDoc<M>,
     seat: &mut Seat<M>,
     step: &(Deed, &str, Digest),
-) -> Result<(), Fail> {
-    let before = picture_again(alloc, doc, seat)?;
-    let first = command_again(alloc, step.0, step.1)?;
-    let answer = told_by(doc.act(seat, first).into_reply());
-    if answer != Digest::Refused(Refusal::NoMemory) {
-        assert!(rt; answer == step.2 || lets_go(answer, step.2), "{}", step.1);
-        return Ok(());
+) -> Result<(), Refusal> {
+    let (deed, text, due) = *step;
+    let (answer, is_left) = acts_or_leaves(alloc, doc, seat, deed, text)?;
+    holds(rt, is_left, text);
+    if answer == Digest::Refused(Refusal::NoMemory) {
+        let second = acts(alloc, doc, seat, deed, text)?;
+        is_told(rt, second, due, text);
+    } else if !lets_go(answer, due) {
+        is_told(rt, answer, due, text);
     }
-    let after = picture_again(alloc, doc, seat)?;
-    assert!(rt; after == before, "{}", step.1);
-    let second = command_again(alloc, step.0, step.1)?;
-    assert_eq!(rt;
-        told_by(doc.act(seat, second).into_reply()),
-        step.2,
-        "{}",
-        step.1
-    );
     Ok(())
 }
 
@@ -189,42 +215,53 @@ fn lets_go(answer: Digest, due: Digest) -> bool {
     }
 }
 
-// Hands in again what may have been dropped.
-fn makes_up<M: Marker, R: Abort>(
-    rt: &R,
+// Hands in again what may have been dropped, and answers whether it is logged now.
+fn makes_up<M: Marker>(
     alloc: Global,
     doc: &mut LockedDoc<M>,
     seat: &mut Seat<M>,
-) -> Result<(), Fail> {
-    for text in [SECOND, THIRD] {
-        let delivery = command_again(alloc, Deed::Deliver, text)?;
-        let mut answer = told_by(doc.act(seat, delivery).into_reply());
-        if answer == Digest::Refused(Refusal::NoMemory) {
-            let again = command_again(alloc, Deed::Deliver, text)?;
-            answer = told_by(doc.act(seat, again).into_reply());
-        }
-        assert!(rt;
-            matches!(&answer, Digest::Known | Digest::Applied(_, 0, _)),
-            "{text}"
-        );
+    text: &str,
+) -> Result<bool, Refusal> {
+    let mut answer = acts(alloc, doc, seat, Deed::Deliver, text)?;
+    if answer == Digest::Refused(Refusal::NoMemory) {
+        answer = acts(alloc, doc, seat, Deed::Deliver, text)?;
     }
-    Ok(())
+    Ok(matches!(&answer, Digest::Known | Digest::Applied(_, 0, _)))
 }
 
-// Each reading tells the same three times over, of which one at most met want of memory.
-fn reads_alike<M: Marker, R: Abort>(
-    rt: &R,
+// How many readings, from the first on, tell the same three times over, of which one at most met want of memory.
+fn readings_alike<M: Marker>(
     alloc: Global,
     doc: &LockedDoc<M>,
     seat: &mut Seat<M>,
-) -> Result<(), Fail> {
+) -> Result<usize, Refusal> {
     for which in 0..READINGS {
-        let one = reading_again(alloc, doc, seat, which)?;
-        let two = reading_again(alloc, doc, seat, which)?;
-        let three = reading_again(alloc, doc, seat, which)?;
-        assert!(rt; one == two && two == three, "reading {which}");
+        if !reads_alike(alloc, doc, seat, which)? {
+            return Ok(which);
+        }
     }
-    Ok(())
+    Ok(READINGS)
+}
+
+fn reads_alike<M: Marker>(
+    alloc: Global,
+    doc: &LockedDoc<M>,
+    seat: &mut Seat<M>,
+    which: usize,
+) -> Result<bool, Refusal> {
+    let one = reading_again(alloc, doc, seat, which)?;
+    let due = one.as_str();
+    Ok(reads(alloc, doc, seat, which, due)? && reads(alloc, doc, seat, which, due)?)
+}
+
+fn reads<M: Marker>(
+    alloc: Global,
+    doc: &LockedDoc<M>,
+    seat: &mut Seat<M>,
+    which: usize,
+    due: &str,
+) -> Result<bool, Refusal> {
+    Ok(reading_again(alloc, doc, seat, which)?.as_str() == due)
 }
 
 fn shows<M: Marker>(alloc: Global, doc: &LockedDoc<M>, seat: &mut Seat<M>, due: &str) -> bool {
@@ -235,28 +272,10 @@ fn shows<M: Marker>(alloc: Global, doc: &LockedDoc<M>, seat: &mut Seat<M>, due: 
     }
 }
 
-fn operations(alloc: Global, texts: &[&str]) -> Result<Vec<Operation>, Refusal> {
-    let mut ops = Vec::new(alloc);
-    for text in texts {
-        ops.push(operation(alloc, text)?)?;
-    }
-    Ok(ops)
-}
-
 // The replica `srv-1` with these in its log.
-fn restored(alloc: Global, texts: &[&str]) -> Result<Replica, Misfit> {
-    let Some(name) = ReplicaName::read(b"srv-1") else {
-        return Err(Misfit::NoMemory);
-    };
-    match operations(alloc, texts) {
-        Ok(ops) => Replica::restore(alloc, name, ops.as_slice()),
-        Err(_) => Err(Misfit::NoMemory),
-    }
-}
-
 fn restored_again(alloc: Global, texts: &[&str]) -> Result<Replica, Misfit> {
-    match restored(alloc, texts) {
-        Err(Misfit::NoMemory) => restored(alloc, texts),
+    match restored(alloc, b"srv-1", texts) {
+        Err(Misfit::NoMemory) => restored(alloc, b"srv-1", texts),
         other => other,
     }
 }
@@ -290,10 +309,8 @@ fn document_again<M: Marker, R: Abort>(
     match LockedDoc::new(alloc, replica, ledgers) {
         Ok(doc) => Ok(doc),
         Err((replica, ledgers)) => {
-            assert_eq!(rt; replica.log().len(), 2);
-            LockedDoc::new(alloc, replica, ledgers)
-                .ok()
-                .ok_or(Refusal::NoMemory)
+            is_count(rt, replica.log().len(), 2, "logged operations handed back");
+            holding(alloc, replica, ledgers)
         }
     }
 }
@@ -301,26 +318,32 @@ fn document_again<M: Marker, R: Abort>(
 // A replica with an empty log is made at the second try.
 #[test]
 fn new_with_memory_wanting(rt: HostRuntime) -> Result<(), Fail> {
-    let made = match server(rt.alloc()) {
-        Ok(replica) => Ok(replica),
-        Err(_) => server(rt.alloc()),
-    };
-    assert_eq!(rt; made?.log().len(), 0);
+    is_count(&rt, server_again(rt.alloc())?, 0, "logged operations");
     Ok(())
+}
+
+// How many operations a new replica has logged.
+fn server_again(alloc: Global) -> Result<usize, Refusal> {
+    match server(alloc) {
+        Ok(replica) => Ok(replica.log().len()),
+        Err(_) => Ok(server(alloc)?.log().len()),
+    }
 }
 
 // A list whose last operation has the id of one before it is told so, whatever allocation is refused.
 #[test]
 fn misfit_with_memory_wanting(rt: HostRuntime) -> Result<(), Fail> {
     let twice = [RESTORED[0], RESTORED[1], RESTORED[1]];
-    assert!(rt; is_conflict_at(restored_again(rt.alloc(), &twice), 2));
+    let is = is_conflict_at(restored_again(rt.alloc(), &twice), 2);
+    holds(&rt, is, "an operation twice");
     Ok(())
 }
 
 #[test]
 fn memory_wanting(rt: HostRuntime) -> Result<(), Fail> {
     let replica = replica_again(rt.alloc())?;
-    wants::<Brand, _>(&rt, rt.alloc(), Blank::new(), replica)
+    wants::<Brand, _>(&rt, rt.alloc(), Blank::new(), replica)?;
+    Ok(())
 }
 
 fn wants<M: Marker, R: Abort>(
@@ -328,40 +351,52 @@ fn wants<M: Marker, R: Abort>(
     alloc: Global,
     blank: Blank,
     replica: Replica,
-) -> Result<(), Fail>
+) -> Result<(), Refusal>
     requires blank { blank ≡ M.name }
     requires begun { (number : ℕ) → M.begun number ≡ replica.log }
 {
     let mut table = blank.named::<M>();
     let ledgers = ledgers_again(alloc, &mut table)?;
     let mut doc = document_again(rt, alloc, replica, ledgers)?;
+    let end = works(rt, alloc, &mut doc)?;
+    gathers(rt, alloc, doc, end)
+}
+
+// The end of a seat that did all steps, and read all in the end.
+fn works<M: Marker, R: Abort>(
+    rt: &R,
+    alloc: Global,
+    doc: &mut LockedDoc<M>,
+) -> Result<SeatEnd<M>, Refusal> {
     let mut seat = doc.open_seat()?;
     for step in &STEPS {
-        obeys(rt, alloc, &mut doc, &mut seat, step)?;
+        obeys(rt, alloc, doc, &mut seat, step)?;
     }
-    ends_well(rt, alloc, doc, seat)
+    ends_well(rt, alloc, doc, &mut seat)?;
+    Ok(seat.end())
 }
 
 fn ends_well<M: Marker, R: Abort>(
     rt: &R,
     alloc: Global,
-    doc: LockedDoc<M>,
-    seat: Seat<M>,
-) -> Result<(), Fail> {
-    let mut doc = doc;
-    let mut seat = seat;
-    makes_up(rt, alloc, &mut doc, &mut seat)?;
-    reads_alike(rt, alloc, &doc, &mut seat)?;
-    assert!(rt; shows(alloc, &doc, &mut seat, SHOWN) || shows(alloc, &doc, &mut seat, SHOWN));
-    assert_eq!(rt; tail_again(&doc)?, 8);
-    assert_eq!(rt; seat.account(), 6);
-    gathers(rt, alloc, doc, seat.end())
+    doc: &mut LockedDoc<M>,
+    seat: &mut Seat<M>,
+) -> Result<(), Refusal> {
+    holds(rt, makes_up(alloc, doc, seat, SECOND)?, SECOND);
+    holds(rt, makes_up(alloc, doc, seat, THIRD)?, THIRD);
+    let alike = readings_alike(alloc, doc, seat)?;
+    is_count(rt, alike, READINGS, "readings that tell the same again");
+    let is = shows(alloc, doc, seat, SHOWN) || shows(alloc, doc, seat, SHOWN);
+    holds(rt, is, "what is shown");
+    is_count(rt, tail_again(doc)?, 8, "logged operations");
+    holds(rt, seat.account() == 6, "account");
+    Ok(())
 }
 
 fn tail_again<M: Marker>(doc: &LockedDoc<M>) -> Result<usize, Refusal> {
-    match doc.tail(0, 100) {
-        Ok(operations) => Ok(operations.as_slice().len()),
-        Err(_) => Ok(doc.tail(0, 100)?.as_slice().len()),
+    match tail_count(doc, 0, 100) {
+        Ok(count) => Ok(count),
+        Err(_) => tail_count(doc, 0, 100),
     }
 }
 
@@ -371,40 +406,28 @@ fn gathers<M: Marker, R: Abort>(
     alloc: Global,
     doc: LockedDoc<M>,
     end: SeatEnd<M>,
-) -> Result<(), Fail> {
-    let mut ends = Vec::new(alloc);
-    if ends.reserve(1).is_err() {
-        ends.reserve(1)?;
-    }
-    ends.push_reserved(end);
-    match doc.gather(alloc, ends) {
-        Ok(totals) => adds_up(rt, &totals),
-        Err(back) => gathers_again(rt, alloc, back),
-    }
-}
-
-fn gathers_again<M: Marker, R: Abort>(
-    rt: &R,
-    alloc: Global,
-    back: Gathering<M>,
-) -> Result<(), Fail> {
-    assert_eq!(rt; back.refusal, Refusal::NoMemory);
-    assert_eq!(rt; back.ends.len(), 1);
-    let totals = back.doc.gather(alloc, back.ends).ok().ok_or("gathered")?;
-    adds_up(rt, &totals)
-}
-
-fn adds_up<R: Abort>(rt: &R, totals: &Totals) -> Result<(), Fail> {
-    assert_eq!(rt; (totals.accepted, totals.logged, totals.copied), (6, 8, 2));
-    assert_eq!(rt; totals.by_seat.as_slice(), [6].as_slice());
+) -> Result<(), Refusal> {
+    let ends = alone(alloc, end)?;
+    let is = match doc.gather(alloc, ends) {
+        Ok(totals) => are_totals(&totals, &[6], (6, 8, 2)),
+        Err(back) => gathers_again(alloc, back),
+    };
+    holds(rt, is, "what the seat did");
     Ok(())
+}
+
+fn gathers_again<M: Marker>(alloc: Global, back: Gathering<M>) -> bool {
+    let Gathering { refusal, doc, ends } = back;
+    let is_all = refusal == Refusal::NoMemory && ends.len() == 1;
+    adds_up(alloc, doc, ends, &[6], (6, 8, 2)) && is_all
 }
 
 // A document that finds no room on a shelf is handed back.
 #[test]
 fn shelf_wanting(rt: HostRuntime) -> Result<(), Fail> {
     let replica = replica_again(rt.alloc())?;
-    puts::<Brand, _>(&rt, rt.alloc(), Blank::new(), replica)
+    puts::<Brand, _>(&rt, rt.alloc(), Blank::new(), replica)?;
+    Ok(())
 }
 
 fn puts<M: Marker, R: Abort>(
@@ -412,7 +435,7 @@ fn puts<M: Marker, R: Abort>(
     alloc: Global,
     blank: Blank,
     replica: Replica,
-) -> Result<(), Fail>
+) -> Result<(), Refusal>
     requires blank { blank ≡ M.name }
     requires begun { (number : ℕ) → M.begun number ≡ replica.log }
 {
@@ -420,11 +443,17 @@ fn puts<M: Marker, R: Abort>(
     let ledgers = ledgers_again(alloc, &mut table)?;
     let doc = document_again(rt, alloc, replica, ledgers)?;
     let mut shelf = Shelf::new(alloc);
-    if let Err(doc) = shelf.put(doc) {
-        assert_eq!(rt; shelf.len(), 0);
-        assert_eq!(rt; tail_again(&doc)?, 2);
-        assert!(rt; shelf.put(doc).is_ok());
-    }
-    assert_eq!(rt; shelf.len(), 1);
+    holds(rt, finds_room(&mut shelf, doc), "room at the second try");
+    is_count(rt, shelf.len(), 1, "documents on the shelf");
     Ok(())
+}
+
+fn finds_room<M: Marker>(shelf: &mut Shelf<M>, doc: LockedDoc<M>) -> bool {
+    match shelf.put(doc) {
+        Ok(()) => true,
+        Err(doc) => {
+            let is_all = shelf.len() == 0 && matches!(tail_again(&doc), Ok(2));
+            shelf.put(doc).is_ok() && is_all
+        }
+    }
 }

@@ -3,9 +3,11 @@ ghost use Rattle.std.specs.Prelude.{◌≡◌, ◌<◌, ◌≤◌, IfOk};
 ghost use Rattle.share_ledger.specs.Counters.{ledger_place};
 ghost use Rattle.share_ledger.specs.Begun.{BeginEmpty};
 
-use super::samples::{Deed, Digest, are_numbers, command, document, told_by, values_at};
+use super::samples::{
+    Deed, Digest, adds_up, alone, command, document, holds, is_number, is_told, told_by, values_at,
+};
 use json_scalar::Refusal;
-use locked_doc::{LockedDoc, Seat, SeatEnd, Shelf, Totals};
+use locked_doc::{LockedDoc, Seat, SeatEnd, Shelf};
 use share_ledger::{Blank, Marker, Table};
 use std::alloc::Global;
 use std::marker::Brand;
@@ -17,11 +19,12 @@ const ASSIGNMENT: &str = r#"["op",[1,"srv-1"],[],[[["m",0]],"k"],["assign",7]]"#
 
 #[test]
 fn asks_through_the_lock(rt: HostRuntime) -> Result<(), Fail> {
-    asks::<Brand, _>(&rt, rt.alloc(), Blank::new())
+    asks::<Brand, _>(&rt, rt.alloc(), Blank::new())?;
+    Ok(())
 }
 
 // A document with one seat, and one with two, of which one stays free.
-fn asks<M: Marker, R: Abort + Wait>(rt: &R, alloc: Global, blank: Blank) -> Result<(), Fail>
+fn asks<M: Marker, R: Abort + Wait>(rt: &R, alloc: Global, blank: Blank) -> Result<(), Refusal>
     requires blank { blank ≡ M.name }
     requires begun { BeginEmpty M.begun }
 {
@@ -29,7 +32,11 @@ fn asks<M: Marker, R: Abort + Wait>(rt: &R, alloc: Global, blank: Blank) -> Resu
     let shelf = shelf_of_two(alloc, &mut table)?;
     let first = seated(rt, &shelf)?;
     let second = seated_and_asking(rt, alloc, &shelf)?;
-    assert!(rt; add_up(alloc, shelf, first, second));
+    holds(
+        rt,
+        add_up(alloc, shelf, first, second),
+        "what the seats did",
+    );
     Ok(())
 }
 
@@ -49,8 +56,8 @@ fn seated<M: Marker, R: Abort + Wait>(rt: &R, shelf: &Shelf<M>) -> Result<SeatEn
     requires { shelf.now ≡ 2 }
 {
     let seat = shelf.open_seat(rt, 0)?;
-    assert_eq!(rt; seat.number(), 0);
-    assert!(rt; is_full(rt, shelf, 0));
+    let is = seat.number() == 0 && is_full(rt, shelf, 0);
+    holds(rt, is, "the first document's only seat");
     Ok(seat.end())
 }
 
@@ -59,11 +66,10 @@ fn seated_and_asking<M: Marker, R: Abort + Wait>(
     rt: &R,
     alloc: Global,
     shelf: &Shelf<M>,
-) -> Result<SeatEnd<M>, Fail>
+) -> Result<SeatEnd<M>, Refusal>
     requires { shelf.now ≡ 2 }
 {
     let mut seat = shelf.open_seat(rt, 1)?;
-    assert_eq!(rt; seat.number(), 1);
     assigns_and_reads(rt, alloc, shelf, &mut seat)?;
     Ok(seat.end())
 }
@@ -99,20 +105,41 @@ fn assigns_and_reads<M: Marker, R: Abort + Wait>(
     alloc: Global,
     shelf: &Shelf<M>,
     seat: &mut Seat<M>,
-) -> Result<(), Fail>
+) -> Result<(), Refusal>
     requires { 1 < shelf.now }
 {
-    let elsewhere = command(alloc, Deed::Make, ASSIGNMENT)?;
-    let reply = shelf.act(rt, 0, seat, elsewhere).into_reply();
-    assert_eq!(rt; told_by(reply), Digest::Refused(Refusal::NotOpen));
-    let assignment = command(alloc, Deed::Make, ASSIGNMENT)?;
-    let reply = shelf.act(rt, 1, seat, assignment).into_reply();
-    assert_eq!(rt; told_by(reply), Digest::Applied(1, 0, 1));
+    let elsewhere = assigns(rt, alloc, shelf, 0, seat)?;
+    is_told(
+        rt,
+        elsewhere,
+        Digest::Refused(Refusal::NotOpen),
+        "elsewhere",
+    );
+    let here = assigns(rt, alloc, shelf, 1, seat)?;
+    is_told(rt, here, Digest::Applied(1, 0, 1), "here");
     let asked = values_at(alloc, "k")?;
     let values = shelf.read(rt, 1, seat, asked).into_reply();
-    assert!(rt; are_numbers(values, &[7]));
-    assert_eq!(rt; seat.account(), 1);
+    holds(rt, is_number(values, 7), "values at k");
+    holds(
+        rt,
+        (seat.number(), seat.account()) == (1, 1),
+        "number and account",
+    );
     Ok(())
+}
+
+// What a seat is told of an assignment to the document in this place.
+fn assigns<M: Marker, R: Wait>(
+    rt: &R,
+    alloc: Global,
+    shelf: &Shelf<M>,
+    place: usize,
+    seat: &mut Seat<M>,
+) -> Result<Digest, Refusal>
+    requires { place < shelf.now }
+{
+    let assignment = command(alloc, Deed::Make, ASSIGNMENT)?;
+    Ok(told_by(shelf.act(rt, place, seat, assignment).into_reply()))
 }
 
 // Whether the first document's seat logged nothing, and the second's one operation.
@@ -123,42 +150,31 @@ fn add_up<M: Marker>(
     second: SeatEnd<M>,
 ) -> bool {
     let mut docs = shelf.into_docs();
-    let of_second = added_up(alloc, docs.pop(), second);
-    let of_first = added_up(alloc, docs.pop(), first);
-    are_totals(&of_first, 0) && are_totals(&of_second, 1)
+    let is_second = is_added_up(alloc, docs.pop(), second, 1);
+    let is_first = is_added_up(alloc, docs.pop(), first, 0);
+    is_first && is_second
 }
 
-// What the end of a document's one opened seat adds up to.
-fn added_up<M: Marker>(
+// Whether the end of a document's one opened seat adds up to so many operations logged, none of them copied.
+fn is_added_up<M: Marker>(
     alloc: Global,
     lock: Option<Mutex<LockedDoc<M>>>,
     end: SeatEnd<M>,
-) -> Option<Totals> {
+    logged: u64,
+) -> bool {
     match lock {
-        Some(lock) => gathered(alloc, lock.into_inner(), end),
+        Some(lock) => gathers(alloc, lock.into_inner(), end, logged),
         None => {
             drop(end);
-            None
+            false
         }
     }
 }
 
-fn gathered<M: Marker>(alloc: Global, doc: LockedDoc<M>, end: SeatEnd<M>) -> Option<Totals> {
-    if doc.opened() != 1 {
-        return None;
-    }
-    let mut ends = Vec::new(alloc);
-    ends.push(end).ok()?;
-    doc.gather(alloc, ends).ok()
-}
-
-// Whether one seat did all that is logged, so many operations, none of them copied.
-fn are_totals(totals: &Option<Totals>, logged: u64) -> bool {
-    match totals {
-        Some(totals) => {
-            *totals.by_seat.as_slice() == *[logged].as_slice()
-                && (totals.accepted, totals.logged, totals.copied) == (logged, logged, 0)
-        }
-        None => false,
+fn gathers<M: Marker>(alloc: Global, doc: LockedDoc<M>, end: SeatEnd<M>, logged: u64) -> bool {
+    let is_one = doc.opened() == 1;
+    match alone(alloc, end) {
+        Ok(ends) => adds_up(alloc, doc, ends, &[logged], (logged, logged, 0)) && is_one,
+        Err(_) => false,
     }
 }
