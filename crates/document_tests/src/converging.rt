@@ -1,7 +1,9 @@
 //! The laws of convergence.
+use crate::holds::{holds, no_fault};
 use crate::written::{operation, operations};
 use converge_laws::{free_present, orders_agree, replay_all};
 use json_scalar::Refusal;
+use op_core::Operation;
 use std::alloc::Global;
 use std::test::Fail;
 
@@ -27,16 +29,61 @@ const B: &str = r#"["op",[2,"p"],[["p",1]],[[["m",0]],"k"],["assign","B"]]"#;
 
 const C: &str = r#"["op",[2,"q"],[["p",1]],[[["m",0]],"k"],["assign","C"]]"#;
 
+// Two lists of operations, and whether they agree.
+const PAIRS: [(&[&str], &[&str], bool, &str); 4] = [
+    (&[ONE, B, C], &[ONE, C, B], true, "two orders don't agree"),
+    (&[ONE, B, C], &[ONE, B], false, "a part agrees"),
+    (
+        &[ONE, B, C],
+        &[B, ONE, C],
+        false,
+        "an order that isn't causal agrees",
+    ),
+    (
+        &[ONE, B, C],
+        &[ONE, B, C, C],
+        false,
+        "an operation that stands twice agrees",
+    ),
+];
+
+// A list of operations, and the number of the refusal of its replay, or 0.
+const REPLAYS: [(&[&str], u64, &str); 3] = [
+    (&[ONE, C, B], 0, "a causal order is refused"),
+    (
+        &[B, ONE],
+        13,
+        "an order that isn't causal is refused otherwise",
+    ),
+    (
+        &[ONE, ONE],
+        15,
+        "an operation that stands twice is refused otherwise",
+    ),
+];
+
+fn fault_of_pairs(alloc: Global) -> Result<&'static str, Refusal> {
+    for (texts, others, due, what) in &PAIRS {
+        if agree(alloc, texts, others)? != *due {
+            return Ok(what);
+        }
+    }
+    Ok("")
+}
+
+fn fault_of_replays(alloc: Global) -> Result<&'static str, Refusal> {
+    for (texts, due, what) in &REPLAYS {
+        if replayed(alloc, texts)? != *due {
+            return Ok(what);
+        }
+    }
+    Ok("")
+}
+
 #[test]
 fn orders_agree_on_one_set(rt: HostRuntime) -> Result<(), Fail> {
-    let alloc = rt.alloc();
-    assert!(rt; agree(alloc, &[ONE, B, C], &[ONE, C, B])?);
-    assert!(rt; !agree(alloc, &[ONE, B, C], &[ONE, B])?);
-    assert!(rt; !agree(alloc, &[ONE, B, C], &[B, ONE, C])?);
-    assert!(rt; !agree(alloc, &[ONE, B, C], &[ONE, B, C, C])?);
-    assert_eq!(rt; replayed(alloc, &[ONE, C, B])?, 0);
-    assert_eq!(rt; replayed(alloc, &[B, ONE])?, 13);
-    assert_eq!(rt; replayed(alloc, &[ONE, ONE])?, 15);
+    no_fault(&rt, fault_of_pairs(rt.alloc())?);
+    no_fault(&rt, fault_of_replays(rt.alloc())?);
     Ok(())
 }
 
@@ -55,15 +102,27 @@ const CONCURRENT_DELETES: [&str; 3] = [
     r#"["op",[2,"p"],[["p",1]],[[["m",0],["m","a"]],"b"],["delete"]]"#,
 ];
 
+// Whether of these operations that one alone makes the place of another present.
+fn is_only_present(ops: &[Operation], only: &Operation, at: &Operation) -> bool {
+    for op in ops {
+        if free_present(ops, at.cursor(), op.id()) != (op.id() == only.id()) {
+            return false;
+        }
+    }
+    true
+}
+
+fn has_edit_alone(alloc: Global) -> Result<bool, Refusal> {
+    let ops = operations(alloc, &DELETED_WHILE_EDITED)?;
+    let delete = operation(alloc, DELETED_WHILE_EDITED[5])?;
+    let done = operation(alloc, DELETED_WHILE_EDITED[4])?;
+    Ok(is_only_present(ops.as_slice(), &done, &delete))
+}
+
 #[test]
 fn free_present_rows(rt: HostRuntime) -> Result<(), Fail> {
-    let ops = operations(rt.alloc(), &DELETED_WHILE_EDITED)?;
-    let delete = operation(rt.alloc(), DELETED_WHILE_EDITED[5])?;
-    let done = operation(rt.alloc(), DELETED_WHILE_EDITED[4])?;
-    for op in ops.as_slice() {
-        let here = free_present(ops.as_slice(), delete.cursor(), op.id());
-        assert_eq!(rt; here, op.id() == done.id());
-    }
+    let is_due = has_edit_alone(rt.alloc())?;
+    holds(&rt, is_due, "not the edit alone makes the element present");
     Ok(())
 }
 
@@ -81,16 +140,17 @@ fn first_present(alloc: Global, texts: &[&str]) -> Result<(bool, bool), Refusal>
 
 #[test]
 fn free_present_under_deletes(rt: HostRuntime) -> Result<(), Fail> {
-    let alloc = rt.alloc();
-    assert_eq!(rt;
-        first_present(alloc, &CONCURRENT_DELETES[..1])?,
-        (true, true)
-    );
-    assert_eq!(rt; first_present(alloc, &CONCURRENT_DELETES)?, (false, false));
-    // The delete above alone clears what stands below it.
-    assert_eq!(rt;
-        first_present(alloc, &CONCURRENT_DELETES[..2])?,
-        (false, false)
-    );
+    for (texts, due, what) in [
+        (
+            &CONCURRENT_DELETES[..1],
+            (true, true),
+            "the assignment alone",
+        ),
+        (&CONCURRENT_DELETES[..], (false, false), "both deletes"),
+        // The delete above alone clears what stands below it.
+        (&CONCURRENT_DELETES[..2], (false, false), "the delete above"),
+    ] {
+        holds(&rt, first_present(rt.alloc(), texts)? == due, what);
+    }
     Ok(())
 }

@@ -5,6 +5,8 @@
 #[cfg(test)]
 mod converging;
 #[cfg(test)]
+mod holds;
+#[cfg(test)]
 mod many_keys;
 #[cfg(test)]
 mod plain;

@@ -1,6 +1,7 @@
 //! A map of so many keys that its node's children stand in several blocks, made from the last key to the first.
+use crate::holds::holds;
 use crate::views::at;
-use crate::written::operation;
+use crate::written::{Part, operation_of, text_of};
 use converge_laws::replay_all;
 use doc_view::keys;
 use doc_words::Texts;
@@ -9,67 +10,79 @@ use op_core::{KeyText, Operation};
 use std::alloc::Global;
 use std::test::Fail;
 
-/// The front of p's operation of a counter: its operation before.
-fn front_before(alloc: Global, counter: u64) -> Result<String, Refusal> {
-    if counter <= 1 {
-        return Ok(String::new(alloc));
-    }
-    let before = counter.saturating_sub(1);
-    Ok(format!(in alloc; r#"["p",{before}]"#)?)
+/// Pushes p's next operation, an assignment at a key of the map `big`.
+fn push_assignment(
+    alloc: Global,
+    ops: &mut Vec<Operation>,
+    counter: u64,
+    key: u64,
+) -> Result<(), Refusal> {
+    let op = operation_of(
+        alloc,
+        &[
+            Part::Text(r#"["op",["#),
+            Part::Number(counter),
+            Part::Text(r#","p"],["#),
+            Part::Before(counter),
+            Part::Text(r#"],[[["m",0],["m","big"]],"k"#),
+            Part::Number(key),
+            Part::Text(r#""],["assign",7]]"#),
+        ],
+    )?;
+    ops.push(op)?;
+    Ok(())
 }
 
-/// An assignment at a key of the map `big`.
-fn assignment(alloc: Global, counter: u64, key: u64) -> Result<Operation, Refusal> {
-    let front = front_before(alloc, counter)?;
-    let text = format!(in alloc;
-        r#"["op",[{counter},"p"],[{front}],[[["m",0],["m","big"]],"k{key}"],["assign",7]]"#
+/// Pushes p's next operation, the deletion of the map `big`.
+fn push_deletion(alloc: Global, ops: &mut Vec<Operation>, counter: u64) -> Result<(), Refusal> {
+    let op = operation_of(
+        alloc,
+        &[
+            Part::Text(r#"["op",["#),
+            Part::Number(counter),
+            Part::Text(r#","p"],["#),
+            Part::Before(counter),
+            Part::Text(r#"],[[["m",0]],"big"],["delete"]]"#),
+        ],
     )?;
-    operation(alloc, text.as_str())
-}
-
-/// The deletion of the map `big`.
-fn deletion(alloc: Global, counter: u64) -> Result<Operation, Refusal> {
-    let front = front_before(alloc, counter)?;
-    let text = format!(in alloc;
-        r#"["op",[{counter},"p"],[{front}],[[["m",0]],"big"],["delete"]]"#
-    )?;
-    operation(alloc, text.as_str())
+    ops.push(op)?;
+    Ok(())
 }
 
 /// Assignments at 300 keys, from k399 down to k100.
 fn falling(alloc: Global) -> Result<Vec<Operation>, Refusal> {
     let mut ops = Vec::new(alloc);
     for counter in 1..301 {
-        let key = 400_u64.saturating_sub(counter);
-        ops.push(assignment(alloc, counter, key)?)?;
+        push_assignment(alloc, &mut ops, counter, 400_u64.saturating_sub(counter))?;
     }
     Ok(ops)
 }
 
-/// These assignments, then the map deleted, and then its last and its first key made again.
-fn ends_made_again(alloc: Global) -> Result<Vec<Operation>, Refusal> {
-    let mut ops = falling(alloc)?;
-    ops.push(deletion(alloc, 301)?)?;
-    ops.push(assignment(alloc, 302, 399)?)?;
-    ops.push(assignment(alloc, 303, 100)?)?;
-    Ok(ops)
+/// The map deleted, and then its last and its first key made again.
+fn push_ends_again(alloc: Global, ops: &mut Vec<Operation>) -> Result<(), Refusal> {
+    push_deletion(alloc, ops, 301)?;
+    push_assignment(alloc, ops, 302, 399)?;
+    push_assignment(alloc, ops, 303, 100)
 }
 
 /// The keys of the map after operations.
-fn keys_after(alloc: Global, ops: &[Operation]) -> Result<Texts, Fail> {
+fn keys_after(alloc: Global, ops: &[Operation]) -> Result<Texts, Refusal> {
     let tree = replay_all(alloc, ops)?;
     let cursor = at(alloc, &tree, &["big"])?;
-    let texts = keys(alloc, &tree, &cursor)?;
-    Ok(texts)
+    keys(alloc, &tree, &cursor)
+}
+
+/// Whether a key is that of a number.
+fn is_of(alloc: Global, text: &KeyText, number: u64) -> Result<bool, Refusal> {
+    let due = text_of(alloc, &[Part::Text("k"), Part::Number(number)])?;
+    Ok(text.as_str() == due.as_str())
 }
 
 /// How many keys there are, if they are k100, k101 and so on.
 fn rising_from_100(alloc: Global, texts: &[KeyText]) -> Result<Option<u64>, Refusal> {
     let mut count: u64 = 0;
     for text in texts {
-        let number = count.saturating_add(100);
-        let due = format!(in alloc; "k{number}")?;
-        if text.as_str() != due.as_str() {
+        if !is_of(alloc, text, count.saturating_add(100))? {
             return Ok(None);
         }
         count = count.saturating_add(1);
@@ -77,23 +90,42 @@ fn rising_from_100(alloc: Global, texts: &[KeyText]) -> Result<Option<u64>, Refu
     Ok(Some(count))
 }
 
+/// How many keys the assignments make, if they are k100, k101 and so on.
+fn rising_after_falling(alloc: Global) -> Result<Option<u64>, Refusal> {
+    let ops = falling(alloc)?;
+    let texts = keys_after(alloc, ops.as_slice())?;
+    rising_from_100(alloc, texts.as_slice())
+}
+
 #[test]
 fn keys_made_from_the_last_to_the_first(rt: HostRuntime) -> Result<(), Fail> {
-    let ops = falling(rt.alloc())?;
-    let texts = keys_after(rt.alloc(), ops.as_slice())?;
-    assert_eq!(rt; rising_from_100(rt.alloc(), texts.as_slice())?, Some(300));
+    let is_due = rising_after_falling(rt.alloc())? == Some(300);
+    holds(&rt, is_due, "the keys aren't k100 to k399");
     Ok(())
+}
+
+/// How many keys there are once the map is deleted next.
+fn left_after_deletion(
+    alloc: Global,
+    ops: &mut Vec<Operation>,
+    counter: u64,
+) -> Result<usize, Refusal> {
+    push_deletion(alloc, ops, counter)?;
+    Ok(keys_after(alloc, ops.as_slice())?.as_slice().len())
+}
+
+/// How many keys there are once the map is deleted, and once it is deleted again.
+fn left_after_both(alloc: Global) -> Result<(usize, usize), Refusal> {
+    let mut ops = falling(alloc)?;
+    let once = left_after_deletion(alloc, &mut ops, 301)?;
+    Ok((once, left_after_deletion(alloc, &mut ops, 302)?))
 }
 
 #[test]
 fn all_keys_deleted_twice(rt: HostRuntime) -> Result<(), Fail> {
-    let mut ops = falling(rt.alloc())?;
-    ops.push(deletion(rt.alloc(), 301)?)?;
-    let once = keys_after(rt.alloc(), ops.as_slice())?;
-    assert_eq!(rt; once.as_slice().len(), 0);
-    ops.push(deletion(rt.alloc(), 302)?)?;
-    let twice = keys_after(rt.alloc(), ops.as_slice())?;
-    assert_eq!(rt; twice.as_slice().len(), 0);
+    let (once, twice) = left_after_both(rt.alloc())?;
+    holds(&rt, once == 0, "keys are left after a deletion");
+    holds(&rt, twice == 0, "keys are left after a second deletion");
     Ok(())
 }
 
@@ -105,13 +137,23 @@ fn are_both_ends(texts: &[KeyText]) -> bool {
     }
 }
 
+/// Whether both ends are there, and nothing else.
+fn has_both_ends(alloc: Global, ops: &[Operation]) -> Result<bool, Refusal> {
+    Ok(are_both_ends(keys_after(alloc, ops)?.as_slice()))
+}
+
+/// Whether both ends are there once they are made again, and how many keys once the map is deleted then.
+fn ends_and_left(alloc: Global) -> Result<(bool, usize), Refusal> {
+    let mut ops = falling(alloc)?;
+    push_ends_again(alloc, &mut ops)?;
+    let made = has_both_ends(alloc, ops.as_slice())?;
+    Ok((made, left_after_deletion(alloc, &mut ops, 304)?))
+}
+
 #[test]
 fn both_ends_made_again_and_deleted(rt: HostRuntime) -> Result<(), Fail> {
-    let mut ops = ends_made_again(rt.alloc())?;
-    let made = keys_after(rt.alloc(), ops.as_slice())?;
-    assert!(rt; are_both_ends(made.as_slice()));
-    ops.push(deletion(rt.alloc(), 304)?)?;
-    let deleted = keys_after(rt.alloc(), ops.as_slice())?;
-    assert_eq!(rt; deleted.as_slice().len(), 0);
+    let (made, left) = ends_and_left(rt.alloc())?;
+    holds(&rt, made, "the keys made again aren't both ends");
+    holds(&rt, left == 0, "keys are left after the last deletion");
     Ok(())
 }

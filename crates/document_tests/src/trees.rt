@@ -2,6 +2,7 @@
 ghost use Rattle.std.specs.Prelude.{◌≡◌};
 ghost use Rattle.crdt_rules.specs.Effect as Effect;
 
+use crate::holds::{holds, no_fault};
 use crate::written::operation;
 use doc_tree::{Entries, Tree};
 use doc_words::Role;
@@ -69,19 +70,39 @@ const ADDED: &str = r#"["op",[3,"q"],[["p",1],["q",2]],[[["m",0]],"k"],["add",5]
 
 const DELETED: &str = r#"["op",[4,"q"],[["p",1],["q",3]],[[["m",0]],"k"],["delete"]]"#;
 
+// What is counted at the place of the first operation after so many of these.
+const COUNTED: [(&[&str], (usize, usize, usize), &str); 4] = [
+    (&[FIRST], (1, 1, 0), "other counts after the first"),
+    (
+        &[FIRST, SECOND, OTHER],
+        (2, 2, 0),
+        "other counts after both assignments",
+    ),
+    (
+        &[FIRST, SECOND, OTHER, ADDED],
+        (3, 2, 1),
+        "other counts after the addition",
+    ),
+    (
+        &[FIRST, SECOND, OTHER, ADDED, DELETED],
+        (1, 1, 0),
+        "other counts after the deletion",
+    ),
+];
+
+// What is wrong with the counts, or nothing.
+fn fault_of_counts(alloc: Global) -> Result<&'static str, Refusal> {
+    for (texts, due, what) in &COUNTED {
+        if counts(alloc, texts, FIRST)? != *due {
+            return Ok(what);
+        }
+    }
+    Ok("")
+}
+
 #[test]
 fn concurrent_register(rt: HostRuntime) -> Result<(), Fail> {
-    let alloc = rt.alloc();
-    assert_eq!(rt; counts(alloc, &[FIRST], FIRST)?, (1, 1, 0));
-    assert_eq!(rt; counts(alloc, &[FIRST, SECOND, OTHER], FIRST)?, (2, 2, 0));
-    assert_eq!(rt;
-        counts(alloc, &[FIRST, SECOND, OTHER, ADDED], FIRST)?,
-        (3, 2, 1)
-    );
-    assert_eq!(rt;
-        counts(alloc, &[FIRST, SECOND, OTHER, ADDED, DELETED], FIRST)?,
-        (1, 1, 0)
-    );
+    no_fault(&rt, fault_of_counts(rt.alloc())?);
     Ok(())
 }
 
@@ -95,11 +116,26 @@ fn deep(alloc: Global) -> Result<String, Refusal> {
     Ok(text)
 }
 
+// What is counted at the deepest place, and what at that of the first.
+fn counts_of_deep(
+    alloc: Global,
+) -> Result<((usize, usize, usize), (usize, usize, usize)), Refusal> {
+    let text = deep(alloc)?;
+    let texts = [text.as_str()];
+    Ok((
+        counts(alloc, &texts, text.as_str())?,
+        counts(alloc, &texts, FIRST)?,
+    ))
+}
+
 #[test]
 fn deepest_place(rt: HostRuntime) -> Result<(), Fail> {
-    let alloc = rt.alloc();
-    let text = deep(alloc)?;
-    assert_eq!(rt; counts(alloc, &[text.as_str()], text.as_str())?, (1, 1, 0));
-    assert_eq!(rt; counts(alloc, &[text.as_str()], FIRST)?, (1, 0, 0));
+    let (at, above) = counts_of_deep(rt.alloc())?;
+    holds(&rt, at == (1, 1, 0), "other counts at the deepest place");
+    holds(
+        &rt,
+        above == (1, 0, 0),
+        "other counts above the deepest place",
+    );
     Ok(())
 }

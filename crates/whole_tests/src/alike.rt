@@ -5,8 +5,8 @@ use crate::sites::Site;
 use converge_laws::free_present;
 use doc_tree::{Entries, Tree};
 use doc_view::{conflicts, items, keys, show, sum, values};
-use doc_words::{Role, Scalars};
-use json_scalar::Refusal;
+use doc_words::{CompactText, Role, Scalars};
+use json_scalar::{Refusal, Scalar, Val};
 use lamport_id::Id;
 use op_core::{Cursor, Key, KeyText, Operation, Path, Tagged};
 use plain_rules::PlainContext;
@@ -28,21 +28,28 @@ fn marks_agree(tree: &Tree, plain: &PlainContext, site: &Site) -> bool {
         })
 }
 
+/// Whether these are the scalars that the plain program has at a place, in id order.
+fn are_scalars(read: &[Scalar], plain: &PlainContext, site: &Site) -> bool {
+    let mut rest = read.iter();
+    for entry in site.touched.as_slice() {
+        let path = site.cursor.path.as_slice();
+        if let Some(scalar) = plain.scalar(path, &site.cursor.key, &entry.0) {
+            if rest.next() != Some(scalar) {
+                return false;
+            }
+        }
+    }
+    rest.next().is_none()
+}
+
 fn values_agree(
     alloc: Global,
     tree: &Tree,
     plain: &PlainContext,
     site: &Site,
 ) -> Result<bool, Refusal> {
-    let mut due = Vec::new(alloc);
-    for entry in site.touched.as_slice() {
-        let path = site.cursor.path.as_slice();
-        if let Some(scalar) = plain.scalar(path, &site.cursor.key, &entry.0) {
-            due.push(scalar.try_clone()?)?;
-        }
-    }
     let read = values(alloc, tree, &site.cursor)?;
-    Ok(read.as_slice() == due.as_slice())
+    Ok(are_scalars(read.as_slice(), plain, site))
 }
 
 fn sums_agree(tree: &Tree, plain: &PlainContext, site: &Site) -> Result<bool, Refusal> {
@@ -56,22 +63,38 @@ fn sums_agree(tree: &Tree, plain: &PlainContext, site: &Site) -> Result<bool, Re
     Ok(sum(tree, &site.cursor)? == due)
 }
 
+/// Whether there is an entry, with this id and value.
+fn is_entry(entry: Option<&(Id, Val)>, id: &Id, value: &Val) -> bool {
+    match entry {
+        Some(entry) => entry.0 == *id && entry.1 == *value,
+        None => false,
+    }
+}
+
+/// Whether these are the values that operations have put at a place which make it present in the plain program, by their ids
+/// and in id order.
+fn are_conflicts(read: &[(Id, Val)], plain: &PlainContext, site: &Site) -> bool {
+    let mut rest = read.iter();
+    for (id, value) in site.touched.as_slice() {
+        if let Some(value) = value {
+            if plain.has_mark(site.cursor.path.as_slice(), &site.cursor.key, id)
+                && !is_entry(rest.next(), id, value)
+            {
+                return false;
+            }
+        }
+    }
+    rest.next().is_none()
+}
+
 fn conflicts_agree(
     alloc: Global,
     tree: &Tree,
     plain: &PlainContext,
     site: &Site,
 ) -> Result<bool, Refusal> {
-    let mut due = Vec::new(alloc);
-    for (id, value) in site.touched.as_slice() {
-        if let Some(value) = value {
-            if plain.has_mark(site.cursor.path.as_slice(), &site.cursor.key, id) {
-                due.push((*id, value.try_clone()?))?;
-            }
-        }
-    }
     let read = conflicts(alloc, tree, &site.cursor)?;
-    Ok(read.as_slice() == due.as_slice())
+    Ok(are_conflicts(read.as_slice(), plain, site))
 }
 
 /// The texts of the present members of a map, in byte order.
@@ -91,14 +114,19 @@ pub fn present_texts(
     Ok(present)
 }
 
+/// The texts of the present members of the map at a place, in byte order.
+fn due_keys(alloc: Global, plain: &PlainContext, site: &Site) -> Result<Vec<KeyText>, Refusal> {
+    let map = below(&site.cursor.path, Tagged::Map(site.cursor.key.try_clone()?))?;
+    present_texts(alloc, plain, &map)
+}
+
 fn keys_agree(
     alloc: Global,
     tree: &Tree,
     plain: &PlainContext,
     site: &Site,
 ) -> Result<bool, Refusal> {
-    let map = below(&site.cursor.path, Tagged::Map(site.cursor.key.try_clone()?))?;
-    let due = present_texts(alloc, plain, &map)?;
+    let due = due_keys(alloc, plain, site)?;
     let read = keys(alloc, tree, &site.cursor)?;
     Ok(read.as_slice() == due.as_slice())
 }
@@ -133,6 +161,25 @@ fn item_agrees(
     Ok(read.as_slice() == item.1.as_slice())
 }
 
+/// Whether these are the items of these elements.
+fn are_items(
+    alloc: Global,
+    tree: &Tree,
+    list: &Path,
+    read: &[(Id, Scalars)],
+    due: &[Id],
+) -> Result<bool, Refusal> {
+    if read.len() != due.len() {
+        return Ok(false);
+    }
+    for i in 0..read.len() {
+        if read[i].0 != due[i] || !item_agrees(alloc, tree, list, &read[i])? {
+            return Ok(false);
+        }
+    }
+    Ok(true)
+}
+
 fn items_agree(
     alloc: Global,
     tree: &Tree,
@@ -142,15 +189,7 @@ fn items_agree(
 ) -> Result<bool, Refusal> {
     let due = present_elements(alloc, plain, list)?;
     let read = items(alloc, tree, &site.cursor)?;
-    if read.as_slice().len() != due.len() {
-        return Ok(false);
-    }
-    for (item, id) in read.as_slice().iter().zip(due.as_slice().iter()) {
-        if item.0 != *id || !item_agrees(alloc, tree, list, item)? {
-            return Ok(false);
-        }
-    }
-    Ok(true)
+    are_items(alloc, tree, list, read.as_slice(), due.as_slice())
 }
 
 /// The list at a place has one order in both, deleted elements included, and the same items.
@@ -171,6 +210,15 @@ fn lists_agree(
     )
 }
 
+/// What the tree shows of the whole document.
+fn show_document(alloc: Global, tree: &Tree) -> Result<CompactText, Refusal> {
+    let document = Cursor {
+        path: Path::new(alloc),
+        key: Key::Doc,
+    };
+    show(alloc, tree, &document)
+}
+
 /// Whether tree and plain program show the same of the whole document, whose places these are.
 pub fn show_alike(
     alloc: Global,
@@ -178,12 +226,8 @@ pub fn show_alike(
     plain: &PlainContext,
     sites: &[Site],
 ) -> Result<bool, Refusal> {
-    let document = Cursor {
-        path: Path::new(alloc),
-        key: Key::Doc,
-    };
+    let shown = show_document(alloc, tree)?;
     let due = plain_shown(alloc, plain, sites)?;
-    let shown = show(alloc, tree, &document)?;
     Ok(shown.as_str() == due.as_str())
 }
 

@@ -30,6 +30,17 @@ fn name_of(text: &str) -> Result<ReplicaName, Refusal> {
     }
 }
 
+fn push_entry(
+    entries: &mut Vec<(ReplicaName, u64)>,
+    text: &str,
+    counter: u64,
+) -> Result<(), Refusal> {
+    if counter > 0 {
+        entries.push((name_of(text)?, counter))?;
+    }
+    Ok(())
+}
+
 impl Seen {
     /// The front of all that a replica has.
     fn front(&self, alloc: Global, at: usize) -> Result<Front, Refusal>
@@ -37,9 +48,7 @@ impl Seen {
     {
         let mut entries = Vec::new(alloc);
         for (text, counter) in REPLICAS.iter().zip(self.counters[at].iter()) {
-            if *counter > 0 {
-                entries.push((name_of(text)?, *counter))?;
-            }
+            push_entry(&mut entries, text, *counter)?;
         }
         Front::from_pairs(alloc, &entries)
     }
@@ -180,6 +189,26 @@ fn place(
     }
 }
 
+/// The id of the next operation of a replica that has all of a front.
+fn next_id(name: &str, front: &Front) -> Result<Id, Refusal> {
+    match Id::successor(front.max_counter(), name_of(name)?) {
+        Some(id) => Ok(id),
+        None => Err(Refusal::LogFull),
+    }
+}
+
+/// A place that a replica knows, and what it does there.
+fn step(
+    alloc: Global,
+    rule: &mut Rule,
+    front: &Front,
+    ops: &[Operation],
+) -> Result<(Cursor, Mutation), Refusal> {
+    let cursor = place(alloc, rule, front, ops)?;
+    let mutation = mutation(alloc, rule, &cursor.key)?;
+    Ok((cursor, mutation))
+}
+
 /// The next operation of a replica that has all of a front.
 fn next_operation(
     alloc: Global,
@@ -188,11 +217,8 @@ fn next_operation(
     front: Front,
     ops: &[Operation],
 ) -> Result<Operation, Refusal> {
-    let Some(id) = Id::successor(front.max_counter(), name_of(name)?) else {
-        return Err(Refusal::LogFull);
-    };
-    let cursor = place(alloc, rule, &front, ops)?;
-    let mutation = mutation(alloc, rule, &cursor.key)?;
+    let id = next_id(name, &front)?;
+    let (cursor, mutation) = step(alloc, rule, &front, ops)?;
     Operation::shaped(id, front, cursor, mutation)
 }
 

@@ -7,6 +7,8 @@ mod alike;
 #[cfg(test)]
 mod history;
 #[cfg(test)]
+mod holds;
+#[cfg(test)]
 mod orders;
 #[cfg(test)]
 mod plain_shown;

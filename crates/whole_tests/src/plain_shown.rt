@@ -44,6 +44,23 @@ fn close(text: &mut String) -> Result<(), Refusal> {
     Ok(())
 }
 
+/// Opens an array, whose first item is a name.
+fn open_named(text: &mut String, name: &str) -> Result<(), Refusal> {
+    open(text)?;
+    quoted(text, name)
+}
+
+/// Begins the branch of this name, which has a list of parts.
+fn begin_branch(text: &mut String, name: &str) -> Result<(), Refusal> {
+    open_named(text, name)?;
+    open(text)
+}
+
+fn end_branch(text: &mut String) -> Result<(), Refusal> {
+    close(text)?;
+    close(text)
+}
+
 /// A text of the history, which has no character that JSON escapes.
 fn quoted(text: &mut String, part: &str) -> Result<(), Refusal> {
     item(text, "\"")?;
@@ -70,8 +87,7 @@ fn write_scalar(alloc: Global, text: &mut String, scalar: &Scalar) -> Result<(),
 }
 
 fn write_entry(alloc: Global, text: &mut String, id: &Id, scalar: &Scalar) -> Result<(), Refusal> {
-    open(text)?;
-    quoted(text, "val")?;
+    open_named(text, "val")?;
     write_id(alloc, text, id)?;
     write_scalar(alloc, text, scalar)?;
     close(text)
@@ -103,19 +119,34 @@ fn sum_of(history: History<'_>, path: &[Tagged], key: &Key) -> Option<i128> {
     sum
 }
 
+fn write_total(alloc: Global, text: &mut String, sum: i128) -> Result<(), Refusal> {
+    open_named(text, "cnt")?;
+    quoted(text, sum.to_string(alloc)?.as_str())?;
+    close(text)
+}
+
 fn write_sum(
     text: &mut String,
     history: History<'_>,
     path: &[Tagged],
     key: &Key,
 ) -> Result<(), Refusal> {
-    if let Some(sum) = sum_of(history, path, key) {
-        open(text)?;
-        quoted(text, "cnt")?;
-        quoted(text, sum.to_string(history.alloc)?.as_str())?;
-        close(text)?;
+    match sum_of(history, path, key) {
+        Some(sum) => write_total(history.alloc, text, sum),
+        None => Ok(()),
     }
-    Ok(())
+}
+
+/// What stands at a place itself, the last of its parts.
+fn end_element(
+    text: &mut String,
+    history: History<'_>,
+    path: &[Tagged],
+    key: &Key,
+) -> Result<(), Refusal> {
+    write_register(text, history, path, key)?;
+    write_sum(text, history, path, key)?;
+    close(text)
 }
 
 fn puts(entry: &(Id, Option<Val>), val: &Val) -> bool {
@@ -131,6 +162,7 @@ fn is_put(history: History<'_>, path: &[Tagged], key: &Key, val: &Val) -> bool {
         && history.plain.has_mark(path, key, &entry.0))
 }
 
+/// The members of a map, as its branch.
 #[cycle(shown)]
 fn write_members(
     text: &mut String,
@@ -139,13 +171,13 @@ fn write_members(
     members: &[KeyText],
     depth: usize,
 ) -> Result<(), Refusal> {
+    begin_branch(text, "map")?;
     for member in members {
-        open(text)?;
-        quoted(text, member.as_str())?;
+        open_named(text, member.as_str())?;
         write_element(text, history, map, &Key::Text(member.try_clone()?), depth)?;
         close(text)?;
     }
-    Ok(())
+    end_branch(text)
 }
 
 /// The map at a place, if it has a present member or was put there.
@@ -162,14 +194,10 @@ fn write_map(
     if members.is_empty() && !is_put(history, path.as_slice(), key, &Val::EmptyMap) {
         return Ok(());
     }
-    open(text)?;
-    quoted(text, "map")?;
-    open(text)?;
-    write_members(text, history, &map, members.as_slice(), depth)?;
-    close(text)?;
-    close(text)
+    write_members(text, history, &map, members.as_slice(), depth)
 }
 
+/// The elements of a list, as its branch.
 #[cycle(shown)]
 fn write_elements(
     text: &mut String,
@@ -178,10 +206,11 @@ fn write_elements(
     elements: &[Id],
     depth: usize,
 ) -> Result<(), Refusal> {
+    begin_branch(text, "list")?;
     for id in elements {
         write_element(text, history, list, &Key::Element(*id), depth)?;
     }
-    Ok(())
+    end_branch(text)
 }
 
 /// The list at a place, if it has a present element or was put there.
@@ -198,12 +227,7 @@ fn write_list(
     if elements.is_empty() && !is_put(history, path.as_slice(), key, &Val::EmptyList) {
         return Ok(());
     }
-    open(text)?;
-    quoted(text, "list")?;
-    open(text)?;
-    write_elements(text, history, &list, elements.as_slice(), depth)?;
-    close(text)?;
-    close(text)
+    write_elements(text, history, &list, elements.as_slice(), depth)
 }
 
 /// All that stands at a place and below it, so deep at most.
@@ -221,9 +245,7 @@ fn write_element(
     open(text)?;
     write_map(text, history, path, key, depth - 1)?;
     write_list(text, history, path, key, depth - 1)?;
-    write_register(text, history, path.as_slice(), key)?;
-    write_sum(text, history, path.as_slice(), key)?;
-    close(text)
+    end_element(text, history, path.as_slice(), key)
 }
 
 /// What the plain program shows of a whole document, with the places of its operations.

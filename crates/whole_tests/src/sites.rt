@@ -15,10 +15,10 @@ pub struct Site {
 }
 
 /// The value that an operation puts where it ends.
-fn value_put(op: &Operation) -> Result<Option<Val>, Refusal> {
+fn value_put(op: &Operation) -> Option<&Val> {
     match op.mutation() {
-        Mutation::Assign(val) | Mutation::Insert(val) => Ok(Some(val.try_clone()?)),
-        Mutation::Delete | Mutation::Add(_) => Ok(None),
+        Mutation::Assign(val) | Mutation::Insert(val) => Some(val),
+        Mutation::Delete | Mutation::Add(_) => None,
     }
 }
 
@@ -55,10 +55,24 @@ fn rank(touched: &[(Id, Option<Val>)], id: &Id) -> usize
     touched.iter().take_while(|entry| entry.0 < *id).count()
 }
 
-fn enter(site: &mut Site, id: &Id, value: Option<Val>) -> Result<(), Refusal> {
+fn copy_of(value: Option<&Val>) -> Result<Option<Val>, Refusal> {
+    match value {
+        Some(value) => Ok(Some(value.try_clone()?)),
+        None => Ok(None),
+    }
+}
+
+fn enter(site: &mut Site, id: &Id, value: Option<&Val>) -> Result<(), Refusal> {
     let at = rank(site.touched.as_slice(), id);
-    site.touched.insert(at, (*id, value))?;
+    site.touched.insert(at, (*id, copy_of(value)?))?;
     Ok(())
+}
+
+fn cursor_of(alloc: Global, path: &[Tagged], key: &Key) -> Result<Cursor, Refusal> {
+    Ok(Cursor {
+        path: path_of(alloc, path)?,
+        key: key.try_clone()?,
+    })
 }
 
 /// An operation passes a place or ends there.
@@ -68,16 +82,13 @@ fn touch(
     path: &[Tagged],
     key: &Key,
     id: &Id,
-    value: Option<Val>,
+    value: Option<&Val>,
 ) -> Result<(), Refusal> {
     if let Some(at) = position(sites.as_slice(), path, key) {
         return enter(&mut sites[at], id, value);
     }
     let mut site = Site {
-        cursor: Cursor {
-            path: path_of(alloc, path)?,
-            key: key.try_clone()?,
-        },
+        cursor: cursor_of(alloc, path, key)?,
         touched: Vec::new(alloc),
     };
     enter(&mut site, id, value)?;
@@ -85,12 +96,24 @@ fn touch(
     Ok(())
 }
 
+/// Enters the places that an operation passes.
+fn add_passed(
+    alloc: Global,
+    sites: &mut Vec<Site>,
+    path: &[Tagged],
+    id: &Id,
+) -> Result<(), Refusal> {
+    for i in 0..path.len() {
+        touch(alloc, sites, &path[..i], path[i].key(), id, None)?;
+    }
+    Ok(())
+}
+
 /// Enters the places that an operation passes, and the one where it ends.
 pub fn add_operation(alloc: Global, sites: &mut Vec<Site>, op: &Operation) -> Result<(), Refusal> {
     let path = op.cursor().path.as_slice();
     let id = op.id();
-    for i in 0..path.len() {
-        touch(alloc, sites, &path[..i], path[i].key(), &id, None)?;
-    }
-    touch(alloc, sites, path, &end_key(op)?, &id, value_put(op)?)
+    add_passed(alloc, sites, path, &id)?;
+    let key = end_key(op)?;
+    touch(alloc, sites, path, &key, &id, value_put(op))
 }

@@ -1,31 +1,29 @@
 //! Each causal order of the operations of a worked history says the same, and what the history says.
-use crate::orders::{agree_after, operation, operations, read_after};
-use crate::readings::read_at;
-use converge_laws::{orders_agree, replay_all};
-use json_scalar::Refusal;
-use lamport_id::ReplicaName;
-use op_core::{Front, Operation};
-use std::alloc::Global;
+use crate::holds::no_fault;
+use crate::orders::{History, Log, fault_of, fault_of_exchange};
+use crate::readings::Due;
 use std::test::Fail;
 
-const REGISTER: [&str; 3] = [
-    r#"["op",[1,"p"],[],[[["m",0]],"k"],["assign","A"]]"#,
-    r#"["op",[2,"p"],[["p",1]],[[["m",0]],"k"],["assign","B"]]"#,
-    r#"["op",[2,"q"],[["p",1]],[[["m",0]],"k"],["assign","C"]]"#,
-];
+const A: &str = r#"["op",[1,"p"],[],[[["m",0]],"k"],["assign","A"]]"#;
+
+const B: &str = r#"["op",[2,"p"],[["p",1]],[[["m",0]],"k"],["assign","B"]]"#;
+
+const C: &str = r#"["op",[2,"q"],[["p",1]],[[["m",0]],"k"],["assign","C"]]"#;
+
+const REGISTER_HISTORY: History<'static> = History {
+    first: &[A],
+    later: &[B, C],
+    orders: &[&[B, C], &[C, B]],
+    names: &["k"],
+    due: &[
+        Due::Values(&["B", "C"]),
+        Due::Conflicts(&[(2, "p", "B"), (2, "q", "C")]),
+    ],
+};
 
 #[test]
 fn concurrent_register_in_each_order(rt: HostRuntime) -> Result<(), Fail> {
-    let alloc = rt.alloc();
-    let [a, b, c] = REGISTER;
-    let first = read_after(alloc, &[a], &[b, c], &["k"])?;
-    for order in [[b, c], [c, b]] {
-        assert!(rt; agree_after(alloc, &[a], &[b, c], &order)?);
-        let readings = read_after(alloc, &[a], &order, &["k"])?;
-        assert!(rt; readings.has_values(&["B", "C"]));
-        assert!(rt; readings.has_conflicts(&[(2, "p", "B"), (2, "q", "C")]));
-        assert!(rt; readings.is_same(&first));
-    }
+    no_fault(&rt, fault_of(rt.alloc(), &REGISTER_HISTORY)?);
     Ok(())
 }
 
@@ -45,18 +43,21 @@ const GREEN: &str =
 const COLORS_SHOWN: &str =
     r##"[["map",[["green",[["val",[4,"q"],"#00ff00"]]],["red",[["val",[3,"p"],"#ff0000"]]]]]]"##;
 
+const COLORS_HISTORY: History<'static> = History {
+    first: &COLORS,
+    later: &[RED, REASSIGNED, GREEN],
+    orders: &[
+        &[RED, REASSIGNED, GREEN],
+        &[REASSIGNED, RED, GREEN],
+        &[REASSIGNED, GREEN, RED],
+    ],
+    names: &["colors"],
+    due: &[Due::Keys(&["green", "red"]), Due::Shown(COLORS_SHOWN)],
+};
+
 #[test]
 fn colors_reassigned_in_each_order(rt: HostRuntime) -> Result<(), Fail> {
-    let alloc = rt.alloc();
-    let later = [RED, REASSIGNED, GREEN];
-    let first = read_after(alloc, &COLORS, &later, &["colors"])?;
-    for order in [later, [REASSIGNED, RED, GREEN], [REASSIGNED, GREEN, RED]] {
-        assert!(rt; agree_after(alloc, &COLORS, &later, &order)?);
-        let readings = read_after(alloc, &COLORS, &order, &["colors"])?;
-        assert!(rt; readings.has_keys(&["green", "red"]));
-        assert!(rt; readings.shows(COLORS_SHOWN));
-        assert!(rt; readings.is_same(&first));
-    }
+    no_fault(&rt, fault_of(rt.alloc(), &COLORS_HISTORY)?);
     Ok(())
 }
 
@@ -74,17 +75,17 @@ const EDITED: &str =
 
 const TODO_SHOWN: &str = r#"[["list",[[["map",[["done",[["val",[5,"q"],true]]]]]]]]]"#;
 
+const TODO_HISTORY: History<'static> = History {
+    first: &TODO,
+    later: &[DELETED, EDITED],
+    orders: &[&[DELETED, EDITED], &[EDITED, DELETED]],
+    names: &["todo"],
+    due: &[Due::Shown(TODO_SHOWN)],
+};
+
 #[test]
 fn todo_deleted_while_edited_in_each_order(rt: HostRuntime) -> Result<(), Fail> {
-    let alloc = rt.alloc();
-    let later = [DELETED, EDITED];
-    let first = read_after(alloc, &TODO, &later, &["todo"])?;
-    for order in [later, [EDITED, DELETED]] {
-        assert!(rt; agree_after(alloc, &TODO, &later, &order)?);
-        let readings = read_after(alloc, &TODO, &order, &["todo"])?;
-        assert!(rt; readings.shows(TODO_SHOWN));
-        assert!(rt; readings.is_same(&first));
-    }
+    no_fault(&rt, fault_of(rt.alloc(), &TODO_HISTORY)?);
     Ok(())
 }
 
@@ -112,24 +113,24 @@ const EDITED_LIST: [(u64, &str, &str); 5] = [
     (7, "q", "z"),
 ];
 
+const LIST_HISTORY: History<'static> = History {
+    first: &LIST,
+    later: &[WITHOUT_B, X, Y, Z],
+    orders: &[
+        &[WITHOUT_B, X, Y, Z],
+        &[WITHOUT_B, Y, X, Z],
+        &[WITHOUT_B, Y, Z, X],
+        &[Y, WITHOUT_B, X, Z],
+        &[Y, WITHOUT_B, Z, X],
+        &[Y, Z, WITHOUT_B, X],
+    ],
+    names: &["l"],
+    due: &[Due::Items(&EDITED_LIST)],
+};
+
 #[test]
 fn concurrent_list_edits_in_each_order(rt: HostRuntime) -> Result<(), Fail> {
-    let alloc = rt.alloc();
-    let later = [WITHOUT_B, X, Y, Z];
-    let first = read_after(alloc, &LIST, &later, &["l"])?;
-    for order in [
-        later,
-        [WITHOUT_B, Y, X, Z],
-        [WITHOUT_B, Y, Z, X],
-        [Y, WITHOUT_B, X, Z],
-        [Y, WITHOUT_B, Z, X],
-        [Y, Z, WITHOUT_B, X],
-    ] {
-        assert!(rt; agree_after(alloc, &LIST, &later, &order)?);
-        let readings = read_after(alloc, &LIST, &order, &["l"])?;
-        assert!(rt; readings.has_items(&EDITED_LIST));
-        assert!(rt; readings.is_same(&first));
-    }
+    no_fault(&rt, fault_of(rt.alloc(), &LIST_HISTORY)?);
     Ok(())
 }
 
@@ -139,18 +140,17 @@ const BELOW: &str = r#"["op",[2,"p"],[["p",1]],[[["m",0],["m","a"]],"b"],["delet
 
 const ABOVE: &str = r#"["op",[2,"q"],[["p",1]],[[["m",0]],"a"],["delete"]]"#;
 
+const DELETES_HISTORY: History<'static> = History {
+    first: &[ASSIGNED],
+    later: &[BELOW, ABOVE],
+    orders: &[&[BELOW, ABOVE], &[ABOVE, BELOW]],
+    names: &[],
+    due: &[Due::Keys(&[]), Due::Shown("[]")],
+};
+
 #[test]
 fn concurrent_deletes_in_each_order(rt: HostRuntime) -> Result<(), Fail> {
-    let alloc = rt.alloc();
-    let later = [BELOW, ABOVE];
-    let first = read_after(alloc, &[ASSIGNED], &later, &[])?;
-    for order in [later, [ABOVE, BELOW]] {
-        assert!(rt; agree_after(alloc, &[ASSIGNED], &later, &order)?);
-        let readings = read_after(alloc, &[ASSIGNED], &order, &[])?;
-        assert!(rt; readings.has_keys(&[]));
-        assert!(rt; readings.shows("[]"));
-        assert!(rt; readings.is_same(&first));
-    }
+    no_fault(&rt, fault_of(rt.alloc(), &DELETES_HISTORY)?);
     Ok(())
 }
 
@@ -161,43 +161,17 @@ const OF_FIRST: [&str; 2] = [
 
 const OF_SECOND: [&str; 1] = [r#"["op",[1,"b-1"],[],[[["m",0]],"k"],["assign","B"]]"#];
 
-/// The front of a log with the operations of one replica.
-fn front_of(alloc: Global, replica: &str, last: u64) -> Result<Front, Refusal> {
-    let Some(name) = ReplicaName::read(replica.as_bytes()) else {
-        return Err(Refusal::BadFront);
-    };
-    Front::from_pairs(alloc, &[(name, last)])
-}
+const OURS: Log<'static> = (&OF_FIRST, "srv-1", 2);
 
-/// Operations, followed by those of others that their front does not cover.
-fn pulled(
-    alloc: Global,
-    texts: &[&str],
-    others: &[&str],
-    front: &Front,
-) -> Result<Vec<Operation>, Refusal> {
-    let mut ops = operations(alloc, texts, &[])?;
-    for text in others {
-        let op = operation(alloc, text)?;
-        if !front.covers(op.id()) {
-            ops.push(op)?;
-        }
-    }
-    Ok(ops)
-}
+const THEIRS: Log<'static> = (&OF_SECOND, "b-1", 1);
+
+const BOTH: Due<'static> = Due::Conflicts(&[(1, "b-1", "B"), (2, "srv-1", "A")]);
 
 #[test]
 fn exchange_of_two_each_way(rt: HostRuntime) -> Result<(), Fail> {
-    let alloc = rt.alloc();
-    let front = front_of(alloc, "srv-1", 2)?;
-    let first = pulled(alloc, &OF_FIRST, &OF_SECOND, &front)?;
-    let front = front_of(alloc, "b-1", 1)?;
-    let second = pulled(alloc, &OF_SECOND, &OF_FIRST, &front)?;
-    assert!(rt; orders_agree(alloc, first.as_slice(), second.as_slice())?);
-    for ops in [first, second] {
-        let tree = replay_all(alloc, ops.as_slice())?;
-        let readings = read_at(alloc, &tree, &["k"])?;
-        assert!(rt; readings.has_conflicts(&[(1, "b-1", "B"), (2, "srv-1", "A")]));
-    }
+    no_fault(
+        &rt,
+        fault_of_exchange(rt.alloc(), &OURS, &THEIRS, "k", &BOTH)?,
+    );
     Ok(())
 }
