@@ -90,10 +90,15 @@ fn waits<M: Marker>(
     )
 }
 
+/// The same, over a table of its own.
+fn waits_alone(alloc: Global, in_vain: &AtomicU64, lines: &AtomicU64, writes: &AtomicU64) -> u8 {
+    waits::<Brand>(alloc, Blank::new(), in_vain, lines, writes)
+}
+
 #[test]
 fn has_its_replies_before_it_is_read_again(rt: HostRuntime) -> Result<(), Fail> {
     let (in_vain, lines, writes) = (AtomicU64::new(0), AtomicU64::new(0), AtomicU64::new(0));
-    let status = waits::<Brand>(rt.alloc(), Blank::new(), &in_vain, &lines, &writes);
+    let status = waits_alone(rt.alloc(), &in_vain, &lines, &writes);
     assert!(rt; status == 0 && in_vain.load(Ordering::SeqCst) == 0);
     // 20 whole lines and a last piece, in one write for each part and one for the last piece
     assert_eq!(rt; lines.load(Ordering::SeqCst), 21);
