@@ -14,7 +14,6 @@ ghost use Rattle.doc_nodes.specs.Blocks as Blocks;
 
 use crate::node::{NodeNumber, element_in};
 use lamport_id::Id;
-use lamport_id::bytes::order;
 use op_core::Key;
 use std::alloc::{AllocError, Global};
 use std::marker::Model;
@@ -631,7 +630,7 @@ fn is_lesser_key(a: &Key, b: &Key) -> bool
 fn is_lesser_text(a: &str, b: &str) -> bool
     ensures { result ≡ is_lt (slice_cmp nat_cmp a.now b.now) }
 {
-    order(a.as_bytes(), b.as_bytes()).is_lt()
+    a.cmp(b).is_lt()
 }
 
 /// Whether two keys are the same.

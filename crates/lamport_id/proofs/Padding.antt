@@ -1,7 +1,8 @@
 -- Names with zeros behind them: what they are without, and their order.
-use Rattle.std.proofs.Common.{◌≡◌, ℕ, ◌+◌, ◌<◌, ◌≤◌, ◌==◌, ◌++◌, zero, suc, true, not, ◌&&◌, nat_le, List, [], ◌∷◌, length, replicate, refl, sym, ap, subst, ◌∙◌, true≢false, cond, ◌-◌, arith, Less, Equal, Greater}
+use Rattle.std.proofs.Common.{◌≡◌, ℕ, ◌+◌, ◌<◌, ◌≤◌, ◌==◌, ◌++◌, zero, suc, true, not, ◌&&◌, nat_eq, nat_le, List, [], ◌∷◌, length, replicate, refl, sym, ap, subst, ◌∙◌, true≢false, cond, ◌-◌, arith, Less, Equal, Greater}
 use Rattle.std.specs.List.{list_all, take_while}
 use Rattle.std.specs.List.Sorted.{IsPartitionedBy}
+use Rattle.std.specs.Bool.{one_answer}
 use Rattle.std.specs.Ordering.{nat_cmp, ordering_then}
 use Rattle.std.specs.Cmp.{nat_cmp_is}
 use Rattle.std.specs.Cmp.Lexicographic.{slice_cmp}
@@ -9,6 +10,7 @@ use Rattle.std.proofs.lemmas.Bool.{and_parts}
 use Rattle.std.proofs.lemmas.Bool.Decides.{nat_tests}
 use Rattle.std.proofs.lemmas.List.{get_or-replicate, length-replicate}
 use Rattle.std.proofs.lemmas.List.Sums.{take_while-cons}
+use lib.Pointwise.{pointwise, bytes_decides}
 use Rattle.lamport_id.specs.Limits.{longest_name}
 use Rattle.lamport_id.specs.Name.{is_name_byte, is_name, padded, unpadded}
 
@@ -79,3 +81,12 @@ name_first bytes h zeros =
 pub cmp-padded : (a b : List ℕ) → is_name a ≡ true → is_name b ≡ true → slice_cmp nat_cmp (padded a) (padded b) ≡ slice_cmp nat_cmp a b
 cmp-padded a b h k =
     cmp-zeros a b (longest_name - length a) (longest_name - length b) (letters a h) (letters b k) (omega (arith, within a h, within b k))
+
+-- and so are they the same
+pub equal-padded : (a b : List ℕ) → is_name a ≡ true → is_name b ≡ true → pointwise nat_eq (padded a) (padded b) ≡ pointwise nat_eq a b
+equal-padded a b h k =
+    let names = bytes_decides a b in
+    one_answer (pointwise nat_eq (padded a) (padded b)) (pointwise nat_eq a b) (bytes_decides (padded a) (padded b)) (
+      (λ same. ap padded (names.0 same)),
+      (λ is. names.1 (sym (unpadded-padded a h) ∙ ap unpadded is ∙ unpadded-padded b k)),
+    )
