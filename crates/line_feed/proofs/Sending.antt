@@ -1,8 +1,8 @@
 -- Lemmas on what an outbox has taken, and what its sink has.
-use Rattle.std.proofs.Common.{◌≡◌, ℕ, ◌+◌, ◌-◌, ◌<◌, ◌≤◌, List, [], ◌∷◌, ◌++◌, length, take, drop, slice_range, Option, Some, None, IsSome, refl, sym, ap, ◌∙◌, subst, arith, append_assoc, length-append, length-drop, take-append-drop}
+use Rattle.std.proofs.Common.{◌≡◌, ℕ, ◌+◌, ◌-◌, ◌<◌, ◌≤◌, List, [], ◌∷◌, ◌++◌, length, take, drop, slice_range, Option, Some, None, IsSome, refl, sym, ap, ◌∙◌, arith, append_assoc, length-append, length-drop, take-append-drop}
 use Rattle.std.specs.Option.{option_map, option_to_list}
-use Rattle.std.specs.Io.KnownBytes.{Appends, Keeps}
-use Rattle.std.proofs.lemmas.List.{take-take, take_rest, drop-drop, drop-append-le}
+use Rattle.std.specs.Io.KnownBytes.{Appends}
+use Rattle.std.proofs.lemmas.List.{take_rest, drop-drop, drop-append-le}
 use Rattle.std.proofs.lemmas.List.Folds.{drop_split}
 use Rattle.std.proofs.Math.Seq.{take-add, take-append_seam, take-append-add}
 use Rattle.line_feed.specs.Cut.{AppendsCut, LosesLast}
@@ -31,13 +31,6 @@ lost_last (Some x) (Some y) kept left (Some l) from to appends p q is some =
       ap (λ k. x ++ k) (drop_split kept from to p) ∙ sym (append_assoc x (slice_range kept from to) (drop to kept))
           ∙ (λ i. sym appends i ++ rest i) ∙ sym (append_assoc y (drop to left) (l ∷ [])),
     )
-
--- What was taken behind what was there, and then kept.
-pub appends_kept : (a b c : Option (List ℕ)) (bytes : List ℕ) → Appends a b bytes → Keeps b c → Appends a c bytes
-appends_kept None b c bytes appends keeps = tt
-appends_kept (Some x) None c bytes appends keeps = absurd appends
-appends_kept (Some x) (Some y) None bytes appends keeps = absurd keeps
-appends_kept (Some x) (Some y) (Some z) bytes appends keeps = keeps ∙ appends
 
 -- Where the last of all that was taken is lost, the bytes that were taken last are cut off.
 pub cut_by_loss : (a b c : Option (List ℕ)) (bytes : List ℕ) → Appends a b bytes → LosesLast b c → 0 < length bytes → AppendsCut a c bytes

@@ -7,6 +7,7 @@ ghost use Rattle.line_feed.specs.Feed.{Advances, Gives, Stops};
 
 use crate::DeviceFault;
 use crate::reading::Source;
+use memchr::memchr;
 use std::alloc::{AllocError, Global};
 use std::marker::Model;
 
@@ -48,7 +49,7 @@ struct Filled {
 fn newline_at(bytes: &[u8]) -> Option<usize>
     ensures { result ≡ position is_newline bytes.now }
 {
-    bytes.iter().position(|b| *b == b'\n')
+    memchr(b'\n', bytes)
 }
 
 /// Whether there is a newline byte.

@@ -1,6 +1,5 @@
-use Rattle.std.proofs.Common.{◌≡◌, ℕ, ◌-◌, ◌≤◌, List, ◌++◌, rules, arith, length, take, drop, slice_range, sym, ap, ◌∙◌, length-drop}
+use Rattle.std.proofs.Common.{◌≡◌, ℕ, ◌-◌, ◌≤◌, List, ◌++◌, arith, length, take, drop, slice_range, length-drop}
 use Rattle.std.proofs.lemmas.List.{take-append-le}
-use Rattle.line_feed.proofs.feed.to_front.Goals as goal
 
 -- what is held moves to the front of the buffer
 front_of_rotated : (items : List ℕ) (start end : ℕ) → start ≤ end → end ≤ length items
