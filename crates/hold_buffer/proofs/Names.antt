@@ -1,8 +1,8 @@
 -- Ids of different replicas, by rising name.
-use Rattle.std.proofs.Common.{◌≡◌, ◌≢◌, ◌++◌, ◌∷◌, inl, inr, ℕ, ◌<◌, suc, List, [], length, take, drop, get_or, refl, map, filter, not, Bool, true, Contains, sym, ap, ◌∙◌, Less, subst}
+use Rattle.std.proofs.Common.{◌≡◌, ◌≢◌, ◌++◌, ◌∷◌, inl, inr, ℕ, ◌<◌, ◌≤◌, suc, List, [], length, take, drop, get_or, refl, map, filter, not, Bool, true, Contains, sym, ap, ◌∙◌, Less, subst}
 use Rattle.std.proofs.lemmas.List.Elements.{filter-append, Contains-append_left, Contains-append_right, Contains-append_cases}
 use Rattle.list_laws.proofs.Members.{Contains-cases, map-from, split_at}
-use Rattle.list_laws.proofs.Filters.{filter-failed}
+use Rattle.list_laws.proofs.Filters.{filter-failed, filter-Contains}
 use Rattle.doc_words.specs.Words.{name_cmp, Id}
 use Rattle.op_core.specs.Front.{id_of, is_ascending}
 use Rattle.crdt_rules.specs.Same.{id_eq}
@@ -13,6 +13,7 @@ use Rattle.doc_rules.proofs.WholeFront.{rising_from_ascending}
 use Rattle.sorted_lists.specs.Sorted.{IsGap}
 use Rattle.sorted_lists.proofs.Keys.{less≢equal}
 use Rattle.sorted_lists.proofs.Rising.{gap_none, IsRising-split}
+use Rattle.hold_buffer.specs.Lacked.{AreFrom}
 use Rattle.hold_buffer.proofs.Waiting.{others_kept}
 
 -- the ids of a front that ascends
@@ -72,3 +73,7 @@ other_counter ids id at x rising within here name other c =
 
 pub gap_lacks : (ids : List Id) (id : Id) (at : ℕ) → IsGap name_cmp (λ i. i.replica) ids id.replica at → ¬ (Contains ids id)
 gap_lacks ids id at gap c = gap_none name_order (λ (i : Id). i.replica) ids id.replica at gap id c refl
+
+-- what is left of ids has no lesser counter
+pub AreFrom-left : (floor : ℕ) (ids left : List Id) (id : Id) → left ≡ filter (λ i. not (id_eq i id)) ids → AreFrom floor ids → AreFrom floor left
+AreFrom-left floor ids left id is from i there = from i (filter-Contains (λ (j : Id). not (id_eq j id)) ids (subst (λ l. Contains l i) is there)).0

@@ -5,6 +5,7 @@ ghost use Rattle.doc_words.specs.Words.{id_cmp, UnlessMemory, Op};
 ghost use Rattle.crdt_rules.specs.Same.{id_eq};
 ghost use Rattle.doc_rules.specs.Sorted.{IsRising};
 ghost use Rattle.doc_rules.specs.Replica.{find_id};
+ghost use Rattle.crdt_rules.specs.Dependencies as deps;
 ghost use Rattle.crdt_rules.specs.Dependencies.{is_logged, is_ready, missing};
 ghost use Rattle.hold_buffer.specs.Held.{IsCurrent, hold_cause};
 ghost use Rattle.doc_rules.specs.Replica.{put_among};
@@ -123,7 +124,24 @@ impl HoldBuffer {
         ensures err { OnErr result (self.new ≡ self.old) }
         ensures current { IsCurrent self.new log.now.operations }
     {
-        match admit(log, &op, &mut self.slots, &mut self.order) {
+        match log.missing(&op) {
+            Ok(missing) => self.hold_lacking(op, &missing),
+            Err(_) => {
+                drop(op);
+                Err(Refusal::NoMemory)
+            }
+        }
+    }
+
+    /// The same, of an operation that lacks these ids.
+    pub fn hold_lacking(&mut self, op: Operation, missing: &Ids) -> Result<(), Refusal>
+        requires missed { (log : List Op) × (missing.now ≡ deps.missing op log) }
+        ensures cause { UnlessMemory result (hold_cause op.id self.old.held) }
+        ensures ok { OnOk result (self.new.held ≡ put_among op self.old.held) }
+        ensures err { OnErr result (self.new ≡ self.old) }
+        ensures current { (log : List Op) → missing.now ≡ deps.missing op log → IsCurrent self.old log → IsCurrent self.new log }
+    {
+        match admit(&op, missing, &mut self.slots, &mut self.order) {
             Ok((at, lacks)) => {
                 store(&mut self.slots, &mut self.order, at, op, lacks);
                 Ok(())

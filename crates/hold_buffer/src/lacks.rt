@@ -2,15 +2,13 @@
 ghost use Rattle.std.specs.Prelude.{◌≡◌, ◌↔◌, ◌<◌, IsTrue, Contains, slice_index_or, not, length, filter, ◌==◌, Ok, MatchResult, MatchOption};
 ghost use Rattle.doc_words.specs.Words.{Id, UnlessMemory, name_cmp};
 ghost use Rattle.crdt_rules.specs.Same.{id_eq};
-ghost use Rattle.crdt_rules.specs.Dependencies.{missing};
 ghost use Rattle.doc_rules.specs.Sorted.{IsRising};
 ghost use Rattle.sorted_lists.specs.Sorted.{IsPlace, IsGap};
+ghost use Rattle.hold_buffer.specs.Lacked.{AreFrom};
 
 use doc_words::Ids;
 use json_scalar::Refusal;
 use lamport_id::{Id, ReplicaName};
-use op_core::Operation;
-use op_log::OpLog;
 use std::alloc::Global;
 use std::marker::Model;
 
@@ -18,25 +16,30 @@ use std::marker::Model;
 #[derive(Debug)]
 pub struct Lacks {
     ids: Vec<Id>,
+    // none of them has a lesser counter: most ids that are logged are told from these by it
+    floor: u64,
 }
 
 impl Model for Lacks {
     ghost use Rattle.std.specs.Prelude.{List};
     ghost use Rattle.doc_words.specs.Words.{Id};
+    ghost use Rattle.hold_buffer.specs.Lacked.{AreFrom};
 
     ghost Value = { List Id };
 
     ghost view = { λ l. l.ids.items };
+
+    ghost invariant = { λ l. AreFrom l.floor l.ids.items };
 }
 
 impl Lacks {
-    /// What the operation lacks in the log, in no more room than that takes. It is refused for want of memory alone.
-    pub fn of(alloc: Global, log: &OpLog, op: &Operation) -> Result<Lacks, Refusal>
-        ensures { UnlessMemory result (Ok (missing op.now log.now.operations)) }
+    /// These ids, in no more room than they take. It is refused for want of memory alone.
+    pub fn of(alloc: Global, missing: &Ids) -> Result<Lacks, Refusal>
+        ensures { UnlessMemory result (Ok missing.now) }
     {
-        let missing = log.missing(op)?;
         let ids = missing.as_slice().to_vec(alloc)?;
-        Ok(Lacks { ids })
+        let floor = floor_of(&ids);
+        Ok(Lacks { ids, floor })
     }
 
     /// Whether there is none.
@@ -59,10 +62,24 @@ impl Lacks {
         requires { IsRising name_cmp (λ i. i.replica) self.old }
         ensures { self.new ≡ filter (λ i. not (id_eq i id.now)) self.old }
     {
+        if id.counter < self.floor {
+            return;
+        }
         if let Some(at) = place_of(&self.ids, id) {
             self.ids.remove(at);
         }
     }
+}
+
+/// A counter below which no id has one: the least.
+fn floor_of(ids: &[Id]) -> u64
+    ensures { AreFrom result ids.now }
+{
+    let mut floor = u64::MAX;
+    for at in 0..ids.len() {
+        floor = floor.min(ids[at].counter);
+    }
+    floor
 }
 
 /// Up to so many ids are looked at one by one: most have another counter, which is told sooner than another name.
@@ -121,6 +138,6 @@ fn search(ids: &[Id], name: ReplicaName) -> Result<usize, usize>
 // By hand, so that it is called and not written out where it is let go.
 impl Drop for Lacks {
     fn drop(self) {
-        let Lacks { ids: _ } = self;
+        let Lacks { ids: _, floor: _ } = self;
     }
 }

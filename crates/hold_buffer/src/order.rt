@@ -8,7 +8,6 @@ ghost use Rattle.op_core.specs.Front.{is_ascending};
 ghost use Rattle.crdt_rules.specs.Same.{id_eq};
 ghost use Rattle.doc_rules.specs.Sorted.{IsRising};
 ghost use Rattle.sorted_lists.specs.Sorted.{IsPlace, IsGap};
-ghost use Rattle.crdt_rules.specs.Dependencies.{missing};
 ghost use Rattle.doc_rules.specs.Replica.{find_id, put_among};
 ghost use Rattle.hold_buffer.specs.Held.{hold_cause};
 ghost use Rattle.hold_buffer.specs.Order.{operations_of, IsOrdered, AreNamed, lacks_no_more};
@@ -19,7 +18,6 @@ use doc_words::{Ids, Waiting};
 use json_scalar::Refusal;
 use lamport_id::Id;
 use op_core::Operation;
-use op_log::OpLog;
 use slab::Slab;
 use std::alloc::{AllocError, Global};
 
@@ -69,11 +67,11 @@ pub fn prepare(
     }
 }
 
-/// Room for one more operation: where it is to be stored, and what it lacks; or the first cause against it.
+/// Room for one more operation that lacks these ids: where it is to be stored, and the ids; or the first cause against it.
 #[tactic(auto, using(op_log::proofs::Comparing::shaped_ascending))]
 pub fn admit(
-    log: &OpLog,
     op: &Operation,
+    missing: &Ids,
     slots: &mut Slab<Operation>,
     order: &mut Vec<Ticket>,
 ) -> Result<(usize, Lacks), Refusal>
@@ -81,7 +79,7 @@ pub fn admit(
     ensures order { order.new.items ≡ order.old.items }
     ensures slots { slots.new ≡ record slots.old { capacity = slots.new.capacity } }
     ensures gap { IfOk result (λ r. IsGap id_cmp (λ t. t.id) order.old.items op.now.id r.0) }
-    ensures lacks { IfOk result (λ r. r.1 ≡ missing op.now log.now.operations) }
+    ensures lacks { IfOk result (λ r. r.1 ≡ missing.now) }
     ensures ascending { is_ascending op.now.front ≡ true }
     ensures slot { OnOk result (HasRoomFor slots.new 1) }
     ensures ticket { OnOk result (vec_len order.new < vec_capacity order.new) }
@@ -90,7 +88,7 @@ pub fn admit(
 {
     let alloc = *order.allocator();
     match prepare(slots, order, op.id()) {
-        Ok(at) => match Lacks::of(alloc, log, op) {
+        Ok(at) => match Lacks::of(alloc, missing) {
             Ok(lacks) => Ok((at, lacks)),
             Err(_) => Err(Refusal::NoMemory),
         },

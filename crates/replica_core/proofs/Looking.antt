@@ -1,5 +1,5 @@
 -- What is read of a tree that says what the log makes is the replica's answer.
-use Rattle.std.proofs.Common.{◌≡◌, ◌⊎◌, inl, inr, ℕ, List, Bool, true, false, Option, Result, Ok, Err, refl, sym, ap, subst, ◌∙◌}
+use Rattle.std.proofs.Common.{◌≡◌, ◌⊎◌, inl, inr, ℕ, List, Bool, true, false, Option, Result, Ok, Err, refl, ap, subst}
 use Rattle.std.specs.Prelude.{MatchBool}
 use Rattle.doc_words.specs.Words.{Scalar, Refusal, NoMemory, Cursor, Key, Tagged, Op}
 use Rattle.json_scalar.specs.declared.refusal.Refusal.TheVariants.{AtHead}

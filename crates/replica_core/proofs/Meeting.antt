@@ -1,13 +1,8 @@
 -- How what is due comes about.
-use Rattle.std.proofs.Common.{◌≡◌, ◌<◌, ◌≤◌, inl, inr, ℕ, suc, Contains, le-leb, leb-true, arith, List, [], ◌∷◌, length, nat_le, Bool, true, false, true≢false, not, ◌&&◌, bytes_eq, Option, Some, None, Result, Ok, Err, if◌then◌else◌, refl, sym, ap, subst, ◌∙◌}
+use Rattle.std.proofs.Common.{◌≡◌, ◌<◌, ◌≤◌, inl, inr, ℕ, suc, le-leb, leb-true, arith, List, [], ◌∷◌, length, nat_le, Bool, true, false, true≢false, not, ◌&&◌, bytes_eq, Option, Some, None, Result, Ok, Err, if◌then◌else◌, refl, sym, ap, subst, ◌∙◌}
 use Rattle.std.specs.Prelude.{⊤, IfOk, IfErr, OnErr, is_some}
-use Rattle.std.proofs.lemmas.Bool.{false_from_ne_true, both_ways}
-use Rattle.doc_words.specs.Words.{Id, Refusal, NoMemory, Op}
-use Rattle.crdt_rules.specs.Same.{id_eq}
-use Rattle.crdt_rules.specs.Dependencies.{is_logged}
-use Rattle.crdt_rules.proofs.SameLaws.{id_decides}
-use Rattle.op_log.proofs.Ids.{is_logged-find_id}
-use Rattle.doc_rules.proofs.Held.{find_none}
+use Rattle.std.proofs.lemmas.Bool.{false_from_ne_true}
+use Rattle.doc_words.specs.Words.{Refusal, NoMemory, Op}
 use Rattle.std.specs.Option.{option_map}
 use Rattle.json_scalar.specs.declared.refusal.Refusal.TheVariants.{IdConflict, OwnName, HeldFull}
 use Rattle.op_core.specs.Equality.{operation_eq}
@@ -143,10 +138,3 @@ waiting_full op n h = ap (λ b. if b then no HeldFull else held op) (sym (le-leb
 pub waiting_held : (op : Op) (n : ℕ) → n < 256 → held op ≡ (if nat_le most_held n then no HeldFull else held op)
 waiting_held op n h =
     ap (λ b. if b then no HeldFull else held op) (sym (false_from_ne_true (nat_le 256 n) (λ e. let many : 256 ≤ n = leb-true 256 n e in omega arith)))
-
--- an operation whose id is not held is not held
-pub not_held : (ops : List Op) (op : Op) → find_id ops op.id ≡ None → ¬ (Contains ops op)
-not_held ops op none c = both_ways (id_eq op.id op.id) (find_none (λ o. id_eq o.id op.id) ops none op c) (id_decides.itself op.id)
-
-pub not_logged : (ops : List Op) (i : Id) → find_id ops i ≡ None → is_logged ops i ≡ false
-not_logged ops i none = is_logged-find_id ops i ∙ ap (λ (o : Option Op). is_some o) none

@@ -10,7 +10,6 @@ use Rattle.json_scalar.specs.declared.refusal.Refusal.TheVariants.{NotHeld, NotI
 use Rattle.op_core.specs.Shape.{is_shaped, shape_of}
 use Rattle.op_core.proofs.Shapes.{shape_of-shaped}
 use Rattle.doc_words.specs.declared.reply.Reply.{Reply}
-use Rattle.doc_words.specs.declared.reply.Reply.TheVariants as reply
 use Rattle.doc_words.specs.declared.ask.Command.TheVariants as command
 use Rattle.doc_words.specs.declared.place.Place.{Place}
 use Rattle.doc_rules.specs.Cause.{first_fit_cause}

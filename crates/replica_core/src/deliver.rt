@@ -5,7 +5,7 @@ ghost use Rattle.op_core.specs.Op.{Op};
 ghost use Rattle.std.specs.Option.{option_map};
 ghost use Rattle.op_core.specs.Equality.{operation_eq};
 ghost use Rattle.crdt_rules.specs.Dependencies as deps;
-ghost use Rattle.crdt_rules.specs.Dependencies.{is_ready, missing};
+ghost use Rattle.crdt_rules.specs.Dependencies.{missing};
 ghost use Rattle.crdt_rules.specs.Fits.{Fits};
 ghost use Rattle.doc_rules.specs.Cause.{cause_of};
 ghost use Rattle.doc_rules.specs.Events as due;
@@ -217,9 +217,6 @@ fn deliver_ready(
 }
 
 fn deliver_waiting(log: &OpLog, held: &mut HoldBuffer, op: Operation) -> Result<Delivered, Refusal>
-    requires waits { is_ready op log.now.operations ≡ false }
-    requires new { find_id log.now.operations op.id ≡ None }
-    requires unheld { find_id held.old.held op.id ≡ None }
     requires current { IsCurrent held.old log.now.operations }
     ensures met { (name : List ℕ) → Meets (replica_of name log.now.operations held.old.held)
         (if nat_le most_held (length held.old.held) then due.no Refusal.HeldFull else due.held op) (told_delivered result) (replica_of name log.now.operations held.new.held) }
@@ -245,9 +242,6 @@ fn hold(
     op: Operation,
     missing: Ids,
 ) -> Result<Delivered, Refusal>
-    requires waits { is_ready op log.now.operations ≡ false }
-    requires new { find_id log.now.operations op.id ≡ None }
-    requires unheld { find_id held.old.held op.id ≡ None }
     requires room { length held.old.held < most_held }
     requires missed { missing ≡ deps.missing op log.now.operations }
     requires current { IsCurrent held.old log.now.operations }
@@ -255,7 +249,7 @@ fn hold(
         (told_delivered result) (replica_of name log.now.operations held.new.held) }
     ensures current { IsCurrent held.new log.now.operations }
 {
-    match held.hold(log, op) {
+    match held.hold_lacking(op, &missing) {
         Ok(()) => Ok(Delivered::Held(missing)),
         Err(_) => Err(Refusal::NoMemory),
     }

@@ -4,6 +4,7 @@ mod causes;
 mod counters;
 mod foreign;
 mod gathering;
+mod holding;
 mod released;
 mod samples;
 mod scarce;

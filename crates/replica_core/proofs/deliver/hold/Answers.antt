@@ -1,14 +1,8 @@
 use Rattle.std.proofs.Common.{inl, inr, refl, ap}
 use Rattle.doc_words.specs.declared.reply.Reply.TheVariants as reply
 use Rattle.hold_buffer.specs.Held.{Buffer}
-use Rattle.replica_core.proofs.Meeting.{same_replica, not_held, not_logged}
+use Rattle.replica_core.proofs.Meeting.{same_replica}
 use Rattle.replica_core.proofs.deliver.hold.Goals as goal
-
-pub hold-requires-clause-new_id : goal.hold-requires-clause-new_id
-hold-requires-clause-new_id c = not_logged c.args.log.now.operations c.args.op.id c.requires.new
-
-pub hold-requires-clause-other : goal.hold-requires-clause-other
-hold-requires-clause-other c = not_held c.args.held.now.held c.args.op c.requires.unheld
 
 pub returns-in-Ok-clause-met : goal.returns-in-Ok-clause-met
 returns-in-Ok-clause-met c name = inl (ap reply.Held c.requires.missed, same_replica name refl c.in-Ok.ensures.ok)

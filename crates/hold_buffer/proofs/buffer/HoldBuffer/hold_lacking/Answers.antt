@@ -1,0 +1,45 @@
+use Rattle.std.proofs.Common.{List, sym, subst, ◌∙◌, refl}
+use Rattle.lamport_id.specs.Order.{id_cmp}
+use Rattle.sorted_lists.specs.Sorted.{IsGap}
+use Rattle.hold_buffer.specs.Held.{Buffer, IsCurrent}
+use Rattle.hold_buffer.specs.Order.{operations_of, waits_of}
+use Rattle.hold_buffer.specs.declared.ticket.Ticket.{Ticket}
+use Rattle.hold_buffer.proofs.Intact.{grown, held-intact, held-now}
+use Rattle.hold_buffer.proofs.buffer.HoldBuffer.hold_lacking.Goals as goal
+
+pub store-requires-clause-ordered : goal.store-requires-clause-ordered
+store-requires-clause-ordered c = let g = c.admit.ensures in (grown c.self.invariant g.slots g.order).ordered
+
+pub invariant_of-self : goal.invariant_of-self
+invariant_of-self c =
+    let g = c.admit.ensures in
+    let (log, missed) = c.requires.missed in
+    held-intact (grown c.self.invariant g.slots g.order) c.store.ensures.ordered log c.args.op c.in-Ok.at
+    (record { id = c.args.op.id; key = c.store.ensures.ticket.0; lacks = c.in-Ok.lacks }) c.store.ensures.ticket.1 (c.in-Ok.ensures.lacks ∙ missed) g.ascending c.store.ensures.operations
+
+pub invariant_of-self-in-Err : goal.invariant_of-self-in-Err
+invariant_of-self-in-Err c = let g = c.admit.ensures in grown c.self.invariant g.slots g.order
+
+pub returns-in-Ok-clause-current : goal.returns-in-Ok-clause-current
+returns-in-Ok-clause-current c log missed was =
+    let g = c.admit.ensures in
+    let op = c.args.op in
+    let slots = g.slots in
+    let order = g.order in
+    let gap = subst (λ (o : List Ticket). IsGap id_cmp (λ (t : Ticket). t.id) o op.id c.in-Ok.at) (sym order) c.in-Ok.ensures.gap in
+    let current = subst (λ (b : Buffer). IsCurrent b log) (sym ((λ i. record { held = operations_of (slots i) (order i); waits = waits_of (order i) }) ∙ c.self.view_is)) was in
+    held-now c.admit.new.slots c.store.new.slots c.admit.new.order.items c.store.new.order.items (grown c.self.invariant g.slots g.order).ordered log op c.in-Ok.at
+    (record { id = op.id; key = c.store.ensures.ticket.0; lacks = c.in-Ok.lacks }) gap c.store.ensures.ticket.1 refl (c.in-Ok.ensures.lacks ∙ missed) c.store.ensures.operations current
+
+pub returns-in-Err-clause-err : goal.returns-in-Err-clause-err
+returns-in-Err-clause-err c =
+    let slots = c.admit.ensures.slots in
+    let order = c.admit.ensures.order in
+    (λ i. record { held = operations_of (slots i) (order i); waits = waits_of (order i) }) ∙ c.self.view_is
+
+pub returns-in-Err-clause-current : goal.returns-in-Err-clause-current
+returns-in-Err-clause-current c log missed was =
+    let slots = c.admit.ensures.slots in
+    let order = c.admit.ensures.order in
+    subst (λ (b : Buffer). IsCurrent b log)
+    (sym ((λ i. record { held = operations_of (slots i) (order i); waits = waits_of (order i) }) ∙ c.self.view_is)) was
