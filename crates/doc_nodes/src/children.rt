@@ -121,12 +121,18 @@ impl Children {
         number_of(self.blocks.as_slice(), key)
     }
 
-    /// The same as `find` tells, which then finds the child at once.
+    /// The same as `find` tells, which then finds the child at once. Who asks for one key after another in their order has each at
+    /// once: it stands right behind the one before.
     pub fn seek(&mut self, key: &Key) -> Option<NodeNumber>
         ensures same { self.new ≡ self.old }
         ensures value { result ≡ number_at self.old key.now }
     {
         if let Some(number) = number_there(self.blocks.as_slice(), self.latest, key) {
+            return Some(number);
+        }
+        let next = spot_behind(self.blocks.as_slice(), self.latest);
+        if let Some(number) = number_there(self.blocks.as_slice(), next, key) {
+            self.latest = next;
             return Some(number);
         }
         self.latest = spot_of(self.blocks.as_slice(), key);

@@ -77,7 +77,7 @@ fn variable(alloc: Global, text: &str) -> Result<Name, Refusal>
 fn read_steps(alloc: Global, items: &[Value]) -> Result<Steps, Refusal>
     ensures { UnlessMemory result (ok_or (steps_from (items_view items.now)) BadRequest) }
 {
-    let mut steps = Vec::new(alloc);
+    let mut steps = Vec::with_capacity(alloc, items.len())?;
     for item in items {
         steps.push(read_step(alloc, item)?)?;
     }
