@@ -1,7 +1,7 @@
 -- Steps of a loop over a list: what it has made of the items so far, or found among them.
 use Rattle.std.proofs.Common.{◌≡◌, ℕ, ◌+◌, ◌<◌, ◌≤◌, Bool, true, false, ◌&&◌, ◌||◌, List, [], ◌∷◌, ◌++◌, length, get_or, map, take, drop, sym, ap, ◌∙◌}
 use Rattle.std.specs.List.{list_any, list_all}
-use Rattle.std.proofs.lemmas.List.{map-append, take_more, at_drop_more, at_drop_all}
+use Rattle.std.proofs.lemmas.List.{map-append, take_more, take_all, at_drop_more, at_drop_all}
 
 -- one item more is copied
 pub take_grown : {A : Type 0} (xs : List A) (i : ℕ) (y : A) (old new : List A) (x : A) → i < length xs → y ≡ get_or xs i y → x ≡ y → old ≡ take i xs
@@ -16,6 +16,9 @@ pub map_grown : {A B : Type 0} (f : A → B) (xs : List A) (i : ℕ) (y : A) (ol
 map_grown f xs i y old new x within is due before pushed =
     let item : x ≡ f (get_or xs i y) = due ∙ ap f is in
     pushed ∙ (λ j. before j ++ item j ∷ []) ∙ sym (ap (map f) (take_more xs i y within) ∙ map-append f (take i xs) (get_or xs i y ∷ []))
+
+pub map_done : {A B : Type 0} (f : A → B) (xs : List A) (i : ℕ) (made : List B) → length xs ≤ i → made ≡ map f (take i xs) → made ≡ map f xs
+map_done f xs i made past before = before ∙ ap (map f) (take_all i xs past)
 
 -- a test holds of one item more, or does not, or held of all
 pub all_more : {A : Type 0} (p : A → Bool) (xs : List A) (i : ℕ) (x : A) → i < length xs → p (get_or xs i x) ≡ true → list_all p (drop i xs) ≡ list_all p xs
