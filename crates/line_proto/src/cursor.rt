@@ -20,7 +20,9 @@ pub(crate) const MAX_VARIABLE_LEN: usize = 128;
 pub(crate) fn read_expr(alloc: Global, value: &Value) -> Result<CursorExpr, Refusal>
     ensures { UnlessMemory result (ok_or (expr_from (view value.now)) BadRequest) }
 {
-    let items = value.as_array().ok_or(Refusal::BadRequest)?;
+    let Some(items) = value.as_array() else {
+        return Err(Refusal::BadRequest);
+    };
     read_expr_items(alloc, items.as_slice())
 }
 
@@ -62,7 +64,10 @@ fn start_of_number(number: Option<u64>) -> Option<Start>
 pub(crate) fn read_variable(alloc: Global, value: &Value) -> Result<Name, Refusal>
     ensures { UnlessMemory result (ok_or (variable_from (view value.now)) BadRequest) }
 {
-    variable(alloc, value.as_str().ok_or(Refusal::BadRequest)?)
+    match value.as_str() {
+        Some(text) => variable(alloc, text),
+        None => Err(Refusal::BadRequest),
+    }
 }
 
 fn variable(alloc: Global, text: &str) -> Result<Name, Refusal>
@@ -88,7 +93,10 @@ fn read_step(alloc: Global, value: &Value) -> Result<Step, Refusal>
     ensures { UnlessMemory result (ok_or (step_from (view value.now)) BadRequest) }
 {
     match value {
-        Value::Number(number) => Ok(Step::Index(number.as_u64().ok_or(Refusal::BadRequest)?)),
+        Value::Number(number) => match number.as_u64() {
+            Some(index) => Ok(Step::Index(index)),
+            None => Err(Refusal::BadRequest),
+        },
         Value::String(text) => Ok(Step::Get(KeyText::new(alloc, text.as_str())?)),
         Value::Null | Value::Bool(_) | Value::Array(_) | Value::Object(_) => {
             Err(Refusal::BadRequest)

@@ -5,7 +5,6 @@ use doc_words::Reply;
 pub const VERSION: u64 = 2;
 
 /// What is told in answer to a line.
-#[derive(Debug)]
 pub enum LineReply {
     /// The session has this seat at the document.
     Opened(u64),

@@ -83,7 +83,9 @@ fn read_text(alloc: Global, text: &str) -> Result<Value, Refusal>
 fn read_request(alloc: Global, value: &Value) -> Result<Request, Refusal>
     ensures { UnlessMemory result (request_from (view value.now)) }
 {
-    let items = value.as_array().ok_or(Refusal::BadRequest)?;
+    let Some(items) = value.as_array() else {
+        return Err(Refusal::BadRequest);
+    };
     read_items(alloc, items.as_slice())
 }
 
@@ -104,45 +106,47 @@ fn read_items(alloc: Global, items: &[Value]) -> Result<Request, Refusal>
 fn read_bare(verb: &Value) -> Result<Request, Refusal>
     ensures { result ≡ bare_from (view verb.now) }
 {
-    let verb = verb.as_str().ok_or(Refusal::BadRequest)?;
+    let Some(verb) = verb.as_str() else {
+        return Err(Refusal::BadRequest);
+    };
     bare_request(verb).ok_or(Refusal::BadRequest)
 }
 
 fn bare_request(verb: &str) -> Option<Request>
     ensures { result ≡ bare_request verb.now }
 {
-    if verb == "quit" {
-        Some(Request::Quit)
-    } else if verb == "version" {
-        Some(Request::Version)
-    } else {
-        None
+    match verb {
+        "quit" => Some(Request::Quit),
+        "version" => Some(Request::Version),
+        _ => None,
     }
 }
 
 fn read_plain(alloc: Global, verb: &Value, document: &Value) -> Result<Request, Refusal>
     ensures { UnlessMemory result (plain_from (view verb.now) (view document.now)) }
 {
-    let verb = verb.as_str().ok_or(Refusal::BadRequest)?;
-    let document = document.as_str().ok_or(Refusal::BadRequest)?;
+    let Some(verb) = verb.as_str() else {
+        return Err(Refusal::BadRequest);
+    };
+    let Some(document) = document.as_str() else {
+        return Err(Refusal::BadRequest);
+    };
     let name = Name::new(alloc, document)?;
-    let ask = plain_ask(verb).ok_or(Refusal::BadRequest)?;
+    let Some(ask) = plain_ask(verb) else {
+        return Err(Refusal::BadRequest);
+    };
     Ok(Request::Of(name, ask))
 }
 
 fn plain_ask(verb: &str) -> Option<Ask>
     ensures { result ≡ plain_ask verb.now }
 {
-    if verb == "open" {
-        Some(Ask::Open)
-    } else if verb == "front" {
-        Some(Ask::Front)
-    } else if verb == "held" {
-        Some(Ask::Held)
-    } else if verb == "account" {
-        Some(Ask::Account)
-    } else {
-        None
+    match verb {
+        "open" => Some(Ask::Open),
+        "front" => Some(Ask::Front),
+        "held" => Some(Ask::Held),
+        "account" => Some(Ask::Account),
+        _ => None,
     }
 }
 
@@ -154,8 +158,12 @@ fn read_short(
 ) -> Result<Request, Refusal>
     ensures { UnlessMemory result (short_from (view verb.now) (view document.now) (view third.now)) }
 {
-    let verb = verb.as_str().ok_or(Refusal::BadRequest)?;
-    let document = document.as_str().ok_or(Refusal::BadRequest)?;
+    let Some(verb) = verb.as_str() else {
+        return Err(Refusal::BadRequest);
+    };
+    let Some(document) = document.as_str() else {
+        return Err(Refusal::BadRequest);
+    };
     let name = Name::new(alloc, document)?;
     let ask = short_ask(alloc, verb, third)?;
     Ok(Request::Of(name, ask))
@@ -164,14 +172,11 @@ fn read_short(
 fn short_ask(alloc: Global, verb: &str, third: &Value) -> Result<Ask, Refusal>
     ensures { UnlessMemory result (short_ask verb.now (view third.now)) }
 {
-    if verb == "delete" {
-        read_deletion(alloc, third)
-    } else if verb == "deliver" {
-        read_delivery(alloc, third)
-    } else if verb == "forget" {
-        read_forgetting(third)
-    } else {
-        read_look(alloc, verb, third)
+    match verb {
+        "delete" => read_deletion(alloc, third),
+        "deliver" => read_delivery(alloc, third),
+        "forget" => read_forgetting(third),
+        _ => read_look(alloc, verb, third),
     }
 }
 
@@ -190,33 +195,32 @@ fn read_delivery(alloc: Global, op: &Value) -> Result<Ask, Refusal>
 fn read_forgetting(id: &Value) -> Result<Ask, Refusal>
     ensures { result ≡ forgetting_from (view id.now) }
 {
-    Ok(Ask::Forget(read_id(id).ok_or(Refusal::BadRequest)?))
+    match read_id(id) {
+        Some(id) => Ok(Ask::Forget(id)),
+        None => Err(Refusal::BadRequest),
+    }
 }
 
 fn read_look(alloc: Global, verb: &str, cursor: &Value) -> Result<Ask, Refusal>
     ensures { UnlessMemory result (look_from verb.now (view cursor.now)) }
 {
-    let look = look_of(verb).ok_or(Refusal::BadRequest)?;
+    let Some(look) = look_of(verb) else {
+        return Err(Refusal::BadRequest);
+    };
     Ok(Ask::Look(read_expr(alloc, cursor)?, look))
 }
 
 fn look_of(verb: &str) -> Option<Look>
     ensures { result ≡ look_of verb.now }
 {
-    if verb == "keys" {
-        Some(Look::Keys)
-    } else if verb == "values" {
-        Some(Look::Values)
-    } else if verb == "items" {
-        Some(Look::Items)
-    } else if verb == "conflicts" {
-        Some(Look::Conflicts)
-    } else if verb == "show" {
-        Some(Look::Show)
-    } else if verb == "sum" {
-        Some(Look::Sum)
-    } else {
-        None
+    match verb {
+        "keys" => Some(Look::Keys),
+        "values" => Some(Look::Values),
+        "items" => Some(Look::Items),
+        "conflicts" => Some(Look::Conflicts),
+        "show" => Some(Look::Show),
+        "sum" => Some(Look::Sum),
+        _ => None,
     }
 }
 
@@ -229,8 +233,12 @@ fn read_long(
 ) -> Result<Request, Refusal>
     ensures { UnlessMemory result (long_from (view verb.now) (view document.now) (view third.now) (view fourth.now)) }
 {
-    let verb = verb.as_str().ok_or(Refusal::BadRequest)?;
-    let document = document.as_str().ok_or(Refusal::BadRequest)?;
+    let Some(verb) = verb.as_str() else {
+        return Err(Refusal::BadRequest);
+    };
+    let Some(document) = document.as_str() else {
+        return Err(Refusal::BadRequest);
+    };
     let name = Name::new(alloc, document)?;
     let ask = long_ask(alloc, verb, third, fourth)?;
     Ok(Request::Of(name, ask))
@@ -239,12 +247,10 @@ fn read_long(
 fn long_ask(alloc: Global, verb: &str, third: &Value, fourth: &Value) -> Result<Ask, Refusal>
     ensures { UnlessMemory result (long_ask verb.now (view third.now) (view fourth.now)) }
 {
-    if verb == "let" {
-        read_naming(alloc, third, fourth)
-    } else if verb == "ops" {
-        read_ops(alloc, third, fourth)
-    } else {
-        read_change(alloc, verb, third, fourth)
+    match verb {
+        "let" => read_naming(alloc, third, fourth),
+        "ops" => read_ops(alloc, third, fourth),
+        _ => read_change(alloc, verb, third, fourth),
     }
 }
 
@@ -258,7 +264,9 @@ fn read_naming(alloc: Global, name: &Value, cursor: &Value) -> Result<Ask, Refus
 fn read_ops(alloc: Global, front: &Value, limit: &Value) -> Result<Ask, Refusal>
     ensures { UnlessMemory result (ops_from (view front.now) (view limit.now)) }
 {
-    let limit = read_limit(limit).ok_or(Refusal::BadRequest)?;
+    let Some(limit) = read_limit(limit) else {
+        return Err(Refusal::BadRequest);
+    };
     Ok(Ask::Operations(read_ascending(alloc, front)?, limit))
 }
 
@@ -307,14 +315,11 @@ fn read_any_front(alloc: Global, value: &Value) -> Result<Front, Refusal>
 fn read_change(alloc: Global, verb: &str, cursor: &Value, value: &Value) -> Result<Ask, Refusal>
     ensures { UnlessMemory result (change_ask verb.now (view cursor.now) (view value.now)) }
 {
-    if verb == "assign" {
-        read_assignment(alloc, cursor, value)
-    } else if verb == "insert" {
-        read_insertion(alloc, cursor, value)
-    } else if verb == "add" {
-        read_addition(alloc, cursor, value)
-    } else {
-        Err(Refusal::BadRequest)
+    match verb {
+        "assign" => read_assignment(alloc, cursor, value),
+        "insert" => read_insertion(alloc, cursor, value),
+        "add" => read_addition(alloc, cursor, value),
+        _ => Err(Refusal::BadRequest),
     }
 }
 
@@ -336,8 +341,10 @@ fn read_addition(alloc: Global, cursor: &Value, value: &Value) -> Result<Ask, Re
     ensures { UnlessMemory result (addition_from (view cursor.now) (view value.now)) }
 {
     let cursor = read_expr(alloc, cursor)?;
-    let amount = amount_of(value).ok_or(Refusal::BadValue)?;
-    Ok(Ask::Change(cursor, Mutation::Add(amount)))
+    match amount_of(value) {
+        Some(amount) => Ok(Ask::Change(cursor, Mutation::Add(amount))),
+        None => Err(Refusal::BadValue),
+    }
 }
 
 fn amount_of(value: &Value) -> Option<i64>

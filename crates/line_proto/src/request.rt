@@ -5,7 +5,7 @@ use lamport_id::Id;
 use op_core::{Front, Mutation, Operation};
 
 /// Where a cursor expression starts.
-#[derive(Debug, Drop)]
+#[derive(Drop)]
 pub enum Start {
     /// The document itself.
     Document,
@@ -14,7 +14,7 @@ pub enum Start {
 }
 
 /// A cursor expression: where it starts, and the steps from there.
-#[derive(Debug, Drop)]
+#[derive(Drop)]
 pub struct CursorExpr {
     /// Where it starts.
     pub start: Start,
@@ -23,7 +23,7 @@ pub struct CursorExpr {
 }
 
 /// What is asked of a document.
-#[derive(Debug, Drop)]
+#[derive(Drop)]
 pub enum Ask {
     /// A seat at the document.
     Open,
@@ -48,7 +48,7 @@ pub enum Ask {
 }
 
 /// What a client asks.
-#[derive(Debug, Drop)]
+#[derive(Drop)]
 pub enum Request {
     /// The session's end.
     Quit,
