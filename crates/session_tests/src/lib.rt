@@ -6,3 +6,5 @@
 mod runs;
 #[cfg(test)]
 mod servers;
+#[cfg(test)]
+mod told;

@@ -1,475 +1,158 @@
-//! The worked rows, each a session over one document.
-use super::{each_row, row, row_of};
-use std::test::Fail;
+//! The worked rows, each a session over one document. A row that has several orders of its causes stands once for each, and one of several
+//! sessions for each of those. One table of them all would take too long to prove.
+use super::{Row, Run, give_all, run_of, writes};
 
-#[test]
-fn buffer_release(rt: HostRuntime) -> Result<(), Fail> {
-    row(
-        &rt,
-        rt.alloc(),
-        br#"["open","d"]
-["deliver","d",["op",[3,"p"],[["p",2]],[[["m",0]],"k"],["assign",3]]]
-["deliver","d",["op",[2,"p"],[["p",1]],[[["m",0]],"k"],["assign",2]]]
-["held","d"]
-["deliver","d",["op",[1,"p"],[],[[["m",0]],"k"],["assign",1]]]
-["account","d"]
-["values","d",[0,"k"]]
-"#,
-        br#"["opened",1]
-["held",[[2,"p"]]]
-["held",[[1,"p"]]]
-["waiting",[[[2,"p"],[[1,"p"]]],[[3,"p"],[[2,"p"]]]]]
-["applied",3,0,[1,"p"]]
-["account",3]
-["values",[3]]
-"#,
-    )
-}
-
-#[test]
-fn colors_reassigned(rt: HostRuntime) -> Result<(), Fail> {
-    each_row(
-        &rt,
-        rt.alloc(),
-        &[
-            (
-                br##"["open","d"]
-["deliver","d",["op",[1,"p"],[],[[["m",0]],"colors"],["assign",{}]]]
-["deliver","d",["op",[2,"p"],[["p",1]],[[["m",0],["m","colors"]],"blue"],["assign","#0000ff"]]]
-["deliver","d",["op",[3,"p"],[["p",2]],[[["m",0],["m","colors"]],"red"],["assign","#ff0000"]]]
-["deliver","d",["op",[3,"q"],[["p",2]],[[["m",0]],"colors"],["assign",{}]]]
-["deliver","d",["op",[4,"q"],[["p",2],["q",3]],[[["m",0],["m","colors"]],"green"],["assign","#00ff00"]]]
-["keys","d",[0,"colors"]]
-["show","d",[0,"colors"]]
-"##,
-                br##"["opened",1]
-["applied",1,0,[1,"p"]]
-["applied",1,0,[2,"p"]]
-["applied",1,0,[3,"p"]]
-["applied",1,0,[3,"q"]]
-["applied",1,0,[4,"q"]]
-["keys",["green","red"]]
-["show",[["map",[["green",[["val",[4,"q"],"#00ff00"]]],["red",[["val",[3,"p"],"#ff0000"]]]]]]]
-"##,
-            ),
-            (
-                br##"["open","d"]
-["deliver","d",["op",[1,"p"],[],[[["m",0]],"colors"],["assign",{}]]]
-["deliver","d",["op",[2,"p"],[["p",1]],[[["m",0],["m","colors"]],"blue"],["assign","#0000ff"]]]
-["deliver","d",["op",[3,"q"],[["p",2]],[[["m",0]],"colors"],["assign",{}]]]
-["deliver","d",["op",[3,"p"],[["p",2]],[[["m",0],["m","colors"]],"red"],["assign","#ff0000"]]]
-["deliver","d",["op",[4,"q"],[["p",2],["q",3]],[[["m",0],["m","colors"]],"green"],["assign","#00ff00"]]]
-["keys","d",[0,"colors"]]
-["show","d",[0,"colors"]]
-"##,
-                br##"["opened",1]
-["applied",1,0,[1,"p"]]
-["applied",1,0,[2,"p"]]
-["applied",1,0,[3,"q"]]
-["applied",1,0,[3,"p"]]
-["applied",1,0,[4,"q"]]
-["keys",["green","red"]]
-["show",[["map",[["green",[["val",[4,"q"],"#00ff00"]]],["red",[["val",[3,"p"],"#ff0000"]]]]]]]
-"##,
-            ),
-            (
-                br##"["open","d"]
-["deliver","d",["op",[1,"p"],[],[[["m",0]],"colors"],["assign",{}]]]
-["deliver","d",["op",[2,"p"],[["p",1]],[[["m",0],["m","colors"]],"blue"],["assign","#0000ff"]]]
-["deliver","d",["op",[3,"q"],[["p",2]],[[["m",0]],"colors"],["assign",{}]]]
-["deliver","d",["op",[4,"q"],[["p",2],["q",3]],[[["m",0],["m","colors"]],"green"],["assign","#00ff00"]]]
-["deliver","d",["op",[3,"p"],[["p",2]],[[["m",0],["m","colors"]],"red"],["assign","#ff0000"]]]
-["keys","d",[0,"colors"]]
-["show","d",[0,"colors"]]
-"##,
-                br##"["opened",1]
-["applied",1,0,[1,"p"]]
-["applied",1,0,[2,"p"]]
-["applied",1,0,[3,"q"]]
-["applied",1,0,[4,"q"]]
-["applied",1,0,[3,"p"]]
-["keys",["green","red"]]
-["show",[["map",[["green",[["val",[4,"q"],"#00ff00"]]],["red",[["val",[3,"p"],"#ff0000"]]]]]]]
-"##,
-            ),
-        ],
-    )
-}
-
-#[test]
-fn concurrent_deletes(rt: HostRuntime) -> Result<(), Fail> {
-    each_row(
-        &rt,
-        rt.alloc(),
-        &[
-            (
-                br#"["open","d"]
-["deliver","d",["op",[1,"p"],[],[[["m",0],["m","a"]],"b"],["assign","v"]]]
-["deliver","d",["op",[2,"p"],[["p",1]],[[["m",0],["m","a"]],"b"],["delete"]]]
-["deliver","d",["op",[2,"q"],[["p",1]],[[["m",0]],"a"],["delete"]]]
-["keys","d",[0]]
-["show","d",[0]]
-"#,
-                br#"["opened",1]
-["applied",1,0,[1,"p"]]
-["applied",1,0,[2,"p"]]
-["applied",1,0,[2,"q"]]
-["keys",[]]
-["show",[]]
-"#,
-            ),
-            (
-                br#"["open","d"]
-["deliver","d",["op",[1,"p"],[],[[["m",0],["m","a"]],"b"],["assign","v"]]]
-["deliver","d",["op",[2,"q"],[["p",1]],[[["m",0]],"a"],["delete"]]]
-["deliver","d",["op",[2,"p"],[["p",1]],[[["m",0],["m","a"]],"b"],["delete"]]]
-["keys","d",[0]]
-["show","d",[0]]
-"#,
-                br#"["opened",1]
-["applied",1,0,[1,"p"]]
-["applied",1,0,[2,"q"]]
-["applied",1,0,[2,"p"]]
-["keys",[]]
-["show",[]]
-"#,
-            ),
-        ],
-    )
-}
-
-#[test]
-fn concurrent_list_edits(rt: HostRuntime) -> Result<(), Fail> {
-    each_row(
-        &rt,
-        rt.alloc(),
-        &[
-            (
-                br#"["open","d"]
-["deliver","d",["op",[1,"o"],[],[[],0],["assign",{}]]]
-["deliver","d",["op",[2,"o"],[["o",1]],[[["m",0]],"l"],["assign",[]]]]
-["deliver","d",["op",[3,"o"],[["o",2]],[[["m",0],["l","l"]],1],["insert","a"]]]
-["deliver","d",["op",[4,"o"],[["o",3]],[[["m",0],["l","l"]],[3,"o"]],["insert","b"]]]
-["deliver","d",["op",[5,"o"],[["o",4]],[[["m",0],["l","l"]],[4,"o"]],["insert","c"]]]
-["deliver","d",["op",[6,"p"],[["o",5]],[[["m",0],["l","l"]],[4,"o"]],["delete"]]]
-["deliver","d",["op",[7,"p"],[["o",5],["p",6]],[[["m",0],["l","l"]],[3,"o"]],["insert","x"]]]
-["deliver","d",["op",[6,"q"],[["o",5]],[[["m",0],["l","l"]],[3,"o"]],["insert","y"]]]
-["deliver","d",["op",[7,"q"],[["o",5],["q",6]],[[["m",0],["l","l"]],[5,"o"]],["insert","z"]]]
-["items","d",[0,"l"]]
-"#,
-                br#"["opened",1]
-["applied",1,0,[1,"o"]]
-["applied",1,0,[2,"o"]]
-["applied",1,0,[3,"o"]]
-["applied",1,0,[4,"o"]]
-["applied",1,0,[5,"o"]]
-["applied",1,0,[6,"p"]]
-["applied",1,0,[7,"p"]]
-["applied",1,0,[6,"q"]]
-["applied",1,0,[7,"q"]]
-["items",[[[3,"o"],["a"]],[[7,"p"],["x"]],[[6,"q"],["y"]],[[5,"o"],["c"]],[[7,"q"],["z"]]]]
-"#,
-            ),
-            (
-                br#"["open","d"]
-["deliver","d",["op",[1,"o"],[],[[],0],["assign",{}]]]
-["deliver","d",["op",[2,"o"],[["o",1]],[[["m",0]],"l"],["assign",[]]]]
-["deliver","d",["op",[3,"o"],[["o",2]],[[["m",0],["l","l"]],1],["insert","a"]]]
-["deliver","d",["op",[4,"o"],[["o",3]],[[["m",0],["l","l"]],[3,"o"]],["insert","b"]]]
-["deliver","d",["op",[5,"o"],[["o",4]],[[["m",0],["l","l"]],[4,"o"]],["insert","c"]]]
-["deliver","d",["op",[6,"p"],[["o",5]],[[["m",0],["l","l"]],[4,"o"]],["delete"]]]
-["deliver","d",["op",[6,"q"],[["o",5]],[[["m",0],["l","l"]],[3,"o"]],["insert","y"]]]
-["deliver","d",["op",[7,"p"],[["o",5],["p",6]],[[["m",0],["l","l"]],[3,"o"]],["insert","x"]]]
-["deliver","d",["op",[7,"q"],[["o",5],["q",6]],[[["m",0],["l","l"]],[5,"o"]],["insert","z"]]]
-["items","d",[0,"l"]]
-"#,
-                br#"["opened",1]
-["applied",1,0,[1,"o"]]
-["applied",1,0,[2,"o"]]
-["applied",1,0,[3,"o"]]
-["applied",1,0,[4,"o"]]
-["applied",1,0,[5,"o"]]
-["applied",1,0,[6,"p"]]
-["applied",1,0,[6,"q"]]
-["applied",1,0,[7,"p"]]
-["applied",1,0,[7,"q"]]
-["items",[[[3,"o"],["a"]],[[7,"p"],["x"]],[[6,"q"],["y"]],[[5,"o"],["c"]],[[7,"q"],["z"]]]]
-"#,
-            ),
-            (
-                br#"["open","d"]
-["deliver","d",["op",[1,"o"],[],[[],0],["assign",{}]]]
-["deliver","d",["op",[2,"o"],[["o",1]],[[["m",0]],"l"],["assign",[]]]]
-["deliver","d",["op",[3,"o"],[["o",2]],[[["m",0],["l","l"]],1],["insert","a"]]]
-["deliver","d",["op",[4,"o"],[["o",3]],[[["m",0],["l","l"]],[3,"o"]],["insert","b"]]]
-["deliver","d",["op",[5,"o"],[["o",4]],[[["m",0],["l","l"]],[4,"o"]],["insert","c"]]]
-["deliver","d",["op",[6,"p"],[["o",5]],[[["m",0],["l","l"]],[4,"o"]],["delete"]]]
-["deliver","d",["op",[6,"q"],[["o",5]],[[["m",0],["l","l"]],[3,"o"]],["insert","y"]]]
-["deliver","d",["op",[7,"q"],[["o",5],["q",6]],[[["m",0],["l","l"]],[5,"o"]],["insert","z"]]]
-["deliver","d",["op",[7,"p"],[["o",5],["p",6]],[[["m",0],["l","l"]],[3,"o"]],["insert","x"]]]
-["items","d",[0,"l"]]
-"#,
-                br#"["opened",1]
-["applied",1,0,[1,"o"]]
-["applied",1,0,[2,"o"]]
-["applied",1,0,[3,"o"]]
-["applied",1,0,[4,"o"]]
-["applied",1,0,[5,"o"]]
-["applied",1,0,[6,"p"]]
-["applied",1,0,[6,"q"]]
-["applied",1,0,[7,"q"]]
-["applied",1,0,[7,"p"]]
-["items",[[[3,"o"],["a"]],[[7,"p"],["x"]],[[6,"q"],["y"]],[[5,"o"],["c"]],[[7,"q"],["z"]]]]
-"#,
-            ),
-            (
-                br#"["open","d"]
-["deliver","d",["op",[1,"o"],[],[[],0],["assign",{}]]]
-["deliver","d",["op",[2,"o"],[["o",1]],[[["m",0]],"l"],["assign",[]]]]
-["deliver","d",["op",[3,"o"],[["o",2]],[[["m",0],["l","l"]],1],["insert","a"]]]
-["deliver","d",["op",[4,"o"],[["o",3]],[[["m",0],["l","l"]],[3,"o"]],["insert","b"]]]
-["deliver","d",["op",[5,"o"],[["o",4]],[[["m",0],["l","l"]],[4,"o"]],["insert","c"]]]
-["deliver","d",["op",[6,"q"],[["o",5]],[[["m",0],["l","l"]],[3,"o"]],["insert","y"]]]
-["deliver","d",["op",[6,"p"],[["o",5]],[[["m",0],["l","l"]],[4,"o"]],["delete"]]]
-["deliver","d",["op",[7,"p"],[["o",5],["p",6]],[[["m",0],["l","l"]],[3,"o"]],["insert","x"]]]
-["deliver","d",["op",[7,"q"],[["o",5],["q",6]],[[["m",0],["l","l"]],[5,"o"]],["insert","z"]]]
-["items","d",[0,"l"]]
-"#,
-                br#"["opened",1]
-["applied",1,0,[1,"o"]]
-["applied",1,0,[2,"o"]]
-["applied",1,0,[3,"o"]]
-["applied",1,0,[4,"o"]]
-["applied",1,0,[5,"o"]]
-["applied",1,0,[6,"q"]]
-["applied",1,0,[6,"p"]]
-["applied",1,0,[7,"p"]]
-["applied",1,0,[7,"q"]]
-["items",[[[3,"o"],["a"]],[[7,"p"],["x"]],[[6,"q"],["y"]],[[5,"o"],["c"]],[[7,"q"],["z"]]]]
-"#,
-            ),
-            (
-                br#"["open","d"]
-["deliver","d",["op",[1,"o"],[],[[],0],["assign",{}]]]
-["deliver","d",["op",[2,"o"],[["o",1]],[[["m",0]],"l"],["assign",[]]]]
-["deliver","d",["op",[3,"o"],[["o",2]],[[["m",0],["l","l"]],1],["insert","a"]]]
-["deliver","d",["op",[4,"o"],[["o",3]],[[["m",0],["l","l"]],[3,"o"]],["insert","b"]]]
-["deliver","d",["op",[5,"o"],[["o",4]],[[["m",0],["l","l"]],[4,"o"]],["insert","c"]]]
-["deliver","d",["op",[6,"q"],[["o",5]],[[["m",0],["l","l"]],[3,"o"]],["insert","y"]]]
-["deliver","d",["op",[6,"p"],[["o",5]],[[["m",0],["l","l"]],[4,"o"]],["delete"]]]
-["deliver","d",["op",[7,"q"],[["o",5],["q",6]],[[["m",0],["l","l"]],[5,"o"]],["insert","z"]]]
-["deliver","d",["op",[7,"p"],[["o",5],["p",6]],[[["m",0],["l","l"]],[3,"o"]],["insert","x"]]]
-["items","d",[0,"l"]]
-"#,
-                br#"["opened",1]
-["applied",1,0,[1,"o"]]
-["applied",1,0,[2,"o"]]
-["applied",1,0,[3,"o"]]
-["applied",1,0,[4,"o"]]
-["applied",1,0,[5,"o"]]
-["applied",1,0,[6,"q"]]
-["applied",1,0,[6,"p"]]
-["applied",1,0,[7,"q"]]
-["applied",1,0,[7,"p"]]
-["items",[[[3,"o"],["a"]],[[7,"p"],["x"]],[[6,"q"],["y"]],[[5,"o"],["c"]],[[7,"q"],["z"]]]]
-"#,
-            ),
-            (
-                br#"["open","d"]
-["deliver","d",["op",[1,"o"],[],[[],0],["assign",{}]]]
-["deliver","d",["op",[2,"o"],[["o",1]],[[["m",0]],"l"],["assign",[]]]]
-["deliver","d",["op",[3,"o"],[["o",2]],[[["m",0],["l","l"]],1],["insert","a"]]]
-["deliver","d",["op",[4,"o"],[["o",3]],[[["m",0],["l","l"]],[3,"o"]],["insert","b"]]]
-["deliver","d",["op",[5,"o"],[["o",4]],[[["m",0],["l","l"]],[4,"o"]],["insert","c"]]]
-["deliver","d",["op",[6,"q"],[["o",5]],[[["m",0],["l","l"]],[3,"o"]],["insert","y"]]]
-["deliver","d",["op",[7,"q"],[["o",5],["q",6]],[[["m",0],["l","l"]],[5,"o"]],["insert","z"]]]
-["deliver","d",["op",[6,"p"],[["o",5]],[[["m",0],["l","l"]],[4,"o"]],["delete"]]]
-["deliver","d",["op",[7,"p"],[["o",5],["p",6]],[[["m",0],["l","l"]],[3,"o"]],["insert","x"]]]
-["items","d",[0,"l"]]
-"#,
-                br#"["opened",1]
-["applied",1,0,[1,"o"]]
-["applied",1,0,[2,"o"]]
-["applied",1,0,[3,"o"]]
-["applied",1,0,[4,"o"]]
-["applied",1,0,[5,"o"]]
-["applied",1,0,[6,"q"]]
-["applied",1,0,[7,"q"]]
-["applied",1,0,[6,"p"]]
-["applied",1,0,[7,"p"]]
-["items",[[[3,"o"],["a"]],[[7,"p"],["x"]],[[6,"q"],["y"]],[[5,"o"],["c"]],[[7,"q"],["z"]]]]
-"#,
-            ),
-        ],
-    )
-}
-
-#[test]
-fn concurrent_register(rt: HostRuntime) -> Result<(), Fail> {
-    each_row(
-        &rt,
-        rt.alloc(),
-        &[
-            (
-                br#"["open","d"]
-["deliver","d",["op",[1,"p"],[],[[["m",0]],"k"],["assign","A"]]]
-["deliver","d",["op",[2,"p"],[["p",1]],[[["m",0]],"k"],["assign","B"]]]
-["deliver","d",["op",[2,"q"],[["p",1]],[[["m",0]],"k"],["assign","C"]]]
-["values","d",[0,"k"]]
-["conflicts","d",[0,"k"]]
-"#,
-                br#"["opened",1]
-["applied",1,0,[1,"p"]]
-["applied",1,0,[2,"p"]]
-["applied",1,0,[2,"q"]]
-["values",["B","C"]]
-["conflicts",[[[2,"p"],"B"],[[2,"q"],"C"]]]
-"#,
-            ),
-            (
-                br#"["open","d"]
-["deliver","d",["op",[1,"p"],[],[[["m",0]],"k"],["assign","A"]]]
-["deliver","d",["op",[2,"q"],[["p",1]],[[["m",0]],"k"],["assign","C"]]]
-["deliver","d",["op",[2,"p"],[["p",1]],[[["m",0]],"k"],["assign","B"]]]
-["values","d",[0,"k"]]
-["conflicts","d",[0,"k"]]
-"#,
-                br#"["opened",1]
-["applied",1,0,[1,"p"]]
-["applied",1,0,[2,"q"]]
-["applied",1,0,[2,"p"]]
-["values",["B","C"]]
-["conflicts",[[[2,"p"],"B"],[[2,"q"],"C"]]]
-"#,
-            ),
-        ],
-    )
-}
-
-#[test]
-fn counter_and_scalar(rt: HostRuntime) -> Result<(), Fail> {
-    each_row(
-        &rt,
-        rt.alloc(),
-        &[
-            (
-                br#"["open","d"]
-["deliver","d",["op",[1,"p"],[],[[["m",0]],"n"],["add",5]]]
-["deliver","d",["op",[1,"q"],[],[[["m",0]],"n"],["add",-7]]]
-["sum","d",[0,"n"]]
-["deliver","d",["op",[2,"p"],[["p",1]],[[["m",0]],"n"],["assign","x"]]]
-["sum","d",[0,"n"]]
-["show","d",[0,"n"]]
-["conflicts","d",[0,"n"]]
-["delete","d",[0,"n"]]
-["sum","d",[0,"n"]]
-["show","d",[0,"n"]]
-"#,
-                br#"["opened",1]
-["applied",1,0,[1,"p"]]
-["applied",1,0,[1,"q"]]
-["sum","-2"]
-["applied",1,0,[2,"p"]]
-["sum","-7"]
-["show",[["val",[2,"p"],"x"],["cnt","-7"]]]
-["conflicts",[[[2,"p"],"x"]]]
-["applied",1,0,[3,"srv-1"]]
-["sum","0"]
-["show",[]]
-"#,
-            ),
-            (
-                br#"["open","d"]
-["deliver","d",["op",[1,"q"],[],[[["m",0]],"n"],["add",-7]]]
-["deliver","d",["op",[1,"p"],[],[[["m",0]],"n"],["add",5]]]
-["sum","d",[0,"n"]]
-["deliver","d",["op",[2,"p"],[["p",1]],[[["m",0]],"n"],["assign","x"]]]
-["sum","d",[0,"n"]]
-["show","d",[0,"n"]]
-["conflicts","d",[0,"n"]]
-["delete","d",[0,"n"]]
-["sum","d",[0,"n"]]
-["show","d",[0,"n"]]
-"#,
-                br#"["opened",1]
-["applied",1,0,[1,"q"]]
-["applied",1,0,[1,"p"]]
-["sum","-2"]
-["applied",1,0,[2,"p"]]
-["sum","-7"]
-["show",[["val",[2,"p"],"x"],["cnt","-7"]]]
-["conflicts",[[[2,"p"],"x"]]]
-["applied",1,0,[3,"srv-1"]]
-["sum","0"]
-["show",[]]
-"#,
-            ),
-        ],
-    )
-}
-
-#[test]
-fn counter_beyond_i64(rt: HostRuntime) -> Result<(), Fail> {
-    row(
-        &rt,
-        rt.alloc(),
-        br#"["open","d"]
+/// What sessions with no other replica are told.
+static ALONE: [Row; 11] = [
+    Row {
+        name: "counter_beyond_i64",
+        input: r#"["open","d"]
 ["add","d",[0,"m"],9223372036854775807]
 ["add","d",[0,"m"],9223372036854775807]
 ["sum","d",[0,"m"]]
 "#,
-        br#"["opened",1]
+        output: r#"["opened",1]
 ["applied",1,0,[1,"srv-1"]]
 ["applied",1,0,[2,"srv-1"]]
 ["sum","18446744073709551614"]
 "#,
-    )
-}
-
-#[test]
-fn delete_of_nothing(rt: HostRuntime) -> Result<(), Fail> {
-    row(
-        &rt,
-        rt.alloc(),
-        br#"["open","d"]
+    },
+    Row {
+        name: "delete_of_nothing",
+        input: r#"["open","d"]
 ["assign","d",[0],{}]
 ["delete","d",[0,"a","b"]]
 ["keys","d",[0]]
 ["show","d",[0]]
 "#,
-        br#"["opened",1]
+        output: r#"["opened",1]
 ["applied",1,0,[1,"srv-1"]]
 ["applied",1,0,[2,"srv-1"]]
 ["keys",[]]
 ["show",[["map",[]]]]
 "#,
-    )
-}
-
-#[test]
-fn delivered_twice(rt: HostRuntime) -> Result<(), Fail> {
-    row(
-        &rt,
-        rt.alloc(),
-        br#"["open","d"]
-["deliver","d",["op",[1,"p"],[],[[["m",0]],"k"],["assign","A"]]]
-["deliver","d",["op",[1,"p"],[],[[["m",0]],"k"],["assign","A"]]]
-["deliver","d",["op",[1,"p"],[],[[["m",0]],"k"],["assign","Z"]]]
+    },
+    Row {
+        name: "first_run",
+        input: r#"["open","d"]
+["assign","d",[0],{}]
 "#,
-        br#"["opened",1]
-["applied",1,0,[1,"p"]]
-["known"]
-["no",15,"id-conflict"]
+        output: r#"["opened",1]
+["applied",1,0,[1,"srv-1"]]
 "#,
-    )
-}
-
-#[test]
-fn exchange_of_two(rt: HostRuntime) -> Result<(), Fail> {
-    row(
-        &rt,
-        rt.alloc(),
-        br#"["open","d"]
+    },
+    Row {
+        name: "nested_show",
+        input: r#"["open","d"]
+["assign","d",[0],{}]
+["assign","d",[0,"a"],[]]
+["insert","d",[0,"a",0],{}]
+["assign","d",[0,"a",1,"t"],"x"]
+["show","d",[0]]
+["conflicts","d",[0,"a"]]
+"#,
+        output: r#"["opened",1]
+["applied",1,0,[1,"srv-1"]]
+["applied",1,0,[2,"srv-1"]]
+["applied",1,0,[3,"srv-1"]]
+["applied",1,0,[4,"srv-1"]]
+["show",[["map",[["a",[["list",[[["map",[["t",[["val",[4,"srv-1"],"x"]]]]]]]]]]]]]]
+["conflicts",[[[2,"srv-1"],[]]]]
+"#,
+    },
+    Row {
+        name: "reassignments",
+        input: r#"["open","d"]
+["assign","d",[0],{}]
+["assign","d",[0,"a"],1]
+["assign","d",[0,"a"],2]
+["values","d",[0,"a"]]
+["assign","d",[0,"a"],{}]
+["values","d",[0,"a"]]
+["keys","d",[0]]
+["assign","d",[0],{}]
+["keys","d",[0]]
+"#,
+        output: r#"["opened",1]
+["applied",1,0,[1,"srv-1"]]
+["applied",1,0,[2,"srv-1"]]
+["applied",1,0,[3,"srv-1"]]
+["values",[2]]
+["applied",1,0,[4,"srv-1"]]
+["values",[]]
+["keys",["a"]]
+["applied",1,0,[5,"srv-1"]]
+["keys",[]]
+"#,
+    },
+    Row {
+        name: "shopping_list",
+        input: r#"["open","d"]
+["assign","d",[0],{}]
+["assign","d",[0,"shopping"],[]]
+["insert","d",[0,"shopping",0],"eggs"]
+["let","d","e",[0,"shopping",1]]
+["insert","d",[0,"shopping",0],"cheese"]
+["insert","d",["e"],"milk"]
+["items","d",[0,"shopping"]]
+"#,
+        output: r#"["opened",1]
+["applied",1,0,[1,"srv-1"]]
+["applied",1,0,[2,"srv-1"]]
+["applied",1,0,[3,"srv-1"]]
+["bound"]
+["applied",1,0,[4,"srv-1"]]
+["applied",1,0,[5,"srv-1"]]
+["items",[[[4,"srv-1"],["cheese"]],[[3,"srv-1"],["eggs"]],[[5,"srv-1"],["milk"]]]]
+"#,
+    },
+    Row {
+        name: "variable_after_delete",
+        input: r#"["open","d"]
+["assign","d",[0,"l"],[]]
+["insert","d",[0,"l",0],"a"]
+["insert","d",[0,"l",1],"b"]
+["let","d","e",[0,"l",1]]
+["delete","d",[0,"l",1]]
+["insert","d",[0,"l",0],"c"]
+["insert","d",["e"],"x"]
+["items","d",[0,"l"]]
+["values","d",["e"]]
+"#,
+        output: r#"["opened",1]
+["applied",1,0,[1,"srv-1"]]
+["applied",1,0,[2,"srv-1"]]
+["applied",1,0,[3,"srv-1"]]
+["bound"]
+["applied",1,0,[4,"srv-1"]]
+["applied",1,0,[5,"srv-1"]]
+["applied",1,0,[6,"srv-1"]]
+["items",[[[5,"srv-1"],["c"]],[[6,"srv-1"],["x"]],[[3,"srv-1"],["b"]]]]
+["values",[]]
+"#,
+    },
+    Row {
+        name: "version_2",
+        input: r#"["version"]
+"#,
+        output: r#"["version",2]
+"#,
+    },
+    Row {
+        name: "without_open-1",
+        input: r#""#,
+        output: r#""#,
+    },
+    Row {
+        name: "without_open-2",
+        input: r#"
+"#,
+        output: r#"["no",1,"not-json"]
+"#,
+    },
+    Row {
+        name: "exchange_of_two",
+        input: r#"["open","d"]
 ["assign","d",[0],{}]
 ["assign","d",[0,"k"],"A"]
 ["ops","d",[],64]
@@ -477,7 +160,7 @@ fn exchange_of_two(rt: HostRuntime) -> Result<(), Fail> {
 ["front","d"]
 ["conflicts","d",[0,"k"]]
 "#,
-        br#"["opened",1]
+        output: r#"["opened",1]
 ["applied",1,0,[1,"srv-1"]]
 ["applied",1,0,[2,"srv-1"]]
 ["ops",[["op",[1,"srv-1"],[],[[],0],["assign",{}]],["op",[2,"srv-1"],[["srv-1",1]],[[["m",0]],"k"],["assign","A"]]]]
@@ -485,49 +168,737 @@ fn exchange_of_two(rt: HostRuntime) -> Result<(), Fail> {
 ["front",[["b-1",1],["srv-1",2]]]
 ["conflicts",[[[1,"b-1"],"B"],[[2,"srv-1"],"A"]]]
 "#,
-    )?;
-    row_of(
-        &rt,
-        rt.alloc(),
-        "b",
-        br#"["open","d"]
-["assign","d",[0,"k"],"B"]
-["deliver","d",["op",[1,"srv-1"],[],[[],0],["assign",{}]]]
-["deliver","d",["op",[2,"srv-1"],[["srv-1",1]],[[["m",0]],"k"],["assign","A"]]]
-["front","d"]
+    },
+];
+
+#[test]
+fn sessions_alone(rt: HostRuntime) {
+    give_all(&rt, rt.alloc(), &ALONE);
+}
+
+/// Operations of two replicas, in each order of their causes.
+static ORDERS: [Row; 11] = [
+    Row {
+        name: "colors_reassigned-order_1",
+        input: r##"["open","d"]
+["deliver","d",["op",[1,"p"],[],[[["m",0]],"colors"],["assign",{}]]]
+["deliver","d",["op",[2,"p"],[["p",1]],[[["m",0],["m","colors"]],"blue"],["assign","#0000ff"]]]
+["deliver","d",["op",[3,"p"],[["p",2]],[[["m",0],["m","colors"]],"red"],["assign","#ff0000"]]]
+["deliver","d",["op",[3,"q"],[["p",2]],[[["m",0]],"colors"],["assign",{}]]]
+["deliver","d",["op",[4,"q"],[["p",2],["q",3]],[[["m",0],["m","colors"]],"green"],["assign","#00ff00"]]]
+["keys","d",[0,"colors"]]
+["show","d",[0,"colors"]]
+"##,
+        output: r##"["opened",1]
+["applied",1,0,[1,"p"]]
+["applied",1,0,[2,"p"]]
+["applied",1,0,[3,"p"]]
+["applied",1,0,[3,"q"]]
+["applied",1,0,[4,"q"]]
+["keys",["green","red"]]
+["show",[["map",[["green",[["val",[4,"q"],"#00ff00"]]],["red",[["val",[3,"p"],"#ff0000"]]]]]]]
+"##,
+    },
+    Row {
+        name: "colors_reassigned-order_2",
+        input: r##"["open","d"]
+["deliver","d",["op",[1,"p"],[],[[["m",0]],"colors"],["assign",{}]]]
+["deliver","d",["op",[2,"p"],[["p",1]],[[["m",0],["m","colors"]],"blue"],["assign","#0000ff"]]]
+["deliver","d",["op",[3,"q"],[["p",2]],[[["m",0]],"colors"],["assign",{}]]]
+["deliver","d",["op",[3,"p"],[["p",2]],[[["m",0],["m","colors"]],"red"],["assign","#ff0000"]]]
+["deliver","d",["op",[4,"q"],[["p",2],["q",3]],[[["m",0],["m","colors"]],"green"],["assign","#00ff00"]]]
+["keys","d",[0,"colors"]]
+["show","d",[0,"colors"]]
+"##,
+        output: r##"["opened",1]
+["applied",1,0,[1,"p"]]
+["applied",1,0,[2,"p"]]
+["applied",1,0,[3,"q"]]
+["applied",1,0,[3,"p"]]
+["applied",1,0,[4,"q"]]
+["keys",["green","red"]]
+["show",[["map",[["green",[["val",[4,"q"],"#00ff00"]]],["red",[["val",[3,"p"],"#ff0000"]]]]]]]
+"##,
+    },
+    Row {
+        name: "colors_reassigned-order_3",
+        input: r##"["open","d"]
+["deliver","d",["op",[1,"p"],[],[[["m",0]],"colors"],["assign",{}]]]
+["deliver","d",["op",[2,"p"],[["p",1]],[[["m",0],["m","colors"]],"blue"],["assign","#0000ff"]]]
+["deliver","d",["op",[3,"q"],[["p",2]],[[["m",0]],"colors"],["assign",{}]]]
+["deliver","d",["op",[4,"q"],[["p",2],["q",3]],[[["m",0],["m","colors"]],"green"],["assign","#00ff00"]]]
+["deliver","d",["op",[3,"p"],[["p",2]],[[["m",0],["m","colors"]],"red"],["assign","#ff0000"]]]
+["keys","d",[0,"colors"]]
+["show","d",[0,"colors"]]
+"##,
+        output: r##"["opened",1]
+["applied",1,0,[1,"p"]]
+["applied",1,0,[2,"p"]]
+["applied",1,0,[3,"q"]]
+["applied",1,0,[4,"q"]]
+["applied",1,0,[3,"p"]]
+["keys",["green","red"]]
+["show",[["map",[["green",[["val",[4,"q"],"#00ff00"]]],["red",[["val",[3,"p"],"#ff0000"]]]]]]]
+"##,
+    },
+    Row {
+        name: "concurrent_deletes-order_1",
+        input: r#"["open","d"]
+["deliver","d",["op",[1,"p"],[],[[["m",0],["m","a"]],"b"],["assign","v"]]]
+["deliver","d",["op",[2,"p"],[["p",1]],[[["m",0],["m","a"]],"b"],["delete"]]]
+["deliver","d",["op",[2,"q"],[["p",1]],[[["m",0]],"a"],["delete"]]]
+["keys","d",[0]]
+["show","d",[0]]
+"#,
+        output: r#"["opened",1]
+["applied",1,0,[1,"p"]]
+["applied",1,0,[2,"p"]]
+["applied",1,0,[2,"q"]]
+["keys",[]]
+["show",[]]
+"#,
+    },
+    Row {
+        name: "concurrent_deletes-order_2",
+        input: r#"["open","d"]
+["deliver","d",["op",[1,"p"],[],[[["m",0],["m","a"]],"b"],["assign","v"]]]
+["deliver","d",["op",[2,"q"],[["p",1]],[[["m",0]],"a"],["delete"]]]
+["deliver","d",["op",[2,"p"],[["p",1]],[[["m",0],["m","a"]],"b"],["delete"]]]
+["keys","d",[0]]
+["show","d",[0]]
+"#,
+        output: r#"["opened",1]
+["applied",1,0,[1,"p"]]
+["applied",1,0,[2,"q"]]
+["applied",1,0,[2,"p"]]
+["keys",[]]
+["show",[]]
+"#,
+    },
+    Row {
+        name: "concurrent_register-order_1",
+        input: r#"["open","d"]
+["deliver","d",["op",[1,"p"],[],[[["m",0]],"k"],["assign","A"]]]
+["deliver","d",["op",[2,"p"],[["p",1]],[[["m",0]],"k"],["assign","B"]]]
+["deliver","d",["op",[2,"q"],[["p",1]],[[["m",0]],"k"],["assign","C"]]]
+["values","d",[0,"k"]]
 ["conflicts","d",[0,"k"]]
 "#,
-        br#"["opened",1]
-["applied",1,0,[1,"b-1"]]
-["applied",1,0,[1,"srv-1"]]
-["applied",1,0,[2,"srv-1"]]
-["front",[["b-1",1],["srv-1",2]]]
-["conflicts",[[[1,"b-1"],"B"],[[2,"srv-1"],"A"]]]
+        output: r#"["opened",1]
+["applied",1,0,[1,"p"]]
+["applied",1,0,[2,"p"]]
+["applied",1,0,[2,"q"]]
+["values",["B","C"]]
+["conflicts",[[[2,"p"],"B"],[[2,"q"],"C"]]]
 "#,
-    )?;
-    Ok(())
-}
+    },
+    Row {
+        name: "concurrent_register-order_2",
+        input: r#"["open","d"]
+["deliver","d",["op",[1,"p"],[],[[["m",0]],"k"],["assign","A"]]]
+["deliver","d",["op",[2,"q"],[["p",1]],[[["m",0]],"k"],["assign","C"]]]
+["deliver","d",["op",[2,"p"],[["p",1]],[[["m",0]],"k"],["assign","B"]]]
+["values","d",[0,"k"]]
+["conflicts","d",[0,"k"]]
+"#,
+        output: r#"["opened",1]
+["applied",1,0,[1,"p"]]
+["applied",1,0,[2,"q"]]
+["applied",1,0,[2,"p"]]
+["values",["B","C"]]
+["conflicts",[[[2,"p"],"B"],[[2,"q"],"C"]]]
+"#,
+    },
+    Row {
+        name: "counter_and_scalar-order_1",
+        input: r#"["open","d"]
+["deliver","d",["op",[1,"p"],[],[[["m",0]],"n"],["add",5]]]
+["deliver","d",["op",[1,"q"],[],[[["m",0]],"n"],["add",-7]]]
+["sum","d",[0,"n"]]
+["deliver","d",["op",[2,"p"],[["p",1]],[[["m",0]],"n"],["assign","x"]]]
+["sum","d",[0,"n"]]
+["show","d",[0,"n"]]
+["conflicts","d",[0,"n"]]
+["delete","d",[0,"n"]]
+["sum","d",[0,"n"]]
+["show","d",[0,"n"]]
+"#,
+        output: r#"["opened",1]
+["applied",1,0,[1,"p"]]
+["applied",1,0,[1,"q"]]
+["sum","-2"]
+["applied",1,0,[2,"p"]]
+["sum","-7"]
+["show",[["val",[2,"p"],"x"],["cnt","-7"]]]
+["conflicts",[[[2,"p"],"x"]]]
+["applied",1,0,[3,"srv-1"]]
+["sum","0"]
+["show",[]]
+"#,
+    },
+    Row {
+        name: "counter_and_scalar-order_2",
+        input: r#"["open","d"]
+["deliver","d",["op",[1,"q"],[],[[["m",0]],"n"],["add",-7]]]
+["deliver","d",["op",[1,"p"],[],[[["m",0]],"n"],["add",5]]]
+["sum","d",[0,"n"]]
+["deliver","d",["op",[2,"p"],[["p",1]],[[["m",0]],"n"],["assign","x"]]]
+["sum","d",[0,"n"]]
+["show","d",[0,"n"]]
+["conflicts","d",[0,"n"]]
+["delete","d",[0,"n"]]
+["sum","d",[0,"n"]]
+["show","d",[0,"n"]]
+"#,
+        output: r#"["opened",1]
+["applied",1,0,[1,"q"]]
+["applied",1,0,[1,"p"]]
+["sum","-2"]
+["applied",1,0,[2,"p"]]
+["sum","-7"]
+["show",[["val",[2,"p"],"x"],["cnt","-7"]]]
+["conflicts",[[[2,"p"],"x"]]]
+["applied",1,0,[3,"srv-1"]]
+["sum","0"]
+["show",[]]
+"#,
+    },
+    Row {
+        name: "todo_deleted_while_edited-order_1",
+        input: r#"["open","d"]
+["deliver","d",["op",[1,"p"],[],[[["m",0]],"todo"],["assign",[]]]]
+["deliver","d",["op",[2,"p"],[["p",1]],[[["m",0],["l","todo"]],1],["insert",{}]]]
+["deliver","d",["op",[3,"p"],[["p",2]],[[["m",0],["l","todo"],["m",[2,"p"]]],"title"],["assign","buy milk"]]]
+["deliver","d",["op",[4,"p"],[["p",3]],[[["m",0],["l","todo"],["m",[2,"p"]]],"done"],["assign",false]]]
+["deliver","d",["op",[5,"p"],[["p",4]],[[["m",0],["l","todo"]],[2,"p"]],["delete"]]]
+["deliver","d",["op",[5,"q"],[["p",4]],[[["m",0],["l","todo"],["m",[2,"p"]]],"done"],["assign",true]]]
+["show","d",[0,"todo"]]
+"#,
+        output: r#"["opened",1]
+["applied",1,0,[1,"p"]]
+["applied",1,0,[2,"p"]]
+["applied",1,0,[3,"p"]]
+["applied",1,0,[4,"p"]]
+["applied",1,0,[5,"p"]]
+["applied",1,0,[5,"q"]]
+["show",[["list",[[["map",[["done",[["val",[5,"q"],true]]]]]]]]]]
+"#,
+    },
+    Row {
+        name: "todo_deleted_while_edited-order_2",
+        input: r#"["open","d"]
+["deliver","d",["op",[1,"p"],[],[[["m",0]],"todo"],["assign",[]]]]
+["deliver","d",["op",[2,"p"],[["p",1]],[[["m",0],["l","todo"]],1],["insert",{}]]]
+["deliver","d",["op",[3,"p"],[["p",2]],[[["m",0],["l","todo"],["m",[2,"p"]]],"title"],["assign","buy milk"]]]
+["deliver","d",["op",[4,"p"],[["p",3]],[[["m",0],["l","todo"],["m",[2,"p"]]],"done"],["assign",false]]]
+["deliver","d",["op",[5,"q"],[["p",4]],[[["m",0],["l","todo"],["m",[2,"p"]]],"done"],["assign",true]]]
+["deliver","d",["op",[5,"p"],[["p",4]],[[["m",0],["l","todo"]],[2,"p"]],["delete"]]]
+["show","d",[0,"todo"]]
+"#,
+        output: r#"["opened",1]
+["applied",1,0,[1,"p"]]
+["applied",1,0,[2,"p"]]
+["applied",1,0,[3,"p"]]
+["applied",1,0,[4,"p"]]
+["applied",1,0,[5,"q"]]
+["applied",1,0,[5,"p"]]
+["show",[["list",[[["map",[["done",[["val",[5,"q"],true]]]]]]]]]]
+"#,
+    },
+];
 
 #[test]
-fn first_run(rt: HostRuntime) -> Result<(), Fail> {
-    row(
-        &rt,
-        rt.alloc(),
-        br#"["open","d"]
+fn operations_in_each_order(rt: HostRuntime) {
+    give_all(&rt, rt.alloc(), &ORDERS);
+}
+
+/// Operations in a list, in each order of their causes.
+static LIST_ORDERS: [Row; 12] = [
+    Row {
+        name: "concurrent_list_edits-order_1",
+        input: r#"["open","d"]
+["deliver","d",["op",[1,"o"],[],[[],0],["assign",{}]]]
+["deliver","d",["op",[2,"o"],[["o",1]],[[["m",0]],"l"],["assign",[]]]]
+["deliver","d",["op",[3,"o"],[["o",2]],[[["m",0],["l","l"]],1],["insert","a"]]]
+["deliver","d",["op",[4,"o"],[["o",3]],[[["m",0],["l","l"]],[3,"o"]],["insert","b"]]]
+["deliver","d",["op",[5,"o"],[["o",4]],[[["m",0],["l","l"]],[4,"o"]],["insert","c"]]]
+["deliver","d",["op",[6,"p"],[["o",5]],[[["m",0],["l","l"]],[4,"o"]],["delete"]]]
+["deliver","d",["op",[7,"p"],[["o",5],["p",6]],[[["m",0],["l","l"]],[3,"o"]],["insert","x"]]]
+["deliver","d",["op",[6,"q"],[["o",5]],[[["m",0],["l","l"]],[3,"o"]],["insert","y"]]]
+["deliver","d",["op",[7,"q"],[["o",5],["q",6]],[[["m",0],["l","l"]],[5,"o"]],["insert","z"]]]
+["items","d",[0,"l"]]
+"#,
+        output: r#"["opened",1]
+["applied",1,0,[1,"o"]]
+["applied",1,0,[2,"o"]]
+["applied",1,0,[3,"o"]]
+["applied",1,0,[4,"o"]]
+["applied",1,0,[5,"o"]]
+["applied",1,0,[6,"p"]]
+["applied",1,0,[7,"p"]]
+["applied",1,0,[6,"q"]]
+["applied",1,0,[7,"q"]]
+["items",[[[3,"o"],["a"]],[[7,"p"],["x"]],[[6,"q"],["y"]],[[5,"o"],["c"]],[[7,"q"],["z"]]]]
+"#,
+    },
+    Row {
+        name: "concurrent_list_edits-order_2",
+        input: r#"["open","d"]
+["deliver","d",["op",[1,"o"],[],[[],0],["assign",{}]]]
+["deliver","d",["op",[2,"o"],[["o",1]],[[["m",0]],"l"],["assign",[]]]]
+["deliver","d",["op",[3,"o"],[["o",2]],[[["m",0],["l","l"]],1],["insert","a"]]]
+["deliver","d",["op",[4,"o"],[["o",3]],[[["m",0],["l","l"]],[3,"o"]],["insert","b"]]]
+["deliver","d",["op",[5,"o"],[["o",4]],[[["m",0],["l","l"]],[4,"o"]],["insert","c"]]]
+["deliver","d",["op",[6,"p"],[["o",5]],[[["m",0],["l","l"]],[4,"o"]],["delete"]]]
+["deliver","d",["op",[6,"q"],[["o",5]],[[["m",0],["l","l"]],[3,"o"]],["insert","y"]]]
+["deliver","d",["op",[7,"p"],[["o",5],["p",6]],[[["m",0],["l","l"]],[3,"o"]],["insert","x"]]]
+["deliver","d",["op",[7,"q"],[["o",5],["q",6]],[[["m",0],["l","l"]],[5,"o"]],["insert","z"]]]
+["items","d",[0,"l"]]
+"#,
+        output: r#"["opened",1]
+["applied",1,0,[1,"o"]]
+["applied",1,0,[2,"o"]]
+["applied",1,0,[3,"o"]]
+["applied",1,0,[4,"o"]]
+["applied",1,0,[5,"o"]]
+["applied",1,0,[6,"p"]]
+["applied",1,0,[6,"q"]]
+["applied",1,0,[7,"p"]]
+["applied",1,0,[7,"q"]]
+["items",[[[3,"o"],["a"]],[[7,"p"],["x"]],[[6,"q"],["y"]],[[5,"o"],["c"]],[[7,"q"],["z"]]]]
+"#,
+    },
+    Row {
+        name: "concurrent_list_edits-order_3",
+        input: r#"["open","d"]
+["deliver","d",["op",[1,"o"],[],[[],0],["assign",{}]]]
+["deliver","d",["op",[2,"o"],[["o",1]],[[["m",0]],"l"],["assign",[]]]]
+["deliver","d",["op",[3,"o"],[["o",2]],[[["m",0],["l","l"]],1],["insert","a"]]]
+["deliver","d",["op",[4,"o"],[["o",3]],[[["m",0],["l","l"]],[3,"o"]],["insert","b"]]]
+["deliver","d",["op",[5,"o"],[["o",4]],[[["m",0],["l","l"]],[4,"o"]],["insert","c"]]]
+["deliver","d",["op",[6,"p"],[["o",5]],[[["m",0],["l","l"]],[4,"o"]],["delete"]]]
+["deliver","d",["op",[6,"q"],[["o",5]],[[["m",0],["l","l"]],[3,"o"]],["insert","y"]]]
+["deliver","d",["op",[7,"q"],[["o",5],["q",6]],[[["m",0],["l","l"]],[5,"o"]],["insert","z"]]]
+["deliver","d",["op",[7,"p"],[["o",5],["p",6]],[[["m",0],["l","l"]],[3,"o"]],["insert","x"]]]
+["items","d",[0,"l"]]
+"#,
+        output: r#"["opened",1]
+["applied",1,0,[1,"o"]]
+["applied",1,0,[2,"o"]]
+["applied",1,0,[3,"o"]]
+["applied",1,0,[4,"o"]]
+["applied",1,0,[5,"o"]]
+["applied",1,0,[6,"p"]]
+["applied",1,0,[6,"q"]]
+["applied",1,0,[7,"q"]]
+["applied",1,0,[7,"p"]]
+["items",[[[3,"o"],["a"]],[[7,"p"],["x"]],[[6,"q"],["y"]],[[5,"o"],["c"]],[[7,"q"],["z"]]]]
+"#,
+    },
+    Row {
+        name: "concurrent_list_edits-order_4",
+        input: r#"["open","d"]
+["deliver","d",["op",[1,"o"],[],[[],0],["assign",{}]]]
+["deliver","d",["op",[2,"o"],[["o",1]],[[["m",0]],"l"],["assign",[]]]]
+["deliver","d",["op",[3,"o"],[["o",2]],[[["m",0],["l","l"]],1],["insert","a"]]]
+["deliver","d",["op",[4,"o"],[["o",3]],[[["m",0],["l","l"]],[3,"o"]],["insert","b"]]]
+["deliver","d",["op",[5,"o"],[["o",4]],[[["m",0],["l","l"]],[4,"o"]],["insert","c"]]]
+["deliver","d",["op",[6,"q"],[["o",5]],[[["m",0],["l","l"]],[3,"o"]],["insert","y"]]]
+["deliver","d",["op",[6,"p"],[["o",5]],[[["m",0],["l","l"]],[4,"o"]],["delete"]]]
+["deliver","d",["op",[7,"p"],[["o",5],["p",6]],[[["m",0],["l","l"]],[3,"o"]],["insert","x"]]]
+["deliver","d",["op",[7,"q"],[["o",5],["q",6]],[[["m",0],["l","l"]],[5,"o"]],["insert","z"]]]
+["items","d",[0,"l"]]
+"#,
+        output: r#"["opened",1]
+["applied",1,0,[1,"o"]]
+["applied",1,0,[2,"o"]]
+["applied",1,0,[3,"o"]]
+["applied",1,0,[4,"o"]]
+["applied",1,0,[5,"o"]]
+["applied",1,0,[6,"q"]]
+["applied",1,0,[6,"p"]]
+["applied",1,0,[7,"p"]]
+["applied",1,0,[7,"q"]]
+["items",[[[3,"o"],["a"]],[[7,"p"],["x"]],[[6,"q"],["y"]],[[5,"o"],["c"]],[[7,"q"],["z"]]]]
+"#,
+    },
+    Row {
+        name: "concurrent_list_edits-order_5",
+        input: r#"["open","d"]
+["deliver","d",["op",[1,"o"],[],[[],0],["assign",{}]]]
+["deliver","d",["op",[2,"o"],[["o",1]],[[["m",0]],"l"],["assign",[]]]]
+["deliver","d",["op",[3,"o"],[["o",2]],[[["m",0],["l","l"]],1],["insert","a"]]]
+["deliver","d",["op",[4,"o"],[["o",3]],[[["m",0],["l","l"]],[3,"o"]],["insert","b"]]]
+["deliver","d",["op",[5,"o"],[["o",4]],[[["m",0],["l","l"]],[4,"o"]],["insert","c"]]]
+["deliver","d",["op",[6,"q"],[["o",5]],[[["m",0],["l","l"]],[3,"o"]],["insert","y"]]]
+["deliver","d",["op",[6,"p"],[["o",5]],[[["m",0],["l","l"]],[4,"o"]],["delete"]]]
+["deliver","d",["op",[7,"q"],[["o",5],["q",6]],[[["m",0],["l","l"]],[5,"o"]],["insert","z"]]]
+["deliver","d",["op",[7,"p"],[["o",5],["p",6]],[[["m",0],["l","l"]],[3,"o"]],["insert","x"]]]
+["items","d",[0,"l"]]
+"#,
+        output: r#"["opened",1]
+["applied",1,0,[1,"o"]]
+["applied",1,0,[2,"o"]]
+["applied",1,0,[3,"o"]]
+["applied",1,0,[4,"o"]]
+["applied",1,0,[5,"o"]]
+["applied",1,0,[6,"q"]]
+["applied",1,0,[6,"p"]]
+["applied",1,0,[7,"q"]]
+["applied",1,0,[7,"p"]]
+["items",[[[3,"o"],["a"]],[[7,"p"],["x"]],[[6,"q"],["y"]],[[5,"o"],["c"]],[[7,"q"],["z"]]]]
+"#,
+    },
+    Row {
+        name: "concurrent_list_edits-order_6",
+        input: r#"["open","d"]
+["deliver","d",["op",[1,"o"],[],[[],0],["assign",{}]]]
+["deliver","d",["op",[2,"o"],[["o",1]],[[["m",0]],"l"],["assign",[]]]]
+["deliver","d",["op",[3,"o"],[["o",2]],[[["m",0],["l","l"]],1],["insert","a"]]]
+["deliver","d",["op",[4,"o"],[["o",3]],[[["m",0],["l","l"]],[3,"o"]],["insert","b"]]]
+["deliver","d",["op",[5,"o"],[["o",4]],[[["m",0],["l","l"]],[4,"o"]],["insert","c"]]]
+["deliver","d",["op",[6,"q"],[["o",5]],[[["m",0],["l","l"]],[3,"o"]],["insert","y"]]]
+["deliver","d",["op",[7,"q"],[["o",5],["q",6]],[[["m",0],["l","l"]],[5,"o"]],["insert","z"]]]
+["deliver","d",["op",[6,"p"],[["o",5]],[[["m",0],["l","l"]],[4,"o"]],["delete"]]]
+["deliver","d",["op",[7,"p"],[["o",5],["p",6]],[[["m",0],["l","l"]],[3,"o"]],["insert","x"]]]
+["items","d",[0,"l"]]
+"#,
+        output: r#"["opened",1]
+["applied",1,0,[1,"o"]]
+["applied",1,0,[2,"o"]]
+["applied",1,0,[3,"o"]]
+["applied",1,0,[4,"o"]]
+["applied",1,0,[5,"o"]]
+["applied",1,0,[6,"q"]]
+["applied",1,0,[7,"q"]]
+["applied",1,0,[6,"p"]]
+["applied",1,0,[7,"p"]]
+["items",[[[3,"o"],["a"]],[[7,"p"],["x"]],[[6,"q"],["y"]],[[5,"o"],["c"]],[[7,"q"],["z"]]]]
+"#,
+    },
+    Row {
+        name: "map_and_list_at_one_key-order_1",
+        input: r#"["open","d"]
+["deliver","d",["op",[1,"p"],[],[[["m",0]],"a"],["assign",{}]]]
+["deliver","d",["op",[2,"p"],[["p",1]],[[["m",0],["m","a"]],"x"],["assign","y"]]]
+["deliver","d",["op",[1,"q"],[],[[["m",0]],"a"],["assign",[]]]]
+["deliver","d",["op",[2,"q"],[["q",1]],[[["m",0],["l","a"]],1],["insert","z"]]]
+["show","d",[0,"a"]]
+"#,
+        output: r#"["opened",1]
+["applied",1,0,[1,"p"]]
+["applied",1,0,[2,"p"]]
+["applied",1,0,[1,"q"]]
+["applied",1,0,[2,"q"]]
+["show",[["map",[["x",[["val",[2,"p"],"y"]]]]],["list",[[["val",[2,"q"],"z"]]]]]]
+"#,
+    },
+    Row {
+        name: "map_and_list_at_one_key-order_2",
+        input: r#"["open","d"]
+["deliver","d",["op",[1,"p"],[],[[["m",0]],"a"],["assign",{}]]]
+["deliver","d",["op",[1,"q"],[],[[["m",0]],"a"],["assign",[]]]]
+["deliver","d",["op",[2,"p"],[["p",1]],[[["m",0],["m","a"]],"x"],["assign","y"]]]
+["deliver","d",["op",[2,"q"],[["q",1]],[[["m",0],["l","a"]],1],["insert","z"]]]
+["show","d",[0,"a"]]
+"#,
+        output: r#"["opened",1]
+["applied",1,0,[1,"p"]]
+["applied",1,0,[1,"q"]]
+["applied",1,0,[2,"p"]]
+["applied",1,0,[2,"q"]]
+["show",[["map",[["x",[["val",[2,"p"],"y"]]]]],["list",[[["val",[2,"q"],"z"]]]]]]
+"#,
+    },
+    Row {
+        name: "map_and_list_at_one_key-order_3",
+        input: r#"["open","d"]
+["deliver","d",["op",[1,"p"],[],[[["m",0]],"a"],["assign",{}]]]
+["deliver","d",["op",[1,"q"],[],[[["m",0]],"a"],["assign",[]]]]
+["deliver","d",["op",[2,"q"],[["q",1]],[[["m",0],["l","a"]],1],["insert","z"]]]
+["deliver","d",["op",[2,"p"],[["p",1]],[[["m",0],["m","a"]],"x"],["assign","y"]]]
+["show","d",[0,"a"]]
+"#,
+        output: r#"["opened",1]
+["applied",1,0,[1,"p"]]
+["applied",1,0,[1,"q"]]
+["applied",1,0,[2,"q"]]
+["applied",1,0,[2,"p"]]
+["show",[["map",[["x",[["val",[2,"p"],"y"]]]]],["list",[[["val",[2,"q"],"z"]]]]]]
+"#,
+    },
+    Row {
+        name: "map_and_list_at_one_key-order_4",
+        input: r#"["open","d"]
+["deliver","d",["op",[1,"q"],[],[[["m",0]],"a"],["assign",[]]]]
+["deliver","d",["op",[1,"p"],[],[[["m",0]],"a"],["assign",{}]]]
+["deliver","d",["op",[2,"p"],[["p",1]],[[["m",0],["m","a"]],"x"],["assign","y"]]]
+["deliver","d",["op",[2,"q"],[["q",1]],[[["m",0],["l","a"]],1],["insert","z"]]]
+["show","d",[0,"a"]]
+"#,
+        output: r#"["opened",1]
+["applied",1,0,[1,"q"]]
+["applied",1,0,[1,"p"]]
+["applied",1,0,[2,"p"]]
+["applied",1,0,[2,"q"]]
+["show",[["map",[["x",[["val",[2,"p"],"y"]]]]],["list",[[["val",[2,"q"],"z"]]]]]]
+"#,
+    },
+    Row {
+        name: "map_and_list_at_one_key-order_5",
+        input: r#"["open","d"]
+["deliver","d",["op",[1,"q"],[],[[["m",0]],"a"],["assign",[]]]]
+["deliver","d",["op",[1,"p"],[],[[["m",0]],"a"],["assign",{}]]]
+["deliver","d",["op",[2,"q"],[["q",1]],[[["m",0],["l","a"]],1],["insert","z"]]]
+["deliver","d",["op",[2,"p"],[["p",1]],[[["m",0],["m","a"]],"x"],["assign","y"]]]
+["show","d",[0,"a"]]
+"#,
+        output: r#"["opened",1]
+["applied",1,0,[1,"q"]]
+["applied",1,0,[1,"p"]]
+["applied",1,0,[2,"q"]]
+["applied",1,0,[2,"p"]]
+["show",[["map",[["x",[["val",[2,"p"],"y"]]]]],["list",[[["val",[2,"q"],"z"]]]]]]
+"#,
+    },
+    Row {
+        name: "map_and_list_at_one_key-order_6",
+        input: r#"["open","d"]
+["deliver","d",["op",[1,"q"],[],[[["m",0]],"a"],["assign",[]]]]
+["deliver","d",["op",[2,"q"],[["q",1]],[[["m",0],["l","a"]],1],["insert","z"]]]
+["deliver","d",["op",[1,"p"],[],[[["m",0]],"a"],["assign",{}]]]
+["deliver","d",["op",[2,"p"],[["p",1]],[[["m",0],["m","a"]],"x"],["assign","y"]]]
+["show","d",[0,"a"]]
+"#,
+        output: r#"["opened",1]
+["applied",1,0,[1,"q"]]
+["applied",1,0,[2,"q"]]
+["applied",1,0,[1,"p"]]
+["applied",1,0,[2,"p"]]
+["show",[["map",[["x",[["val",[2,"p"],"y"]]]]],["list",[[["val",[2,"q"],"z"]]]]]]
+"#,
+    },
+];
+
+#[test]
+fn list_operations_in_each_order(rt: HostRuntime) {
+    give_all(&rt, rt.alloc(), &LIST_ORDERS);
+}
+
+/// Operations that are held, released or forgotten, and hostile ones.
+static HELD: [Row; 11] = [
+    Row {
+        name: "buffer_release",
+        input: r#"["open","d"]
+["deliver","d",["op",[3,"p"],[["p",2]],[[["m",0]],"k"],["assign",3]]]
+["deliver","d",["op",[2,"p"],[["p",1]],[[["m",0]],"k"],["assign",2]]]
+["held","d"]
+["deliver","d",["op",[1,"p"],[],[[["m",0]],"k"],["assign",1]]]
+["account","d"]
+["values","d",[0,"k"]]
+"#,
+        output: r#"["opened",1]
+["held",[[2,"p"]]]
+["held",[[1,"p"]]]
+["waiting",[[[2,"p"],[[1,"p"]]],[[3,"p"],[[2,"p"]]]]]
+["applied",3,0,[1,"p"]]
+["account",3]
+["values",[3]]
+"#,
+    },
+    Row {
+        name: "forget_held",
+        input: r#"["open","d"]
+["deliver","d",["op",[3,"p"],[["p",2]],[[["m",0]],"k"],["assign",3]]]
+["forget","d",[3,"p"]]
+["held","d"]
+["deliver","d",["op",[1,"p"],[],[[["m",0]],"k"],["assign",1]]]
+["deliver","d",["op",[2,"p"],[["p",1]],[[["m",0]],"k"],["assign",2]]]
+["values","d",[0,"k"]]
+["deliver","d",["op",[3,"p"],[["p",2]],[[["m",0]],"k"],["assign",3]]]
+"#,
+        output: r#"["opened",1]
+["held",[[2,"p"]]]
+["forgotten"]
+["waiting",[]]
+["applied",1,0,[1,"p"]]
+["applied",1,0,[2,"p"]]
+["values",[2]]
+["applied",1,0,[3,"p"]]
+"#,
+    },
+    Row {
+        name: "hostile-1",
+        input: r#"["open","d"]
+["deliver","d",["op",[1,"o"],[],[[["m",0]],"l"],["assign",[]]]]
+["deliver","d",["op",[2,"o"],[["o",1]],[[["m",0],["l","l"]],1],["insert","a"]]]
+["deliver","d",["op",[3,"q"],[["o",2]],[[["m",0]],"k"],["assign",1]]]
+["deliver","d",["op",[3,"p"],[["q",2]],[[["m",0]],"k"],["assign",9]]]
+["deliver","d",["op",[2,"q"],[["o",1]],[[["m",0]],"k"],["assign",3]]]
+["held","d"]
+["forget","d",[3,"p"]]
+["held","d"]
+"#,
+        output: r#"["opened",1]
+["applied",1,0,[1,"o"]]
+["applied",1,0,[2,"o"]]
+["applied",1,0,[3,"q"]]
+["held",[[2,"q"]]]
+["no",14,"forked",3]
+["waiting",[[[3,"p"],[[2,"q"]]]]]
+["forgotten"]
+["waiting",[]]
+"#,
+    },
+    Row {
+        name: "hostile-2",
+        input: r#"["open","d"]
+["deliver","d",["op",[1,"o"],[],[[["m",0]],"l"],["assign",[]]]]
+["deliver","d",["op",[2,"o"],[["o",1]],[[["m",0],["l","l"]],1],["insert","a"]]]
+["deliver","d",["op",[3,"q"],[["o",2]],[[["m",0]],"k"],["assign",1]]]
+["deliver","d",["op",[4,"p"],[["o",2],["q",3]],[[["m",0],["l","l"]],[3,"q"]],["delete"]]]
+"#,
+        output: r#"["opened",1]
+["applied",1,0,[1,"o"]]
+["applied",1,0,[2,"o"]]
+["applied",1,0,[3,"q"]]
+["no",7,"bad-cursor"]
+"#,
+    },
+    Row {
+        name: "hostile-3",
+        input: r#"["open","d"]
+["deliver","d",["op",[1,"o"],[],[[["m",0]],"l"],["assign",[]]]]
+["deliver","d",["op",[2,"o"],[["o",1]],[[["m",0],["l","l"]],1],["insert","a"]]]
+["deliver","d",["op",[3,"q"],[["o",2]],[[["m",0]],"k"],["assign",1]]]
+["deliver","d",["op",[3,"p"],[["o",2]],[[["m",0],["l","m"]],[2,"o"]],["delete"]]]
+"#,
+        output: r#"["opened",1]
+["applied",1,0,[1,"o"]]
+["applied",1,0,[2,"o"]]
+["applied",1,0,[3,"q"]]
+["no",7,"bad-cursor"]
+"#,
+    },
+    Row {
+        name: "hostile-4",
+        input: r#"["open","d"]
+["deliver","d",["op",[1,"o"],[],[[["m",0]],"l"],["assign",[]]]]
+["deliver","d",["op",[2,"o"],[["o",1]],[[["m",0],["l","l"]],1],["insert","a"]]]
+["deliver","d",["op",[3,"q"],[["o",2]],[[["m",0]],"k"],["assign",1]]]
+["deliver","d",["op",[1,"q"],[],[[["m",0]],"k"],["assign",9]]]
+"#,
+        output: r#"["opened",1]
+["applied",1,0,[1,"o"]]
+["applied",1,0,[2,"o"]]
+["applied",1,0,[3,"q"]]
+["no",14,"forked",3]
+"#,
+    },
+    Row {
+        name: "hostile-5",
+        input: r#"["open","d"]
+["deliver","d",["op",[1,"o"],[],[[["m",0]],"l"],["assign",[]]]]
+["deliver","d",["op",[2,"o"],[["o",1]],[[["m",0],["l","l"]],1],["insert","a"]]]
+["deliver","d",["op",[3,"q"],[["o",2]],[[["m",0]],"k"],["assign",1]]]
+["deliver","d",["op",[3,"q"],[["o",2]],[[["m",0]],"k"],["assign",9]]]
+"#,
+        output: r#"["opened",1]
+["applied",1,0,[1,"o"]]
+["applied",1,0,[2,"o"]]
+["applied",1,0,[3,"q"]]
+["no",15,"id-conflict"]
+"#,
+    },
+    Row {
+        name: "hostile-6",
+        input: r#"["open","d"]
+["deliver","d",["op",[1,"o"],[],[[["m",0]],"l"],["assign",[]]]]
+["deliver","d",["op",[2,"o"],[["o",1]],[[["m",0],["l","l"]],1],["insert","a"]]]
+["deliver","d",["op",[3,"q"],[["o",2]],[[["m",0]],"k"],["assign",1]]]
+["deliver","d",["op",[3,"p"],[["q",2]],[[["m",0]],"k"],["assign",9]]]
+"#,
+        output: r#"["opened",1]
+["applied",1,0,[1,"o"]]
+["applied",1,0,[2,"o"]]
+["applied",1,0,[3,"q"]]
+["held",[[2,"q"]]]
+"#,
+    },
+    Row {
+        name: "local_releases_held",
+        input: r#"["open","d"]
+["deliver","d",["op",[2,"p"],[["srv-1",1]],[[["m",0]],"k"],["assign",7]]]
 ["assign","d",[0],{}]
+["values","d",[0,"k"]]
+["assign","d",[0,"k"],8]
 "#,
-        br#"["opened",1]
-["applied",1,0,[1,"srv-1"]]
+        output: r#"["opened",1]
+["held",[[1,"srv-1"]]]
+["applied",2,0,[1,"srv-1"]]
+["values",[7]]
+["applied",1,0,[3,"srv-1"]]
 "#,
-    )
-}
+    },
+    Row {
+        name: "misfit_dropped_on_release",
+        input: r#"["open","d"]
+["deliver","d",["op",[1,"o"],[],[[["m",0]],"l"],["assign",[]]]]
+["deliver","d",["op",[3,"p"],[["o",2]],[[["m",0],["l","l"]],[2,"z"]],["assign",1]]]
+["deliver","d",["op",[2,"o"],[["o",1]],[[["m",0],["l","l"]],1],["insert","a"]]]
+["held","d"]
+"#,
+        output: r#"["opened",1]
+["applied",1,0,[1,"o"]]
+["held",[[2,"o"]]]
+["applied",1,1,[2,"o"]]
+["waiting",[]]
+"#,
+    },
+    Row {
+        name: "pull_operations",
+        input: r#"["open","d"]
+["deliver","d",["op",[1,"p"],[],[[["m",0]],"k"],["assign","A"]]]
+["deliver","d",["op",[2,"p"],[["p",1]],[[["m",0]],"k"],["assign","B"]]]
+["deliver","d",["op",[2,"q"],[["p",1]],[[["m",0]],"k"],["assign","C"]]]
+["ops","d",[["p",1]],1]
+["front","d"]
+["ops","d",[["p",2],["q",2]],8]
+"#,
+        output: r#"["opened",1]
+["applied",1,0,[1,"p"]]
+["applied",1,0,[2,"p"]]
+["applied",1,0,[2,"q"]]
+["ops",[["op",[2,"p"],[["p",1]],[[["m",0]],"k"],["assign","B"]]]]
+["front",[["p",2],["q",2]]]
+["ops",[]]
+"#,
+    },
+];
 
 #[test]
-fn foreign_refusals(rt: HostRuntime) -> Result<(), Fail> {
-    row(
-        &rt,
-        rt.alloc(),
-        br#"["open","d"]
+fn held_operations(rt: HostRuntime) {
+    give_all(&rt, rt.alloc(), &HELD);
+}
+
+/// Requests and operations that are refused.
+static REFUSED: [Row; 8] = [
+    Row {
+        name: "delivered_twice",
+        input: r#"["open","d"]
+["deliver","d",["op",[1,"p"],[],[[["m",0]],"k"],["assign","A"]]]
+["deliver","d",["op",[1,"p"],[],[[["m",0]],"k"],["assign","A"]]]
+["deliver","d",["op",[1,"p"],[],[[["m",0]],"k"],["assign","Z"]]]
+"#,
+        output: r#"["opened",1]
+["applied",1,0,[1,"p"]]
+["known"]
+["no",15,"id-conflict"]
+"#,
+    },
+    Row {
+        name: "foreign_refusals",
+        input: r#"["open","d"]
 ["deliver","d",["op",[1,"o"],[],[[["m",0]],"l"],["assign",[]]]]
 ["deliver","d",["op",[2,"o"],[["o",1]],[[["m",0],["l","l"]],1],["insert","a"]]]
 ["deliver","d",["op",[3,"q"],[["o",2]],[[["m",0]],"k"],["assign",1]]]
@@ -539,7 +910,7 @@ fn foreign_refusals(rt: HostRuntime) -> Result<(), Fail> {
 ["front","d"]
 ["account","d"]
 "#,
-        br#"["opened",1]
+        output: r#"["opened",1]
 ["applied",1,0,[1,"o"]]
 ["applied",1,0,[2,"o"]]
 ["applied",1,0,[3,"q"]]
@@ -551,731 +922,254 @@ fn foreign_refusals(rt: HostRuntime) -> Result<(), Fail> {
 ["front",[["o",2],["q",3]]]
 ["account",3]
 "#,
-    )
-}
-
-#[test]
-fn forget_held(rt: HostRuntime) -> Result<(), Fail> {
-    row(
-        &rt,
-        rt.alloc(),
-        br#"["open","d"]
-["deliver","d",["op",[3,"p"],[["p",2]],[[["m",0]],"k"],["assign",3]]]
-["forget","d",[3,"p"]]
-["held","d"]
-["deliver","d",["op",[1,"p"],[],[[["m",0]],"k"],["assign",1]]]
-["deliver","d",["op",[2,"p"],[["p",1]],[[["m",0]],"k"],["assign",2]]]
-["values","d",[0,"k"]]
-["deliver","d",["op",[3,"p"],[["p",2]],[[["m",0]],"k"],["assign",3]]]
-"#,
-        br#"["opened",1]
-["held",[[2,"p"]]]
-["forgotten"]
-["waiting",[]]
-["applied",1,0,[1,"p"]]
-["applied",1,0,[2,"p"]]
-["values",[2]]
-["applied",1,0,[3,"p"]]
-"#,
-    )
-}
-
-#[test]
-fn hostile(rt: HostRuntime) -> Result<(), Fail> {
-    each_row(
-        &rt,
-        rt.alloc(),
-        &[
-            (
-                br#"["open","d"]
-["deliver","d",["op",[1,"o"],[],[[["m",0]],"l"],["assign",[]]]]
-["deliver","d",["op",[2,"o"],[["o",1]],[[["m",0],["l","l"]],1],["insert","a"]]]
-["deliver","d",["op",[3,"q"],[["o",2]],[[["m",0]],"k"],["assign",1]]]
-["deliver","d",["op",[3,"p"],[["q",2]],[[["m",0]],"k"],["assign",9]]]
-["deliver","d",["op",[2,"q"],[["o",1]],[[["m",0]],"k"],["assign",3]]]
-["held","d"]
-["forget","d",[3,"p"]]
-["held","d"]
-"#,
-                br#"["opened",1]
-["applied",1,0,[1,"o"]]
-["applied",1,0,[2,"o"]]
-["applied",1,0,[3,"q"]]
-["held",[[2,"q"]]]
-["no",14,"forked",3]
-["waiting",[[[3,"p"],[[2,"q"]]]]]
-["forgotten"]
-["waiting",[]]
-"#,
-            ),
-            (
-                br#"["open","d"]
-["deliver","d",["op",[1,"o"],[],[[["m",0]],"l"],["assign",[]]]]
-["deliver","d",["op",[2,"o"],[["o",1]],[[["m",0],["l","l"]],1],["insert","a"]]]
-["deliver","d",["op",[3,"q"],[["o",2]],[[["m",0]],"k"],["assign",1]]]
-["deliver","d",["op",[4,"p"],[["o",2],["q",3]],[[["m",0],["l","l"]],[3,"q"]],["delete"]]]
-"#,
-                br#"["opened",1]
-["applied",1,0,[1,"o"]]
-["applied",1,0,[2,"o"]]
-["applied",1,0,[3,"q"]]
-["no",7,"bad-cursor"]
-"#,
-            ),
-            (
-                br#"["open","d"]
-["deliver","d",["op",[1,"o"],[],[[["m",0]],"l"],["assign",[]]]]
-["deliver","d",["op",[2,"o"],[["o",1]],[[["m",0],["l","l"]],1],["insert","a"]]]
-["deliver","d",["op",[3,"q"],[["o",2]],[[["m",0]],"k"],["assign",1]]]
-["deliver","d",["op",[3,"p"],[["o",2]],[[["m",0],["l","m"]],[2,"o"]],["delete"]]]
-"#,
-                br#"["opened",1]
-["applied",1,0,[1,"o"]]
-["applied",1,0,[2,"o"]]
-["applied",1,0,[3,"q"]]
-["no",7,"bad-cursor"]
-"#,
-            ),
-            (
-                br#"["open","d"]
-["deliver","d",["op",[1,"o"],[],[[["m",0]],"l"],["assign",[]]]]
-["deliver","d",["op",[2,"o"],[["o",1]],[[["m",0],["l","l"]],1],["insert","a"]]]
-["deliver","d",["op",[3,"q"],[["o",2]],[[["m",0]],"k"],["assign",1]]]
-["deliver","d",["op",[1,"q"],[],[[["m",0]],"k"],["assign",9]]]
-"#,
-                br#"["opened",1]
-["applied",1,0,[1,"o"]]
-["applied",1,0,[2,"o"]]
-["applied",1,0,[3,"q"]]
-["no",14,"forked",3]
-"#,
-            ),
-            (
-                br#"["open","d"]
-["deliver","d",["op",[1,"o"],[],[[["m",0]],"l"],["assign",[]]]]
-["deliver","d",["op",[2,"o"],[["o",1]],[[["m",0],["l","l"]],1],["insert","a"]]]
-["deliver","d",["op",[3,"q"],[["o",2]],[[["m",0]],"k"],["assign",1]]]
-["deliver","d",["op",[3,"q"],[["o",2]],[[["m",0]],"k"],["assign",9]]]
-"#,
-                br#"["opened",1]
-["applied",1,0,[1,"o"]]
-["applied",1,0,[2,"o"]]
-["applied",1,0,[3,"q"]]
-["no",15,"id-conflict"]
-"#,
-            ),
-            (
-                br#"["open","d"]
-["deliver","d",["op",[1,"o"],[],[[["m",0]],"l"],["assign",[]]]]
-["deliver","d",["op",[2,"o"],[["o",1]],[[["m",0],["l","l"]],1],["insert","a"]]]
-["deliver","d",["op",[3,"q"],[["o",2]],[[["m",0]],"k"],["assign",1]]]
-["deliver","d",["op",[3,"p"],[["q",2]],[[["m",0]],"k"],["assign",9]]]
-"#,
-                br#"["opened",1]
-["applied",1,0,[1,"o"]]
-["applied",1,0,[2,"o"]]
-["applied",1,0,[3,"q"]]
-["held",[[2,"q"]]]
-"#,
-            ),
-        ],
-    )
-}
-
-#[test]
-fn index_and_head_refusals(rt: HostRuntime) -> Result<(), Fail> {
-    row(
-        &rt,
-        rt.alloc(),
-        br#"["open","d"]
+    },
+    Row {
+        name: "index_and_head_refusals",
+        input: r#"["open","d"]
 ["assign","d",[0,"l"],[]]
 ["delete","d",[0,"l",1]]
 ["delete","d",[0,"l",0]]
 ["insert","d",[0,"l"],1]
 "#,
-        br#"["opened",1]
+        output: r#"["opened",1]
 ["applied",1,0,[1,"srv-1"]]
 ["no",9,"index-past-end"]
 ["no",10,"at-head"]
 ["no",11,"not-in-list"]
 "#,
-    )
-}
-
-#[test]
-fn local_releases_held(rt: HostRuntime) -> Result<(), Fail> {
-    row(
-        &rt,
-        rt.alloc(),
-        br#"["open","d"]
-["deliver","d",["op",[2,"p"],[["srv-1",1]],[[["m",0]],"k"],["assign",7]]]
-["assign","d",[0],{}]
-["values","d",[0,"k"]]
-["assign","d",[0,"k"],8]
-"#,
-        br#"["opened",1]
-["held",[[1,"srv-1"]]]
-["applied",2,0,[1,"srv-1"]]
-["values",[7]]
-["applied",1,0,[3,"srv-1"]]
-"#,
-    )
-}
-
-#[test]
-fn map_and_list_at_one_key(rt: HostRuntime) -> Result<(), Fail> {
-    each_row(
-        &rt,
-        rt.alloc(),
-        &[
-            (
-                br#"["open","d"]
-["deliver","d",["op",[1,"p"],[],[[["m",0]],"a"],["assign",{}]]]
-["deliver","d",["op",[2,"p"],[["p",1]],[[["m",0],["m","a"]],"x"],["assign","y"]]]
-["deliver","d",["op",[1,"q"],[],[[["m",0]],"a"],["assign",[]]]]
-["deliver","d",["op",[2,"q"],[["q",1]],[[["m",0],["l","a"]],1],["insert","z"]]]
-["show","d",[0,"a"]]
-"#,
-                br#"["opened",1]
-["applied",1,0,[1,"p"]]
-["applied",1,0,[2,"p"]]
-["applied",1,0,[1,"q"]]
-["applied",1,0,[2,"q"]]
-["show",[["map",[["x",[["val",[2,"p"],"y"]]]]],["list",[[["val",[2,"q"],"z"]]]]]]
-"#,
-            ),
-            (
-                br#"["open","d"]
-["deliver","d",["op",[1,"p"],[],[[["m",0]],"a"],["assign",{}]]]
-["deliver","d",["op",[1,"q"],[],[[["m",0]],"a"],["assign",[]]]]
-["deliver","d",["op",[2,"p"],[["p",1]],[[["m",0],["m","a"]],"x"],["assign","y"]]]
-["deliver","d",["op",[2,"q"],[["q",1]],[[["m",0],["l","a"]],1],["insert","z"]]]
-["show","d",[0,"a"]]
-"#,
-                br#"["opened",1]
-["applied",1,0,[1,"p"]]
-["applied",1,0,[1,"q"]]
-["applied",1,0,[2,"p"]]
-["applied",1,0,[2,"q"]]
-["show",[["map",[["x",[["val",[2,"p"],"y"]]]]],["list",[[["val",[2,"q"],"z"]]]]]]
-"#,
-            ),
-            (
-                br#"["open","d"]
-["deliver","d",["op",[1,"p"],[],[[["m",0]],"a"],["assign",{}]]]
-["deliver","d",["op",[1,"q"],[],[[["m",0]],"a"],["assign",[]]]]
-["deliver","d",["op",[2,"q"],[["q",1]],[[["m",0],["l","a"]],1],["insert","z"]]]
-["deliver","d",["op",[2,"p"],[["p",1]],[[["m",0],["m","a"]],"x"],["assign","y"]]]
-["show","d",[0,"a"]]
-"#,
-                br#"["opened",1]
-["applied",1,0,[1,"p"]]
-["applied",1,0,[1,"q"]]
-["applied",1,0,[2,"q"]]
-["applied",1,0,[2,"p"]]
-["show",[["map",[["x",[["val",[2,"p"],"y"]]]]],["list",[[["val",[2,"q"],"z"]]]]]]
-"#,
-            ),
-            (
-                br#"["open","d"]
-["deliver","d",["op",[1,"q"],[],[[["m",0]],"a"],["assign",[]]]]
-["deliver","d",["op",[1,"p"],[],[[["m",0]],"a"],["assign",{}]]]
-["deliver","d",["op",[2,"p"],[["p",1]],[[["m",0],["m","a"]],"x"],["assign","y"]]]
-["deliver","d",["op",[2,"q"],[["q",1]],[[["m",0],["l","a"]],1],["insert","z"]]]
-["show","d",[0,"a"]]
-"#,
-                br#"["opened",1]
-["applied",1,0,[1,"q"]]
-["applied",1,0,[1,"p"]]
-["applied",1,0,[2,"p"]]
-["applied",1,0,[2,"q"]]
-["show",[["map",[["x",[["val",[2,"p"],"y"]]]]],["list",[[["val",[2,"q"],"z"]]]]]]
-"#,
-            ),
-            (
-                br#"["open","d"]
-["deliver","d",["op",[1,"q"],[],[[["m",0]],"a"],["assign",[]]]]
-["deliver","d",["op",[1,"p"],[],[[["m",0]],"a"],["assign",{}]]]
-["deliver","d",["op",[2,"q"],[["q",1]],[[["m",0],["l","a"]],1],["insert","z"]]]
-["deliver","d",["op",[2,"p"],[["p",1]],[[["m",0],["m","a"]],"x"],["assign","y"]]]
-["show","d",[0,"a"]]
-"#,
-                br#"["opened",1]
-["applied",1,0,[1,"q"]]
-["applied",1,0,[1,"p"]]
-["applied",1,0,[2,"q"]]
-["applied",1,0,[2,"p"]]
-["show",[["map",[["x",[["val",[2,"p"],"y"]]]]],["list",[[["val",[2,"q"],"z"]]]]]]
-"#,
-            ),
-            (
-                br#"["open","d"]
-["deliver","d",["op",[1,"q"],[],[[["m",0]],"a"],["assign",[]]]]
-["deliver","d",["op",[2,"q"],[["q",1]],[[["m",0],["l","a"]],1],["insert","z"]]]
-["deliver","d",["op",[1,"p"],[],[[["m",0]],"a"],["assign",{}]]]
-["deliver","d",["op",[2,"p"],[["p",1]],[[["m",0],["m","a"]],"x"],["assign","y"]]]
-["show","d",[0,"a"]]
-"#,
-                br#"["opened",1]
-["applied",1,0,[1,"q"]]
-["applied",1,0,[2,"q"]]
-["applied",1,0,[1,"p"]]
-["applied",1,0,[2,"p"]]
-["show",[["map",[["x",[["val",[2,"p"],"y"]]]]],["list",[[["val",[2,"q"],"z"]]]]]]
-"#,
-            ),
-        ],
-    )
-}
-
-#[test]
-fn misfit_dropped_on_release(rt: HostRuntime) -> Result<(), Fail> {
-    row(
-        &rt,
-        rt.alloc(),
-        br#"["open","d"]
-["deliver","d",["op",[1,"o"],[],[[["m",0]],"l"],["assign",[]]]]
-["deliver","d",["op",[3,"p"],[["o",2]],[[["m",0],["l","l"]],[2,"z"]],["assign",1]]]
-["deliver","d",["op",[2,"o"],[["o",1]],[[["m",0],["l","l"]],1],["insert","a"]]]
-["held","d"]
-"#,
-        br#"["opened",1]
-["applied",1,0,[1,"o"]]
-["held",[[2,"o"]]]
-["applied",1,1,[2,"o"]]
-["waiting",[]]
-"#,
-    )
-}
-
-#[test]
-fn nested_show(rt: HostRuntime) -> Result<(), Fail> {
-    row(
-        &rt,
-        rt.alloc(),
-        br#"["open","d"]
-["assign","d",[0],{}]
-["assign","d",[0,"a"],[]]
-["insert","d",[0,"a",0],{}]
-["assign","d",[0,"a",1,"t"],"x"]
-["show","d",[0]]
-["conflicts","d",[0,"a"]]
-"#,
-        br#"["opened",1]
-["applied",1,0,[1,"srv-1"]]
-["applied",1,0,[2,"srv-1"]]
-["applied",1,0,[3,"srv-1"]]
-["applied",1,0,[4,"srv-1"]]
-["show",[["map",[["a",[["list",[[["map",[["t",[["val",[4,"srv-1"],"x"]]]]]]]]]]]]]]
-["conflicts",[[[2,"srv-1"],[]]]]
-"#,
-    )
-}
-
-#[test]
-fn pull_operations(rt: HostRuntime) -> Result<(), Fail> {
-    row(
-        &rt,
-        rt.alloc(),
-        br#"["open","d"]
-["deliver","d",["op",[1,"p"],[],[[["m",0]],"k"],["assign","A"]]]
-["deliver","d",["op",[2,"p"],[["p",1]],[[["m",0]],"k"],["assign","B"]]]
-["deliver","d",["op",[2,"q"],[["p",1]],[[["m",0]],"k"],["assign","C"]]]
-["ops","d",[["p",1]],1]
-["front","d"]
-["ops","d",[["p",2],["q",2]],8]
-"#,
-        br#"["opened",1]
-["applied",1,0,[1,"p"]]
-["applied",1,0,[2,"p"]]
-["applied",1,0,[2,"q"]]
-["ops",[["op",[2,"p"],[["p",1]],[[["m",0]],"k"],["assign","B"]]]]
-["front",[["p",2],["q",2]]]
-["ops",[]]
-"#,
-    )
-}
-
-#[test]
-fn reassignments(rt: HostRuntime) -> Result<(), Fail> {
-    row(
-        &rt,
-        rt.alloc(),
-        br#"["open","d"]
-["assign","d",[0],{}]
-["assign","d",[0,"a"],1]
-["assign","d",[0,"a"],2]
-["values","d",[0,"a"]]
-["assign","d",[0,"a"],{}]
-["values","d",[0,"a"]]
-["keys","d",[0]]
-["assign","d",[0],{}]
-["keys","d",[0]]
-"#,
-        br#"["opened",1]
-["applied",1,0,[1,"srv-1"]]
-["applied",1,0,[2,"srv-1"]]
-["applied",1,0,[3,"srv-1"]]
-["values",[2]]
-["applied",1,0,[4,"srv-1"]]
-["values",[]]
-["keys",["a"]]
-["applied",1,0,[5,"srv-1"]]
-["keys",[]]
-"#,
-    )
-}
-
-#[test]
-fn request_refusals(rt: HostRuntime) -> Result<(), Fail> {
-    each_row(
-        &rt,
-        rt.alloc(),
-        &[
-            (
-                br#"["keys","d",[0]]
+    },
+    Row {
+        name: "request_refusals-1",
+        input: r#"["keys","d",[0]]
 ["open","x"]
 {}
 ["frob"]
 [0
 [[[[[[[[[[[[[[[[[[[[[[[[[[[[[[[[[[[[[[[[[[[[[[[[[[[[[[[[[[[[[[[[[[[[[[[[[[[[[[[[[[[[[[[[[[[[[[[[[[[[[[[[[[[[[[[[[[[[[[[[[[[[[[[[[[[[[[[[[[[[[[[[[[[[[[[[[[[[[[[[[[[[[[[[[[[[[[[[[[[[[[[[[[[[[[[[[[[[[[[[]]]]]]]]]]]]]]]]]]]]]]]]]]]]]]]]]]]]]]]]]]]]]]]]]]]]]]]]]]]]]]]]]]]]]]]]]]]]]]]]]]]]]]]]]]]]]]]]]]]]]]]]]]]]]]]]]]]]]]]]]]]]]]]]]]]]]]]]]]]]]]]]]]]]]]]]]]]]]]]]]]]]]]]]]]]]]]]]]]]]]]]]]]]]]]]]]]]]]]]]
 "#,
-                br#"["no",5,"not-open"]
+        output: r#"["no",5,"not-open"]
 ["no",4,"no-such-document"]
 ["no",2,"bad-request"]
 ["no",2,"bad-request"]
 ["no",1,"not-json"]
 ["no",1,"not-json"]
 "#,
-            ),
-            (
-                br#"["open","d"]
+    },
+    Row {
+        name: "request_refusals-2",
+        input: r#"["open","d"]
 ["keys","d",["v"]]
 ["forget","d",[1,"p"]]
 ["deliver","d",["op",[0,"p"],[],[[["m",0]],"k"],["delete"]]]
 ["quit"]
 "#,
-                br#"["opened",1]
+        output: r#"["opened",1]
 ["no",8,"no-such-variable"]
 ["no",24,"not-held"]
 ["no",12,"bad-operation"]
 ["bye"]
 "#,
-            ),
-            (
-                br#"["quit"]
+    },
+    Row {
+        name: "request_refusals-3",
+        input: r#"["quit"]
 ["open","d"]
 "#,
-                br#"["bye"]
+        output: r#"["bye"]
 "#,
-            ),
-        ],
-    )
-}
-
-#[test]
-fn scalar_limits(rt: HostRuntime) -> Result<(), Fail> {
-    each_row(
-        &rt,
-        rt.alloc(),
-        &[
-            (
-                br#"["open","d"]
+    },
+    Row {
+        name: "scalar_limits-1",
+        input: r#"["open","d"]
 ["assign","d",[0,"n"],9223372036854775807]
 ["assign","d",[0,"n"],9223372036854775808]
 ["assign","d",[0,"n"],1.5]
 ["assign","d",[0,"n"],{"k":1}]
 ["values","d",[0,"n"]]
 "#,
-                br#"["opened",1]
+        output: r#"["opened",1]
 ["applied",1,0,[1,"srv-1"]]
 ["no",6,"bad-value"]
 ["no",6,"bad-value"]
 ["no",6,"bad-value"]
 ["values",[9223372036854775807]]
 "#,
-            ),
-            (
-                br#"["open","d"]
+    },
+    Row {
+        name: "scalar_limits-2",
+        input: r#"["open","d"]
 ["assign","d",[0,"n"],9223372036854775808]
 ["assign","d",[0,"n"],1.5]
 ["assign","d",[0,"n"],{"k":1}]
 ["assign","d",[0,"n"],9223372036854775807]
 ["values","d",[0,"n"]]
 "#,
-                br#"["opened",1]
+        output: r#"["opened",1]
 ["no",6,"bad-value"]
 ["no",6,"bad-value"]
 ["no",6,"bad-value"]
 ["applied",1,0,[1,"srv-1"]]
 ["values",[9223372036854775807]]
 "#,
-            ),
-        ],
-    )
-}
+    },
+];
 
 #[test]
-fn shopping_list(rt: HostRuntime) -> Result<(), Fail> {
-    row(
-        &rt,
-        rt.alloc(),
-        br#"["open","d"]
-["assign","d",[0],{}]
-["assign","d",[0,"shopping"],[]]
-["insert","d",[0,"shopping",0],"eggs"]
-["let","d","e",[0,"shopping",1]]
-["insert","d",[0,"shopping",0],"cheese"]
-["insert","d",["e"],"milk"]
-["items","d",[0,"shopping"]]
-"#,
-        br#"["opened",1]
-["applied",1,0,[1,"srv-1"]]
-["applied",1,0,[2,"srv-1"]]
-["applied",1,0,[3,"srv-1"]]
-["bound"]
-["applied",1,0,[4,"srv-1"]]
-["applied",1,0,[5,"srv-1"]]
-["items",[[[4,"srv-1"],["cheese"]],[[3,"srv-1"],["eggs"]],[[5,"srv-1"],["milk"]]]]
-"#,
-    )
+fn refused_requests(rt: HostRuntime) {
+    give_all(&rt, rt.alloc(), &REFUSED);
 }
 
-#[test]
-fn todo_deleted_while_edited(rt: HostRuntime) -> Result<(), Fail> {
-    each_row(
-        &rt,
-        rt.alloc(),
-        &[
-            (
-                br#"["open","d"]
-["deliver","d",["op",[1,"p"],[],[[["m",0]],"todo"],["assign",[]]]]
-["deliver","d",["op",[2,"p"],[["p",1]],[[["m",0],["l","todo"]],1],["insert",{}]]]
-["deliver","d",["op",[3,"p"],[["p",2]],[[["m",0],["l","todo"],["m",[2,"p"]]],"title"],["assign","buy milk"]]]
-["deliver","d",["op",[4,"p"],[["p",3]],[[["m",0],["l","todo"],["m",[2,"p"]]],"done"],["assign",false]]]
-["deliver","d",["op",[5,"p"],[["p",4]],[[["m",0],["l","todo"]],[2,"p"]],["delete"]]]
-["deliver","d",["op",[5,"q"],[["p",4]],[[["m",0],["l","todo"],["m",[2,"p"]]],"done"],["assign",true]]]
-["show","d",[0,"todo"]]
-"#,
-                br#"["opened",1]
-["applied",1,0,[1,"p"]]
-["applied",1,0,[2,"p"]]
-["applied",1,0,[3,"p"]]
-["applied",1,0,[4,"p"]]
-["applied",1,0,[5,"p"]]
-["applied",1,0,[5,"q"]]
-["show",[["list",[[["map",[["done",[["val",[5,"q"],true]]]]]]]]]]
-"#,
-            ),
-            (
-                br#"["open","d"]
-["deliver","d",["op",[1,"p"],[],[[["m",0]],"todo"],["assign",[]]]]
-["deliver","d",["op",[2,"p"],[["p",1]],[[["m",0],["l","todo"]],1],["insert",{}]]]
-["deliver","d",["op",[3,"p"],[["p",2]],[[["m",0],["l","todo"],["m",[2,"p"]]],"title"],["assign","buy milk"]]]
-["deliver","d",["op",[4,"p"],[["p",3]],[[["m",0],["l","todo"],["m",[2,"p"]]],"done"],["assign",false]]]
-["deliver","d",["op",[5,"q"],[["p",4]],[[["m",0],["l","todo"],["m",[2,"p"]]],"done"],["assign",true]]]
-["deliver","d",["op",[5,"p"],[["p",4]],[[["m",0],["l","todo"]],[2,"p"]],["delete"]]]
-["show","d",[0,"todo"]]
-"#,
-                br#"["opened",1]
-["applied",1,0,[1,"p"]]
-["applied",1,0,[2,"p"]]
-["applied",1,0,[3,"p"]]
-["applied",1,0,[4,"p"]]
-["applied",1,0,[5,"q"]]
-["applied",1,0,[5,"p"]]
-["show",[["list",[[["map",[["done",[["val",[5,"q"],true]]]]]]]]]]
-"#,
-            ),
-        ],
-    )
-}
-
-#[test]
-fn variable_after_delete(rt: HostRuntime) -> Result<(), Fail> {
-    row(
-        &rt,
-        rt.alloc(),
-        br#"["open","d"]
-["assign","d",[0,"l"],[]]
-["insert","d",[0,"l",0],"a"]
-["insert","d",[0,"l",1],"b"]
-["let","d","e",[0,"l",1]]
-["delete","d",[0,"l",1]]
-["insert","d",[0,"l",0],"c"]
-["insert","d",["e"],"x"]
-["items","d",[0,"l"]]
-["values","d",["e"]]
-"#,
-        br#"["opened",1]
-["applied",1,0,[1,"srv-1"]]
-["applied",1,0,[2,"srv-1"]]
-["applied",1,0,[3,"srv-1"]]
-["bound"]
-["applied",1,0,[4,"srv-1"]]
-["applied",1,0,[5,"srv-1"]]
-["applied",1,0,[6,"srv-1"]]
-["items",[[[5,"srv-1"],["c"]],[[6,"srv-1"],["x"]],[[3,"srv-1"],["b"]]]]
-["values",[]]
-"#,
-    )
-}
-
-#[test]
-fn version_2(rt: HostRuntime) -> Result<(), Fail> {
-    row(
-        &rt,
-        rt.alloc(),
-        br#"["version"]
-"#,
-        br#"["version",2]
-"#,
-    )
-}
-
-#[test]
-fn wire_refusals_1(rt: HostRuntime) -> Result<(), Fail> {
-    each_row(
-        &rt,
-        rt.alloc(),
-        &[
-            (
-                br#"["open","d"]
+/// Forms of operations that are refused, and some beside them that are not.
+static WIRE: [Row; 13] = [
+    Row {
+        name: "wire_refusals_1-1",
+        input: r#"["open","d"]
 ["deliver","d",["op",[1,"P"],[],[[["m",0]],"k"],["delete"]]]
 "#,
-                br#"["opened",1]
+        output: r#"["opened",1]
 ["no",12,"bad-operation"]
 "#,
-            ),
-            (
-                br#"["open","d"]
+    },
+    Row {
+        name: "wire_refusals_1-2",
+        input: r#"["open","d"]
 ["deliver","d",["op",[1,"p"],[],[[],"k"],["delete"]]]
 "#,
-                br#"["opened",1]
+        output: r#"["opened",1]
 ["no",12,"bad-operation"]
 "#,
-            ),
-            (
-                br#"["open","d"]
+    },
+    Row {
+        name: "wire_refusals_1-3",
+        input: r#"["open","d"]
 ["deliver","d",["op",[1,"p"],[],[[],0],["assign",{}]]]
 "#,
-                br#"["opened",1]
+        output: r#"["opened",1]
 ["applied",1,0,[1,"p"]]
 "#,
-            ),
-            (
-                br#"["open","d"]
+    },
+    Row {
+        name: "wire_refusals_1-4",
+        input: r#"["open","d"]
 ["deliver","d",["op",[1,"p"],[],[[["m",0]],1],["delete"]]]
 "#,
-                br#"["opened",1]
+        output: r#"["opened",1]
 ["no",12,"bad-operation"]
 "#,
-            ),
-            (
-                br#"["open","d"]
+    },
+    Row {
+        name: "wire_refusals_1-5",
+        input: r#"["open","d"]
 ["deliver","d",["op",[1,"p"],[],[[["l",0]],1],["delete"]]]
 "#,
-                br#"["opened",1]
+        output: r#"["opened",1]
 ["no",12,"bad-operation"]
 "#,
-            ),
-            (
-                br#"["open","d"]
+    },
+    Row {
+        name: "wire_refusals_1-6",
+        input: r#"["open","d"]
 ["deliver","d",["op",[1,"p"],[],[[["l",0]],1],["insert",null]]]
 "#,
-                br#"["opened",1]
+        output: r#"["opened",1]
 ["applied",1,0,[1,"p"]]
 "#,
-            ),
-        ],
-    )
-}
-
-#[test]
-fn wire_refusals_2(rt: HostRuntime) -> Result<(), Fail> {
-    each_row(
-        &rt,
-        rt.alloc(),
-        &[
-            (
-                br#"["open","d"]
+    },
+    Row {
+        name: "wire_refusals_2-1",
+        input: r#"["open","d"]
 ["deliver","d",["op",[1,"p"],[],[[["m",0]],"k"],["insert",1]]]
 "#,
-                br#"["opened",1]
+        output: r#"["opened",1]
 ["no",12,"bad-operation"]
 "#,
-            ),
-            (
-                br#"["open","d"]
+    },
+    Row {
+        name: "wire_refusals_2-2",
+        input: r#"["open","d"]
 ["deliver","d",["op",[3,"p"],[["q",1],["o",2]],[[["m",0]],"k"],["delete"]]]
 "#,
-                br#"["opened",1]
+        output: r#"["opened",1]
 ["no",13,"bad-front"]
 "#,
-            ),
-            (
-                br#"["open","d"]
+    },
+    Row {
+        name: "wire_refusals_2-3",
+        input: r#"["open","d"]
 ["deliver","d",["op",[2,"p"],[],[[["m",0]],"k"],["delete"]]]
 "#,
-                br#"["opened",1]
+        output: r#"["opened",1]
 ["no",13,"bad-front"]
 "#,
-            ),
-            (
-                br#"["open","d"]
+    },
+    Row {
+        name: "wire_refusals_2-4",
+        input: r#"["open","d"]
 ["deliver","d",["op",[1,"p"],[],[[["m",0]],"k"],["assign",1.5]]]
 "#,
-                br#"["opened",1]
+        output: r#"["opened",1]
 ["no",12,"bad-operation"]
 "#,
-            ),
-            (
-                br#"["open","d"]
+    },
+    Row {
+        name: "wire_refusals_2-5",
+        input: r#"["open","d"]
 ["deliver","d",["op",[1,"p"],[],[[["m",0],["m",0]],"k"],["delete"]]]
 "#,
-                br#"["opened",1]
+        output: r#"["opened",1]
 ["no",12,"bad-operation"]
 "#,
-            ),
-            (
-                br#"["open","d"]
+    },
+    Row {
+        name: "wire_refusals_2-6",
+        input: r#"["open","d"]
 ["deliver","d",["op",[1,"p"],[],[[["m",0],["m","k0"],["m","k1"],["m","k2"],["m","k3"],["m","k4"],["m","k5"],["m","k6"],["m","k7"],["m","k8"],["m","k9"],["m","k10"],["m","k11"],["m","k12"],["m","k13"],["m","k14"],["m","k15"],["m","k16"],["m","k17"],["m","k18"],["m","k19"],["m","k20"],["m","k21"],["m","k22"],["m","k23"],["m","k24"],["m","k25"],["m","k26"],["m","k27"],["m","k28"],["m","k29"]],"k"],["delete"]]]
 "#,
-                br#"["opened",1]
+        output: r#"["opened",1]
 ["no",20,"too-deep"]
 "#,
-            ),
-        ],
-    )
-}
-
-#[test]
-fn wire_refusals_3(rt: HostRuntime) -> Result<(), Fail> {
-    row(
-        &rt,
-        rt.alloc(),
-        br#"["open","d"]
+    },
+    Row {
+        name: "wire_refusals_3",
+        input: r#"["open","d"]
 ["deliver","d",["op",[1,"p"],[],[[["m",0],["m","k0"],["m","k1"],["m","k2"],["m","k3"],["m","k4"],["m","k5"],["m","k6"],["m","k7"],["m","k8"],["m","k9"],["m","k10"],["m","k11"],["m","k12"],["m","k13"],["m","k14"],["m","k15"],["m","k16"],["m","k17"],["m","k18"],["m","k19"],["m","k20"],["m","k21"],["m","k22"],["m","k23"],["m","k24"],["m","k25"],["m","k26"],["m","k27"],["m","k28"]],"k"],["delete"]]]
 "#,
-        br#"["opened",1]
+        output: r#"["opened",1]
 ["applied",1,0,[1,"p"]]
 "#,
-    )
-}
+    },
+];
 
 #[test]
-fn without_open(rt: HostRuntime) -> Result<(), Fail> {
-    each_row(
-        &rt,
-        rt.alloc(),
-        &[
-            (br#""#, br#""#),
-            (
-                br#"
+fn refused_forms(rt: HostRuntime) {
+    give_all(&rt, rt.alloc(), &WIRE);
+}
+
+/// The other side of the exchange, where the server is `b`.
+static EXCHANGE_OF_TWO_OTHER_SIDE: Row = Row {
+    name: "exchange_of_two, the other side",
+    input: r#"["open","d"]
+["assign","d",[0,"k"],"B"]
+["deliver","d",["op",[1,"srv-1"],[],[[],0],["assign",{}]]]
+["deliver","d",["op",[2,"srv-1"],[["srv-1",1]],[[["m",0]],"k"],["assign","A"]]]
+["front","d"]
+["conflicts","d",[0,"k"]]
 "#,
-                br#"["no",1,"not-json"]
+    output: r#"["opened",1]
+["applied",1,0,[1,"b-1"]]
+["applied",1,0,[1,"srv-1"]]
+["applied",1,0,[2,"srv-1"]]
+["front",[["b-1",1],["srv-1",2]]]
+["conflicts",[[[1,"b-1"],"B"],[[2,"srv-1"],"A"]]]
 "#,
-            ),
-        ],
-    )
+};
+
+#[test]
+fn exchange_of_two_other_side(rt: HostRuntime) {
+    let row = &EXCHANGE_OF_TWO_OTHER_SIDE;
+    let run = Run {
+        server: "b",
+        ..run_of(row.input.as_bytes())
+    };
+    writes(&rt, rt.alloc(), &row.name, run, 0, row.output.as_bytes());
 }

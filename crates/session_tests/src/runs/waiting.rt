@@ -10,7 +10,6 @@ use std::io;
 use std::io::{Read, Write};
 use std::marker::Brand;
 use std::sync::atomic::{AtomicU64, Ordering};
-use std::test::Fail;
 
 /// Counts the replies that come, and how often some come.
 #[derive(Drop)]
@@ -62,6 +61,7 @@ impl Read for Client<'_> {
     }
 }
 
+/// The status of a run over the client's lines, which tells whether it waited in vain, and the replies and writes.
 fn waits<M: Marker>(
     alloc: Global,
     blank: Blank,
@@ -90,18 +90,15 @@ fn waits<M: Marker>(
     )
 }
 
-/// The same, over a table of its own.
-fn waits_alone(alloc: Global, in_vain: &AtomicU64, lines: &AtomicU64, writes: &AtomicU64) -> u8 {
-    waits::<Brand>(alloc, Blank::new(), in_vain, lines, writes)
-}
-
 #[test]
-fn has_its_replies_before_it_is_read_again(rt: HostRuntime) -> Result<(), Fail> {
+fn has_its_replies_before_it_is_read_again(rt: HostRuntime) {
     let (in_vain, lines, writes) = (AtomicU64::new(0), AtomicU64::new(0), AtomicU64::new(0));
-    let status = waits_alone(rt.alloc(), &in_vain, &lines, &writes);
-    assert!(rt; status == 0 && in_vain.load(Ordering::SeqCst) == 0);
+    let status = waits::<Brand>(rt.alloc(), Blank::new(), &in_vain, &lines, &writes);
+    let counted = (
+        in_vain.load(Ordering::SeqCst),
+        lines.load(Ordering::SeqCst),
+        writes.load(Ordering::SeqCst),
+    );
     // 20 whole lines and a last piece, in one write for each part and one for the last piece
-    assert_eq!(rt; lines.load(Ordering::SeqCst), 21);
-    assert_eq!(rt; writes.load(Ordering::SeqCst), 6);
-    Ok(())
+    assert_eq!(rt; (status, counted), (0, (0, 21, 6)));
 }

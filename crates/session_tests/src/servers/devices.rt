@@ -1,18 +1,12 @@
 //! Sessions whose connection fails: they end alone, and what they did is in the totals.
-ghost use Rattle.std.specs.Prelude.{◌≡◌};
-ghost use Rattle.share_ledger.specs.Begun.{BeginEmpty};
-
-use super::samples::{first_did, two_documents};
+use super::samples::{Fault, NO_FAULT, first_did, run_two};
 use json_scalar::Refusal;
-use server_core::doubles::Script;
-use server_core::{Gathered, Idle, OpenGate, run_sessions};
+use server_core::OpenGate;
 use session_rules::Ending;
-use share_ledger::{Blank, Marker};
 use std::alloc::Global;
-use std::marker::Brand;
 use std::process::Abort;
-use std::sync::{Mutex, Wait};
-use std::test::*;
+use std::sync::Wait;
+use std::test::Fail;
 use std::thread::Threads;
 
 const TWO: &[u8] = br#"["open","a"]
@@ -20,100 +14,77 @@ const TWO: &[u8] = br#"["open","a"]
 ["assign","a",[0,"b"],2]
 "#;
 
-/// Where the first of two sessions fails.
-#[derive(Clone, Copy)]
-struct Fault {
-    read_after: usize,
-    write_after: usize,
-    opens: bool,
-}
-
-/// What two sessions of the same lines did, the first of which fails, and what that one was told.
-fn gathered_with<M: Marker + Send + Sync, R: Threads + Wait + Sync>(
-    rt: &R,
-    alloc: Global,
-    blank: Blank,
-    fault: Fault,
-) -> Result<(Gathered, Vec<u8>), Refusal>
-    requires blank { blank ≡ M.name }
-    requires begun { BeginEmpty M.begun }
-{
-    let library = two_documents::<M>(alloc, blank, 2)?;
-    let failing = Mutex::new(Vec::new(alloc));
-    let whole = Mutex::new(Vec::new(alloc));
-    let mut scripts = Vec::new(alloc);
-    scripts.push(Script {
-        rt,
-        input: TWO,
-        replies: &failing,
-        read_after: fault.read_after,
-        write_after: fault.write_after,
-        opens: fault.opens,
-    })?;
-    scripts.push(Script::new(rt, TWO, &whole))?;
-    match run_sessions(rt, alloc, library, scripts, &OpenGate, Idle).0 {
-        Ok(gathered) => Ok((gathered, failing.into_inner())),
-        Err(ungathered) => Err(ungathered.refusal),
-    }
-}
-
-/// The session that fails does this many of its assignments, and ends so; the other one does both of them, up to the end.
-fn fails_alone<M: Marker + Send + Sync, R: Threads + Wait + Abort + Sync>(
-    rt: &R,
-    alloc: Global,
-    blank: Blank,
+/// A fault of the first of two sessions of the same lines, how many of its assignments that one does, and how it ends.
+struct Row {
+    name: &'static str,
     fault: Fault,
     done: u64,
     why: Option<Ending>,
-) -> Result<(), Fail>
-    requires blank { blank ≡ M.name }
-    requires begun { BeginEmpty M.begun }
-{
-    let (gathered, told) = gathered_with::<M, R>(rt, alloc, blank, fault)?;
-    let totals = gathered.totals.as_slice();
+}
+
+static ROWS: [Row; 3] = [
+    Row {
+        name: "source_fails_in_mid_line",
+        fault: Fault {
+            read_after: 50,
+            ..NO_FAULT
+        },
+        done: 1,
+        why: Some(Ending::ReadFault),
+    },
+    Row {
+        name: "sink_fails_in_mid_reply",
+        fault: Fault {
+            write_after: 20,
+            ..NO_FAULT
+        },
+        done: 1,
+        why: Some(Ending::WriteFault),
+    },
+    Row {
+        name: "connection_cannot_be_opened",
+        fault: Fault {
+            opens: false,
+            ..NO_FAULT
+        },
+        done: 0,
+        why: None,
+    },
+];
+
+/// The session that fails does so much, and ends so; the other one does both assignments, up to the end. Nothing is told where the
+/// connection can't be opened, and then there is one seat.
+fn fails_alone<R: Threads + Wait + Abort + Sync>(
+    rt: &R,
+    alloc: Global,
+    row: &Row,
+) -> Result<(), Refusal> {
+    let ran = run_two(rt, alloc, &OpenGate, [TWO, TWO], row.fault)?;
+    let name = row.name;
+    let endings = [row.why, Some(Ending::End)];
     assert_eq!(rt;
-        gathered.endings.as_slice(),
-        [why, Some(Ending::End)].as_slice()
+        ran.gathered.endings.as_slice(),
+        endings.as_slice(),
+        "{name}"
     );
-    if !fault.opens {
-        assert!(rt; told.is_empty());
-        return first_did(rt, totals, 2, &[2]);
-    }
-    if told.as_slice().starts_with(b"[\"opened\",1]\n") {
-        first_did(rt, totals, done.saturating_add(2), &[done, 2])
+    assert_eq!(rt; ran.first.is_empty(), !row.fault.opens, "{name}");
+    let both = [row.done, 2];
+    let turned = [2, row.done];
+    let shares = if !row.fault.opens {
+        &turned[..1]
+    } else if ran.first.as_slice().starts_with(b"[\"opened\",1]\n") {
+        &both[..]
     } else {
-        first_did(rt, totals, done.saturating_add(2), &[2, done])
+        &turned[..]
+    };
+    first_did(rt, &ran.gathered, row.done.saturating_add(2), shares);
+    Ok(())
+}
+
+#[test]
+fn connections_that_fail(rt: HostRuntime) -> Result<(), Fail> {
+    for row in &ROWS {
+        fails_alone(&rt, rt.alloc(), row)?;
     }
-}
-
-#[test]
-fn source_fails_in_mid_line(rt: HostRuntime) -> Result<(), Fail> {
-    let fault = Fault {
-        read_after: 50,
-        write_after: usize::MAX,
-        opens: true,
-    };
-    let why = Some(Ending::ReadFault);
-    fails_alone::<Brand, _>(&rt, rt.alloc(), Blank::new(), fault, 1, why)
-}
-
-#[test]
-fn sink_fails_in_mid_reply(rt: HostRuntime) -> Result<(), Fail> {
-    let fault = Fault {
-        read_after: usize::MAX,
-        write_after: 20,
-        opens: true,
-    };
-    let why = Some(Ending::WriteFault);
-    fails_alone::<Brand, _>(&rt, rt.alloc(), Blank::new(), fault, 1, why)
-}
-
-#[test]
-fn connection_cannot_be_opened(rt: HostRuntime) -> Result<(), Fail> {
-    let fault = Fault {
-        read_after: usize::MAX,
-        write_after: usize::MAX,
-        opens: false,
-    };
-    fails_alone::<Brand, _>(&rt, rt.alloc(), Blank::new(), fault, 0, None)
+    Ok(())
 }

@@ -1,16 +1,13 @@
 //! A gate that is passed only where sessions at two documents run at the same time.
-ghost use Rattle.std.specs.Prelude.{◌≡◌};
-ghost use Rattle.share_ledger.specs.Begun.{BeginEmpty};
-
-use super::samples::run_two;
+use super::samples::{NO_FAULT, run_two};
+use crate::told::is_told;
+use json_scalar::Refusal;
 use server_core::Gate;
-use share_ledger::{Blank, Marker};
 use std::alloc::Global;
-use std::marker::Brand;
 use std::process::Abort;
 use std::sync::Wait;
 use std::sync::atomic::{AtomicU64, Ordering};
-use std::test::*;
+use std::test::Fail;
 use std::thread;
 use std::thread::Threads;
 
@@ -59,35 +56,36 @@ impl Gate for Meeting {
     }
 }
 
-fn meets<M: Marker + Send + Sync, R: Threads + Wait + Abort + Sync>(
-    rt: &R,
-    alloc: Global,
-    blank: Blank,
-) -> Result<(), Fail>
-    requires blank { blank ≡ M.name }
-    requires begun { BeginEmpty M.begun }
-{
+const FIRST: &[u8] = b"[\"open\",\"a\"]\n";
+
+const SECOND: &[u8] = b"[\"open\",\"b\"]\n[\"quit\"]\n";
+
+fn meets<R: Threads + Wait + Abort + Sync>(rt: &R, alloc: Global) -> Result<(), Refusal> {
     let gate = Meeting {
         first_inside: AtomicU64::new(0),
         second_came: AtomicU64::new(0),
         missed: AtomicU64::new(0),
     };
-    let first = b"[\"open\",\"a\"]\n";
-    let second = b"[\"open\",\"b\"]\n[\"quit\"]\n";
-    let ran = run_two::<M, R, Meeting>(rt, alloc, blank, &gate, first, second)?;
-    assert_eq!(rt; ran.totals.len(), 2);
-    assert_eq!(rt; ran.first.as_slice(), b"[\"opened\",1]\n".as_slice());
-    assert_eq!(rt;
+    let ran = run_two(rt, alloc, &gate, [FIRST, SECOND], NO_FAULT)?;
+    is_told(rt, &"first", ran.first.as_slice(), b"[\"opened\",1]\n");
+    is_told(
+        rt,
+        &"second",
         ran.second.as_slice(),
-        b"[\"opened\",1]\n[\"bye\"]\n".as_slice()
+        b"[\"opened\",1]\n[\"bye\"]\n",
     );
-    assert_eq!(rt; gate.missed.load(Ordering::SeqCst), 0);
-    assert_eq!(rt; gate.first_inside.load(Ordering::SeqCst), 1);
-    assert_eq!(rt; gate.second_came.load(Ordering::SeqCst), 1);
+    let met = (
+        ran.gathered.totals.len(),
+        gate.missed.load(Ordering::SeqCst),
+        gate.first_inside.load(Ordering::SeqCst),
+        gate.second_came.load(Ordering::SeqCst),
+    );
+    assert_eq!(rt; met, (2, 0, 1, 1));
     Ok(())
 }
 
 #[test]
 fn gate_two_documents(rt: HostRuntime) -> Result<(), Fail> {
-    meets::<Brand, _>(&rt, rt.alloc(), Blank::new())
+    meets(&rt, rt.alloc())?;
+    Ok(())
 }

@@ -1,20 +1,19 @@
-//! Worked rows, each as the one session of a run over a shelf, and that no lock is taken while a line is read or a reply is written.
+//! Worked rows, each as the one session of a run over a shelf of two documents, and that no lock is taken while a line is read or a
+//! reply is written.
 ghost use Rattle.std.specs.Prelude.{◌≡◌};
 ghost use Rattle.share_ledger.specs.Begun.{BeginEmpty};
 
-use super::samples::two_documents;
+use super::samples::{library_of, told_alone};
+use crate::told::is_told;
 use json_scalar::Refusal;
 use line_feed::{DeviceFault, Reader, Sink, Source, Writer};
-use server_core::doubles::Script;
-use server_core::{Idle, Library, OpenGate, run_sessions, serve_session};
+use server_core::{Library, OpenGate, serve_session};
 use session_rules::Ending;
 use share_ledger::{Blank, Marker};
 use std::alloc::Global;
 use std::marker::Brand;
-use std::process::Abort;
-use std::sync::{Mutex, Wait};
-use std::test::*;
-use std::thread::Threads;
+use std::sync::Wait;
+use std::test::Fail;
 
 const SHOPPING: &[u8] = br#"["open","a"]
 ["assign","a",[0],{}]
@@ -58,37 +57,16 @@ const RELEASED: &[u8] = br#"["opened",1]
 ["values",[3]]
 "#;
 
-/// What the one session of a run is told.
-fn told_alone<M: Marker + Send + Sync, R: Threads + Wait + Sync>(
-    rt: &R,
-    alloc: Global,
-    blank: Blank,
-    input: &[u8],
-) -> Result<Vec<u8>, Refusal>
-    requires blank { blank ≡ M.name }
-    requires begun { BeginEmpty M.begun }
-{
-    let library = two_documents::<M>(alloc, blank, 1)?;
-    let replies = Mutex::new(Vec::new(alloc));
-    let mut scripts = Vec::new(alloc);
-    scripts.push(Script::new(rt, input, &replies))?;
-    match run_sessions(rt, alloc, library, scripts, &OpenGate, Idle).0 {
-        Ok(_) => Ok(replies.into_inner()),
-        Err(ungathered) => Err(ungathered.refusal),
+#[test]
+fn rows_over_two_documents(rt: HostRuntime) -> Result<(), Fail> {
+    let rows = [
+        ("shopping", SHOPPING, SHOPPED),
+        ("buffer_release", RELEASING, RELEASED),
+    ];
+    for (name, input, output) in rows {
+        let told = told_alone(&rt, rt.alloc(), &["a", "b"], input)?;
+        is_told(&rt, &name, told.as_slice(), output);
     }
-}
-
-#[test]
-fn shopping(rt: HostRuntime) -> Result<(), Fail> {
-    let told = told_alone::<Brand, _>(&rt, rt.alloc(), Blank::new(), SHOPPING)?;
-    assert_eq!(rt; told.as_slice(), SHOPPED);
-    Ok(())
-}
-
-#[test]
-fn buffer_release(rt: HostRuntime) -> Result<(), Fail> {
-    let told = told_alone::<Brand, _>(&rt, rt.alloc(), Blank::new(), RELEASING)?;
-    assert_eq!(rt; told.as_slice(), RELEASED);
     Ok(())
 }
 
@@ -152,11 +130,16 @@ impl<M: Marker, D: Sink> Sink for Looking<'_, M, D> {
     }
 }
 
-fn looks<M: Marker, R: Wait + Abort>(rt: &R, alloc: Global, blank: Blank) -> Result<(), Fail>
+/// Why the session of the shopping list ended, and whether a lock was taken while a line was read, or a reply written.
+fn looks<M: Marker, R: Wait>(
+    rt: &R,
+    alloc: Global,
+    blank: Blank,
+) -> Result<(Ending, bool, bool), Refusal>
     requires blank { blank ≡ M.name }
     requires begun { BeginEmpty M.begun }
 {
-    let library = two_documents::<M>(alloc, blank, 1)?;
+    let library = library_of::<M>(alloc, blank, &["a", "b"], 1)?;
     let mut source = Looking {
         library: &library,
         device: Reader::new(SHOPPING),
@@ -168,13 +151,12 @@ fn looks<M: Marker, R: Wait + Abort>(rt: &R, alloc: Global, blank: Blank) -> Res
         found: false,
     };
     let served = serve_session(rt, alloc, &library, &OpenGate, 1, &mut source, &mut sink)?;
-    assert_eq!(rt; served.why, Ending::Quit);
-    assert!(rt; !source.found);
-    assert!(rt; !sink.found);
-    Ok(())
+    Ok((served.why, source.found, sink.found))
 }
 
 #[test]
 fn no_lock_while_reading_or_writing(rt: HostRuntime) -> Result<(), Fail> {
-    looks::<Brand, _>(&rt, rt.alloc(), Blank::new())
+    let found = looks::<Brand, _>(&rt, rt.alloc(), Blank::new())?;
+    assert_eq!(rt; found, (Ending::Quit, false, false));
+    Ok(())
 }

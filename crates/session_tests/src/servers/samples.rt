@@ -1,20 +1,20 @@
-//! Documents on a shelf, and sessions over them.
-ghost use Rattle.std.specs.Prelude.{◌≡◌, ◌+◌, ◌≤◌, IfOk};
-ghost use Rattle.share_ledger.specs.Counters.{ledger_place};
+//! New documents, and sessions over them.
+ghost use Rattle.std.specs.Prelude.{◌≡◌, ◌≤◌, IfOk, length};
+ghost use Rattle.doc_ledger.specs.Numbers.{greatest_number};
 ghost use Rattle.share_ledger.specs.Begun.{BeginEmpty};
 
+use doc_ledger::Ledger;
 use json_scalar::Refusal;
 use lamport_id::ReplicaName;
 use line_proto::Name;
-use locked_doc::{Ledgers, LockedDoc, Shelf, Totals};
-use replica_core::Replica;
+use locked_doc::{Shelf, Totals};
 use server_core::doubles::Script;
-use server_core::{Gate, Idle, Library, Signal, run_sessions};
-use share_ledger::{Blank, Marker, Table};
+use server_core::{Gate, Gathered, Idle, Library, OpenGate, Signal, run_sessions};
+use share_ledger::{Blank, Marker};
 use std::alloc::Global;
+use std::marker::Brand;
 use std::process::Abort;
 use std::sync::{Mutex, Wait};
-use std::test::*;
 use std::thread::Threads;
 
 /// A session of three changes of `a`.
@@ -31,127 +31,163 @@ pub const TWO: &[u8] = br#"["open","a"]
 ["assign","a",[0,"b"],2]
 ["values","a",[0,"b"]]"#;
 
-/// A new document with so many seats.
-fn document<M: Marker>(
-    alloc: Global,
-    table: &mut Table<M>,
-    number: u16,
-    seats: u16,
-) -> Result<LockedDoc<M>, Refusal>
-    requires place { table.old ≤ ledger_place number 0 }
-    requires begun { BeginEmpty M.begun }
-    ensures { IfOk result (λ d. table.new ≤ ledger_place number seats + 1) }
+/// The names of documents.
+pub fn names_of(alloc: Global, documents: &[&str]) -> Result<Vec<Name>, Refusal>
+    ensures { IfOk result (λ names. length names.items ≡ length documents.now) }
 {
-    let name = ReplicaName::read(b"srv-1").ok_or(Refusal::BadRequest)?;
-    let ledgers = Ledgers::make(alloc, table, number, seats)?;
-    let replica = Replica::new(alloc, name)?;
-    match LockedDoc::new(alloc, replica, ledgers) {
-        Ok(doc) => Ok(doc),
-        Err(_) => Err(Refusal::NoMemory),
+    let mut names = Vec::new(alloc);
+    for document in documents {
+        names.push(Name::new(alloc, document)?)?;
     }
+    Ok(names)
 }
 
-/// Puts a document of this name behind the others.
-fn put<M: Marker>(
-    alloc: Global,
-    library: Library<M>,
-    name: &str,
-    doc: LockedDoc<M>,
-) -> Result<Library<M>, Refusal> {
-    let Library {
-        mut names,
-        mut shelf,
-        signal,
-    } = library;
-    names.push(Name::new(alloc, name)?)?;
-    if shelf.put(doc).is_err() {
-        return Err(Refusal::NoMemory);
-    }
-    Ok(Library {
-        names,
-        shelf,
-        signal,
-    })
-}
-
-/// No documents.
-fn no_documents<M: Marker>(alloc: Global) -> Library<M> {
-    Library {
-        names: Vec::new(alloc),
-        shelf: Shelf::new(alloc),
-        signal: Signal::new(),
-    }
-}
-
-/// New documents `a` and `b`, with so many seats each.
-pub fn two_documents<M: Marker>(
+/// So many new documents, with so many seats each.
+fn shelf_of<M: Marker>(
     alloc: Global,
     blank: Blank,
+    documents: usize,
+    seats: u16,
+) -> Result<Shelf<M>, Refusal>
+    requires blank { blank ≡ M.name }
+    requires begun { BeginEmpty M.begun }
+    requires few { documents ≤ greatest_number }
+    ensures { IfOk result (λ shelf. shelf ≡ documents) }
+{
+    let replica = ReplicaName::read(b"srv-1").ok_or(Refusal::BadRequest)?;
+    let mut ledger = Ledger::<M>::new(blank);
+    let mut shelf = Shelf::new(alloc);
+    for _ in 0..documents {
+        if shelf.put(ledger.locked(alloc, &replica, seats)?).is_err() {
+            return Err(Refusal::NoMemory);
+        }
+    }
+    Ok(shelf)
+}
+
+/// New documents of these names, with so many seats each.
+pub fn library_of<M: Marker>(
+    alloc: Global,
+    blank: Blank,
+    documents: &[&str],
     seats: u16,
 ) -> Result<Library<M>, Refusal>
     requires blank { blank ≡ M.name }
     requires begun { BeginEmpty M.begun }
+    requires few { length documents.now ≤ greatest_number }
 {
-    let mut table = blank.named::<M>();
-    let a = document(alloc, &mut table, 0, seats)?;
-    let b = document(alloc, &mut table, 1, seats)?;
-    let library = put(alloc, no_documents(alloc), "a", a)?;
-    put(alloc, library, "b", b)
+    let names = names_of(alloc, documents)?;
+    let shelf = shelf_of::<M>(alloc, blank, documents.len(), seats)?;
+    Ok(Library {
+        names,
+        shelf,
+        signal: Signal::new(),
+    })
 }
 
-/// What two sessions over new documents `a` and `b` did, and what each was told.
-#[derive(Drop)]
-pub struct Ran {
-    pub totals: Vec<Totals>,
-    pub first: Vec<u8>,
-    pub second: Vec<u8>,
-}
-
-/// Runs two sessions of these lines.
-pub fn run_two<M: Marker + Send + Sync, R: Threads + Wait + Sync, G: Gate + Sync>(
+/// What the sessions of these connections did at new documents, of so many seats each.
+fn serve<M: Marker + Send + Sync, R: Threads + Wait + Sync, G: Gate + Sync>(
     rt: &R,
     alloc: Global,
     blank: Blank,
+    documents: &[&str],
+    seats: u16,
+    scripts: Vec<Script<'_, R>>,
     gate: &G,
-    first: &[u8],
-    second: &[u8],
-) -> Result<Ran, Refusal>
+) -> Result<Gathered, Refusal>
     requires blank { blank ≡ M.name }
     requires begun { BeginEmpty M.begun }
+    requires few { length documents.now ≤ greatest_number }
 {
-    let library = two_documents::<M>(alloc, blank, 2)?;
-    let one = Mutex::new(Vec::new(alloc));
-    let two = Mutex::new(Vec::new(alloc));
-    let mut scripts = Vec::new(alloc);
-    scripts.push(Script::new(rt, first, &one))?;
-    scripts.push(Script::new(rt, second, &two))?;
+    let library = library_of::<M>(alloc, blank, documents, seats)?;
     match run_sessions(rt, alloc, library, scripts, gate, Idle).0 {
-        Ok(gathered) => Ok(Ran {
-            totals: gathered.totals,
-            first: one.into_inner(),
-            second: two.into_inner(),
-        }),
+        Ok(gathered) => Ok(gathered),
         Err(ungathered) => Err(ungathered.refusal),
     }
 }
 
-/// The totals of the first document are these, and those of the second are zeros.
-pub fn first_did<R: Abort>(
+/// The same, over a table of its own.
+pub fn serve_all<R: Threads + Wait + Sync, G: Gate + Sync>(
     rt: &R,
-    totals: &[Totals],
-    all: u64,
-    shares: &[u64],
-) -> Result<(), Fail> {
+    alloc: Global,
+    documents: &[&str],
+    seats: u16,
+    scripts: Vec<Script<'_, R>>,
+    gate: &G,
+) -> Result<Gathered, Refusal>
+    requires { length documents.now ≤ greatest_number }
+{
+    serve::<Brand, R, G>(rt, alloc, Blank::new(), documents, seats, scripts, gate)
+}
+
+/// What the one session of a server of these documents is told.
+pub fn told_alone<R: Threads + Wait + Sync>(
+    rt: &R,
+    alloc: Global,
+    documents: &[&str],
+    input: &[u8],
+) -> Result<Vec<u8>, Refusal>
+    requires { length documents.now ≤ greatest_number }
+{
+    let replies = Mutex::new(Vec::new(alloc));
+    let scripts = vec![in alloc; Script::new(rt, input, &replies)]?;
+    serve_all(rt, alloc, documents, 1, scripts, &OpenGate)?;
+    Ok(replies.into_inner())
+}
+
+/// What two sessions at new documents `a` and `b` did, and what each was told.
+#[derive(Drop)]
+pub struct Ran {
+    pub gathered: Gathered,
+    pub first: Vec<u8>,
+    pub second: Vec<u8>,
+}
+
+/// Where the connection of a session fails.
+#[derive(Clone, Copy)]
+pub struct Fault {
+    pub read_after: usize,
+    pub write_after: usize,
+    pub opens: bool,
+}
+
+pub const NO_FAULT: Fault = Fault {
+    read_after: usize::MAX,
+    write_after: usize::MAX,
+    opens: true,
+};
+
+/// Runs two sessions of these lines, the first over a connection with this fault.
+pub fn run_two<'x, R: Threads + Wait + Sync, G: Gate + Sync>(
+    rt: &'x R,
+    alloc: Global,
+    gate: &G,
+    lines: [&'x [u8]; 2],
+    fault: Fault,
+) -> Result<Ran, Refusal> {
+    let one = Mutex::new(Vec::new(alloc));
+    let two = Mutex::new(Vec::new(alloc));
+    let mut first = Script::new(rt, lines[0], &one);
+    first.read_after = fault.read_after;
+    first.write_after = fault.write_after;
+    first.opens = fault.opens;
+    let scripts = vec![in alloc; first, Script::new(rt, lines[1], &two)]?;
+    let gathered = serve_all(rt, alloc, &["a", "b"], 2, scripts, gate)?;
+    Ok(Ran {
+        gathered,
+        first: one.into_inner(),
+        second: two.into_inner(),
+    })
+}
+
+/// The totals of the first of two documents are these, and those of the second are zeros.
+pub fn first_did<R: Abort>(rt: &R, gathered: &Gathered, all: u64, shares: &[u64]) {
+    let totals = gathered.totals.as_slice();
     assert_eq!(rt; totals.len(), 2);
-    let Some(first) = totals.first() else {
-        return Err(Fail::from("no totals"));
-    };
-    assert_eq!(rt; first.accepted, all);
-    assert_eq!(rt; first.logged, all);
+    let (first, second) = (&totals[0], &totals[1]);
+    assert_eq!(rt;
+        (first.accepted, first.logged, second.logged),
+        (all, all, 0)
+    );
     assert_eq!(rt; first.by_seat.as_slice(), shares);
-    let Some(second) = totals.last() else {
-        return Err(Fail::from("no totals"));
-    };
-    assert_eq!(rt; second.logged, 0);
-    Ok(())
 }

@@ -2,17 +2,17 @@
 ghost use Rattle.std.specs.Prelude.{◌≡◌};
 ghost use Rattle.share_ledger.specs.Begun.{BeginEmpty};
 
-use super::samples::{THREE, TWO, first_did, run_two, two_documents};
+use super::samples::{NO_FAULT, THREE, TWO, first_did, library_of, run_two, serve_all};
 use json_scalar::Refusal;
-use locked_doc::Totals;
 use server_core::doubles::Script;
-use server_core::{Idle, Library, OpenGate, Side, Signalled, run_sessions};
+use server_core::{Gathered, Library, OpenGate, Side, Signalled, run_sessions};
 use share_ledger::{Blank, Marker};
-use std::alloc::Global;
+use std::alloc::{AllocError, Global};
 use std::marker::Brand;
 use std::process::Abort;
+use std::str;
 use std::sync::{Mutex, Wait};
-use std::test::*;
+use std::test::Fail;
 use std::thread::Threads;
 
 const THREE_TOLD: &[u8] = br#"["opened",_]
@@ -29,101 +29,85 @@ const TWO_TOLD: &[u8] = br#"["opened",_]
 "#;
 
 /// The bytes of the replies where the text has `_`, if the others are those of the text.
-fn filled(alloc: Global, text: &[u8], replies: &[u8]) -> Result<Vec<u8>, Fail> {
+fn filled<const N: usize>(text: &[u8], replies: &[u8]) -> Option<[u8; N]> {
+    let mut found = [0; N];
+    let mut count: usize = 0;
     if replies.len() != text.len() {
-        return Err(Fail::from("more or fewer bytes"));
+        return None;
     }
-    let mut found = Vec::new(alloc);
     for (due, byte) in text.iter().zip(replies.iter()) {
         if *due == b'_' {
-            found.push(*byte)?;
+            *found.get_mut(count)? = *byte;
+            count = count.saturating_add(1);
         } else if *due != *byte {
-            return Err(Fail::from("another byte"));
+            return None;
         }
     }
-    Ok(found)
+    Some(found)
 }
 
-/// Behind the seats the counters rise in either session, and together they are those from 1 to 5.
-fn rise_together<R: Abort>(rt: &R, alloc: Global, first: &[u8], second: &[u8]) -> Result<(), Fail> {
-    let one = first.get(1..).unwrap_or(&[]);
-    let two = second.get(1..).unwrap_or(&[]);
-    assert!(rt; one.iter().is_sorted());
-    assert!(rt; two.iter().is_sorted());
-    let mut all = Vec::new(alloc);
-    all.extend_from_slice(one)?;
-    all.extend_from_slice(two)?;
+/// Whether the counters rise in either session, and together are those from 1 to 5.
+fn rise_together(first: [u8; 3], second: [u8; 2]) -> bool {
+    let mut all = [first[0], first[1], first[2], second[0], second[1]];
     all.sort_unstable();
-    assert_eq!(rt; all.as_slice(), b"12345".as_slice());
-    Ok(())
+    first.iter().is_sorted() && second.iter().is_sorted() && all == *b"12345"
 }
 
-/// Two sessions at one document are each told of their own, line for line, whoever is first, and add up.
-fn adds_up<M: Marker + Send + Sync, R: Threads + Wait + Abort + Sync>(
-    rt: &R,
-    alloc: Global,
-    blank: Blank,
-) -> Result<(), Fail>
-    requires blank { blank ≡ M.name }
-    requires begun { BeginEmpty M.begun }
-{
-    let ran = run_two::<M, R, OpenGate>(rt, alloc, blank, &OpenGate, THREE, TWO)?;
-    let first = filled(alloc, THREE_TOLD, ran.first.as_slice())?;
-    let second = filled(alloc, TWO_TOLD, ran.second.as_slice())?;
-    rise_together(rt, alloc, first.as_slice(), second.as_slice())?;
-    if first.as_slice().starts_with(b"1") {
-        assert!(rt; second.as_slice().starts_with(b"2"));
-        first_did(rt, ran.totals.as_slice(), 5, &[3, 2])
-    } else {
-        assert!(rt; first.as_slice().starts_with(b"2"));
-        assert!(rt; second.as_slice().starts_with(b"1"));
-        first_did(rt, ran.totals.as_slice(), 5, &[2, 3])
+/// What each seat did, if both sessions were told of their own, line for line, whoever was first.
+fn shares(first: &[u8], second: &[u8]) -> Option<[u64; 2]> {
+    let one: [u8; 4] = filled(THREE_TOLD, first)?;
+    let two: [u8; 3] = filled(TWO_TOLD, second)?;
+    if !rise_together([one[1], one[2], one[3]], [two[1], two[2]]) {
+        return None;
     }
+    match (one[0], two[0]) {
+        (b'1', b'2') => Some([3, 2]),
+        (b'2', b'1') => Some([2, 3]),
+        _ => None,
+    }
+}
+
+/// Two sessions at one document are each told of their own, and add up.
+fn adds_up<R: Threads + Wait + Abort + Sync>(rt: &R, alloc: Global) -> Result<(), Refusal> {
+    let ran = run_two(rt, alloc, &OpenGate, [THREE, TWO], NO_FAULT)?;
+    let (first, second) = (ran.first.as_slice(), ran.second.as_slice());
+    match shares(first, second) {
+        Some(shares) => first_did(rt, &ran.gathered, 5, &shares),
+        None => panic!(rt;
+            "told {:?} and {:?}",
+            str::from_utf8(first),
+            str::from_utf8(second)
+        ),
+    }
+    Ok(())
 }
 
 #[test]
 fn two_sessions(rt: HostRuntime) -> Result<(), Fail> {
-    adds_up::<Brand, _>(&rt, rt.alloc(), Blank::new())
+    adds_up(&rt, rt.alloc())?;
+    Ok(())
 }
 
-/// The totals of 64 sessions of the same lines, with a side, which is given back.
-fn totals_of_many<M: Marker + Send + Sync, R: Threads + Wait + Sync, S: Side<M>>(
-    rt: &R,
+/// 64 sessions of the same lines.
+fn many<'a, R: Wait>(
+    rt: &'a R,
     alloc: Global,
-    blank: Blank,
-    side: S,
-) -> Result<(Vec<Totals>, S), Refusal>
-    requires blank { blank ≡ M.name }
-    requires begun { BeginEmpty M.begun }
-{
-    let library = two_documents::<M>(alloc, blank, 64)?;
-    let replies = Mutex::new(Vec::new(alloc));
+    replies: &'a Mutex<Vec<u8>>,
+) -> Result<Vec<Script<'a, R>>, AllocError> {
     let mut scripts = Vec::new(alloc);
     for _ in 0..64u8 {
-        scripts.push(Script::new(rt, THREE, &replies))?;
+        scripts.push(Script::new(rt, THREE, replies))?;
     }
-    let (gathered, side) = run_sessions(rt, alloc, library, scripts, &OpenGate, side);
-    match gathered {
-        Ok(gathered) => Ok((gathered.totals, side)),
-        Err(ungathered) => Err(ungathered.refusal),
-    }
-}
-
-fn adds_many_up<M: Marker + Send + Sync, R: Threads + Wait + Abort + Sync>(
-    rt: &R,
-    alloc: Global,
-    blank: Blank,
-) -> Result<(), Fail>
-    requires blank { blank ≡ M.name }
-    requires begun { BeginEmpty M.begun }
-{
-    let (totals, _) = totals_of_many::<M, R, Idle>(rt, alloc, blank, Idle)?;
-    first_did(rt, totals.as_slice(), 192, &[3; 64])
+    Ok(scripts)
 }
 
 #[test]
 fn many_sessions(rt: HostRuntime) -> Result<(), Fail> {
-    adds_many_up::<Brand, _>(&rt, rt.alloc(), Blank::new())
+    let replies = Mutex::new(Vec::new(rt.alloc()));
+    let scripts = many(&rt, rt.alloc(), &replies)?;
+    let gathered = serve_all(&rt, rt.alloc(), &["a", "b"], 64, scripts, &OpenGate)?;
+    first_did(&rt, &gathered, 192, &[3; 64]);
+    Ok(())
 }
 
 /// Waits until all sessions have ended, and then looks how much is logged at the first document.
@@ -155,11 +139,12 @@ impl<M: Marker> Side<M> for Watching {
     }
 }
 
-fn watches<M: Marker + Send + Sync, R: Threads + Wait + Abort + Sync>(
+/// What they did, and the side, which is given back.
+fn watched<M: Marker + Send + Sync, R: Threads + Wait + Sync>(
     rt: &R,
     alloc: Global,
     blank: Blank,
-) -> Result<(), Fail>
+) -> Result<(Gathered, Watching), Refusal>
     requires blank { blank ≡ M.name }
     requires begun { BeginEmpty M.begun }
 {
@@ -168,14 +153,23 @@ fn watches<M: Marker + Send + Sync, R: Threads + Wait + Abort + Sync>(
         ended: 0,
         logged: None,
     };
-    let (totals, side) = totals_of_many::<M, R, Watching>(rt, alloc, blank, begins)?;
-    first_did(rt, totals.as_slice(), 192, &[3; 64])?;
-    assert_eq!(rt; (side.sessions, side.ended), (64, 64));
-    assert_eq!(rt; side.logged, Some(192));
-    Ok(())
+    let library = library_of::<M>(alloc, blank, &["a", "b"], 64)?;
+    let replies = Mutex::new(Vec::new(alloc));
+    let scripts = many(rt, alloc, &replies)?;
+    let (gathered, side) = run_sessions(rt, alloc, library, scripts, &OpenGate, begins);
+    match gathered {
+        Ok(gathered) => Ok((gathered, side)),
+        Err(ungathered) => Err(ungathered.refusal),
+    }
 }
 
 #[test]
 fn side_sees_all_end(rt: HostRuntime) -> Result<(), Fail> {
-    watches::<Brand, _>(&rt, rt.alloc(), Blank::new())
+    let (gathered, side) = watched::<Brand, _>(&rt, rt.alloc(), Blank::new())?;
+    first_did(&rt, &gathered, 192, &[3; 64]);
+    assert_eq!(rt;
+        (side.sessions, side.ended, side.logged),
+        (64, 64, Some(192))
+    );
+    Ok(())
 }

@@ -1,16 +1,13 @@
 //! Two sessions at one document, whose lines come to it in a given order: what each is told, from the first line to the last.
-ghost use Rattle.std.specs.Prelude.{◌≡◌};
-ghost use Rattle.share_ledger.specs.Begun.{BeginEmpty};
-
-use super::samples::{THREE, TWO, first_did, run_two};
+use super::samples::{NO_FAULT, THREE, TWO, first_did, run_two};
+use crate::told::is_told;
+use json_scalar::Refusal;
 use server_core::Gate;
-use share_ledger::{Blank, Marker};
 use std::alloc::Global;
-use std::marker::Brand;
 use std::process::Abort;
 use std::sync::Wait;
 use std::sync::atomic::{AtomicU64, AtomicUsize, Ordering};
-use std::test::*;
+use std::test::Fail;
 use std::thread;
 use std::thread::Threads;
 
@@ -49,78 +46,70 @@ impl Gate for Turns {
     }
 }
 
+/// Whose line is next, one after the other, and what the sessions are told.
+struct Row {
+    name: &'static str,
+    order: [u64; 9],
+    first: &'static str,
+    second: &'static str,
+}
+
+static ROWS: [Row; 2] = [
+    Row {
+        name: "one_after_the_other",
+        order: [1, 1, 1, 1, 1, 2, 2, 2, 2],
+        first: r#"["opened",1]
+["applied",1,0,[1,"srv-1"]]
+["applied",1,0,[2,"srv-1"]]
+["applied",1,0,[3,"srv-1"]]
+["values",[3]]
+"#,
+        second: r#"["opened",2]
+["applied",1,0,[4,"srv-1"]]
+["applied",1,0,[5,"srv-1"]]
+["values",[2]]
+"#,
+    },
+    Row {
+        name: "line_by_line",
+        order: [1, 2, 1, 2, 1, 2, 1, 2, 1],
+        first: r#"["opened",1]
+["applied",1,0,[1,"srv-1"]]
+["applied",1,0,[3,"srv-1"]]
+["applied",1,0,[5,"srv-1"]]
+["values",[3]]
+"#,
+        second: r#"["opened",2]
+["applied",1,0,[2,"srv-1"]]
+["applied",1,0,[4,"srv-1"]]
+["values",[2]]
+"#,
+    },
+];
+
 /// In this order the sessions are told these replies, and they add up.
-fn told_in_order<M: Marker + Send + Sync, R: Threads + Wait + Abort + Sync>(
+fn told_in_order<R: Threads + Wait + Abort + Sync>(
     rt: &R,
     alloc: Global,
-    blank: Blank,
-    order: [u64; 9],
-    first: &[u8],
-    second: &[u8],
-) -> Result<(), Fail>
-    requires blank { blank ≡ M.name }
-    requires begun { BeginEmpty M.begun }
-{
+    row: &Row,
+) -> Result<(), Refusal> {
     let gate = Turns {
-        order,
+        order: row.order,
         came: AtomicUsize::new(0),
         missed: AtomicU64::new(0),
     };
-    let ran = run_two::<M, R, Turns>(rt, alloc, blank, &gate, THREE, TWO)?;
+    let ran = run_two(rt, alloc, &gate, [THREE, TWO], NO_FAULT)?;
+    is_told(rt, &row.name, ran.first.as_slice(), row.first.as_bytes());
+    is_told(rt, &row.name, ran.second.as_slice(), row.second.as_bytes());
     assert_eq!(rt; gate.missed.load(Ordering::SeqCst), 0);
-    assert_eq!(rt; ran.first.as_slice(), first);
-    assert_eq!(rt; ran.second.as_slice(), second);
-    first_did(rt, ran.totals.as_slice(), 5, &[3, 2])
+    first_did(rt, &ran.gathered, 5, &[3, 2]);
+    Ok(())
 }
 
-const THREE_BEFORE: &[u8] = br#"["opened",1]
-["applied",1,0,[1,"srv-1"]]
-["applied",1,0,[2,"srv-1"]]
-["applied",1,0,[3,"srv-1"]]
-["values",[3]]
-"#;
-
-const TWO_BEHIND: &[u8] = br#"["opened",2]
-["applied",1,0,[4,"srv-1"]]
-["applied",1,0,[5,"srv-1"]]
-["values",[2]]
-"#;
-
 #[test]
-fn one_after_the_other(rt: HostRuntime) -> Result<(), Fail> {
-    let order = [1, 1, 1, 1, 1, 2, 2, 2, 2];
-    told_in_order::<Brand, _>(
-        &rt,
-        rt.alloc(),
-        Blank::new(),
-        order,
-        THREE_BEFORE,
-        TWO_BEHIND,
-    )
-}
-
-const THREE_BETWEEN: &[u8] = br#"["opened",1]
-["applied",1,0,[1,"srv-1"]]
-["applied",1,0,[3,"srv-1"]]
-["applied",1,0,[5,"srv-1"]]
-["values",[3]]
-"#;
-
-const TWO_BETWEEN: &[u8] = br#"["opened",2]
-["applied",1,0,[2,"srv-1"]]
-["applied",1,0,[4,"srv-1"]]
-["values",[2]]
-"#;
-
-#[test]
-fn line_by_line(rt: HostRuntime) -> Result<(), Fail> {
-    let order = [1, 2, 1, 2, 1, 2, 1, 2, 1];
-    told_in_order::<Brand, _>(
-        &rt,
-        rt.alloc(),
-        Blank::new(),
-        order,
-        THREE_BETWEEN,
-        TWO_BETWEEN,
-    )
+fn told_in_each_order(rt: HostRuntime) -> Result<(), Fail> {
+    for row in &ROWS {
+        told_in_order(&rt, rt.alloc(), row)?;
+    }
+    Ok(())
 }

@@ -1,5 +1,5 @@
 use Rattle.std.proofs.Common.{[]}
 use Rattle.session_tests.proofs.servers.sessions.side_sees_all_end.Given as goal
 
-abbrev pub ghosts-watches : goal.ghosts-watches
-ghosts-watches g a = record { name = a.blank; begun = λ _. [] }
+abbrev pub ghosts-watched : goal.ghosts-watched
+ghosts-watched g a = record { name = a.blank; begun = λ _. [] }

@@ -1,5 +1,0 @@
-use Rattle.std.proofs.Common.{[]}
-use Rattle.session_tests.proofs.runs.written.Given as goal
-
-abbrev pub ghosts-written_over : goal.ghosts-written_over
-ghosts-written_over a = record { name = a.blank; begun = λ _. [] }

@@ -1,0 +1,137 @@
+//! The shopping list by devices that take pieces, and cut after each byte.
+use super::{Run, run_of, writes};
+use std::alloc::{AllocError, Global};
+use std::test::Fail;
+
+const SHOPPING: &[u8] = br#"["open","d"]
+["assign","d",[0],{}]
+["assign","d",[0,"shopping"],[]]
+["insert","d",[0,"shopping",0],"eggs"]
+["let","d","e",[0,"shopping",1]]
+["insert","d",[0,"shopping",0],"cheese"]
+["insert","d",["e"],"milk"]
+["items","d",[0,"shopping"]]
+"#;
+
+const SHOPPED: &[u8] = br#"["opened",1]
+["applied",1,0,[1,"srv-1"]]
+["applied",1,0,[2,"srv-1"]]
+["applied",1,0,[3,"srv-1"]]
+["bound"]
+["applied",1,0,[4,"srv-1"]]
+["applied",1,0,[5,"srv-1"]]
+["items",[[[4,"srv-1"],["cheese"]],[[3,"srv-1"],["eggs"]],[[5,"srv-1"],["milk"]]]]
+"#;
+
+#[test]
+fn shopping_list_in_pieces(rt: HostRuntime) {
+    for piece in [1, 7, 4096] {
+        let run = Run {
+            piece,
+            ..run_of(SHOPPING)
+        };
+        writes(
+            &rt,
+            rt.alloc(),
+            &format_args!("in pieces of {piece}"),
+            run,
+            0,
+            SHOPPED,
+        );
+    }
+}
+
+/// The first bytes of a text, so many of them.
+fn front(text: &[u8], count: usize) -> &[u8] {
+    text.get(..count).unwrap_or(text)
+}
+
+#[test]
+fn cut_after_every_byte(rt: HostRuntime) {
+    for after in 0..SHOPPED.len() {
+        let run = Run {
+            write_after: after,
+            ..run_of(SHOPPING)
+        };
+        writes(
+            &rt,
+            rt.alloc(),
+            &format_args!("after {after}"),
+            run,
+            1,
+            front(SHOPPED, after),
+        );
+    }
+}
+
+/// The first lines of a text, so many of them.
+fn first_lines(text: &[u8], count: usize) -> &[u8] {
+    let mut ended: usize = 0;
+    for (place, byte) in text.iter().enumerate() {
+        if ended == count {
+            return front(text, place);
+        }
+        if *byte == b'\n' {
+            ended = ended.saturating_add(1);
+        }
+    }
+    text
+}
+
+/// What the shopping list's input gives where it ends after so many bytes: each whole line has its reply, with its newline or
+/// without, and a line that was cut is no JSON.
+fn shopped_after(alloc: Global, after: usize) -> Result<Vec<u8>, AllocError> {
+    let read = front(SHOPPING, after);
+    let ended = read.iter().filter(|byte| **byte == b'\n').count();
+    let is_between = matches!(read.last(), None | Some(b'\n'));
+    let is_whole = SHOPPING.get(after) == Some(&b'\n');
+    let (replies, refusal): (usize, &[u8]) = if is_between {
+        (ended, b"")
+    } else if is_whole {
+        (ended.saturating_add(1), b"")
+    } else {
+        (ended, b"[\"no\",1,\"not-json\"]\n")
+    };
+    [first_lines(SHOPPED, replies), refusal].concat(alloc)
+}
+
+#[test]
+fn input_cut_after_every_byte(rt: HostRuntime) -> Result<(), Fail> {
+    for after in 0..SHOPPING.len() {
+        let due = shopped_after(rt.alloc(), after)?;
+        writes(
+            &rt,
+            rt.alloc(),
+            &format_args!("after {after}"),
+            run_of(front(SHOPPING, after)),
+            0,
+            due.as_slice(),
+        );
+    }
+    Ok(())
+}
+
+#[test]
+fn a_line_that_was_not_read_whole_is_none(rt: HostRuntime) {
+    let input = b"[\"open\",\"d\"]\n[\"account\",\"d\"]\n";
+    for after in [12, 13, 20] {
+        let run = Run {
+            piece: 5,
+            read_after: after,
+            ..run_of(input)
+        };
+        let expected: &[u8] = if after == 12 {
+            b""
+        } else {
+            b"[\"opened\",1]\n"
+        };
+        writes(
+            &rt,
+            rt.alloc(),
+            &format_args!("after {after}"),
+            run,
+            1,
+            expected,
+        );
+    }
+}
