@@ -3,22 +3,20 @@ ghost use Rattle.std.specs.Prelude.{◌≡◌, ◌≤◌, length, map};
 ghost use Rattle.doc_ledger.specs.Numbers.{greatest_number};
 ghost use Rattle.served_copy.specs.Restored.{entries_at};
 
-use super::serving::{THREE, empty, serve};
-use super::stops::copy_that_stops;
+use super::serving::{Server, Sessions, THREE, new_copy, serve};
+use crate::copies::disks::{Copied, files_of};
 use copier::{Copier, Watch};
 use doc_ledger::Ledger;
 use lamport_id::ReplicaName;
 use log::Log;
-use log_copy::{Fault, LogCopy};
+use log_copy::Fault;
 use served_copy::{restored_stock, shelve};
 use server_core::{Library, Side};
 use share_ledger::{Blank, Marker};
-use sqlite::Alter;
 use std::alloc::{AllocError, Global};
 use std::marker::Brand;
-use std::process::Abort;
 use std::sync::{Mutex, Wait};
-use std::test::*;
+use std::test::Fail;
 use std::thread::Threads;
 use std::time::Clock;
 
@@ -40,17 +38,25 @@ impl<R: Wait> Watch for Counting<'_, R> {
 fn with_three<R: Threads + Wait + Sync + Log + Clock>(
     rt: &R,
     alloc: Global,
-) -> Result<LogCopy<sqlite::MemStore>, AllocError> {
-    let mut copy = empty(alloc)?;
-    let _served = serve(rt, alloc, "srv", &["d"], &[THREE], &mut copy)?;
+) -> Result<Copied, AllocError> {
+    let mut copy = new_copy(alloc, u64::MAX)?;
+    let server = Server {
+        name: "srv",
+        documents: &["d"],
+    };
+    let sessions = Sessions {
+        inputs: &[THREE],
+        read_after: usize::MAX,
+    };
+    let _served = serve(rt, alloc, server, sessions, &mut copy);
     Ok(copy)
 }
 
 /// The documents of these names of a copy behind locks. Where they can't be had memory is said to be wanting.
-fn library_of<M: Marker, S: Alter>(
+fn library_of<M: Marker>(
     alloc: Global,
     blank: Blank,
-    copy: &LogCopy<S>,
+    copy: &Copied,
     documents: &[&str],
 ) -> Result<Library<M>, AllocError>
     requires blank { blank ≡ M.name }
@@ -71,12 +77,7 @@ fn library_of<M: Marker, S: Alter>(
 }
 
 /// Copies the library's documents beside so many sessions, none of which ends, and gives how often the watch was told of a fault.
-fn told<M: Marker, R: Wait, S: Alter>(
-    rt: &R,
-    library: &Library<M>,
-    sessions: u64,
-    copy: &mut LogCopy<S>,
-) -> u32 {
+fn told<M: Marker, R: Wait>(rt: &R, library: &Library<M>, sessions: u64, copy: &mut Copied) -> u32 {
     let times = Mutex::new(0);
     let counting = Counting { rt, times: &times };
     let mut copier = Copier::new(copy, &counting);
@@ -86,21 +87,47 @@ fn told<M: Marker, R: Wait, S: Alter>(
 }
 
 /// The same where the library is that of a full copy, and has a table of its own.
-fn told_beside<M: Marker, R: Wait, F: Alter, S: Alter>(
+fn told_beside<M: Marker, R: Wait>(
     rt: &R,
     alloc: Global,
     blank: Blank,
-    full: &LogCopy<F>,
+    full: &Copied,
     documents: &[&str],
     sessions: u64,
-    copy: &mut LogCopy<S>,
+    copy: &mut Copied,
 ) -> Result<u32, AllocError>
     requires blank { blank ≡ M.name }
     requires begun { M.begun ≡ entries_at full.now.docs (map (λ s. s.now) documents.now) }
     requires few { length documents.now ≤ greatest_number }
 {
-    let library = library_of::<M, F>(alloc, blank, full, documents)?;
-    Ok(told::<M, R, S>(rt, &library, sessions, copy))
+    let library = library_of::<M>(alloc, blank, full, documents)?;
+    Ok(told::<M, R>(rt, &library, sessions, copy))
+}
+
+/// How often the watch is told while this full copy is copied once more, to a disk that stops after so many calls.
+fn told_of_full<R: Wait>(
+    rt: &R,
+    alloc: Global,
+    full: &Copied,
+    calls: u64,
+    sessions: u64,
+) -> Result<u32, AllocError> {
+    let mut copy = new_copy(alloc, calls)?;
+    let times = told_beside::<Brand, R>(rt, alloc, Blank::new(), full, &["d"], sessions, &mut copy);
+    let _files = files_of(copy);
+    times
+}
+
+fn told_in_all<R: Threads + Wait + Sync + Log + Clock>(
+    rt: &R,
+    alloc: Global,
+    calls: u64,
+    sessions: u64,
+) -> Result<u32, AllocError> {
+    let full = with_three(rt, alloc)?;
+    let times = told_of_full(rt, alloc, &full, calls, sessions);
+    let _files = files_of(full);
+    times
 }
 
 // To adopt new files takes 20 calls, and the first batch ten or so more.
@@ -108,34 +135,14 @@ const STOPS_IN_THE_FIRST_BATCH: u64 = 24;
 
 #[test]
 fn fault_is_told_while_a_session_runs(rt: HostRuntime) -> Result<(), Fail> {
-    let full = with_three(&rt, rt.alloc())?;
-    let mut copy = copy_that_stops(rt.alloc(), STOPS_IN_THE_FIRST_BATCH)?;
-    let times = told_beside::<Brand, _, _, _>(
-        &rt,
-        rt.alloc(),
-        Blank::new(),
-        &full,
-        &["d"],
-        1,
-        &mut copy,
-    )?;
+    let times = told_in_all(&rt, rt.alloc(), STOPS_IN_THE_FIRST_BATCH, 1)?;
     assert_eq!(rt; times, 1);
     Ok(())
 }
 
 #[test]
 fn nothing_is_told_without_a_fault(rt: HostRuntime) -> Result<(), Fail> {
-    let full = with_three(&rt, rt.alloc())?;
-    let mut copy = empty(rt.alloc())?;
-    let times = told_beside::<Brand, _, _, _>(
-        &rt,
-        rt.alloc(),
-        Blank::new(),
-        &full,
-        &["d"],
-        0,
-        &mut copy,
-    )?;
+    let times = told_in_all(&rt, rt.alloc(), u64::MAX, 0)?;
     assert_eq!(rt; times, 0);
     Ok(())
 }
