@@ -1,7 +1,7 @@
-//! The copy of the log: cases over databases in two files in memory, each a list of steps with what each step has to tell; and the
-//! same over real files.
-pub mod disks;
+//! A test is a list of steps over one database, each with what it has to tell.
+mod disks;
 mod files;
+mod formats;
 mod kept;
 mod refused;
 mod reports;

@@ -1,5 +1,7 @@
 //! Servers over a copy: what they serve and copy, and what the next one starts from.
+mod faults;
 mod notes;
 mod serving;
 mod starts;
+mod stops;
 mod watched;

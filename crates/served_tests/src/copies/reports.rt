@@ -1,107 +1,91 @@
 //! What is told of a copy that was opened, and of one that was not.
-use super::disks::{Copied, copy_in, lasting_files, walked_over};
-use super::steps::{Step, StepAnswer};
+use copy_files::check_file;
 use copy_report::check_opened;
 use line_feed::Writer;
 use line_feed::doubles::FailAfter;
-use log_copy::Fault;
-use std::alloc::Global;
+use log_copy::{Fault, LogCopy};
+use sqlite::{Alter, Connection, MemStore};
+use std::alloc::{AllocError, Global};
+use std::fs;
 use std::process::Abort;
+use std::test::Fail;
 
-/// What is told of.
-#[derive(Clone, Copy)]
-enum Given<'a> {
-    /// What is found in new files after these statements.
-    After(&'a str),
-    /// This fault.
-    Fault(Fault),
+/// The status, and what a sink has taken that fails after so many bytes.
+fn told<S: Alter + Drop>(
+    alloc: Global,
+    opened: Result<LogCopy<S>, Fault>,
+    after: usize,
+) -> (u8, Vec<u8>) {
+    let mut out = Vec::<u8>::new(alloc);
+    let mut sink = FailAfter::new(Writer::new(&mut out), after);
+    let status = check_opened(alloc, opened, &mut sink);
+    (status, out)
 }
 
-/// What is told of a copy to a sink that fails after so many bytes: the status, and the bytes.
-struct Row<'a> {
-    name: &'a str,
-    of: Given<'a>,
+/// A copy in memory, after these statements.
+fn opened(alloc: Global, sql: &str) -> Result<Result<LogCopy<MemStore>, Fault>, AllocError> {
+    let mut conn = Connection::open_in_memory(alloc)?;
+    if conn.execute_batch(sql).is_err() {
+        return Err(AllocError);
+    }
+    match LogCopy::adopt(alloc, conn) {
+        Ok(copy) => Ok(Ok(copy)),
+        Err((fault, _)) => Ok(Err(fault)),
+    }
+}
+
+fn is_told<R: Abort>(
+    rt: &R,
+    alloc: Global,
+    sql: &str,
     after: usize,
     status: u8,
-    text: &'a [u8],
+    text: &[u8],
+) -> Result<(), Fail> {
+    let (found, out) = told(alloc, opened(alloc, sql)?, after);
+    assert_eq!(rt; out.as_slice(), text);
+    assert_eq!(rt; found, status);
+    Ok(())
 }
 
 const OTHER_TABLE: &str = "CREATE TABLE meta (name TEXT)";
 
-static ROWS: [Row<'static>; 5] = [
-    Row {
-        name: "an empty copy",
-        of: Given::After(""),
-        after: usize::MAX,
-        status: 0,
-        text: b"[\"epoch\",0]\n",
-    },
-    Row {
-        name: "a refused one",
-        of: Given::After(OTHER_TABLE),
-        after: usize::MAX,
-        status: 1,
-        text: b"[\"no\",26,\"copy-refused\"]\n",
-    },
-    Row {
-        name: "an empty copy and a sink that fails",
-        of: Given::After(""),
-        after: 5,
-        status: 1,
-        text: b"[\"epo",
-    },
-    Row {
-        name: "a refused one and a sink that fails",
-        of: Given::After(OTHER_TABLE),
-        after: 6,
-        status: 1,
-        text: b"[\"no\",",
-    },
-    Row {
-        name: "another fault",
-        of: Given::Fault(Fault::Store),
-        after: usize::MAX,
-        status: 1,
-        text: b"",
-    },
-];
-
-// Where the statements fail memory is said to be wanting.
-fn after(alloc: Global, sql: &str) -> Result<Copied, Fault> {
-    let run = [(Step::Run(sql), StepAnswer::Done)];
-    let (files, other) = walked_over(alloc, lasting_files(alloc), &[], &run);
-    if other.is_some() {
-        return Err(Fault::Memory);
-    }
-    match copy_in(alloc, files) {
-        Ok(copy) => Ok(copy),
-        Err((fault, _)) => Err(fault),
-    }
-}
-
-fn told(alloc: Global, of: Given<'_>, bytes: usize) -> (u8, Vec<u8>) {
-    let opened = match of {
-        Given::After(sql) => after(alloc, sql),
-        Given::Fault(fault) => Err(fault),
-    };
-    let mut out = Vec::<u8>::new(alloc);
-    let status = check_opened(
-        alloc,
-        opened,
-        &mut FailAfter::new(Writer::new(&mut out), bytes),
-    );
-    (status, out)
-}
-
-fn is_told<R: Abort>(rt: &R, row: &Row<'_>, status: u8, text: &[u8]) {
-    assert_eq!(rt; text, row.text, "{}", row.name);
-    assert_eq!(rt; status, row.status, "{}", row.name);
+#[test]
+fn an_empty_copy_and_a_refused_one(rt: HostRuntime) -> Result<(), Fail> {
+    let alloc = rt.alloc();
+    is_told(&rt, alloc, "", usize::MAX, 0, b"[\"epoch\",0]\n")?;
+    let refused = b"[\"no\",26,\"copy-refused\"]\n";
+    is_told(&rt, alloc, OTHER_TABLE, usize::MAX, 1, refused)
 }
 
 #[test]
-fn told_of_each(rt: HostRuntime) {
-    for row in &ROWS {
-        let (status, out) = told(rt.alloc(), row.of, row.after);
-        is_told(&rt, row, status, out.as_slice());
+fn a_sink_that_fails(rt: HostRuntime) -> Result<(), Fail> {
+    let alloc = rt.alloc();
+    is_told(&rt, alloc, "", 5, 1, b"[\"epo")?;
+    is_told(&rt, alloc, OTHER_TABLE, 6, 1, b"[\"no\",")
+}
+
+#[test]
+fn another_fault(rt: HostRuntime) -> Result<(), Fail> {
+    let none: Result<LogCopy<MemStore>, Fault> = Err(Fault::Store);
+    let (status, out) = told(rt.alloc(), none, usize::MAX);
+    assert_eq!(rt; status, 1);
+    assert!(rt; out.is_empty());
+    Ok(())
+}
+
+const FILE: &str = "copy-report-test.db";
+
+#[test]
+fn a_file_twice(rt: HostRuntime) -> Result<(), Fail> {
+    let alloc = rt.alloc();
+    for _ in 0..2 {
+        let mut out = Vec::<u8>::new(alloc);
+        let status = check_file(&rt, alloc, FILE, &mut Writer::new(&mut out));
+        assert_eq!(rt; out.as_slice(), b"[\"epoch\",0]\n".as_slice());
+        assert_eq!(rt; status, 0);
     }
+    fs::remove_file(&rt, FILE)?;
+    let _log = fs::remove_file(&rt, "copy-report-test.db-wal");
+    Ok(())
 }

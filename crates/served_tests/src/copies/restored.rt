@@ -23,6 +23,14 @@ pub fn is_restored(alloc: Global, entries: &[Operation]) -> bool {
     restored(alloc, entries).is_ok()
 }
 
+// Asks for the change that makes an operation, at its cursor.
+fn make(alloc: Global, replica: &mut Replica, op: &Operation) -> Result<Applied, Refusal> {
+    let start = op.cursor().try_clone()?;
+    let mutation = op.mutation().try_clone()?;
+    let steps = Steps::from(Vec::new(alloc));
+    replica.local(Place { start, steps }, mutation)
+}
+
 fn is_last(replica: &Replica, op: &Operation) -> bool {
     match replica.log().as_slice().last() {
         Some(last) => last == op,
@@ -30,26 +38,14 @@ fn is_last(replica: &Replica, op: &Operation) -> bool {
     }
 }
 
-// Asks for the change that makes an operation, at its cursor, and answers whether it makes just this one.
-fn makes(alloc: Global, replica: &mut Replica, op: &Operation) -> Result<bool, Refusal> {
-    let start = op.cursor().try_clone()?;
-    let mutation = op.mutation().try_clone()?;
-    let steps = Steps::from(Vec::new(alloc));
-    let Applied { count, dropped, .. } = replica.local(Place { start, steps }, mutation)?;
-    Ok(count == 1 && dropped == 0 && is_last(replica, op))
-}
-
-fn is_edited(alloc: Global, entries: &[Operation], op: &Operation) -> bool {
-    match restored(alloc, entries) {
-        Ok(mut replica) => matches!(makes(alloc, &mut replica, op), Ok(true)),
-        Err(_) => false,
-    }
+fn edited(alloc: Global, entries: &[Operation], due: &str) -> Result<bool, Refusal> {
+    let op = operation(alloc, due)?;
+    let mut replica = restored(alloc, entries)?;
+    let Applied { count, dropped, .. } = make(alloc, &mut replica, &op)?;
+    Ok(count == 1 && dropped == 0 && is_last(&replica, &op))
 }
 
 /// Whether a change by a replica that is restored from these entries makes just this operation.
 pub fn is_edited_after(alloc: Global, entries: &[Operation], due: &str) -> bool {
-    match operation(alloc, due) {
-        Ok(op) => is_edited(alloc, entries, &op),
-        Err(_) => false,
-    }
+    matches!(edited(alloc, entries, due), Ok(true))
 }

@@ -4,25 +4,18 @@ use op_core::{Operation, read_wire};
 use serde_json::Value;
 use std::alloc::Global;
 
-/// The operations of a log.
-#[derive(Clone, Copy)]
-pub enum Log<'a> {
-    /// Those of these texts.
-    Texts(&'a [&'a str]),
-    /// Operations of the replica p with the counters from 1 to the first number, but for the second. Each needs the one before it.
-    Chain(u64, u64),
-}
-
 /// One that makes the document.
 pub const FIRST_RUN: [&str; 1] = [r#"["op",[1,"srv-1"],[],[[],0],["assign",{}]]"#];
 
-/// Two assignments that know only one before them, and another operation under the id of the first.
-pub const CONCURRENT_REGISTER_AND_COLORS: [&str; 4] = [
+/// Two assignments that know only one before them.
+pub const CONCURRENT_REGISTER: [&str; 3] = [
     r#"["op",[1,"p"],[],[[["m",0]],"k"],["assign","A"]]"#,
     r#"["op",[2,"p"],[["p",1]],[[["m",0]],"k"],["assign","B"]]"#,
     r#"["op",[2,"q"],[["p",1]],[[["m",0]],"k"],["assign","C"]]"#,
-    r#"["op",[1,"p"],[],[[["m",0]],"colors"],["assign",{}]]"#,
 ];
+
+/// Another operation under the id of the first of those.
+pub const COLORS: &str = r#"["op",[1,"p"],[],[[["m",0]],"colors"],["assign",{}]]"#;
 
 /// A list that two replicas change at once.
 pub const CONCURRENT_LIST_EDITS: [&str; 9] = [
@@ -44,54 +37,38 @@ pub fn operation(alloc: Global, text: &str) -> Result<Operation, Refusal> {
     }
 }
 
-fn put(alloc: Global, ops: &mut Vec<Operation>, text: &str) -> Result<(), Refusal> {
-    ops.push(operation(alloc, text)?)?;
-    Ok(())
-}
-
-fn put_texts(alloc: Global, ops: &mut Vec<Operation>, texts: &[&str]) -> Result<(), Refusal> {
+/// The operations of these texts.
+pub fn operations(alloc: Global, texts: &[&str]) -> Result<Vec<Operation>, Refusal> {
+    let mut ops = Vec::new(alloc);
     for text in texts {
-        put(alloc, ops, text)?;
+        ops.push(operation(alloc, text)?)?;
     }
-    Ok(())
+    Ok(ops)
 }
 
-fn put_link(alloc: Global, ops: &mut Vec<Operation>, i: u64) -> Result<(), Refusal> {
+fn text_of(alloc: Global, i: u64) -> Result<String, Refusal> {
     if i <= 1 {
-        return put(
-            alloc,
-            ops,
-            r#"["op",[1,"p"],[],[[["m",0]],"k"],["assign",1]]"#,
-        );
+        return Ok(String::from_str(alloc, r#"["op",[1,"p"],[],[[["m",0]],"k"],["assign",1]]"#)?);
     }
     let before = i - 1;
-    let text = format!(in alloc;
+    Ok(format!(in alloc;
         "[\"op\",[{i},\"p\"],[[\"p\",{before}]],[[[\"m\",0]],\"k\"],[\"assign\",{i}]]"
-    )?;
-    put(alloc, ops, text.as_str())
+    )?)
 }
 
-fn put_chain(
-    alloc: Global,
-    ops: &mut Vec<Operation>,
-    last: u64,
-    left_out: u64,
-) -> Result<(), Refusal> {
-    for i in 1..=last {
+/// Operations of the replica p with the counters from 1 to n, but for the one left out. Each needs the one before it.
+pub fn log_without(alloc: Global, n: u64, left_out: u64) -> Result<Vec<Operation>, Refusal> {
+    let mut ops = Vec::new(alloc);
+    for i in 1..=n {
         if i != left_out {
-            put_link(alloc, ops, i)?;
+            let text = text_of(alloc, i)?;
+            ops.push(operation(alloc, text.as_str())?)?;
         }
     }
-    Ok(())
+    Ok(ops)
 }
 
-/// The operations of this log.
-pub fn operations(alloc: Global, log: Log<'_>) -> Result<Vec<Operation>, Refusal> {
-    let mut ops = Vec::new(alloc);
-    let put = match log {
-        Log::Texts(texts) => put_texts(alloc, &mut ops, texts),
-        Log::Chain(last, left_out) => put_chain(alloc, &mut ops, last, left_out),
-    };
-    put?;
-    Ok(ops)
+/// All of them.
+pub fn log(alloc: Global, n: u64) -> Result<Vec<Operation>, Refusal> {
+    log_without(alloc, n, 0)
 }

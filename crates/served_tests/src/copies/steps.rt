@@ -1,5 +1,5 @@
 //! Steps over one database. Each call of the copy stands in a function of its own that promises nothing, so that the proof of a
-//! list of steps carries none of its clauses. Over any store: what a copy or a connection owns is handed on, and never let go here.
+//! list of steps carries none of its clauses.
 use super::restored::{is_edited_after, is_restored};
 use copy_report::check_over;
 use line_feed::Writer;
@@ -53,43 +53,10 @@ pub enum StepAnswer {
 pub const REFUSED: StepAnswer = StepAnswer::Fault(Fault::Refused);
 
 /// A copy, or a connection that is none.
+#[derive(Drop)]
 enum Held<S: Alter> {
     Copy(LogCopy<S>),
     Tables(Connection<S>),
-}
-
-fn told_so(is_so: bool) -> StepAnswer {
-    if is_so {
-        StepAnswer::Done
-    } else {
-        StepAnswer::Other
-    }
-}
-
-// ---- what is loaded
-
-fn told_rows(loaded: &[Operation], log: &[Operation]) -> StepAnswer {
-    if loaded.len() <= log.len() && loaded == &log[..loaded.len()] {
-        StepAnswer::Rows(loaded.len())
-    } else {
-        StepAnswer::Other
-    }
-}
-
-fn is_due(loaded: &[Operation], log: &[Operation], least: usize, most: usize) -> bool {
-    (loaded.len() == least || loaded.len() == most)
-        && told_rows(loaded, log) == StepAnswer::Rows(loaded.len())
-}
-
-// What a step tells that loads the document.
-fn told_of(alloc: Global, loaded: &[Operation], log: &[Operation], step: Step<'_>) -> StepAnswer {
-    match step {
-        Step::Edit(_, due) => told_so(is_edited_after(alloc, loaded, due)),
-        Step::Restore(_, least, most) => told_so(
-            is_due(loaded, log, least, most) && is_restored(alloc, loaded),
-        ),
-        _ => told_rows(loaded, log),
-    }
 }
 
 // ---- the calls of the copy
@@ -105,11 +72,8 @@ fn up<S: Alter>(copy: &mut LogCopy<S>) -> StepAnswer {
     told_number(copy.epoch_up())
 }
 
-fn up_from<S: Alter>(copy: &mut LogCopy<S>, last: u64) -> StepAnswer {
-    match up(copy) {
-        StepAnswer::Number(number) => told_so(number > last),
-        other => other,
-    }
+fn epoch<S: Alter>(copy: &LogCopy<S>) -> StepAnswer {
+    told_number(copy.epoch())
 }
 
 fn add<S: Alter>(
@@ -130,6 +94,48 @@ fn check<S: Alter>(alloc: Global, copy: &LogCopy<S>, due: &str) -> StepAnswer {
     told_so(status == 0 && out.as_slice() == due.as_bytes())
 }
 
+fn edit<S: Alter>(alloc: Global, copy: &LogCopy<S>, doc: &str, due: &str) -> StepAnswer {
+    match copy.load(alloc, doc) {
+        Ok(loaded) => told_so(is_edited_after(alloc, loaded.as_slice(), due)),
+        Err(fault) => StepAnswer::Fault(fault),
+    }
+}
+
+fn told_so(is_so: bool) -> StepAnswer {
+    if is_so {
+        StepAnswer::Done
+    } else {
+        StepAnswer::Other
+    }
+}
+
+fn restore<S: Alter>(
+    alloc: Global,
+    copy: &LogCopy<S>,
+    doc: &str,
+    log: &[Operation],
+    due: (usize, usize),
+) -> StepAnswer {
+    match copy.load(alloc, doc) {
+        Ok(loaded) => told_so(
+            is_due(loaded.as_slice(), log, due) && is_restored(alloc, loaded.as_slice()),
+        ),
+        Err(fault) => StepAnswer::Fault(fault),
+    }
+}
+
+fn is_due(loaded: &[Operation], log: &[Operation], due: (usize, usize)) -> bool {
+    (loaded.len() == due.0 || loaded.len() == due.1)
+        && told_rows(loaded, log) == StepAnswer::Rows(loaded.len())
+}
+
+fn up_from<S: Alter>(copy: &mut LogCopy<S>, last: u64) -> StepAnswer {
+    match copy.epoch_up() {
+        Ok(number) => told_so(number > last),
+        Err(fault) => StepAnswer::Fault(fault),
+    }
+}
+
 fn docs<S: Alter>(copy: &LogCopy<S>) -> StepAnswer {
     match copy.docs() {
         Ok(docs) => StepAnswer::Rows(docs.len()),
@@ -137,18 +143,48 @@ fn docs<S: Alter>(copy: &LogCopy<S>) -> StepAnswer {
     }
 }
 
-fn load<S: Alter>(
-    alloc: Global,
-    copy: &LogCopy<S>,
-    doc: &str,
-    log: &[Operation],
-    step: Step<'_>,
-) -> StepAnswer {
+fn load<S: Alter>(alloc: Global, copy: &LogCopy<S>, doc: &str, log: &[Operation]) -> StepAnswer {
     match copy.load(alloc, doc) {
-        Ok(loaded) => told_of(alloc, loaded.as_slice(), log, step),
+        Ok(loaded) => told_rows(loaded.as_slice(), log),
         Err(fault) => StepAnswer::Fault(fault),
     }
 }
+
+fn told_rows(loaded: &[Operation], log: &[Operation]) -> StepAnswer {
+    if loaded.len() <= log.len() && loaded == &log[..loaded.len()] {
+        StepAnswer::Rows(loaded.len())
+    } else {
+        StepAnswer::Other
+    }
+}
+
+fn adopt<S: Alter + Drop>(alloc: Global, conn: Connection<S>) -> (Held<S>, StepAnswer) {
+    match LogCopy::adopt(alloc, conn) {
+        Ok(copy) => (Held::Copy(copy), StepAnswer::Done),
+        Err((fault, conn)) => (Held::Tables(conn), StepAnswer::Fault(fault)),
+    }
+}
+
+// ---- the calls of the connection
+
+fn run<S: Alter>(conn: &mut Connection<S>, sql: &str) -> StepAnswer {
+    match conn.execute_batch(sql) {
+        Ok(()) => StepAnswer::Done,
+        Err(_) => StepAnswer::NoSql,
+    }
+}
+
+fn ask<S: Alter>(conn: &mut Connection<S>, sql: &str) -> StepAnswer {
+    match conn.query_row(sql, &[]) {
+        Ok(row) => {
+            let number: u64 = row.get(0).unwrap_or(u64::MAX);
+            StepAnswer::Number(number)
+        }
+        Err(_) => StepAnswer::NoSql,
+    }
+}
+
+// ---- steps
 
 fn asked<S: Alter>(
     alloc: Global,
@@ -158,108 +194,49 @@ fn asked<S: Alter>(
 ) -> StepAnswer {
     match step {
         Step::Up => up(copy),
-        Step::UpFrom(last) => up_from(copy, last),
-        Step::Epoch => told_number(copy.epoch()),
-        Step::Add(doc, from, start, end) => match log.get(start..end) {
-            Some(entries) => add(copy, doc, from, entries),
-            None => StepAnswer::Other,
-        },
-        Step::Load(doc) | Step::Edit(doc, _) | Step::Restore(doc, _, _) => load(
-            alloc, copy, doc, log, step,
-        ),
+        Step::Epoch => epoch(copy),
+        Step::Add(doc, from, start, end) => {
+            if start <= end && end <= log.len() {
+                add(copy, doc, from, &log[start..end])
+            } else {
+                StepAnswer::Other
+            }
+        }
+        Step::Load(doc) => load(alloc, copy, doc, log),
         Step::Docs => docs(copy),
         Step::Check(due) => check(alloc, copy, due),
-        Step::Open | Step::Run(_) | Step::Ask(_) => StepAnswer::NoCopy,
-    }
-}
-
-/// The place of the first step over this copy that tells something else than is due, and what it tells.
-pub fn first_other<S: Alter>(
-    alloc: Global,
-    copy: &mut LogCopy<S>,
-    log: &[Operation],
-    steps: &[(Step<'_>, StepAnswer)],
-) -> Option<(usize, StepAnswer)> {
-    for (at, (step, due)) in steps.iter().enumerate() {
-        let told = asked(alloc, copy, log, *step);
-        if told != *due {
-            return Some((at, told));
-        }
-    }
-    None
-}
-
-// ---- the calls of the connection
-
-/// Runs these statements.
-pub fn run<S: Alter>(conn: &mut Connection<S>, sql: &str) -> StepAnswer {
-    match conn.execute_batch(sql) {
-        Ok(()) => StepAnswer::Done,
-        Err(_) => StepAnswer::NoSql,
-    }
-}
-
-fn ask<S: Alter>(conn: &mut Connection<S>, sql: &str) -> StepAnswer {
-    match conn.query_row(sql, &[]) {
-        Ok(row) => StepAnswer::Number(row.get(0).unwrap_or(u64::MAX)),
-        Err(_) => StepAnswer::NoSql,
-    }
-}
-
-fn over_tables<S: Alter>(conn: &mut Connection<S>, step: Step<'_>) -> StepAnswer {
-    match step {
-        Step::Run(sql) => run(conn, sql),
-        Step::Ask(sql) => ask(conn, sql),
+        Step::Edit(doc, due) => edit(alloc, copy, doc, due),
+        Step::Restore(doc, least, most) => restore(alloc, copy, doc, log, (least, most)),
+        Step::UpFrom(last) => up_from(copy, last),
         _ => StepAnswer::NoCopy,
     }
 }
 
-// ---- steps
-
-/// The copy over this connection, which comes back where there is none.
-pub fn adopted<S: Alter + Drop>(
+fn over_tables<S: Alter + Drop>(
     alloc: Global,
-    conn: Connection<S>,
-) -> Result<LogCopy<S>, (Fault, Connection<S>)> {
-    LogCopy::adopt(alloc, conn)
+    mut conn: Connection<S>,
+    step: Step<'_>,
+) -> (Held<S>, StepAnswer) {
+    let told = match step {
+        Step::Open => return adopt(alloc, conn),
+        Step::Run(sql) => run(&mut conn, sql),
+        Step::Ask(sql) => ask(&mut conn, sql),
+        _ => StepAnswer::NoCopy,
+    };
+    (Held::Tables(conn), told)
 }
 
-fn adopt<S: Alter + Drop>(alloc: Global, conn: Connection<S>) -> (Held<S>, StepAnswer) {
-    match adopted(alloc, conn) {
-        Ok(copy) => (Held::Copy(copy), StepAnswer::Done),
-        Err((fault, conn)) => (Held::Tables(conn), StepAnswer::Fault(fault)),
-    }
-}
-
-pub fn tables_of_copy<S: Alter + Drop>(copy: LogCopy<S>) -> Connection<S> {
-    copy.into_connection()
-}
-
-fn tables_of<S: Alter + Drop>(held: Held<S>) -> Connection<S> {
-    match held {
-        Held::Copy(copy) => tables_of_copy(copy),
-        Held::Tables(conn) => conn,
-    }
-}
-
-// What is held before a step is taken: the tables, where it is one over them.
-fn held_for<S: Alter + Drop>(held: Held<S>, step: Step<'_>) -> Held<S> {
-    match step {
-        Step::Run(_) | Step::Ask(_) => Held::Tables(tables_of(held)),
-        _ => held,
-    }
-}
-
-fn told_by<S: Alter>(
+fn over_copy<S: Alter + Drop>(
     alloc: Global,
-    held: &mut Held<S>,
+    mut copy: LogCopy<S>,
     log: &[Operation],
     step: Step<'_>,
-) -> StepAnswer {
-    match held {
-        Held::Copy(copy) => asked(alloc, copy, log, step),
-        Held::Tables(conn) => over_tables(conn, step),
+) -> (Held<S>, StepAnswer) {
+    if matches!(step, Step::Open | Step::Run(_) | Step::Ask(_)) {
+        return over_tables(alloc, copy.into_connection(), step);
     }
+    let told = asked(alloc, &mut copy, log, step);
+    (Held::Copy(copy), told)
 }
 
 fn take<S: Alter + Drop>(
@@ -268,12 +245,10 @@ fn take<S: Alter + Drop>(
     log: &[Operation],
     step: Step<'_>,
 ) -> (Held<S>, StepAnswer) {
-    if matches!(step, Step::Open) {
-        return adopt(alloc, tables_of(held));
+    match held {
+        Held::Copy(copy) => over_copy(alloc, copy, log, step),
+        Held::Tables(conn) => over_tables(alloc, conn, step),
     }
-    let mut held = held_for(held, step);
-    let told = told_by(alloc, &mut held, log, step);
-    (held, told)
 }
 
 // Where memory is wanting nothing has changed, so the step is taken once more.
@@ -290,6 +265,13 @@ fn take_patiently<S: Alter + Drop>(
     (held, told)
 }
 
+fn given_back<S: Alter + Drop>(held: Held<S>) -> Connection<S> {
+    match held {
+        Held::Copy(copy) => copy.into_connection(),
+        Held::Tables(conn) => conn,
+    }
+}
+
 /// The place of the first step that tells something else than is due, and what it tells. Each is handed what the one before it left,
 /// and the last leaves the tables.
 pub fn walked<S: Alter + Drop>(
@@ -303,8 +285,19 @@ pub fn walked<S: Alter + Drop>(
         let (next, told) = take_patiently(alloc, held, log, *step);
         held = next;
         if told != *due {
-            return (tables_of(held), Some((at, told)));
+            return (given_back(held), Some((at, told)));
         }
     }
-    (tables_of(held), None)
+    (given_back(held), None)
+}
+
+/// The same without the tables.
+pub fn first_other<S: Alter + Drop>(
+    alloc: Global,
+    conn: Connection<S>,
+    log: &[Operation],
+    steps: &[(Step<'_>, StepAnswer)],
+) -> Option<(usize, StepAnswer)> {
+    let (_, other) = walked(alloc, conn, log, steps);
+    other
 }

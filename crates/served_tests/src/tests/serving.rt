@@ -1,13 +1,15 @@
 //! A server over a copy. It is called in a function that promises nothing, so that the proof of a test carries none of its clauses.
-use crate::copies::disks::{Copied, Stopping, copy_in, crash, files_of, new_files};
 use copy_report::check_over;
 use line_feed::Writer;
 use log::Log;
+use log_copy::LogCopy;
 use served_copy::serve_over;
 use server_core::doubles::Script;
-use sqlite_disk::Files;
+use sqlite::{Alter, Connection, MemStore};
 use std::alloc::{AllocError, Global};
+use std::process::Abort;
 use std::sync::{Mutex, Wait};
+use std::test::Fail;
 use std::thread::Threads;
 use std::time::Clock;
 
@@ -17,21 +19,25 @@ pub const THREE: &[u8] = br#"["open","d"]
 ["assign","d",[0,"a"],3]
 "#;
 
-/// A server's name, and its documents.
-#[derive(Clone, Copy)]
-pub struct Server<'a> {
-    pub name: &'a str,
-    pub documents: &'a [&'a str],
-}
+pub const TWO: &[u8] = br#"["open","d"]
+["assign","d",[0,"b"],1]
+["assign","d",[0,"b"],2]
+"#;
 
-/// What the sessions of a start are sent. The source of the first fails after so many bytes.
+/// A start of a server: its sessions, and what is there once it has ended.
 #[derive(Clone, Copy)]
-pub struct Sessions<'a> {
+pub struct Start<'a> {
+    /// What each session is sent.
     pub inputs: &'a [&'a [u8]],
-    pub read_after: usize,
+    /// What it is told, where there is one session.
+    pub replies: Option<&'a [u8]>,
+    /// The lines of the totals.
+    pub totals: &'a [u8],
+    /// What a check of the copy prints.
+    pub report: &'a [u8],
 }
 
-/// What a server did: its status, the lines of the totals, and what its sessions were told.
+/// What a server did.
 #[derive(Drop)]
 pub struct Served {
     pub status: u8,
@@ -39,96 +45,98 @@ pub struct Served {
     pub replies: Vec<u8>,
 }
 
-// Where there is no copy memory is said to be wanting.
-fn copy_or_none(alloc: Global, files: Files<Stopping>) -> Result<Copied, AllocError> {
-    match copy_in(alloc, files) {
+/// The copy over this connection. Where there is none memory is said to be wanting.
+pub fn adopted<S: Alter + Drop>(
+    alloc: Global,
+    conn: Connection<S>,
+) -> Result<LogCopy<S>, AllocError> {
+    match LogCopy::adopt(alloc, conn) {
         Ok(copy) => Ok(copy),
         Err(_) => Err(AllocError),
     }
 }
 
-/// An empty copy over new files, the first of which stops after so many calls.
-pub fn new_copy(alloc: Global, calls: u64) -> Result<Copied, AllocError> {
-    copy_or_none(alloc, new_files(alloc, calls, u64::MAX))
+/// An empty copy.
+pub fn empty(alloc: Global) -> Result<LogCopy<MemStore>, AllocError> {
+    adopted(alloc, Connection::open_in_memory(alloc)?)
 }
 
-// A connection for each session.
-fn scripts_of<'a, R: Wait>(
-    rt: &'a R,
-    alloc: Global,
-    sessions: Sessions<'a>,
-    replies: &'a Mutex<Vec<u8>>,
-) -> Result<Vec<Script<'a, R>>, AllocError> {
-    let mut scripts = Vec::new(alloc);
-    let mut read_after = sessions.read_after;
-    for input in sessions.inputs {
-        let script = Script {
-            read_after,
-            ..Script::new(rt, input, replies)
-        };
-        scripts.push(script)?;
-        read_after = usize::MAX;
-    }
-    Ok(scripts)
-}
-
-// Serves these connections, over at most 16 documents.
-fn serve_scripts<R: Threads + Wait + Sync + Log + Clock>(
+/// Serves these connections by the server of this name, over at most 16 documents.
+pub fn serve_scripts<R: Threads + Wait + Sync + Log + Clock, S: Alter>(
     rt: &R,
     alloc: Global,
-    server: Server<'_>,
+    name: &str,
+    documents: &[&str],
     scripts: Vec<Script<'_, R>>,
-    copy: &mut Copied,
-    totals: &mut Vec<u8>,
-) -> u8 {
-    if server.documents.len() > 16 {
-        return 2;
+    copy: &mut LogCopy<S>,
+) -> (u8, Vec<u8>) {
+    let mut totals = Vec::new(alloc);
+    if documents.len() > 16 {
+        return (2, totals);
     }
-    serve_over(
-        rt,
-        alloc,
-        server.name,
-        server.documents,
-        scripts,
-        copy,
-        totals,
-    )
+    let status = serve_over(rt, alloc, name, documents, scripts, copy, &mut totals);
+    (status, totals)
 }
 
-/// Serves these sessions. The status is 2 where memory is wanting for their connections.
-pub fn serve<R: Threads + Wait + Sync + Log + Clock>(
+/// Serves a session of each of these inputs, by a new table of shares.
+pub fn serve<R: Threads + Wait + Sync + Log + Clock, S: Alter>(
     rt: &R,
     alloc: Global,
-    server: Server<'_>,
-    sessions: Sessions<'_>,
-    copy: &mut Copied,
-) -> Served {
+    name: &str,
+    documents: &[&str],
+    inputs: &[&[u8]],
+    copy: &mut LogCopy<S>,
+) -> Result<Served, AllocError> {
     let replies = Mutex::new(Vec::new(alloc));
-    let mut totals = Vec::new(alloc);
-    let status = match scripts_of(rt, alloc, sessions, &replies) {
-        Ok(scripts) => serve_scripts(rt, alloc, server, scripts, copy, &mut totals),
-        Err(_) => 2,
-    };
-    Served {
+    let mut scripts = Vec::new(alloc);
+    for input in inputs {
+        scripts.push(Script::new(rt, input, &replies))?;
+    }
+    let (status, totals) = serve_scripts(rt, alloc, name, documents, scripts, copy);
+    Ok(Served {
         status,
         totals,
         replies: replies.into_inner(),
-    }
+    })
 }
 
 /// What a check of the copy prints.
-pub fn checked(alloc: Global, copy: &Copied) -> Vec<u8> {
+pub fn checked<S: Alter>(alloc: Global, copy: &LogCopy<S>) -> Vec<u8> {
     let mut out = Vec::<u8>::new(alloc);
     let _status = check_over(alloc, copy, &mut Writer::new(&mut out));
     out
 }
 
-/// What a check prints of what this copy leaves in its files, when the machine has stopped and come back.
-pub fn left_by(alloc: Global, copy: Copied) -> Result<Vec<u8>, AllocError> {
-    let mut files = files_of(copy);
-    crash(&mut files);
-    let again = copy_or_none(alloc, files)?;
-    let report = checked(alloc, &again);
-    let _files = files_of(again);
-    Ok(report)
+/// A check of the copy prints this.
+pub fn holds<R: Abort, S: Alter>(
+    rt: &R,
+    alloc: Global,
+    copy: &LogCopy<S>,
+    report: &[u8],
+) -> Result<(), Fail> {
+    assert_eq!(rt; checked(alloc, copy).as_slice(), report);
+    Ok(())
+}
+
+/// The server did what was due at this start, and ended well.
+fn did<R: Abort>(rt: &R, served: &Served, start: &Start<'_>) -> Result<(), Fail> {
+    assert_eq!(rt; served.totals.as_slice(), start.totals);
+    assert_eq!(rt; served.status, 0);
+    if let Some(replies) = start.replies {
+        assert_eq!(rt; served.replies.as_slice(), replies);
+    }
+    Ok(())
+}
+
+/// Starts the server srv over the copy, and checks the copy once it has ended.
+pub fn started<R: Threads + Wait + Abort + Sync + Log + Clock, S: Alter>(
+    rt: &R,
+    alloc: Global,
+    documents: &[&str],
+    start: &Start<'_>,
+    copy: &mut LogCopy<S>,
+) -> Result<(), Fail> {
+    let served = serve(rt, alloc, "srv", documents, start.inputs, copy)?;
+    did(rt, &served, start)?;
+    holds(rt, alloc, copy, start.report)
 }

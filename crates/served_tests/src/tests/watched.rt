@@ -3,20 +3,22 @@ ghost use Rattle.std.specs.Prelude.{◌≡◌, ◌≤◌, length, map};
 ghost use Rattle.doc_ledger.specs.Numbers.{greatest_number};
 ghost use Rattle.served_copy.specs.Restored.{entries_at};
 
-use super::serving::{Server, Sessions, THREE, new_copy, serve};
-use crate::copies::disks::{Copied, files_of};
+use super::serving::{THREE, empty, serve};
+use super::stops::copy_that_stops;
 use copier::{Copier, Watch};
 use doc_ledger::Ledger;
 use lamport_id::ReplicaName;
 use log::Log;
-use log_copy::Fault;
+use log_copy::{Fault, LogCopy};
 use served_copy::{restored_stock, shelve};
 use server_core::{Library, Side};
 use share_ledger::{Blank, Marker};
+use sqlite::Alter;
 use std::alloc::{AllocError, Global};
 use std::marker::Brand;
+use std::process::Abort;
 use std::sync::{Mutex, Wait};
-use std::test::Fail;
+use std::test::*;
 use std::thread::Threads;
 use std::time::Clock;
 
@@ -38,25 +40,17 @@ impl<R: Wait> Watch for Counting<'_, R> {
 fn with_three<R: Threads + Wait + Sync + Log + Clock>(
     rt: &R,
     alloc: Global,
-) -> Result<Copied, AllocError> {
-    let mut copy = new_copy(alloc, u64::MAX)?;
-    let server = Server {
-        name: "srv",
-        documents: &["d"],
-    };
-    let sessions = Sessions {
-        inputs: &[THREE],
-        read_after: usize::MAX,
-    };
-    let _served = serve(rt, alloc, server, sessions, &mut copy);
+) -> Result<LogCopy<sqlite::MemStore>, AllocError> {
+    let mut copy = empty(alloc)?;
+    let _served = serve(rt, alloc, "srv", &["d"], &[THREE], &mut copy)?;
     Ok(copy)
 }
 
 /// The documents of these names of a copy behind locks. Where they can't be had memory is said to be wanting.
-fn library_of<M: Marker>(
+fn library_of<M: Marker, S: Alter>(
     alloc: Global,
     blank: Blank,
-    copy: &Copied,
+    copy: &LogCopy<S>,
     documents: &[&str],
 ) -> Result<Library<M>, AllocError>
     requires blank { blank ≡ M.name }
@@ -77,7 +71,12 @@ fn library_of<M: Marker>(
 }
 
 /// Copies the library's documents beside so many sessions, none of which ends, and gives how often the watch was told of a fault.
-fn told<M: Marker, R: Wait>(rt: &R, library: &Library<M>, sessions: u64, copy: &mut Copied) -> u32 {
+fn told<M: Marker, R: Wait, S: Alter>(
+    rt: &R,
+    library: &Library<M>,
+    sessions: u64,
+    copy: &mut LogCopy<S>,
+) -> u32 {
     let times = Mutex::new(0);
     let counting = Counting { rt, times: &times };
     let mut copier = Copier::new(copy, &counting);
@@ -87,47 +86,21 @@ fn told<M: Marker, R: Wait>(rt: &R, library: &Library<M>, sessions: u64, copy: &
 }
 
 /// The same where the library is that of a full copy, and has a table of its own.
-fn told_beside<M: Marker, R: Wait>(
+fn told_beside<M: Marker, R: Wait, F: Alter, S: Alter>(
     rt: &R,
     alloc: Global,
     blank: Blank,
-    full: &Copied,
+    full: &LogCopy<F>,
     documents: &[&str],
     sessions: u64,
-    copy: &mut Copied,
+    copy: &mut LogCopy<S>,
 ) -> Result<u32, AllocError>
     requires blank { blank ≡ M.name }
     requires begun { M.begun ≡ entries_at full.now.docs (map (λ s. s.now) documents.now) }
     requires few { length documents.now ≤ greatest_number }
 {
-    let library = library_of::<M>(alloc, blank, full, documents)?;
-    Ok(told::<M, R>(rt, &library, sessions, copy))
-}
-
-/// How often the watch is told while this full copy is copied once more, to a disk that stops after so many calls.
-fn told_of_full<R: Wait>(
-    rt: &R,
-    alloc: Global,
-    full: &Copied,
-    calls: u64,
-    sessions: u64,
-) -> Result<u32, AllocError> {
-    let mut copy = new_copy(alloc, calls)?;
-    let times = told_beside::<Brand, R>(rt, alloc, Blank::new(), full, &["d"], sessions, &mut copy);
-    let _files = files_of(copy);
-    times
-}
-
-fn told_in_all<R: Threads + Wait + Sync + Log + Clock>(
-    rt: &R,
-    alloc: Global,
-    calls: u64,
-    sessions: u64,
-) -> Result<u32, AllocError> {
-    let full = with_three(rt, alloc)?;
-    let times = told_of_full(rt, alloc, &full, calls, sessions);
-    let _files = files_of(full);
-    times
+    let library = library_of::<M, F>(alloc, blank, full, documents)?;
+    Ok(told::<M, R, S>(rt, &library, sessions, copy))
 }
 
 // To adopt new files takes 20 calls, and the first batch ten or so more.
@@ -135,14 +108,34 @@ const STOPS_IN_THE_FIRST_BATCH: u64 = 24;
 
 #[test]
 fn fault_is_told_while_a_session_runs(rt: HostRuntime) -> Result<(), Fail> {
-    let times = told_in_all(&rt, rt.alloc(), STOPS_IN_THE_FIRST_BATCH, 1)?;
+    let full = with_three(&rt, rt.alloc())?;
+    let mut copy = copy_that_stops(rt.alloc(), STOPS_IN_THE_FIRST_BATCH)?;
+    let times = told_beside::<Brand, _, _, _>(
+        &rt,
+        rt.alloc(),
+        Blank::new(),
+        &full,
+        &["d"],
+        1,
+        &mut copy,
+    )?;
     assert_eq!(rt; times, 1);
     Ok(())
 }
 
 #[test]
 fn nothing_is_told_without_a_fault(rt: HostRuntime) -> Result<(), Fail> {
-    let times = told_in_all(&rt, rt.alloc(), u64::MAX, 0)?;
+    let full = with_three(&rt, rt.alloc())?;
+    let mut copy = empty(rt.alloc())?;
+    let times = told_beside::<Brand, _, _, _>(
+        &rt,
+        rt.alloc(),
+        Blank::new(),
+        &full,
+        &["d"],
+        0,
+        &mut copy,
+    )?;
     assert_eq!(rt; times, 0);
     Ok(())
 }

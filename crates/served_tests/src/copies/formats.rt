@@ -1,0 +1,83 @@
+//! The format from before there were additions: raised where it is opened, and refused with an addition in it.
+use super::samples;
+use super::steps::{REFUSED, Step, StepAnswer, first_other};
+use sqlite::Connection;
+use std::test::Fail;
+
+const TABLES: &str =
+    "CREATE TABLE meta (name TEXT NOT NULL PRIMARY KEY, value INTEGER NOT NULL) STRICT;
+     CREATE TABLE entry (doc TEXT NOT NULL, place INTEGER NOT NULL, text TEXT NOT NULL, PRIMARY KEY (doc, place)) STRICT;
+     INSERT INTO meta (name, value) VALUES ('format', 1), ('epoch', 7)";
+
+const FORMAT: &str = "SELECT value FROM meta WHERE name = 'format'";
+
+const OLD_FORMAT_RAISED: [(Step<'static>, StepAnswer); 13] = [
+    (Step::Run(TABLES), StepAnswer::Done),
+    (
+        Step::Run(
+            r#"INSERT INTO entry (doc, place, text) VALUES ('d', 1, '["op",[1,"p"],[],[[["m",0]],"k"],["assign",1]]')"#,
+        ),
+        StepAnswer::Done,
+    ),
+    (Step::Open, StepAnswer::Done),
+    (Step::Epoch, StepAnswer::Number(7)),
+    (Step::Load("d"), StepAnswer::Rows(1)),
+    (Step::Ask(FORMAT), StepAnswer::Number(2)),
+    (
+        Step::Ask(
+            r#"SELECT count(*) FROM entry WHERE doc = 'd' AND place = 1 AND text = '["op",[1,"p"],[],[[["m",0]],"k"],["assign",1]]'"#,
+        ),
+        StepAnswer::Number(1),
+    ),
+    (Step::Open, StepAnswer::Done),
+    (Step::Up, StepAnswer::Number(8)),
+    (Step::Add("d", 1, 1, 3), StepAnswer::Done),
+    (Step::Open, StepAnswer::Done),
+    (Step::Epoch, StepAnswer::Number(8)),
+    (Step::Load("d"), StepAnswer::Rows(3)),
+];
+
+#[test]
+fn old_format_raised(rt: HostRuntime) -> Result<(), Fail> {
+    let log = samples::log(rt.alloc(), 3)?;
+    let conn = Connection::open_in_memory(rt.alloc())?;
+    assert_eq!(rt;
+        first_other(rt.alloc(), conn, log.as_slice(), &OLD_FORMAT_RAISED),
+        None
+    );
+    Ok(())
+}
+
+// The refused database is as it was; with the new format written by hand it is a copy.
+const OLD_FORMAT_HAS_NO_ADDITIONS: [(Step<'static>, StepAnswer); 9] = [
+    (Step::Run(TABLES), StepAnswer::Done),
+    (
+        Step::Run(
+            r#"INSERT INTO entry (doc, place, text) VALUES ('d', 1, '["op",[1,"p"],[],[[["m",0]],"k"],["add",1]]')"#,
+        ),
+        StepAnswer::Done,
+    ),
+    (Step::Open, REFUSED),
+    (Step::Ask(FORMAT), StepAnswer::Number(1)),
+    (
+        Step::Ask("SELECT count(*) FROM entry"),
+        StepAnswer::Number(1),
+    ),
+    (
+        Step::Run("UPDATE meta SET value = 2 WHERE name = 'format'"),
+        StepAnswer::Done,
+    ),
+    (Step::Open, StepAnswer::Done),
+    (Step::Epoch, StepAnswer::Number(7)),
+    (Step::Docs, StepAnswer::Rows(1)),
+];
+
+#[test]
+fn old_format_has_no_additions(rt: HostRuntime) -> Result<(), Fail> {
+    let conn = Connection::open_in_memory(rt.alloc())?;
+    assert_eq!(rt;
+        first_other(rt.alloc(), conn, &[], &OLD_FORMAT_HAS_NO_ADDITIONS),
+        None
+    );
+    Ok(())
+}
