@@ -145,7 +145,7 @@ fn log_again(alloc: Global) -> Result<Vec<Operation>, Refusal> {
     }
 }
 
-// `bench/each-allocation served_tests copies::stops::one_allocation_refused` runs it once for each of its allocations, with that one
+// `bench/each-allocation copy_tests tests::stops::one_allocation_refused` runs it once for each of its allocations, with that one
 // refused: in the steps, or in what has to pass after them, which then passes at the second try.
 #[test]
 fn one_allocation_refused(rt: HostRuntime) -> Result<(), Fail> {
