@@ -1,4 +1,5 @@
 //! Servers over a copy: what they serve and copy, and what the next one starts from.
+mod command_lines;
 mod faults;
 mod notes;
 mod serving;

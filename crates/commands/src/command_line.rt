@@ -1,0 +1,123 @@
+//! The command line.
+ghost use Rattle.std.specs.Prelude.{◌≡◌, ◌≢◌, ℕ, [], false, map, MatchOption, IfOk, IfErr};
+ghost use Rattle.clap.specs.Words.{app_of, fault_of, found_of, kind_of, matches_of, rows_of, rule_of};
+ghost use Rattle.commands.specs.CommandLine.{IsCount, check_command, document_rule, is_check, is_run, is_serve, name_rule, required_rule, run_command, serve_command};
+
+use clap::error::ErrorKind;
+use clap::{Arg, ArgAction, ArgMatches, Command, Error};
+use std::alloc::{AllocError, Global};
+
+/// The most sessions of a server.
+pub const MAX_SESSIONS: u16 = 256;
+
+/// An option that has to be given, under its name.
+fn required_option<'a>(alloc: Global, name: &'a str) -> Arg<'a>
+    ensures rule { rule_of result ≡ required_rule name.entry.now }
+    ensures local { result.global ≡ false }
+{
+    Arg::new(alloc, name).long(name).required(true)
+}
+
+/// `[--name NAME]`.
+fn name_option<'a>(alloc: Global) -> Arg<'a>
+    ensures rule { rule_of result ≡ name_rule }
+    ensures local { result.global ≡ false }
+{
+    Arg::new(alloc, "name").long("name")
+}
+
+/// `DOC..`.
+fn document_words<'a>(alloc: Global) -> Arg<'a>
+    ensures rule { rule_of result ≡ document_rule }
+    ensures local { result.global ≡ false }
+{
+    Arg::new(alloc, "doc")
+        .required(true)
+        .action(ArgAction::Append)
+}
+
+/// What clap makes of the words of `run [--name NAME] DOC..`.
+pub fn run_matches<'a>(alloc: Global, words: &'a [&'a str]) -> Result<ArgMatches<'a>, Error>
+    ensures taken { IfOk result (λ m. fault_of run_command (map (λ s. s.now) words.entry.now) ≡ []) }
+    ensures rows { IfOk result (λ m. rows_of (found_of m) ≡ matches_of run_command (map (λ s. s.now) words.entry.now)) }
+    ensures refused { IfErr result (λ e. kind_of e ≢ ErrorKind.OutOfMemory
+        → fault_of run_command (map (λ s. s.now) words.entry.now) ≢ []) }
+{
+    let command = Command::new(alloc, "run")
+        .arg(name_option(alloc))?
+        .arg(document_words(alloc))?;
+    command.try_get_matches_from(words)
+}
+
+/// `serve --addr A --sessions N --file F [--name NAME] DOC..`.
+fn server_command<'a>(alloc: Global) -> Result<Command<'a>, AllocError>
+    ensures { IfOk result (λ command. app_of command ≡ serve_command) }
+{
+    Command::new(alloc, "serve")
+        .arg(required_option(alloc, "addr"))?
+        .arg(required_option(alloc, "sessions"))?
+        .arg(required_option(alloc, "file"))?
+        .arg(name_option(alloc))?
+        .arg(document_words(alloc))
+}
+
+/// What clap makes of the words of `serve --addr A --sessions N --file F [--name NAME] DOC..`.
+pub fn serve_matches<'a>(alloc: Global, words: &'a [&'a str]) -> Result<ArgMatches<'a>, Error>
+    ensures taken { IfOk result (λ m. fault_of serve_command (map (λ s. s.now) words.entry.now) ≡ []) }
+    ensures rows { IfOk result (λ m. rows_of (found_of m) ≡ matches_of serve_command (map (λ s. s.now) words.entry.now)) }
+    ensures refused { IfErr result (λ e. kind_of e ≢ ErrorKind.OutOfMemory
+        → fault_of serve_command (map (λ s. s.now) words.entry.now) ≢ []) }
+{
+    server_command(alloc)?.try_get_matches_from(words)
+}
+
+/// What clap makes of the words of `check --file F`.
+pub fn check_matches<'a>(alloc: Global, words: &'a [&'a str]) -> Result<ArgMatches<'a>, Error>
+    ensures taken { IfOk result (λ m. fault_of check_command (map (λ s. s.now) words.entry.now) ≡ []) }
+    ensures rows { IfOk result (λ m. rows_of (found_of m) ≡ matches_of check_command (map (λ s. s.now) words.entry.now)) }
+    ensures refused { IfErr result (λ e. kind_of e ≢ ErrorKind.OutOfMemory
+        → fault_of check_command (map (λ s. s.now) words.entry.now) ≢ []) }
+{
+    let command = Command::new(alloc, "check").arg(required_option(alloc, "file"))?;
+    command.try_get_matches_from(words)
+}
+
+/// Whether the first word is `run`.
+pub fn is_run(words: &[&str]) -> bool
+    ensures { result ≡ is_run (map (λ s. s.now) words.now) }
+{
+    match words {
+        [first, ..] => *first == "run",
+        [] => false,
+    }
+}
+
+/// Whether the first word is `serve`.
+pub fn is_serve(words: &[&str]) -> bool
+    ensures { result ≡ is_serve (map (λ s. s.now) words.now) }
+{
+    match words {
+        [first, ..] => *first == "serve",
+        [] => false,
+    }
+}
+
+/// Whether the first word is `check`.
+pub fn is_check(words: &[&str]) -> bool
+    ensures { result ≡ is_check (map (λ s. s.now) words.now) }
+{
+    match words {
+        [first, ..] => *first == "check",
+        [] => false,
+    }
+}
+
+/// How many sessions a text asks for: 1 to 256.
+pub fn sessions_of(text: &str) -> Option<u16>
+    ensures { MatchOption result ((n : ℕ) → IsCount text.now n → ⊥) (IsCount text.now) }
+{
+    match text.parse::<u16>() {
+        Ok(sessions) if sessions >= 1 && sessions <= MAX_SESSIONS => Some(sessions),
+        _ => None,
+    }
+}

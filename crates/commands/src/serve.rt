@@ -1,0 +1,235 @@
+//! Serving over TCP, from a file.
+ghost use Rattle.std.specs.Prelude.{◌≡◌, ◌≢◌, ◌⊎◌, ◌≤◌, length, map, false};
+ghost use Rattle.clap.specs.Words.{found_of, rows_of};
+ghost use Rattle.doc_ledger.specs.Numbers.{greatest_number};
+ghost use Rattle.served_copy.specs.Served.{ServesCopied};
+ghost use Rattle.commands.specs.CommandLine.{AsksToServe, IsServer, NamesServer, WantedServer, is_serve};
+ghost use Rattle.commands.specs.Server.{ServesAt};
+
+use crate::command_line::{is_serve, serve_matches, sessions_of};
+use crate::usage::NO_MEMORY;
+use clap::ArgMatches;
+use clap::error::ErrorKind;
+use copy_files::open_copy;
+use log::Log;
+use log_copy::LogCopy;
+use run_core::is_good;
+use served_copy::{serve_over, tell_fault};
+use sqlite::Alter;
+use std::alloc::Global;
+use std::io;
+use std::net::{Net, TcpListener, TcpStream};
+use std::rt::HostRuntime;
+use std::sync::Wait;
+use std::thread::Threads;
+use std::time::Clock;
+use tcp_server::{connections, listen};
+
+/// What standard error is told where serving ends badly.
+const SERVE_FAULT: &str =
+    "jcrdt: the copy or standard output failed, or memory is wanting: `jcrdt check` tells what the file holds";
+
+/// Serves so many sessions, each over a connection of the listener, from the copy, as `serve_over`.
+pub fn serve_on<R: Threads + Wait + Sync + Log + Clock, S: Alter, W: io::Write>(
+    rt: &R,
+    alloc: Global,
+    name: &str,
+    documents: &[&str],
+    listener: &TcpListener,
+    sessions: u16,
+    copy: &mut LogCopy<S>,
+    out: &mut W,
+) -> u8
+    requires few { length documents.now ≤ greatest_number }
+    ensures status { result ≤ 1 }
+    ensures served { result ≡ 0 → ServesCopied name.now (map (λ s. s.now) documents.now) sessions copy.old copy.new (W.contents out.old) (W.contents out.new) }
+{
+    match connections(alloc, listener, sessions) {
+        Ok(all) => serve_over(rt, alloc, name, documents, all, copy, out),
+        Err(_) => 1,
+    }
+}
+
+/// Listens at the address, writes where, and serves from the copy.
+fn serve_at<
+    R: Net<Listener = TcpListener, Stream = TcpStream>
+        + Threads
+        + Wait
+        + Eprint
+        + Sync
+        + Log
+        + Clock,
+    S: Alter,
+    W: io::Write,
+>(
+    rt: &R,
+    alloc: Global,
+    name: &str,
+    documents: &[&str],
+    address: &str,
+    sessions: u16,
+    copy: &mut LogCopy<S>,
+    out: &mut W,
+) -> u8
+    requires few { length documents.now ≤ greatest_number }
+    ensures status { result ≤ 1 }
+    ensures served { result ≡ 0 → ServesAt (map (λ s. s.now) documents.now) sessions (W.contents out.old) (W.contents out.new) }
+{
+    let Some(listener) = listen(rt, alloc, address, out) else {
+        return 1;
+    };
+    let status = serve_on(rt, alloc, name, documents, &listener, sessions, copy, out);
+    if status == 1 {
+        // A fault of standard error changes nothing.
+        let _told = rt.eprintln(SERVE_FAULT);
+    }
+    status
+}
+
+/// Opens the file, or makes it, and serves from it.
+fn serve_file<
+    R: Net<Listener = TcpListener, Stream = TcpStream>
+        + Threads
+        + Wait
+        + Eprint
+        + Sync
+        + Log
+        + Clock,
+    W: io::Write,
+>(
+    host: &HostRuntime,
+    rt: &R,
+    alloc: Global,
+    name: &str,
+    documents: &[&str],
+    address: &str,
+    sessions: u16,
+    file: &str,
+    out: &mut W,
+) -> u8
+    requires few { length documents.now ≤ greatest_number }
+    ensures status { result ≤ 1 }
+    ensures served { result ≡ 0 → ServesAt (map (λ s. s.now) documents.now) sessions (W.contents out.old) (W.contents out.new) }
+{
+    match open_copy(host, file) {
+        Ok(copy) => {
+            let mut copy = copy;
+            serve_at(
+                rt, alloc, name, documents, address, sessions, &mut copy, out,
+            )
+        }
+        Err(fault) => {
+            // Of a fault of the file standard error was told.
+            tell_fault(fault, out);
+            1
+        }
+    }
+}
+
+/// Serves what these texts ask for, and gives the program's status: 2 exactly where a name is bad, there are too many documents, or
+/// the number of sessions isn't 1 to 256, with nothing written; 1 where the file can't be opened or is no copy, where the address can't be listened
+/// at, where the copy or the writer fails, or for want of memory, and standard error is told which.
+fn serve_named<
+    R: Net<Listener = TcpListener, Stream = TcpStream>
+        + Threads
+        + Wait
+        + Eprint
+        + Sync
+        + Log
+        + Clock,
+    W: io::Write,
+>(
+    host: &HostRuntime,
+    rt: &R,
+    alloc: Global,
+    name: &str,
+    documents: &[&str],
+    address: &str,
+    count: &str,
+    file: &str,
+    out: &mut W,
+) -> u8
+    ensures status { result ≤ 2 }
+    ensures asked { result ≢ 2 → (wanted : WantedServer) × IsServer name.now (map (λ s. s.now) documents.now) address.now count.now wanted }
+    ensures served { result ≡ 0 → (wanted : WantedServer) × IsServer name.now (map (λ s. s.now) documents.now) address.now count.now wanted
+        × ServesAt wanted.documents wanted.sessions (W.contents out.old) (W.contents out.new) }
+    ensures refused { result ≡ 2 → (wanted : WantedServer) → IsServer name.now (map (λ s. s.now) documents.now) address.now count.now wanted → ⊥ }
+    ensures untouched { result ≡ 2 → out.new ≡ out.old }
+{
+    let sessions = match sessions_of(count) {
+        Some(sessions) => sessions,
+        None => return 2,
+    };
+    if !is_good(name, documents) {
+        return 2;
+    }
+    serve_file(
+        host, rt, alloc, name, documents, address, sessions, file, out,
+    )
+}
+
+/// Serves what clap's matches ask for, as `serve_named`.
+fn serve_asked<
+    R: Net<Listener = TcpListener, Stream = TcpStream>
+        + Threads
+        + Wait
+        + Eprint
+        + Sync
+        + Log
+        + Clock,
+    W: io::Write,
+>(host: &HostRuntime, rt: &R, alloc: Global, matches: &ArgMatches<'_>, out: &mut W) -> u8
+    ensures status { result ≤ 2 }
+    ensures asked { result ≢ 2 → (wanted : WantedServer) × NamesServer (rows_of (found_of matches.now)) wanted }
+    ensures served { result ≡ 0 → (wanted : WantedServer) × NamesServer (rows_of (found_of matches.now)) wanted
+        × ServesAt wanted.documents wanted.sessions (W.contents out.old) (W.contents out.new) }
+    ensures refused { result ≡ 2 → (wanted : WantedServer) → NamesServer (rows_of (found_of matches.now)) wanted → ⊥ }
+    ensures untouched { result ≡ 2 → out.new ≡ out.old }
+{
+    let name = matches.get_str("name").unwrap_or("srv");
+    let address = matches.get_str("addr").unwrap_or("");
+    let documents = matches.get_strs("doc").unwrap_or(&[]);
+    let count = matches.get_str("sessions").unwrap_or("");
+    let file = matches.get_str("file").unwrap_or("");
+    serve_named(host, rt, alloc, name, documents, address, count, file, out)
+}
+
+/// Serves what the words ask for, and gives the program's status: 1 where the file can't be opened or is no copy, where the address
+/// can't be listened at, where the copy or the writer fails, or for want of memory, and standard error is told which; 2 where the words don't ask for a server, with nothing written.
+pub fn serve_words<
+    R: Net<Listener = TcpListener, Stream = TcpStream>
+        + Threads
+        + Wait
+        + Eprint
+        + Sync
+        + Log
+        + Clock,
+    W: io::Write,
+>(host: &HostRuntime, rt: &R, alloc: Global, words: &[&str], out: &mut W) -> u8
+    ensures status { result ≤ 2 }
+    ensures first_word { is_serve (map (λ s. s.now) words.now) ≡ false → result ≡ 2 }
+
+    // As many sessions as the words say, over the documents of the words: what was written is where the server listens, and then
+    // the totals of what these sessions did.
+    ensures served { result ≡ 0 → (wanted : WantedServer) × AsksToServe (map (λ s. s.now) words.now) wanted
+        × ServesAt wanted.documents wanted.sessions (W.contents out.old) (W.contents out.new) }
+
+    // The words asked for a server, or nothing was written.
+    ensures failed { result ≡ 1 → ((wanted : WantedServer) × AsksToServe (map (λ s. s.now) words.now) wanted) ⊎ (out.new ≡ out.old) }
+
+    ensures refused { result ≡ 2 → (wanted : WantedServer) → AsksToServe (map (λ s. s.now) words.now) wanted → ⊥ }
+    ensures untouched { result ≡ 2 → out.new ≡ out.old }
+{
+    if !is_serve(words) {
+        return 2;
+    }
+    match serve_matches(alloc, words) {
+        Ok(matches) => serve_asked(host, rt, alloc, &matches, out),
+        Err(error) => if error.kind() == ErrorKind::OutOfMemory {
+            let _told = rt.eprintln(NO_MEMORY);
+            1
+        } else {
+            2
+        },
+    }
+}

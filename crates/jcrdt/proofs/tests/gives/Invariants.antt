@@ -1,5 +1,0 @@
-use Rattle.std.proofs.Common.{[]}
-use Rattle.jcrdt.proofs.tests.gives.Given as goal
-
-abbrev pub ghosts-written : goal.ghosts-written
-ghosts-written a = record { name = a.blank; begun = λ _. [] }

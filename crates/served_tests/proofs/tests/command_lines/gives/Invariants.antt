@@ -1,0 +1,5 @@
+use Rattle.std.proofs.Common.{[]}
+use Rattle.served_tests.proofs.tests.command_lines.gives.Given as goal
+
+abbrev pub ghosts-written : goal.ghosts-written
+ghosts-written a = record { name = a.blank; begun = λ _. [] }

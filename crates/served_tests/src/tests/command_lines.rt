@@ -1,0 +1,256 @@
+//! Command lines, each a text with a space between two words: what a run of one writes, what a check of one tells, which of them ask
+//! for no server, and what is told of how the program is called.
+ghost use Rattle.std.specs.Prelude.{◌≡◌};
+ghost use Rattle.share_ledger.specs.Begun.{BeginEmpty};
+
+mod loopback;
+
+use commands::{USAGE, VERSION, check_words, run_words, serve_words, usage_of};
+use line_feed::{Reader, Writer};
+use log::Log;
+use run_core::NewDocuments;
+use share_ledger::{Blank, Marker};
+use std::alloc::{AllocError, Global};
+use std::fs;
+use std::marker::Brand;
+use std::net::{Net, TcpListener, TcpStream};
+use std::process::Abort;
+use std::sync::Wait;
+use std::test::Fail;
+use std::thread::Threads;
+use std::time::Clock;
+
+/// Stops, saying what does not hold. It is proved once, where an assertion in each test would be proved in each.
+fn holds<R: Abort>(rt: &R, is: bool, what: &str) {
+    assert!(rt; is, "{what}");
+}
+
+/// The words of a line. Between two spaces stands an empty one.
+fn words_of<'a>(alloc: Global, line: &'a str) -> Result<Vec<&'a str>, AllocError> {
+    if line.is_empty() {
+        return Ok(Vec::new(alloc));
+    }
+    line.split(' ').collect(alloc)
+}
+
+/// The status of a run of these words over these bytes, and what it wrote.
+fn written<M: Marker>(alloc: Global, blank: Blank, words: &[&str], input: &[u8]) -> (u8, Vec<u8>)
+    requires blank { blank ≡ M.name }
+    requires begun { BeginEmpty M.begun }
+{
+    let mut out = Vec::new(alloc);
+    let mut documents = NewDocuments::<M>::new(blank);
+    let status = run_words(
+        alloc,
+        &mut documents,
+        words,
+        &mut Reader::new(input),
+        &mut Writer::new(&mut out),
+    );
+    (status, out)
+}
+
+/// Whether a run of this line over this input has this status, and writes this.
+fn gives(
+    alloc: Global,
+    line: &str,
+    input: &str,
+    status: u8,
+    output: &str,
+) -> Result<bool, AllocError> {
+    let words = words_of(alloc, line)?;
+    let (found, out) = written::<Brand>(alloc, Blank::new(), &words, input.as_bytes());
+    Ok(found == status && *out.as_slice() == *output.as_bytes())
+}
+
+const OPENS_B: &str = "[\"open\",\"b\"]\n[\"assign\",\"b\",[0],{}]\n";
+
+/// Runs: what each is, its line, its input, its status, and what it writes.
+static RUNS: [(&str, &str, &str, u8, &str); 15] = [
+    (
+        "the server srv",
+        "run a b",
+        OPENS_B,
+        0,
+        "[\"opened\",1]\n[\"applied\",1,0,[1,\"srv-1\"]]\n",
+    ),
+    (
+        "a server of another name",
+        "run --name peer a b",
+        OPENS_B,
+        0,
+        "[\"opened\",1]\n[\"applied\",1,0,[1,\"peer-1\"]]\n",
+    ),
+    ("two documents", "run a b-2", "", 0, ""),
+    ("a name", "run --name peer a", "", 0, ""),
+    (
+        "a name of 24 bytes",
+        "run --name a-name-of-24-bytes-whole a",
+        "",
+        0,
+        "",
+    ),
+    (
+        "a name of 25 bytes",
+        "run --name a-name-of-25-bytes-in-all a",
+        "",
+        2,
+        "",
+    ),
+    ("a document twice", "run a a", "", 2, ""),
+    ("a capital", "run A", "", 2, ""),
+    ("no document", "run", "", 2, ""),
+    ("help", "run --help", "", 2, ""),
+    ("no word", "", "", 2, ""),
+    ("another first word", "walk a", "", 2, ""),
+    ("an empty name", "run --name  a", "", 2, ""),
+    (
+        "16 documents",
+        "run a b c d e f g h i j k l m n o p",
+        "",
+        0,
+        "",
+    ),
+    (
+        "17 documents",
+        "run a b c d e f g h i j k l m n o p q",
+        "",
+        2,
+        "",
+    ),
+];
+
+#[test]
+fn runs(rt: HostRuntime) -> Result<(), Fail> {
+    for (what, line, input, status, output) in &RUNS {
+        holds(&rt, gives(rt.alloc(), line, input, *status, output)?, what);
+    }
+    Ok(())
+}
+
+/// Whether a check of this line has this status, and prints this.
+fn tells(rt: &HostRuntime, line: &str, status: u8, text: &str) -> Result<bool, AllocError> {
+    let words = words_of(rt.alloc(), line)?;
+    let mut out = Vec::<u8>::new(rt.alloc());
+    let found = check_words(rt, rt.alloc(), &words, &mut Writer::new(&mut out));
+    Ok(found == status && *out.as_slice() == *text.as_bytes())
+}
+
+/// Checks: what each is, its line, its status, and what it prints.
+static CHECKS: [(&str, &str, u8, &str); 9] = [
+    (
+        "a file that is not there",
+        "check --file jcrdt-check-test.db",
+        0,
+        "[\"epoch\",0]\n",
+    ),
+    (
+        "the file that was made",
+        "check --file jcrdt-check-test.db",
+        0,
+        "[\"epoch\",0]\n",
+    ),
+    (
+        "a folder that is not there",
+        "check --file no-such-folder/copy.db",
+        1,
+        "",
+    ),
+    ("no word", "", 2, ""),
+    ("no option", "check", 2, ""),
+    ("no file", "check --file", 2, ""),
+    ("a document", "check --file jcrdt-check-test.db d", 2, ""),
+    ("help", "check --help", 2, ""),
+    (
+        "another first word",
+        "run --file jcrdt-check-test.db",
+        2,
+        "",
+    ),
+];
+
+#[test]
+fn checks(rt: HostRuntime) -> Result<(), Fail> {
+    for (what, line, status, text) in &CHECKS {
+        holds(&rt, tells(&rt, line, *status, text)?, what);
+    }
+    fs::remove_file(&rt, "jcrdt-check-test.db")?;
+    let _log = fs::remove_file(&rt, "jcrdt-check-test.db-wal");
+    Ok(())
+}
+
+/// Whether a line asks for no server, with nothing written.
+fn is_refused<
+    R: Net<Listener = TcpListener, Stream = TcpStream>
+        + Threads
+        + Wait
+        + Eprint
+        + Sync
+        + Log
+        + Clock,
+>(host: &HostRuntime, rt: &R, line: &str) -> Result<bool, AllocError> {
+    let words = words_of(host.alloc(), line)?;
+    let mut out = Vec::<u8>::new(host.alloc());
+    let status = serve_words(host, rt, host.alloc(), &words, &mut out);
+    Ok(status == 2 && out.is_empty())
+}
+
+/// Lines that ask for no server: what is wrong with each, and the line.
+static NO_SERVERS: [(&str, &str); 9] = [
+    (
+        "no session",
+        "serve --addr 127.0.0.1:0 --sessions 0 --file f d",
+    ),
+    (
+        "257 sessions",
+        "serve --addr 127.0.0.1:0 --sessions 257 --file f d",
+    ),
+    ("no address", "serve --sessions 1 --file f d"),
+    (
+        "no document",
+        "serve --addr 127.0.0.1:0 --sessions 1 --file f",
+    ),
+    ("no file", "serve --addr 127.0.0.1:0 --sessions 1 d"),
+    (
+        "a capital",
+        "serve --addr 127.0.0.1:0 --sessions 1 --file f D",
+    ),
+    (
+        "a document twice",
+        "serve --addr 127.0.0.1:0 --sessions 1 --file f d d",
+    ),
+    (
+        "a number in letters",
+        "serve --addr 127.0.0.1:0 --sessions one --file f d",
+    ),
+    (
+        "another first word",
+        "run --addr 127.0.0.1:0 --sessions 1 --file f d",
+    ),
+];
+
+#[test]
+fn lines_that_ask_for_no_server(rt: HostRuntime) -> Result<(), Fail> {
+    for (what, line) in &NO_SERVERS {
+        holds(&rt, is_refused(&rt, &rt, line)?, what);
+    }
+    Ok(())
+}
+
+/// Lines, and what is told of how the program is called.
+static USAGES: [(&str, &str); 5] = [
+    ("--version", VERSION),
+    ("version d", VERSION),
+    ("run --version", USAGE),
+    ("--help", USAGE),
+    ("", USAGE),
+];
+
+#[test]
+fn version_or_usage(rt: HostRuntime) -> Result<(), Fail> {
+    for (line, text) in &USAGES {
+        let words = words_of(rt.alloc(), line)?;
+        holds(&rt, usage_of(&words) == *text, line);
+    }
+    Ok(())
+}

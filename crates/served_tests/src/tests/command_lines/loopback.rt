@@ -1,0 +1,180 @@
+//! Sessions over loopback, with both ends in one process, from a copy in memory.
+use super::holds;
+use commands::serve_on;
+use log::Log;
+use log_copy::LogCopy;
+use sqlite::{Connection, MemStore};
+use std::alloc::{AllocError, Global};
+use std::io;
+use std::io::Write;
+use std::net::{Net, Shutdown, TcpListener, TcpStream};
+use std::process::Abort;
+use std::sync::Wait;
+use std::test::Fail;
+use std::thread::Threads;
+use std::time::Clock;
+
+/// An empty copy.
+fn empty(alloc: Global) -> Result<LogCopy<MemStore>, AllocError> {
+    let conn = Connection::open_in_memory(alloc)?;
+    match LogCopy::adopt(alloc, conn) {
+        Ok(copy) => Ok(copy),
+        Err(_) => Err(AllocError),
+    }
+}
+
+const THREE: &[u8] = br#"["open","d"]
+["assign","d",[0,"a"],1]
+["assign","d",[0,"a"],2]
+["assign","d",[0,"a"],3]
+["values","d",[0,"a"]]
+"#;
+
+const TWO: &[u8] = br#"["open","d"]
+["assign","d",[0,"b"],1]
+["assign","d",[0,"b"],2]
+["values","d",[0,"b"]]"#;
+
+/// What a server told: its status, what it wrote, and what each client was told.
+#[derive(Drop)]
+struct Told {
+    status: u8,
+    out: Vec<u8>,
+    replies: Vec<String>,
+}
+
+impl Told {
+    /// Whether the server ended well, and wrote this.
+    fn has(&self, totals: &[u8]) -> bool {
+        self.status == 0 && *self.out.as_slice() == *totals
+    }
+
+    /// What this client was told.
+    fn reply(&self, client: usize) -> &str {
+        match self.replies.get(client) {
+            Some(reply) => reply.as_str(),
+            None => "",
+        }
+    }
+}
+
+/// A client that has sent all its lines.
+fn client<R: Net<Listener = TcpListener, Stream = TcpStream>>(
+    rt: &R,
+    listener: &TcpListener,
+    lines: &[u8],
+) -> io::Result<TcpStream> {
+    let mut stream = TcpStream::connect(rt, listener.local_addr()?)?;
+    stream.write_all(lines)?;
+    stream.shutdown(Shutdown::Write)?;
+    Ok(stream)
+}
+
+/// A client for each of these.
+fn clients<R: Net<Listener = TcpListener, Stream = TcpStream>>(
+    rt: &R,
+    alloc: Global,
+    listener: &TcpListener,
+    sent: &[&[u8]],
+) -> io::Result<Vec<TcpStream>> {
+    let mut all = Vec::new(alloc);
+    for lines in sent {
+        all.push(client(rt, listener, lines)?)?;
+    }
+    Ok(all)
+}
+
+/// What each client is told.
+fn replies(alloc: Global, clients: Vec<TcpStream>) -> io::Result<Vec<String>> {
+    let mut all = Vec::new(alloc);
+    for stream in clients {
+        all.push(io::read_to_string(alloc, stream)?)?;
+    }
+    Ok(all)
+}
+
+/// Serves so many connections over at most 16 documents and an empty copy: the status, and what was written. It promises nothing, so
+/// that the proof of its caller carries no clause of a server.
+fn serve<R: Threads + Wait + Sync + Log + Clock>(
+    rt: &R,
+    alloc: Global,
+    documents: &[&str],
+    listener: &TcpListener,
+    sessions: usize,
+) -> Result<(u8, Vec<u8>), AllocError> {
+    let mut out = Vec::new(alloc);
+    let Ok(sessions) = u16::try_from(sessions) else {
+        return Ok((2, out));
+    };
+    if documents.len() > 16 {
+        return Ok((2, out));
+    }
+    let mut copy = empty(alloc)?;
+    let status = serve_on(
+        rt, alloc, "srv", documents, listener, sessions, &mut copy, &mut out,
+    );
+    Ok((status, out))
+}
+
+/// What a server of these documents tells, over an empty copy and with a session for each client.
+fn served<R: Net<Listener = TcpListener, Stream = TcpStream> + Threads + Wait + Sync + Log + Clock>(
+    rt: &R,
+    alloc: Global,
+    documents: &[&str],
+    sent: &[&[u8]],
+) -> io::Result<Told> {
+    let listener = TcpListener::bind(rt, "127.0.0.1:0")?;
+    let clients = clients(rt, alloc, &listener, sent)?;
+    let (status, out) = serve(rt, alloc, documents, &listener, sent.len())?;
+    Ok(Told {
+        status,
+        out,
+        replies: replies(alloc, clients)?,
+    })
+}
+
+/// A session of so many assignments was told of its seat, of each of them, and at the end this. The counters are not its own alone.
+fn is_told<R: Abort>(rt: &R, replies: &str, done: usize, last: &str) {
+    let mut lines = replies.lines();
+    let opened = lines.next().unwrap_or("");
+    holds(rt, opened.starts_with("[\"opened\","), opened);
+    for _ in 0..done {
+        let line = lines.next().unwrap_or("");
+        let is = line.starts_with("[\"applied\",1,0,[") && line.ends_with(",\"srv-1\"]]");
+        holds(rt, is, line);
+    }
+    assert_eq!(rt; lines.next(), Some(last));
+    assert_eq!(rt; lines.next(), None);
+}
+
+/// Which of two sessions has which of the two seats is open.
+fn have_both_seats(first: &str, second: &str) -> bool {
+    if first.starts_with("[\"opened\",1]\n") {
+        second.starts_with("[\"opened\",2]\n")
+    } else {
+        second.starts_with("[\"opened\",1]\n")
+    }
+}
+
+#[test]
+fn two_sessions_over_loopback(rt: HostRuntime) -> Result<(), Fail> {
+    let told = served(&rt, rt.alloc(), &["d"], &[THREE, TWO])?;
+    holds(&rt, told.has(b"[\"total\",\"d\",5,5,5]\n"), "the totals");
+    is_told(&rt, told.reply(0), 3, "[\"values\",[3]]");
+    is_told(&rt, told.reply(1), 2, "[\"values\",[2]]");
+    let seats = have_both_seats(told.reply(0), told.reply(1));
+    holds(&rt, seats, "each has a seat of its own");
+    Ok(())
+}
+
+// A client whose line is too long, who has sent more than is read of it, and reads nothing until the server has ended, is told so,
+// and then that nothing more comes: its connection isn't reset.
+#[test]
+fn line_too_long_is_told(rt: HostRuntime) -> Result<(), Fail> {
+    let line = vec![in rt.alloc(); b' '; 66_000]?;
+    let told = served(&rt, rt.alloc(), &["d", "e"], &[line.as_slice()])?;
+    let totals = b"[\"total\",\"d\",0,0,0]\n[\"total\",\"e\",0,0,0]\n";
+    holds(&rt, told.has(totals), "the totals");
+    assert_eq!(rt; told.reply(0), "[\"no\",3,\"line-too-long\"]\n");
+    Ok(())
+}
