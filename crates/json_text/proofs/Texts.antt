@@ -40,7 +40,7 @@ put_pair old d e = simp append_assoc
 pub ruleset pairs = (put_pair)
 
 pub put_five : (old : List Token) (a b c d e : Data)
-    → ((((((old ++ begin_array ∷ []) ++ data_tokens a) ++ data_tokens b) ++ data_tokens c) ++ data_tokens d) ++ data_tokens e) ++ end_array ∷ []
+    → (((old ++ begin_array ∷ []) ++ data_tokens a ++ data_tokens b ++ data_tokens c) ++ data_tokens d ++ data_tokens e) ++ end_array ∷ []
     ≡ old ++ data_tokens (list_data (a ∷ b ∷ c ∷ d ∷ e ∷ []))
 put_five old a b c d e = simp append_assoc
 

@@ -57,49 +57,49 @@ impl JsonText {
     pub fn begin_list(&mut self) -> Result<(), Refusal>
         ensures { Puts (begin_array ∷ []) self.old self.new result }
     {
-        Ok(self.writer.begin_array()?)
+        self.writer.begin_array().or(Err(Refusal::NoMemory))
     }
 
     /// Ends the array that was begun last.
     pub fn end_list(&mut self) -> Result<(), Refusal>
         ensures { Puts (end_array ∷ []) self.old self.new result }
     {
-        Ok(self.writer.end_array()?)
+        self.writer.end_array().or(Err(Refusal::NoMemory))
     }
 
     /// A text, in quotes.
     pub fn text(&mut self, text: &str) -> Result<(), Refusal>
         ensures { Puts (string text.now ∷ []) self.old self.new result }
     {
-        Ok(self.writer.string(text)?)
+        self.writer.string(text).or(Err(Refusal::NoMemory))
     }
 
     /// A count.
     pub fn count(&mut self, n: u64) -> Result<(), Refusal>
         ensures { Puts (data_tokens (number (unsigned n))) self.old self.new result }
     {
-        Ok(self.writer.u64(n)?)
+        self.writer.u64(n).or(Err(Refusal::NoMemory))
     }
 
     /// An integer.
     pub fn integer(&mut self, n: i64) -> Result<(), Refusal>
         ensures { Puts (data_tokens (number (of_integer n))) self.old self.new result }
     {
-        Ok(self.writer.i64(n)?)
+        self.writer.i64(n).or(Err(Refusal::NoMemory))
     }
 
     /// `true` or `false`.
     pub fn truth(&mut self, truth: bool) -> Result<(), Refusal>
         ensures { Puts (data_tokens (boolean truth)) self.old self.new result }
     {
-        Ok(self.writer.boolean(truth)?)
+        self.writer.boolean(truth).or(Err(Refusal::NoMemory))
     }
 
     /// `null`.
     pub fn null(&mut self) -> Result<(), Refusal>
         ensures { Puts (data_tokens null) self.old self.new result }
     {
-        Ok(self.writer.null()?)
+        self.writer.null().or(Err(Refusal::NoMemory))
     }
 
     /// An object with no members.

@@ -1,12 +1,13 @@
 //! Places, fronts and operations as JSON.
-ghost use Rattle.op_core.specs.Wire.{cursor_data, entry_data, front_data, key_data, mutation_data, tagged_data, wire};
-ghost use Rattle.op_core.specs.declared.mutation.Mutation.TheVariants.{Add, Delete};
-ghost use Rattle.std.specs.Prelude.{map};
+ghost use Rattle.op_core.specs.Wire.{cursor_data, entry_data, front_data, id_data, key_data, mutation_data, tagged_data, wire};
+ghost use Rattle.op_core.specs.declared.mutation.Mutation.TheVariants.{Delete};
+ghost use Rattle.serde_json.specs.Data.{string};
+ghost use Rattle.std.specs.Prelude.{◌++◌, codes, map};
 ghost use Rattle.json_text.specs.Tokens.{all_tokens, data_tokens, Puts};
 
 use crate::parts::AsJson;
 use crate::text::JsonText;
-use json_scalar::Refusal;
+use json_scalar::{Refusal, Scalar};
 use lamport_id::ReplicaName;
 use op_core::{Cursor, Front, Key, Mutation, Operation, Tagged};
 
@@ -85,7 +86,7 @@ impl AsJson for Mutation {
             Mutation::Assign(val) => text.tagged("assign", val),
             Mutation::Insert(val) => text.tagged("insert", val),
             Mutation::Delete => put_delete(text),
-            Mutation::Add(n) => put_add(text, *n),
+            Mutation::Add(n) => text.tagged("add", &Scalar::Int(*n)),
         }
     }
 }
@@ -98,26 +99,29 @@ fn put_delete(text: &mut JsonText) -> Result<(), Refusal>
     text.end_list()
 }
 
-fn put_add(text: &mut JsonText, n: i64) -> Result<(), Refusal>
-    ensures { Puts (data_tokens (mutation_data (Add n))) text.old text.new result }
-{
-    text.begin_list()?;
-    text.text("add")?;
-    text.integer(n)?;
-    text.end_list()
-}
-
 impl AsJson for Operation {
     ghost json = { wire };
 
     #[tactic(auto, using(crate::proofs::Texts::fives))]
     fn put_in(&self, text: &mut JsonText) -> Result<(), Refusal> {
         text.begin_list()?;
-        text.text("op")?;
-        self.id().put_in(text)?;
-        self.front().put_in(text)?;
-        self.cursor().put_in(text)?;
-        self.mutation().put_in(text)?;
+        put_stamp(text, self)?;
+        put_change(text, self)?;
         text.end_list()
     }
+}
+
+fn put_stamp(text: &mut JsonText, op: &Operation) -> Result<(), Refusal>
+    ensures { Puts (data_tokens (string (codes "op")) ++ data_tokens (id_data op.now.id) ++ data_tokens (front_data op.now.front)) text.old text.new result }
+{
+    text.text("op")?;
+    op.id().put_in(text)?;
+    op.front().put_in(text)
+}
+
+fn put_change(text: &mut JsonText, op: &Operation) -> Result<(), Refusal>
+    ensures { Puts (data_tokens (cursor_data op.now.cursor) ++ data_tokens (mutation_data op.now.mutation)) text.old text.new result }
+{
+    op.cursor().put_in(text)?;
+    op.mutation().put_in(text)
 }

@@ -1,4 +1,4 @@
-use Rattle.std.proofs.Common.{◌≡◌, ℕ, List, length, map, take}
+use Rattle.std.proofs.Common.{◌≡◌, ℕ, List, map, take}
 use Rattle.op_core.proofs.front.are_names_of.Given as goal
 
 abbrev pub invariant-loop-at : goal.invariant-loop-at

@@ -10,43 +10,20 @@ returns-in_err-path c =
     let exit = err_from_is_err_and c.from_residual.result c.from_residual.ensures.1 in
     rw (exit.1, exit.2)
     (λ other.
-    let both = due_Err c.pair.result c.ok_or.result c.in_err-path.field-0.0 (λ _. c.ok_or.ensures.value) c.in_err-path.was (λ memory. other (ap Err memory)) in
-    rw (both.1, ← c.pair.ensures, both.0) refl)
-
-pub returns-in_err-items : goal.returns-in_err-items
-returns-in_err-items c =
-    let exit = err_from_is_err_and c.from_residual-in_err-items.result c.from_residual-in_err-items.ensures.1 in
-    let both = due_Ok c.pair.result c.ok_or.result (c.in_ok-path.path, c.in_ok-path.key) (λ other. c.ok_or.ensures.value) c.in_ok-path.was in
-    rw (exit.1, exit.2)
-    (λ other.
-    let items = due_Err c.as_array.result c.ok_or-2.result c.in_err-items.field-0.0 (λ _. c.ok_or-2.ensures.value) c.in_err-items.was (λ memory. other (ap Err memory)) in
-    rw (items.1, ← c.pair.ensures, both, ← c.as_array.ensures, items.0) refl)
-
-pub returns-in_err-path-2 : goal.returns-in_err-path-2
-returns-in_err-path-2 c =
-    let exit = err_from_is_err_and c.from_residual-in_err-path-2.result c.from_residual-in_err-path-2.ensures.1 in
-    let both = due_Ok c.pair.result c.ok_or.result (c.in_ok-path.path, c.in_ok-path.key) (λ other. c.ok_or.ensures.value) c.in_ok-path.was in
-    let items = due_Ok c.as_array.result c.ok_or-2.result c.in_ok-items.items (λ other. c.ok_or-2.ensures.value) c.in_ok-items.was in
-    rw (exit.1, exit.2)
-    (λ other.
-    let path = due_Err (path_from (items_view c.as_slice.result.now)) c.read_path.result c.in_err-path-2.field-0.0 c.read_path.ensures c.in_err-path-2.was (λ memory. other (ap Err memory)) in
-    rw (path.1, ← c.pair.ensures, both, ← c.as_array.ensures, items, ← c.as_slice.ensures.value, path.0) refl)
+    let path = due_Err (path_from (items_view c.as_slice.result.now)) c.read_path.result c.in_err-path.field-0.0 c.read_path.ensures c.in_err-path.was (λ memory. other (ap Err memory)) in
+    rw (path.1, ← c.pair.ensures, c.in-Some.is, ← c.as_array.ensures, c.in-Some-as_array.is, ← c.as_slice.ensures.value, path.0) refl)
 
 pub returns-in_err-key : goal.returns-in_err-key
 returns-in_err-key c =
     let exit = err_from_is_err_and c.from_residual-in_err-key.result c.from_residual-in_err-key.ensures.1 in
-    let both = due_Ok c.pair.result c.ok_or.result (c.in_ok-path.path, c.in_ok-path.key) (λ other. c.ok_or.ensures.value) c.in_ok-path.was in
-    let items = due_Ok c.as_array.result c.ok_or-2.result c.in_ok-items.items (λ other. c.ok_or-2.ensures.value) c.in_ok-items.was in
-    let path = due_Ok (path_from (items_view c.as_slice.result.now)) c.read_path.result c.in_ok-path-2.path c.read_path.ensures c.in_ok-path-2.was in
+    let path = due_Ok (path_from (items_view c.as_slice.result.now)) c.read_path.result c.in_ok-path.path c.read_path.ensures c.in_ok-path.was in
     rw (exit.1, exit.2)
     (λ other.
-    let key = due_Err (key_from (view c.in_ok-path.key.now)) c.read_key.result c.in_err-key.field-0.0 c.read_key.ensures c.in_err-key.was (λ memory. other (ap Err memory)) in
-    rw (key.1, ← c.pair.ensures, both, ← c.as_array.ensures, items, ← c.as_slice.ensures.value, path, key.0) refl)
+    let key = due_Err (key_from (view c.in-Some.key.now)) c.read_key.result c.in_err-key.field-0.0 c.read_key.ensures c.in_err-key.was (λ memory. other (ap Err memory)) in
+    rw (key.1, ← c.pair.ensures, c.in-Some.is, ← c.as_array.ensures, c.in-Some-as_array.is, ← c.as_slice.ensures.value, path, key.0) refl)
 
 pub returns : goal.returns
 returns c =
-    let both = due_Ok c.pair.result c.ok_or.result (c.in_ok-path.path, c.in_ok-path.key) (λ other. c.ok_or.ensures.value) c.in_ok-path.was in
-    let items = due_Ok c.as_array.result c.ok_or-2.result c.in_ok-items.items (λ other. c.ok_or-2.ensures.value) c.in_ok-items.was in
-    let path = due_Ok (path_from (items_view c.as_slice.result.now)) c.read_path.result c.in_ok-path-2.path c.read_path.ensures c.in_ok-path-2.was in
-    let key = due_Ok (key_from (view c.in_ok-path.key.now)) c.read_key.result c.in_ok-key.key c.read_key.ensures c.in_ok-key.was in
-    λ other. rw (← c.pair.ensures, both, ← c.as_array.ensures, items, ← c.as_slice.ensures.value, path, key) refl
+    let path = due_Ok (path_from (items_view c.as_slice.result.now)) c.read_path.result c.in_ok-path.path c.read_path.ensures c.in_ok-path.was in
+    let key = due_Ok (key_from (view c.in-Some.key.now)) c.read_key.result c.in_ok-key.key c.read_key.ensures c.in_ok-key.was in
+    λ other. rw (← c.pair.ensures, c.in-Some.is, ← c.as_array.ensures, c.in-Some-as_array.is, ← c.as_slice.ensures.value, path, key) refl

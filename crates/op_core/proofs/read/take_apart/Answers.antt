@@ -1,4 +1,8 @@
-use Rattle.std.proofs.Common.{refl}
+use Rattle.std.proofs.Common.{codes, refl, sym, ◌∙◌}
+use Rattle.serde_json.specs.Find.{as_str}
+use Rattle.serde_json.specs.View.{view}
+use Rattle.op_core.proofs.Readings.{spelled}
+use Rattle.op_core.specs.PartsData.{parts_data}
 use Rattle.op_core.proofs.read.take_apart.Goals as goal
 
 pub returns-in_err-as_array : goal.returns-in_err-as_array
@@ -8,15 +12,12 @@ pub returns-in_err-tag : goal.returns-in_err-tag
 returns-in_err-tag c =
     rw (c.from_residual-in_err-tag.ensures, ← c.as_array.ensures, c.in_ok-as_array.was, ← c.as_slice.ensures.value, ← c.five.ensures, c.in_err-tag.was) refl
 
-pub returns-in_err-as_str : goal.returns-in_err-as_str
-returns-in_err-as_str c =
-    rw (c.from_residual-in_err-as_str.ensures, ← c.as_array.ensures, c.in_ok-as_array.was, ← c.as_slice.ensures.value, ← c.five.ensures, c.in_ok-tag.was, ← c.as_str.ensures, c.in_err-as_str.was)
-    refl
+pub returns-then-spells : goal.returns-then-spells
+returns-then-spells c =
+    rw (← c.as_array.ensures, c.in_ok-as_array.was, ← c.as_slice.ensures.value, ← c.five.ensures, c.in_ok-tag.was)
+    (sym (spelled (as_str (view c.in_ok-tag.tag.now)) (codes "op") (parts_data c.in_ok-tag.parts) ∙ rw (← c.spells.ensures, c.if-spells.true) refl))
 
-pub returns-then-eq : goal.returns-then-eq
-returns-then-eq c =
-    rw (← c.as_array.ensures, c.in_ok-as_array.was, ← c.as_slice.ensures.value, ← c.five.ensures, c.in_ok-tag.was, ← c.as_str.ensures, c.in_ok-as_str.was, ← c.eq.ensures, c.if-eq.true) refl
-
-pub returns-else-eq : goal.returns-else-eq
-returns-else-eq c =
-    rw (← c.as_array.ensures, c.in_ok-as_array.was, ← c.as_slice.ensures.value, ← c.five.ensures, c.in_ok-tag.was, ← c.as_str.ensures, c.in_ok-as_str.was, ← c.eq.ensures, c.if-eq.false) refl
+pub returns-else-spells : goal.returns-else-spells
+returns-else-spells c =
+    rw (← c.as_array.ensures, c.in_ok-as_array.was, ← c.as_slice.ensures.value, ← c.five.ensures, c.in_ok-tag.was)
+    (sym (spelled (as_str (view c.in_ok-tag.tag.now)) (codes "op") (parts_data c.in_ok-tag.parts) ∙ rw (← c.spells.ensures, c.if-spells.false) refl))

@@ -1,12 +1,19 @@
-use Rattle.std.proofs.Common.{[], ◌∷◌, map, ap, ◌∙◌}
-use Rattle.std.proofs.lemmas.List.{map-append}
+use Rattle.std.proofs.Common.{map, refl, ap, ◌∙◌}
 use Rattle.serde_json.specs.View.{view}
-use Rattle.op_core.specs.Wire.{tagged_data}
-use Rattle.op_core.proofs.Steps.{map_grown}
+use Rattle.serde_json.proofs.Views.{view-Array}
+use Rattle.op_core.specs.Wire.{list_data, tagged_data, path_data}
+use Rattle.op_core.proofs.Steps.{map_grown, map_done}
 use Rattle.op_core.proofs.write.write_path.Goals as goal
 
 pub loop-tagged-preserved : goal.loop-tagged-preserved
 loop-tagged-preserved c =
-    map_grown tagged_data c.as_slice-tagged-items.result.now c.loop-tagged.tagged-index c.tagged-item.result (map view c.loop-tagged.keys.items) (map view c.push.new.self.items)
-    (view c.in_ok-write_tagged.field-0) c.loop-tagged-test.true c.tagged-item.is c.in_ok-write_tagged.ensures c.loop-tagged.invariant
-    (ap (map view) c.in_ok-push.ensures.items ∙ map-append view c.loop-tagged.keys.items (c.in_ok-write_tagged.field-0 ∷ []))
+    let tagged = c.tagged-item.result in
+    map_grown tagged_data c.as_slice-tagged-items.result.now c.loop-tagged.tagged-index tagged (map view c.loop-tagged.keys.items) (map view c.push_written.new.values.items) (tagged_data tagged)
+    c.loop-tagged-test.true c.tagged-item.is refl c.loop-tagged.invariant (c.in_ok-push_written.ensures (tagged_data tagged) c.write_tagged.ensures)
+
+pub returns : goal.returns
+returns c =
+    let keys = c.as_slice-tagged-items.result.now in
+    view-Array c.loop-tagged.keys
+    ∙ ap list_data (map_done tagged_data keys c.loop-tagged.tagged-index (map view c.loop-tagged.keys.items) c.loop-tagged-test.false c.loop-tagged.invariant)
+    ∙ ap path_data c.as_slice-tagged-items.ensures
