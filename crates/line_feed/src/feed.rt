@@ -1,5 +1,5 @@
 //! Lines of a source.
-ghost use Rattle.std.specs.Prelude.{◌≡◌, ◌-◌, ℕ, Bool, true, false, List, [], ◌++◌, ◌+◌, ◌<◌, ◌≤◌, ◌↔◌, length, take, IsTrue, IfOk, MatchResult, is_err, position, slice_range, vec_len};
+ghost use Rattle.std.specs.Prelude.{◌≡◌, ◌-◌, ℕ, Bool, true, false, List, [], ◌++◌, ◌+◌, ◌<◌, ◌≤◌, ◌↔◌, length, take, IsTrue, IfOk, MatchOption, MatchResult, is_err, position, slice_range, vec_len};
 ghost use Rattle.std.specs.List.{list_any};
 ghost use Rattle.std.specs.Io.KnownBytes.{Consumes, IsAtEnd, Keeps};
 ghost use Rattle.line_feed.specs.Lines.{is_newline, HasNoNewline};
@@ -32,7 +32,7 @@ pub enum Outcome {
 
 /// Why reading stopped.
 enum Stop {
-    /// A newline came, at this place.
+    /// A newline stands at this place.
     Newline(usize),
     Full,
     End,
@@ -52,14 +52,19 @@ fn newline_at(bytes: &[u8]) -> Option<usize>
     memchr(b'\n', bytes)
 }
 
-/// Whether there is a newline byte.
-fn has_newline(bytes: &[u8]) -> bool
-    ensures { result ≡ list_any is_newline bytes.now }
+/// Moves the bytes from `start` up to `end` to the front. Where there are none it does nothing.
+fn to_front(buffer: &mut Vec<u8>, start: usize, end: usize)
+    requires ordered { start ≤ end }
+    requires within { end ≤ length buffer.old.items }
+    ensures len { vec_len buffer.new ≡ vec_len buffer.old }
+    ensures front { take (end - start) buffer.new.items ≡ slice_range buffer.old.items start end }
 {
-    newline_at(bytes).is_some()
+    if start < end {
+        buffer.rotate_left(start);
+    }
 }
 
-/// One read behind the first `len` bytes.
+// One read behind the first `len` bytes.
 fn read_behind<R: Source>(
     source: &mut R,
     buffer: &mut [u8],
@@ -79,15 +84,28 @@ fn read_behind<R: Source>(
     source.read_some(&mut buffer[len..])
 }
 
-/// Moves the bytes from `start` up to `end` to the front. Where there are none it does nothing.
-fn to_front(buffer: &mut Vec<u8>, start: usize, end: usize)
-    requires ordered { start ≤ end }
-    requires within { end ≤ length buffer.old.items }
-    ensures len { vec_len buffer.new ≡ vec_len buffer.old }
-    ensures front { take (end - start) buffer.new.items ≡ slice_range buffer.old.items start end }
+// The same, and how many bytes there are then, and why reading stops with them, if it does.
+fn read_more<R: Source>(source: &mut R, buffer: &mut [u8], len: usize) -> (usize, Option<Stop>)
+    requires works { R.has_failed source.old ≡ false }
+    requires room { len < length buffer.old }
+    requires unended { HasNoNewline (take len buffer.old) }
+
+    ensures same_room { length buffer.new ≡ length buffer.old }
+    ensures within { result.0 ≤ length buffer.new }
+    ensures bytes { (read : List ℕ) × Consumes (R.remaining source.old) (R.remaining source.new) read
+        × (take result.0 buffer.new ≡ take len buffer.old ++ read) }
+    ensures stop { MatchOption result.1 ((len < result.0) × HasNoNewline (take result.0 buffer.new) × (R.has_failed source.new ≡ false))
+        (λ stop. Stops (take result.0 buffer.new) (length buffer.new) stop
+        × (stop ≡ Stop.End → IsAtEnd (R.remaining source.new)) × (IsTrue (R.has_failed source.new) ↔ (stop ≡ Stop.Fault))) }
+    ensures once { R.reads source.new ≤ R.reads source.old + 1 }
 {
-    if start < end {
-        buffer.rotate_left(start);
+    match read_behind(source, buffer, len) {
+        Err(_) => (len, Some(Stop::Fault)),
+        Ok(0) => (len, Some(Stop::End)),
+        Ok(n) => match newline_at(&buffer[len..len + n]) {
+            Some(at) => (len + n, Some(Stop::Newline(len + at))),
+            None => (len + n, None),
+        },
     }
 }
 
@@ -107,29 +125,10 @@ fn fill<R: Source>(source: &mut R, buffer: &mut [u8], held: usize) -> Filled
 {
     let mut len = held;
     while len < buffer.len() {
-        match read_behind(source, buffer, len) {
-            Err(_) => {
-                return Filled {
-                    len,
-                    stop: Stop::Fault,
-                };
-            }
-            Ok(0) => {
-                return Filled {
-                    len,
-                    stop: Stop::End,
-                };
-            }
-            Ok(n) => {
-                let found = newline_at(&buffer[len..len + n]);
-                if let Some(at) = found {
-                    return Filled {
-                        len: len + n,
-                        stop: Stop::Newline(len + at),
-                    };
-                }
-                len += n;
-            }
+        let (more, stop) = read_more(source, buffer, len);
+        len = more;
+        if let Some(stop) = stop {
+            return Filled { len, stop };
         }
     }
     Filled {
@@ -195,7 +194,7 @@ impl LineFeed {
     pub fn has_line(&self) -> bool
         ensures { result ≡ list_any is_newline self.now.held }
     {
-        has_newline(&self.buffer[self.start..self.end])
+        newline_at(&self.buffer[self.start..self.end]).is_some()
     }
 
     /// Looks for the next line, with at most 65,537 reads, each of as much as the source gives. Once the source has
@@ -215,48 +214,57 @@ impl LineFeed {
         ensures failed { IsTrue (R.has_failed source.new) ↔ (result ≡ Outcome.Fault) }
         ensures reads { R.reads source.new ≤ R.reads source.old + LINE_ROOM }
     {
-        self.advance(source)
-    }
-
-    /// `next`, by its contract on bytes.
-    fn advance<R: Source>(&mut self, source: &mut R) -> Outcome
-        requires works { R.has_failed source.old ≡ false }
-        ensures advances { (read : List ℕ) × Consumes (R.remaining source.old) (R.remaining source.new) read
-            × Advances self.old read result self.new }
-        ensures held { list_any is_newline self.old.held ≡ true → result ≡ Outcome.Line }
-        ensures stays_ended { self.old.ended ≡ true → result ≡ Outcome.End }
-        ensures at_end { (self.old.ended ≡ true → IsAtEnd (R.remaining source.old))
-            → self.new.ended ≡ true → IsAtEnd (R.remaining source.new) }
-        ensures failed { IsTrue (R.has_failed source.new) ↔ (result ≡ Outcome.Fault) }
-        ensures reads { R.reads source.new ≤ R.reads source.old + LINE_ROOM }
-    {
         if self.ended {
             return Outcome::End;
         }
+        let stop = self.find_end(source);
+        self.give(stop)
+    }
+
+    // Where the first line ends among what is held; it reads behind that if no newline is there.
+    fn find_end<R: Source>(&mut self, source: &mut R) -> Stop
+        requires works { R.has_failed source.old ≡ false }
+        requires open { self.old.ended ≡ false }
+        ensures open { self.new.ended ≡ false }
+        ensures bytes { (read : List ℕ) × Consumes (R.remaining source.old) (R.remaining source.new) read
+            × (self.new.held ≡ self.old.held ++ read) }
+        ensures stop { Stops self.new.held LINE_ROOM result }
+        ensures at_end { result ≡ Stop.End → IsAtEnd (R.remaining source.new) }
+        ensures failed { IsTrue (R.has_failed source.new) ↔ (result ≡ Stop.Fault) }
+        ensures reads { R.reads source.new ≤ R.reads source.old + LINE_ROOM }
+    {
         if let Some(at) = newline_at(&self.buffer[self.start..self.end]) {
-            self.line_start = self.start;
-            self.line_end = self.start + at;
-            self.start = self.line_end + 1;
-            return Outcome::Line;
+            return Stop::Newline(at);
         }
         to_front(&mut self.buffer, self.start, self.end);
         let Filled { len, stop } = fill(source, &mut self.buffer, self.end - self.start);
         self.start = 0;
         self.end = len;
+        stop
+    }
+
+    // What is given of what is held, where reading stopped for this cause.
+    fn give(&mut self, stop: Stop) -> Outcome
+        requires open { self.old.ended ≡ false }
+        requires stops { Stops self.old.held LINE_ROOM stop }
+        ensures advances { Advances self.old.held result self.new }
+        ensures ended { self.new.ended ≡ true → stop ≡ Stop.End }
+        ensures fault { (result ≡ Outcome.Fault) ↔ (stop ≡ Stop.Fault) }
+    {
         match stop {
             Stop::Newline(at) => {
-                self.line_start = 0;
-                self.line_end = at;
-                self.start = at + 1;
+                self.line_start = self.start;
+                self.line_end = self.start + at;
+                self.start = self.line_end + 1;
                 Outcome::Line
             }
             Stop::Full => Outcome::TooLong,
             Stop::End => {
                 self.ended = true;
-                self.line_start = 0;
-                self.line_end = len;
-                self.start = len;
-                if len == 0 {
+                self.line_start = self.start;
+                self.line_end = self.end;
+                self.start = self.end;
+                if self.line_start == self.line_end {
                     Outcome::End
                 } else {
                     Outcome::Line

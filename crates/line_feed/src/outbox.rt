@@ -1,5 +1,5 @@
 //! A sink that writes in larger pieces.
-ghost use Rattle.std.specs.Prelude.{◌≡◌, ◌≤◌, ◌<◌, ◌++◌, [], false, length, drop, slice_range, is_err, OnOk, OnErr};
+ghost use Rattle.std.specs.Prelude.{◌≡◌, ◌≤◌, ◌<◌, ◌++◌, [], false, length, drop, slice_range, is_err, if◌then◌else◌, OnOk, OnErr};
 ghost use Rattle.std.specs.Io.KnownBytes.{Appends};
 ghost use Rattle.std.specs.Option.{option_map};
 
@@ -56,6 +56,36 @@ fn send<W: Sink>(sink: &mut W, bytes: &[u8], sent: &mut usize) -> Result<(), Dev
     Ok(())
 }
 
+impl<W: Sink> Outbox<W> {
+    // Keeps the bytes where there is room for them all, and says whether there is.
+    fn keep(&mut self, bytes: &[u8]) -> bool
+        ensures sink { self.new.sink ≡ self.old.sink }
+        ensures sent { self.new.sent ≡ self.old.sent }
+        ensures kept { self.new.kept.items ≡ (if result then self.old.kept.items ++ bytes.now else self.old.kept.items) }
+    {
+        if bytes.len() > self.kept.capacity() - self.kept.len() {
+            return false;
+        }
+        self.kept.extend_from_slice(bytes).unwrap();
+        true
+    }
+
+    // Has the other sink take all that is kept, so that nothing is kept then.
+    fn send_kept(&mut self) -> Result<(), DeviceFault>
+        requires works { W.has_failed self.old.sink ≡ false }
+        ensures ok { OnOk result ((self.new.kept.items ≡ []) × (self.new.sent ≡ 0)
+            × Appends (W.contents self.old.sink) (W.contents self.new.sink) (drop self.old.sent self.old.kept.items)) }
+        ensures err { OnErr result ((self.new.kept.items ≡ self.old.kept.items) × (self.old.sent ≤ self.new.sent) × (self.new.sent < length self.old.kept.items)
+            × Appends (W.contents self.old.sink) (W.contents self.new.sink) (slice_range self.old.kept.items self.old.sent self.new.sent)) }
+        ensures failed { W.has_failed self.new.sink ≡ is_err result }
+    {
+        send(&mut self.sink, self.kept.as_slice(), &mut self.sent)?;
+        self.kept.clear();
+        self.sent = 0;
+        Ok(())
+    }
+}
+
 impl<W: Sink> Sink for Outbox<W> {
     ghost contents = { λ s. option_map (λ taken. taken ++ drop s.sent s.kept.items) (W.contents s.sink) };
 
@@ -64,23 +94,16 @@ impl<W: Sink> Sink for Outbox<W> {
     ghost kept = { λ s. drop s.sent s.kept.items };
 
     fn write_some(&mut self, bytes: &[u8]) -> Result<usize, DeviceFault> {
-        if bytes.len() <= self.kept.capacity() - self.kept.len() {
-            self.kept.extend_from_slice(bytes).unwrap();
+        if self.keep(bytes) {
             return Ok(bytes.len());
         }
-        send(&mut self.sink, self.kept.as_slice(), &mut self.sent)?;
-        self.kept.clear();
-        self.sent = 0;
+        self.send_kept()?;
         self.sink.write_some(bytes)
     }
 
     fn hand_on(&mut self) -> Result<(), DeviceFault> {
-        match send(&mut self.sink, self.kept.as_slice(), &mut self.sent) {
-            Ok(()) => {
-                self.kept.clear();
-                self.sent = 0;
-                Ok(())
-            }
+        match self.send_kept() {
+            Ok(()) => Ok(()),
             Err(fault) => {
                 let _lost = self.kept.pop();
                 Err(fault)

@@ -2,5 +2,4 @@ pub mod Lines
 pub mod Requests
 pub mod Found
 pub mod Texts
-pub mod Held
 pub mod Pieces

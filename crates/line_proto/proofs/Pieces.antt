@@ -10,7 +10,8 @@ use Rattle.serde_json.specs.Written.{compact_text, comma_if, items_text}
 use Rattle.line_feed.specs.Cut.{AppendsCut}
 use Rattle.json.specs.Print.{escape_byte}
 use Rattle.lamport_id.specs.declared.id.Id.{Id}
-use Rattle.doc_words.specs.declared.reply.Reply.TheVariants.{Waiting}
+use Rattle.op_core.specs.Wire.{id_data}
+use Rattle.doc_words.specs.declared.reply.Reply.TheVariants.{Held, Waiting}
 use Rattle.line_proto.specs.Replies.{line_text, reply_data, waiting_data}
 use Rattle.line_proto.specs.Writing.{PutsText}
 
@@ -47,13 +48,18 @@ cut-between a b c p q t u tail whole puts cut is =
     subst (AppendsCut a c) (append_assoc p (t ++ u) tail ∙ ap (λ s. p ++ s) (append_assoc t u tail ∙ sym is)) (cut-longer a c (p ++ (t ++ u)) tail (puts-cut a b c p q t u puts cut))
 
 -- all is written
-pub puts-written : (a b c : Option (List ℕ)) (q t : List ℕ) → PutsText a b [] q t → Appends b c q → Appends a c t
-puts-written a b c q t (front, before, e) after = subst (Appends a c) (sym e) (Appends-trans a b c front q before after)
+pub puts-written : (a b c : Option (List ℕ)) (p q t : List ℕ) → PutsText a b p q t → Appends b c q → Appends a c (p ++ t)
+puts-written a b c p q t (front, before, e) after = subst (Appends a c) (sym e) (Appends-trans a b c front q before after)
 
 -- or cut short
-pub puts-lost : (a b c : Option (List ℕ)) (q t : List ℕ) → PutsText a b [] q t → AppendsCut b c q → AppendsCut a c t
-puts-lost a b c q t (front, before, e) (more, after, (rest, some, whole)) =
+pub puts-lost : (a b c : Option (List ℕ)) (p q t : List ℕ) → PutsText a b p q t → AppendsCut b c q → AppendsCut a c (p ++ t)
+puts-lost a b c p q t (front, before, e) (more, after, (rest, some, whole)) =
     (front ++ more, Appends-trans a b c front more before after, (rest, some, append_assoc front more rest ∙ ap (λ s. front ++ s) whole ∙ sym e))
+
+-- all is written, and an end behind it
+pub puts-ended : (a b c : Option (List ℕ)) (q t end : List ℕ) → PutsText a b [] q t → Appends b c (q ++ end) → Appends a c (t ++ end)
+puts-ended a b c q t end (front, before, e) after =
+    subst (Appends a c) (sym (append_assoc front q end) ∙ ap (λ s. s ++ end) (sym e)) (Appends-trans a b c front (q ++ end) before after)
 
 pub positive : (i : ℕ) → nat_lt 0 (i + 1) ≡ true
 positive i = grind (arith, nat_tests)
@@ -96,3 +102,9 @@ unfolding escape_byte
 waiting_text held =
     ap (λ s. codes "[\"waiting\",[" ++ s) (append_assoc (items_text false (items_of (map waiting_data held))) (93 ∷ []) (10 ∷ []))
     ∙ sym (append_assoc (codes "[\"waiting\",[") (items_text false (items_of (map waiting_data held))) (93 ∷ 10 ∷ []))
+
+pub held_text : (missing : List Id) → line_text (reply_data (Held missing)) ≡ (codes "[\"held\",[" ++ items_text false (items_of (map id_data missing))) ++ 93 ∷ 10 ∷ []
+unfolding escape_byte
+held_text missing =
+    ap (λ s. codes "[\"held\",[" ++ s) (append_assoc (items_text false (items_of (map id_data missing))) (93 ∷ []) (10 ∷ []))
+    ∙ sym (append_assoc (codes "[\"held\",[") (items_text false (items_of (map id_data missing))) (93 ∷ 10 ∷ []))

@@ -6,7 +6,7 @@ use Rattle.serde_json.specs.Find.{as_u64, as_number, as_str, as_array}
 use Rattle.serde_json.specs.Read.{read}
 use Rattle.json_scalar.specs.Refusal.{and_then}
 use Rattle.json_scalar.specs.Scalar.{val_of, int_of}
-use Rattle.doc_words.specs.Words.{Refusal, Assign, Insert, Delete, Add}
+use Rattle.doc_words.specs.Words.{Refusal, Mutation, Assign, Insert, Delete, Add}
 use Rattle.json_scalar.specs.declared.refusal.Refusal.TheVariants.{NotJson, BadRequest, BadValue, BadFront}
 use Rattle.op_core.specs.Front.{is_ascending}
 use Rattle.op_core.specs.Reading.{◌>>=◌, some_if, u64_of, id_from, front_of_json, op_from}
@@ -67,6 +67,12 @@ expr_items (item d ds) = do
   start ← start_from d
   steps ← steps_from ds
   Some (record { start = start; steps = steps })
+
+-- the same, with the refusal at each part
+abbrev pub expr_read : Items → Result CursorExpr Refusal
+expr_read no_items = Err BadRequest
+expr_read (item d ds) =
+    and_then (ok_or (start_from d) BadRequest) (λ start. and_then (ok_or (steps_from ds) BadRequest) (λ steps. Ok (record { start = start; steps = steps })))
 
 abbrev pub expr_from : Data → Option CursorExpr
 expr_from d = as_array d >>= expr_items
@@ -160,6 +166,28 @@ long_ask verb a b =
     else (if bytes_eq verb (codes "ops") then ops_from a b
     else change_ask verb a b)
 
+-- the same for all three words: the cursor, and then the change
+abbrev pub addition_of : Data → Result Mutation Refusal
+addition_of d = and_then (ok_or (amount_of d) BadValue) (λ n. Ok (Add n))
+
+abbrev pub mutation_from : List ℕ → Data → Result Mutation Refusal
+mutation_from verb d =
+    if bytes_eq verb (codes "assign") then and_then (val_of d) (λ val. Ok (Assign val))
+    else (if bytes_eq verb (codes "insert") then and_then (val_of d) (λ val. Ok (Insert val))
+    else (if bytes_eq verb (codes "add") then addition_of d
+    else Err BadRequest))
+
+abbrev pub change_from : List ℕ → Data → Data → Result Ask Refusal
+change_from verb c d =
+    and_then (ok_or (expr_from c) BadRequest) (λ expr. and_then (mutation_from verb d) (λ change. Ok (ask.Change expr change)))
+
+-- what is asked with a word, by the items behind the document
+abbrev pub ask_items : List ℕ → Items → Result Ask Refusal
+ask_items verb no_items = ok_or (plain_ask verb) BadRequest
+ask_items verb (item a no_items) = short_ask verb a
+ask_items verb (item a (item b no_items)) = long_ask verb a b
+ask_items verb (item a (item b (item c ds))) = Err BadRequest
+
 abbrev pub bare_from : Data → Result Request Refusal
 bare_from verb = and_then (ok_or (as_str verb) BadRequest) (λ verb. ok_or (bare_request verb) BadRequest)
 
@@ -174,6 +202,11 @@ short_from verb document a =
 abbrev pub long_from : Data → Data → Data → Data → Result Request Refusal
 long_from verb document a b =
     and_then (ok_or (as_str verb) BadRequest) (λ verb. and_then (ok_or (as_str document) BadRequest) (λ name. and_then (long_ask verb a b) (λ asked. Ok (Of name asked))))
+
+-- the same for any number of items behind the document
+abbrev pub named_from : Data → Data → Items → Result Request Refusal
+named_from verb document ds =
+    and_then (ok_or (as_str verb) BadRequest) (λ verb. and_then (ok_or (as_str document) BadRequest) (λ name. and_then (ask_items verb ds) (λ asked. Ok (Of name asked))))
 
 abbrev pub request_items : Items → Result Request Refusal
 request_items no_items = Err BadRequest

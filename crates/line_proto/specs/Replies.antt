@@ -7,7 +7,7 @@ use Rattle.doc_words.specs.Words.{Id, Scalar, Val, Refusal}
 use Rattle.json_scalar.specs.Refusal.{number_of, name_of}
 use Rattle.json_scalar.specs.Scalar.{scalar_data, val_data}
 use Rattle.json_scalar.specs.declared.refusal.Refusal.TheVariants as refusal
-use Rattle.op_core.specs.Wire.{list_data, id_data, front_data, cursor_data, wire}
+use Rattle.op_core.specs.Wire.{list_data, id_data, front_data, cursor_data}
 use Rattle.doc_words.specs.declared.reply.Reply.{Reply}
 use Rattle.doc_words.specs.declared.reply.Reply.TheVariants.{Applied, Known, Held, Forgotten, Resolved, Keys, Values, Items, Conflicts, Show, Sum, Operations, Front, Waiting, Account, Refused}
 use Rattle.line_feed.specs.Cut.{line_of}

@@ -19,6 +19,12 @@ is_lengthy (Account n) = false
 is_lengthy (Refused r) = false
 is_lengthy _ = true
 
+-- whether the reply's line is written in pieces
+abbrev pub is_in_pieces : Reply → Bool
+is_in_pieces (Held missing) = true
+is_in_pieces (Waiting held) = true
+is_in_pieces _ = false
+
 abbrev pub may_lack : LineReply → Bool
 may_lack (Answered reply) = is_lengthy reply
 may_lack _ = false

@@ -5,7 +5,7 @@ ghost use Rattle.serde_json.specs.View.{view, items_view};
 ghost use Rattle.json_scalar.specs.Refusal.{UnlessMemory, and_then};
 ghost use Rattle.json_scalar.specs.declared.refusal.Refusal.TheVariants.{BadRequest, BadValue, NotJson, NoMemory};
 ghost use Rattle.op_core.specs.Reading.{front_of_json};
-ghost use Rattle.line_proto.specs.Reading.{bare_request, plain_ask, look_of, look_from, deletion_ask, delivery_from, forgetting_from, short_ask, naming_from, limit_of, limit_from, in_order, ops_from, assignment_from, insertion_from, amount_of, addition_from, change_ask, long_ask, bare_from, plain_from, short_from, long_from, request_items, request_from, line_data, request_of};
+ghost use Rattle.line_proto.specs.Reading.{bare_request, plain_ask, look_of, look_from, deletion_ask, delivery_from, forgetting_from, short_ask, naming_from, limit_of, limit_from, in_order, ops_from, addition_of, mutation_from, amount_of, change_ask, long_ask, ask_items, bare_from, named_from, request_items, request_from, line_data, request_of};
 ghost use Rattle.line_proto.specs.Loading.{Loads};
 
 use crate::cursor::{read_expr, read_variable};
@@ -89,17 +89,13 @@ fn read_request(alloc: Global, value: &Value) -> Result<Request, Refusal>
     read_items(alloc, items.as_slice())
 }
 
-#[tactic(auto, using(crate::proofs::Lines::item_counts))]
 fn read_items(alloc: Global, items: &[Value]) -> Result<Request, Refusal>
     ensures { UnlessMemory result (request_items (items_view items.now)) }
 {
     match items {
         [] => Err(Refusal::BadRequest),
         [verb] => read_bare(verb),
-        [verb, document] => read_plain(alloc, verb, document),
-        [verb, document, third] => read_short(alloc, verb, document, third),
-        [verb, document, third, fourth] => read_long(alloc, verb, document, third, fourth),
-        [_, _, _, _, _, ..] => Err(Refusal::BadRequest),
+        [verb, document, rest @ ..] => read_named(alloc, verb, document, rest),
     }
 }
 
@@ -122,8 +118,14 @@ fn bare_request(verb: &str) -> Option<Request>
     }
 }
 
-fn read_plain(alloc: Global, verb: &Value, document: &Value) -> Result<Request, Refusal>
-    ensures { UnlessMemory result (plain_from (view verb.now) (view document.now)) }
+// The request on the document of this name, with these items behind it.
+fn read_named(
+    alloc: Global,
+    verb: &Value,
+    document: &Value,
+    rest: &[Value],
+) -> Result<Request, Refusal>
+    ensures { UnlessMemory result (named_from (view verb.now) (view document.now) (items_view rest.now)) }
 {
     let Some(verb) = verb.as_str() else {
         return Err(Refusal::BadRequest);
@@ -132,10 +134,19 @@ fn read_plain(alloc: Global, verb: &Value, document: &Value) -> Result<Request, 
         return Err(Refusal::BadRequest);
     };
     let name = Name::new(alloc, document)?;
-    let Some(ask) = plain_ask(verb) else {
-        return Err(Refusal::BadRequest);
-    };
+    let ask = read_ask(alloc, verb, rest)?;
     Ok(Request::Of(name, ask))
+}
+
+fn read_ask(alloc: Global, verb: &str, items: &[Value]) -> Result<Ask, Refusal>
+    ensures { UnlessMemory result (ask_items verb.now (items_view items.now)) }
+{
+    match items {
+        [] => plain_ask(verb).ok_or(Refusal::BadRequest),
+        [third] => short_ask(alloc, verb, third),
+        [third, fourth] => long_ask(alloc, verb, third, fourth),
+        [_, _, _, ..] => Err(Refusal::BadRequest),
+    }
 }
 
 fn plain_ask(verb: &str) -> Option<Ask>
@@ -148,25 +159,6 @@ fn plain_ask(verb: &str) -> Option<Ask>
         "account" => Some(Ask::Account),
         _ => None,
     }
-}
-
-fn read_short(
-    alloc: Global,
-    verb: &Value,
-    document: &Value,
-    third: &Value,
-) -> Result<Request, Refusal>
-    ensures { UnlessMemory result (short_from (view verb.now) (view document.now) (view third.now)) }
-{
-    let Some(verb) = verb.as_str() else {
-        return Err(Refusal::BadRequest);
-    };
-    let Some(document) = document.as_str() else {
-        return Err(Refusal::BadRequest);
-    };
-    let name = Name::new(alloc, document)?;
-    let ask = short_ask(alloc, verb, third)?;
-    Ok(Request::Of(name, ask))
 }
 
 fn short_ask(alloc: Global, verb: &str, third: &Value) -> Result<Ask, Refusal>
@@ -222,26 +214,6 @@ fn look_of(verb: &str) -> Option<Look>
         "sum" => Some(Look::Sum),
         _ => None,
     }
-}
-
-fn read_long(
-    alloc: Global,
-    verb: &Value,
-    document: &Value,
-    third: &Value,
-    fourth: &Value,
-) -> Result<Request, Refusal>
-    ensures { UnlessMemory result (long_from (view verb.now) (view document.now) (view third.now) (view fourth.now)) }
-{
-    let Some(verb) = verb.as_str() else {
-        return Err(Refusal::BadRequest);
-    };
-    let Some(document) = document.as_str() else {
-        return Err(Refusal::BadRequest);
-    };
-    let name = Name::new(alloc, document)?;
-    let ask = long_ask(alloc, verb, third, fourth)?;
-    Ok(Request::Of(name, ask))
 }
 
 fn long_ask(alloc: Global, verb: &str, third: &Value, fourth: &Value) -> Result<Ask, Refusal>
@@ -315,34 +287,26 @@ fn read_any_front(alloc: Global, value: &Value) -> Result<Front, Refusal>
 fn read_change(alloc: Global, verb: &str, cursor: &Value, value: &Value) -> Result<Ask, Refusal>
     ensures { UnlessMemory result (change_ask verb.now (view cursor.now) (view value.now)) }
 {
+    let cursor = read_expr(alloc, cursor)?;
+    Ok(Ask::Change(cursor, read_mutation(alloc, verb, value)?))
+}
+
+fn read_mutation(alloc: Global, verb: &str, value: &Value) -> Result<Mutation, Refusal>
+    ensures { UnlessMemory result (mutation_from verb.now (view value.now)) }
+{
     match verb {
-        "assign" => read_assignment(alloc, cursor, value),
-        "insert" => read_insertion(alloc, cursor, value),
-        "add" => read_addition(alloc, cursor, value),
+        "assign" => Ok(Mutation::Assign(Val::from_json(alloc, value)?)),
+        "insert" => Ok(Mutation::Insert(Val::from_json(alloc, value)?)),
+        "add" => read_addition(value),
         _ => Err(Refusal::BadRequest),
     }
 }
 
-fn read_assignment(alloc: Global, cursor: &Value, value: &Value) -> Result<Ask, Refusal>
-    ensures { UnlessMemory result (assignment_from (view cursor.now) (view value.now)) }
+fn read_addition(value: &Value) -> Result<Mutation, Refusal>
+    ensures { result ≡ addition_of (view value.now) }
 {
-    let cursor = read_expr(alloc, cursor)?;
-    Ok(Ask::Change(cursor, Mutation::Assign(Val::from_json(alloc, value)?)))
-}
-
-fn read_insertion(alloc: Global, cursor: &Value, value: &Value) -> Result<Ask, Refusal>
-    ensures { UnlessMemory result (insertion_from (view cursor.now) (view value.now)) }
-{
-    let cursor = read_expr(alloc, cursor)?;
-    Ok(Ask::Change(cursor, Mutation::Insert(Val::from_json(alloc, value)?)))
-}
-
-fn read_addition(alloc: Global, cursor: &Value, value: &Value) -> Result<Ask, Refusal>
-    ensures { UnlessMemory result (addition_from (view cursor.now) (view value.now)) }
-{
-    let cursor = read_expr(alloc, cursor)?;
     match amount_of(value) {
-        Some(amount) => Ok(Ask::Change(cursor, Mutation::Add(amount))),
+        Some(amount) => Ok(Mutation::Add(amount)),
         None => Err(Refusal::BadValue),
     }
 }

@@ -5,9 +5,9 @@ ghost use Rattle.lamport_id.specs.Name.{is_name};
 ghost use Rattle.serde_json.specs.Written.{compact_text};
 ghost use Rattle.serde_json.specs.Data.{string};
 ghost use Rattle.op_core.specs.Wire.{id_data};
-ghost use Rattle.doc_words.specs.declared.reply.Reply.TheVariants.{Applied, Account, Refused};
-ghost use Rattle.line_proto.specs.Replies.{line_text, told_data, reply_data, worded, count_data};
-ghost use Rattle.line_proto.specs.declared.line_reply.LineReply.TheVariants.{Opened};
+ghost use Rattle.doc_words.specs.declared.reply.Reply.TheVariants.{Applied, Refused};
+ghost use Rattle.line_proto.specs.Replies.{line_text, around, reply_data, worded, count_data};
+ghost use Rattle.line_feed.specs.Cut.{line_of};
 ghost use Rattle.line_proto.specs.declared.text.TheConstants.{SHORT_LINE};
 
 use arrayvec::ArrayString;
@@ -59,23 +59,14 @@ pub(crate) fn put_id(line: &mut Line, id: &Id)
     line.push_str("]");
 }
 
-#[tactic(auto, unfolding(json::specs::Print::escape_byte))]
-pub(crate) fn opened(seat: u64) -> Line
-    ensures { result.bytes ≡ line_text (told_data (Opened seat)) }
+/// A line of a word and a number. `front` is what stands before the number.
+#[tactic(auto, using(crate::proofs::Texts::around))]
+pub(crate) fn numbered(front: &str, n: u64) -> Line
+    requires { length front.now + 22 ≤ SHORT_LINE }
+    ensures { result.bytes ≡ line_of (around front.now (decimal n)) }
 {
     let mut line = Line::new();
-    line.push_str("[\"opened\",");
-    put_number(&mut line, seat);
-    line.push_str("]\n");
-    line
-}
-
-#[tactic(auto, unfolding(json::specs::Print::escape_byte))]
-pub(crate) fn account(n: u64) -> Line
-    ensures { result.bytes ≡ line_text (reply_data (Account n)) }
-{
-    let mut line = Line::new();
-    line.push_str("[\"account\",");
+    line.push_str(front);
     put_number(&mut line, n);
     line.push_str("]\n");
     line
@@ -102,17 +93,6 @@ pub(crate) fn fixed(text: &str) -> Line
 {
     let mut line = Line::new();
     line.push_str(text);
-    line
-}
-
-#[tactic(auto, unfolding(json::specs::Print::escape_byte))]
-pub(crate) fn version(number: u64) -> Line
-    ensures { result.bytes ≡ line_text (worded (codes "version") (count_data number ∷ [])) }
-{
-    let mut line = Line::new();
-    line.push_str("[\"version\",");
-    put_number(&mut line, number);
-    line.push_str("]\n");
     line
 }
 

@@ -27,7 +27,17 @@ pub(crate) fn write_waiting<W: Sink>(waiting: &[(Id, Ids)], sink: &mut W) -> Res
     let mut piece = Piece::new();
     piece.push_str("[\"waiting\",[");
     put_waits(waiting, &mut piece, sink)?;
-    put("]\n", &mut piece, sink)?;
+    write_end(&mut piece, sink)
+}
+
+/// Ends a line, and writes what of it is at hand.
+pub(crate) fn write_end<W: Sink>(piece: &mut Piece, sink: &mut W) -> Result<(), DeviceFault>
+    requires { W.has_failed sink.old ≡ false }
+    ensures ok { OnOk result (Appends (W.contents sink.old) (W.contents sink.new) (piece.old.bytes ++ 93 ∷ 10 ∷ [])) }
+    ensures cut { OnErr result (AppendsCut (W.contents sink.old) (W.contents sink.new) (piece.old.bytes ++ 93 ∷ 10 ∷ [])) }
+    ensures failed { W.has_failed sink.new ≡ is_err result }
+{
+    put("]\n", piece, sink)?;
     write_all(sink, piece.as_str().as_bytes())
 }
 
@@ -65,8 +75,12 @@ fn put_wait<W: Sink>(
     put("]", piece, sink)
 }
 
-// The ids, to the end of their array.
-fn put_ids<W: Sink>(ids: &[Id], piece: &mut Piece, sink: &mut W) -> Result<(), DeviceFault>
+/// The ids, to the end of their array, in pieces.
+pub(crate) fn put_ids<W: Sink>(
+    ids: &[Id],
+    piece: &mut Piece,
+    sink: &mut W,
+) -> Result<(), DeviceFault>
     requires { W.has_failed sink.old ≡ false }
     ensures ok { OnOk result (PutsText (W.contents sink.old) (W.contents sink.new) piece.old.bytes piece.new.bytes (items_text false (items_of (map id_data ids.now)))) }
     ensures cut { OnErr result (AppendsCut (W.contents sink.old) (W.contents sink.new) (piece.old.bytes ++ items_text false (items_of (map id_data ids.now)))) }

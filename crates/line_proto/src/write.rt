@@ -1,5 +1,5 @@
 //! How lines are written.
-ghost use Rattle.std.specs.Prelude.{◌≡◌, ◌≢◌, ◌≤◌, ◌++◌, ℕ, List, length, [], ◌∷◌, true, false, codes, is_err, OnOk, OnErr};
+ghost use Rattle.std.specs.Prelude.{◌≡◌, ◌≢◌, ◌≤◌, ◌++◌, ℕ, List, length, [], ◌∷◌, true, false, codes, is_err, MatchOption, OnOk, OnErr};
 ghost use Rattle.std.specs.Io.KnownBytes.{Appends};
 ghost use Rattle.serde_json.specs.Data.{Data};
 ghost use Rattle.serde_json.specs.Written.{comma_if, compact_text};
@@ -7,13 +7,13 @@ ghost use Rattle.op_core.specs.Wire.{id_data};
 ghost use Rattle.doc_words.specs.declared.reply.Reply.TheVariants.{Held, Show};
 ghost use Rattle.line_feed.specs.Cut.{AppendsCut, line_of};
 ghost use Rattle.line_proto.specs.Replies.{line_text, reply_data, reply_text, told_text, line_told, worded};
-ghost use Rattle.line_proto.specs.Writing.{is_lengthy, may_lack, is_device};
+ghost use Rattle.line_proto.specs.Writing.{is_lengthy, is_in_pieces, may_lack, is_device};
 ghost use Rattle.line_proto.specs.declared.line_reply.LineReply.TheVariants.{Answered};
 
 use crate::lengthy::lengthy_line;
 use crate::line_reply::{LineReply, VERSION};
-use crate::text::{Line, Piece, account, applied, fixed, no, opened, put_id, version};
-use crate::waiting::write_waiting;
+use crate::text::{Line, Piece, applied, fixed, no, numbered, put_id};
+use crate::waiting::{put_ids, write_end, write_waiting};
 use doc_words::Reply;
 use lamport_id::Id;
 use line_feed::{DeviceFault, Sink, write_all};
@@ -46,7 +46,6 @@ impl LineReply {
     /// memory is wanting; then nothing was written. That can come only for what is read of a document, for its
     /// operations and its front: each of these lines is made whole before its first byte is written, and every other one
     /// is written without taking memory.
-    #[tactic(auto, unfolding(json::specs::Print::escape_byte))]
     pub fn write<W: Sink>(&self, alloc: Global, sink: &mut W) -> Result<(), WriteFault>
         requires works { W.has_failed sink.old ≡ false }
         ensures ok { OnOk result (Appends (W.contents sink.old) (W.contents sink.new) (line_told self.now)) }
@@ -55,11 +54,8 @@ impl LineReply {
         ensures failed { W.has_failed sink.new ≡ is_device result }
     {
         match self {
-            LineReply::Opened(seat) => write_short(sink, &opened(*seat)),
-            LineReply::Bound => write_short(sink, &fixed("[\"bound\"]\n")),
-            LineReply::Version => write_short(sink, &version(VERSION)),
-            LineReply::Bye => write_short(sink, &fixed("[\"bye\"]\n")),
             LineReply::Answered(reply) => write_reply(alloc, reply, sink),
+            _ => write_short(sink, &own_line(self)),
         }
     }
 
@@ -69,7 +65,21 @@ impl LineReply {
     {}
 }
 
+// The line of what no document answers.
 #[tactic(auto, unfolding(json::specs::Print::escape_byte))]
+fn own_line(told: &LineReply) -> Line
+    requires { (reply : Reply) → told.now ≢ Answered reply }
+    ensures { result.bytes ≡ line_told told.now }
+{
+    match told {
+        LineReply::Opened(seat) => numbered("[\"opened\",", *seat),
+        LineReply::Bound => fixed("[\"bound\"]\n"),
+        LineReply::Version => numbered("[\"version\",", VERSION),
+        LineReply::Bye => fixed("[\"bye\"]\n"),
+        LineReply::Answered(_) => unreachable!(),
+    }
+}
+
 fn write_reply<W: Sink>(alloc: Global, reply: &Reply, sink: &mut W) -> Result<(), WriteFault>
     requires works { W.has_failed sink.old ≡ false }
     ensures ok { OnOk result (Appends (W.contents sink.old) (W.contents sink.new) (line_of (reply_text reply.now))) }
@@ -78,14 +88,39 @@ fn write_reply<W: Sink>(alloc: Global, reply: &Reply, sink: &mut W) -> Result<()
     ensures failed { W.has_failed sink.new ≡ is_device result }
 {
     match reply {
-        Reply::Applied { count, dropped, id } => write_short(sink, &applied(*count, *dropped, id)),
-        Reply::Known => write_short(sink, &fixed("[\"known\"]\n")),
         Reply::Held(missing) => Ok(write_held(missing.as_slice(), sink)?),
         Reply::Waiting(waiting) => Ok(write_waiting(waiting.as_slice(), sink)?),
-        Reply::Forgotten => write_short(sink, &fixed("[\"forgotten\"]\n")),
-        Reply::Account(n) => write_short(sink, &account(*n)),
-        Reply::Refused(refusal) => write_short(sink, &no(*refusal)),
-        lengthy => write_lengthy(alloc, lengthy, sink),
+        _ => write_whole(alloc, reply, sink),
+    }
+}
+
+// Writes a line that isn't written in pieces.
+fn write_whole<W: Sink>(alloc: Global, reply: &Reply, sink: &mut W) -> Result<(), WriteFault>
+    requires works { W.has_failed sink.old ≡ false }
+    requires whole { is_in_pieces reply.now ≡ false }
+    ensures ok { OnOk result (Appends (W.contents sink.old) (W.contents sink.new) (line_of (reply_text reply.now))) }
+    ensures device { result ≡ Err WriteFault.Device → AppendsCut (W.contents sink.old) (W.contents sink.new) (line_of (reply_text reply.now)) }
+    ensures memory { result ≡ Err WriteFault.NoMemory → (sink.new ≡ sink.old) × (is_lengthy reply.now ≡ true) }
+    ensures failed { W.has_failed sink.new ≡ is_device result }
+{
+    match short_line(reply) {
+        Some(line) => write_short(sink, &line),
+        None => write_lengthy(alloc, reply, sink),
+    }
+}
+
+// The line of a reply of a fixed number of parts.
+#[tactic(auto, unfolding(json::specs::Print::escape_byte))]
+fn short_line(reply: &Reply) -> Option<Line>
+    ensures { MatchOption result (is_in_pieces reply.now ≡ false → is_lengthy reply.now ≡ true) (λ line. line.bytes ≡ line_of (reply_text reply.now)) }
+{
+    match reply {
+        Reply::Applied { count, dropped, id } => Some(applied(*count, *dropped, id)),
+        Reply::Known => Some(fixed("[\"known\"]\n")),
+        Reply::Forgotten => Some(fixed("[\"forgotten\"]\n")),
+        Reply::Account(n) => Some(numbered("[\"account\",", *n)),
+        Reply::Refused(refusal) => Some(no(*refusal)),
+        _ => None,
     }
 }
 
@@ -123,12 +158,8 @@ fn write_held<W: Sink>(missing: &[Id], sink: &mut W) -> Result<(), DeviceFault>
 {
     let mut piece = Piece::new();
     piece.push_str("[\"held\",[");
-    for i in 0..missing.len() {
-        make_room(&mut piece, sink)?;
-        piece.push_str(id_item(0 < i, &missing[i]).as_str());
-    }
-    piece.push_str("]]\n");
-    write_all(sink, piece.as_str().as_bytes())
+    put_ids(missing, &mut piece, sink)?;
+    write_end(&mut piece, sink)
 }
 
 /// Writes a piece where it has no room for one more id, and begins anew.

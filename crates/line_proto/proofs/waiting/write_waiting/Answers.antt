@@ -5,51 +5,33 @@ use Rattle.serde_json.specs.View.{items_of}
 use Rattle.serde_json.specs.Written.{items_text}
 use Rattle.line_feed.specs.Cut.{AppendsCut}
 use Rattle.line_proto.specs.Replies.{waiting_data}
-use Rattle.line_proto.proofs.Pieces.{puts-start, puts-then, puts-cut, puts-written, puts-lost, cut-longer, waiting_text}
+use Rattle.line_proto.proofs.Pieces.{puts-start, puts-cut, puts-ended, cut-longer, waiting_text}
 use Rattle.line_proto.proofs.waiting.write_waiting.Goals as goal
 
 pub returns-in_err-put_waits-clause-cut : goal.returns-in_err-put_waits-clause-cut
 returns-in_err-put_waits-clause-cut g c =
     let exit = err_from_is_err_and c.from_residual.result c.from_residual.ensures.1 in
-    let held = c.args.waiting.now in
-    let items = items_text false (items_of (map waiting_data held)) in
+    let items = items_text false (items_of (map waiting_data c.args.waiting.now)) in
     let head : c.push_str.new.self.bytes ≡ codes "[\"waiting\",[" = c.push_str.ensures.bytes ∙ ap (λ p. p ++ codes "[\"waiting\",[") c.new-piece.ensures in
     let cut = subst (λ (p : List ℕ). AppendsCut (g.W.Sink.contents c.args.sink.now) (g.W.Sink.contents c.put_waits.new.sink) (p ++ items)) head c.in_err-put_waits.ensures.cut in
-    rw (exit.1, waiting_text held) (cut-longer _ _ (codes "[\"waiting\",[" ++ items) (93 ∷ 10 ∷ []) cut)
-
-pub returns-in_err-put-clause-cut : goal.returns-in_err-put-clause-cut
-returns-in_err-put-clause-cut g c =
-    let exit = err_from_is_err_and c.from_residual-in_err-put.result c.from_residual-in_err-put.ensures.1 in
-    let held = c.args.waiting.now in
-    let items = items_text false (items_of (map waiting_data held)) in
-    let head : c.push_str.new.self.bytes ≡ codes "[\"waiting\",[" = c.push_str.ensures.bytes ∙ ap (λ p. p ++ codes "[\"waiting\",[") c.new-piece.ensures in
-    let puts = puts-start _ _ c.push_str.new.self.bytes c.put_waits.new.piece.bytes (codes "[\"waiting\",[") items head c.in_ok-put_waits.ensures.ok in
-    rw (exit.1, waiting_text held) (puts-cut _ _ _ [] c.put_waits.new.piece.bytes (codes "[\"waiting\",[" ++ items) (93 ∷ 10 ∷ []) puts c.in_err-put.ensures.cut)
+    rw (exit.1, waiting_text c.args.waiting.now) (cut-longer _ _ (codes "[\"waiting\",[" ++ items) (93 ∷ 10 ∷ []) cut)
 
 pub returns-clause-ok : goal.returns-clause-ok
 returns-clause-ok g c =
-    let contents = g.W.Sink.contents in
-    let held = c.args.waiting.now in
-    let items = items_text false (items_of (map waiting_data held)) in
+    let items = items_text false (items_of (map waiting_data c.args.waiting.now)) in
     let head : c.push_str.new.self.bytes ≡ codes "[\"waiting\",[" = c.push_str.ensures.bytes ∙ ap (λ p. p ++ codes "[\"waiting\",[") c.new-piece.ensures in
-    let first = puts-start _ _ c.push_str.new.self.bytes c.put_waits.new.piece.bytes (codes "[\"waiting\",[") items head c.in_ok-put_waits.ensures.ok in
-    let puts = puts-then _ _ _ [] c.put_waits.new.piece.bytes c.put.new.piece.bytes (codes "[\"waiting\",[" ++ items) (93 ∷ 10 ∷ []) first c.in_ok-put.ensures.ok in
-    let bytes : c.as_bytes.result.now ≡ c.put.new.piece.bytes = c.as_bytes.ensures.value ∙ c.as_str.ensures.value in
-    on_ok_weaker c.write_all.result
+    let puts = puts-start _ _ c.push_str.new.self.bytes c.put_waits.new.piece.bytes (codes "[\"waiting\",[") items head c.in_ok-put_waits.ensures.ok in
+    on_ok_weaker c.write_end.result
     (λ last.
-    subst (Appends (contents c.args.sink.now) (contents c.write_all.new.sink)) (sym (waiting_text held))
-    (puts-written _ _ _ c.put.new.piece.bytes _ puts (subst (Appends (contents c.put.new.sink) (contents c.write_all.new.sink)) bytes last))) c.write_all.ensures.ok
+    subst (Appends (g.W.Sink.contents c.args.sink.now) (g.W.Sink.contents c.write_end.new.sink)) (sym (waiting_text c.args.waiting.now))
+    (puts-ended _ _ _ c.put_waits.new.piece.bytes (codes "[\"waiting\",[" ++ items) (93 ∷ 10 ∷ []) puts last)) c.write_end.ensures.ok
 
 pub returns-clause-cut : goal.returns-clause-cut
 returns-clause-cut g c =
-    let contents = g.W.Sink.contents in
-    let held = c.args.waiting.now in
-    let items = items_text false (items_of (map waiting_data held)) in
+    let items = items_text false (items_of (map waiting_data c.args.waiting.now)) in
     let head : c.push_str.new.self.bytes ≡ codes "[\"waiting\",[" = c.push_str.ensures.bytes ∙ ap (λ p. p ++ codes "[\"waiting\",[") c.new-piece.ensures in
-    let first = puts-start _ _ c.push_str.new.self.bytes c.put_waits.new.piece.bytes (codes "[\"waiting\",[") items head c.in_ok-put_waits.ensures.ok in
-    let puts = puts-then _ _ _ [] c.put_waits.new.piece.bytes c.put.new.piece.bytes (codes "[\"waiting\",[" ++ items) (93 ∷ 10 ∷ []) first c.in_ok-put.ensures.ok in
-    let bytes : c.as_bytes.result.now ≡ c.put.new.piece.bytes = c.as_bytes.ensures.value ∙ c.as_str.ensures.value in
-    on_err_weaker c.write_all.result
+    let puts = puts-start _ _ c.push_str.new.self.bytes c.put_waits.new.piece.bytes (codes "[\"waiting\",[") items head c.in_ok-put_waits.ensures.ok in
+    on_err_weaker c.write_end.result
     (λ last.
-    subst (AppendsCut (contents c.args.sink.now) (contents c.write_all.new.sink)) (sym (waiting_text held))
-    (puts-lost _ _ _ c.put.new.piece.bytes _ puts (subst (AppendsCut (contents c.put.new.sink) (contents c.write_all.new.sink)) bytes last))) c.write_all.ensures.cut
+    subst (AppendsCut (g.W.Sink.contents c.args.sink.now) (g.W.Sink.contents c.write_end.new.sink)) (sym (waiting_text c.args.waiting.now))
+    (puts-cut _ _ _ [] c.put_waits.new.piece.bytes (codes "[\"waiting\",[" ++ items) (93 ∷ 10 ∷ []) puts last)) c.write_end.ensures.cut
