@@ -3,7 +3,7 @@ ghost use Rattle.std.specs.Prelude.{◌≡◌, Some, None, IsSome, option_and_th
 ghost use Rattle.op_core.specs.Shape.{may_follow};
 ghost use Rattle.crdt_rules.specs.Same.{key_eq};
 ghost use Rattle.op_core.specs.declared.cursor.Key.TheVariants.{Doc};
-ghost use Rattle.doc_nodes.specs.Walk.{trail_below, list_trail_below, walk, root};
+ghost use Rattle.doc_nodes.specs.Walk.{trail_below, list_trail_below, walk};
 ghost use Rattle.doc_nodes.specs.Nodes.{child_of, node_at, list_node_at};
 
 use crate::node::{Node, NodeNumber, ROOT};

@@ -1,7 +1,7 @@
 //! Whether the elements of a list are present, as the list itself tells it.
-ghost use Rattle.std.specs.Prelude.{◌≡◌, ◌<◌, length, slice_set, Some};
+ghost use Rattle.std.specs.Prelude.{◌≡◌, ◌<◌, length, Some};
 ghost use Rattle.doc_nodes.specs.Nodes.{node_of};
-ghost use Rattle.doc_nodes.specs.Flags.{flagged, told};
+ghost use Rattle.doc_nodes.specs.Flags.{told};
 ghost use Rattle.doc_nodes.specs.Flags as Spec;
 
 use crate::node::{Node, NodeNumber};
