@@ -1,8 +1,9 @@
 -- More room in one node, and one node more, change nothing of what the nodes say.
-use Rattle.std.proofs.Common.{◌≡◌, ℕ, ◌+◌, ◌<◌, ◌≤◌, List, [], ◌∷◌, ◌++◌, length, set, Bool, true, false, if◌then◌else◌, Option, Some, None, ◌⊎◌, inl, inr, ⊎_elim, refl, sym, ap, ◌∙◌, subst, arith, true≢false}
+use Rattle.std.proofs.Common.{◌≡◌, ℕ, ℤ, ◌+◌, ◌<◌, ◌≤◌, List, [], ◌∷◌, ◌++◌, length, set, Bool, true, false, if◌then◌else◌, Option, Some, None, ◌⊎◌, inl, inr, ⊎_elim, refl, sym, ap, ◌∙◌, subst, arith, true≢false}
 use Rattle.std.proofs.lemmas.List.{get_or_past, get_or_append_left, get_or_push, length_push, length-set}
 use Rattle.std.proofs.lemmas.Bool.{cases_eq, cases_lt}
-use Rattle.op_core.specs.declared.cursor.Key.{Key}
+use Rattle.doc_words.specs.Words.{Id, Scalar, Key}
+use Rattle.doc_words.specs.declared.role.Role.{Role}
 use Rattle.crdt_rules.specs.Same.{key_eq}
 use Rattle.crdt_rules.proofs.SameLaws.{key_decides}
 use Rattle.doc_nodes.specs.declared.node.NodeNumber.{NodeNumber}
@@ -57,6 +58,64 @@ module _ (nodes : List Node) (n : NodeNumber) (within : n.0 < length nodes) wher
     forward = λ m k c e. ap (λ f. f m k) (shape-set nodes n node within same.children) ∙ e;
     back = λ m k c e l. ap (λ f. f m k) (sym (shape-set nodes n node within same.children)) ∙ e;
   }
+
+  -- such is one with more room in one part
+  module _ (node : Node) (is : node ≡ node_of nodes n) where
+    pub more_presence : (part : List (Id × Role) × Bool) → part.0 ≡ node.presence.0 → (node.presence.1 ≡ true → part.1 ≡ true) → Grows nodes (set nodes n.0 (record node { presence = part }))
+    more_presence part same room = grows_room (record node { presence = part }) (record {
+      presence = same ∙ ap (λ (z : Node). z.presence.0) is;
+      register = ap (λ (z : Node). z.register.0) is;
+      counter = ap (λ (z : Node). z.counter.0) is;
+      order = ap (λ (z : Node). z.order.0) is;
+      presence_room = λ was. room (ap (λ (z : Node). z.presence.1) is ∙ was);
+      register_room = omega (arith, ap (λ (z : Node). z.register.1) is);
+      counter_room = omega (arith, ap (λ (z : Node). z.counter.1) is);
+      order_room = omega (arith, ap (λ (z : Node). z.order.1) is);
+      children = ap (λ (z : Node). z.children) is;
+      leads = ap (λ (z : Node). z.leads) is;
+    })
+
+    pub more_register : (part : List (Id × Scalar) × ℕ) → part.0 ≡ node.register.0 → node.register.1 ≤ part.1 → Grows nodes (set nodes n.0 (record node { register = part }))
+    more_register part same room = grows_room (record node { register = part }) (record {
+      presence = ap (λ (z : Node). z.presence.0) is;
+      register = same ∙ ap (λ (z : Node). z.register.0) is;
+      counter = ap (λ (z : Node). z.counter.0) is;
+      order = ap (λ (z : Node). z.order.0) is;
+      presence_room = λ was. ap (λ (z : Node). z.presence.1) is ∙ was;
+      register_room = omega (arith, room, ap (λ (z : Node). z.register.1) is);
+      counter_room = omega (arith, ap (λ (z : Node). z.counter.1) is);
+      order_room = omega (arith, ap (λ (z : Node). z.order.1) is);
+      children = ap (λ (z : Node). z.children) is;
+      leads = ap (λ (z : Node). z.leads) is;
+    })
+
+    pub more_counter : (part : List (Id × ℤ) × ℕ) → part.0 ≡ node.counter.0 → node.counter.1 ≤ part.1 → Grows nodes (set nodes n.0 (record node { counter = part }))
+    more_counter part same room = grows_room (record node { counter = part }) (record {
+      presence = ap (λ (z : Node). z.presence.0) is;
+      register = ap (λ (z : Node). z.register.0) is;
+      counter = same ∙ ap (λ (z : Node). z.counter.0) is;
+      order = ap (λ (z : Node). z.order.0) is;
+      presence_room = λ was. ap (λ (z : Node). z.presence.1) is ∙ was;
+      register_room = omega (arith, ap (λ (z : Node). z.register.1) is);
+      counter_room = omega (arith, room, ap (λ (z : Node). z.counter.1) is);
+      order_room = omega (arith, ap (λ (z : Node). z.order.1) is);
+      children = ap (λ (z : Node). z.children) is;
+      leads = ap (λ (z : Node). z.leads) is;
+    })
+
+    pub more_order : (part : List (Id × Bool) × ℕ) → part.0 ≡ node.order.0 → node.order.1 ≤ part.1 → Grows nodes (set nodes n.0 (record node { order = part }))
+    more_order part same room = grows_room (record node { order = part }) (record {
+      presence = ap (λ (z : Node). z.presence.0) is;
+      register = ap (λ (z : Node). z.register.0) is;
+      counter = ap (λ (z : Node). z.counter.0) is;
+      order = same ∙ ap (λ (z : Node). z.order.0) is;
+      presence_room = λ was. ap (λ (z : Node). z.presence.1) is ∙ was;
+      register_room = omega (arith, ap (λ (z : Node). z.register.1) is);
+      counter_room = omega (arith, ap (λ (z : Node). z.counter.1) is);
+      order_room = omega (arith, room, ap (λ (z : Node). z.order.1) is);
+      children = ap (λ (z : Node). z.children) is;
+      leads = ap (λ (z : Node). z.leads) is;
+    })
 
 module _ (nodes : List Node) (tree : AreTree nodes) (n : NodeNumber) (within : n.0 < length nodes) (k : Key) (none : child_of nodes n k ≡ None)
     (number : NodeNumber) (next : number.0 ≡ length nodes) (fresh : Node) (is_fresh : IsFresh fresh) where

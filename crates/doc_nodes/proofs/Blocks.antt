@@ -393,6 +393,15 @@ blocks-cut blocks n h are within some more = record {
   rising = subst IsInKeyOrder (sym (joined-cut blocks n h within)) are.rising;
 }
 
+-- ---- what stands where bisection ends, in blocks that are read twice
+pub where_sought : (key : Key) (blocks far near : List (List (Key × NodeNumber))) (block place : ℕ) (result : Option NodeNumber) → far ≡ blocks → near ≡ blocks
+    → block ≡ block_rank key far → place ≡ key_rank (get_or far block []) key
+    → (block ≡ block_rank key near → place ≡ key_rank (get_or near block []) key → result ≡ number_at (joined near) key) → result ≡ number_at (joined blocks) key
+where_sought key blocks far near block place result is are here there found =
+    let same : far ≡ near = is ∙ sym are in
+    found (here ∙ ap (block_rank key) same) (there ∙ ap (λ (bs : List (List (Key × NodeNumber))). key_rank (get_or bs block []) key) same)
+    ∙ ap (λ (bs : List (List (Key × NodeNumber))). number_at (joined bs) key) are
+
 -- ---- what holds after a call that may be refused
 module _ {T E : Type 0} {P Q X : Type 0} where
   pub either_way : (r : Result T E) → (P → X) → (Q → X) → OnOk r P → OnErr r Q → X

@@ -1,7 +1,7 @@
 //! The nodes below a node, in the order of their keys.
 ghost use Rattle.std.specs.Ordering.{is_lt, nat_cmp};
 ghost use Rattle.std.specs.Cmp.Lexicographic.{slice_cmp};
-ghost use Rattle.std.specs.Prelude.{◌≡◌, ◌<◌, ◌≤◌, ◌+◌, ◌++◌, ◌∷◌, List, [], length, insert, take, drop, None, Some, OnOk, OnErr, IfOk, IfSome, IfNone, Contains, ◌⊎◌, slice_index_or, slice_set};
+ghost use Rattle.std.specs.Prelude.{◌≡◌, ◌<◌, ◌≤◌, ◌+◌, ◌++◌, ◌∷◌, List, [], length, insert, None, Some, OnOk, OnErr, IfOk, IfSome, IfNone, Contains, ◌⊎◌, slice_index_or, slice_set};
 ghost use Rattle.crdt_rules.specs.Same.{key_eq};
 ghost use Rattle.op_core.specs.declared.cursor.Key.{Key};
 ghost use Rattle.doc_nodes.specs.declared.node.NodeNumber.{NodeNumber};
@@ -118,7 +118,11 @@ impl Children {
         if let Some(number) = number_there(self.blocks.as_slice(), self.latest, key) {
             return Some(number);
         }
-        number_of(self.blocks.as_slice(), key)
+        number_there(
+            self.blocks.as_slice(),
+            spot_of(self.blocks.as_slice(), key),
+            key,
+        )
     }
 
     /// The same as `find` tells, which then finds the child at once. Who asks for one key after another in their order has each at
@@ -136,7 +140,7 @@ impl Children {
             return Some(number);
         }
         self.latest = spot_of(self.blocks.as_slice(), key);
-        number_found(self.blocks.as_slice(), self.latest, key)
+        number_there(self.blocks.as_slice(), self.latest, key)
     }
 
     /// The same as `find` tells, found at once where the child stands right behind the spot or right before it. The spot is
@@ -155,7 +159,7 @@ impl Children {
             return Some(number);
         }
         *spot = spot_of(self.blocks.as_slice(), key);
-        number_found(self.blocks.as_slice(), *spot, key)
+        number_there(self.blocks.as_slice(), *spot, key)
     }
 
     /// Adds a child at a key that has none, in the order of keys.
@@ -272,14 +276,6 @@ impl<'a> Iterator for EachChild<'a> {
     }
 }
 
-/// The number at a key, found by bisection: of the blocks, and of one block.
-fn number_of(blocks: &[Block], key: &Key) -> Option<NodeNumber>
-    requires { AreBlocks blocks.now }
-    ensures { result ≡ number_at (joined blocks.now) key.now }
-{
-    number_found(blocks, spot_of(blocks, key), key)
-}
-
 /// Where a key stands, or would stand, found by bisection.
 fn spot_of(blocks: &[Block], key: &Key) -> Spot
     requires { AreBlocks blocks.now }
@@ -296,32 +292,6 @@ fn spot_of(blocks: &[Block], key: &Key) -> Spot
             block: at,
             place: rank_of_key(block.entries.as_slice(), key),
         },
-    }
-}
-
-/// The number at a key, at the spot where bisection ends.
-fn number_found(blocks: &[Block], spot: Spot, key: &Key) -> Option<NodeNumber>
-    requires blocks { AreBlocks blocks.now }
-    requires block { spot.block ≡ block_rank key.now blocks.now }
-    requires place { spot.place ≡ KeyOrder.key_rank (slice_index_or blocks.now spot.block []) key.now }
-    ensures { result ≡ number_at (joined blocks.now) key.now }
-{
-    match blocks.get(spot.block) {
-        None => None,
-        Some(block) => number_in(block.entries.as_slice(), spot.place, key),
-    }
-}
-
-/// The number at a key in one block, at the place where bisection ends.
-fn number_in(entries: &[(Key, NodeNumber)], at: usize, key: &Key) -> Option<NodeNumber>
-    requires rising { IsInKeyOrder entries.now }
-    requires at { at ≡ KeyOrder.key_rank entries.now key.now }
-    ensures { result ≡ number_at entries.now key.now }
-{
-    if at < entries.len() && is_same_key(&entries[at].0, key) {
-        Some(entries[at].1)
-    } else {
-        None
     }
 }
 
@@ -367,10 +337,13 @@ fn spot_before(blocks: &[Block], spot: Spot) -> Spot {
     }
 }
 
-/// The number of the entry at a spot, if that is the one of the key.
+/// The number of the entry at a spot, if that is the one of the key. At the spot where bisection ends, it is what all blocks
+/// have at the key.
 fn number_there(blocks: &[Block], spot: Spot, key: &Key) -> Option<NodeNumber>
     requires { AreBlocks blocks.now }
-    ensures { IfSome result (λ number. number_at (joined blocks.now) key.now ≡ Some number) }
+    ensures found { IfSome result (λ number. number_at (joined blocks.now) key.now ≡ Some number) }
+    ensures sought { spot.block ≡ block_rank key.now blocks.now → spot.place ≡ KeyOrder.key_rank (slice_index_or blocks.now spot.block []) key.now
+        → result ≡ number_at (joined blocks.now) key.now }
 {
     match blocks.get(spot.block) {
         None => None,
@@ -378,9 +351,12 @@ fn number_there(blocks: &[Block], spot: Spot, key: &Key) -> Option<NodeNumber>
     }
 }
 
-/// The number of the entry at a place in one block, if that is the one of the key.
+/// The number of the entry at a place in one block, if that is the one of the key. At the place where bisection ends, it is
+/// what the block has at the key.
 fn number_here(entries: &[(Key, NodeNumber)], place: usize, key: &Key) -> Option<NodeNumber>
-    ensures { IfSome result (λ number. Contains entries.now (key.now, number)) }
+    requires { IsInKeyOrder entries.now }
+    ensures found { IfSome result (λ number. Contains entries.now (key.now, number)) }
+    ensures sought { place ≡ KeyOrder.key_rank entries.now key.now → result ≡ number_at entries.now key.now }
 {
     if place < entries.len() && is_same_key(&entries[place].0, key) {
         Some(entries[place].1)
@@ -426,16 +402,6 @@ fn cut(blocks: &mut Vec<Block>, at: usize, half: usize) -> Result<(), AllocError
     requires more { half < length (slice_index_or blocks.old.items at []) }
     ensures blocks { AreBlocks blocks.new.items }
     ensures same { joined blocks.new.items ≡ joined blocks.old.items }
-{
-    cut_at(blocks, at, half)
-}
-
-/// Cuts a block in two, and says what the blocks are then.
-fn cut_at(blocks: &mut Vec<Block>, at: usize, half: usize) -> Result<(), AllocError>
-    requires known { at < length blocks.old.items }
-    requires more { half < length (slice_index_or blocks.old.items at []) }
-    ensures ok { OnOk result (blocks.new.items ≡ insert (slice_set blocks.old.items at (take half (slice_index_or blocks.old.items at []))) (at + 1) (drop half (slice_index_or blocks.old.items at []))) }
-    ensures err { OnErr result (blocks.new.items ≡ blocks.old.items) }
 {
     blocks.reserve(1)?;
     let block = &mut blocks[at];

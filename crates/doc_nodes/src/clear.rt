@@ -10,10 +10,9 @@ ghost use Rattle.doc_nodes.specs.Marks.{keys_below, keys_to};
 ghost use Rattle.doc_nodes.specs.Backing.{AreBacked, AreBackedFrom};
 ghost use Rattle.doc_nodes.specs.Flags.{plain, AreFlagged, IsFlagged, IsFlaggedBut};
 
-use crate::finding::root_number;
 use crate::flag::{leads, stands, tell};
 use crate::mark::known_child;
-use crate::node::{Node, NodeNumber, element_in};
+use crate::node::{Node, NodeNumber, ROOT, element_in};
 use lamport_id::Id;
 use op_core::{Front, Key, Tagged};
 
@@ -66,8 +65,8 @@ pub fn clear_way(nodes: &mut [Node], path: &[Tagged], key: &Key, front: &Front)
     ensures flags { AreFlagged nodes.old → AreFlagged nodes.new }
 {
     match path.split_first() {
-        None => clear_under(nodes, root_number(), front),
-        Some((_, way)) => clear_below(nodes, root_number(), way, key, front),
+        None => clear_under(nodes, ROOT, front),
+        Some((_, way)) => clear_below(nodes, ROOT, way, key, front),
     }
 }
 

@@ -3,34 +3,21 @@ ghost use Rattle.std.specs.Prelude.{◌≡◌, Some, None, IsSome, option_and_th
 ghost use Rattle.op_core.specs.Shape.{may_follow};
 ghost use Rattle.crdt_rules.specs.Same.{key_eq};
 ghost use Rattle.op_core.specs.declared.cursor.Key.TheVariants.{Doc};
-ghost use Rattle.doc_nodes.specs.Walk.{trail_below, list_trail_below, walk, root};
+ghost use Rattle.doc_nodes.specs.Walk.{trail_below, list_trail_below, walk};
 ghost use Rattle.doc_nodes.specs.Nodes.{child_of, node_at, list_node_at};
 
-use crate::node::{Node, NodeNumber};
+use crate::node::{Node, NodeNumber, ROOT};
 use op_core::{Key, Path, Tagged};
-
-/// The number of the root.
-pub fn root_number() -> NodeNumber
-    ensures { result ≡ root }
-{
-    NodeNumber(0)
-}
 
 /// The node of a place.
 pub fn find(nodes: &[Node], path: &[Tagged], key: &Key) -> Option<NodeNumber>
     ensures { result ≡ node_at nodes.now path.now key.now }
 {
     match path.split_first() {
-        None => {
-            if is_doc(key) {
-                Some(root_number())
-            } else {
-                None
-            }
-        }
+        None => { if is_doc(key) { Some(ROOT) } else { None } }
         Some((first, way)) => {
             if is_doc(first.key()) {
-                find_below(nodes, root_number(), first, way, key)
+                find_below(nodes, ROOT, first, way, key)
             } else {
                 None
             }
@@ -65,7 +52,7 @@ pub fn find_list(nodes: &[Node], path: &[Tagged]) -> Option<NodeNumber>
         None => None,
         Some((first, way)) => {
             if is_doc(first.key()) {
-                find_list_below(nodes, root_number(), first, way)
+                find_list_below(nodes, ROOT, first, way)
             } else {
                 None
             }

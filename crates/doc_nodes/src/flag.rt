@@ -1,7 +1,7 @@
 //! Whether the elements of a list are present, as the list itself tells it.
-ghost use Rattle.std.specs.Prelude.{◌≡◌, ◌<◌, length, slice_set, Some};
+ghost use Rattle.std.specs.Prelude.{◌≡◌, ◌<◌, length, Some};
 ghost use Rattle.doc_nodes.specs.Nodes.{node_of};
-ghost use Rattle.doc_nodes.specs.Flags.{flagged, told};
+ghost use Rattle.doc_nodes.specs.Flags.{told};
 ghost use Rattle.doc_nodes.specs.Flags as Spec;
 
 use crate::node::{Node, NodeNumber};
@@ -15,7 +15,8 @@ pub fn tell(nodes: &mut [Node], at: NodeNumber, element: Option<Id>, child: Node
 {
     if let Some(id) = element {
         let is_present = stands(nodes, child);
-        flag(nodes, at, &id, is_present);
+        let node = &mut nodes[at.0];
+        node.order.set_present(id, is_present);
     }
 }
 
@@ -33,13 +34,4 @@ pub fn leads(nodes: &[Node], at: NodeNumber) -> bool
     ensures { result ≡ (node_of nodes.now at).leads }
 {
     nodes[at.0].leads
-}
-
-/// Says in the list of a node whether an element is present.
-fn flag(nodes: &mut [Node], at: NodeNumber, id: &Id, is_present: bool)
-    requires { at.0 < length nodes.old }
-    ensures { nodes.new ≡ slice_set nodes.old at.0 (flagged id.now is_present (node_of nodes.old at)) }
-{
-    let node = &mut nodes[at.0];
-    node.order.set_present(*id, is_present);
 }

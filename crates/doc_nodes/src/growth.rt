@@ -6,8 +6,7 @@ ghost use Rattle.doc_nodes.specs.Marks.{keys_below, keys_to};
 ghost use Rattle.doc_nodes.specs.Walk.{root};
 ghost use Rattle.doc_nodes.specs.Growth.{Grows, IsMade, with_child};
 
-use crate::finding::root_number;
-use crate::node::{Node, NodeNumber};
+use crate::node::{Node, NodeNumber, ROOT};
 use json_scalar::Refusal;
 use op_core::{Key, Tagged};
 
@@ -22,8 +21,8 @@ pub fn prepare_way(nodes: &mut Vec<Node>, path: &[Tagged], key: &Key) -> Result<
     ensures memory { IfErr result (λ cause. cause ≡ NoMemory) }
 {
     match path.split_first() {
-        None => reserve_presence(nodes, root_number()),
-        Some((_, way)) => prepare_below(nodes, root_number(), way, key),
+        None => reserve_presence(nodes, ROOT),
+        Some((_, way)) => prepare_below(nodes, ROOT, way, key),
     }
 }
 
@@ -66,41 +65,12 @@ pub fn reserve_value(nodes: &mut Vec<Node>, at: NodeNumber, adds: bool) -> Resul
     ensures counter { adds ≡ true → OnOk result (length (node_of nodes.new.items at).counter.0 < (node_of nodes.new.items at).counter.1) }
     ensures memory { IfErr result (λ cause. cause ≡ NoMemory) }
 {
+    let node = &mut nodes[at.0];
     if adds {
-        reserve_counter(nodes, at)
+        Ok(node.counter.reserve_one()?)
     } else {
-        reserve_register(nodes, at)
+        Ok(node.register.reserve_one()?)
     }
-}
-
-/// Makes room for one more number in the counter of a node.
-fn reserve_counter(nodes: &mut Vec<Node>, at: NodeNumber) -> Result<(), Refusal>
-    requires tree { AreTree nodes.old.items }
-    requires known { at.0 < length nodes.old.items }
-    ensures tree { AreTree nodes.new.items }
-    ensures grows { Grows nodes.old.items nodes.new.items }
-    ensures none { length nodes.new.items ≡ length nodes.old.items }
-    ensures room { OnOk result (length (node_of nodes.new.items at).counter.0 < (node_of nodes.new.items at).counter.1) }
-    ensures memory { IfErr result (λ cause. cause ≡ NoMemory) }
-{
-    let node = &mut nodes[at.0];
-    node.counter.reserve_one()?;
-    Ok(())
-}
-
-/// Makes room for one more scalar in the register of a node.
-fn reserve_register(nodes: &mut Vec<Node>, at: NodeNumber) -> Result<(), Refusal>
-    requires tree { AreTree nodes.old.items }
-    requires known { at.0 < length nodes.old.items }
-    ensures tree { AreTree nodes.new.items }
-    ensures grows { Grows nodes.old.items nodes.new.items }
-    ensures none { length nodes.new.items ≡ length nodes.old.items }
-    ensures room { OnOk result (length (node_of nodes.new.items at).register.0 < (node_of nodes.new.items at).register.1) }
-    ensures memory { IfErr result (λ cause. cause ≡ NoMemory) }
-{
-    let node = &mut nodes[at.0];
-    node.register.reserve_one()?;
-    Ok(())
 }
 
 /// Makes room for one more id in the list of a node.
@@ -160,7 +130,7 @@ fn new_child(nodes: &mut Vec<Node>, at: NodeNumber, key: &Key) -> Result<NodeNum
     ensures child { IfOk result (λ c. child_of nodes.new.items at key.now ≡ Some c) }
     ensures memory { IfErr result (λ cause. cause ≡ NoMemory) }
 {
-    let key = key_copy(key)?;
+    let key = key.try_clone()?;
     let fresh = Node::new(*nodes.allocator());
     let number = NodeNumber(nodes.len());
     add_child(nodes, at, key, fresh)?;
@@ -175,14 +145,6 @@ fn seek_child(nodes: &mut Vec<Node>, at: NodeNumber, key: &Key) -> Option<NodeNu
 {
     let children = &mut nodes[at.0].children;
     children.seek(key)
-}
-
-/// A copy of a key.
-fn key_copy(key: &Key) -> Result<Key, Refusal>
-    ensures ok { IfOk result (λ k. k ≡ key.now) }
-    ensures memory { IfErr result (λ cause. cause ≡ NoMemory) }
-{
-    Ok(key.try_clone()?)
 }
 
 /// Adds a node as the child of another.

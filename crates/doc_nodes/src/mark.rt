@@ -8,9 +8,8 @@ ghost use Rattle.doc_nodes.specs.Marks.{marked, keys_below, keys_to, HasRoomAlon
 ghost use Rattle.doc_nodes.specs.Marks as Marks;
 ghost use Rattle.doc_nodes.specs.Flags.{plain, AreFlagged, AreFlaggedBut, IsFlaggedBut};
 
-use crate::finding::root_number;
 use crate::flag::tell;
-use crate::node::{Node, NodeNumber, element_in};
+use crate::node::{Node, NodeNumber, ROOT, element_in};
 use lamport_id::Id;
 use op_core::{Key, Tagged};
 use presence_set::Role;
@@ -23,8 +22,8 @@ pub fn mark_way(nodes: &mut [Node], path: &[Tagged], key: &Key, id: &Id, role: R
         → AreFlaggedBut nodes.old m → AreFlagged nodes.new }
 {
     match path.split_first() {
-        None => mark(nodes, root_number(), id, role),
-        Some((_, way)) => mark_below(nodes, root_number(), way, key, id, role),
+        None => mark(nodes, ROOT, id, role),
+        Some((_, way)) => mark_below(nodes, ROOT, way, key, id, role),
     }
 }
 

@@ -14,6 +14,9 @@ use std::alloc::Global;
 #[derive(Clone, Copy)]
 pub struct NodeNumber(pub usize);
 
+/// The number of the root.
+pub const ROOT: NodeNumber = NodeNumber(0);
+
 /// The scalars that operations put at a place.
 pub type Register = ById<Scalar>;
 

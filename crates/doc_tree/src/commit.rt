@@ -42,28 +42,15 @@ pub fn apply(nodes: &mut [Node], aside: Option<Scalar>, op: &Operation)
     ensures backed { AreBacked nodes.new }
 {
     let cursor = op.cursor();
+    let path = keys(&cursor.path);
+    let key = &cursor.key;
+    let front = op.front();
     let id = op.id();
     match op.mutation() {
-        Mutation::Assign(val) => put_at(
-            nodes,
-            keys(&cursor.path),
-            &cursor.key,
-            op.front(),
-            &id,
-            role_for(val),
-            aside,
-        ),
-        Mutation::Insert(val) => insert_at(
-            nodes,
-            keys(&cursor.path),
-            &cursor.key,
-            op.front(),
-            &id,
-            role_for(val),
-            aside,
-        ),
-        Mutation::Delete => clear_at(nodes, keys(&cursor.path), &cursor.key, op.front()),
-        Mutation::Add(n) => add_at(nodes, keys(&cursor.path), &cursor.key, &id, *n),
+        Mutation::Assign(val) => put_at(nodes, path, key, front, &id, role_for(val), aside),
+        Mutation::Insert(val) => insert_at(nodes, path, key, front, &id, role_for(val), aside),
+        Mutation::Delete => clear_at(nodes, path, key, front),
+        Mutation::Add(n) => add_at(nodes, path, key, &id, *n),
     }
 }
 
@@ -86,13 +73,6 @@ fn reference_in(key: &Key) -> Option<Id>
         Key::Element(id) => Some(*id),
         _ => None,
     }
-}
-
-/// The key of an element.
-pub fn element_key(id: &Id) -> Key
-    ensures { result ≡ Element id.now }
-{
-    Key::Element(*id)
 }
 
 /// Clears a place and what is below it, if it has a node.
@@ -136,7 +116,7 @@ pub fn insert_at(
 {
     let at = known_list(nodes, path);
     link(nodes, at, reference_in(after), id);
-    let key = element_key(id);
+    let key = Key::Element(*id);
     put_at(nodes, path, &key, front, id, role, scalar);
 }
 

@@ -1,14 +1,13 @@
 -- The last slot of a path, if its id is present, has the last of the present ids.
-use Rattle.std.proofs.Common.{◌≡◌, ℕ, suc, zero, inl, inr, List, [], ◌∷◌, Bool, true, false, Option, Some, None, slice_get, Contains, refl, sym, ap, subst, ◌∙◌, if◌then◌else◌}
+use Rattle.std.proofs.Common.{◌≡◌, ℕ, suc, inl, inr, List, [], ◌∷◌, Bool, true, false, Option, Some, None, slice_get, Contains, refl, sym, ap, subst, ◌∙◌, if◌then◌else◌}
 use Rattle.doc_words.specs.Words.{Id}
 use Rattle.list_laws.proofs.Members.{Contains-nil, Contains-here, Contains-there, Contains-cases}
 use Rattle.crdt_rules.proofs.Tests.{some_same, some≢none}
-use Rattle.presence_set.specs.ById.{get}
 use Rattle.crdt_rules.specs.Same.{id_eq}
 use Rattle.list_order.specs.declared.marks.Mark.{Mark}
 use Rattle.list_order.specs.declared.slots.Slot.{Slot}
 use Rattle.list_order.specs.declared.slots.SlotNumber.{SlotNumber}
-use Rattle.list_order.specs.Slots.{slot_at, slots_from, number_along, IsPath}
+use Rattle.list_order.specs.Slots.{slot_at, number_along, IsPath}
 use Rattle.list_order.specs.Marks.{mark_at, count_where, is_marked, present_along}
 
 module _ (slots : List Slot) (marks : List Mark) (n : SlotNumber) where

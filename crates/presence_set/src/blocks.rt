@@ -263,15 +263,8 @@ fn drop_empty<X: Drop>(blocks: &mut Vec<ById<X>>)
     blocks.retain(
         |block: &ById<X>| -> bool
             ensures { result ≡ has_pair block.now.0 }
-        { has_pair(block) },
+        { !block.entries().is_empty() },
     );
-}
-
-/// Whether a block isn't empty.
-fn has_pair<X: Drop>(block: &ById<X>) -> bool
-    ensures { result ≡ has_pair block.now.0 }
-{
-    block.entries().split_first().is_some()
 }
 
 /// Makes room for one more id in each block that may lack it.
@@ -306,17 +299,6 @@ fn make_room_in_front<X: Drop>(
     ensures room { OnOk result (HasSpareRoom first.new × AllHaveRoom rest.new.items) }
 {
     make_room_in_first(first, rest)?;
-    make_room_in_second(rest)
-}
-
-/// Makes room for one more id in the first of the other blocks, if there is one.
-fn make_room_in_second<X: Drop>(rest: &mut Vec<ById<X>>) -> Result<(), AllocError>
-    requires filled { AreNonEmpty rest.old.items }
-    requires later { AllHaveRoom (drop 1 rest.old.items) }
-    ensures same { pairs_in rest.new.items ≡ pairs_in rest.old.items }
-    ensures filled { AreNonEmpty rest.new.items }
-    ensures room { OnOk result (AllHaveRoom rest.new.items) }
-{
     if rest.is_empty() {
         return Ok(());
     }
@@ -351,7 +333,7 @@ fn make_room_in_first<X: Drop>(
     if first.has_room() {
         return Ok(());
     }
-    match cut_place(first.len(), rest.is_empty()) {
+    match cut_place(first.entries().len(), rest.is_empty()) {
         None => first.reserve_one(),
         Some(place) => cut_first(first, rest, place),
     }
@@ -422,7 +404,7 @@ fn make_room_at<X: Drop>(rest: &mut Vec<ById<X>>, at: usize) -> Result<(), Alloc
     if rest[at].has_room() {
         return Ok(());
     }
-    match cut_place(rest[at].len(), at + 1 == rest.len()) {
+    match cut_place(rest[at].entries().len(), at + 1 == rest.len()) {
         None => grow_at(rest, at),
         Some(place) => cut_at(rest, at, place),
     }

@@ -113,13 +113,6 @@ impl<X: Drop> ById<X> {
         self.entries.is_empty()
     }
 
-    /// How many ids there are.
-    fn len(&self) -> usize
-        ensures { result ≡ length self.now.0 }
-    {
-        self.entries.len()
-    }
-
     /// Whether there is room for one more id.
     fn has_room(&self) -> bool
         ensures { IsTrue result ↔ (length self.now.0 < self.now.1) }
@@ -135,11 +128,12 @@ impl<X: Drop> ById<X> {
         self.entries.as_slice()
     }
 
-    /// Whether something stands at the id.
+    /// Whether something stands at the id. It is found by bisection.
     pub fn contains(&self, id: Id) -> bool
         ensures { result ≡ contains self.now.0 id }
     {
-        self.entries.iter().any(|entry| entry.0 == id)
+        let at = rank_of(self.entries.as_slice(), &id);
+        at < self.entries.len() && self.entries[at].0 == id
     }
 }
 

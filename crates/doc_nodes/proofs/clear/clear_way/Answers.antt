@@ -1,27 +1,26 @@
-use Rattle.std.proofs.Common.{◌≡◌, ◌<◌, ◌∙◌, [], length, sym, ap, subst, Option, Some}
+use Rattle.std.proofs.Common.{◌≡◌, ◌∙◌, [], sym, ap, subst, Option, Some}
 use Rattle.std.specs.Prelude.{IsSome}
 use Rattle.std.proofs.lemmas.List.{nil_from_length}
 use Rattle.doc_nodes.specs.declared.node.NodeNumber.{NodeNumber}
 use Rattle.doc_nodes.specs.Walk.{walk, root}
 use Rattle.doc_nodes.specs.Nodes.{child_of, ClearsUnder}
 use Rattle.doc_nodes.specs.Marks.{keys_below, keys_to}
-use Rattle.doc_nodes.specs.Flags.{plain, IsFlaggedBut}
+use Rattle.doc_nodes.specs.Flags.{plain}
 use Rattle.doc_nodes.proofs.Clearing.{same_children}
 use Rattle.doc_nodes.proofs.Plain.{shape_of-plain, tree_same}
 use Rattle.doc_nodes.proofs.Flagging.{flagged-but_root}
 use Rattle.doc_nodes.proofs.clear.clear_way.Goals as goal
 
 pub clear_under-requires-clause-known : goal.clear_under-requires-clause-known
-clear_under-requires-clause-known c = subst (λ (n : NodeNumber). n.0 < length c.args.nodes.now) (sym c.root_number.ensures) c.requires.tree.rooted
+clear_under-requires-clause-known c = c.requires.tree.rooted
 
 pub clear_below-requires-clause-known : goal.clear_below-requires-clause-known
-clear_below-requires-clause-known c = subst (λ (n : NodeNumber). n.0 < length c.args.nodes.now) (sym c.root_number-in-Some.ensures) c.requires.tree.rooted
+clear_below-requires-clause-known c = c.requires.tree.rooted
 
 pub clear_below-requires-clause-reached : goal.clear_below-requires-clause-reached
 clear_below-requires-clause-reached c =
     let keys : keys_to c.args.path.now c.args.key.now ≡ keys_below c.in-Some.way.now c.args.key.now = ap (λ p. keys_to p c.args.key.now) c.in-Some.ensures.cases.0 in
-    subst (λ n. IsSome (walk (child_of c.args.nodes.now) n (keys_below c.in-Some.way.now c.args.key.now))) (sym c.root_number-in-Some.ensures)
-    (subst (λ l. IsSome (walk (child_of c.args.nodes.now) root l)) keys c.requires.reached)
+    subst (λ l. IsSome (walk (child_of c.args.nodes.now) root l)) keys c.requires.reached
 
 pub returns-in-None-clause-clears : goal.returns-in-None-clause-clears
 returns-in-None-clause-clears c = λ m way.
@@ -29,7 +28,7 @@ returns-in-None-clause-clears c = λ m way.
     let keys : keys_to c.args.path.now c.args.key.now ≡ [] = ap (λ p. keys_to p c.args.key.now) (nil_from_length c.args.path.now c.in-None.ensures.cases) in
     let there : ◌≡◌ {A = Option NodeNumber} (Some root) (Some m) = subst (λ l. walk (child_of nodes) root l ≡ Some m) keys way in
     let same : root ≡ m = cc in
-    subst (λ z. ClearsUnder c.args.front.now (plain nodes) (plain c.clear_under.new.nodes) z) (c.root_number.ensures ∙ same) c.clear_under.ensures.clears
+    subst (λ z. ClearsUnder c.args.front.now (plain nodes) (plain c.clear_under.new.nodes) z) same c.clear_under.ensures.clears
 
 pub returns-in-None-clause-flags : goal.returns-in-None-clause-flags
 returns-in-None-clause-flags c = λ right n i.
@@ -37,14 +36,14 @@ returns-in-None-clause-flags c = λ right n i.
     let new = c.clear_under.new.nodes in
     let shape = shape_of-plain nodes new (same_children c.args.front.now (plain nodes) (plain new) c.clear_under.ensures.clears.each) in
     flagged-but_root new (tree_same nodes new c.clear_under.auto.nodes shape c.requires.tree) n i
-    (subst (λ z. IsFlaggedBut new z n i) c.root_number.ensures (c.clear_under.ensures.flags n i (right n i)))
+    (c.clear_under.ensures.flags n i (right n i))
 
 pub returns-in-Some-clause-clears : goal.returns-in-Some-clause-clears
 returns-in-Some-clause-clears c = λ m way.
     let nodes = c.args.nodes.now in
     let keys : keys_to c.args.path.now c.args.key.now ≡ keys_below c.in-Some.way.now c.args.key.now = ap (λ p. keys_to p c.args.key.now) c.in-Some.ensures.cases.0 in
     c.clear_below.ensures.clears m
-    (ap (λ n. walk (child_of nodes) n (keys_below c.in-Some.way.now c.args.key.now)) c.root_number-in-Some.ensures ∙ ap (walk (child_of nodes) root) (sym keys) ∙ way)
+    (ap (walk (child_of nodes) root) (sym keys) ∙ way)
 
 pub returns-in-Some-clause-flags : goal.returns-in-Some-clause-flags
 returns-in-Some-clause-flags c = λ right n i. c.clear_below.ensures.flags n i (right n i)

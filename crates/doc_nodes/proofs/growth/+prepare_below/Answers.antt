@@ -9,6 +9,28 @@ use Rattle.doc_nodes.proofs.Growing.{grows_twice}
 use Rattle.doc_nodes.proofs.Made.{made_end, made_step, room_kept}
 use Rattle.doc_nodes.proofs.growth.+prepare_below.Goals as goal
 
+pub returns-in_err-end-in-None-clause-grows : goal.returns-in_err-end-in-None-clause-grows
+returns-in_err-end-in-None-clause-grows t c =
+    grows_twice c.args.nodes.now.items c.reserve_presence.new.nodes.items c.grown_child.new.nodes.items c.in_ok-reserve_presence.ensures.grows c.grown_child.ensures.grows
+
+pub returns-in_ok-end-in-None-clause-grows : goal.returns-in_ok-end-in-None-clause-grows
+returns-in_ok-end-in-None-clause-grows t c =
+    let old = c.args.nodes.now.items in
+    let second = c.grown_child.new.nodes.items in
+    grows_twice old second c.reserve_presence-in-None.new.nodes.items
+    (grows_twice old c.reserve_presence.new.nodes.items second c.in_ok-reserve_presence.ensures.grows c.in_ok-end-in-None.ensures.grows) c.reserve_presence-in-None.ensures.grows
+
+pub returns-in_err-below-in-Some-clause-grows : goal.returns-in_err-below-in-Some-clause-grows
+returns-in_err-below-in-Some-clause-grows t c =
+    grows_twice c.args.nodes.now.items c.reserve_presence.new.nodes.items c.grown_child-in-Some.new.nodes.items c.in_ok-reserve_presence.ensures.grows c.grown_child-in-Some.ensures.grows
+
+pub returns-in_ok-below-in-Some-clause-grows : goal.returns-in_ok-below-in-Some-clause-grows
+returns-in_ok-below-in-Some-clause-grows t c =
+    let old = c.args.nodes.now.items in
+    let second = c.grown_child-in-Some.new.nodes.items in
+    grows_twice old second c.prepare_below.new.nodes.items
+    (grows_twice old c.reserve_presence.new.nodes.items second c.in_ok-reserve_presence.ensures.grows c.in_ok-below-in-Some.ensures.grows) c.prepare_below.ensures.grows
+
 pub returns-in_ok-end-in-None-clause-ok : goal.returns-in_ok-end-in-None-clause-ok
 returns-in_ok-end-in-None-clause-ok t c =
     let first = c.reserve_presence.new.nodes.items in

@@ -1,8 +1,7 @@
-use Rattle.std.proofs.Common.{◌≡◌, [], sym, ap, subst, true}
+use Rattle.std.proofs.Common.{◌≡◌, [], sym, ap, subst}
 use Rattle.std.proofs.lemmas.List.{nil_from_length}
 use Rattle.std.proofs.lemmas.Result.{on_ok_weaker}
 use Rattle.doc_nodes.specs.Walk.{root}
-use Rattle.doc_nodes.specs.Nodes.{node_of}
 use Rattle.doc_nodes.specs.Marks.{keys_to}
 use Rattle.doc_nodes.specs.Growth.{IsMade}
 use Rattle.doc_nodes.proofs.Made.{made_end}
@@ -14,5 +13,5 @@ returns-in-None-clause-ok c =
     let keys : keys_to c.args.path.now c.args.key.now ≡ [] = ap (λ p. keys_to p c.args.key.now) (nil_from_length c.args.path.now c.in-None.ensures.cases) in
     on_ok_weaker c.reserve_presence.result
     (λ room. subst (IsMade new root) (sym keys)
-    (made_end new root (subst (λ n. (node_of new n).presence.1 ≡ true) c.root_number.ensures room)))
+    (made_end new root room))
     c.reserve_presence.ensures.room

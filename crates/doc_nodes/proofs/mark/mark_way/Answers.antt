@@ -1,4 +1,4 @@
-use Rattle.std.proofs.Common.{◌≡◌, ◌∙◌, [], sym, ap, subst, set, refl, Option, Some, true}
+use Rattle.std.proofs.Common.{◌≡◌, ◌∙◌, [], sym, ap, subst, set, refl, Option, Some}
 use Rattle.std.proofs.lemmas.List.{nil_from_length}
 use Rattle.doc_nodes.specs.declared.node.NodeNumber.{NodeNumber}
 use Rattle.doc_nodes.specs.Walk.{walk, root}
@@ -12,14 +12,12 @@ use Rattle.doc_nodes.proofs.mark.mark_way.Goals as goal
 
 pub mark-requires-clause-room : goal.mark-requires-clause-room
 mark-requires-clause-room c =
-    subst (λ n. (node_of c.args.nodes.now n).presence.1 ≡ true) (sym c.root_number.ensures)
-    (c.requires.room [] (keys_to c.args.path.now c.args.key.now) root refl refl)
+    c.requires.room [] (keys_to c.args.path.now c.args.key.now) root refl refl
 
 pub returns-in-None-clause-marks : goal.returns-in-None-clause-marks
 returns-in-None-clause-marks c =
     let nodes = c.args.nodes.now in
-    let is : c.mark.new.nodes ≡ set nodes 0 (marked c.args.id.now c.args.role (node_of nodes root)) =
-    c.mark.ensures ∙ ap (λ n. set nodes n.0 (marked c.args.id.now c.args.role (node_of nodes n))) c.root_number.ensures in
+    let is : c.mark.new.nodes ≡ set nodes 0 (marked c.args.id.now c.args.role (node_of nodes root)) = c.mark.ensures in
     let last : keys_to c.args.path.now c.args.key.now ≡ [] = ap (λ p. keys_to p c.args.key.now) (nil_from_length c.args.path.now c.in-None.ensures.cases) in
     subst (λ l. MarksAlong c.args.id.now c.args.role (plain nodes) (plain c.mark.new.nodes) root l) (sym last)
     (marks_end c.args.id.now c.args.role nodes c.mark.new.nodes root c.requires.within is)
@@ -27,8 +25,7 @@ returns-in-None-clause-marks c =
 pub returns-in-None-clause-flags : goal.returns-in-None-clause-flags
 returns-in-None-clause-flags c = λ m way but n i.
     let nodes = c.args.nodes.now in
-    let is : c.mark.new.nodes ≡ set nodes 0 (marked c.args.id.now c.args.role (node_of nodes root)) =
-    c.mark.ensures ∙ ap (λ n. set nodes n.0 (marked c.args.id.now c.args.role (node_of nodes n))) c.root_number.ensures in
+    let is : c.mark.new.nodes ≡ set nodes 0 (marked c.args.id.now c.args.role (node_of nodes root)) = c.mark.ensures in
     let last : keys_to c.args.path.now c.args.key.now ≡ [] = ap (λ p. keys_to p c.args.key.now) (nil_from_length c.args.path.now c.in-None.ensures.cases) in
     let there : ◌≡◌ {A = Option NodeNumber} (Some root) (Some m) = subst (λ l. walk (child_of nodes) root l ≡ Some m) last way in
     let same : root ≡ m = cc in
@@ -41,17 +38,14 @@ pub returns-in-Some-clause-marks : goal.returns-in-Some-clause-marks
 returns-in-Some-clause-marks c =
     let keys : keys_to c.args.path.now c.args.key.now ≡ keys_below c.in-Some.way.now c.args.key.now = ap (λ p. keys_to p c.args.key.now) c.in-Some.ensures.cases.0 in
     subst (λ l. MarksAlong c.args.id.now c.args.role (plain c.args.nodes.now) (plain c.mark_below.new.nodes) root l) (sym keys)
-    (subst (λ n. MarksAlong c.args.id.now c.args.role (plain c.args.nodes.now) (plain c.mark_below.new.nodes) n (keys_below c.in-Some.way.now c.args.key.now)) c.root_number-in-Some.ensures
-    c.mark_below.ensures.marks)
+    c.mark_below.ensures.marks
 
 pub returns-in-Some-clause-flags : goal.returns-in-Some-clause-flags
 returns-in-Some-clause-flags c = λ m way but n i.
     let nodes = c.args.nodes.now in
     let new = c.mark_below.new.nodes in
-    let start : c.root_number-in-Some.result ≡ root = c.root_number-in-Some.ensures in
     let keys : keys_to c.args.path.now c.args.key.now ≡ keys_below c.in-Some.way.now c.args.key.now = ap (λ p. keys_to p c.args.key.now) c.in-Some.ensures.cases.0 in
-    let there : walk (child_of nodes) c.root_number-in-Some.result (keys_below c.in-Some.way.now c.args.key.now) ≡ Some m =
-    ap (λ n. walk (child_of nodes) n (keys_below c.in-Some.way.now c.args.key.now)) start ∙ ap (walk (child_of nodes) root) (sym keys) ∙ way in
+    let there : walk (child_of nodes) root (keys_below c.in-Some.way.now c.args.key.now) ≡ Some m = ap (walk (child_of nodes) root) (sym keys) ∙ way in
     let shape = shape_of-plain nodes new c.mark_below.ensures.marks.shape in
     flagged-but_root new (tree_same nodes new c.mark_below.auto.nodes shape c.requires.tree) n i
-    (subst (λ z. IsFlaggedBut new z n i) start (c.mark_below.ensures.flags m there n i (but n i)))
+    (c.mark_below.ensures.flags m there n i (but n i))

@@ -1,10 +1,15 @@
-use Rattle.std.proofs.Common.{◌≡◌, ◌<◌, ◌∙◌, ℕ, sym, ap, subst, length, Contains, None, min}
+use Rattle.std.proofs.Common.{◌≡◌, ◌<◌, ◌∙◌, ℕ, List, Option, sym, ap, subst, length, Contains, None, min, arith}
 use Rattle.std.specs.Option.{ForSome}
+use Rattle.std.proofs.lemmas.List.{length-map}
+use Rattle.lamport_id.specs.declared.id.Id.{Id}
 use Rattle.presence_set.specs.ById.{put_at_id}
+use Rattle.list_order.specs.declared.slots.Slot.{Slot}
 use Rattle.list_order.specs.declared.slots.SlotNumber.{SlotNumber}
+use Rattle.list_order.specs.declared.marks.Mark.{Mark}
+use Rattle.list_order.specs.declared.marks.MarkBlock.{MarkBlock}
 use Rattle.list_order.specs.Entries.{ids_of}
 use Rattle.list_order.specs.Slots.{behind, ids_along, number_for, passed, slots_from, LinksEnd}
-use Rattle.list_order.specs.Marks.{IsCounted, IsRecut}
+use Rattle.list_order.specs.Marks.{entries_along, IsCounted, IsMarkedOrder, IsRecut}
 use Rattle.list_order.proofs.Placing.{ids_of-entries}
 use Rattle.list_order.proofs.Scanning.{passed_within}
 use Rattle.list_order.proofs.Inserting.{first_walk, number_from_absent, reference_within, reference_walk}
@@ -14,6 +19,14 @@ use Rattle.list_order.proofs.linked.LinkedOrder.insert_by_rule.Goals as goal
 
 abbrev number : ℕ → SlotNumber
 number n = record { 0 = n }
+
+-- where there is room for one more entry, there is room in each list
+room_in_each : {slots : List Slot} {first : Option SlotNumber} {index : List (Id × SlotNumber)} {marks : List Mark} {blocks : List MarkBlock} {present : ℕ}
+    → IsMarkedOrder slots first index marks blocks present → (a b c : ℕ) → length (entries_along slots marks (slots_from slots first)) < min a (min b c)
+    → (length slots < a) × (length index < b) × (length marks < c)
+room_in_each {slots} {first} {index} {marks} kept a b c room =
+    let held : length (entries_along slots marks (slots_from slots first)) ≡ length slots = length-map (slots_from slots first) _ ∙ kept.order.every in
+    (omega (arith, room, held), omega (arith, room, held, kept.order.indexed), omega (arith, room, held, kept.marked))
 
 pub last_passed-previous-requires-clause-known : goal.last_passed-previous-requires-clause-known
 last_passed-previous-requires-clause-known c =
@@ -34,6 +47,18 @@ last_passed-previous-requires-clause-walk c =
     let at : c.number_for-reference.result ≡ number_for c.self.inside.index.items c.args.after = c.number_for-reference.ensures ∙ ap (λ l. number_for l c.args.after) c.as_slice.ensures.value in
     subst (λ l. LinksEnd l (behind l first c.number_for-reference.result)) (sym c.as_slice-2.ensures.value)
     (reference_walk c.self.invariant.order c.args.after c.number_for-reference.result (sym at))
+
+pub add_mark-requires-clause-room : goal.add_mark-requires-clause-room
+add_mark-requires-clause-room c =
+    (room_in_each c.self.invariant c.self.inside.slots.cap c.self.inside.index.cap c.self.inside.marks.cap (rw (← c.self.view_is) at c.requires.room)).2
+
+pub link-requires-clause-room : goal.link-requires-clause-room
+link-requires-clause-room c =
+    (room_in_each c.self.invariant c.self.inside.slots.cap c.self.inside.index.cap c.self.inside.marks.cap (rw (← c.self.view_is) at c.requires.room)).0
+
+pub add_entry-requires-clause-room : goal.add_entry-requires-clause-room
+add_entry-requires-clause-room c =
+    (room_in_each c.self.invariant c.self.inside.slots.cap c.self.inside.index.cap c.self.inside.marks.cap (rw (← c.self.view_is) at c.requires.room)).1
 
 pub add_mark-requires-clause-known : goal.add_mark-requires-clause-known
 add_mark-requires-clause-known c =
@@ -74,6 +99,24 @@ add_entry-requires-clause-new c =
     let ids : ids_of c.args.self.now.0 ≡ ids_along c.self.inside.slots.items (slots_from c.self.inside.slots.items c.self.inside.first) = ap (λ v. ids_of v.0) (sym c.self.view_is) ∙ ids_of-entries slots marks (slots_from slots first) in
     let new = number_from_absent slots (slots_from slots first) c.args.id (λ x. c.requires.new (subst (λ l. Contains l c.args.id) (sym ids) x)) in
     c.self.invariant.order.exact c.args.id ∙ new
+
+pub recut_if_due-requires-clause-marked : goal.recut_if_due-requires-clause-marked
+recut_if_due-requires-clause-marked c =
+    let slots = c.self.inside.slots.items in
+    let first = c.self.inside.first in
+    let index = c.self.inside.index.items in
+    let marks = c.self.inside.marks.items in
+    let at : c.number_for-reference.result ≡ number_for c.self.inside.index.items c.args.after = c.number_for-reference.ensures ∙ ap (λ l. number_for l c.args.after) c.as_slice.ensures.value in
+    let last : c.last_passed-previous.result ≡ passed c.self.inside.slots.items c.args.id c.number_for-reference.result (slots_from c.self.inside.slots.items (behind c.self.inside.slots.items c.self.inside.first c.number_for-reference.result)) =
+    c.last_passed-previous.ensures ∙ ap (λ l. passed l c.args.id c.number_for-reference.result (slots_from l (behind l c.self.inside.first c.number_for-reference.result))) c.as_slice-2.ensures.value in
+    let ids : ids_of c.args.self.now.0 ≡ ids_along c.self.inside.slots.items (slots_from c.self.inside.slots.items c.self.inside.first) = ap (λ v. ids_of v.0) (sym c.self.view_is) ∙ ids_of-entries slots marks (slots_from slots first) in
+    let known = subst (λ l. ForSome c.args.after (Contains l)) ids c.requires.known in
+    let new = number_from_absent slots (slots_from slots first) c.args.id (λ x. c.requires.new (subst (λ l. Contains l c.args.id) (sym ids) x)) in
+    let made = kept_made c.self.invariant c.args.after known c.args.id new c.number_for-reference.result at c.last_passed-previous.result last
+    c.link.new.slots.items c.link.ensures.slots c.link.new.first c.link.ensures.first
+    c.add_entry.new.index.items (c.add_entry.ensures.items ∙ ap (λ n. put_at_id index c.args.id (number n)) (c.len.ensures ∙ c.self.inside.slots.ok.0)) c.add_entry.ensures.len
+    c.add_mark.new.marks.items c.add_mark.ensures.items in
+    subst (λ l. length c.add_mark.new.marks.items ≡ length l) (sym c.as_slice-3.ensures.value) made.0.marked
 
 pub recut_if_due-requires-clause-walk : goal.recut_if_due-requires-clause-walk
 recut_if_due-requires-clause-walk c =

@@ -1,4 +1,4 @@
-use Rattle.std.proofs.Common.{rules, ◌≡◌, ◌<◌, ◌-◌, ℕ, true, false, None, Some, Contains, length, slice_get, arith, sym, ap, ◌∙◌}
+use Rattle.std.proofs.Common.{rules, ◌≡◌, ◌<◌, ◌-◌, true, None, Some, Contains, length, slice_get, arith, sym, ap, ◌∙◌}
 use Rattle.list_order.specs.declared.slots.SlotNumber.{SlotNumber}
 use Rattle.list_order.specs.Entries.{present_of}
 use Rattle.list_order.specs.Slots.{slot_at, slots_from}
