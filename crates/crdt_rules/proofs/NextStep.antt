@@ -10,7 +10,7 @@ use Rattle.op_core.specs.declared.mutation.Mutation.{Mutation}
 use Rattle.op_core.specs.Op.{Op}
 use Rattle.op_core.specs.Front.{covers}
 use Rattle.lamport_id.specs.Order.{id_cmp}
-use Rattle.list_laws.specs.Order.{ids, IsKnown, order_of}
+use Rattle.list_laws.specs.Order.{IsKnown, order_of}
 use Rattle.list_laws.proofs.Histories.{order_of_history}
 use Rattle.crdt_rules.specs.Same.{id_eq, path_eq}
 use Rattle.crdt_rules.specs.Effect.{clears, marks, is_insertion, scalar_put, number_added, path_of}

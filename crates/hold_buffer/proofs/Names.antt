@@ -1,5 +1,5 @@
 -- Ids of different replicas, by rising name.
-use Rattle.std.proofs.Common.{◌≡◌, ◌≢◌, ◌++◌, ◌∷◌, inl, inr, ℕ, ◌<◌, ◌≤◌, suc, List, [], length, take, drop, get_or, refl, map, filter, not, Bool, true, Contains, sym, ap, ◌∙◌, Less, subst}
+use Rattle.std.proofs.Common.{◌≡◌, ◌≢◌, ◌++◌, ◌∷◌, inl, inr, ℕ, ◌<◌, suc, List, [], length, take, drop, get_or, refl, map, filter, not, Bool, true, Contains, sym, ap, ◌∙◌, Less, subst}
 use Rattle.std.proofs.lemmas.List.Elements.{filter-append, Contains-append_left, Contains-append_right, Contains-append_cases}
 use Rattle.list_laws.proofs.Members.{Contains-cases, map-from, split_at}
 use Rattle.list_laws.proofs.Filters.{filter-failed, filter-Contains}

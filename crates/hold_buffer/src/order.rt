@@ -1,5 +1,5 @@
 //! The order of the held operations.
-ghost use Rattle.std.specs.Prelude.{◌≡◌, ◌≢◌, ◌<◌, ◌+◌, not, length, filter, map, vec_len, ◌≤◌, ℕ, insert, find, ◌==◌, true, OnOk, OnSome, IfOk, Ok, Err, MatchResult};
+ghost use Rattle.std.specs.Prelude.{◌≡◌, ◌≢◌, ◌<◌, ◌+◌, not, length, filter, map, vec_len, ◌≤◌, ℕ, insert, find, ◌==◌, ◌++◌, ◌∷◌, [], true, OnOk, OnSome, IfOk, IfErr, Ok, Err, MatchResult};
 ghost use Rattle.std.specs.Vec.{vec_capacity};
 ghost use Rattle.std.specs.Option.{option_map};
 ghost use Rattle.slab.specs.Slab.{HasRoomFor};
@@ -68,7 +68,6 @@ pub fn prepare(
 }
 
 /// Room for one more operation that lacks these ids: where it is to be stored, and the ids; or the first cause against it.
-#[tactic(auto, using(op_log::proofs::Comparing::shaped_ascending))]
 pub fn admit(
     op: &Operation,
     missing: &Ids,
@@ -80,7 +79,6 @@ pub fn admit(
     ensures slots { slots.new ≡ record slots.old { capacity = slots.new.capacity } }
     ensures gap { IfOk result (λ r. IsGap id_cmp (λ t. t.id) order.old.items op.now.id r.0) }
     ensures lacks { IfOk result (λ r. r.1 ≡ missing.now) }
-    ensures ascending { is_ascending op.now.front ≡ true }
     ensures slot { OnOk result (HasRoomFor slots.new 1) }
     ensures ticket { OnOk result (vec_len order.new < vec_capacity order.new) }
     ensures cause { MatchResult result (λ _. hold_cause op.now.id (operations_of slots.old order.old.items) ≡ Ok tt)
@@ -108,6 +106,7 @@ pub fn store(
     requires gap { IsGap id_cmp (λ t. t.id) order.old.items op.id at }
     requires slot { HasRoomFor slots.old 1 }
     requires ticket { vec_len order.old < vec_capacity order.old }
+    ensures ascending { is_ascending op.front ≡ true }
     ensures ordered { IsOrdered slots.new order.new.items }
     ensures operations { operations_of slots.new order.new.items ≡ put_among op (operations_of slots.old order.old.items) }
     ensures ticket { (key : ℕ) × (order.new.items ≡ insert order.old.items at (record { id = op.id; key = key; lacks = lacks })) }
@@ -142,10 +141,19 @@ pub fn waiting_of(alloc: Global, order: &[Ticket]) -> Result<Waiting, Refusal>
 {
     let mut waiting = Vec::with_capacity(alloc, order.len())?;
     for ticket in order {
-        let lacks = ticket.lacks.ids(alloc)?;
-        waiting.push((ticket.id, lacks))?;
+        push_waiting(alloc, &mut waiting, ticket)?;
     }
     Ok(Waiting::from(waiting))
+}
+
+/// One more of them. It is refused for want of memory alone.
+fn push_waiting(alloc: Global, waiting: &mut Vec<(Id, Ids)>, ticket: &Ticket) -> Result<(), Refusal>
+    ensures ok { OnOk result (waiting.new.items ≡ waiting.old.items ++ (ticket.now.id, ticket.now.lacks) ∷ []) }
+    ensures err { IfErr result (λ e. e ≡ Refusal.NoMemory) }
+{
+    let lacks = ticket.lacks.ids(alloc)?;
+    waiting.push((ticket.id, lacks))?;
+    Ok(())
 }
 
 /// The least id of the tickets that lack nothing.

@@ -1,7 +1,8 @@
 -- The operations of one replica in a log, and what a search among them finds.
-use Rattle.std.proofs.Common.{◌≡◌, ◌≢◌, ℕ, ◌<◌, ◌≤◌, ◌⊎◌, inl, inr, zero, suc, List, [], ◌∷◌, ◌++◌, length, get_or, Option, Some, None, Contains, refl, sym, ap, subst, ◌∙◌, arith}
-use Rattle.std.specs.Prelude.{is_some, MatchOption}
+use Rattle.std.proofs.Common.{◌≡◌, ◌≢◌, ℕ, ◌<◌, ◌≤◌, ◌⊎◌, inl, inr, zero, suc, List, [], ◌∷◌, ◌++◌, length, get_or, Option, Some, None, Contains, Bor, refl, sym, ap, subst, ◌∙◌, arith}
+use Rattle.std.specs.Prelude.{is_some}
 use Rattle.std.specs.List.{slice_get}
+use Rattle.std.specs.Option.{option_copied}
 use Rattle.std.proofs.lemmas.Bool.{cases_lt}
 use Rattle.std.proofs.lemmas.Option.{slice_get_within, get_or_from_slice_get, slice_get-get_or}
 use Rattle.list_laws.proofs.Scanning.{Contains-from_slice_get}
@@ -105,12 +106,13 @@ module _ (log : List Op) (good : IsGood log) (i : Id) where
       omega arith)
 
   -- the first from its counter on is it, if it has the counter
-  pub first_found : (k : ℕ) → IsFirstFrom log i.replica i.counter k → ((op : Op) → slice_get log k ≡ Some op → op.id.counter ≡ i.counter)
-      → (op : Op) × (slice_get log k ≡ Some op) × (find_id log i ≡ Some op)
-  first_found k first equal =
+  pub first_found : (k : ℕ) → IsFirstFrom log i.replica i.counter k → (op : Op) → slice_get log k ≡ Some op → op.id.counter ≡ i.counter → find_id log i ≡ Some op
+  first_found k first op there equal =
       let at = first.here in
-      let is : at.op.id ≡ i = λ j. record { counter = equal at.op at.there j; replica = at.made j } in
-      (at.op, at.there, find_id-Contains log i (ids_once log good) (Contains-from_slice_get log k _ at.there) is)
+      let same : at.op ≡ op = some_same (sym at.there ∙ there) in
+      let made : op.id.replica ≡ i.replica = ap (λ (o : Op). o.id.replica) (sym same) ∙ at.made in
+      let is : op.id ≡ i = λ j. record { counter = equal j; replica = made j } in
+      find_id-Contains log i (ids_once log good) (Contains-from_slice_get log k _ there) is
 
   pub first_other : (k : ℕ) → IsFirstFrom log i.replica i.counter k → ((op : Op) → slice_get log k ≡ Some op → op.id.counter ≢ i.counter) → find_id log i ≡ None
   first_other k first other =
@@ -127,12 +129,6 @@ module _ (log : List Op) (good : IsGood log) (i : Id) where
             absurd (other (first.here).op (first.here).there same)
       ])
 
--- what is found by an id or not tells whether it is logged
-pub found_logged : (log : List Op) (i : Id) (o : Option ℕ)
-    → MatchOption o (find_id log i ≡ None) (λ k. (op : Op) × (slice_get log k ≡ Some op) × (find_id log i ≡ Some op)) → is_some o ≡ is_logged log i
-found_logged log i (Some k) found = sym (is_logged-find_id log i ∙ ap (λ (o : Option Op). is_some o) found.2)
-found_logged log i None none = sym (is_logged-find_id log i ∙ ap (λ (o : Option Op). is_some o) none)
-
 -- where the one before it does not reach the counter, an operation is the first that does
 pub first_here : (log : List Op) → IsGood log → (name : List ℕ) (counter k : ℕ) (link : Link) → IsLink log name k link → (here : StandsAt log name k) → counter ≤ here.op.id.counter
     → (link.before < k → (op : Op) → slice_get log link.before ≡ Some op → op.id.counter < counter) → IsFirstFrom log name counter k
@@ -145,3 +141,11 @@ first_here log good name counter k link is here reaches short = record {
       let less : (is.before).op.id.counter < counter = short next.1 (is.before).op (is.before).there in
       omega arith;
 }
+
+-- what is found by an id or not tells whether it is logged
+pub found_logged : (log : List Op) (i : Id) (r : Option (Bor Op)) → option_copied r ≡ find_id log i → is_some r ≡ is_logged log i
+found_logged log i r found = copied r ∙ ap (λ (o : Option Op). is_some o) found ∙ sym (is_logged-find_id log i)
+  where
+    copied : (o : Option (Bor Op)) → is_some o ≡ is_some (option_copied o)
+    copied None = refl
+    copied (Some x) = refl

@@ -1,5 +1,5 @@
 //! Copies of what a log keeps.
-ghost use Rattle.std.specs.Prelude.{◌≡◌, take, IfOk, IfErr};
+ghost use Rattle.std.specs.Prelude.{◌≡◌, ◌++◌, ◌∷◌, [], take, IfOk, IfErr, OnOk};
 ghost use Rattle.doc_rules.specs.Answers.{since};
 
 use json_scalar::Refusal;
@@ -13,7 +13,7 @@ pub fn copies(alloc: Global, operations: &[Operation]) -> Result<Vec<Operation>,
 {
     let mut copied = Vec::with_capacity(alloc, operations.len())?;
     for op in operations {
-        copied.push(op.try_clone()?)?;
+        push_copy(&mut copied, op)?;
     }
     Ok(copied)
 }
@@ -35,8 +35,17 @@ pub fn first_uncovered(
             break;
         }
         if !front.covers(op.id()) {
-            found.push(op.try_clone()?)?;
+            push_copy(&mut found, op)?;
         }
     }
     Ok(found)
+}
+
+// One more copy.
+fn push_copy(copies: &mut Vec<Operation>, op: &Operation) -> Result<(), Refusal>
+    ensures ok { OnOk result (copies.new.items ≡ copies.old.items ++ op.now ∷ []) }
+    ensures err { IfErr result (λ e. e ≡ Refusal.NoMemory) }
+{
+    copies.push(op.try_clone()?)?;
+    Ok(())
 }

@@ -136,8 +136,10 @@ pub fn beside_last(alloc: Global, pairs: &[Entry], entries: &[Operation]) -> Res
 pub fn sharing(op: Operation, entries: &[Operation], at: usize) -> Operation
     ensures { result ≡ op }
 {
-    let other = alike(op.front(), entries, at);
-    sharing_with(op, other)
+    match alike(op.front(), entries, at) {
+        Some(other) => op.sharing(other),
+        None => op,
+    }
 }
 
 // The operation whose names a front may have. The fronts of a replica lose no name, so as many as before it are the same; else
@@ -146,15 +148,6 @@ fn alike<'a>(front: &Front, entries: &'a [Operation], at: usize) -> Option<&'a O
     match entries.get(at) {
         Some(before) if before.front().len() == front.len() => Some(before),
         _ => entries.last(),
-    }
-}
-
-fn sharing_with(op: Operation, other: Option<&Operation>) -> Operation
-    ensures { result ≡ op }
-{
-    match other {
-        Some(other) => op.sharing(other),
-        None => op,
     }
 }
 

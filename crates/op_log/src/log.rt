@@ -86,17 +86,14 @@ impl OpLog {
         ensures good { IsGood self.now.operations }
         ensures found { option_copied result ≡ find_id self.now.operations id }
     {
-        match index::find(&self.entries, &self.links, &self.lasts, &id) {
-            Some(at) => Some(&self.entries[at]),
-            None => None,
-        }
+        index::find(&self.entries, &self.links, &self.lasts, &id)
     }
 
     /// Whether the operation of this id is logged, by one search among those of its replica.
     pub fn contains(&self, id: Id) -> bool
         ensures { result ≡ is_logged self.now.operations id }
     {
-        index::find(&self.entries, &self.links, &self.lasts, &id).is_some()
+        self.get(id).is_some()
     }
 
     /// The counter of the replica's last operation, if it has one.
@@ -161,8 +158,8 @@ impl OpLog {
         ensures { UnlessMemory result (Ok (take limit (since front.now self.now.operations))) }
     {
         let alloc = *self.entries.allocator();
-        let start = index::first_uncovered(&self.entries, &self.links, &self.lasts, front);
-        Ok(Operations::from(first_uncovered(alloc, &self.entries[start..], front, limit)?))
+        let operations = self.from_first_uncovered(front);
+        Ok(Operations::from(first_uncovered(alloc, operations, front, limit)?))
     }
 
     /// What `since` gives, as the compact JSON text of an array. It is refused for want of memory alone.
@@ -170,8 +167,16 @@ impl OpLog {
         ensures { UnlessMemory result (Ok (operations_text (take limit (since front.now self.now.operations)))) }
     {
         let alloc = *self.entries.allocator();
+        text_of_uncovered(alloc, self.from_first_uncovered(front), front, limit)
+    }
+
+    // The operations without those at the start that the front covers, up to the first that it does not cover where its
+    // pairs ascend.
+    fn from_first_uncovered(&self, front: &Front) -> &[Operation]
+        ensures { since front.now result.now ≡ since front.now self.now.operations }
+    {
         let start = index::first_uncovered(&self.entries, &self.links, &self.lasts, front);
-        text_of_uncovered(alloc, &self.entries[start..], front, limit)
+        &self.entries[start..]
     }
 
     /// The operations after the first `from`, at most `max` of them. It is refused for want of memory alone.

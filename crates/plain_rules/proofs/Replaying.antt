@@ -1,7 +1,8 @@
 -- A plain replay, operation by operation.
-use Rattle.std.proofs.Common.{◌≡◌, ℕ, suc, ◌+◌, ◌<◌, ◌≤◌, List, [], ◌∷◌, ◌++◌, length, take, drop, get_or, map, filter, Bool, true, false, ◌&&◌, ◌||◌, if◌then◌else◌, refl, sym, ap, ◌∙◌, arith}
+use Rattle.std.proofs.Common.{◌≡◌, ℕ, suc, ◌+◌, ◌<◌, ◌≤◌, List, [], ◌∷◌, ◌++◌, length, take, drop, get_or, map, filter, Bool, true, false, ◌&&◌, ◌||◌, if◌then◌else◌, refl, sym, ap, ◌∙◌, append-nil, arith}
 use Rattle.std.proofs.Math.Seq.{drop-cons}
-use Rattle.std.proofs.lemmas.List.{drop_all}
+use Rattle.std.proofs.lemmas.List.{drop_all, map-append, take_more}
+use Rattle.std.proofs.lemmas.List.Elements.{filter-append}
 use lib.Seq.{take-suc}
 use Rattle.lamport_id.specs.declared.id.Id.{Id}
 use Rattle.op_core.specs.declared.cursor.Tagged.{Tagged}
@@ -15,6 +16,21 @@ use Rattle.crdt_rules.specs.Log.{replay, replay_after}
 use Rattle.crdt_rules.proofs.SameLaws.{id_decides}
 use Rattle.plain_rules.specs.Plain.{is_in, blank_context}
 use Rattle.plain_rules.proofs.Descending.{descend-made}
+
+-- the ids of the first operations that pass a test, with one more operation
+module _ (p : Id → Bool) (ops : List Op) (i : ℕ) (x : Op) (within : i < length ops) (is : x ≡ get_or ops i x) where
+  one_more_id : filter p (map (λ o. o.id) (take (i + 1) ops)) ≡ filter p (map (λ o. o.id) (take i ops)) ++ filter p (x.id ∷ [])
+  one_more_id =
+      ap (λ (l : List Op). filter p (map (λ o. o.id) l)) (take_more ops i x within ∙ ap (λ y. take i ops ++ y ∷ []) (sym is))
+      ∙ ap (filter p) (map-append (λ (o : Op). o.id) (take i ops) (x ∷ []))
+      ∙ filter-append p (map (λ o. o.id) (take i ops)) (x.id ∷ [])
+
+  pub ids-more : p x.id ≡ true → filter p (map (λ o. o.id) (take (i + 1) ops)) ≡ filter p (map (λ o. o.id) (take i ops)) ++ x.id ∷ []
+  ids-more passes = one_more_id ∙ ap (λ l. filter p (map (λ o. o.id) (take i ops)) ++ l) (rw passes refl)
+
+  pub ids-passed : p x.id ≡ false → filter p (map (λ o. o.id) (take (i + 1) ops)) ≡ filter p (map (λ o. o.id) (take i ops))
+  ids-passed fails =
+      one_more_id ∙ ap (λ l. filter p (map (λ o. o.id) (take i ops)) ++ l) (rw fails refl) ∙ append-nil (filter p (map (λ o. o.id) (take i ops)))
 
 -- the ids of earlier operations that a front covers are the dependencies
 pub is_in-covered : (op : Op) (log : List Op) (i : Id) → is_in (filter (covers op.front) (map (λ o. o.id) log)) i ≡ dependencies op log i

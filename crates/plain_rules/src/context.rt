@@ -45,7 +45,7 @@ impl PlainContext {
 fn is_in(ids: &[Id], id: &Id) -> bool
     ensures { result ≡ is_in ids.now id.now }
 {
-    ids.iter().any(|other| *other == *id)
+    ids.contains(id)
 }
 
 fn clear_marks(marks: &mut Vec<(Key, Id)>, dependencies: &[Id])

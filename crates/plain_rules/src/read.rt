@@ -71,13 +71,23 @@ impl PlainContext {
 fn is_marked(marks: &[(Key, Id)], key: &Key, id: &Id) -> bool
     ensures { result ≡ list_any (λ m. key_eq m.0 key.now && id_eq m.1 id.now) marks.now }
 {
-    marks.iter().any(|mark| mark.0 == *key && mark.1 == *id)
+    for mark in marks {
+        if mark.0 == *key && mark.1 == *id {
+            return true;
+        }
+    }
+    false
 }
 
 fn is_key_marked(marks: &[(Key, Id)], key: &Key) -> bool
     ensures { result ≡ list_any (λ m. key_eq m.0 key.now) marks.now }
 {
-    marks.iter().any(|mark| mark.0 == *key)
+    for mark in marks {
+        if mark.0 == *key {
+            return true;
+        }
+    }
+    false
 }
 
 /// The first value of an id at a key.

@@ -4,6 +4,7 @@ use Rattle.lamport_id.specs.declared.id.Id.{Id}
 use Rattle.hold_buffer.specs.declared.ticket.Ticket.{Ticket}
 use Rattle.doc_rules.specs.Replica.{put_among}
 use Rattle.hold_buffer.specs.Order.{operations_of, IsOrdered}
+use Rattle.op_log.proofs.Comparing.{shaped_ascending}
 use Rattle.hold_buffer.proofs.Waiting.{operations-insert, IsOrdered-insert}
 use Rattle.hold_buffer.proofs.order.store.Goals as goal
 
@@ -29,3 +30,6 @@ returns-clause-operations c =
 pub returns-clause-ticket : goal.returns-clause-ticket
 returns-clause-ticket c =
     (c.insert_reserved-key.result, rw (c.insert.ensures.items, c.unwrap.ensures) (λ i. insert c.args.order.now.items c.args.at (ticket (c.id-id.ensures.value i) c)))
+
+pub returns-clause-ascending : goal.returns-clause-ascending
+returns-clause-ascending c = shaped_ascending c.args.op c.id-id.ensures.shaped

@@ -1,10 +1,12 @@
-use Rattle.std.proofs.Common.{Err, ap}
-use Rattle.std.proofs.lemmas.Result.{err_from_is_err_and}
-use Rattle.hold_buffer.proofs.Waiting.{lacks}
+use Rattle.std.proofs.Common.{List, ◌++◌, ◌∷◌, [], sym, ap, ◌∙◌}
+use Rattle.doc_words.specs.Words.{Id}
+use Rattle.hold_buffer.specs.declared.ticket.Ticket.{Ticket}
+use Rattle.hold_buffer.proofs.Going.{mapped-more}
 use Rattle.hold_buffer.proofs.order.waiting_of.Goals as goal
 
-pub returns-in_err-lacks : goal.returns-in_err-lacks
-returns-in_err-lacks c =
-    let exit = err_from_is_err_and c.from_residual-in_err-lacks.result c.from_residual-in_err-lacks.ensures.1 in
-    rw (exit.1, exit.2)
-    (λ other. absurd (lacks c.ids.result c.in_err-lacks.field-0.0 _ c.ids.ensures c.in_err-lacks.was (λ memory. other (ap Err memory))))
+pub loop-ticket-preserved : goal.loop-ticket-preserved
+loop-ticket-preserved c =
+    let t = c.ticket-item.result in
+    c.in_ok-push_waiting.ensures.ok
+    ∙ ap (λ (l : List (Id × List Id)). l ++ (t.id, t.lacks) ∷ []) c.loop-ticket.invariant
+    ∙ sym (mapped-more (λ (u : Ticket). (u.id, u.lacks)) c.args.order.now c.loop-ticket.ticket-index t c.loop-ticket-test.true c.ticket-item.is)

@@ -1,4 +1,4 @@
-use Rattle.std.proofs.Common.{◌≡◌, ◌<◌, ℕ, length, nat_eq, eqb-true, sym, subst, ◌∙◌}
+use Rattle.std.proofs.Common.{◌<◌, ℕ, nat_eq, eqb-true, sym, subst, ◌∙◌}
 use Rattle.std.proofs.lemmas.Bool.{and_parts}
 use lib.Pointwise.{pointwise, bytes_decides}
 use Rattle.op_log.proofs.front.has_pair_at.Goals as goal

@@ -1,4 +1,5 @@
 use Rattle.std.proofs.Common.{◌≡◌, ℕ, suc, ◌+◌, ◌≤◌, List, Contains, sym, subst, arith, take_all}
+use Rattle.std.proofs.Math.Nat.{min-le_left, min-le_right}
 use Rattle.std.proofs.lemmas.List.Elements.{Contains-get_or}
 use Rattle.op_log.proofs.Uncovered.{last_of_entry, chains_next, chains_all}
 use Rattle.op_log.proofs.index.first_uncovered_of_all.Goals as goal
@@ -12,11 +13,11 @@ first_uncovered_of-requires-clause-last c =
 pub loop-last-preserved : goal.loop-last-preserved
 loop-last-preserved c =
     let one : c.loop-last.last-index + 1 ≡ suc c.loop-last.last-index = omega arith in
-    let before : c.lesser-least.result ≤ c.loop-last.least = c.lesser-least.ensures.0 in
-    let here : c.lesser-least.result ≤ c.first_uncovered_of.result = c.lesser-least.ensures.1 in
+    let before : c.min-least.result ≤ c.loop-last.least = omega (arith, c.min-least.ensures, min-le_left c.loop-last.least c.first_uncovered_of.result) in
+    let here : c.min-least.result ≤ c.first_uncovered_of.result = omega (arith, c.min-least.ensures, min-le_right c.loop-last.least c.first_uncovered_of.result) in
     rw one (
       omega (arith, before, c.loop-last.invariant.0),
-      chains_next c.args.front.now c.args.entries.now c.args.lasts.now c.loop-last.last-index c.last-item.result c.loop-last.least c.first_uncovered_of.result c.lesser-least.result
+      chains_next c.args.front.now c.args.entries.now c.args.lasts.now c.loop-last.last-index c.last-item.result c.loop-last.least c.first_uncovered_of.result c.min-least.result
           before here c.loop-last-test.true c.last-item.is c.loop-last.invariant.1 c.first_uncovered_of.ensures,
     )
 

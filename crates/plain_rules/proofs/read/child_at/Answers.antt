@@ -1,5 +1,5 @@
 use Rattle.std.proofs.Common.{rules, ◌<◌, ◌≤◌, length, ◌∙◌, ap, subst, slice_index_or}
-use Rattle.plain_rules.specs.Plain.{context_of, place_of_child}
+use Rattle.plain_rules.specs.Plain.{context_of}
 use Rattle.plain_rules.proofs.Descending.{child_at, child_missing}
 use Rattle.plain_rules.proofs.read.child_at.Goals as goal
 

@@ -15,7 +15,7 @@ invariant_of-self c =
     let g = c.admit.ensures in
     let (log, missed) = c.requires.missed in
     held-intact (grown c.self.invariant g.slots g.order) c.store.ensures.ordered log c.args.op c.in-Ok.at
-    (record { id = c.args.op.id; key = c.store.ensures.ticket.0; lacks = c.in-Ok.lacks }) c.store.ensures.ticket.1 (c.in-Ok.ensures.lacks ∙ missed) g.ascending c.store.ensures.operations
+    (record { id = c.args.op.id; key = c.store.ensures.ticket.0; lacks = c.in-Ok.lacks }) c.store.ensures.ticket.1 (c.in-Ok.ensures.lacks ∙ missed) c.store.ensures.ascending c.store.ensures.operations
 
 pub invariant_of-self-in-Err : goal.invariant_of-self-in-Err
 invariant_of-self-in-Err c = let g = c.admit.ensures in grown c.self.invariant g.slots g.order

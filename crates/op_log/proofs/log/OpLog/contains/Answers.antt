@@ -1,10 +1,6 @@
-use Rattle.std.proofs.Common.{ap, ◌∙◌}
-use Rattle.crdt_rules.specs.Dependencies.{is_logged}
+use Rattle.std.proofs.Common.{◌∙◌}
 use Rattle.op_log.proofs.Indexes.{found_logged}
 use Rattle.op_log.proofs.log.OpLog.contains.Goals as goal
 
 pub returns : goal.returns
-returns c =
-    c.is_some.ensures
-    ∙ found_logged c.self.inside.entries.items c.args.id c.find.result (rw c.deref.ensures.value at c.find.ensures)
-    ∙ ap (λ l. is_logged l.operations c.args.id) c.self.view_is
+returns c = c.is_some.ensures ∙ found_logged c.args.self.now.operations c.args.id c.get.result c.get.ensures.found

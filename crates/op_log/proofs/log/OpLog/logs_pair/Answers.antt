@@ -1,4 +1,4 @@
-use Rattle.std.proofs.Common.{◌≡◌, [], Contains, Option, IfSome, get_or, sym, subst}
+use Rattle.std.proofs.Common.{[], Contains, Option, IfSome, get_or, sym, subst}
 use Rattle.op_core.specs.Op.{Op}
 use Rattle.op_log.proofs.Below.{logged_below}
 use Rattle.op_log.proofs.log.OpLog.logs_pair.Goals as goal
