@@ -12,7 +12,7 @@ use op_core::Operation;
 use op_log::OpLog;
 
 /// How many held operations were logged, and how many were dropped.
-#[derive(Clone, Copy, Debug)]
+#[derive(Drop)]
 pub struct Drained {
     pub logged: usize,
     pub dropped: usize,

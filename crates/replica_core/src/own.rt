@@ -27,7 +27,7 @@ use lamport_id::{Id, ReplicaName};
 use op_core::{Cursor, Front, Key, Mutation, Operation};
 use op_log::{OpLog, keeps_good};
 
-/// Makes a change where the steps of its place led, or tells why they led nowhere.
+/// Makes a change where the steps of its place led, or tells why they led nowhere, or the first cause against the change.
 pub fn change(
     name: ReplicaName,
     tree: &mut Tree,
@@ -47,36 +47,15 @@ pub fn change(
     ensures current { IsCurrent held.new log.new.operations }
 {
     match resolved {
-        Ok(cursor) => change_at(name, tree, log, held, cursor, mutation),
+        Ok(cursor) => match own_cause(&name, log, &cursor, &mutation) {
+            Ok(()) => log_own(name, tree, log, held, cursor, mutation),
+            Err(cause) => {
+                drop(cursor);
+                drop(mutation);
+                Err(cause)
+            }
+        },
         Err(cause) => {
-            drop(mutation);
-            Err(cause)
-        }
-    }
-}
-
-fn change_at(
-    name: ReplicaName,
-    tree: &mut Tree,
-    log: &mut OpLog,
-    held: &mut HoldBuffer,
-    cursor: Cursor,
-    mutation: Mutation,
-) -> Result<Applied, Refusal>
-    requires named { is_name name ≡ true }
-    requires place { IsPlaceOf log.old.operations (Ok cursor) }
-    requires tells { AgreesWith tree.old log.old.operations }
-    requires current { IsCurrent held.old log.old.operations }
-    requires few { length held.old.held ≤ most_held }
-    ensures met { let r = replica_of name log.old.operations held.old.held in
-        Meets r (due_changed r cursor mutation) (told_applied result) (replica_of name log.new.operations held.new.held) }
-    ensures tells { AgreesWith tree.new log.new.operations }
-    ensures current { IsCurrent held.new log.new.operations }
-{
-    match own_cause(&name, log, &cursor, &mutation) {
-        Ok(()) => log_own(name, tree, log, held, cursor, mutation),
-        Err(cause) => {
-            drop(cursor);
             drop(mutation);
             Err(cause)
         }
