@@ -1,10 +1,11 @@
 -- Statements that were run one after another, whatever tables the database has.
-use Rattle.std.specs.Prelude.{◌≡◌, ◌⊎◌, ℕ, pos, List, [], ◌∷◌, ◌++◌, map, Result, Ok, Err, codes}
+use Rattle.std.specs.Prelude.{◌≡◌, ◌⊎◌, ℕ, pos, List, [], ◌∷◌, ◌++◌, map, Result, Ok, Err, OnOk, IfErr, codes}
 use Rattle.sqlite_trees.specs.declared.store.Store.{Ghosts}
 use Rattle.sqlite.specs.declared.types.Value.TheVariants.{Int}
 use Rattle.sqlite.specs.Order.{Row}
+use Rattle.sqlite.specs.Tree.{Trees}
 use Rattle.sqlite.specs.Held.{Held, state}
-use Rattle.sqlite.specs.State.{Executes, Shown, FailsToQuery}
+use Rattle.sqlite.specs.State.{HasCleanDisk, Survives, Executes, CommitsBy, Shown, FailsToQuery}
 use Rattle.sqlite.specs.declared.error.Error.{Error}
 use Rattle.copy_schema.specs.Tables.{meta_text, entry_text}
 
@@ -12,6 +13,10 @@ use Rattle.copy_schema.specs.Tables.{meta_text, entry_text}
 pub record Statement : Type 0 where
   pub text : List ℕ
   pub params : Row
+
+-- a text that has none
+abbrev pub text_alone : List ℕ → Statement
+text_alone text = record { text = text; params = [] }
 
 abbrev pub begin_it : Statement
 begin_it = record { text = codes "BEGIN"; params = [] }
@@ -73,6 +78,17 @@ RanAll {S} g (it ∷ more) old new = (mid : Held S) × Ran g it old mid × RanAl
 abbrev pub StopsBy : {S : Type 0} → Ghosts S → List Statement → Held S → Held S → Error → Type 0
 StopsBy g [] old new error = ⊥
 StopsBy {S} g (it ∷ more) old new error = RunsTo g it old new (Err error) ⊎ ((mid : Held S) × Ran g it old mid × StopsBy g more mid new error)
+
+-- one of them commits this, after those before it ran
+abbrev pub CommitsOneOf : {S : Type 0} → Ghosts S → List Statement → Held S → Trees → Type 0
+CommitsOneOf g [] old db = ⊥
+CommitsOneOf {S} g (it ∷ more) old db = CommitsBy it.text it.params (state g old) db ⊎ ((mid : Held S) × Ran g it old mid × CommitsOneOf g more mid db)
+
+-- They were run in turn, up to the first that failed. A crash leaves what was there before, or what one of them commits.
+pub record RunsThrough {S T : Type 0} (g : Ghosts S) (its : List Statement) (old new : Held S) (r : Result T Error) : Type 0 where
+  pub crash : Survives (state g old) (state g new) (CommitsOneOf g its old)
+  pub ran : HasCleanDisk (state g new) → OnOk r (RanAll g its old new)
+  pub err : HasCleanDisk (state g new) → IfErr r (StopsBy g its old new)
 
 -- ---- what was asked
 
