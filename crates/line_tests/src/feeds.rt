@@ -65,12 +65,10 @@ fn reads_as_much_as_there_is(rt: HostRuntime) -> Result<(), Fail> {
     let mut feed = LineFeed::new(rt.alloc())?;
     for line in [b"a".as_slice(), b"b".as_slice(), b"c".as_slice()] {
         assert!(rt; !source.failed());
-        assert_eq!(rt; feed.next(&mut source), Outcome::Line);
-        assert_eq!(rt; feed.line(), line);
+        assert!(rt; feed.next(&mut source) == Outcome::Line && feed.line() == line);
     }
     assert!(rt; !source.failed());
-    assert_eq!(rt; feed.next(&mut source), Outcome::End);
-    assert_eq!(rt; source.reads, 2);
+    assert!(rt; feed.next(&mut source) == Outcome::End && source.reads == 2);
     Ok(())
 }
 
@@ -79,11 +77,9 @@ fn a_source_that_fails_within_a_line_gives_a_fault(rt: HostRuntime) -> Result<()
     let mut source = FailAfter::new(Reader::new(b"ab\ncd\n".as_slice()), 4);
     let mut feed = LineFeed::new(rt.alloc())?;
     assert!(rt; !source.failed());
-    assert_eq!(rt; feed.next(&mut source), Outcome::Line);
-    assert_eq!(rt; feed.line(), b"ab".as_slice());
+    assert!(rt; feed.next(&mut source) == Outcome::Line && feed.line() == b"ab".as_slice());
     assert!(rt; !source.failed());
-    assert_eq!(rt; feed.next(&mut source), Outcome::Fault);
-    assert!(rt; source.failed());
+    assert!(rt; feed.next(&mut source) == Outcome::Fault && source.failed());
     Ok(())
 }
 

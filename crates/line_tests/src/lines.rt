@@ -259,12 +259,22 @@ fn tells(alloc: Global, told: LineReply, line: &str) -> bool {
     told.write(alloc, &mut sink) == Ok(()) && sink.into_inner().as_slice() == line.as_bytes()
 }
 
+/// Whether this answer is told by that line.
+fn answers(alloc: Global, reply: Reply, line: &str) -> bool {
+    tells(alloc, LineReply::Answered(reply), line)
+}
+
 fn own_id() -> Result<Id, Refusal> {
     let replica = ReplicaName::read(b"srv-1").ok_or(Refusal::BadRequest)?;
     Ok(Id {
         counter: 3,
         replica,
     })
+}
+
+fn own_ids(alloc: Global, many: usize) -> Result<Ids, Refusal> {
+    let id = own_id()?;
+    Ok(Ids::from(vec![in alloc; id; many]?))
 }
 
 #[test]
@@ -278,36 +288,18 @@ fn tells_what_takes_no_memory(rt: HostRuntime) -> Result<(), Fail> {
         dropped: 0,
         id: own_id()?,
     };
-    assert!(rt;
-        tells(
-            rt.alloc(),
-            LineReply::Answered(applied),
-            "[\"applied\",1,0,[3,\"srv-1\"]]\n"
-        )
-    );
+    assert!(rt; answers(rt.alloc(), applied, "[\"applied\",1,0,[3,\"srv-1\"]]\n"));
     Ok(())
 }
 
 #[test]
 fn tells_replies_of_one_part(rt: HostRuntime) {
+    assert!(rt; answers(rt.alloc(), Reply::Known, "[\"known\"]\n"));
+    assert!(rt; answers(rt.alloc(), Reply::Forgotten, "[\"forgotten\"]\n"));
     assert!(rt;
-        tells(
+        answers(
             rt.alloc(),
-            LineReply::Answered(Reply::Known),
-            "[\"known\"]\n"
-        )
-    );
-    assert!(rt;
-        tells(
-            rt.alloc(),
-            LineReply::Answered(Reply::Forgotten),
-            "[\"forgotten\"]\n"
-        )
-    );
-    assert!(rt;
-        tells(
-            rt.alloc(),
-            LineReply::Answered(Reply::Account(18_446_744_073_709_551_615)),
+            Reply::Account(18_446_744_073_709_551_615),
             "[\"account\",18446744073709551615]\n"
         )
     );
@@ -322,11 +314,7 @@ fn tells_refusals(rt: HostRuntime) {
     ];
     for (refusal, line) in rows {
         assert!(rt;
-            tells(
-                rt.alloc(),
-                LineReply::Answered(Reply::Refused(refusal)),
-                line
-            ),
+            answers(rt.alloc(), Reply::Refused(refusal), line),
             "{line}"
         );
     }
@@ -335,18 +323,12 @@ fn tells_refusals(rt: HostRuntime) {
 #[test]
 fn tells_what_is_missing(rt: HostRuntime) -> Result<(), Fail> {
     let none = Ids::from(Vec::new(rt.alloc()));
+    assert!(rt; answers(rt.alloc(), Reply::Held(none), "[\"held\",[]]\n"));
+    let two = own_ids(rt.alloc(), 2)?;
     assert!(rt;
-        tells(
+        answers(
             rt.alloc(),
-            LineReply::Answered(Reply::Held(none)),
-            "[\"held\",[]]\n"
-        )
-    );
-    let two = Ids::from(vec![in rt.alloc(); own_id()?, own_id()?]?);
-    assert!(rt;
-        tells(
-            rt.alloc(),
-            LineReply::Answered(Reply::Held(two)),
+            Reply::Held(two),
             "[\"held\",[[3,\"srv-1\"],[3,\"srv-1\"]]]\n"
         )
     );
@@ -357,24 +339,24 @@ fn tells_what_is_missing(rt: HostRuntime) -> Result<(), Fail> {
 fn tells_readings(rt: HostRuntime) -> Result<(), Fail> {
     let keys = String::from_str(rt.alloc(), "[\"\",\"a\\\"b\"]")?;
     assert!(rt;
-        tells(
+        answers(
             rt.alloc(),
-            LineReply::Answered(Reply::Keys(CompactText::from(keys))),
+            Reply::Keys(CompactText::from(keys)),
             "[\"keys\",[\"\",\"a\\\"b\"]]\n"
         )
     );
     let scalars = vec![in rt.alloc(); Scalar::Int(-1), Scalar::Bool(true), Scalar::Null]?;
     assert!(rt;
-        tells(
+        answers(
             rt.alloc(),
-            LineReply::Answered(Reply::Values(Scalars::from(scalars))),
+            Reply::Values(Scalars::from(scalars)),
             "[\"values\",[-1,true,null]]\n"
         )
     );
     assert!(rt;
-        tells(
+        answers(
             rt.alloc(),
-            LineReply::Answered(Reply::Sum(-18_446_744_073_709_551_614)),
+            Reply::Sum(-18_446_744_073_709_551_614),
             "[\"sum\",\"-18446744073709551614\"]\n"
         )
     );
@@ -385,17 +367,17 @@ fn tells_readings(rt: HostRuntime) -> Result<(), Fail> {
 fn tells_elements(rt: HostRuntime) -> Result<(), Fail> {
     let items = String::from_str(rt.alloc(), "[[[3,\"srv-1\"],[1]]]")?;
     assert!(rt;
-        tells(
+        answers(
             rt.alloc(),
-            LineReply::Answered(Reply::Items(CompactText::from(items))),
+            Reply::Items(CompactText::from(items)),
             "[\"items\",[[[3,\"srv-1\"],[1]]]]\n"
         )
     );
     let shown = String::from_str(rt.alloc(), "[[\"val\",[2,\"p\"],\"x\"]]")?;
     assert!(rt;
-        tells(
+        answers(
             rt.alloc(),
-            LineReply::Answered(Reply::Show(CompactText::from(shown))),
+            Reply::Show(CompactText::from(shown)),
             "[\"show\",[[\"val\",[2,\"p\"],\"x\"]]]\n"
         )
     );
@@ -406,9 +388,9 @@ fn tells_elements(rt: HostRuntime) -> Result<(), Fail> {
 fn tells_conflicts(rt: HostRuntime) -> Result<(), Fail> {
     let vals = vec![in rt.alloc(); (own_id()?, Val::EmptyMap), (own_id()?, Val::EmptyList)]?;
     assert!(rt;
-        tells(
+        answers(
             rt.alloc(),
-            LineReply::Answered(Reply::Conflicts(Conflicts::from(vals))),
+            Reply::Conflicts(Conflicts::from(vals)),
             "[\"conflicts\",[[[3,\"srv-1\"],{}],[[3,\"srv-1\"],[]]]]\n"
         )
     );
@@ -420,9 +402,9 @@ fn tells_the_log(rt: HostRuntime) -> Result<(), Fail> {
     let operations = "[[\"op\",[1,\"p\"],[],[[[\"m\",0]],\"n\"],[\"add\",-7]]]";
     let text = CompactText::from(String::from_str(rt.alloc(), operations)?);
     assert!(rt;
-        tells(
+        answers(
             rt.alloc(),
-            LineReply::Answered(Reply::Operations(text)),
+            Reply::Operations(text),
             "[\"ops\",[[\"op\",[1,\"p\"],[],[[[\"m\",0]],\"n\"],[\"add\",-7]]]]\n"
         )
     );
@@ -433,18 +415,18 @@ fn tells_the_log(rt: HostRuntime) -> Result<(), Fail> {
 fn tells_fronts_and_what_waits(rt: HostRuntime) -> Result<(), Fail> {
     let front = Front::from_pairs(rt.alloc(), &[(own_id()?.replica, 3u64)])?;
     assert!(rt;
-        tells(
+        answers(
             rt.alloc(),
-            LineReply::Answered(Reply::Front(front)),
+            Reply::Front(front),
             "[\"front\",[[\"srv-1\",3]]]\n"
         )
     );
-    let missing = Ids::from(vec![in rt.alloc(); own_id()?]?);
+    let missing = own_ids(rt.alloc(), 1)?;
     let waiting = Waiting::from(vec![in rt.alloc(); (own_id()?, missing)]?);
     assert!(rt;
-        tells(
+        answers(
             rt.alloc(),
-            LineReply::Answered(Reply::Waiting(waiting)),
+            Reply::Waiting(waiting),
             "[\"waiting\",[[[3,\"srv-1\"],[[3,\"srv-1\"]]]]]\n"
         )
     );
@@ -453,7 +435,7 @@ fn tells_fronts_and_what_waits(rt: HostRuntime) -> Result<(), Fail> {
 
 #[test]
 fn a_sink_that_fails_has_a_front_of_the_line(rt: HostRuntime) -> Result<(), Fail> {
-    let missing = Ids::from(vec![in rt.alloc(); own_id()?, own_id()?]?);
+    let missing = own_ids(rt.alloc(), 2)?;
     let mut sink = FailAfter::new(Writer::new(Vec::<u8>::new(rt.alloc())), 20);
     let told = LineReply::Answered(Reply::Held(missing));
     assert!(rt; told.write(rt.alloc(), &mut sink) == Err(WriteFault::Device));
