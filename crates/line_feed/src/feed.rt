@@ -1,5 +1,5 @@
 //! Lines of a source.
-ghost use Rattle.std.specs.Prelude.{◌≡◌, ◌-◌, ℕ, Bool, true, false, List, [], ◌++◌, ◌+◌, ◌<◌, ◌≤◌, ◌↔◌, length, take, IsTrue, IfOk, MatchOption, MatchResult, is_err, position, slice_range, vec_len};
+ghost use Rattle.std.specs.Prelude.{◌≡◌, ◌-◌, ℕ, Bool, true, false, List, [], ◌++◌, ◌+◌, ◌<◌, ◌≤◌, ◌↔◌, length, take, IsTrue, IfOk, MatchResult, is_err, position, slice_range, vec_len};
 ghost use Rattle.std.specs.List.{list_any};
 ghost use Rattle.std.specs.Io.KnownBytes.{Consumes, IsAtEnd, Keeps};
 ghost use Rattle.line_feed.specs.Lines.{is_newline, HasNoNewline};
@@ -84,31 +84,6 @@ fn read_behind<R: Source>(
     source.read_some(&mut buffer[len..])
 }
 
-// The same, and how many bytes there are then, and why reading stops with them, if it does.
-fn read_more<R: Source>(source: &mut R, buffer: &mut [u8], len: usize) -> (usize, Option<Stop>)
-    requires works { R.has_failed source.old ≡ false }
-    requires room { len < length buffer.old }
-    requires unended { HasNoNewline (take len buffer.old) }
-
-    ensures same_room { length buffer.new ≡ length buffer.old }
-    ensures within { result.0 ≤ length buffer.new }
-    ensures bytes { (read : List ℕ) × Consumes (R.remaining source.old) (R.remaining source.new) read
-        × (take result.0 buffer.new ≡ take len buffer.old ++ read) }
-    ensures stop { MatchOption result.1 ((len < result.0) × HasNoNewline (take result.0 buffer.new) × (R.has_failed source.new ≡ false))
-        (λ stop. Stops (take result.0 buffer.new) (length buffer.new) stop
-        × (stop ≡ Stop.End → IsAtEnd (R.remaining source.new)) × (IsTrue (R.has_failed source.new) ↔ (stop ≡ Stop.Fault))) }
-    ensures once { R.reads source.new ≤ R.reads source.old + 1 }
-{
-    match read_behind(source, buffer, len) {
-        Err(_) => (len, Some(Stop::Fault)),
-        Ok(0) => (len, Some(Stop::End)),
-        Ok(n) => match newline_at(&buffer[len..len + n]) {
-            Some(at) => (len + n, Some(Stop::Newline(len + at))),
-            None => (len + n, None),
-        },
-    }
-}
-
 /// Reads behind the first `held` bytes until a newline comes, the buffer is full, or nothing more comes.
 fn fill<R: Source>(source: &mut R, buffer: &mut [u8], held: usize) -> Filled
     requires works { R.has_failed source.old ≡ false }
@@ -125,10 +100,29 @@ fn fill<R: Source>(source: &mut R, buffer: &mut [u8], held: usize) -> Filled
 {
     let mut len = held;
     while len < buffer.len() {
-        let (more, stop) = read_more(source, buffer, len);
-        len = more;
-        if let Some(stop) = stop {
-            return Filled { len, stop };
+        match read_behind(source, buffer, len) {
+            Err(_) => {
+                return Filled {
+                    len,
+                    stop: Stop::Fault,
+                };
+            }
+            Ok(0) => {
+                return Filled {
+                    len,
+                    stop: Stop::End,
+                };
+            }
+            Ok(n) => {
+                let found = newline_at(&buffer[len..len + n]);
+                if let Some(at) = found {
+                    return Filled {
+                        len: len + n,
+                        stop: Stop::Newline(len + at),
+                    };
+                }
+                len += n;
+            }
         }
     }
     Filled {
