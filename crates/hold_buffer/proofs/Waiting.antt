@@ -1,5 +1,5 @@
 -- The held operations, by their tickets.
-use Rattle.std.proofs.Common.{◌≡◌, ◌≢◌, ℕ, ◌<◌, ◌≤◌, inl, inr, zero, suc, List, [], ◌∷◌, ◌++◌, length, map, filter, take, drop, get_or, not, nat_lt, Ok, Err, Bool, true, false, cond, Option, Some, None, Contains, refl, sym, ap, subst, ◌∙◌, arith, true≢false, Less, find}
+use Rattle.std.proofs.Common.{◌≡◌, ◌≢◌, ℕ, ◌<◌, ◌≤◌, inl, inr, zero, suc, List, [], ◌∷◌, ◌++◌, length, map, filter, take, drop, get_or, not, nat_lt, Result, Ok, Err, Bool, true, false, cond, Option, Some, None, Contains, refl, sym, ap, subst, ◌∙◌, arith, true≢false, Less, find}
 use Rattle.std.specs.Prelude.{insert, is_some, IsTrue, IfSome, ◌↔◌}
 use Rattle.std.specs.Option.{option_map}
 use Rattle.std.specs.Bool.{Decides}
@@ -8,7 +8,7 @@ use Rattle.std.proofs.lemmas.Bool.{false_from_ne_true}
 use Rattle.std.proofs.lemmas.List.{length-map, take-append-drop}
 use Rattle.std.proofs.lemmas.List.Elements.{filter_map-append, filter-append, Contains-get_or, Contains-append_left, Contains-append_right, Contains-append_cases}
 use Rattle.std.proofs.lemmas.Bool.Decides.{nat_tests}
-use Rattle.doc_words.specs.Words.{id_cmp, Id, Op}
+use Rattle.doc_words.specs.Words.{Refusal, NoMemory, id_cmp, Id, Op}
 use Rattle.json_scalar.specs.declared.refusal.Refusal.TheVariants.{IdConflict, HeldFull}
 use Rattle.slab.specs.Slab.{Slab, get, Updates}
 use Rattle.crdt_rules.specs.Same.{id_eq}
@@ -326,6 +326,13 @@ same_as_none held op rising found = (
   (λ same. absurd (true≢false (sym same))),
   (λ c. absurd (some≢none (sym (found ∙ find_id-Contains held op.id (keys_once id_order (λ o. o.id) held rising) c refl)))),
 )
+
+-- an answer that is due, and is another, lacks memory
+pub lacks : {A : Type 0} (r : Result A Refusal) (e : Refusal) (x : A) → (r ≢ Err NoMemory → r ≡ Ok x) → r ≡ Err e → e ≢ NoMemory → ⊥
+lacks {A} r e x h is other =
+    let due : r ≡ Ok x = h (λ f. other (let same : ◌≡◌ {A = Result A Refusal} (Err e) (Err NoMemory) = sym is ∙ f in cc)) in
+    let no : ◌≡◌ {A = Result A Refusal} (Err e) (Ok x) = sym is ∙ due in
+    cc
 
 -- what holds of the first that passes, by its id
 pub first_named : (p : Op → Bool) (held : List Op) (r : Option Id) → IsRising id_cmp (λ o. o.id) held → r ≡ option_map (λ o. o.id) (find p held)
