@@ -30,22 +30,10 @@ pub fn logged(alloc: Global, operations: &[Operation]) -> Result<(Tree, OpLog), 
     ensures good { OnOk result (IsGood operations.now) }
     ensures err { IfErr result (IsMisfitOf operations.now) }
 {
-    match Tree::new(alloc) {
-        Ok(tree) => logged_in(tree, OpLog::new(alloc), operations),
-        Err(_) => Err(Misfit::NoMemory),
-    }
-}
-
-fn logged_in(tree: Tree, log: OpLog, operations: &[Operation]) -> Result<(Tree, OpLog), Misfit>
-    requires empty { log.operations ≡ [] }
-    requires tells { AgreesWith tree [] }
-    ensures tells { IfOk result (λ parts. AgreesWith parts.0 operations.now) }
-    ensures log { IfOk result (λ parts. parts.1.operations ≡ operations.now) }
-    ensures good { OnOk result (IsGood operations.now) }
-    ensures err { IfErr result (IsMisfitOf operations.now) }
-{
-    let mut tree = tree;
-    let mut log = log;
+    let Ok(mut tree) = Tree::new(alloc) else {
+        return Err(Misfit::NoMemory);
+    };
+    let mut log = OpLog::new(alloc);
     match log_all(&mut tree, &mut log, operations) {
         Ok(()) => {
             keeps_good(&log);

@@ -1,5 +1,7 @@
+use Rattle.std.proofs.Common.{sym, subst}
 use Rattle.doc_view.proofs.Growing.{new_tree}
+use Rattle.replica_core.specs.AgreesWith.{AgreesWith}
 use Rattle.replica_core.proofs.restore.logged.Goals as goal
 
-pub logged_in-requires-clause-tells : goal.logged_in-requires-clause-tells
-logged_in-requires-clause-tells c = new_tree c.in-Ok.tree c.in-Ok.ensures.ok
+pub log_all-requires-clause-tells : goal.log_all-requires-clause-tells
+log_all-requires-clause-tells c = subst (AgreesWith c.in-Ok.tree) (sym c.new-log.ensures) (new_tree c.in-Ok.tree c.in-Ok.ensures.ok)
