@@ -1,11 +1,11 @@
-use Rattle.std.proofs.Common.{◌+◌, ◌≡◌, List, ℕ, map, string_bytes, inl, inr, refl, Err, sym, ap, subst, ◌∙◌, arith}
+use Rattle.std.proofs.Common.{◌+◌, List, ℕ, map, string_bytes, inl, inr, refl, Err, sym, ap, subst, ◌∙◌, arith}
 use Rattle.sqlite.specs.Held.{state}
-use Rattle.sqlite.specs.State.{HasCleanDisk, Survives}
-use Rattle.copy_schema.specs.Content.{Content, Holds, with_rows, rows_from}
+use Rattle.sqlite.specs.State.{HasCleanDisk}
+use Rattle.copy_schema.specs.Content.{Content, with_rows, rows_from}
 use Rattle.copy_tables.specs.Statements.{RanAll, batch_of}
 use Rattle.copy_tables.specs.Steps.{IsOpenWith}
 use Rattle.copy_docs.specs.Docs.{op_text}
-use Rattle.log_copy.specs.Batch.{IsLeft, Sends}
+use Rattle.log_copy.specs.Batch.{IsLeft}
 use Rattle.log_copy.proofs.SoundLemmas.{some_from, none_from, batch_rows, same_lengths, texts_writable}
 use Rattle.log_copy.proofs.BatchLemmas.{left_by, sends}
 use Rattle.log_copy.proofs.copy.try_batch.Goals as goal
