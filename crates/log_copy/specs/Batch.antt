@@ -1,0 +1,54 @@
+-- For private clauses: what an attempt to add a batch does to a connection and to the documents.
+use Rattle.std.specs.Prelude.{◌≡◌, ◌≢◌, ◌⊎◌, ◌+◌, ◌≤◌, ℕ, Bool, true, false, List, [], ◌++◌, length, map, Result, Ok, Err}
+use Rattle.std.specs.List.{AllByRecursion}
+use Rattle.sqlite.specs.Store.{Ghosts}
+use Rattle.sqlite.specs.Held.{Held, state}
+use Rattle.sqlite.specs.State.{HasCleanDisk, Survives}
+use Rattle.lamport_id.specs.Name.{is_name}
+use Rattle.op_core.specs.Op.{Op}
+use Rattle.crdt_rules.specs.Log.{IsGood}
+use Rattle.copy_schema.specs.Content.{Content, Holds, with_rows, rows_from}
+use Rattle.copy_tables.specs.Statements.{RanAll, batch_of}
+use Rattle.copy_tables.specs.Steps.{IsOpenWith}
+use Rattle.copy_docs.specs.Docs.{Doc, op_text, log_of, add_log, IsBatch}
+use Rattle.copy_docs.specs.declared.docs.TheConstants.{MAX_BATCH}
+use Rattle.copy_docs.specs.declared.fault.Fault.{Fault}
+use Rattle.copy_docs.specs.declared.fault.Fault.TheVariants.{Refused, Store, Memory}
+use Rattle.copy_rows.specs.Accepted.{IsWritable}
+
+-- these may be tried as a batch, and may still not fit
+abbrev pub MayAdd : List ℕ → ℕ → List Op → List Doc → Type 0
+MayAdd name from ops docs = (is_name name ≡ true) × (from ≡ length (log_of name docs)) × (length ops ≤ MAX_BATCH)
+
+abbrev pub is_store : {T : Type 0} → Result T Fault → Bool
+is_store (Ok x) = false
+is_store (Err Refused) = false
+is_store (Err Store) = true
+is_store (Err Memory) = false
+
+module _ {S : Type 0} (g : Ghosts S) (name : List ℕ) (from : ℕ) (ops : List Op) (old new : Held S) (docs now : List Doc) where
+  -- The documents hold the batch, whose rows were sent to the database.
+  pub record Sends : Type 0 where
+    pub may : MayAdd name from ops docs
+    pub some : ops ≢ []
+    pub good : IsGood (log_of name docs ++ ops)
+    pub writable : AllByRecursion (IsWritable 2) ops
+    pub added : now ≡ add_log name ops docs
+    pub survives : Survives (state g old) (state g new) (λ db. (was : Content) → IsOpenWith was (state g old) → Holds (with_rows (rows_from name (from + 1) (map op_text ops)) was) db)
+
+  -- The database answered them too.
+  pub record Writes : Type 0 where
+    pub sent : Sends
+    pub shows : HasCleanDisk (state g new) → (was : Content) → IsOpenWith was (state g old) → IsOpenWith (with_rows (rows_from name (from + 1) (map op_text ops)) was) (state g new)
+    pub ran : HasCleanDisk (state g new) → RanAll g (batch_of (rows_from name (from + 1) (map op_text ops))) old new
+
+  -- All is as it was.
+  pub record IsLeft : Type 0 where
+    pub same_conn : new ≡ old
+    pub same_docs : now ≡ docs
+
+  abbrev pub Tries : Result (Unit {0}) Fault → Type 0
+  Tries (Ok x) = (IsLeft × MayAdd name from ops docs × (ops ≡ [])) ⊎ Writes
+  Tries (Err Refused) = IsLeft × ¬ IsBatch name from ops docs
+  Tries (Err Store) = Sends
+  Tries (Err Memory) = IsLeft
