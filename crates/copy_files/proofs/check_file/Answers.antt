@@ -1,5 +1,0 @@
-use Rattle.copy_report.proofs.Reporting.{reports}
-use Rattle.copy_files.proofs.check_file.Goals as goal
-
-pub returns-clause-told : goal.returns-clause-told
-returns-clause-told g c = λ zero. reports _ _ c.open_copy-opened.result c.check_opened-status.ensures.good (c.check_opened-status.ensures.told zero)
