@@ -1,9 +1,8 @@
 //! The laws of convergence.
-use crate::holds::{holds, no_fault};
+use crate::holds::no_fault;
 use crate::written::{operation, operations};
 use converge_laws::{free_present, orders_agree, replay_all};
 use json_scalar::Refusal;
-use op_core::Operation;
 use std::alloc::Global;
 use std::test::Fail;
 
@@ -87,70 +86,144 @@ fn orders_agree_on_one_set(rt: HostRuntime) -> Result<(), Fail> {
     Ok(())
 }
 
-const DELETED_WHILE_EDITED: [&str; 6] = [
-    r#"["op",[1,"p"],[],[[["m",0]],"todo"],["assign",[]]]"#,
-    r#"["op",[2,"p"],[["p",1]],[[["m",0],["l","todo"]],1],["insert",{}]]"#,
-    r#"["op",[3,"p"],[["p",2]],[[["m",0],["l","todo"],["m",[2,"p"]]],"title"],["assign","buy milk"]]"#,
-    r#"["op",[4,"p"],[["p",3]],[[["m",0],["l","todo"],["m",[2,"p"]]],"done"],["assign",false]]"#,
-    r#"["op",[5,"q"],[["p",4]],[[["m",0],["l","todo"],["m",[2,"p"]]],"done"],["assign",true]]"#,
-    r#"["op",[5,"p"],[["p",4]],[[["m",0],["l","todo"]],[2,"p"]],["delete"]]"#,
+const LIST: &str = r#"["op",[1,"p"],[],[[["m",0]],"todo"],["assign",[]]]"#;
+
+const ELEMENT: &str = r#"["op",[2,"p"],[["p",1]],[[["m",0],["l","todo"]],1],["insert",{}]]"#;
+
+const TITLE: &str =
+    r#"["op",[3,"p"],[["p",2]],[[["m",0],["l","todo"],["m",[2,"p"]]],"title"],["assign","buy milk"]]"#;
+
+const TO_DO: &str =
+    r#"["op",[4,"p"],[["p",3]],[[["m",0],["l","todo"],["m",[2,"p"]]],"done"],["assign",false]]"#;
+
+const DONE: &str =
+    r#"["op",[5,"q"],[["p",4]],[[["m",0],["l","todo"],["m",[2,"p"]]],"done"],["assign",true]]"#;
+
+const DELETED: &str = r#"["op",[5,"p"],[["p",4]],[[["m",0],["l","todo"]],[2,"p"]],["delete"]]"#;
+
+const EDITED: [&str; 6] = [LIST, ELEMENT, TITLE, TO_DO, DONE, DELETED];
+
+const BELOW: &str = r#"["op",[1,"p"],[],[[["m",0],["m","a"]],"b"],["assign","v"]]"#;
+
+const DELETED_ABOVE: &str = r#"["op",[2,"q"],[["p",1]],[[["m",0]],"a"],["delete"]]"#;
+
+const DELETED_THERE: &str = r#"["op",[2,"p"],[["p",1]],[[["m",0],["m","a"]],"b"],["delete"]]"#;
+
+// Operations, two of which one may make the place of the other present, and whether it does.
+struct Presence {
+    name: &'static str,
+    texts: &'static [&'static str],
+    maker: &'static str,
+    place: &'static str,
+    due: bool,
+}
+
+// An element that one deletes while another edits it is made present by the edit alone. What stands below a deleted place is deleted too.
+const PRESENCES: [Presence; 12] = [
+    Presence {
+        name: "free_present_rows: the list",
+        texts: &EDITED,
+        maker: LIST,
+        place: DELETED,
+        due: false,
+    },
+    Presence {
+        name: "free_present_rows: the element",
+        texts: &EDITED,
+        maker: ELEMENT,
+        place: DELETED,
+        due: false,
+    },
+    Presence {
+        name: "free_present_rows: its title",
+        texts: &EDITED,
+        maker: TITLE,
+        place: DELETED,
+        due: false,
+    },
+    Presence {
+        name: "free_present_rows: that it is to do",
+        texts: &EDITED,
+        maker: TO_DO,
+        place: DELETED,
+        due: false,
+    },
+    Presence {
+        name: "free_present_rows: that it is done",
+        texts: &EDITED,
+        maker: DONE,
+        place: DELETED,
+        due: true,
+    },
+    Presence {
+        name: "free_present_rows: its deletion",
+        texts: &EDITED,
+        maker: DELETED,
+        place: DELETED,
+        due: false,
+    },
+    Presence {
+        name: "free_present_under_deletes: the assignment alone, there",
+        texts: &[BELOW],
+        maker: BELOW,
+        place: BELOW,
+        due: true,
+    },
+    Presence {
+        name: "free_present_under_deletes: the assignment alone, above",
+        texts: &[BELOW],
+        maker: BELOW,
+        place: DELETED_ABOVE,
+        due: true,
+    },
+    Presence {
+        name: "free_present_under_deletes: the delete above, there",
+        texts: &[BELOW, DELETED_ABOVE],
+        maker: BELOW,
+        place: BELOW,
+        due: false,
+    },
+    Presence {
+        name: "free_present_under_deletes: the delete above, above",
+        texts: &[BELOW, DELETED_ABOVE],
+        maker: BELOW,
+        place: DELETED_ABOVE,
+        due: false,
+    },
+    Presence {
+        name: "free_present_under_deletes: both deletes, there",
+        texts: &[BELOW, DELETED_ABOVE, DELETED_THERE],
+        maker: BELOW,
+        place: BELOW,
+        due: false,
+    },
+    Presence {
+        name: "free_present_under_deletes: both deletes, above",
+        texts: &[BELOW, DELETED_ABOVE, DELETED_THERE],
+        maker: BELOW,
+        place: DELETED_ABOVE,
+        due: false,
+    },
 ];
 
-const CONCURRENT_DELETES: [&str; 3] = [
-    r#"["op",[1,"p"],[],[[["m",0],["m","a"]],"b"],["assign","v"]]"#,
-    r#"["op",[2,"q"],[["p",1]],[[["m",0]],"a"],["delete"]]"#,
-    r#"["op",[2,"p"],[["p",1]],[[["m",0],["m","a"]],"b"],["delete"]]"#,
-];
+fn is_present(alloc: Global, row: &Presence) -> Result<bool, Refusal> {
+    let ops = operations(alloc, row.texts)?;
+    let maker = operation(alloc, row.maker)?;
+    let place = operation(alloc, row.place)?;
+    Ok(free_present(ops.as_slice(), place.cursor(), maker.id()))
+}
 
-// Whether of these operations that one alone makes the place of another present.
-fn is_only_present(ops: &[Operation], only: &Operation, at: &Operation) -> bool {
-    for op in ops {
-        if free_present(ops, at.cursor(), op.id()) != (op.id() == only.id()) {
-            return false;
+fn fault_of_presences(alloc: Global) -> Result<&'static str, Refusal> {
+    for row in &PRESENCES {
+        if is_present(alloc, row)? != row.due {
+            return Ok(row.name);
         }
     }
-    true
-}
-
-fn has_edit_alone(alloc: Global) -> Result<bool, Refusal> {
-    let ops = operations(alloc, &DELETED_WHILE_EDITED)?;
-    let delete = operation(alloc, DELETED_WHILE_EDITED[5])?;
-    let done = operation(alloc, DELETED_WHILE_EDITED[4])?;
-    Ok(is_only_present(ops.as_slice(), &done, &delete))
+    Ok("")
 }
 
 #[test]
-fn free_present_rows(rt: HostRuntime) -> Result<(), Fail> {
-    let is_due = has_edit_alone(rt.alloc())?;
-    holds(&rt, is_due, "not the edit alone makes the element present");
-    Ok(())
-}
-
-// Whether the first operation makes the element present where it ends, and where that of the delete above is.
-fn first_present(alloc: Global, texts: &[&str]) -> Result<(bool, bool), Refusal> {
-    let ops = operations(alloc, texts)?;
-    let first = operation(alloc, CONCURRENT_DELETES[0])?;
-    let above = operation(alloc, CONCURRENT_DELETES[1])?;
-    let below = free_present(ops.as_slice(), first.cursor(), first.id());
-    Ok((
-        below,
-        free_present(ops.as_slice(), above.cursor(), first.id()),
-    ))
-}
-
-#[test]
-fn free_present_under_deletes(rt: HostRuntime) -> Result<(), Fail> {
-    for (texts, due, what) in [
-        (
-            &CONCURRENT_DELETES[..1],
-            (true, true),
-            "the assignment alone",
-        ),
-        (&CONCURRENT_DELETES[..], (false, false), "both deletes"),
-        // The delete above alone clears what stands below it.
-        (&CONCURRENT_DELETES[..2], (false, false), "the delete above"),
-    ] {
-        holds(&rt, first_present(rt.alloc(), texts)? == due, what);
-    }
+fn free_presences(rt: HostRuntime) -> Result<(), Fail> {
+    no_fault(&rt, fault_of_presences(rt.alloc())?);
     Ok(())
 }

@@ -1,7 +1,7 @@
 //! A map of so many keys that its node's children stand in several blocks, made from the last key to the first.
-use crate::holds::holds;
+use crate::holds::no_fault;
 use crate::views::at;
-use crate::written::{Part, operation_of, text_of};
+use crate::written::push_next;
 use converge_laws::replay_all;
 use doc_view::keys;
 use doc_words::Texts;
@@ -10,59 +10,61 @@ use op_core::{KeyText, Operation};
 use std::alloc::Global;
 use std::test::Fail;
 
-/// Pushes p's next operation, an assignment at a key of the map `big`.
-fn push_assignment(
-    alloc: Global,
-    ops: &mut Vec<Operation>,
-    counter: u64,
-    key: u64,
-) -> Result<(), Refusal> {
-    let op = operation_of(
-        alloc,
-        &[
-            Part::Text(r#"["op",["#),
-            Part::Number(counter),
-            Part::Text(r#","p"],["#),
-            Part::Before(counter),
-            Part::Text(r#"],[[["m",0],["m","big"]],"k"#),
-            Part::Number(key),
-            Part::Text(r#""],["assign",7]]"#),
-        ],
-    )?;
-    ops.push(op)?;
-    Ok(())
+/// An edit of the map `big`: an assignment at the key of this number, or the deletion of it all.
+#[derive(Clone, Copy)]
+enum Edit {
+    Assign(u64),
+    Delete,
 }
 
-/// Pushes p's next operation, the deletion of the map `big`.
-fn push_deletion(alloc: Global, ops: &mut Vec<Operation>, counter: u64) -> Result<(), Refusal> {
-    let op = operation_of(
-        alloc,
+/// What is edited once there are the keys k100 to k399, and the keys that are left: their first number, how far they stand apart, and
+/// how many they are.
+const EDITED: [(&str, &[Edit], (u64, u64, u64)); 5] = [
+    ("keys_made_from_the_last_to_the_first", &[], (100, 1, 300)),
+    ("all_keys_deleted_twice: once", &[Edit::Delete], (0, 0, 0)),
+    (
+        "all_keys_deleted_twice: twice",
+        &[Edit::Delete, Edit::Delete],
+        (0, 0, 0),
+    ),
+    (
+        "both_ends_made_again_and_deleted: made again",
+        &[Edit::Delete, Edit::Assign(399), Edit::Assign(100)],
+        (100, 299, 2),
+    ),
+    (
+        "both_ends_made_again_and_deleted: deleted",
         &[
-            Part::Text(r#"["op",["#),
-            Part::Number(counter),
-            Part::Text(r#","p"],["#),
-            Part::Before(counter),
-            Part::Text(r#"],[[["m",0]],"big"],["delete"]]"#),
+            Edit::Delete,
+            Edit::Assign(399),
+            Edit::Assign(100),
+            Edit::Delete,
         ],
-    )?;
-    ops.push(op)?;
-    Ok(())
+        (0, 0, 0),
+    ),
+];
+
+fn push_edit(alloc: Global, ops: &mut Vec<Operation>, edit: Edit) -> Result<(), Refusal> {
+    match edit {
+        Edit::Assign(key) => {
+            let cursor = format!(in alloc; "[[\"m\",0],[\"m\",\"big\"]],\"k{key}\"")?;
+            push_next(alloc, ops, cursor.as_str(), r#""assign",7"#)
+        }
+        Edit::Delete => push_next(alloc, ops, r#"[["m",0]],"big""#, r#""delete""#),
+    }
 }
 
-/// Assignments at 300 keys, from k399 down to k100.
-fn falling(alloc: Global) -> Result<Vec<Operation>, Refusal> {
+/// Assignments at 300 keys, from k399 down to k100, and edits behind them.
+fn falling_and(alloc: Global, edits: &[Edit]) -> Result<Vec<Operation>, Refusal> {
     let mut ops = Vec::new(alloc);
-    for counter in 1..301 {
-        push_assignment(alloc, &mut ops, counter, 400_u64.saturating_sub(counter))?;
+    for before in 0..300 {
+        let key = 399_u64.saturating_sub(before);
+        push_edit(alloc, &mut ops, Edit::Assign(key))?;
+    }
+    for edit in edits {
+        push_edit(alloc, &mut ops, *edit)?;
     }
     Ok(ops)
-}
-
-/// The map deleted, and then its last and its first key made again.
-fn push_ends_again(alloc: Global, ops: &mut Vec<Operation>) -> Result<(), Refusal> {
-    push_deletion(alloc, ops, 301)?;
-    push_assignment(alloc, ops, 302, 399)?;
-    push_assignment(alloc, ops, 303, 100)
 }
 
 /// The keys of the map after operations.
@@ -74,86 +76,53 @@ fn keys_after(alloc: Global, ops: &[Operation]) -> Result<Texts, Refusal> {
 
 /// Whether a key is that of a number.
 fn is_of(alloc: Global, text: &KeyText, number: u64) -> Result<bool, Refusal> {
-    let due = text_of(alloc, &[Part::Text("k"), Part::Number(number)])?;
+    let due = format!(in alloc; "k{number}")?;
     Ok(text.as_str() == due.as_str())
 }
 
-/// How many keys there are, if they are k100, k101 and so on.
-fn rising_from_100(alloc: Global, texts: &[KeyText]) -> Result<Option<u64>, Refusal> {
+/// How many keys there are, if they are that of the first number and those so far apart behind it.
+fn count_rising(
+    alloc: Global,
+    texts: &[KeyText],
+    first: u64,
+    apart: u64,
+) -> Result<Option<u64>, Refusal> {
     let mut count: u64 = 0;
+    let mut number = first;
     for text in texts {
-        if !is_of(alloc, text, count.saturating_add(100))? {
+        if !is_of(alloc, text, number)? {
             return Ok(None);
         }
         count = count.saturating_add(1);
+        number = number.saturating_add(apart);
     }
     Ok(Some(count))
 }
 
-/// How many keys the assignments make, if they are k100, k101 and so on.
-fn rising_after_falling(alloc: Global) -> Result<Option<u64>, Refusal> {
-    let ops = falling(alloc)?;
-    let texts = keys_after(alloc, ops.as_slice())?;
-    rising_from_100(alloc, texts.as_slice())
-}
-
-#[test]
-fn keys_made_from_the_last_to_the_first(rt: HostRuntime) -> Result<(), Fail> {
-    let is_due = rising_after_falling(rt.alloc())? == Some(300);
-    holds(&rt, is_due, "the keys aren't k100 to k399");
-    Ok(())
-}
-
-/// How many keys there are once the map is deleted next.
-fn left_after_deletion(
+/// How many keys there are after these edits, if they are those.
+fn count_left(
     alloc: Global,
-    ops: &mut Vec<Operation>,
-    counter: u64,
-) -> Result<usize, Refusal> {
-    push_deletion(alloc, ops, counter)?;
-    Ok(keys_after(alloc, ops.as_slice())?.as_slice().len())
+    edits: &[Edit],
+    first: u64,
+    apart: u64,
+) -> Result<Option<u64>, Refusal> {
+    let ops = falling_and(alloc, edits)?;
+    let texts = keys_after(alloc, ops.as_slice())?;
+    count_rising(alloc, texts.as_slice(), first, apart)
 }
 
-/// How many keys there are once the map is deleted, and once it is deleted again.
-fn left_after_both(alloc: Global) -> Result<(usize, usize), Refusal> {
-    let mut ops = falling(alloc)?;
-    let once = left_after_deletion(alloc, &mut ops, 301)?;
-    Ok((once, left_after_deletion(alloc, &mut ops, 302)?))
-}
-
-#[test]
-fn all_keys_deleted_twice(rt: HostRuntime) -> Result<(), Fail> {
-    let (once, twice) = left_after_both(rt.alloc())?;
-    holds(&rt, once == 0, "keys are left after a deletion");
-    holds(&rt, twice == 0, "keys are left after a second deletion");
-    Ok(())
-}
-
-/// Whether these are the first and the last key.
-fn are_both_ends(texts: &[KeyText]) -> bool {
-    match texts {
-        [first, last] => first.as_str() == "k100" && last.as_str() == "k399",
-        _ => false,
+/// The name of the first row after which other keys are left, or nothing.
+fn fault_of_edits(alloc: Global) -> Result<&'static str, Refusal> {
+    for (name, edits, (first, apart, count)) in &EDITED {
+        if count_left(alloc, edits, *first, *apart)? != Some(*count) {
+            return Ok(name);
+        }
     }
-}
-
-/// Whether both ends are there, and nothing else.
-fn has_both_ends(alloc: Global, ops: &[Operation]) -> Result<bool, Refusal> {
-    Ok(are_both_ends(keys_after(alloc, ops)?.as_slice()))
-}
-
-/// Whether both ends are there once they are made again, and how many keys once the map is deleted then.
-fn ends_and_left(alloc: Global) -> Result<(bool, usize), Refusal> {
-    let mut ops = falling(alloc)?;
-    push_ends_again(alloc, &mut ops)?;
-    let made = has_both_ends(alloc, ops.as_slice())?;
-    Ok((made, left_after_deletion(alloc, &mut ops, 304)?))
+    Ok("")
 }
 
 #[test]
-fn both_ends_made_again_and_deleted(rt: HostRuntime) -> Result<(), Fail> {
-    let (made, left) = ends_and_left(rt.alloc())?;
-    holds(&rt, made, "the keys made again aren't both ends");
-    holds(&rt, left == 0, "keys are left after the last deletion");
+fn many_keys_edited(rt: HostRuntime) -> Result<(), Fail> {
+    no_fault(&rt, fault_of_edits(rt.alloc())?);
     Ok(())
 }

@@ -21,43 +21,52 @@ fn context_of(alloc: Global, texts: &[&str]) -> Result<PlainContext, Refusal> {
     plain_replay(alloc, ops.as_slice())
 }
 
-const DELETES: [&str; 3] = [
-    r#"["op",[1,"p"],[],[[["m",0],["m","a"]],"b"],["assign","v"]]"#,
-    r#"["op",[2,"p"],[["p",1]],[[["m",0],["m","a"]],"b"],["delete"]]"#,
-    r#"["op",[2,"q"],[["p",1]],[[["m",0]],"a"],["delete"]]"#,
-];
+const ASSIGNED: &str = r#"["op",[1,"p"],[],[[["m",0],["m","a"]],"b"],["assign","v"]]"#;
 
-/// Whether the place of an operation is present, and by that operation.
-fn present_at(ctx: &PlainContext, op: &Operation) -> (bool, bool) {
-    let cursor = op.cursor();
-    let (path, key) = (cursor.path.as_slice(), &cursor.key);
-    (ctx.is_present(path, key), ctx.has_mark(path, key, &op.id()))
-}
+const DELETED: &str = r#"["op",[2,"p"],[["p",1]],[[["m",0],["m","a"]],"b"],["delete"]]"#;
+
+const DELETED_ABOVE: &str = r#"["op",[2,"q"],[["p",1]],[[["m",0]],"a"],["delete"]]"#;
+
+/// Operations, and whether they leave the place of the first present, and by the first.
+const LEFT: [(&[&str], bool, &str); 3] = [
+    (&[ASSIGNED], true, "the assignment makes nothing present"),
+    (
+        &[ASSIGNED, DELETED],
+        false,
+        "the deletion leaves something present",
+    ),
+    (
+        &[ASSIGNED, DELETED, DELETED_ABOVE],
+        false,
+        "both deletions leave something present",
+    ),
+];
 
 /// Whether the place of the first operation is present after these, and by the first.
 fn first_present(alloc: Global, texts: &[&str]) -> Result<(bool, bool), Refusal> {
     let ctx = context_of(alloc, texts)?;
-    let first = operation(alloc, DELETES[0])?;
-    Ok(present_at(&ctx, &first))
+    let first = operation(alloc, ASSIGNED)?;
+    let cursor = first.cursor();
+    let (path, key) = (cursor.path.as_slice(), &cursor.key);
+    Ok((
+        ctx.is_present(path, key),
+        ctx.has_mark(path, key, &first.id()),
+    ))
+}
+
+/// What is wrong after the deletions, or nothing.
+fn fault_of_deletes(alloc: Global) -> Result<&'static str, Refusal> {
+    for (texts, due, what) in &LEFT {
+        if first_present(alloc, texts)? != (*due, *due) {
+            return Ok(what);
+        }
+    }
+    Ok("")
 }
 
 #[test]
 fn concurrent_deletes(rt: HostRuntime) -> Result<(), Fail> {
-    for (some, want, what) in [
-        (&DELETES[..1], true, "the assignment makes nothing present"),
-        (
-            &DELETES[..2],
-            false,
-            "the deletion leaves something present",
-        ),
-        (
-            &DELETES[..],
-            false,
-            "both deletions leave something present",
-        ),
-    ] {
-        holds(&rt, first_present(rt.alloc(), some)? == (want, want), what);
-    }
+    no_fault(&rt, fault_of_deletes(rt.alloc())?);
     Ok(())
 }
 

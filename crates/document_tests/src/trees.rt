@@ -2,8 +2,8 @@
 ghost use Rattle.std.specs.Prelude.{◌≡◌};
 ghost use Rattle.crdt_rules.specs.Effect as Effect;
 
-use crate::holds::{holds, no_fault};
-use crate::written::operation;
+use crate::holds::no_fault;
+use crate::written::{DEEPEST, operation};
 use doc_tree::{Entries, Tree};
 use doc_words::Role;
 use json_scalar::Refusal;
@@ -70,72 +70,43 @@ const ADDED: &str = r#"["op",[3,"q"],[["p",1],["q",2]],[[["m",0]],"k"],["add",5]
 
 const DELETED: &str = r#"["op",[4,"q"],[["p",1],["q",3]],[[["m",0]],"k"],["delete"]]"#;
 
-// What is counted at the place of the first operation after so many of these.
-const COUNTED: [(&[&str], (usize, usize, usize), &str); 4] = [
-    (&[FIRST], (1, 1, 0), "other counts after the first"),
+// What is counted at the place of an operation after these.
+const COUNTED: [(&str, &[&str], &str, (usize, usize, usize)); 6] = [
+    ("concurrent_register: the first", &[FIRST], FIRST, (1, 1, 0)),
     (
+        "concurrent_register: both assignments",
         &[FIRST, SECOND, OTHER],
+        FIRST,
         (2, 2, 0),
-        "other counts after both assignments",
     ),
     (
+        "concurrent_register: the addition",
         &[FIRST, SECOND, OTHER, ADDED],
+        FIRST,
         (3, 2, 1),
-        "other counts after the addition",
     ),
     (
+        "concurrent_register: the deletion",
         &[FIRST, SECOND, OTHER, ADDED, DELETED],
+        FIRST,
         (1, 1, 0),
-        "other counts after the deletion",
     ),
+    ("deepest_place: there", &[DEEPEST], DEEPEST, (1, 1, 0)),
+    ("deepest_place: above it", &[DEEPEST], FIRST, (1, 0, 0)),
 ];
 
-// What is wrong with the counts, or nothing.
+// The name of the first row of which other counts are told, or nothing.
 fn fault_of_counts(alloc: Global) -> Result<&'static str, Refusal> {
-    for (texts, due, what) in &COUNTED {
-        if counts(alloc, texts, FIRST)? != *due {
-            return Ok(what);
+    for (name, texts, at, due) in &COUNTED {
+        if counts(alloc, texts, at)? != *due {
+            return Ok(name);
         }
     }
     Ok("")
 }
 
 #[test]
-fn concurrent_register(rt: HostRuntime) -> Result<(), Fail> {
+fn counts_at_places(rt: HostRuntime) -> Result<(), Fail> {
     no_fault(&rt, fault_of_counts(rt.alloc())?);
-    Ok(())
-}
-
-// An assignment below the greatest number of keys, 29.
-fn deep(alloc: Global) -> Result<String, Refusal> {
-    let mut text = String::from_str(alloc, r#"["op",[1,"p"],[],[[["m",0]"#)?;
-    for _ in 0..29 {
-        text.push_str(r#",["m","k"]"#)?;
-    }
-    text.push_str(r#"],"k"],["assign",7]]"#)?;
-    Ok(text)
-}
-
-// What is counted at the deepest place, and what at that of the first.
-fn counts_of_deep(
-    alloc: Global,
-) -> Result<((usize, usize, usize), (usize, usize, usize)), Refusal> {
-    let text = deep(alloc)?;
-    let texts = [text.as_str()];
-    Ok((
-        counts(alloc, &texts, text.as_str())?,
-        counts(alloc, &texts, FIRST)?,
-    ))
-}
-
-#[test]
-fn deepest_place(rt: HostRuntime) -> Result<(), Fail> {
-    let (at, above) = counts_of_deep(rt.alloc())?;
-    holds(&rt, at == (1, 1, 0), "other counts at the deepest place");
-    holds(
-        &rt,
-        above == (1, 0, 0),
-        "other counts above the deepest place",
-    );
     Ok(())
 }

@@ -1,6 +1,6 @@
 //! What is read of a tree.
 use crate::holds::{holds, no_fault};
-use crate::written::{Part, operation_of, operations, push_parts, text_of};
+use crate::written::{DEEPEST, operations, push_next};
 use converge_laws::replay_all;
 use doc_tree::Tree;
 use doc_view::{conflicts, items, items_text, keys, keys_text, resolve, show, sum, values};
@@ -58,28 +58,13 @@ fn told_text(
     }
 }
 
-/// What is told of the place to which names lead, and its text.
-type Row<'a> = (Told, &'a [&'a str], &'a str);
-
-fn is_told(alloc: Global, tree: &Tree, row: Row<'_>) -> Result<bool, Refusal> {
-    let cursor = at(alloc, tree, row.1)?;
-    let text = told_text(alloc, tree, &cursor, row.0)?;
-    Ok(text.as_str() == row.2)
-}
-
-/// The text of the first row that the tree after operations doesn't tell, or nothing.
-fn fault_told(
-    alloc: Global,
-    texts: &[&str],
-    rows: &[Row<'static>],
-) -> Result<&'static str, Refusal> {
-    let tree = tree_of(alloc, texts)?;
-    for row in rows {
-        if !is_told(alloc, &tree, *row)? {
-            return Ok(row.2);
-        }
-    }
-    Ok("")
+/// What is told of the place to which names lead, after operations.
+struct Row {
+    name: &'static str,
+    texts: &'static [&'static str],
+    what: Told,
+    names: &'static [&'static str],
+    due: &'static str,
 }
 
 const TODO: [&str; 6] = [
@@ -91,34 +76,10 @@ const TODO: [&str; 6] = [
     r#"["op",[5,"q"],[["p",4]],[[["m",0],["l","todo"],["m",[2,"p"]]],"done"],["assign",true]]"#,
 ];
 
-const TODO_TOLD: [Row<'static>; 1] = [(
-    Told::Shown,
-    &["todo"],
-    r#"[["list",[[["map",[["done",[["val",[5,"q"],true]]]]]]]]]"#,
-)];
-
-#[test]
-fn todo_deleted_while_edited(rt: HostRuntime) -> Result<(), Fail> {
-    no_fault(&rt, fault_told(rt.alloc(), &TODO, &TODO_TOLD)?);
-    Ok(())
-}
-
 const EMPTY: [&str; 2] = [
     r#"["op",[1,"p"],[],[[["m",0]],"m"],["assign",{}]]"#,
     r#"["op",[1,"q"],[],[[["m",0]],"l"],["assign",[]]]"#,
 ];
-
-const EMPTY_TOLD: [Row<'static>; 1] = [(
-    Told::Shown,
-    &[],
-    r#"[["map",[["l",[["list",[]]]],["m",[["map",[]]]]]]]"#,
-)];
-
-#[test]
-fn empty_map_and_empty_list(rt: HostRuntime) -> Result<(), Fail> {
-    no_fault(&rt, fault_told(rt.alloc(), &EMPTY, &EMPTY_TOLD)?);
-    Ok(())
-}
 
 const MAP_AND_LIST: [&str; 4] = [
     r#"["op",[1,"p"],[],[[["m",0]],"a"],["assign",{}]]"#,
@@ -127,23 +88,143 @@ const MAP_AND_LIST: [&str; 4] = [
     r#"["op",[2,"q"],[["q",1]],[[["m",0],["l","a"]],1],["insert","z"]]"#,
 ];
 
-const MAP_AND_LIST_TOLD: [Row<'static>; 1] = [(
-    Told::Shown,
-    &["a"],
-    r#"[["map",[["x",[["val",[2,"p"],"y"]]]]],["list",[[["val",[2,"q"],"z"]]]]]"#,
-)];
+const ITEMS: [&str; 7] = [
+    r#"["op",[1,"p"],[],[[["m",0]],"l"],["assign",[]]]"#,
+    r#"["op",[2,"p"],[["p",1]],[[["m",0],["l","l"]],1],["insert",1]]"#,
+    r#"["op",[3,"p"],[["p",2]],[[["m",0],["l","l"]],1],["insert",null]]"#,
+    r#"["op",[4,"p"],[["p",3]],[[["m",0],["l","l"]],1],["insert","d\"d"]]"#,
+    r#"["op",[5,"p"],[["p",4]],[[["m",0],["l","l"]],[3,"p"]],["delete"]]"#,
+    r#"["op",[5,"q"],[["p",4]],[[["m",0],["l","l"]],[2,"p"]],["assign",true]]"#,
+    r#"["op",[6,"p"],[["p",5]],[[["m",0],["l","l"]],[2,"p"]],["assign",-7]]"#,
+];
+
+const KEYS: [&str; 5] = [
+    r#"["op",[1,"p"],[],[[["m",0]],"m"],["assign",{}]]"#,
+    r#"["op",[2,"p"],[["p",1]],[[["m",0],["m","m"]],"b"],["assign",1]]"#,
+    r#"["op",[3,"p"],[["p",2]],[[["m",0],["m","m"]],"c"],["assign",2]]"#,
+    r#"["op",[4,"p"],[["p",3]],[[["m",0],["m","m"]],"a\"a"],["assign",3]]"#,
+    r#"["op",[5,"p"],[["p",4]],[[["m",0],["m","m"]],"b"],["delete"]]"#,
+];
+
+const COUNTER: [&str; 3] = [
+    r#"["op",[1,"p"],[],[[["m",0]],"n"],["add",5]]"#,
+    r#"["op",[1,"q"],[],[[["m",0]],"n"],["add",-7]]"#,
+    r#"["op",[2,"p"],[["p",1]],[[["m",0]],"n"],["assign","x"]]"#,
+];
+
+const TOLD: [Row; 10] = [
+    Row {
+        name: "todo_deleted_while_edited",
+        texts: &TODO,
+        what: Told::Shown,
+        names: &["todo"],
+        due: r#"[["list",[[["map",[["done",[["val",[5,"q"],true]]]]]]]]]"#,
+    },
+    Row {
+        name: "empty_map_and_empty_list",
+        texts: &EMPTY,
+        what: Told::Shown,
+        names: &[],
+        due: r#"[["map",[["l",[["list",[]]]],["m",[["map",[]]]]]]]"#,
+    },
+    Row {
+        name: "map_and_list_at_one_key",
+        texts: &MAP_AND_LIST,
+        what: Told::Shown,
+        names: &["a"],
+        due: r#"[["map",[["x",[["val",[2,"p"],"y"]]]]],["list",[[["val",[2,"q"],"z"]]]]]"#,
+    },
+    Row {
+        name: "tells_items_as_text: of a list",
+        texts: &ITEMS,
+        what: Told::Items,
+        names: &["l"],
+        due: r#"[[[4,"p"],["d\"d"]],[[2,"p"],[true,-7]]]"#,
+    },
+    Row {
+        name: "tells_items_as_text: of the document",
+        texts: &ITEMS,
+        what: Told::Items,
+        names: &[],
+        due: "[]",
+    },
+    Row {
+        name: "tells_items_as_text: of nothing",
+        texts: &ITEMS,
+        what: Told::Items,
+        names: &["absent"],
+        due: "[]",
+    },
+    Row {
+        name: "tells_keys_as_text: of a map",
+        texts: &KEYS,
+        what: Told::Keys,
+        names: &["m"],
+        due: r#"["a\"a","c"]"#,
+    },
+    Row {
+        name: "tells_keys_as_text: of the document",
+        texts: &KEYS,
+        what: Told::Keys,
+        names: &[],
+        due: r#"["m"]"#,
+    },
+    Row {
+        name: "tells_keys_as_text: of nothing",
+        texts: &KEYS,
+        what: Told::Keys,
+        names: &["absent"],
+        due: "[]",
+    },
+    Row {
+        name: "counter_and_scalar",
+        texts: &COUNTER,
+        what: Told::Shown,
+        names: &["n"],
+        due: r#"[["val",[2,"p"],"x"],["cnt","-7"]]"#,
+    },
+];
+
+fn is_told(alloc: Global, tree: &Tree, row: &Row) -> Result<bool, Refusal> {
+    let cursor = at(alloc, tree, row.names)?;
+    let text = told_text(alloc, tree, &cursor, row.what)?;
+    Ok(text.as_str() == row.due)
+}
+
+/// The name of the first row that isn't told, or nothing.
+fn fault_told(alloc: Global) -> Result<&'static str, Refusal> {
+    for row in &TOLD {
+        let tree = tree_of(alloc, row.texts)?;
+        if !is_told(alloc, &tree, row)? {
+            return Ok(row.name);
+        }
+    }
+    Ok("")
+}
 
 #[test]
-fn map_and_list_at_one_key(rt: HostRuntime) -> Result<(), Fail> {
-    no_fault(
-        &rt,
-        fault_told(rt.alloc(), &MAP_AND_LIST, &MAP_AND_LIST_TOLD)?,
-    );
+fn told_as_text(rt: HostRuntime) -> Result<(), Fail> {
+    no_fault(&rt, fault_told(rt.alloc())?);
     Ok(())
 }
 
-fn map_and_list(alloc: Global) -> Result<Tree, Refusal> {
-    tree_of(alloc, &MAP_AND_LIST)
+/// What is wrong with the sum of the counter, and the values beside it, or nothing.
+fn fault_of_counter(alloc: Global) -> Result<&'static str, Refusal> {
+    let tree = tree_of(alloc, &COUNTER)?;
+    let cursor = at(alloc, &tree, &["n"])?;
+    Ok(if sum(&tree, &cursor)? != -7 {
+        "the sum isn't -7"
+    } else if values(alloc, &tree, &cursor)?.as_slice().len() != 1 {
+        "there isn't one value"
+    } else {
+        ""
+    })
+}
+
+#[test]
+fn counter_and_scalar(rt: HostRuntime) -> Result<(), Fail> {
+    no_fault(&rt, fault_of_counter(rt.alloc())?);
+    Ok(())
 }
 
 fn is_only_text(texts: &[KeyText], text: &str) -> bool {
@@ -175,7 +256,7 @@ fn fault_of_place(alloc: Global, tree: &Tree, cursor: &Cursor) -> Result<&'stati
 }
 
 fn fault_of_map_and_list(alloc: Global) -> Result<&'static str, Refusal> {
-    let tree = map_and_list(alloc)?;
+    let tree = tree_of(alloc, &MAP_AND_LIST)?;
     let cursor = at(alloc, &tree, &["a"])?;
     fault_of_place(alloc, &tree, &cursor)
 }
@@ -186,160 +267,73 @@ fn reads_a_place(rt: HostRuntime) -> Result<(), Fail> {
     Ok(())
 }
 
-const ITEMS: [&str; 7] = [
-    r#"["op",[1,"p"],[],[[["m",0]],"l"],["assign",[]]]"#,
-    r#"["op",[2,"p"],[["p",1]],[[["m",0],["l","l"]],1],["insert",1]]"#,
-    r#"["op",[3,"p"],[["p",2]],[[["m",0],["l","l"]],1],["insert",null]]"#,
-    r#"["op",[4,"p"],[["p",3]],[[["m",0],["l","l"]],1],["insert","d\"d"]]"#,
-    r#"["op",[5,"p"],[["p",4]],[[["m",0],["l","l"]],[3,"p"]],["delete"]]"#,
-    r#"["op",[5,"q"],[["p",4]],[[["m",0],["l","l"]],[2,"p"]],["assign",true]]"#,
-    r#"["op",[6,"p"],[["p",5]],[[["m",0],["l","l"]],[2,"p"]],["assign",-7]]"#,
-];
-
-const ITEMS_TOLD: [Row<'static>; 3] = [
-    (
-        Told::Items,
-        &["l"],
-        r#"[[[4,"p"],["d\"d"]],[[2,"p"],[true,-7]]]"#,
-    ),
-    (Told::Items, &[], "[]"),
-    (Told::Items, &["absent"], "[]"),
-];
-
-#[test]
-fn tells_items_as_text(rt: HostRuntime) -> Result<(), Fail> {
-    no_fault(&rt, fault_told(rt.alloc(), &ITEMS, &ITEMS_TOLD)?);
-    Ok(())
-}
-
-const KEYS: [&str; 5] = [
-    r#"["op",[1,"p"],[],[[["m",0]],"m"],["assign",{}]]"#,
-    r#"["op",[2,"p"],[["p",1]],[[["m",0],["m","m"]],"b"],["assign",1]]"#,
-    r#"["op",[3,"p"],[["p",2]],[[["m",0],["m","m"]],"c"],["assign",2]]"#,
-    r#"["op",[4,"p"],[["p",3]],[[["m",0],["m","m"]],"a\"a"],["assign",3]]"#,
-    r#"["op",[5,"p"],[["p",4]],[[["m",0],["m","m"]],"b"],["delete"]]"#,
-];
-
-const KEYS_TOLD: [Row<'static>; 3] = [
-    (Told::Keys, &["m"], r#"["a\"a","c"]"#),
-    (Told::Keys, &[], r#"["m"]"#),
-    (Told::Keys, &["absent"], "[]"),
-];
-
-#[test]
-fn tells_keys_as_text(rt: HostRuntime) -> Result<(), Fail> {
-    no_fault(&rt, fault_told(rt.alloc(), &KEYS, &KEYS_TOLD)?);
-    Ok(())
-}
-
-const COUNTER: [&str; 3] = [
-    r#"["op",[1,"p"],[],[[["m",0]],"n"],["add",5]]"#,
-    r#"["op",[1,"q"],[],[[["m",0]],"n"],["add",-7]]"#,
-    r#"["op",[2,"p"],[["p",1]],[[["m",0]],"n"],["assign","x"]]"#,
-];
-
-const COUNTER_TOLD: [Row<'static>; 1] = [(
-    Told::Shown,
-    &["n"],
-    r#"[["val",[2,"p"],"x"],["cnt","-7"]]"#,
-)];
-
-/// The sum of the counter, and how many values stand beside it.
-fn sum_and_values(alloc: Global) -> Result<(i128, usize), Refusal> {
-    let tree = tree_of(alloc, &COUNTER)?;
-    let cursor = at(alloc, &tree, &["n"])?;
-    let sum = sum(&tree, &cursor)?;
-    Ok((sum, values(alloc, &tree, &cursor)?.as_slice().len()))
-}
-
-#[test]
-fn counter_and_scalar(rt: HostRuntime) -> Result<(), Fail> {
-    let (sum, values) = sum_and_values(rt.alloc())?;
-    holds(&rt, sum == -7, "the sum isn't -7");
-    holds(&rt, values == 1, "there isn't one value");
-    no_fault(&rt, fault_told(rt.alloc(), &COUNTER, &COUNTER_TOLD)?);
-    Ok(())
-}
-
 /// The place at an index of the list.
 fn at_index(alloc: Global, tree: &Tree, index: u64) -> Result<Cursor, Refusal> {
     let list = at(alloc, tree, &["a"])?;
     resolve(tree, list, &[Step::Index(index)])
 }
 
-fn is_at_head<T>(read: &Result<T, Refusal>) -> bool {
-    matches!(read, Err(Refusal::AtHead))
+/// What is asked of a place.
+#[derive(Clone, Copy)]
+enum Asked {
+    Keys,
+    Values,
+    Items,
+    Conflicts,
+    Sum,
+    Told(Told),
 }
 
-/// Whether the sum at a head is refused.
-fn refuses_sum(alloc: Global, tree: &Tree) -> Result<bool, Refusal> {
-    let head = at_index(alloc, tree, 0)?;
-    Ok(is_at_head(&sum(tree, &head)))
-}
+/// All that can be asked of a head, each of which is refused.
+const ASKED: [(Asked, &str); 8] = [
+    (Asked::Keys, "reads_at_a_head: keys"),
+    (Asked::Values, "reads_at_a_head: values"),
+    (Asked::Items, "reads_at_a_head: items"),
+    (Asked::Conflicts, "reads_at_a_head: conflicts"),
+    (Asked::Sum, "index_and_head_refusals: the sum"),
+    (
+        Asked::Told(Told::Shown),
+        "reads_at_a_head: the element as text",
+    ),
+    (Asked::Told(Told::Keys), "reads_at_a_head: keys as text"),
+    (Asked::Told(Told::Items), "reads_at_a_head: items as text"),
+];
 
-fn is_past_end(read: &Result<Cursor, Refusal>) -> bool {
-    matches!(read, Err(Refusal::IndexPastEnd))
-}
-
-/// Whether the sum at a head is refused, and an index past the end.
-fn refuses_indexes(alloc: Global) -> Result<(bool, bool), Refusal> {
-    let tree = map_and_list(alloc)?;
-    let sum = refuses_sum(alloc, &tree)?;
-    Ok((sum, is_past_end(&at_index(alloc, &tree, 2))))
-}
-
-#[test]
-fn index_and_head_refusals(rt: HostRuntime) -> Result<(), Fail> {
-    let (sum, index) = refuses_indexes(rt.alloc())?;
-    holds(&rt, sum, "the sum at a head isn't refused");
-    holds(&rt, index, "an index past the end isn't refused");
-    Ok(())
-}
-
-/// What is read at a head though it is to be refused, or nothing.
-fn read_of_head(alloc: Global, tree: &Tree, head: &Cursor) -> &'static str {
-    if !is_at_head(&keys(alloc, tree, head)) {
-        "keys"
-    } else if !is_at_head(&values(alloc, tree, head)) {
-        "values"
-    } else if !is_at_head(&items(alloc, tree, head)) {
-        "items"
-    } else if !is_at_head(&conflicts(alloc, tree, head)) {
-        "conflicts"
-    } else {
-        ""
+/// Why what is asked of a place is refused, if it is.
+fn cause(alloc: Global, tree: &Tree, cursor: &Cursor, asked: Asked) -> Option<Refusal> {
+    match asked {
+        Asked::Keys => keys(alloc, tree, cursor).err(),
+        Asked::Values => values(alloc, tree, cursor).err(),
+        Asked::Items => items(alloc, tree, cursor).err(),
+        Asked::Conflicts => conflicts(alloc, tree, cursor).err(),
+        Asked::Sum => sum(tree, cursor).err(),
+        Asked::Told(what) => told_text(alloc, tree, cursor, what).err(),
     }
 }
 
-/// What is told of a head though it is to be refused, or nothing.
-fn told_of_head(alloc: Global, tree: &Tree, head: &Cursor) -> &'static str {
-    for (what, text) in [
-        (Told::Shown, "the element as text"),
-        (Told::Keys, "keys as text"),
-        (Told::Items, "items as text"),
-    ] {
-        if !is_at_head(&told_text(alloc, tree, head, what)) {
-            return text;
+/// The name of what is answered at a head, or nothing.
+fn answered_at(alloc: Global, tree: &Tree, head: &Cursor) -> &'static str {
+    for (asked, what) in &ASKED {
+        if cause(alloc, tree, head, *asked) != Some(Refusal::AtHead) {
+            return what;
         }
     }
     ""
 }
 
-/// What is read of a head, and what is told of it.
-fn said_of_head(alloc: Global) -> Result<(&'static str, &'static str), Refusal> {
-    let tree = map_and_list(alloc)?;
+/// What is wrong at the head of the list and past its end, or nothing.
+fn fault_of_indexes(alloc: Global) -> Result<&'static str, Refusal> {
+    let tree = tree_of(alloc, &MAP_AND_LIST)?;
+    if at_index(alloc, &tree, 2).err() != Some(Refusal::IndexPastEnd) {
+        return Ok("index_and_head_refusals: an index past the end");
+    }
     let head = at_index(alloc, &tree, 0)?;
-    Ok((
-        read_of_head(alloc, &tree, &head),
-        told_of_head(alloc, &tree, &head),
-    ))
+    Ok(answered_at(alloc, &tree, &head))
 }
 
 #[test]
-fn reads_at_a_head(rt: HostRuntime) -> Result<(), Fail> {
-    let (read, told) = said_of_head(rt.alloc())?;
-    no_fault(&rt, read);
-    no_fault(&rt, told);
+fn reads_at_a_head_and_past_the_end(rt: HostRuntime) -> Result<(), Fail> {
+    no_fault(&rt, fault_of_indexes(rt.alloc())?);
     Ok(())
 }
 
@@ -358,92 +352,37 @@ fn nesting(text: &str) -> usize {
     deepest
 }
 
-/// How deep the brackets of a reply nest that shows the whole document.
-fn shown_nesting(alloc: Global, tree: &Tree) -> Result<usize, Refusal> {
-    let element = show(alloc, tree, &whole(alloc))?;
-    let reply = text_of(
-        alloc,
-        &[
-            Part::Text(r#"["show","#),
-            Part::Text(element.as_str()),
-            Part::Text("]"),
-        ],
-    )?;
-    Ok(nesting(reply.as_str()))
-}
-
-/// An assignment in a map in 29 others, at a path of 30 keys.
-fn map_in_maps(alloc: Global) -> Result<Tree, Refusal> {
-    let mut text = String::from_str(alloc, r#"["op",[1,"p"],[],[[["m",0]"#)?;
-    for _ in 0..29 {
-        text.push_str(r#",["m","k"]"#)?;
-    }
-    text.push_str(r#"],"k"],["assign",7]]"#)?;
-    tree_of(alloc, &[text.as_str()])
-}
-
-/// Pushes p's next operation, an insertion into the list to which a path leads.
-fn push_insertion(
-    alloc: Global,
-    ops: &mut Vec<Operation>,
-    counter: u64,
-    path: &str,
-) -> Result<(), Refusal> {
-    let op = operation_of(
-        alloc,
-        &[
-            Part::Text(r#"["op",["#),
-            Part::Number(counter),
-            Part::Text(r#","p"],["#),
-            Part::Before(counter),
-            Part::Text("],[["),
-            Part::Text(path),
-            Part::Text(r#"],1],["insert",7]]"#),
-        ],
-    )?;
-    ops.push(op)?;
-    Ok(())
+/// How deep the brackets of a reply nest that shows the whole document after operations: it has the element in brackets of its own.
+fn shown_nesting(alloc: Global, ops: &[Operation]) -> Result<usize, Refusal> {
+    let tree = replay_all(alloc, ops)?;
+    let element = show(alloc, &tree, &whole(alloc))?;
+    Ok(nesting(element.as_str()).saturating_add(1))
 }
 
 /// Pushes an insertion into the list to which a path leads, and makes the path that of a list in a map there.
-fn push_list(
-    alloc: Global,
-    ops: &mut Vec<Operation>,
-    counter: u64,
-    path: &mut String,
-) -> Result<(), Refusal> {
-    push_insertion(alloc, ops, counter, path.as_str())?;
-    push_parts(
-        alloc,
-        path,
-        &[
-            Part::Text(r#",["m",["#),
-            Part::Number(counter),
-            Part::Text(r#","p"]],["l","k"]"#),
-        ],
-    )
+fn push_list(alloc: Global, ops: &mut Vec<Operation>, path: &mut String) -> Result<(), Refusal> {
+    let cursor = format!(in alloc; "[{path}],1")?;
+    push_next(alloc, ops, cursor.as_str(), r#""insert",7"#)?;
+    let below = format!(in alloc; ",[\"m\",[{},\"p\"]],[\"l\",\"k\"]", ops.len())?;
+    path.push_str(below.as_str())?;
+    Ok(())
 }
 
-/// The operations that make a list in a map that is an element of a list, and so on.
+/// The operations that make a list in a map that is an element of a list, and so on, the last at a path of 30 keys.
 fn insertions(alloc: Global) -> Result<Vec<Operation>, Refusal> {
     let mut ops = Vec::new(alloc);
     let mut path = String::from_str(alloc, r#"["m",0],["l","k"]"#)?;
-    for counter in 1..16 {
-        push_list(alloc, &mut ops, counter, &mut path)?;
+    for _ in 0..15 {
+        push_list(alloc, &mut ops, &mut path)?;
     }
     Ok(ops)
 }
 
-/// An element of a list in a map that is an element of a list, and so on, at a path of 30 keys.
-fn lists_in_maps(alloc: Global) -> Result<Tree, Refusal> {
-    let ops = insertions(alloc)?;
-    replay_all(alloc, ops.as_slice())
-}
-
 /// How deep maps nest when shown, and how deep lists.
 fn nestings(alloc: Global) -> Result<(usize, usize), Refusal> {
-    let maps = shown_nesting(alloc, &map_in_maps(alloc)?)?;
-    Ok((maps, shown_nesting(alloc, &lists_in_maps(alloc)?)?))
+    let maps = shown_nesting(alloc, operations(alloc, &[DEEPEST])?.as_slice())?;
+    let lists = shown_nesting(alloc, insertions(alloc)?.as_slice())?;
+    Ok((maps, lists))
 }
 
 // No path is longer than 30 keys. A map has four brackets (its element, its branch, its fields and one of them), a list

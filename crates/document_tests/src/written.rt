@@ -4,6 +4,10 @@ use op_core::{Operation, read_wire};
 use serde_json::Value;
 use std::alloc::Global;
 
+/// An assignment in a map in 29 others, which are the most: at a path of 30 keys.
+pub const DEEPEST: &str =
+    r#"["op",[1,"p"],[],[[["m",0],["m","k"],["m","k"],["m","k"],["m","k"],["m","k"],["m","k"],["m","k"],["m","k"],["m","k"],["m","k"],["m","k"],["m","k"],["m","k"],["m","k"],["m","k"],["m","k"],["m","k"],["m","k"],["m","k"],["m","k"],["m","k"],["m","k"],["m","k"],["m","k"],["m","k"],["m","k"],["m","k"],["m","k"],["m","k"]],"k"],["assign",7]]"#;
+
 pub fn operation(alloc: Global, text: &str) -> Result<Operation, Refusal> {
     match Value::from_str(alloc, text) {
         Ok(value) => read_wire(alloc, &value),
@@ -19,57 +23,30 @@ pub fn operations(alloc: Global, texts: &[&str]) -> Result<Vec<Operation>, Refus
     Ok(ops)
 }
 
-/// A part of a text.
-#[derive(Clone, Copy)]
-pub enum Part<'a> {
-    Text(&'a str),
-    Number(u64),
-    /// What the front of p's operation of a counter lists: its operation before, if it has one.
-    Before(u64),
-}
-
-fn push_number(alloc: Global, text: &mut String, number: u64) -> Result<(), Refusal> {
-    text.push_str(number.to_string(alloc)?.as_str())?;
-    Ok(())
-}
-
-fn push_before(alloc: Global, text: &mut String, counter: u64) -> Result<(), Refusal> {
-    if counter <= 1 {
-        return Ok(());
+/// What the front of p's operation behind so many lists: the one before it, if there is one.
+fn front_behind(alloc: Global, before: usize) -> Result<String, Refusal> {
+    if before == 0 {
+        return Ok(String::new(alloc));
     }
-    text.push_str(r#"["p","#)?;
-    push_number(alloc, text, counter.saturating_sub(1))?;
-    text.push_str("]")?;
-    Ok(())
+    Ok(format!(in alloc; "[\"p\",{before}]")?)
 }
 
-fn push_part(alloc: Global, text: &mut String, part: Part<'_>) -> Result<(), Refusal> {
-    match part {
-        Part::Text(some) => {
-            text.push_str(some)?;
-            Ok(())
-        }
-        Part::Number(number) => push_number(alloc, text, number),
-        Part::Before(counter) => push_before(alloc, text, counter),
-    }
-}
-
-pub fn push_parts(alloc: Global, text: &mut String, parts: &[Part<'_>]) -> Result<(), Refusal> {
-    for part in parts {
-        push_part(alloc, text, *part)?;
-    }
-    Ok(())
-}
-
-/// The text of these parts.
-pub fn text_of(alloc: Global, parts: &[Part<'_>]) -> Result<String, Refusal> {
-    let mut text = String::new(alloc);
-    push_parts(alloc, &mut text, parts)?;
-    Ok(text)
-}
-
-/// The operation whose written form has these parts.
-pub fn operation_of(alloc: Global, parts: &[Part<'_>]) -> Result<Operation, Refusal> {
-    let text = text_of(alloc, parts)?;
+/// The operation of p behind so many, whose cursor and mutation are given without their brackets.
+fn next(alloc: Global, before: usize, cursor: &str, mutation: &str) -> Result<Operation, Refusal> {
+    let front = front_behind(alloc, before)?;
+    let counter = before.saturating_add(1);
+    let text = format!(in alloc; "[\"op\",[{counter},\"p\"],[{front}],[{cursor}],[{mutation}]]")?;
     operation(alloc, text.as_str())
+}
+
+/// Pushes p's next operation, where all are of p.
+pub fn push_next(
+    alloc: Global,
+    ops: &mut Vec<Operation>,
+    cursor: &str,
+    mutation: &str,
+) -> Result<(), Refusal> {
+    let op = next(alloc, ops.len(), cursor, mutation)?;
+    ops.push(op)?;
+    Ok(())
 }
