@@ -170,16 +170,16 @@ long_ask verb a b =
 abbrev pub addition_of : Data → Result Mutation Refusal
 addition_of d = and_then (ok_or (amount_of d) BadValue) (λ n. Ok (Add n))
 
-abbrev pub mutation_from : List ℕ → Data → Result Mutation Refusal
-mutation_from verb d =
+abbrev pub asked_mutation : List ℕ → Data → Result Mutation Refusal
+asked_mutation verb d =
     if bytes_eq verb (codes "assign") then and_then (val_of d) (λ val. Ok (Assign val))
     else (if bytes_eq verb (codes "insert") then and_then (val_of d) (λ val. Ok (Insert val))
     else (if bytes_eq verb (codes "add") then addition_of d
     else Err BadRequest))
 
-abbrev pub change_from : List ℕ → Data → Data → Result Ask Refusal
-change_from verb c d =
-    and_then (ok_or (expr_from c) BadRequest) (λ expr. and_then (mutation_from verb d) (λ change. Ok (ask.Change expr change)))
+abbrev pub asked_change : List ℕ → Data → Data → Result Ask Refusal
+asked_change verb c d =
+    and_then (ok_or (expr_from c) BadRequest) (λ expr. and_then (asked_mutation verb d) (λ change. Ok (ask.Change expr change)))
 
 -- what is asked with a word, by the items behind the document
 abbrev pub ask_items : List ℕ → Items → Result Ask Refusal

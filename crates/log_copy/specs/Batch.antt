@@ -37,7 +37,7 @@ module _ {S : Type 0} (g : Ghosts S) (name : List ℕ) (from : ℕ) (ops : List 
     pub survives : Survives (state g old) (state g new) (λ db. (was : Content) → IsOpenWith was (state g old) → Holds (with_rows (rows_from name (from + 1) (map op_text ops)) was) db)
 
   -- The database answered them too.
-  pub record Writes : Type 0 where
+  pub record Stores : Type 0 where
     pub sent : Sends
     pub shows : HasCleanDisk (state g new) → (was : Content) → IsOpenWith was (state g old) → IsOpenWith (with_rows (rows_from name (from + 1) (map op_text ops)) was) (state g new)
     pub ran : HasCleanDisk (state g new) → RanAll g (batch_of (rows_from name (from + 1) (map op_text ops))) old new
@@ -48,7 +48,7 @@ module _ {S : Type 0} (g : Ghosts S) (name : List ℕ) (from : ℕ) (ops : List 
     pub same_docs : now ≡ docs
 
   abbrev pub Tries : Result (Unit {0}) Fault → Type 0
-  Tries (Ok x) = (IsLeft × MayAdd name from ops docs × (ops ≡ [])) ⊎ Writes
+  Tries (Ok x) = (IsLeft × MayAdd name from ops docs × (ops ≡ [])) ⊎ Stores
   Tries (Err Refused) = IsLeft × ¬ IsBatch name from ops docs
   Tries (Err Store) = Sends
   Tries (Err Memory) = IsLeft

@@ -4,7 +4,7 @@ use Rattle.sqlite.specs.Held.{state}
 use Rattle.sqlite.proofs.StateLemmas.{survives_weaker}
 use Rattle.copy_schema.specs.Tables.{copy_schema}
 use Rattle.copy_tables.specs.Steps.{IsBare, IsIdle, IsOurs}
-use Rattle.log_copy.proofs.OpenLemmas.{bare_is_neither, copy_is_both, outside_if, inside_if, both_ok, any_ok, never_refused, survives_same}
+use Rattle.log_copy.proofs.OpenLemmas.{bare_is_neither, copy_is_both, outside_if, inside_if, both_ok, never_refused, survives_same}
 use Rattle.log_copy.proofs.open.open.Goals as goal
 
 pub returns-then-not-is_autocommit : goal.returns-then-not-is_autocommit
@@ -33,7 +33,7 @@ returns-in-Neither g c =
       good = c.fresh.ensures.good;
       alone = IfOk-weaker c.fresh.result _ _ (λ o same ours. same ∙ c.is_alone-is_alone.ensures.1 ours) c.fresh.ensures.alone;
       ok = λ clean. both_ok c.fresh.result _ _ _ c.fresh.ensures.alone (c.fresh.ensures.ok clean) (λ o same opens alone. opens (is_bare (c.is_alone-is_alone.ensures.0 (sym same ∙ alone))));
-      kept = λ clean. any_ok c.fresh.result (λ was serves. absurd (no_copy serves.schema));
+      kept = λ clean. IfOk-weaker c.fresh.result _ _ (λ o same was serves. absurd (no_copy serves.schema)) c.fresh.ensures.alone;
       accepts = λ clean. IfErr-weaker c.fresh.result _ _ (λ e is was sound serves refused. no_copy serves.schema) c.fresh.ensures.err;
       crash = λ ours. survives_weaker old (state g.S.Store c.fresh.new.conn) _ _ (λ clean db h. inl (is_bare ours, h (is_bare ours))) c.fresh.ensures.crash;
       outside = c.fresh.ensures.outside;
