@@ -13,7 +13,7 @@ use crate::elements::is_here;
 use doc_tree::{EachChild, NodeNumber, Tree};
 use doc_words::Texts;
 use json_scalar::Refusal;
-use op_core::{Cursor, Key, KeyText, Path};
+use op_core::{Cursor, Key, KeyText};
 use std::alloc::Global;
 
 /// The texts of the present members of the map at a cursor, in byte order. `AtHead` where the cursor stands at a head.
@@ -23,31 +23,20 @@ pub fn keys(alloc: Global, tree: &Tree, cursor: &Cursor) -> Result<Texts, Refusa
     if cursor.key.is_head() {
         return Err(Refusal::AtHead);
     }
-    keys_at(alloc, tree, &cursor.path, &cursor.key)
-}
-
-fn keys_at(alloc: Global, tree: &Tree, path: &Path, key: &Key) -> Result<Texts, Refusal>
-    ensures { GivesUnlessMemory (AreKeys (tree_facts tree.now) path.now key.now) result }
-{
-    let texts = present_texts(alloc, tree, tree.children(path, key))?;
-    Ok(Texts::from(texts))
+    present_texts(alloc, tree, tree.children(&cursor.path, &cursor.key))
 }
 
 /// The texts of those of a map's children that are present.
-fn present_texts(
-    alloc: Global,
-    tree: &Tree,
-    children: EachChild<'_>,
-) -> Result<Vec<KeyText>, Refusal>
+fn present_texts(alloc: Global, tree: &Tree, children: EachChild<'_>) -> Result<Texts, Refusal>
     ensures { GivesUnlessMemory (λ texts. (map : List Tagged) → AreIn tree.now map children.entry
-        → AreThose (λ t. IsPresent (tree_facts tree.now) map (Text t)) (texts_in children.entry) texts.items) result }
+        → AreThose (λ t. IsPresent (tree_facts tree.now) map (Text t)) (texts_in children.entry) texts) result }
 {
     let mut texts = Vec::new(alloc);
     for child in children {
         let text = present_text(tree, &child.0, child.1);
         keep_text(&mut texts, text)?;
     }
-    Ok(texts)
+    Ok(Texts::from(texts))
 }
 
 /// The text of a child of a map, if it is a text and present.

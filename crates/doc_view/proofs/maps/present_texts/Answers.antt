@@ -38,5 +38,6 @@ loop-child-preserved c =
 
 pub returns : goal.returns
 returns c = λ map in_map.
-    subst (λ (children : List (Key × NodeNumber)). AreThose (λ t. IsPresent (tree_facts c.args.tree.now) map (Text t)) (texts_in children) c.loop-child.texts.items)
-    (drop_none c.args.children c.loop-child.invariant.0 (c.loop-child.invariant.1 ∙ c.in-None.ensures.steps.0)) (c.loop-child.invariant.2 map in_map)
+    subst (λ (texts : List (List ℕ)). AreThose (λ t. IsPresent (tree_facts c.args.tree.now) map (Text t)) (texts_in c.args.children) texts) (sym c.from.ensures)
+    (subst (λ (children : List (Key × NodeNumber)). AreThose (λ t. IsPresent (tree_facts c.args.tree.now) map (Text t)) (texts_in children) c.loop-child.texts.items)
+    (drop_none c.args.children c.loop-child.invariant.0 (c.loop-child.invariant.1 ∙ c.in-None.ensures.steps.0)) (c.loop-child.invariant.2 map in_map))
