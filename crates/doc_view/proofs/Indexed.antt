@@ -1,10 +1,15 @@
 -- Those elements of a list for which something holds.
-use Rattle.std.proofs.Common.{List, [], ◌∷◌, filter, Bool, true, false, true≢false, if◌then◌else◌, Decides, ◌⊎◌, inl, inr, Option, refl, sym}
-use Rattle.doc_words.specs.Words.{Id, Scalar, Key, Tagged}
+use Rattle.std.proofs.Common.{◌≡◌, List, [], ◌∷◌, filter, Bool, true, false, true≢false, if◌then◌else◌, Decides, ◌⊎◌, inl, inr, Option, Result, Err, refl, sym, ap}
+use Rattle.std.specs.Prelude.{⊤}
+use Rattle.json_scalar.specs.Refusal.{and_then}
+use Rattle.doc_words.specs.Words.{Id, Scalar, Key, Tagged, Refusal, Cursor}
+use Rattle.doc_words.specs.declared.place.Step.{Step}
+use Rattle.doc_words.specs.declared.place.Step.TheVariants.{Get, Index}
 use Rattle.op_core.specs.declared.cursor.Key.TheVariants.{Element}
 use Rattle.doc_nodes.specs.declared.node.Node.{Node}
 use Rattle.doc_tree.specs.Nodes.{tree_facts}
-use Rattle.doc_rules.specs.Views.{IsPresent}
+use Rattle.doc_rules.specs.Views.{into_list, IsPresent}
+use Rattle.doc_rules.specs.Resolve.{at_index, at_text, may_go_on, Goes}
 use Rattle.doc_rules.specs.Sorted.{AreThose}
 use Rattle.doc_rules.specs.Sorted.AreThose.{none, keep, skip}
 use Rattle.doc_view.proofs.Presence.{present_or_not}
@@ -33,3 +38,10 @@ module _ {X : Type 0} {holds : X → Type 0} where
 pub elements_in : (tree : List Node × Option Scalar) (list : List Tagged)
     → (ids : List Id) × AreThose (λ i. IsPresent (tree_facts tree) list (Element i)) ((tree_facts tree).order list) ids
 elements_in tree list = those_exist (λ i. present_or_not tree list (Element i)) ((tree_facts tree).order list)
+
+-- no step leads from where none may go on
+pub goes_nowhere : (tree : List Node × Option Scalar) (from : Cursor) (step : Step) (e : Refusal) → Err e ≡ may_go_on from → Goes (tree_facts tree) from step (Err e)
+goes_nowhere tree from (Get text) e stops = ap (λ (may : Result ⊤ Refusal). and_then may (λ _. at_text from text)) stops
+goes_nowhere tree from (Index n) e stops =
+    let elements = elements_in tree (into_list from.path from.key) in
+    (elements.0, elements.1, ap (λ (may : Result ⊤ Refusal). and_then may (λ _. at_index from elements.0 n)) stops)

@@ -10,3 +10,4 @@ pub mod ByNumber
 pub mod Growing
 pub mod Telling
 pub mod TellingAll
+mod Reading

@@ -1,5 +1,5 @@
 -- Texts among the children of a place.
-use Rattle.std.specs.Prelude.{ℕ, List, [], ◌∷◌, ◌++◌, Option, Some, None}
+use Rattle.std.specs.Prelude.{◌≡◌, ℕ, List, [], ◌∷◌, ◌++◌, Option, Some, None}
 use Rattle.op_core.specs.declared.cursor.Key.{Key}
 use Rattle.op_core.specs.declared.cursor.Key.TheVariants.{Text}
 use Rattle.doc_nodes.specs.declared.node.NodeNumber.{NodeNumber}
@@ -18,3 +18,7 @@ texts_at _ = []
 abbrev pub texts_in : List (Key × NodeNumber) → List (List ℕ)
 texts_in [] = []
 texts_in (child ∷ children) = texts_at child.0 ++ texts_in children
+
+-- something of which this holds is added behind the old list
+abbrev pub Adds : {X : Type 0} → (List X → Type 0) → List X → List X → Type 0
+Adds {X} holds old new = (added : List X) × holds added × (new ≡ old ++ added)

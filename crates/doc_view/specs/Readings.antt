@@ -1,9 +1,8 @@
 -- What a reader of a tree answers.
-use Rattle.std.specs.Prelude.{◌≡◌, ℕ, List, Option, slice_get, Result, Err, MatchBool, MatchResult}
+use Rattle.std.specs.Prelude.{◌≡◌, List, Result, Err, MatchBool, MatchResult}
 use Rattle.doc_words.specs.Words.{Refusal, NoMemory, Cursor, Key, Tagged}
 use Rattle.json_scalar.specs.declared.refusal.Refusal.TheVariants.{AtHead}
 use Rattle.op_core.specs.Shape.{is_head}
-use Rattle.doc_rules.specs.Sorted.{AreThose}
 
 -- something of which this holds, or memory is wanting
 abbrev pub GivesUnlessMemory : {X : Type 0} → (X → Type 0) → Result X Refusal → Type 0
@@ -12,7 +11,3 @@ GivesUnlessMemory holds r = MatchResult r holds (λ e. e ≡ NoMemory)
 -- a reading of this kind at a cursor; there is none at a head
 abbrev pub ReadsUnlessMemory : {X : Type 0} → (List Tagged → Key → X → Type 0) → Cursor → Result X Refusal → Type 0
 ReadsUnlessMemory reads c r = MatchBool (is_head c.key) (r ≡ Err AtHead) (GivesUnlessMemory (reads c.path c.key) r)
-
--- what stands at this index among those of xs for which this holds, if there are as many
-abbrev pub IsNth : {X : Type 0} → (X → Type 0) → List X → ℕ → Option X → Type 0
-IsNth {X} holds xs n found = (kept : List X) × AreThose holds xs kept × (found ≡ slice_get kept n)

@@ -1,19 +1,19 @@
 //! Members of maps.
-ghost use Rattle.std.specs.Prelude.{◌≡◌, ◌++◌, List, option_map};
+ghost use Rattle.std.specs.Prelude.{List, option_map};
 ghost use Rattle.op_core.specs.declared.cursor.Tagged.{Tagged};
 ghost use Rattle.op_core.specs.declared.cursor.Key.TheVariants.{Text};
 ghost use Rattle.doc_tree.specs.Nodes.{tree_facts};
 ghost use Rattle.doc_rules.specs.Views.{AreKeys, IsPresent};
 ghost use Rattle.doc_rules.specs.Sorted.{AreThose};
 ghost use Rattle.doc_view.specs.ByNumber.{AreIn, IsTextAt};
-ghost use Rattle.doc_view.specs.Members.{listed, texts_at, texts_in};
+ghost use Rattle.doc_view.specs.Members.{Adds, listed, texts_at, texts_in};
 ghost use Rattle.doc_view.specs.Readings.{GivesUnlessMemory, ReadsUnlessMemory};
 
 use crate::elements::is_here;
 use doc_tree::{EachChild, NodeNumber, Tree};
 use doc_words::Texts;
 use json_scalar::Refusal;
-use op_core::{Cursor, Key, KeyText, Path};
+use op_core::{Cursor, Key, KeyText};
 use std::alloc::Global;
 
 /// The texts of the present members of the map at a cursor, in byte order. `AtHead` where the cursor stands at a head.
@@ -23,31 +23,19 @@ pub fn keys(alloc: Global, tree: &Tree, cursor: &Cursor) -> Result<Texts, Refusa
     if cursor.key.is_head() {
         return Err(Refusal::AtHead);
     }
-    keys_at(alloc, tree, &cursor.path, &cursor.key)
-}
-
-fn keys_at(alloc: Global, tree: &Tree, path: &Path, key: &Key) -> Result<Texts, Refusal>
-    ensures { GivesUnlessMemory (AreKeys (tree_facts tree.now) path.now key.now) result }
-{
-    let texts = present_texts(alloc, tree, tree.children(path, key))?;
-    Ok(Texts::from(texts))
+    present_texts(alloc, tree, tree.children(&cursor.path, &cursor.key))
 }
 
 /// The texts of those of a map's children that are present.
-fn present_texts(
-    alloc: Global,
-    tree: &Tree,
-    children: EachChild<'_>,
-) -> Result<Vec<KeyText>, Refusal>
+fn present_texts(alloc: Global, tree: &Tree, children: EachChild<'_>) -> Result<Texts, Refusal>
     ensures { GivesUnlessMemory (λ texts. (map : List Tagged) → AreIn tree.now map children.entry
-        → AreThose (λ t. IsPresent (tree_facts tree.now) map (Text t)) (texts_in children.entry) texts.items) result }
+        → AreThose (λ t. IsPresent (tree_facts tree.now) map (Text t)) (texts_in children.entry) texts) result }
 {
     let mut texts = Vec::new(alloc);
     for child in children {
-        let text = present_text(tree, &child.0, child.1);
-        keep_text(&mut texts, text)?;
+        push_text(&mut texts, tree, &child.0, child.1)?;
     }
-    Ok(texts)
+    Ok(Texts::from(texts))
 }
 
 /// The text of a child of a map, if it is a text and present.
@@ -63,10 +51,17 @@ pub fn present_text<'a>(tree: &Tree, key: &'a Key, at: NodeNumber) -> Option<&'a
     }
 }
 
-fn keep_text(texts: &mut Vec<KeyText>, text: Option<&KeyText>) -> Result<(), Refusal>
-    ensures { GivesUnlessMemory (λ _. texts.new.items ≡ texts.old.items ++ listed (option_map (λ t. t.now) text.entry)) result }
+/// Adds the text of a child of a map, if it is a text and present.
+fn push_text(
+    texts: &mut Vec<KeyText>,
+    tree: &Tree,
+    key: &Key,
+    at: NodeNumber,
+) -> Result<(), Refusal>
+    ensures { GivesUnlessMemory (λ _. Adds (λ added. (map : List Tagged) → IsTextAt tree.now map key.now at
+        → AreThose (λ t. IsPresent (tree_facts tree.now) map (Text t)) (texts_at key.now) added) texts.old.items texts.new.items) result }
 {
-    if let Some(text) = text {
+    if let Some(text) = present_text(tree, key, at) {
         texts.push(text.try_clone()?)?;
     }
     Ok(())

@@ -20,35 +20,25 @@ pub fn values(alloc: Global, tree: &Tree, cursor: &Cursor) -> Result<Scalars, Re
     if cursor.key.is_head() {
         return Err(Refusal::AtHead);
     }
-    values_at(alloc, tree, &cursor.path, &cursor.key)
-}
-
-/// The scalars of the register of a place.
-pub fn values_at(alloc: Global, tree: &Tree, path: &Path, key: &Key) -> Result<Scalars, Refusal>
-    ensures { GivesUnlessMemory (AreValues (tree_facts tree.now) path.now key.now) result }
-{
-    let scalars = scalars_of(alloc, tree.register(path, key))?;
-    Ok(Scalars::from(scalars))
+    scalars_of(alloc, tree.register(&cursor.path, &cursor.key))
 }
 
 /// The scalars of the register of a node.
 pub fn values_below(alloc: Global, tree: &Tree, at: NodeNumber) -> Result<Scalars, Refusal>
     ensures { GivesUnlessMemory (λ scalars. AtNode tree.now at (λ p k. AreValues (tree_facts tree.now) p k scalars)) result }
 {
-    let scalars = scalars_of(alloc, tree.register_of(at))?;
-    Ok(Scalars::from(scalars))
+    scalars_of(alloc, tree.register_of(at))
 }
 
-fn scalars_of(alloc: Global, entries: &[(Id, Scalar)]) -> Result<Vec<Scalar>, Refusal>
-    ensures { GivesUnlessMemory (λ scalars. scalars.items ≡ map (λ e. e.1) entries.now) result }
+fn scalars_of(alloc: Global, entries: &[(Id, Scalar)]) -> Result<Scalars, Refusal>
+    ensures { GivesUnlessMemory (λ scalars. scalars ≡ map (λ e. e.1) entries.now) result }
 {
-    let mut scalars = Vec::new(alloc);
     // Most registers have one scalar.
-    scalars.reserve_exact(entries.len())?;
+    let mut scalars = Vec::with_capacity(alloc, entries.len())?;
     for entry in entries {
         scalars.push(entry.1.try_clone()?)?;
     }
-    Ok(scalars)
+    Ok(Scalars::from(scalars))
 }
 
 /// The total of the numbers of the counter at a cursor. `AtHead` where the cursor stands at a head; it takes no memory, and
@@ -63,8 +53,7 @@ pub fn sum(tree: &Tree, cursor: &Cursor) -> Result<i128, Refusal>
     Ok(sum_at(tree, &cursor.path, &cursor.key))
 }
 
-/// The total of the numbers of the counter of a place.
-pub fn sum_at(tree: &Tree, path: &Path, key: &Key) -> i128
+fn sum_at(tree: &Tree, path: &Path, key: &Key) -> i128
     ensures { IsSum (tree_facts tree.now) path.now key.now result }
 {
     total_of(tree.counter(path, key))

@@ -1,23 +1,16 @@
 //! Where cursors lead.
-ghost use Rattle.std.specs.Prelude.{◌≡◌, ◌≢◌, ◌&&◌, List, [], Ok, Err, ok_or};
-ghost use Rattle.std.specs.List.{list_any};
+ghost use Rattle.std.specs.Prelude.{◌≡◌, ◌≢◌, ◌&&◌, List, [], Ok, Err};
 ghost use Rattle.doc_words.specs.Words.{Id, NoMemory, UnlessMemory, Cursor};
-ghost use Rattle.json_scalar.specs.declared.refusal.Refusal.TheVariants.{IndexPastEnd};
-ghost use Rattle.json_scalar.specs.Refusal.{and_then};
 ghost use Rattle.op_core.specs.Shape.{is_placed};
 ghost use Rattle.op_core.specs.declared.cursor.Key.TheVariants.{Text, Element};
-ghost use Rattle.doc_words.specs.declared.place.Step.TheVariants.{Index};
-ghost use Rattle.doc_rules.specs.Views.{into_map, into_list, IsPresent};
+ghost use Rattle.doc_rules.specs.Views.{into_map, into_list, AreElements, IsPresent};
 ghost use Rattle.doc_rules.specs.Sorted.{AreThose};
-ghost use Rattle.crdt_rules.specs.Same.{id_eq};
 ghost use Rattle.doc_tree.specs.Nodes.{tree_facts};
 ghost use Rattle.doc_rules.specs.Resolve as rules;
 
-use crate::elements::element_by_index;
 use doc_tree::Tree;
 use doc_words::Step;
 use json_scalar::Refusal;
-use lamport_id::Id;
 use op_core::{Cursor, Key, KeyText, MAX_KEY_LEN, MAX_PATH_LEN, Path, Tagged, is_placed};
 use std::alloc::Global;
 
@@ -47,6 +40,7 @@ fn follow(tree: &Tree, start: Cursor, steps: &[Step]) -> Result<Cursor, Refusal>
 fn go(tree: &Tree, from: Cursor, step: &Step) -> Result<Cursor, Refusal>
     ensures { result ≢ Err NoMemory → rules.Goes (tree_facts tree.now) from step.now result }
 {
+    may_go_on(&from)?;
     match step {
         Step::Get(text) => to_text(from, text),
         Step::Index(index) => to_index(tree, from, *index),
@@ -66,9 +60,8 @@ fn may_go_on(from: &Cursor) -> Result<(), Refusal>
 }
 
 fn to_text(from: Cursor, text: &KeyText) -> Result<Cursor, Refusal>
-    ensures { UnlessMemory result (and_then (rules.may_go_on from) (λ _. rules.at_text from text.now)) }
+    ensures { UnlessMemory result (rules.at_text from text.now) }
 {
-    may_go_on(&from)?;
     if !is_short(text) {
         return Err(Refusal::BadCursor);
     }
@@ -92,18 +85,12 @@ fn below_list(from: Cursor) -> Result<Path, Refusal>
 }
 
 fn to_index(tree: &Tree, from: Cursor, index: u64) -> Result<Cursor, Refusal>
-    ensures { result ≢ Err NoMemory → rules.Goes (tree_facts tree.now) from (Index index) result }
+    ensures { result ≢ Err NoMemory → (ids : List Id) × AreElements (tree_facts tree.now) from.path from.key ids × (result ≡ rules.at_index from ids index) }
 {
-    may_go_on(&from)?;
     let path = below_list(from)?;
-    let key = key_at(tree, &path, index);
-    at_key(path, key)
-}
-
-fn at_key(path: Path, key: Option<Key>) -> Result<Cursor, Refusal>
-    ensures { result ≡ and_then (ok_or key IndexPastEnd) (λ k. Ok (record { path = path; key = k })) }
-{
-    let key = key.ok_or(Refusal::IndexPastEnd)?;
+    let Some(key) = key_at(tree, &path, index) else {
+        return Err(Refusal::IndexPastEnd);
+    };
     Ok(Cursor { path, key })
 }
 
@@ -114,7 +101,8 @@ fn key_at(tree: &Tree, list: &Path, index: u64) -> Option<Key>
     if index == 0 {
         return Some(Key::Head);
     }
-    element_by_index(tree, list, index - 1).map(Key::Element)
+    tree.nth_present(list, (index - 1) as usize)
+        .map(Key::Element)
 }
 
 /// The start, unless there is a cause against it.
@@ -155,15 +143,9 @@ fn stands_in(tree: &Tree, path: &[Tagged], key: &Key) -> bool
     match key {
         Key::Doc => true,
         Key::Text(text) => is_short(text),
-        Key::Element(id) => is_listed(tree, path, id),
+        Key::Element(id) => tree.has_element(path, id),
         Key::Head => true,
     }
-}
-
-fn is_listed(tree: &Tree, list: &[Tagged], id: &Id) -> bool
-    ensures { result ≡ list_any (id_eq id.now) ((tree_facts tree.now).order list.now) }
-{
-    tree.has_element(list, id)
 }
 
 fn is_short(text: &KeyText) -> bool

@@ -14,7 +14,7 @@ use doc_tree::{Entries, Tree};
 use doc_words::{Conflicts, Role};
 use json_scalar::{Refusal, Scalar, Val};
 use lamport_id::Id;
-use op_core::{Cursor, Key, Path};
+use op_core::Cursor;
 use std::alloc::Global;
 
 /// The ids whose operations put a value at the very place of a cursor and are not covered since, in id order, each with
@@ -25,36 +25,33 @@ pub fn conflicts(alloc: Global, tree: &Tree, cursor: &Cursor) -> Result<Conflict
     if cursor.key.is_head() {
         return Err(Refusal::AtHead);
     }
-    conflicts_at(alloc, tree, &cursor.path, &cursor.key)
-}
-
-fn conflicts_at(alloc: Global, tree: &Tree, path: &Path, key: &Key) -> Result<Conflicts, Refusal>
-    ensures { GivesUnlessMemory (AreConflicts (tree_facts tree.now) (tree_values tree.now) path.now key.now) result }
-{
-    let values = values_told(alloc, tree.present(path, key), tree.register(path, key))?;
-    Ok(Conflicts::from(values))
+    let roles = tree.present(&cursor.path, &cursor.key);
+    values_told(alloc, roles, tree.register(&cursor.path, &cursor.key))
 }
 
 fn values_told(
     alloc: Global,
     roles: Entries<'_, Role>,
     scalars: &[(Id, Scalar)],
-) -> Result<Vec<(Id, Val)>, Refusal>
-    ensures { GivesUnlessMemory (λ values. values.items ≡ values_told scalars.now roles.entry) result }
+) -> Result<Conflicts, Refusal>
+    ensures { GivesUnlessMemory (λ values. values ≡ values_told scalars.now roles.entry) result }
 {
     let mut values = Vec::new(alloc);
     for entry in roles {
-        let value = value_told(&entry.1, &entry.0, scalars)?;
-        push_value(&mut values, &entry.0, value)?;
+        push_value(&mut values, entry, scalars)?;
     }
-    Ok(values)
+    Ok(Conflicts::from(values))
 }
 
-fn push_value(values: &mut Vec<(Id, Val)>, id: &Id, value: Option<Val>) -> Result<(), Refusal>
-    ensures { GivesUnlessMemory (λ _. values.new.items ≡ values.old.items ++ with_value id.now value []) result }
+fn push_value(
+    values: &mut Vec<(Id, Val)>,
+    entry: &(Id, Role),
+    scalars: &[(Id, Scalar)],
+) -> Result<(), Refusal>
+    ensures { GivesUnlessMemory (λ _. values.new.items ≡ values.old.items ++ with_value entry.now.0 (value_in entry.now.1 (get scalars.now entry.now.0)) []) result }
 {
-    if let Some(value) = value {
-        values.push((*id, value))?;
+    if let Some(value) = value_told(&entry.1, &entry.0, scalars)? {
+        values.push((entry.0, value))?;
     }
     Ok(())
 }

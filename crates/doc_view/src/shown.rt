@@ -37,14 +37,8 @@ pub fn show(alloc: Global, tree: &Tree, cursor: &Cursor) -> Result<CompactText, 
     if cursor.key.is_head() {
         return Err(Refusal::AtHead);
     }
-    text_at(alloc, tree, &cursor.path, &cursor.key)
-}
-
-fn text_at(alloc: Global, tree: &Tree, path: &Path, key: &Key) -> Result<CompactText, Refusal>
-    ensures { GivesUnlessMemory (ShowsText (tree_facts tree.now) (tree_values tree.now) path.now key.now) result }
-{
     let mut text = JsonText::new(alloc);
-    put_shown(alloc, &mut text, tree, path, key)?;
+    put_shown(alloc, &mut text, tree, &cursor.path, &cursor.key)?;
     Ok(CompactText::from(text.into_string()))
 }
 

@@ -31,14 +31,8 @@ pub fn keys_text(alloc: Global, tree: &Tree, cursor: &Cursor) -> Result<CompactT
     if cursor.key.is_head() {
         return Err(Refusal::AtHead);
     }
-    keys_text_at(alloc, tree, &cursor.path, &cursor.key)
-}
-
-fn keys_text_at(alloc: Global, tree: &Tree, path: &Path, key: &Key) -> Result<CompactText, Refusal>
-    ensures { GivesUnlessMemory (KeysText (tree_facts tree.now) path.now key.now) result }
-{
     let mut text = JsonText::new(alloc);
-    put_keys(&mut text, tree, path, key)?;
+    put_keys(&mut text, tree, &cursor.path, &cursor.key)?;
     Ok(CompactText::from(text.into_string()))
 }
 
@@ -79,14 +73,8 @@ pub fn items_text(alloc: Global, tree: &Tree, cursor: &Cursor) -> Result<Compact
     if cursor.key.is_head() {
         return Err(Refusal::AtHead);
     }
-    items_text_at(alloc, tree, &cursor.path, &cursor.key)
-}
-
-fn items_text_at(alloc: Global, tree: &Tree, path: &Path, key: &Key) -> Result<CompactText, Refusal>
-    ensures { GivesUnlessMemory (ItemsText (tree_facts tree.now) path.now key.now) result }
-{
     let mut text = JsonText::new(alloc);
-    put_items(alloc, &mut text, tree, path, key)?;
+    put_items(alloc, &mut text, tree, &cursor.path, &cursor.key)?;
     Ok(CompactText::from(text.into_string()))
 }
 

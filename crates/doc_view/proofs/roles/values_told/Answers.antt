@@ -1,4 +1,4 @@
-use Rattle.std.proofs.Common.{◌≡◌, ◌++◌, [], append_assoc, append-nil, sym, ap, ◌∙◌}
+use Rattle.std.proofs.Common.{◌++◌, [], append_assoc, append-nil, sym, ap, ◌∙◌}
 use Rattle.presence_set.specs.ById.{get}
 use Rattle.doc_rules.specs.Role.{value_in}
 use Rattle.doc_view.specs.TreeValues.{values_told, with_value}
@@ -17,16 +17,13 @@ loop-entry-preserved c =
     let scalars = c.args.scalars.now in
     let old = c.loop-entry.values.items in
     let rest = values_told scalars c.next.new.self in
-    let told : c.in_ok-value.value ≡ value_in e.1 (get scalars e.0) = c.in_ok-value.ensures in
-    let pushed : c.push_value.new.values.items ≡ old ++ with_value e.0 (value_in e.1 (get scalars e.0)) [] =
-    c.in_ok-push_value.ensures ∙ ap (λ v. old ++ with_value e.0 v []) told in
     c.loop-entry.invariant ∙ ap (λ l. old ++ values_told scalars l) c.in-Some.ensures.steps
     ∙ ap (λ l. old ++ l) (with_value-append e.0 (value_in e.1 (get scalars e.0)) rest)
     ∙ sym (append_assoc old (with_value e.0 (value_in e.1 (get scalars e.0)) []) rest)
-    ∙ ap (λ l. l ++ rest) (sym pushed)
+    ∙ ap (λ l. l ++ rest) (sym c.in_ok-push_value.ensures)
 
 pub returns : goal.returns
 returns c =
     let scalars = c.args.scalars.now in
     let values = c.loop-entry.values.items in
-    sym (c.loop-entry.invariant ∙ ap (λ l. values ++ values_told scalars l) c.in-None.ensures.steps.0 ∙ append-nil values)
+    c.from.ensures ∙ sym (c.loop-entry.invariant ∙ ap (λ l. values ++ values_told scalars l) c.in-None.ensures.steps.0 ∙ append-nil values)
