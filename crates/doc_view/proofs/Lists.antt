@@ -70,8 +70,3 @@ values_step f p ids items new i id scalars within is have here e =
     subst (λ (l : List (Id × List Scalar)). HaveValues f p (take (i + 1) ids) l) (sym e)
     (subst (λ (l : List Id). HaveValues f p l (items ++ (id, scalars) ∷ [])) (sym (take_read ids i id within is))
     (values-push f p (take i ids) items id scalars have here))
-
--- the first ones mapped, with one more
-pub mapped_more : {X Y : Type 0} (f : X → Y) (xs : List X) (i : ℕ) (x : X) → i < length xs → x ≡ get_or xs i x → map f (take (i + 1) xs) ≡ map f (take i xs) ++ f x ∷ []
-mapped_more f xs i x within is =
-    ap (map f) (take_more xs i x within ∙ ap (λ y. take i xs ++ y ∷ []) (sym is)) ∙ map-append f (take i xs) (x ∷ [])

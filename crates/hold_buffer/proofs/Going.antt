@@ -1,6 +1,5 @@
 -- Going through a list in place, and to the first element that passes.
-use Rattle.std.proofs.Common.{◌≡◌, ℕ, zero, suc, ◌<◌, List, [], ◌∷◌, ◌++◌, length, map, take, drop, set, get_or, find, Bool, true, false, cond, Some, refl, sym, ap, ◌+◌, ◌∙◌, arith}
-use Rattle.std.proofs.lemmas.List.{map-append, take_more}
+use Rattle.std.proofs.Common.{◌≡◌, ℕ, zero, suc, ◌<◌, List, [], ◌∷◌, ◌++◌, length, map, take, drop, set, get_or, find, Bool, true, false, cond, Some, refl, ap, ◌+◌, ◌∙◌, arith}
 
 module _ {X : Type 0} (f : X → X) where
   -- the next element is still as it was
@@ -23,8 +22,3 @@ module _ {X : Type 0} (p : X → Bool) where
   -- and where it does not pass
   pub find-later : (xs : List X) (i : ℕ) (x : X) (rest : List X) → find p xs ≡ find p (drop i xs) → drop i xs ≡ x ∷ rest → p x ≡ false → find p xs ≡ find p rest
   find-later xs i x rest later is fails = later ∙ ap (find p) is ∙ ap (λ b. cond b (Some x) (find p rest)) fails
-
--- the first ones mapped, with one more
-pub mapped-more : {X Y : Type 0} (f : X → Y) (xs : List X) (i : ℕ) (x : X) → i < length xs → x ≡ get_or xs i x → map f (take (i + 1) xs) ≡ map f (take i xs) ++ f x ∷ []
-mapped-more f xs i x within is =
-    ap (map f) (take_more xs i x within ∙ ap (λ y. take i xs ++ y ∷ []) (sym is)) ∙ map-append f (take i xs) (x ∷ [])

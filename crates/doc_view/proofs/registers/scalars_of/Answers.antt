@@ -1,15 +1,15 @@
-use Rattle.std.proofs.Common.{◌≡◌, List, [], ◌∷◌, ◌++◌, map, rules, sym, ap, ◌∙◌}
+use Rattle.std.proofs.Common.{◌≡◌, List, [], ◌∷◌, ◌++◌, map, rules, refl, ap, ◌∙◌}
 use Rattle.std.proofs.lemmas.List.{take_all}
 use Rattle.doc_words.specs.Words.{Id, Scalar}
-use Rattle.doc_view.proofs.Lists.{mapped_more}
+use Rattle.op_core.proofs.Steps.{map_grown}
 use Rattle.doc_view.proofs.registers.scalars_of.Goals as goal
 
 pub loop-entry-preserved : goal.loop-entry-preserved
 loop-entry-preserved c =
     let e = c.entry-item.result in
     let pushed : c.push.new.self.items ≡ c.loop-entry.scalars.items ++ e.1 ∷ [] = search rules in
-    pushed ∙ (λ k. c.loop-entry.invariant k ++ e.1 ∷ [])
-    ∙ sym (mapped_more (λ (x : Id × Scalar). x.1) c.args.entries.now c.loop-entry.entry-index e c.loop-entry-test.true c.entry-item.is)
+    map_grown (λ (x : Id × Scalar). x.1) c.args.entries.now c.loop-entry.entry-index e _ _ e.1
+    c.loop-entry-test.true c.entry-item.is refl c.loop-entry.invariant pushed
 
 pub returns : goal.returns
 returns c =

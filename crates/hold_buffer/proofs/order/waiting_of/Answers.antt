@@ -1,12 +1,10 @@
-use Rattle.std.proofs.Common.{List, ◌++◌, ◌∷◌, [], sym, ap, ◌∙◌}
-use Rattle.doc_words.specs.Words.{Id}
+use Rattle.std.proofs.Common.{refl}
 use Rattle.hold_buffer.specs.declared.ticket.Ticket.{Ticket}
-use Rattle.hold_buffer.proofs.Going.{mapped-more}
+use Rattle.op_core.proofs.Steps.{map_grown}
 use Rattle.hold_buffer.proofs.order.waiting_of.Goals as goal
 
 pub loop-ticket-preserved : goal.loop-ticket-preserved
 loop-ticket-preserved c =
     let t = c.ticket-item.result in
-    c.in_ok-push_waiting.ensures.ok
-    ∙ ap (λ (l : List (Id × List Id)). l ++ (t.id, t.lacks) ∷ []) c.loop-ticket.invariant
-    ∙ sym (mapped-more (λ (u : Ticket). (u.id, u.lacks)) c.args.order.now c.loop-ticket.ticket-index t c.loop-ticket-test.true c.ticket-item.is)
+    map_grown (λ (u : Ticket). (u.id, u.lacks)) c.args.order.now c.loop-ticket.ticket-index t _ _ (t.id, t.lacks)
+    c.loop-ticket-test.true c.ticket-item.is refl c.loop-ticket.invariant c.in_ok-push_waiting.ensures.ok
