@@ -1,5 +1,5 @@
 //! What the tree says of a place, beside what the plain program says, and what the set of the operations says.
-use crate::history::{TEXTS, below};
+use crate::history::{TEXTS, list_below, map_below};
 use crate::plain_shown::plain_shown;
 use crate::sites::Site;
 use converge_laws::free_present;
@@ -8,24 +8,33 @@ use doc_view::{conflicts, items, keys, show, sum, values};
 use doc_words::{CompactText, Role, Scalars};
 use json_scalar::{Refusal, Scalar, Val};
 use lamport_id::Id;
-use op_core::{Cursor, Key, KeyText, Operation, Path, Tagged};
+use op_core::{Cursor, Key, KeyText, Operation, Path};
 use plain_rules::PlainContext;
 use std::alloc::Global;
 
 fn has_id(entries: Entries<'_, Role>, id: &Id) -> bool {
-    let mut entries = entries;
-    entries.any(|entry| entry.0 == *id)
+    for entry in entries {
+        if entry.0 == *id {
+            return true;
+        }
+    }
+    false
 }
 
 /// The plain program has the ids of the tree at a place, and of those of the history no other.
 fn marks_agree(tree: &Tree, plain: &PlainContext, site: &Site) -> bool {
     let (path, key) = (&site.cursor.path, &site.cursor.key);
-    let mut entries = tree.present(path, key);
-    entries.all(|entry| plain.has_mark(path.as_slice(), key, &entry.0))
-        && site.touched.iter().all(|entry| {
-            plain.has_mark(path.as_slice(), key, &entry.0)
-                == has_id(tree.present(path, key), &entry.0)
-        })
+    for entry in tree.present(path, key) {
+        if !plain.has_mark(path.as_slice(), key, &entry.0) {
+            return false;
+        }
+    }
+    for (id, _) in site.touched.as_slice() {
+        if plain.has_mark(path.as_slice(), key, id) != has_id(tree.present(path, key), id) {
+            return false;
+        }
+    }
+    true
 }
 
 /// Whether these are the scalars that the plain program has at a place, in id order.
@@ -97,6 +106,12 @@ fn conflicts_agree(
     Ok(are_conflicts(read.as_slice(), plain, site))
 }
 
+/// Whether the member of a map at this text is present.
+fn is_member(plain: &PlainContext, map: &Path, text: &KeyText) -> Result<bool, Refusal> {
+    let key = Key::Text(text.try_clone()?);
+    Ok(plain.is_present(map.as_slice(), &key))
+}
+
 /// The texts of the present members of a map, in byte order.
 pub fn present_texts(
     alloc: Global,
@@ -104,10 +119,9 @@ pub fn present_texts(
     map: &Path,
 ) -> Result<Vec<KeyText>, Refusal> {
     let mut present = Vec::new(alloc);
-    for text in TEXTS {
+    for text in &TEXTS {
         let text = KeyText::new(alloc, text)?;
-        let key = Key::Text(text.try_clone()?);
-        if plain.is_present(map.as_slice(), &key) {
+        if is_member(plain, map, &text)? {
             present.push(text)?;
         }
     }
@@ -116,7 +130,7 @@ pub fn present_texts(
 
 /// The texts of the present members of the map at a place, in byte order.
 fn due_keys(alloc: Global, plain: &PlainContext, site: &Site) -> Result<Vec<KeyText>, Refusal> {
-    let map = below(&site.cursor.path, Tagged::Map(site.cursor.key.try_clone()?))?;
+    let map = map_below(&site.cursor.path, &site.cursor.key)?;
     present_texts(alloc, plain, &map)
 }
 
@@ -199,10 +213,7 @@ fn lists_agree(
     plain: &PlainContext,
     site: &Site,
 ) -> Result<bool, Refusal> {
-    let list = below(
-        &site.cursor.path,
-        Tagged::List(site.cursor.key.try_clone()?),
-    )?;
+    let list = list_below(&site.cursor.path, &site.cursor.key)?;
     let order = tree.elements(alloc, &list)?;
     Ok(
         order.as_slice() == plain.elements(list.as_slice())
@@ -252,9 +263,15 @@ pub fn agree_at(
 /// Whether the set of the operations says of the ids at a place what the tree says.
 pub fn is_free_at(tree: &Tree, ops: &[Operation], site: &Site) -> bool {
     let (path, key) = (&site.cursor.path, &site.cursor.key);
-    let mut entries = tree.present(path, key);
-    entries.all(|entry| free_present(ops, &site.cursor, entry.0))
-        && site.touched.iter().all(|entry| {
-            free_present(ops, &site.cursor, entry.0) == has_id(tree.present(path, key), &entry.0)
-        })
+    for entry in tree.present(path, key) {
+        if !free_present(ops, &site.cursor, entry.0) {
+            return false;
+        }
+    }
+    for (id, _) in site.touched.as_slice() {
+        if free_present(ops, &site.cursor, *id) != has_id(tree.present(path, key), id) {
+            return false;
+        }
+    }
+    true
 }

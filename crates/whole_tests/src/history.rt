@@ -53,13 +53,6 @@ impl Seen {
         Front::from_pairs(alloc, &entries)
     }
 
-    /// A replica makes an operation.
-    fn note(&mut self, at: usize, counter: u64)
-        requires { at < 4 }
-    {
-        self.counters[at][at] = counter;
-    }
-
     /// A replica takes in all that another has.
     fn take_in(&mut self, to: usize, from: usize)
         requires to { to < 4 }
@@ -117,10 +110,20 @@ fn member(alloc: Global, rule: &mut Rule, path: Path) -> Result<Cursor, Refusal>
     })
 }
 
-pub fn below(path: &Path, tagged: Tagged) -> Result<Path, Refusal> {
+fn below(path: &Path, tagged: Tagged) -> Result<Path, Refusal> {
     let mut path = path.try_clone()?;
     path.push(tagged)?;
     Ok(path)
+}
+
+/// The path into the map at a place.
+pub fn map_below(path: &Path, key: &Key) -> Result<Path, Refusal> {
+    below(path, Tagged::Map(key.try_clone()?))
+}
+
+/// The path into the list at a place.
+pub fn list_below(path: &Path, key: &Key) -> Result<Path, Refusal> {
+    below(path, Tagged::List(key.try_clone()?))
 }
 
 /// The key where an operation ends: an insertion ends at the element that it makes.
@@ -232,7 +235,7 @@ fn turn(
     let at = rule.below(4) as usize;
     let front = seen.front(alloc, at)?;
     let op = next_operation(alloc, rule, REPLICAS[at], front, ops)?;
-    seen.note(at, op.id().counter);
+    seen.counters[at][at] = op.id().counter;
     if rule.below(16) == 0 {
         seen.take_in(rule.below(4) as usize, at);
     }

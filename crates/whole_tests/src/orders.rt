@@ -30,8 +30,8 @@ fn operations(alloc: Global, first: &[&str], later: &[&str]) -> Result<Vec<Opera
 }
 
 /// A history, by the written forms of its operations, and what is read after it.
-#[derive(Clone, Copy)]
 pub struct History<'a> {
+    pub name: &'a str,
     pub first: &'a [&'a str],
     pub later: &'a [&'a str],
     /// The causal orders of the later operations.
@@ -47,46 +47,19 @@ fn read_operations(alloc: Global, ops: &[Operation], names: &[&str]) -> Result<R
     read_at(alloc, &tree, names)
 }
 
-/// What the tree of some operations, and then others, says at a place.
-fn read_after(
-    alloc: Global,
-    first: &[&str],
-    later: &[&str],
-    names: &[&str],
-) -> Result<Readings, Refusal> {
-    let ops = operations(alloc, first, later)?;
-    read_operations(alloc, ops.as_slice(), names)
-}
-
-/// Whether some operations, followed by others in two orders, agree.
-fn agree_after(
-    alloc: Global,
-    first: &[&str],
-    later: &[&str],
-    others: &[&str],
-) -> Result<bool, Refusal> {
-    let ops = operations(alloc, first, later)?;
-    let others = operations(alloc, first, others)?;
-    orders_agree(alloc, ops.as_slice(), others.as_slice())
-}
-
-/// Whether these readings are those after a history.
-fn reads_same(alloc: Global, history: &History<'_>, readings: &Readings) -> Result<bool, Refusal> {
-    let first = read_after(alloc, history.first, history.later, history.names)?;
-    Ok(readings.is_same(&first))
-}
-
-/// What is wrong with what is read after a history whose later operations come in this order, or nothing.
+/// What is wrong with what is read after these operations, or nothing. The readings are also those after the first order.
 fn fault_read(
     alloc: Global,
     history: &History<'_>,
-    order: &[&str],
+    first: &[Operation],
+    ops: &[Operation],
 ) -> Result<&'static str, Refusal> {
-    let readings = read_after(alloc, history.first, order, history.names)?;
+    let readings = read_operations(alloc, ops, history.names)?;
     if !readings.has_all(history.due) {
         return Ok("an order doesn't read what is due");
     }
-    Ok(if reads_same(alloc, history, &readings)? {
+    let due = read_operations(alloc, first, history.names)?;
+    Ok(if readings.is_same(&due) {
         ""
     } else {
         "an order doesn't read what the first does"
@@ -99,8 +72,10 @@ fn fault_in_order(
     history: &History<'_>,
     order: &[&str],
 ) -> Result<&'static str, Refusal> {
-    if agree_after(alloc, history.first, history.later, order)? {
-        fault_read(alloc, history, order)
+    let first = operations(alloc, history.first, history.later)?;
+    let ops = operations(alloc, history.first, order)?;
+    if orders_agree(alloc, first.as_slice(), ops.as_slice())? {
+        fault_read(alloc, history, first.as_slice(), ops.as_slice())
     } else {
         Ok("an order doesn't agree with the first")
     }
@@ -152,29 +127,29 @@ fn pulled(alloc: Global, own: &Log<'_>, other: &Log<'_>) -> Result<Vec<Operation
     Ok(ops)
 }
 
-/// Whether two replicas agree after each has pulled from the other.
-fn agree_pulled(alloc: Global, own: &Log<'_>, other: &Log<'_>) -> Result<bool, Refusal> {
-    let first = pulled(alloc, own, other)?;
-    let second = pulled(alloc, other, own)?;
-    orders_agree(alloc, first.as_slice(), second.as_slice())
-}
-
 /// Whether the tree of some operations says this at a name.
-fn says(alloc: Global, ops: &[Operation], name: &str, due: &Due<'_>) -> Result<bool, Refusal> {
+fn says(alloc: Global, ops: &[Operation], name: &str, due: &[Due<'_>]) -> Result<bool, Refusal> {
     let readings = read_operations(alloc, ops, &[name])?;
-    Ok(readings.has(due))
+    Ok(readings.has_all(due))
 }
 
-/// Whether a replica reads this at a name after it has pulled from another.
-fn says_pulled(
+/// What is wrong with the operations of two replicas that have pulled from each other, or nothing.
+fn fault_of_pulled(
     alloc: Global,
-    own: &Log<'_>,
-    other: &Log<'_>,
+    first: &[Operation],
+    second: &[Operation],
     name: &str,
-    due: &Due<'_>,
-) -> Result<bool, Refusal> {
-    let ops = pulled(alloc, own, other)?;
-    says(alloc, ops.as_slice(), name, due)
+    due: &[Due<'_>],
+) -> Result<&'static str, Refusal> {
+    Ok(if !orders_agree(alloc, first, second)? {
+        "the two don't agree"
+    } else if !says(alloc, first, name, due)? {
+        "the first doesn't read what is due"
+    } else if !says(alloc, second, name, due)? {
+        "the second doesn't read what is due"
+    } else {
+        ""
+    })
 }
 
 /// What is wrong after two replicas have pulled from each other, or nothing.
@@ -183,15 +158,9 @@ pub fn fault_of_exchange(
     own: &Log<'_>,
     other: &Log<'_>,
     name: &str,
-    due: &Due<'_>,
+    due: &[Due<'_>],
 ) -> Result<&'static str, Refusal> {
-    Ok(if !agree_pulled(alloc, own, other)? {
-        "the two don't agree"
-    } else if !says_pulled(alloc, own, other, name, due)? {
-        "the first doesn't read what is due"
-    } else if !says_pulled(alloc, other, own, name, due)? {
-        "the second doesn't read what is due"
-    } else {
-        ""
-    })
+    let first = pulled(alloc, own, other)?;
+    let second = pulled(alloc, other, own)?;
+    fault_of_pulled(alloc, first.as_slice(), second.as_slice(), name, due)
 }

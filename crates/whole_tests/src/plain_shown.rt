@@ -1,6 +1,6 @@
 //! What the plain program has at a place and below it, written by the rules of `show`.
 use crate::alike::{present_elements, present_texts};
-use crate::history::below;
+use crate::history::{list_below, map_below};
 use crate::sites::{Site, touched_at};
 use json_scalar::{Refusal, Scalar, Val};
 use lamport_id::Id;
@@ -19,24 +19,13 @@ struct History<'a> {
     sites: &'a [Site],
 }
 
-/// Whether what is written next is the first item of an array, or the first of all.
-fn is_first(text: &str) -> bool {
-    match text.as_bytes().last() {
-        Some(byte) => *byte == b'[',
-        None => true,
-    }
-}
-
+/// Writes the next item of an array, or the first of all. A text that begins with `[` and isn't closed opens an array.
 fn item(text: &mut String, part: &str) -> Result<(), Refusal> {
-    if !is_first(text.as_str()) {
+    if !matches!(text.as_bytes().last(), None | Some(b'[')) {
         text.push_str(",")?;
     }
     text.push_str(part)?;
     Ok(())
-}
-
-fn open(text: &mut String) -> Result<(), Refusal> {
-    item(text, "[")
 }
 
 fn close(text: &mut String) -> Result<(), Refusal> {
@@ -44,53 +33,21 @@ fn close(text: &mut String) -> Result<(), Refusal> {
     Ok(())
 }
 
-/// Opens an array, whose first item is a name.
-fn open_named(text: &mut String, name: &str) -> Result<(), Refusal> {
-    open(text)?;
-    quoted(text, name)
-}
-
-/// Begins the branch of this name, which has a list of parts.
-fn begin_branch(text: &mut String, name: &str) -> Result<(), Refusal> {
-    open_named(text, name)?;
-    open(text)
-}
-
-fn end_branch(text: &mut String) -> Result<(), Refusal> {
-    close(text)?;
-    close(text)
-}
-
-/// A text of the history, which has no character that JSON escapes.
-fn quoted(text: &mut String, part: &str) -> Result<(), Refusal> {
-    item(text, "\"")?;
-    text.push_str(part)?;
-    text.push_str("\"")?;
-    Ok(())
-}
-
-fn write_id(alloc: Global, text: &mut String, id: &Id) -> Result<(), Refusal> {
-    open(text)?;
-    item(text, id.counter.to_string(alloc)?.as_str())?;
-    quoted(text, id.replica.as_str())?;
-    close(text)
-}
-
-fn write_scalar(alloc: Global, text: &mut String, scalar: &Scalar) -> Result<(), Refusal> {
-    match scalar {
-        Scalar::Int(number) => item(text, number.to_string(alloc)?.as_str()),
-        Scalar::Text(part) => quoted(text, part.as_str()),
-        Scalar::Bool(true) => item(text, "true"),
-        Scalar::Bool(false) => item(text, "false"),
-        Scalar::Null => item(text, "null"),
-    }
+/// A scalar of the history, of whose texts none has a character that JSON escapes.
+fn scalar_text(alloc: Global, scalar: &Scalar) -> Result<String, Refusal> {
+    Ok(match scalar {
+        Scalar::Int(number) => number.to_string(alloc)?,
+        Scalar::Text(part) => format!(in alloc; "\"{}\"", part.as_str())?,
+        Scalar::Bool(is) => is.to_string(alloc)?,
+        Scalar::Null => String::from_str(alloc, "null")?,
+    })
 }
 
 fn write_entry(alloc: Global, text: &mut String, id: &Id, scalar: &Scalar) -> Result<(), Refusal> {
-    open_named(text, "val")?;
-    write_id(alloc, text, id)?;
-    write_scalar(alloc, text, scalar)?;
-    close(text)
+    let value = scalar_text(alloc, scalar)?;
+    let replica = id.replica.as_str();
+    let part = format!(in alloc; "[\"val\",[{},\"{replica}\"],{value}]", id.counter)?;
+    item(text, part.as_str())
 }
 
 /// One part for each entry of the register.
@@ -119,12 +76,6 @@ fn sum_of(history: History<'_>, path: &[Tagged], key: &Key) -> Option<i128> {
     sum
 }
 
-fn write_total(alloc: Global, text: &mut String, sum: i128) -> Result<(), Refusal> {
-    open_named(text, "cnt")?;
-    quoted(text, sum.to_string(alloc)?.as_str())?;
-    close(text)
-}
-
 fn write_sum(
     text: &mut String,
     history: History<'_>,
@@ -132,7 +83,10 @@ fn write_sum(
     key: &Key,
 ) -> Result<(), Refusal> {
     match sum_of(history, path, key) {
-        Some(sum) => write_total(history.alloc, text, sum),
+        Some(sum) => {
+            let part = format!(in history.alloc; "[\"cnt\",\"{sum}\"]")?;
+            item(text, part.as_str())
+        }
         None => Ok(()),
     }
 }
@@ -158,8 +112,27 @@ fn puts(entry: &(Id, Option<Val>), val: &Val) -> bool {
 
 /// Whether an operation that makes a place present has put this value there.
 fn is_put(history: History<'_>, path: &[Tagged], key: &Key, val: &Val) -> bool {
-    touched_at(history.sites, path, key).iter().any(|entry| puts(entry, val)
-        && history.plain.has_mark(path, key, &entry.0))
+    for entry in touched_at(history.sites, path, key) {
+        if puts(entry, val) && history.plain.has_mark(path, key, &entry.0) {
+            return true;
+        }
+    }
+    false
+}
+
+/// A member of a map, by its text, which has no character that JSON escapes.
+#[cycle(shown)]
+fn write_member(
+    text: &mut String,
+    history: History<'_>,
+    map: &Path,
+    member: &KeyText,
+    depth: usize,
+) -> Result<(), Refusal> {
+    let name = format!(in history.alloc; "[\"{}\"", member.as_str())?;
+    item(text, name.as_str())?;
+    write_element(text, history, map, &Key::Text(member.try_clone()?), depth)?;
+    close(text)
 }
 
 /// The members of a map, as its branch.
@@ -171,13 +144,12 @@ fn write_members(
     members: &[KeyText],
     depth: usize,
 ) -> Result<(), Refusal> {
-    begin_branch(text, "map")?;
+    item(text, r#"["map",["#)?;
     for member in members {
-        open_named(text, member.as_str())?;
-        write_element(text, history, map, &Key::Text(member.try_clone()?), depth)?;
-        close(text)?;
+        write_member(text, history, map, member, depth)?;
     }
-    end_branch(text)
+    close(text)?;
+    close(text)
 }
 
 /// The map at a place, if it has a present member or was put there.
@@ -189,7 +161,7 @@ fn write_map(
     key: &Key,
     depth: usize,
 ) -> Result<(), Refusal> {
-    let map = below(path, Tagged::Map(key.try_clone()?))?;
+    let map = map_below(path, key)?;
     let members = present_texts(history.alloc, history.plain, &map)?;
     if members.is_empty() && !is_put(history, path.as_slice(), key, &Val::EmptyMap) {
         return Ok(());
@@ -206,11 +178,12 @@ fn write_elements(
     elements: &[Id],
     depth: usize,
 ) -> Result<(), Refusal> {
-    begin_branch(text, "list")?;
+    item(text, r#"["list",["#)?;
     for id in elements {
         write_element(text, history, list, &Key::Element(*id), depth)?;
     }
-    end_branch(text)
+    close(text)?;
+    close(text)
 }
 
 /// The list at a place, if it has a present element or was put there.
@@ -222,7 +195,7 @@ fn write_list(
     key: &Key,
     depth: usize,
 ) -> Result<(), Refusal> {
-    let list = below(path, Tagged::List(key.try_clone()?))?;
+    let list = list_below(path, key)?;
     let elements = present_elements(history.alloc, history.plain, &list)?;
     if elements.is_empty() && !is_put(history, path.as_slice(), key, &Val::EmptyList) {
         return Ok(());
@@ -242,7 +215,7 @@ fn write_element(
     if depth == 0 {
         return Err(Refusal::TooDeep);
     }
-    open(text)?;
+    item(text, "[")?;
     write_map(text, history, path, key, depth - 1)?;
     write_list(text, history, path, key, depth - 1)?;
     end_element(text, history, path.as_slice(), key)

@@ -184,7 +184,7 @@ fn are_conflicts(entries: &[(Id, Val)], due: &[(u64, &str, &str)]) -> bool {
 
 impl Readings {
     /// Whether a reading is as it is due.
-    pub fn has(&self, due: &Due<'_>) -> bool {
+    fn has(&self, due: &Due<'_>) -> bool {
         match due {
             Due::Keys(texts) => are_keys(self.below.keys.as_slice(), texts),
             Due::Values(texts) => are_texts(self.here.values.as_slice(), texts),
@@ -196,7 +196,12 @@ impl Readings {
 
     /// Whether each of these readings is as it is due.
     pub fn has_all(&self, due: &[Due<'_>]) -> bool {
-        due.iter().all(|due| self.has(due))
+        for reading in due {
+            if !self.has(reading) {
+                return false;
+            }
+        }
+        true
     }
 
     /// Whether all readings are the same.

@@ -1,7 +1,7 @@
 //! A history of 2,000 operations of four replicas: maps, lists, deletes, additions, and much that is concurrent.
 use crate::alike::{agree_at, is_free_at, show_alike};
 use crate::history::make_history;
-use crate::holds::{holds, no_fault};
+use crate::holds::no_fault;
 use crate::sites::{Site, add_operation};
 use converge_laws::replay_all;
 use doc_tree::Tree;
@@ -66,24 +66,6 @@ fn agree_each_hundred(alloc: Global, ops: &[Operation]) -> Result<bool, Refusal>
     Ok(true)
 }
 
-/// What is wrong with the tree and the plain program of the history, or nothing.
-fn fault_of_plain_program(alloc: Global) -> Result<&'static str, Refusal> {
-    let history = make_history(alloc, COUNT)?;
-    Ok(if history.len() != COUNT {
-        "the history has another number of operations"
-    } else if !agree_each_hundred(alloc, history.as_slice())? {
-        "the tree doesn't say what the plain program says"
-    } else {
-        ""
-    })
-}
-
-#[test]
-fn tree_meets_plain_program_each_hundred(rt: HostRuntime) -> Result<(), Fail> {
-    no_fault(&rt, fault_of_plain_program(rt.alloc())?);
-    Ok(())
-}
-
 /// Whether the set of the operations says what the tree says, at each of some places.
 fn is_free_at_each(tree: &Tree, ops: &[Operation], sites: &[Site]) -> bool {
     for site in sites {
@@ -101,39 +83,21 @@ fn is_free_everywhere(alloc: Global, ops: &[Operation]) -> Result<bool, Refusal>
     Ok(is_free_at_each(&tree, ops, sites.as_slice()))
 }
 
-/// What is wrong with the tree and the set of the operations of the history, or nothing.
-fn fault_of_free_form(alloc: Global) -> Result<&'static str, Refusal> {
-    let history = make_history(alloc, COUNT)?;
-    Ok(if history.len() != COUNT {
-        "the history has another number of operations"
-    } else if !is_free_everywhere(alloc, history.as_slice())? {
-        "the set of the operations doesn't say what the tree says"
-    } else {
-        ""
-    })
-}
-
-#[test]
-fn free_form_meets_tree_everywhere(rt: HostRuntime) -> Result<(), Fail> {
-    no_fault(&rt, fault_of_free_form(rt.alloc())?);
-    Ok(())
-}
-
 fn count_deletes(ops: &[Operation]) -> usize {
-    ops.iter()
-        .filter(|op| matches!(op.mutation(), Mutation::Delete))
-        .count()
-}
-
-fn has_conflict(alloc: Global, tree: &Tree, site: &Site) -> Result<bool, Refusal> {
-    Ok(conflicts(alloc, tree, &site.cursor)?.as_slice().len() > 1)
+    let mut count: usize = 0;
+    for op in ops {
+        if matches!(op.mutation(), Mutation::Delete) {
+            count = count.saturating_add(1);
+        }
+    }
+    count
 }
 
 /// How many places have several values at once.
 fn count_conflicts(alloc: Global, tree: &Tree, sites: &[Site]) -> Result<usize, Refusal> {
     let mut count: usize = 0;
     for site in sites {
-        if has_conflict(alloc, tree, site)? {
+        if conflicts(alloc, tree, &site.cursor)?.as_slice().len() > 1 {
             count = count.saturating_add(1);
         }
     }
@@ -156,19 +120,56 @@ fn count_in_tree(alloc: Global, ops: &[Operation]) -> Result<(usize, usize), Ref
     Ok((conflicts, longest_list(alloc, &tree, sites.as_slice())?))
 }
 
-/// How many deletes the history has, how many places with several values, and how long its longest list is.
-fn count_in_history(alloc: Global) -> Result<(usize, usize, usize), Refusal> {
-    let history = make_history(alloc, COUNT)?;
-    let (conflicts, longest) = count_in_tree(alloc, history.as_slice())?;
-    Ok((count_deletes(history.as_slice()), conflicts, longest))
+/// What these operations lack to tell something, or nothing: many deletes, places with several values, and long lists.
+fn lack_of(alloc: Global, ops: &[Operation]) -> Result<&'static str, Refusal> {
+    let (conflicts, longest) = count_in_tree(alloc, ops)?;
+    Ok(if count_deletes(ops) < 100 {
+        "the history has too few deletes"
+    } else if conflicts < 5 {
+        "too few places have several values"
+    } else if longest < 50 {
+        "the longest list is too short"
+    } else {
+        ""
+    })
 }
 
-// The history tells something: it has many deletes, places with several values, and long lists.
+/// What is wrong between the tree, the plain program and the set of these operations, or nothing: the case, and what it is.
+fn fault_between(
+    alloc: Global,
+    ops: &[Operation],
+) -> Result<(&'static str, &'static str), Refusal> {
+    Ok(if !agree_each_hundred(alloc, ops)? {
+        (
+            "tree_meets_plain_program_each_hundred",
+            "the tree doesn't say what the plain program says",
+        )
+    } else if !is_free_everywhere(alloc, ops)? {
+        (
+            "free_form_meets_tree_everywhere",
+            "the set of the operations doesn't say what the tree says",
+        )
+    } else {
+        ("", "")
+    })
+}
+
+/// What is wrong with the history: the case, and what it is.
+fn fault_of_history(alloc: Global) -> Result<(&'static str, &'static str), Refusal> {
+    let history = make_history(alloc, COUNT)?;
+    if history.len() != COUNT {
+        return Ok(("long_history", "it has another number of operations"));
+    }
+    let lack = lack_of(alloc, history.as_slice())?;
+    if !lack.is_empty() {
+        return Ok(("history_is_telling", lack));
+    }
+    fault_between(alloc, history.as_slice())
+}
+
 #[test]
-fn history_is_telling(rt: HostRuntime) -> Result<(), Fail> {
-    let (deletes, conflicts, longest) = count_in_history(rt.alloc())?;
-    holds(&rt, deletes >= 100, "the history has too few deletes");
-    holds(&rt, conflicts >= 5, "too few places have several values");
-    holds(&rt, longest >= 50, "the longest list is too short");
+fn long_history(rt: HostRuntime) -> Result<(), Fail> {
+    let (case, fault) = fault_of_history(rt.alloc())?;
+    no_fault(&rt, case, fault);
     Ok(())
 }

@@ -2,6 +2,8 @@
 use crate::holds::no_fault;
 use crate::orders::{History, Log, fault_of, fault_of_exchange};
 use crate::readings::Due;
+use json_scalar::Refusal;
+use std::alloc::Global;
 use std::test::Fail;
 
 const A: &str = r#"["op",[1,"p"],[],[[["m",0]],"k"],["assign","A"]]"#;
@@ -9,23 +11,6 @@ const A: &str = r#"["op",[1,"p"],[],[[["m",0]],"k"],["assign","A"]]"#;
 const B: &str = r#"["op",[2,"p"],[["p",1]],[[["m",0]],"k"],["assign","B"]]"#;
 
 const C: &str = r#"["op",[2,"q"],[["p",1]],[[["m",0]],"k"],["assign","C"]]"#;
-
-const REGISTER_HISTORY: History<'static> = History {
-    first: &[A],
-    later: &[B, C],
-    orders: &[&[B, C], &[C, B]],
-    names: &["k"],
-    due: &[
-        Due::Values(&["B", "C"]),
-        Due::Conflicts(&[(2, "p", "B"), (2, "q", "C")]),
-    ],
-};
-
-#[test]
-fn concurrent_register_in_each_order(rt: HostRuntime) -> Result<(), Fail> {
-    no_fault(&rt, fault_of(rt.alloc(), &REGISTER_HISTORY)?);
-    Ok(())
-}
 
 const COLORS: [&str; 2] = [
     r#"["op",[1,"p"],[],[[["m",0]],"colors"],["assign",{}]]"#,
@@ -43,24 +28,6 @@ const GREEN: &str =
 const COLORS_SHOWN: &str =
     r##"[["map",[["green",[["val",[4,"q"],"#00ff00"]]],["red",[["val",[3,"p"],"#ff0000"]]]]]]"##;
 
-const COLORS_HISTORY: History<'static> = History {
-    first: &COLORS,
-    later: &[RED, REASSIGNED, GREEN],
-    orders: &[
-        &[RED, REASSIGNED, GREEN],
-        &[REASSIGNED, RED, GREEN],
-        &[REASSIGNED, GREEN, RED],
-    ],
-    names: &["colors"],
-    due: &[Due::Keys(&["green", "red"]), Due::Shown(COLORS_SHOWN)],
-};
-
-#[test]
-fn colors_reassigned_in_each_order(rt: HostRuntime) -> Result<(), Fail> {
-    no_fault(&rt, fault_of(rt.alloc(), &COLORS_HISTORY)?);
-    Ok(())
-}
-
 const TODO: [&str; 4] = [
     r#"["op",[1,"p"],[],[[["m",0]],"todo"],["assign",[]]]"#,
     r#"["op",[2,"p"],[["p",1]],[[["m",0],["l","todo"]],1],["insert",{}]]"#,
@@ -74,20 +41,6 @@ const EDITED: &str =
     r#"["op",[5,"q"],[["p",4]],[[["m",0],["l","todo"],["m",[2,"p"]]],"done"],["assign",true]]"#;
 
 const TODO_SHOWN: &str = r#"[["list",[[["map",[["done",[["val",[5,"q"],true]]]]]]]]]"#;
-
-const TODO_HISTORY: History<'static> = History {
-    first: &TODO,
-    later: &[DELETED, EDITED],
-    orders: &[&[DELETED, EDITED], &[EDITED, DELETED]],
-    names: &["todo"],
-    due: &[Due::Shown(TODO_SHOWN)],
-};
-
-#[test]
-fn todo_deleted_while_edited_in_each_order(rt: HostRuntime) -> Result<(), Fail> {
-    no_fault(&rt, fault_of(rt.alloc(), &TODO_HISTORY)?);
-    Ok(())
-}
 
 const LIST: [&str; 5] = [
     r#"["op",[1,"o"],[],[[],0],["assign",{}]]"#,
@@ -113,44 +66,84 @@ const EDITED_LIST: [(u64, &str, &str); 5] = [
     (7, "q", "z"),
 ];
 
-const LIST_HISTORY: History<'static> = History {
-    first: &LIST,
-    later: &[WITHOUT_B, X, Y, Z],
-    orders: &[
-        &[WITHOUT_B, X, Y, Z],
-        &[WITHOUT_B, Y, X, Z],
-        &[WITHOUT_B, Y, Z, X],
-        &[Y, WITHOUT_B, X, Z],
-        &[Y, WITHOUT_B, Z, X],
-        &[Y, Z, WITHOUT_B, X],
-    ],
-    names: &["l"],
-    due: &[Due::Items(&EDITED_LIST)],
-};
-
-#[test]
-fn concurrent_list_edits_in_each_order(rt: HostRuntime) -> Result<(), Fail> {
-    no_fault(&rt, fault_of(rt.alloc(), &LIST_HISTORY)?);
-    Ok(())
-}
-
 const ASSIGNED: &str = r#"["op",[1,"p"],[],[[["m",0],["m","a"]],"b"],["assign","v"]]"#;
 
 const BELOW: &str = r#"["op",[2,"p"],[["p",1]],[[["m",0],["m","a"]],"b"],["delete"]]"#;
 
 const ABOVE: &str = r#"["op",[2,"q"],[["p",1]],[[["m",0]],"a"],["delete"]]"#;
 
-const DELETES_HISTORY: History<'static> = History {
-    first: &[ASSIGNED],
-    later: &[BELOW, ABOVE],
-    orders: &[&[BELOW, ABOVE], &[ABOVE, BELOW]],
-    names: &[],
-    due: &[Due::Keys(&[]), Due::Shown("[]")],
-};
+const HISTORIES: [History<'static>; 5] = [
+    History {
+        name: "concurrent_register_in_each_order",
+        first: &[A],
+        later: &[B, C],
+        orders: &[&[B, C], &[C, B]],
+        names: &["k"],
+        due: &[
+            Due::Values(&["B", "C"]),
+            Due::Conflicts(&[(2, "p", "B"), (2, "q", "C")]),
+        ],
+    },
+    History {
+        name: "colors_reassigned_in_each_order",
+        first: &COLORS,
+        later: &[RED, REASSIGNED, GREEN],
+        orders: &[
+            &[RED, REASSIGNED, GREEN],
+            &[REASSIGNED, RED, GREEN],
+            &[REASSIGNED, GREEN, RED],
+        ],
+        names: &["colors"],
+        due: &[Due::Keys(&["green", "red"]), Due::Shown(COLORS_SHOWN)],
+    },
+    History {
+        name: "todo_deleted_while_edited_in_each_order",
+        first: &TODO,
+        later: &[DELETED, EDITED],
+        orders: &[&[DELETED, EDITED], &[EDITED, DELETED]],
+        names: &["todo"],
+        due: &[Due::Shown(TODO_SHOWN)],
+    },
+    History {
+        name: "concurrent_list_edits_in_each_order",
+        first: &LIST,
+        later: &[WITHOUT_B, X, Y, Z],
+        orders: &[
+            &[WITHOUT_B, X, Y, Z],
+            &[WITHOUT_B, Y, X, Z],
+            &[WITHOUT_B, Y, Z, X],
+            &[Y, WITHOUT_B, X, Z],
+            &[Y, WITHOUT_B, Z, X],
+            &[Y, Z, WITHOUT_B, X],
+        ],
+        names: &["l"],
+        due: &[Due::Items(&EDITED_LIST)],
+    },
+    History {
+        name: "concurrent_deletes_in_each_order",
+        first: &[ASSIGNED],
+        later: &[BELOW, ABOVE],
+        orders: &[&[BELOW, ABOVE], &[ABOVE, BELOW]],
+        names: &[],
+        due: &[Due::Keys(&[]), Due::Shown("[]")],
+    },
+];
+
+/// The name of the first history that doesn't say the same in each order, and what is wrong, or nothing.
+fn fault_of_histories(alloc: Global) -> Result<(&'static str, &'static str), Refusal> {
+    for history in &HISTORIES {
+        let fault = fault_of(alloc, history)?;
+        if !fault.is_empty() {
+            return Ok((history.name, fault));
+        }
+    }
+    Ok(("", ""))
+}
 
 #[test]
-fn concurrent_deletes_in_each_order(rt: HostRuntime) -> Result<(), Fail> {
-    no_fault(&rt, fault_of(rt.alloc(), &DELETES_HISTORY)?);
+fn histories_in_each_order(rt: HostRuntime) -> Result<(), Fail> {
+    let (name, fault) = fault_of_histories(rt.alloc())?;
+    no_fault(&rt, name, fault);
     Ok(())
 }
 
@@ -165,13 +158,11 @@ const OURS: Log<'static> = (&OF_FIRST, "srv-1", 2);
 
 const THEIRS: Log<'static> = (&OF_SECOND, "b-1", 1);
 
-const BOTH: Due<'static> = Due::Conflicts(&[(1, "b-1", "B"), (2, "srv-1", "A")]);
+const BOTH: [Due<'static>; 1] = [Due::Conflicts(&[(1, "b-1", "B"), (2, "srv-1", "A")])];
 
 #[test]
 fn exchange_of_two_each_way(rt: HostRuntime) -> Result<(), Fail> {
-    no_fault(
-        &rt,
-        fault_of_exchange(rt.alloc(), &OURS, &THEIRS, "k", &BOTH)?,
-    );
+    let fault = fault_of_exchange(rt.alloc(), &OURS, &THEIRS, "k", &BOTH)?;
+    no_fault(&rt, "exchange_of_two_each_way", fault);
     Ok(())
 }
