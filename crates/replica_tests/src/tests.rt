@@ -1,5 +1,6 @@
 //! Operations handed in out of order, twice, and against the rules, also against several at once; held ones given up, and
 //! released by changes of one's own; documents behind locks, on a shelf, and what their seats add up to; and want of memory.
+mod cases;
 mod causes;
 mod counters;
 mod foreign;
@@ -10,11 +11,12 @@ mod samples;
 mod scarce;
 mod shelf;
 
+use cases::{Before, Case, are_met};
 use json_scalar::Refusal;
-use replica_core::{Misfit, Replica};
-use samples::{Deed, Digest, holds, named, tells};
+use op_core::Mutation;
+use replica_core::{Applied, Misfit, Replica};
+use samples::{Deed, Digest, holds, named, operation, whole};
 use std::alloc::Global;
-use std::process::Abort;
 use std::test::Fail;
 
 // Assignments of null to the document.
@@ -26,62 +28,97 @@ const FIRST_OF_Q: &str = r#"["op",[1,"q"],[],[[],0],["assign",null]]"#;
 
 const SECOND_OF_Q: &str = r#"["op",[2,"q"],[["p",1]],[[],0],["assign",null]]"#;
 
-// Asserts what a new replica of this name tells of each operation, and how many are logged in the end.
-fn tells_anew<R: Abort>(
-    rt: &R,
-    alloc: Global,
-    name: &[u8],
-    rows: &[(Deed, &str, Digest)],
-    logged: usize,
-) -> Result<(), Fail> {
-    let mut replica = named(alloc, name)?;
-    tells(rt, alloc, &mut replica, rows, logged)?;
+const ONE_BY_ONE: [Case; 6] = [
+    Case {
+        name: "delivered_twice",
+        replica: b"srv-1",
+        before: (Before::Nothing, 0, 0),
+        rows: &[
+            (Deed::Deliver, FIRST, Digest::Applied(1, 0, 1)),
+            (Deed::Deliver, FIRST, Digest::Known),
+        ],
+        logged: 1,
+    },
+    Case {
+        name: "forget_held",
+        replica: b"srv-1",
+        before: (Before::Nothing, 0, 0),
+        rows: &[
+            (Deed::Deliver, SECOND, Digest::Held),
+            (Deed::Forget, SECOND, Digest::Forgotten),
+            (Deed::Deliver, FIRST, Digest::Applied(1, 0, 1)),
+        ],
+        logged: 1,
+    },
+    Case {
+        name: "local_releases_held",
+        replica: b"p",
+        before: (Before::Nothing, 0, 0),
+        rows: &[
+            (Deed::Deliver, SECOND_OF_Q, Digest::Held),
+            (
+                Deed::Make,
+                r#"["op",[1,"p"],[],[[],0],["delete"]]"#,
+                Digest::Applied(2, 0, 1),
+            ),
+        ],
+        logged: 2,
+    },
+    Case {
+        name: "misfit_dropped_on_release",
+        replica: b"srv-1",
+        before: (Before::Nothing, 0, 0),
+        rows: &[
+            (Deed::Deliver, FIRST_OF_Q, Digest::Applied(1, 0, 1)),
+            (Deed::Deliver, SECOND_OF_Q, Digest::Held),
+            (Deed::Deliver, FIRST, Digest::Applied(1, 1, 1)),
+        ],
+        logged: 2,
+    },
+    Case {
+        name: "forget_not_held",
+        replica: b"srv-1",
+        before: (Before::Nothing, 0, 0),
+        rows: &[(Deed::Forget, FIRST, Digest::Refused(Refusal::NotHeld))],
+        logged: 0,
+    },
+    Case {
+        name: "foreign_refusals_held_full",
+        replica: b"srv-1",
+        before: (Before::Held, 256, 0),
+        rows: &[(
+            Deed::Deliver,
+            r#"["op",[258,"p"],[["p",257]],[[],0],["delete"]]"#,
+            Digest::Refused(Refusal::HeldFull),
+        )],
+        logged: 0,
+    },
+];
+
+#[test]
+fn one_by_one(rt: HostRuntime) -> Result<(), Fail> {
+    are_met(&rt, rt.alloc(), &ONE_BY_ONE)?;
     Ok(())
 }
 
+// The two calls that are met elsewhere only as commands.
 #[test]
-fn delivered_twice(rt: HostRuntime) -> Result<(), Fail> {
-    let rows = [
-        (Deed::Deliver, FIRST, Digest::Applied(1, 0, 1)),
-        (Deed::Deliver, FIRST, Digest::Known),
-    ];
-    tells_anew(&rt, rt.alloc(), b"srv-1", &rows, 1)
+fn forget_and_local(rt: HostRuntime) -> Result<(), Fail> {
+    let alloc = rt.alloc();
+    let mut replica = named(alloc, b"p")?;
+    let Applied { count, dropped, id } = forgets_and_changes(alloc, &mut replica)?;
+    let is = (count, dropped, id.counter) == (1, 0, 1);
+    holds(&rt, is, "a change that releases none");
+    Ok(())
 }
 
-#[test]
-fn forget_held(rt: HostRuntime) -> Result<(), Fail> {
-    let rows = [
-        (Deed::Deliver, SECOND, Digest::Held),
-        (Deed::Forget, SECOND, Digest::Forgotten),
-        (Deed::Deliver, FIRST, Digest::Applied(1, 0, 1)),
-    ];
-    tells_anew(&rt, rt.alloc(), b"srv-1", &rows, 1)
-}
-
-#[test]
-fn local_releases_held(rt: HostRuntime) -> Result<(), Fail> {
-    let first = r#"["op",[1,"p"],[],[[],0],["delete"]]"#;
-    let rows = [
-        (Deed::Deliver, SECOND_OF_Q, Digest::Held),
-        (Deed::Make, first, Digest::Applied(2, 0, 1)),
-    ];
-    tells_anew(&rt, rt.alloc(), b"p", &rows, 2)
-}
-
-#[test]
-fn misfit_dropped_on_release(rt: HostRuntime) -> Result<(), Fail> {
-    let rows = [
-        (Deed::Deliver, FIRST_OF_Q, Digest::Applied(1, 0, 1)),
-        (Deed::Deliver, SECOND_OF_Q, Digest::Held),
-        (Deed::Deliver, FIRST, Digest::Applied(1, 1, 1)),
-    ];
-    tells_anew(&rt, rt.alloc(), b"srv-1", &rows, 2)
-}
-
-#[test]
-fn forget_not_held(rt: HostRuntime) -> Result<(), Fail> {
-    let rows = [(Deed::Forget, FIRST, Digest::Refused(Refusal::NotHeld))];
-    tells_anew(&rt, rt.alloc(), b"srv-1", &rows, 0)
+// Gives up what is held until p makes its first operation, and makes it then.
+fn forgets_and_changes(alloc: Global, replica: &mut Replica) -> Result<Applied, Refusal> {
+    let op = operation(alloc, SECOND_OF_Q)?;
+    let id = op.id();
+    replica.deliver(op)?;
+    replica.forget(id)?;
+    replica.local(whole(alloc), Mutation::Delete)
 }
 
 #[test]

@@ -1,54 +1,61 @@
 //! The worked row on what is refused of operations that are handed in.
-use super::samples::{Deed, Digest, goes_on, holds, operation, server, tells};
+use super::cases::{Before, Case, after};
+use super::samples::{Deed, Digest, holds, operation};
 use doc_words::{Query, Reply};
 use json_scalar::Refusal;
 use lamport_id::ReplicaName;
 use op_core::Operation;
 use std::test::Fail;
 
-const FOREIGN: [(Deed, &str, Digest); 8] = [
-    (
-        Deed::Deliver,
-        r#"["op",[1,"o"],[],[[["m",0]],"l"],["assign",[]]]"#,
-        Digest::Applied(1, 0, 1),
-    ),
-    (
-        Deed::Deliver,
-        r#"["op",[2,"o"],[["o",1]],[[["m",0],["l","l"]],1],["insert","a"]]"#,
-        Digest::Applied(1, 0, 2),
-    ),
-    (
-        Deed::Deliver,
-        r#"["op",[3,"q"],[["o",2]],[[["m",0]],"k"],["assign",1]]"#,
-        Digest::Applied(1, 0, 3),
-    ),
-    (
-        Deed::Deliver,
-        r#"["op",[4,"p"],[["q",3]],[[["m",0]],"k"],["assign",2]]"#,
-        Digest::Refused(Refusal::BadFront),
-    ),
-    (
-        Deed::Deliver,
-        r#"["op",[2,"q"],[["o",1]],[[["m",0]],"k"],["assign",3]]"#,
-        Digest::Refused(Refusal::Forked { last: 3 }),
-    ),
-    (
-        Deed::Deliver,
-        r#"["op",[2,"p"],[["o",1]],[[["m",0],["l","l"]],[2,"o"]],["assign","b"]]"#,
-        Digest::Refused(Refusal::BadCursor),
-    ),
-    (
-        Deed::Deliver,
-        r#"["op",[1,"srv-1"],[],[[["m",0]],"k"],["assign",2]]"#,
-        Digest::Refused(Refusal::OwnName),
-    ),
-    // Again: it is known, and nothing is logged twice.
-    (
-        Deed::Deliver,
-        r#"["op",[3,"q"],[["o",2]],[[["m",0]],"k"],["assign",1]]"#,
-        Digest::Known,
-    ),
-];
+const FOREIGN: Case = Case {
+    name: "foreign_refusals",
+    replica: b"srv-1",
+    before: (Before::Nothing, 0, 0),
+    rows: &[
+        (
+            Deed::Deliver,
+            r#"["op",[1,"o"],[],[[["m",0]],"l"],["assign",[]]]"#,
+            Digest::Applied(1, 0, 1),
+        ),
+        (
+            Deed::Deliver,
+            r#"["op",[2,"o"],[["o",1]],[[["m",0],["l","l"]],1],["insert","a"]]"#,
+            Digest::Applied(1, 0, 2),
+        ),
+        (
+            Deed::Deliver,
+            r#"["op",[3,"q"],[["o",2]],[[["m",0]],"k"],["assign",1]]"#,
+            Digest::Applied(1, 0, 3),
+        ),
+        (
+            Deed::Deliver,
+            r#"["op",[4,"p"],[["q",3]],[[["m",0]],"k"],["assign",2]]"#,
+            Digest::Refused(Refusal::BadFront),
+        ),
+        (
+            Deed::Deliver,
+            r#"["op",[2,"q"],[["o",1]],[[["m",0]],"k"],["assign",3]]"#,
+            Digest::Refused(Refusal::Forked { last: 3 }),
+        ),
+        (
+            Deed::Deliver,
+            r#"["op",[2,"p"],[["o",1]],[[["m",0],["l","l"]],[2,"o"]],["assign","b"]]"#,
+            Digest::Refused(Refusal::BadCursor),
+        ),
+        (
+            Deed::Deliver,
+            r#"["op",[1,"srv-1"],[],[[["m",0]],"k"],["assign",2]]"#,
+            Digest::Refused(Refusal::OwnName),
+        ),
+        // Again: it is known, and nothing is logged twice.
+        (
+            Deed::Deliver,
+            r#"["op",[3,"q"],[["o",2]],[[["m",0]],"k"],["assign",1]]"#,
+            Digest::Known,
+        ),
+    ],
+    logged: 3,
+};
 
 // The counter of this one is not the next of its front, so it has no right shape and can't be handed in.
 const NO_SHAPE: &str = r#"["op",[9,"p"],[["o",1]],[[["m",0]],"k"],["assign",2]]"#;
@@ -74,26 +81,10 @@ fn is_bad_front(op: Result<Operation, Refusal>) -> bool {
 
 #[test]
 fn foreign_refusals(rt: HostRuntime) -> Result<(), Fail> {
-    let alloc = rt.alloc();
-    let mut replica = server(alloc)?;
-    tells(&rt, alloc, &mut replica, &FOREIGN, 3)?;
+    let replica = after(&rt, rt.alloc(), &FOREIGN)?;
     let is_front = is_front(replica.read(0, Query::Front), ("o", 2), ("q", 3));
     holds(&rt, is_front, "front");
-    holds(&rt, is_bad_front(operation(alloc, NO_SHAPE)), NO_SHAPE);
-    Ok(())
-}
-
-#[test]
-fn foreign_refusals_held_full(rt: HostRuntime) -> Result<(), Fail> {
-    let alloc = rt.alloc();
-    let mut replica = server(alloc)?;
-    let held = goes_on(alloc, &mut replica, 257)?;
-    holds(&rt, held == 256, "how many are held");
-    let next = (
-        Deed::Deliver,
-        r#"["op",[258,"p"],[["p",257]],[[],0],["delete"]]"#,
-        Digest::Refused(Refusal::HeldFull),
-    );
-    tells(&rt, alloc, &mut replica, &[next], 0)?;
+    let is_refused = is_bad_front(operation(rt.alloc(), NO_SHAPE));
+    holds(&rt, is_refused, NO_SHAPE);
     Ok(())
 }

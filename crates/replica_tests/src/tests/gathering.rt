@@ -4,8 +4,8 @@ ghost use Rattle.share_ledger.specs.Counters.{ledger_place};
 ghost use Rattle.share_ledger.specs.Begun.{BeginEmpty};
 
 use super::samples::{
-    Deed, Digest, adds_up, are_ids, command, document, hands_in, holds, is_count, is_told,
-    tail_count, told_by,
+    Deed, Digest, adds_up, are_ids, command, document, hands_in, holds, is_count, tail_count,
+    told_by,
 };
 use doc_words::Query;
 use json_scalar::Refusal;
@@ -295,7 +295,7 @@ fn turns_away<M: Marker, R: Abort>(
     let before = seat.account();
     hands_in(rt, alloc, doc, seat, (FIRST, away))?;
     let read = told_by(doc.read(seat, Query::Account).into_reply());
-    is_told(rt, read, away, "account elsewhere");
+    holds(rt, read == away, "account elsewhere");
     let counts = (seat.account(), doc.opened(), tail_count(doc, 0, 5)?);
     holds(rt, counts == (before, 0, 0), "nothing is changed elsewhere");
     Ok(())

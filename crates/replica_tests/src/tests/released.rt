@@ -2,10 +2,8 @@
 ghost use Rattle.std.specs.Prelude.{◌≡◌};
 ghost use Rattle.share_ledger.specs.Begun.{BeginEmpty};
 
-use super::samples::{
-    Digest, are_ids, document, hands_in, holds, is_number, is_told, told_by, values_at,
-};
-use doc_words::{Query, Reply};
+use super::samples::{Digest, are_ids, document, hands_in, holds, is_number, look_at, told_by};
+use doc_words::{Look, Query, Reply};
 use json_scalar::Refusal;
 use locked_doc::{LockedDoc, Seat};
 use share_ledger::{Blank, Marker};
@@ -72,8 +70,10 @@ fn third_first<M: Marker, R: Abort>(
     holds(rt, are_waiting(held), "what is held");
     hands_in(rt, alloc, doc, seat, FIRST)?;
     let account = told_by(doc.read(seat, Query::Account).into_reply());
-    is_told(rt, account, Digest::Account(3), "account");
-    let values = doc.read(seat, values_at(alloc, "k")?).into_reply();
+    holds(rt, account == Digest::Account(3), "account");
+    let values = doc
+        .read(seat, look_at(alloc, Look::Values, "k")?)
+        .into_reply();
     holds(rt, is_number(values, 3), "values at k");
     Ok(())
 }

@@ -8,7 +8,7 @@ use json_scalar::{Refusal, Scalar};
 use lamport_id::{Id, ReplicaName};
 use locked_doc::{Ledgers, LockedDoc, Seat, SeatEnd, Totals};
 use op_core::{Cursor, Front, Key, KeyText, Mutation, Operation, Path, Tagged, read_wire};
-use replica_core::{Applied, Delivered, Misfit, Replica};
+use replica_core::{Delivered, Misfit, Replica};
 use serde_json::Value;
 use share_ledger::{Marker, Table};
 use std::alloc::Global;
@@ -24,9 +24,9 @@ pub fn is_count<R: Abort>(rt: &R, count: usize, due: usize, what: &str) {
     assert_eq!(rt; count, due, "{what}");
 }
 
-/// Asserts that an answer is the one that is due of this operation.
-pub fn is_told<R: Abort>(rt: &R, told: Digest, due: Digest, text: &str) {
-    assert_eq!(rt; told, due, "{text}");
+/// Asserts that an answer is the one that is due of this operation, in the case of this name.
+pub fn is_told<R: Abort>(rt: &R, told: Digest, due: Digest, case: &str, text: &str) {
+    assert_eq!(rt; told, due, "{case}: {text}");
 }
 
 /// What an answer tells, but for lists: of an operation that was logged how many were logged and how many dropped, and its counter.
@@ -53,35 +53,8 @@ pub fn told_by(reply: Reply) -> Digest {
     }
 }
 
-fn delivered(answer: Result<Delivered, Refusal>) -> Digest {
-    match &answer {
-        Ok(Delivered::Applied(applied)) => logged(applied),
-        Ok(Delivered::Known) => Digest::Known,
-        Ok(Delivered::Held(_)) => Digest::Held,
-        Err(refusal) => Digest::Refused(*refusal),
-    }
-}
-
-fn changed(answer: Result<Applied, Refusal>) -> Digest {
-    match &answer {
-        Ok(applied) => logged(applied),
-        Err(refusal) => Digest::Refused(*refusal),
-    }
-}
-
-fn logged(applied: &Applied) -> Digest {
-    Digest::Applied(applied.count, applied.dropped, applied.id.counter)
-}
-
-fn given_up(answer: Result<(), Refusal>) -> Digest {
-    match &answer {
-        Ok(()) => Digest::Forgotten,
-        Err(refusal) => Digest::Refused(*refusal),
-    }
-}
-
 /// What is done with an operation that is given by its written form.
-#[derive(Clone, Copy, Debug, PartialEq, Eq)]
+#[derive(Clone, Copy)]
 pub enum Deed {
     /// It is handed in.
     Deliver,
@@ -134,55 +107,20 @@ fn change(alloc: Global, op: &Operation) -> Result<Command, Refusal> {
     Ok(Command::Change(Place { start, steps }, mutation))
 }
 
-/// Does with an operation what is to be done, and answers what is told of it.
-pub fn done(
-    alloc: Global,
-    replica: &mut Replica,
-    deed: Deed,
-    text: &str,
-) -> Result<Digest, Refusal> {
-    let op = operation(alloc, text)?;
-    match deed {
-        Deed::Deliver => Ok(delivered(replica.deliver(op))),
-        Deed::Make => made(alloc, replica, &op),
-        Deed::Forget => Ok(given_up(replica.forget(op.id()))),
-    }
-}
-
-// Asks for the change that makes an operation.
-fn made(alloc: Global, replica: &mut Replica, op: &Operation) -> Result<Digest, Refusal> {
-    let start = op.cursor().try_clone()?;
-    let mutation = op.mutation().try_clone()?;
-    let steps = Steps::from(Vec::new(alloc));
-    Ok(changed(replica.local(Place { start, steps }, mutation)))
-}
-
-/// Asserts what is told of each operation, one after another, and how many are logged in the end.
-pub fn tells<R: Abort>(
-    rt: &R,
-    alloc: Global,
-    replica: &mut Replica,
-    rows: &[(Deed, &str, Digest)],
-    logged: usize,
-) -> Result<(), Refusal> {
-    for (deed, text, due) in rows {
-        let told = done(alloc, replica, *deed, text)?;
-        is_told(rt, told, *due, text);
-    }
-    is_count(rt, replica.log().len(), logged, "logged operations");
-    Ok(())
-}
-
 /// Hands in the operations of p from the second up to this counter, each of which knows the one before it, and answers how many
 /// of them are held.
 pub fn goes_on(alloc: Global, replica: &mut Replica, last: u64) -> Result<u64, Refusal> {
     let mut held = 0u64;
     for counter in 2..=last {
-        if delivered(replica.deliver(later(alloc, counter)?)) == Digest::Held {
+        if is_held(&replica.deliver(later(alloc, counter)?)) {
             held = held.saturating_add(1);
         }
     }
     Ok(held)
+}
+
+fn is_held(answer: &Result<Delivered, Refusal>) -> bool {
+    matches!(answer, Ok(Delivered::Held(_)))
 }
 
 /// The place of the whole document.
@@ -206,11 +144,6 @@ pub fn member(alloc: Global, name: &str) -> Result<Place, Refusal> {
         start: Cursor { path, key },
         steps: Steps::from(Vec::new(alloc)),
     })
-}
-
-/// The query for the values at this member.
-pub fn values_at(alloc: Global, name: &str) -> Result<Query, Refusal> {
-    look_at(alloc, Look::Values, name)
 }
 
 /// The query that looks so at this member.
@@ -284,7 +217,7 @@ pub fn hands_in<M: Marker, R: Abort>(
 ) -> Result<(), Refusal> {
     let delivery = command(alloc, Deed::Deliver, due.0)?;
     let told = told_by(doc.act(seat, delivery).into_reply());
-    is_told(rt, told, due.1, due.0);
+    is_told(rt, told, due.1, "handed in", due.0);
     Ok(())
 }
 

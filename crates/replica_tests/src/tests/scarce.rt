@@ -110,48 +110,32 @@ fn reading<M: Marker>(
     which: usize,
 ) -> Result<String, Refusal> {
     let asked = query(alloc, which)?;
-    text_of(alloc, doc.read(seat, asked).into_reply())
-}
-
-fn text_of(alloc: Global, reply: Reply) -> Result<String, Refusal> {
-    match &reply {
+    match &doc.read(seat, asked).into_reply() {
         Reply::Refused(refusal) => Err(*refusal),
-        _ => Ok(format!(in alloc; "{reply:?}")?),
+        reply => Ok(format!(in alloc; "{reply:?}\n")?),
     }
 }
 
-fn reading_again<M: Marker>(
-    alloc: Global,
-    doc: &LockedDoc<M>,
-    seat: &mut Seat<M>,
-    which: usize,
-) -> Result<String, Refusal> {
-    match reading(alloc, doc, seat, which) {
-        Ok(text) => Ok(text),
-        Err(_) => reading(alloc, doc, seat, which),
-    }
-}
-
-// All readings of a document.
+// All readings of a document, each a line.
 fn picture<M: Marker>(
     alloc: Global,
     doc: &LockedDoc<M>,
     seat: &mut Seat<M>,
-) -> Result<Vec<String>, Refusal> {
-    let mut texts = Vec::new(alloc);
+) -> Result<String, Refusal> {
+    let mut text = String::new(alloc);
     for which in 0..READINGS {
-        texts.push(reading(alloc, doc, seat, which)?)?;
+        text.push_str(reading(alloc, doc, seat, which)?.as_str())?;
     }
-    Ok(texts)
+    Ok(text)
 }
 
 fn picture_again<M: Marker>(
     alloc: Global,
     doc: &LockedDoc<M>,
     seat: &mut Seat<M>,
-) -> Result<Vec<String>, Refusal> {
+) -> Result<String, Refusal> {
     match picture(alloc, doc, seat) {
-        Ok(texts) => Ok(texts),
+        Ok(text) => Ok(text),
         Err(_) => picture(alloc, doc, seat),
     }
 }
@@ -198,9 +182,9 @@ fn obeys<M: Marker, R: Abort>(
     holds(rt, is_left, text);
     if answer == Digest::Refused(Refusal::NoMemory) {
         let second = acts(alloc, doc, seat, deed, text)?;
-        is_told(rt, second, due, text);
+        is_told(rt, second, due, "the second time", text);
     } else if !lets_go(answer, due) {
-        is_told(rt, answer, due, text);
+        is_told(rt, answer, due, "at once", text);
     }
     Ok(())
 }
@@ -229,39 +213,16 @@ fn makes_up<M: Marker>(
     Ok(matches!(&answer, Digest::Known | Digest::Applied(_, 0, _)))
 }
 
-// How many readings, from the first on, tell the same three times over, of which one at most met want of memory.
-fn readings_alike<M: Marker>(
+// Whether all readings tell the same three times over, of which one at most met want of memory.
+fn stays_alike<M: Marker>(
     alloc: Global,
     doc: &LockedDoc<M>,
     seat: &mut Seat<M>,
-) -> Result<usize, Refusal> {
-    for which in 0..READINGS {
-        if !reads_alike(alloc, doc, seat, which)? {
-            return Ok(which);
-        }
-    }
-    Ok(READINGS)
-}
-
-fn reads_alike<M: Marker>(
-    alloc: Global,
-    doc: &LockedDoc<M>,
-    seat: &mut Seat<M>,
-    which: usize,
 ) -> Result<bool, Refusal> {
-    let one = reading_again(alloc, doc, seat, which)?;
-    let due = one.as_str();
-    Ok(reads(alloc, doc, seat, which, due)? && reads(alloc, doc, seat, which, due)?)
-}
-
-fn reads<M: Marker>(
-    alloc: Global,
-    doc: &LockedDoc<M>,
-    seat: &mut Seat<M>,
-    which: usize,
-    due: &str,
-) -> Result<bool, Refusal> {
-    Ok(reading_again(alloc, doc, seat, which)?.as_str() == due)
+    let first = picture_again(alloc, doc, seat)?;
+    let second = picture_again(alloc, doc, seat)?;
+    let third = picture_again(alloc, doc, seat)?;
+    Ok(first == second && second == third)
 }
 
 fn shows<M: Marker>(alloc: Global, doc: &LockedDoc<M>, seat: &mut Seat<M>, due: &str) -> bool {
@@ -384,8 +345,8 @@ fn ends_well<M: Marker, R: Abort>(
 ) -> Result<(), Refusal> {
     holds(rt, makes_up(alloc, doc, seat, SECOND)?, SECOND);
     holds(rt, makes_up(alloc, doc, seat, THIRD)?, THIRD);
-    let alike = readings_alike(alloc, doc, seat)?;
-    is_count(rt, alike, READINGS, "readings that tell the same again");
+    let is = stays_alike(alloc, doc, seat)?;
+    holds(rt, is, "readings that tell the same again");
     let is = shows(alloc, doc, seat, SHOWN) || shows(alloc, doc, seat, SHOWN);
     holds(rt, is, "what is shown");
     is_count(rt, tail_again(doc)?, 8, "logged operations");

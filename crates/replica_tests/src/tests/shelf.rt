@@ -4,8 +4,9 @@ ghost use Rattle.share_ledger.specs.Counters.{ledger_place};
 ghost use Rattle.share_ledger.specs.Begun.{BeginEmpty};
 
 use super::samples::{
-    Deed, Digest, adds_up, alone, command, document, holds, is_number, is_told, told_by, values_at,
+    Deed, Digest, adds_up, alone, command, document, holds, is_number, look_at, told_by,
 };
+use doc_words::Look;
 use json_scalar::Refusal;
 use locked_doc::{LockedDoc, Seat, SeatEnd, Shelf};
 use share_ledger::{Blank, Marker, Table};
@@ -109,15 +110,14 @@ fn assigns_and_reads<M: Marker, R: Abort + Wait>(
     requires { 1 < shelf.now }
 {
     let elsewhere = assigns(rt, alloc, shelf, 0, seat)?;
-    is_told(
+    holds(
         rt,
-        elsewhere,
-        Digest::Refused(Refusal::NotOpen),
+        elsewhere == Digest::Refused(Refusal::NotOpen),
         "elsewhere",
     );
     let here = assigns(rt, alloc, shelf, 1, seat)?;
-    is_told(rt, here, Digest::Applied(1, 0, 1), "here");
-    let asked = values_at(alloc, "k")?;
+    holds(rt, here == Digest::Applied(1, 0, 1), "here");
+    let asked = look_at(alloc, Look::Values, "k")?;
     let values = shelf.read(rt, 1, seat, asked).into_reply();
     holds(rt, is_number(values, 7), "values at k");
     holds(
