@@ -11,14 +11,13 @@ mod rows;
 mod waiting;
 
 use crate::servers::samples::told_alone;
-use crate::told::is_told;
+use crate::told::{holds, is_told};
 use json_scalar::Refusal;
 use line_feed::doubles::{FailAfter, InPieces};
 use line_feed::{Reader, Writer};
 use run_core::{NewDocuments, run_over};
 use share_ledger::{Blank, Marker};
 use std::alloc::Global;
-use std::fmt::Display;
 use std::marker::Brand;
 use std::process::Abort;
 use std::sync::Wait;
@@ -79,20 +78,24 @@ fn written_over<M: Marker>(alloc: Global, blank: Blank, run: Run<'_>) -> (u8, Ve
     (status, out)
 }
 
-/// The run has this status, and writes this.
-fn writes<R: Abort, C: Display>(
-    rt: &R,
-    alloc: Global,
-    case: &C,
-    run: Run<'_>,
-    status: u8,
-    output: &[u8],
-)
+/// The run of this name has this status, and writes this.
+fn writes<R: Abort>(rt: &R, alloc: Global, name: &str, run: Run<'_>, status: u8, output: &[u8])
     requires { 0 < run.piece }
 {
     let (ended, out) = written_over::<Brand>(alloc, Blank::new(), run);
-    is_told(rt, case, out.as_slice(), output);
-    assert_eq!(rt; ended, status, "{case}");
+    is_told(
+        rt,
+        &format_args!(
+            "{name}, {} bytes in pieces of {}, failing once {} are read or {} written",
+            run.input.len(),
+            run.piece,
+            run.read_after,
+            run.write_after
+        ),
+        out.as_slice(),
+        output,
+    );
+    holds(rt, ended == status, name);
 }
 
 /// A session at the document `d`, and what it is told.
@@ -110,7 +113,7 @@ fn gives<R: Abort + Threads + Wait + Sync>(
     input: &[u8],
     output: &[u8],
 ) -> Result<(), Refusal> {
-    writes(rt, alloc, &name, run_of(input), 0, output);
+    writes(rt, alloc, name, run_of(input), 0, output);
     let told = told_alone(rt, alloc, &["d"], input)?;
     is_told(
         rt,
@@ -126,6 +129,6 @@ fn give_all<R: Abort + Threads + Wait + Sync>(rt: &R, alloc: Global, rows: &[Row
     for row in rows {
         let name = row.name;
         let given = gives(rt, alloc, name, row.input.as_bytes(), row.output.as_bytes());
-        assert!(rt; given.is_ok(), "no memory for {name}");
+        holds(rt, given.is_ok(), name);
     }
 }

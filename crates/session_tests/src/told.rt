@@ -23,6 +23,11 @@ fn first_difference(told: &[u8], due: &[u8]) -> usize {
     start
 }
 
+/// Stops unless this holds, saying in which case.
+pub fn holds<R: Abort>(rt: &R, is: bool, case: &str) {
+    assert!(rt; is, "{case}");
+}
+
 /// Stops unless a session was told what is due, saying in which case, and what it was told in place of which line.
 pub fn is_told<R: Abort, C: Display>(rt: &R, case: &C, told: &[u8], due: &[u8]) {
     let start = first_difference(told, due);

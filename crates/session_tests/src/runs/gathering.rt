@@ -3,6 +3,7 @@ ghost use Rattle.std.specs.Prelude.{◌≡◌};
 ghost use Rattle.share_ledger.specs.Begun.{BeginEmpty};
 
 use crate::servers::samples::names_of;
+use crate::told::holds;
 use json_scalar::Refusal;
 use lamport_id::ReplicaName;
 use line_feed::doubles::FailAfter;
@@ -133,22 +134,20 @@ static ROWS: [Row; 3] = [
     },
 ];
 
-/// The seats were told of so many operations, which are all that is logged.
-fn adds_up<R: Abort>(rt: &R, name: &str, totals: &Totals, due: (&[u64], u64)) {
-    assert_eq!(rt; totals.by_seat.as_slice(), due.0, "{name}");
-    assert_eq!(rt; (totals.accepted, totals.logged), (due.1, due.1), "{name}");
+/// Whether the seats were told of so many operations, which are all that is logged.
+fn adds_up(totals: &Totals, due: (&[u64], u64)) -> bool {
+    totals.by_seat.as_slice() == due.0 && totals.accepted == due.1 && totals.logged == due.1
 }
 
 fn gathers<R: Abort>(rt: &R, alloc: Global, row: &Row) {
-    let name = row.name;
-    match gathered::<Brand>(alloc, Blank::new(), row.input.as_bytes(), row.write_after) {
+    let found = gathered::<Brand>(alloc, Blank::new(), row.input.as_bytes(), row.write_after);
+    let is = match &found {
         Some((why, first, second)) => {
-            assert_eq!(rt; why, row.why, "{name}");
-            adds_up(rt, name, &first, row.first);
-            adds_up(rt, name, &second, row.second);
+            *why == row.why && adds_up(first, row.first) && adds_up(second, row.second)
         }
-        None => panic!(rt; "{name} is not gathered"),
-    }
+        None => false,
+    };
+    holds(rt, is, row.name);
 }
 
 #[test]

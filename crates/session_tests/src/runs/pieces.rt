@@ -1,7 +1,10 @@
 //! The shopping list by devices that take pieces, and cut after each byte.
+ghost use Rattle.std.specs.Prelude.{◌<◌};
+
 use super::{Run, run_of, writes};
+use crate::told::holds;
 use std::alloc::{AllocError, Global};
-use std::test::Fail;
+use std::process::Abort;
 
 const SHOPPING: &[u8] = br#"["open","d"]
 ["assign","d",[0],{}]
@@ -23,45 +26,9 @@ const SHOPPED: &[u8] = br#"["opened",1]
 ["items",[[[4,"srv-1"],["cheese"]],[[3,"srv-1"],["eggs"]],[[5,"srv-1"],["milk"]]]]
 "#;
 
-#[test]
-fn shopping_list_in_pieces(rt: HostRuntime) {
-    for piece in [1, 7, 4096] {
-        let run = Run {
-            piece,
-            ..run_of(SHOPPING)
-        };
-        writes(
-            &rt,
-            rt.alloc(),
-            &format_args!("in pieces of {piece}"),
-            run,
-            0,
-            SHOPPED,
-        );
-    }
-}
-
 /// The first bytes of a text, so many of them.
 fn front(text: &[u8], count: usize) -> &[u8] {
     text.get(..count).unwrap_or(text)
-}
-
-#[test]
-fn cut_after_every_byte(rt: HostRuntime) {
-    for after in 0..SHOPPED.len() {
-        let run = Run {
-            write_after: after,
-            ..run_of(SHOPPING)
-        };
-        writes(
-            &rt,
-            rt.alloc(),
-            &format_args!("after {after}"),
-            run,
-            1,
-            front(SHOPPED, after),
-        );
-    }
 }
 
 /// The first lines of a text, so many of them.
@@ -95,43 +62,70 @@ fn shopped_after(alloc: Global, after: usize) -> Result<Vec<u8>, AllocError> {
     [first_lines(SHOPPED, replies), refusal].concat(alloc)
 }
 
-#[test]
-fn input_cut_after_every_byte(rt: HostRuntime) -> Result<(), Fail> {
-    for after in 0..SHOPPING.len() {
-        let due = shopped_after(rt.alloc(), after)?;
-        writes(
-            &rt,
-            rt.alloc(),
-            &format_args!("after {after}"),
-            run_of(front(SHOPPING, after)),
-            0,
-            due.as_slice(),
-        );
-    }
+fn input_cut_after<R: Abort>(rt: &R, alloc: Global, after: usize) -> Result<(), AllocError> {
+    let due = shopped_after(alloc, after)?;
+    let run = run_of(front(SHOPPING, after));
+    let name = "input_cut_after_every_byte";
+    writes(rt, alloc, name, run, 0, due.as_slice());
     Ok(())
 }
 
+fn output_cut_after<R: Abort>(rt: &R, alloc: Global, after: usize) {
+    let run = Run {
+        write_after: after,
+        ..run_of(SHOPPING)
+    };
+    let name = "cut_after_every_byte";
+    writes(rt, alloc, name, run, 1, front(SHOPPED, after));
+}
+
 #[test]
-fn a_line_that_was_not_read_whole_is_none(rt: HostRuntime) {
-    let input = b"[\"open\",\"d\"]\n[\"account\",\"d\"]\n";
-    for after in [12, 13, 20] {
-        let run = Run {
-            piece: 5,
-            read_after: after,
-            ..run_of(input)
-        };
-        let expected: &[u8] = if after == 12 {
-            b""
-        } else {
-            b"[\"opened\",1]\n"
-        };
-        writes(
-            &rt,
-            rt.alloc(),
-            &format_args!("after {after}"),
-            run,
-            1,
-            expected,
-        );
+fn cut_after_every_byte(rt: HostRuntime) {
+    for after in 0..SHOPPED.len() {
+        output_cut_after(&rt, rt.alloc(), after);
     }
+}
+
+#[test]
+fn input_cut_after_every_byte(rt: HostRuntime) {
+    for after in 0..SHOPPING.len() {
+        let is_cut = input_cut_after(&rt, rt.alloc(), after).is_ok();
+        holds(&rt, is_cut, "input_cut_after_every_byte");
+    }
+}
+
+fn shopping_list_in_pieces<R: Abort>(rt: &R, alloc: Global, piece: usize)
+    requires { 0 < piece }
+{
+    let run = Run {
+        piece,
+        ..run_of(SHOPPING)
+    };
+    writes(rt, alloc, "shopping_list_in_pieces", run, 0, SHOPPED);
+}
+
+fn a_line_that_was_not_read_whole_is_none<R: Abort>(
+    rt: &R,
+    alloc: Global,
+    after: usize,
+    output: &[u8],
+) {
+    let run = Run {
+        piece: 5,
+        read_after: after,
+        ..run_of(b"[\"open\",\"d\"]\n[\"account\",\"d\"]\n")
+    };
+    let name = "a_line_that_was_not_read_whole_is_none";
+    writes(rt, alloc, name, run, 1, output);
+}
+
+#[test]
+fn pieces(rt: HostRuntime) {
+    let alloc = rt.alloc();
+    shopping_list_in_pieces(&rt, alloc, 1);
+    shopping_list_in_pieces(&rt, alloc, 7);
+    shopping_list_in_pieces(&rt, alloc, 4096);
+    a_line_that_was_not_read_whole_is_none(&rt, alloc, 12, b"");
+    a_line_that_was_not_read_whole_is_none(&rt, alloc, 13, b"[\"opened\",1]\n");
+    a_line_that_was_not_read_whole_is_none(&rt, alloc, 20, b"[\"opened\",1]\n");
 }

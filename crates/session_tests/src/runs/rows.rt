@@ -1,6 +1,9 @@
 //! The worked rows, each a session over one document. A row that has several orders of its causes stands once for each, and one of several
 //! sessions for each of those. One table of them all would take too long to prove.
+use super::causes::CAUSES;
 use super::{Row, Run, give_all, run_of, writes};
+use std::alloc::Global;
+use std::process::Abort;
 
 /// What sessions with no other replica are told.
 static ALONE: [Row; 11] = [
@@ -170,11 +173,6 @@ static ALONE: [Row; 11] = [
 "#,
     },
 ];
-
-#[test]
-fn sessions_alone(rt: HostRuntime) {
-    give_all(&rt, rt.alloc(), &ALONE);
-}
 
 /// Operations of two replicas, in each order of their causes.
 static ORDERS: [Row; 11] = [
@@ -406,11 +404,6 @@ static ORDERS: [Row; 11] = [
 "#,
     },
 ];
-
-#[test]
-fn operations_in_each_order(rt: HostRuntime) {
-    give_all(&rt, rt.alloc(), &ORDERS);
-}
 
 /// Operations in a list, in each order of their causes.
 static LIST_ORDERS: [Row; 12] = [
@@ -680,11 +673,6 @@ static LIST_ORDERS: [Row; 12] = [
     },
 ];
 
-#[test]
-fn list_operations_in_each_order(rt: HostRuntime) {
-    give_all(&rt, rt.alloc(), &LIST_ORDERS);
-}
-
 /// Operations that are held, released or forgotten, and hostile ones.
 static HELD: [Row; 11] = [
     Row {
@@ -876,11 +864,6 @@ static HELD: [Row; 11] = [
     },
 ];
 
-#[test]
-fn held_operations(rt: HostRuntime) {
-    give_all(&rt, rt.alloc(), &HELD);
-}
-
 /// Requests and operations that are refused.
 static REFUSED: [Row; 8] = [
     Row {
@@ -1014,11 +997,6 @@ static REFUSED: [Row; 8] = [
     },
 ];
 
-#[test]
-fn refused_requests(rt: HostRuntime) {
-    give_all(&rt, rt.alloc(), &REFUSED);
-}
-
 /// Forms of operations that are refused, and some beside them that are not.
 static WIRE: [Row; 13] = [
     Row {
@@ -1140,11 +1118,6 @@ static WIRE: [Row; 13] = [
     },
 ];
 
-#[test]
-fn refused_forms(rt: HostRuntime) {
-    give_all(&rt, rt.alloc(), &WIRE);
-}
-
 /// The other side of the exchange, where the server is `b`.
 static EXCHANGE_OF_TWO_OTHER_SIDE: Row = Row {
     name: "exchange_of_two, the other side",
@@ -1164,12 +1137,24 @@ static EXCHANGE_OF_TWO_OTHER_SIDE: Row = Row {
 "#,
 };
 
-#[test]
-fn exchange_of_two_other_side(rt: HostRuntime) {
+fn exchange_of_two_other_side<R: Abort>(rt: &R, alloc: Global) {
     let row = &EXCHANGE_OF_TWO_OTHER_SIDE;
     let run = Run {
         server: "b",
         ..run_of(row.input.as_bytes())
     };
-    writes(&rt, rt.alloc(), &row.name, run, 0, row.output.as_bytes());
+    writes(rt, alloc, row.name, run, 0, row.output.as_bytes());
+}
+
+#[test]
+fn worked_rows(rt: HostRuntime) {
+    let alloc = rt.alloc();
+    give_all(&rt, alloc, &ALONE);
+    give_all(&rt, alloc, &ORDERS);
+    give_all(&rt, alloc, &LIST_ORDERS);
+    give_all(&rt, alloc, &HELD);
+    give_all(&rt, alloc, &REFUSED);
+    give_all(&rt, alloc, &WIRE);
+    give_all(&rt, alloc, &CAUSES);
+    exchange_of_two_other_side(&rt, alloc);
 }

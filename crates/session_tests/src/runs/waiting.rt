@@ -2,6 +2,7 @@
 ghost use Rattle.std.specs.Prelude.{◌≡◌};
 ghost use Rattle.share_ledger.specs.Begun.{BeginEmpty};
 
+use crate::told::holds;
 use line_feed::{Outbox, Reader, Writer};
 use run_core::{NewDocuments, run_over};
 use share_ledger::{Blank, Marker};
@@ -100,5 +101,6 @@ fn has_its_replies_before_it_is_read_again(rt: HostRuntime) {
         writes.load(Ordering::SeqCst),
     );
     // 20 whole lines and a last piece, in one write for each part and one for the last piece
-    assert_eq!(rt; (status, counted), (0, (0, 21, 6)));
+    let is = (status, counted) == (0, (0, 21, 6));
+    holds(&rt, is, "has_its_replies_before_it_is_read_again");
 }

@@ -1,12 +1,12 @@
 //! Sessions whose connection fails: they end alone, and what they did is in the totals.
-use super::samples::{Fault, NO_FAULT, first_did, run_two};
+use super::samples::{Fault, NO_FAULT, Ran, first_did, run_two};
+use crate::told::holds;
 use json_scalar::Refusal;
 use server_core::OpenGate;
 use session_rules::Ending;
 use std::alloc::Global;
 use std::process::Abort;
 use std::sync::Wait;
-use std::test::Fail;
 use std::thread::Threads;
 
 const TWO: &[u8] = br#"["open","a"]
@@ -14,12 +14,15 @@ const TWO: &[u8] = br#"["open","a"]
 ["assign","a",[0,"b"],2]
 "#;
 
-/// A fault of the first of two sessions of the same lines, how many of its assignments that one does, and how it ends.
+/// A fault of the first of two sessions of the same lines, how many of its assignments that one does, and how it ends. What each seat
+/// did, where the first session took its seat first, and where it did not.
 struct Row {
     name: &'static str,
     fault: Fault,
     done: u64,
     why: Option<Ending>,
+    seated_first: &'static [u64],
+    seated_second: &'static [u64],
 }
 
 static ROWS: [Row; 3] = [
@@ -31,6 +34,8 @@ static ROWS: [Row; 3] = [
         },
         done: 1,
         why: Some(Ending::ReadFault),
+        seated_first: &[1, 2],
+        seated_second: &[2, 1],
     },
     Row {
         name: "sink_fails_in_mid_reply",
@@ -40,6 +45,8 @@ static ROWS: [Row; 3] = [
         },
         done: 1,
         why: Some(Ending::WriteFault),
+        seated_first: &[1, 2],
+        seated_second: &[2, 1],
     },
     Row {
         name: "connection_cannot_be_opened",
@@ -49,42 +56,32 @@ static ROWS: [Row; 3] = [
         },
         done: 0,
         why: None,
+        seated_first: &[2],
+        seated_second: &[2],
     },
 ];
 
 /// The session that fails does so much, and ends so; the other one does both assignments, up to the end. Nothing is told where the
 /// connection can't be opened, and then there is one seat.
-fn fails_alone<R: Threads + Wait + Abort + Sync>(
-    rt: &R,
-    alloc: Global,
-    row: &Row,
-) -> Result<(), Refusal> {
-    let ran = run_two(rt, alloc, &OpenGate, [TWO, TWO], row.fault)?;
-    let name = row.name;
+fn fails_alone<R: Abort>(rt: &R, row: &Row, ran: &Ran) {
     let endings = [row.why, Some(Ending::End)];
-    assert_eq!(rt;
-        ran.gathered.endings.as_slice(),
-        endings.as_slice(),
-        "{name}"
-    );
-    assert_eq!(rt; ran.first.is_empty(), !row.fault.opens, "{name}");
-    let both = [row.done, 2];
-    let turned = [2, row.done];
-    let shares = if !row.fault.opens {
-        &turned[..1]
-    } else if ran.first.as_slice().starts_with(b"[\"opened\",1]\n") {
-        &both[..]
+    let is = ran.gathered.endings.as_slice() == endings.as_slice()
+        && ran.first.is_empty() != row.fault.opens;
+    holds(rt, is, row.name);
+    let shares = if ran.first.as_slice().starts_with(b"[\"opened\",1]\n") {
+        row.seated_first
     } else {
-        &turned[..]
+        row.seated_second
     };
-    first_did(rt, &ran.gathered, row.done.saturating_add(2), shares);
-    Ok(())
+    let all = row.done.saturating_add(2);
+    first_did(rt, row.name, &ran.gathered, all, shares);
 }
 
-#[test]
-fn connections_that_fail(rt: HostRuntime) -> Result<(), Fail> {
+/// The same of each of these rows.
+pub fn fail_alone<R: Threads + Wait + Abort + Sync>(rt: &R, alloc: Global) -> Result<(), Refusal> {
     for row in &ROWS {
-        fails_alone(&rt, rt.alloc(), row)?;
+        let ran = run_two(rt, alloc, &OpenGate, [TWO, TWO], row.fault)?;
+        fails_alone(rt, row, &ran);
     }
     Ok(())
 }

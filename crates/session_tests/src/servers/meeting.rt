@@ -1,13 +1,12 @@
 //! A gate that is passed only where sessions at two documents run at the same time.
 use super::samples::{NO_FAULT, run_two};
-use crate::told::is_told;
+use crate::told::{holds, is_told};
 use json_scalar::Refusal;
 use server_core::Gate;
 use std::alloc::Global;
 use std::process::Abort;
 use std::sync::Wait;
 use std::sync::atomic::{AtomicU64, Ordering};
-use std::test::Fail;
 use std::thread;
 use std::thread::Threads;
 
@@ -60,7 +59,8 @@ const FIRST: &[u8] = b"[\"open\",\"a\"]\n";
 
 const SECOND: &[u8] = b"[\"open\",\"b\"]\n[\"quit\"]\n";
 
-fn meets<R: Threads + Wait + Abort + Sync>(rt: &R, alloc: Global) -> Result<(), Refusal> {
+/// Two sessions that meet at the gate, each at its own document.
+pub fn meets<R: Threads + Wait + Abort + Sync>(rt: &R, alloc: Global) -> Result<(), Refusal> {
     let gate = Meeting {
         first_inside: AtomicU64::new(0),
         second_came: AtomicU64::new(0),
@@ -80,12 +80,6 @@ fn meets<R: Threads + Wait + Abort + Sync>(rt: &R, alloc: Global) -> Result<(), 
         gate.first_inside.load(Ordering::SeqCst),
         gate.second_came.load(Ordering::SeqCst),
     );
-    assert_eq!(rt; met, (2, 0, 1, 1));
-    Ok(())
-}
-
-#[test]
-fn gate_two_documents(rt: HostRuntime) -> Result<(), Fail> {
-    meets(&rt, rt.alloc())?;
+    holds(rt, met == (2, 0, 1, 1), "gate_two_documents");
     Ok(())
 }

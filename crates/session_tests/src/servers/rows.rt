@@ -4,7 +4,7 @@ ghost use Rattle.std.specs.Prelude.{◌≡◌};
 ghost use Rattle.share_ledger.specs.Begun.{BeginEmpty};
 
 use super::samples::{library_of, told_alone};
-use crate::told::is_told;
+use crate::told::{holds, is_told};
 use json_scalar::Refusal;
 use line_feed::{DeviceFault, Reader, Sink, Source, Writer};
 use server_core::{Library, OpenGate, serve_session};
@@ -12,8 +12,9 @@ use session_rules::Ending;
 use share_ledger::{Blank, Marker};
 use std::alloc::Global;
 use std::marker::Brand;
+use std::process::Abort;
 use std::sync::Wait;
-use std::test::Fail;
+use std::thread::Threads;
 
 const SHOPPING: &[u8] = br#"["open","a"]
 ["assign","a",[0],{}]
@@ -57,15 +58,34 @@ const RELEASED: &[u8] = br#"["opened",1]
 ["values",[3]]
 "#;
 
-#[test]
-fn rows_over_two_documents(rt: HostRuntime) -> Result<(), Fail> {
-    let rows = [
-        ("shopping", SHOPPING, SHOPPED),
-        ("buffer_release", RELEASING, RELEASED),
-    ];
-    for (name, input, output) in rows {
-        let told = told_alone(&rt, rt.alloc(), &["a", "b"], input)?;
-        is_told(&rt, &name, told.as_slice(), output);
+/// A session at two documents, and what it is told.
+struct Row {
+    name: &'static str,
+    input: &'static [u8],
+    output: &'static [u8],
+}
+
+static ROWS: [Row; 2] = [
+    Row {
+        name: "shopping",
+        input: SHOPPING,
+        output: SHOPPED,
+    },
+    Row {
+        name: "buffer_release",
+        input: RELEASING,
+        output: RELEASED,
+    },
+];
+
+/// Each of these rows is told what is due.
+pub fn told_over_two_documents<R: Threads + Wait + Abort + Sync>(
+    rt: &R,
+    alloc: Global,
+) -> Result<(), Refusal> {
+    for row in &ROWS {
+        let told = told_alone(rt, alloc, &["a", "b"], row.input)?;
+        is_told(rt, &row.name, told.as_slice(), row.output);
     }
     Ok(())
 }
@@ -154,9 +174,13 @@ fn looks<M: Marker, R: Wait>(
     Ok((served.why, source.found, sink.found))
 }
 
-#[test]
-fn no_lock_while_reading_or_writing(rt: HostRuntime) -> Result<(), Fail> {
-    let found = looks::<Brand, _>(&rt, rt.alloc(), Blank::new())?;
-    assert_eq!(rt; found, (Ending::Quit, false, false));
+/// No lock is taken while the shopping list is read, or a reply to it is written.
+pub fn no_lock_while_reading_or_writing<R: Wait + Abort>(
+    rt: &R,
+    alloc: Global,
+) -> Result<(), Refusal> {
+    let found = looks::<Brand, R>(rt, alloc, Blank::new())?;
+    let is = found == (Ending::Quit, false, false);
+    holds(rt, is, "no_lock_while_reading_or_writing");
     Ok(())
 }

@@ -3,6 +3,7 @@ ghost use Rattle.std.specs.Prelude.{◌≡◌, ◌≤◌, IfOk, length};
 ghost use Rattle.doc_ledger.specs.Numbers.{greatest_number};
 ghost use Rattle.share_ledger.specs.Begun.{BeginEmpty};
 
+use crate::told::holds;
 use doc_ledger::Ledger;
 use json_scalar::Refusal;
 use lamport_id::ReplicaName;
@@ -181,13 +182,15 @@ pub fn run_two<'x, R: Threads + Wait + Sync, G: Gate + Sync>(
 }
 
 /// The totals of the first of two documents are these, and those of the second are zeros.
-pub fn first_did<R: Abort>(rt: &R, gathered: &Gathered, all: u64, shares: &[u64]) {
-    let totals = gathered.totals.as_slice();
-    assert_eq!(rt; totals.len(), 2);
-    let (first, second) = (&totals[0], &totals[1]);
-    assert_eq!(rt;
-        (first.accepted, first.logged, second.logged),
-        (all, all, 0)
-    );
-    assert_eq!(rt; first.by_seat.as_slice(), shares);
+pub fn first_did<R: Abort>(rt: &R, case: &str, gathered: &Gathered, all: u64, shares: &[u64]) {
+    let is = match gathered.totals.as_slice() {
+        [first, second] => did(first, all, shares) && second.logged == 0,
+        _ => false,
+    };
+    holds(rt, is, case);
+}
+
+/// Whether so many operations were done at a document, and these by each of its seats.
+fn did(totals: &Totals, all: u64, shares: &[u64]) -> bool {
+    totals.accepted == all && totals.logged == all && totals.by_seat.as_slice() == shares
 }

@@ -3,6 +3,7 @@ ghost use Rattle.std.specs.Prelude.{◌≡◌};
 ghost use Rattle.share_ledger.specs.Begun.{BeginEmpty};
 
 use super::samples::{NO_FAULT, THREE, TWO, first_did, library_of, run_two, serve_all};
+use crate::told::holds;
 use json_scalar::Refusal;
 use server_core::doubles::Script;
 use server_core::{Gathered, Library, OpenGate, Side, Signalled, run_sessions};
@@ -12,7 +13,6 @@ use std::marker::Brand;
 use std::process::Abort;
 use std::str;
 use std::sync::{Mutex, Wait};
-use std::test::Fail;
 use std::thread::Threads;
 
 const THREE_TOLD: &[u8] = br#"["opened",_]
@@ -68,23 +68,20 @@ fn shares(first: &[u8], second: &[u8]) -> Option<[u64; 2]> {
 }
 
 /// Two sessions at one document are each told of their own, and add up.
-fn adds_up<R: Threads + Wait + Abort + Sync>(rt: &R, alloc: Global) -> Result<(), Refusal> {
+pub fn two_sessions<R: Threads + Wait + Abort + Sync>(
+    rt: &R,
+    alloc: Global,
+) -> Result<(), Refusal> {
     let ran = run_two(rt, alloc, &OpenGate, [THREE, TWO], NO_FAULT)?;
     let (first, second) = (ran.first.as_slice(), ran.second.as_slice());
     match shares(first, second) {
-        Some(shares) => first_did(rt, &ran.gathered, 5, &shares),
+        Some(shares) => first_did(rt, "two_sessions", &ran.gathered, 5, &shares),
         None => panic!(rt;
             "told {:?} and {:?}",
             str::from_utf8(first),
             str::from_utf8(second)
         ),
     }
-    Ok(())
-}
-
-#[test]
-fn two_sessions(rt: HostRuntime) -> Result<(), Fail> {
-    adds_up(&rt, rt.alloc())?;
     Ok(())
 }
 
@@ -101,12 +98,15 @@ fn many<'a, R: Wait>(
     Ok(scripts)
 }
 
-#[test]
-fn many_sessions(rt: HostRuntime) -> Result<(), Fail> {
-    let replies = Mutex::new(Vec::new(rt.alloc()));
-    let scripts = many(&rt, rt.alloc(), &replies)?;
-    let gathered = serve_all(&rt, rt.alloc(), &["a", "b"], 64, scripts, &OpenGate)?;
-    first_did(&rt, &gathered, 192, &[3; 64]);
+/// They add up at one document.
+pub fn many_sessions<R: Threads + Wait + Abort + Sync>(
+    rt: &R,
+    alloc: Global,
+) -> Result<(), Refusal> {
+    let replies = Mutex::new(Vec::new(alloc));
+    let scripts = many(rt, alloc, &replies)?;
+    let gathered = serve_all(rt, alloc, &["a", "b"], 64, scripts, &OpenGate)?;
+    first_did(rt, "many_sessions", &gathered, 192, &[3; 64]);
     Ok(())
 }
 
@@ -163,13 +163,14 @@ fn watched<M: Marker + Send + Sync, R: Threads + Wait + Sync>(
     }
 }
 
-#[test]
-fn side_sees_all_end(rt: HostRuntime) -> Result<(), Fail> {
-    let (gathered, side) = watched::<Brand, _>(&rt, rt.alloc(), Blank::new())?;
-    first_did(&rt, &gathered, 192, &[3; 64]);
-    assert_eq!(rt;
-        (side.sessions, side.ended, side.logged),
-        (64, 64, Some(192))
-    );
+/// The side sees that all have ended, and what they did.
+pub fn side_sees_all_end<R: Threads + Wait + Abort + Sync>(
+    rt: &R,
+    alloc: Global,
+) -> Result<(), Refusal> {
+    let (gathered, side) = watched::<Brand, R>(rt, alloc, Blank::new())?;
+    first_did(rt, "side_sees_all_end", &gathered, 192, &[3; 64]);
+    let seen = (side.sessions, side.ended, side.logged);
+    holds(rt, seen == (64, 64, Some(192)), "side_sees_all_end");
     Ok(())
 }

@@ -1,13 +1,12 @@
 //! Two sessions at one document, whose lines come to it in a given order: what each is told, from the first line to the last.
 use super::samples::{NO_FAULT, THREE, TWO, first_did, run_two};
-use crate::told::is_told;
+use crate::told::{holds, is_told};
 use json_scalar::Refusal;
 use server_core::Gate;
 use std::alloc::Global;
 use std::process::Abort;
 use std::sync::Wait;
 use std::sync::atomic::{AtomicU64, AtomicUsize, Ordering};
-use std::test::Fail;
 use std::thread;
 use std::thread::Threads;
 
@@ -101,15 +100,18 @@ fn told_in_order<R: Threads + Wait + Abort + Sync>(
     let ran = run_two(rt, alloc, &gate, [THREE, TWO], NO_FAULT)?;
     is_told(rt, &row.name, ran.first.as_slice(), row.first.as_bytes());
     is_told(rt, &row.name, ran.second.as_slice(), row.second.as_bytes());
-    assert_eq!(rt; gate.missed.load(Ordering::SeqCst), 0);
-    first_did(rt, &ran.gathered, 5, &[3, 2]);
+    holds(rt, gate.missed.load(Ordering::SeqCst) == 0, row.name);
+    first_did(rt, row.name, &ran.gathered, 5, &[3, 2]);
     Ok(())
 }
 
-#[test]
-fn told_in_each_order(rt: HostRuntime) -> Result<(), Fail> {
+/// The same of each of these rows.
+pub fn told_in_each_order<R: Threads + Wait + Abort + Sync>(
+    rt: &R,
+    alloc: Global,
+) -> Result<(), Refusal> {
     for row in &ROWS {
-        told_in_order(&rt, rt.alloc(), row)?;
+        told_in_order(rt, alloc, row)?;
     }
     Ok(())
 }
