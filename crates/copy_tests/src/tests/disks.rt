@@ -2,7 +2,7 @@
 use super::steps::{Step, StepAnswer, walked};
 use op_core::Operation;
 use sqlite::{Connection, FileStore, Options};
-use sqlite_disk::{Crash, Files, Fuse, Memory};
+use sqlite_disk::{Crash, Disk, Files, Fuse, Memory};
 use std::alloc::Global;
 
 pub type Stopping = Fuse<Memory>;
@@ -16,10 +16,10 @@ pub fn new_files(alloc: Global, log_calls: u64, db_calls: u64) -> Files<Stopping
 }
 
 // The files come back where they can't be opened.
-fn connected(
+fn connected<D: Disk + Drop>(
     alloc: Global,
-    files: Files<Stopping>,
-) -> Result<Connection<FileStore<Stopping>>, Files<Stopping>> {
+    files: Files<D>,
+) -> Result<Connection<FileStore<D>>, Files<D>> {
     if !files.may_be_used() {
         return Err(files);
     }
@@ -29,32 +29,49 @@ fn connected(
     }
 }
 
-/// Takes the steps over the database in the files, and then leaves the files as they are.
-pub fn walked_over(
+// Takes the steps over a database in two files. This stands here once and over any disks, since each call that names a store in files is
+// dear to prove.
+fn walked_in<D: Disk + Drop>(
     alloc: Global,
-    files: Files<Stopping>,
+    conn: Connection<FileStore<D>>,
     log: &[Operation],
     steps: &[(Step<'_>, StepAnswer)],
-) -> (Files<Stopping>, Option<(usize, StepAnswer)>) {
+) -> (Connection<FileStore<D>>, Option<(usize, StepAnswer)>) {
+    walked(alloc, conn, log, steps)
+}
+
+/// Takes the steps over the database in the files, and then leaves the files as they are.
+pub fn walked_over<D: Disk + Drop>(
+    alloc: Global,
+    files: Files<D>,
+    log: &[Operation],
+    steps: &[(Step<'_>, StepAnswer)],
+) -> (Files<D>, Option<(usize, StepAnswer)>) {
     match connected(alloc, files) {
         Ok(conn) => {
-            let (conn, other) = walked(alloc, conn, log, steps);
+            let (conn, other) = walked_in(alloc, conn, log, steps);
             (conn.into_store().close(), other)
         }
         Err(files) => (files, Some((0, StepAnswer::NoSql))),
     }
 }
 
-/// The files of a database that these steps made, with all of it in the second of them.
-pub fn made(alloc: Global, steps: &[(Step<'_>, StepAnswer)]) -> Option<Files<Stopping>> {
-    let Ok(conn) = connected(alloc, new_files(alloc, u64::MAX, u64::MAX)) else {
+fn made_in<D: Disk + Drop>(
+    alloc: Global,
+    files: Files<D>,
+    steps: &[(Step<'_>, StepAnswer)],
+) -> Option<Files<D>> {
+    let Ok(conn) = connected(alloc, files) else {
         return None;
     };
-    let (conn, other) = walked(alloc, conn, &[], steps);
-    if other.is_some() {
-        return None;
-    }
-    conn.close_files().ok()
+    let (conn, other) = walked_in(alloc, conn, &[], steps);
+    let files = conn.close_files().ok();
+    if other.is_none() { files } else { None }
+}
+
+/// The files of a database that these steps made, with all of it in the second of them.
+pub fn made(alloc: Global, steps: &[(Step<'_>, StepAnswer)]) -> Option<Files<Stopping>> {
+    made_in(alloc, new_files(alloc, u64::MAX, u64::MAX), steps)
 }
 
 /// The machine stops, and comes back with disks that stop no more.

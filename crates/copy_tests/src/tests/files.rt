@@ -1,10 +1,13 @@
-//! Real files.
+//! Real files. What is done with one that was opened stands over any disks, since each call that names the store of a real file is dear to
+//! prove.
 use super::samples;
 use super::steps::{Step, StepAnswer, first_other};
 use copy_files::open_file;
-use log_copy::Fault;
+use log_copy::{Fault, LogCopy};
 use op_core::Operation;
-use sqlite::Connection;
+use sqlite::{Connection, Error, FileStore};
+use sqlite_disk::Disk;
+use std::alloc::Global;
 use std::fs;
 use std::test::Fail;
 
@@ -18,11 +21,15 @@ const PATH: &str = "copy_test/copy.db";
 
 const BYTES: &str = "no database, but some bytes that a person wrote";
 
-fn told_by(rt: &HostRuntime, path: &str) -> Option<Fault> {
-    match open_file(rt, path) {
+fn fault_of<D: Disk + Drop>(opened: Result<LogCopy<FileStore<D>>, Fault>) -> Option<Fault> {
+    match opened {
         Ok(_) => None,
         Err(fault) => Some(fault),
     }
+}
+
+fn told_by(rt: &HostRuntime, path: &str) -> Option<Fault> {
+    fault_of(open_file(rt, path))
 }
 
 // A file that is no database is refused, and has each byte that it had.
@@ -38,24 +45,33 @@ fn no_database(rt: HostRuntime) -> Result<(), Fail> {
     Ok(())
 }
 
+fn other_over<D: Disk + Drop>(
+    alloc: Global,
+    opened: Result<Connection<FileStore<D>>, Error>,
+    log: &[Operation],
+    steps: &[(Step<'_>, StepAnswer)],
+) -> Option<(usize, StepAnswer)> {
+    match opened {
+        Ok(conn) => first_other(alloc, conn, log, steps),
+        Err(_) => Some((0, StepAnswer::NoSql)),
+    }
+}
+
 fn other_over_file(
     rt: &HostRuntime,
     log: &[Operation],
     steps: &[(Step<'_>, StepAnswer)],
 ) -> Option<(usize, StepAnswer)> {
-    match Connection::open(rt, PATH) {
-        Ok(conn) => first_other(rt.alloc(), conn, log, steps),
-        Err(_) => Some((0, StepAnswer::NoSql)),
-    }
+    other_over(rt.alloc(), Connection::open(rt, PATH), log, steps)
 }
 
-const WRITTEN: [(Step<'static>, StepAnswer); 3] = [
+static WRITTEN: [(Step<'static>, StepAnswer); 3] = [
     (Step::Open, StepAnswer::Done),
     (Step::Up, StepAnswer::Number(1)),
     (Step::Add("d", 0, 0, 9), StepAnswer::Done),
 ];
 
-const READ_AGAIN: [(Step<'static>, StepAnswer); 3] = [
+static READ_AGAIN: [(Step<'static>, StepAnswer); 3] = [
     (Step::Open, StepAnswer::Done),
     (Step::Load("d"), StepAnswer::Rows(9)),
     (Step::Up, StepAnswer::Number(2)),

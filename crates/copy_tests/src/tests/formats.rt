@@ -1,7 +1,6 @@
 //! The format from before there were additions: raised where it is opened, and refused with an addition in it.
 use super::samples;
-use super::steps::{REFUSED, Step, StepAnswer, first_other};
-use sqlite::Connection;
+use super::steps::{REFUSED, Step, StepAnswer, all_told};
 use std::test::Fail;
 
 const TABLES: &str =
@@ -11,7 +10,7 @@ const TABLES: &str =
 
 const FORMAT: &str = "SELECT value FROM meta WHERE name = 'format'";
 
-const OLD_FORMAT_RAISED: [(Step<'static>, StepAnswer); 13] = [
+static OLD_FORMAT_RAISED: [(Step<'static>, StepAnswer); 13] = [
     (Step::Run(TABLES), StepAnswer::Done),
     (
         Step::Run(
@@ -40,16 +39,11 @@ const OLD_FORMAT_RAISED: [(Step<'static>, StepAnswer); 13] = [
 #[test]
 fn old_format_raised(rt: HostRuntime) -> Result<(), Fail> {
     let log = samples::log(rt.alloc(), 3)?;
-    let conn = Connection::open_in_memory(rt.alloc())?;
-    assert_eq!(rt;
-        first_other(rt.alloc(), conn, log.as_slice(), &OLD_FORMAT_RAISED),
-        None
-    );
-    Ok(())
+    all_told(&rt, rt.alloc(), log.as_slice(), &OLD_FORMAT_RAISED)
 }
 
 // The refused database is as it was; with the new format written by hand it is a copy.
-const OLD_FORMAT_HAS_NO_ADDITIONS: [(Step<'static>, StepAnswer); 9] = [
+static OLD_FORMAT_HAS_NO_ADDITIONS: [(Step<'static>, StepAnswer); 9] = [
     (Step::Run(TABLES), StepAnswer::Done),
     (
         Step::Run(
@@ -74,10 +68,5 @@ const OLD_FORMAT_HAS_NO_ADDITIONS: [(Step<'static>, StepAnswer); 9] = [
 
 #[test]
 fn old_format_has_no_additions(rt: HostRuntime) -> Result<(), Fail> {
-    let conn = Connection::open_in_memory(rt.alloc())?;
-    assert_eq!(rt;
-        first_other(rt.alloc(), conn, &[], &OLD_FORMAT_HAS_NO_ADDITIONS),
-        None
-    );
-    Ok(())
+    all_told(&rt, rt.alloc(), &[], &OLD_FORMAT_HAS_NO_ADDITIONS)
 }

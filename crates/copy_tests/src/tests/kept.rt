@@ -1,24 +1,10 @@
 //! What is kept, and what is refused and changes nothing.
 use super::samples;
-use super::steps::{REFUSED, Step, StepAnswer, first_other};
-use json_scalar::Refusal;
-use op_core::Operation;
-use sqlite::Connection;
-use std::alloc::Global;
+use super::steps::{REFUSED, Step, StepAnswer, all_told};
 use std::test::Fail;
 
-// Over an empty database in memory.
-fn told_otherwise(
-    alloc: Global,
-    log: &[Operation],
-    steps: &[(Step<'_>, StepAnswer)],
-) -> Result<Option<(usize, StepAnswer)>, Refusal> {
-    let conn = Connection::open_in_memory(alloc)?;
-    Ok(first_other(alloc, conn, log, steps))
-}
-
 // The document is restored under another name, and its next change comes after what was copied.
-const RESTART_FROM_COPY: [(Step<'static>, StepAnswer); 9] = [
+static RESTART_FROM_COPY: [(Step<'static>, StepAnswer); 9] = [
     (Step::Open, StepAnswer::Done),
     (Step::Check("[\"epoch\",0]\n"), StepAnswer::Done),
     (Step::Up, StepAnswer::Number(1)),
@@ -42,14 +28,10 @@ const RESTART_FROM_COPY: [(Step<'static>, StepAnswer); 9] = [
 #[test]
 fn restart_from_copy(rt: HostRuntime) -> Result<(), Fail> {
     let log = samples::operations(rt.alloc(), &samples::FIRST_RUN)?;
-    assert_eq!(rt;
-        told_otherwise(rt.alloc(), log.as_slice(), &RESTART_FROM_COPY)?,
-        None
-    );
-    Ok(())
+    all_told(&rt, rt.alloc(), log.as_slice(), &RESTART_FROM_COPY)
 }
 
-const COPY_REFUSALS: [(Step<'static>, StepAnswer); 7] = [
+static COPY_REFUSALS: [(Step<'static>, StepAnswer); 7] = [
     (Step::Open, StepAnswer::Done),
     (Step::Add("d", 0, 0, 3), StepAnswer::Done),
     (Step::Add("d", 2, 2, 3), REFUSED),
@@ -63,15 +45,11 @@ const COPY_REFUSALS: [(Step<'static>, StepAnswer); 7] = [
 fn copy_refusals(rt: HostRuntime) -> Result<(), Fail> {
     let mut log = samples::operations(rt.alloc(), &samples::CONCURRENT_REGISTER)?;
     log.push(samples::operation(rt.alloc(), samples::COLORS)?)?;
-    assert_eq!(rt;
-        told_otherwise(rt.alloc(), log.as_slice(), &COPY_REFUSALS)?,
-        None
-    );
-    Ok(())
+    all_told(&rt, rt.alloc(), log.as_slice(), &COPY_REFUSALS)
 }
 
 // Batches behind one another, empty ones, and ones that are refused.
-const BATCHES: [(Step<'static>, StepAnswer); 16] = [
+static BATCHES: [(Step<'static>, StepAnswer); 16] = [
     (Step::Open, StepAnswer::Done),
     (Step::Add("d", 0, 0, 3), StepAnswer::Done),
     (Step::Add("d", 3, 0, 0), StepAnswer::Done),
@@ -93,12 +71,11 @@ const BATCHES: [(Step<'static>, StepAnswer); 16] = [
 #[test]
 fn batches(rt: HostRuntime) -> Result<(), Fail> {
     let log = samples::log(rt.alloc(), 5)?;
-    assert_eq!(rt; told_otherwise(rt.alloc(), log.as_slice(), &BATCHES)?, None);
-    Ok(())
+    all_told(&rt, rt.alloc(), log.as_slice(), &BATCHES)
 }
 
 // A check prints the documents in the order of their names, in whatever order they came.
-const DOCUMENTS_IN_ORDER: [(Step<'static>, StepAnswer); 7] = [
+static DOCUMENTS_IN_ORDER: [(Step<'static>, StepAnswer); 7] = [
     (Step::Open, StepAnswer::Done),
     (Step::Add("m", 0, 0, 1), StepAnswer::Done),
     (Step::Add("z", 0, 0, 1), StepAnswer::Done),
@@ -116,15 +93,11 @@ const DOCUMENTS_IN_ORDER: [(Step<'static>, StepAnswer); 7] = [
 #[test]
 fn documents_in_order(rt: HostRuntime) -> Result<(), Fail> {
     let log = samples::log(rt.alloc(), 2)?;
-    assert_eq!(rt;
-        told_otherwise(rt.alloc(), log.as_slice(), &DOCUMENTS_IN_ORDER)?,
-        None
-    );
-    Ok(())
+    all_told(&rt, rt.alloc(), log.as_slice(), &DOCUMENTS_IN_ORDER)
 }
 
 // The log has 1, 2, 3, 5. The first entry of the batch 3, 5 fits and the second does not: nothing of it stays, and 3 may come again.
-const REFUSED_IN_THE_MIDDLE: [(Step<'static>, StepAnswer); 9] = [
+static REFUSED_IN_THE_MIDDLE: [(Step<'static>, StepAnswer); 9] = [
     (Step::Open, StepAnswer::Done),
     (Step::Add("d", 0, 0, 2), StepAnswer::Done),
     (Step::Add("d", 2, 2, 4), REFUSED),
@@ -139,14 +112,10 @@ const REFUSED_IN_THE_MIDDLE: [(Step<'static>, StepAnswer); 9] = [
 #[test]
 fn refused_in_the_middle(rt: HostRuntime) -> Result<(), Fail> {
     let log = samples::log_without(rt.alloc(), 5, 4)?;
-    assert_eq!(rt;
-        told_otherwise(rt.alloc(), log.as_slice(), &REFUSED_IN_THE_MIDDLE)?,
-        None
-    );
-    Ok(())
+    all_told(&rt, rt.alloc(), log.as_slice(), &REFUSED_IN_THE_MIDDLE)
 }
 
-const BATCH_TOO_LONG: [(Step<'static>, StepAnswer); 6] = [
+static BATCH_TOO_LONG: [(Step<'static>, StepAnswer); 6] = [
     (Step::Open, StepAnswer::Done),
     (Step::Add("d", 0, 0, 257), REFUSED),
     (Step::Add("d", 0, 0, 256), StepAnswer::Done),
@@ -158,14 +127,10 @@ const BATCH_TOO_LONG: [(Step<'static>, StepAnswer); 6] = [
 #[test]
 fn batch_too_long(rt: HostRuntime) -> Result<(), Fail> {
     let log = samples::log(rt.alloc(), 257)?;
-    assert_eq!(rt;
-        told_otherwise(rt.alloc(), log.as_slice(), &BATCH_TOO_LONG)?,
-        None
-    );
-    Ok(())
+    all_told(&rt, rt.alloc(), log.as_slice(), &BATCH_TOO_LONG)
 }
 
-const LAST_EPOCH: [(Step<'static>, StepAnswer); 8] = [
+static LAST_EPOCH: [(Step<'static>, StepAnswer); 8] = [
     (Step::Open, StepAnswer::Done),
     (
         Step::Run("UPDATE meta SET value = 9999998 WHERE name = 'epoch'"),
@@ -181,12 +146,11 @@ const LAST_EPOCH: [(Step<'static>, StepAnswer); 8] = [
 
 #[test]
 fn last_epoch(rt: HostRuntime) -> Result<(), Fail> {
-    assert_eq!(rt; told_otherwise(rt.alloc(), &[], &LAST_EPOCH)?, None);
-    Ok(())
+    all_told(&rt, rt.alloc(), &[], &LAST_EPOCH)
 }
 
 // Tables that are not the copy's stay, and the copy lives beside them.
-const FURTHER_TABLES: [(Step<'static>, StepAnswer); 9] = [
+static FURTHER_TABLES: [(Step<'static>, StepAnswer); 9] = [
     (
         Step::Run("CREATE TABLE note (id INTEGER PRIMARY KEY, size INTEGER) STRICT"),
         StepAnswer::Done,
@@ -207,15 +171,11 @@ const FURTHER_TABLES: [(Step<'static>, StepAnswer); 9] = [
 #[test]
 fn further_tables(rt: HostRuntime) -> Result<(), Fail> {
     let log = samples::log(rt.alloc(), 3)?;
-    assert_eq!(rt;
-        told_otherwise(rt.alloc(), log.as_slice(), &FURTHER_TABLES)?,
-        None
-    );
-    Ok(())
+    all_told(&rt, rt.alloc(), log.as_slice(), &FURTHER_TABLES)
 }
 
 // Rows of several documents that were written in turn, more than are read ahead at once.
-const DOCUMENTS_IN_TURN: [(Step<'static>, StepAnswer); 11] = [
+static DOCUMENTS_IN_TURN: [(Step<'static>, StepAnswer); 11] = [
     (Step::Open, StepAnswer::Done),
     (Step::Add("b", 0, 0, 100), StepAnswer::Done),
     (Step::Add("c", 0, 0, 1), StepAnswer::Done),
@@ -232,9 +192,5 @@ const DOCUMENTS_IN_TURN: [(Step<'static>, StepAnswer); 11] = [
 #[test]
 fn documents_in_turn(rt: HostRuntime) -> Result<(), Fail> {
     let log = samples::log(rt.alloc(), 256)?;
-    assert_eq!(rt;
-        told_otherwise(rt.alloc(), log.as_slice(), &DOCUMENTS_IN_TURN)?,
-        None
-    );
-    Ok(())
+    all_told(&rt, rt.alloc(), log.as_slice(), &DOCUMENTS_IN_TURN)
 }

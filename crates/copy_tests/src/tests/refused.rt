@@ -3,6 +3,7 @@ use super::disks::{Stopping, made, walked_over};
 use super::steps::{REFUSED, Step, StepAnswer};
 use sqlite_disk::Files;
 use std::alloc::{AllocError, Global};
+use std::process::Abort;
 use std::test::Fail;
 
 const COPY: &str =
@@ -54,8 +55,19 @@ fn first_other(
     Ok(None)
 }
 
+// After each of these changes this is told.
+fn all_tell<R: Abort>(
+    rt: &R,
+    alloc: Global,
+    changes: &[&str],
+    due: StepAnswer,
+) -> Result<(), Fail> {
+    assert_eq!(rt; first_other(alloc, changes, due)?, None);
+    Ok(())
+}
+
 // Changes after which it is a copy still: what is refused below is refused for the one thing that differs.
-const SOUND: [&str; 3] = [
+static SOUND: [&str; 3] = [
     "UPDATE meta SET value = 9999999 WHERE name = 'epoch'",
     r#"INSERT INTO entry (doc, place, text) VALUES ('d', 2, '["op",[2,"p"],[["p",1]],[[["m",0]],"k"],["assign",2]]')"#,
     r#"INSERT INTO entry (doc, place, text) VALUES ('e', 1, '["op",[1,"p"],[],[[["m",0]],"k"],["assign",1]]')"#,
@@ -63,42 +75,38 @@ const SOUND: [&str; 3] = [
 
 #[test]
 fn sound_copies(rt: HostRuntime) -> Result<(), Fail> {
-    assert_eq!(rt; first_other(rt.alloc(), &SOUND, StepAnswer::Done)?, None);
-    Ok(())
+    all_tell(&rt, rt.alloc(), &SOUND, StepAnswer::Done)
 }
 
-const MISSING: [&str; 2] = ["DROP TABLE entry", "DROP TABLE meta"];
+static MISSING: [&str; 2] = ["DROP TABLE entry", "DROP TABLE meta"];
 
 #[test]
 fn a_missing_table(rt: HostRuntime) -> Result<(), Fail> {
-    assert_eq!(rt; first_other(rt.alloc(), &MISSING, REFUSED)?, None);
-    Ok(())
+    all_tell(&rt, rt.alloc(), &MISSING, REFUSED)
 }
 
-const COLUMNS: [&str; 2] = [
+static COLUMNS: [&str; 2] = [
     "DROP TABLE entry; CREATE TABLE entry (doc TEXT, place INTEGER) STRICT",
     "DROP TABLE meta; CREATE TABLE meta (name TEXT, value TEXT) STRICT",
 ];
 
 #[test]
 fn other_columns(rt: HostRuntime) -> Result<(), Fail> {
-    assert_eq!(rt; first_other(rt.alloc(), &COLUMNS, REFUSED)?, None);
-    Ok(())
+    all_tell(&rt, rt.alloc(), &COLUMNS, REFUSED)
 }
 
-const VIEWS: [&str; 2] = [
+static VIEWS: [&str; 2] = [
     "DROP TABLE entry; CREATE VIEW entry AS SELECT name AS doc, value AS place, name AS text FROM meta",
     "DROP TABLE meta; CREATE VIEW meta AS SELECT doc AS name, place AS value FROM entry",
 ];
 
 #[test]
 fn a_view_for_a_table(rt: HostRuntime) -> Result<(), Fail> {
-    assert_eq!(rt; first_other(rt.alloc(), &VIEWS, REFUSED)?, None);
-    Ok(())
+    all_tell(&rt, rt.alloc(), &VIEWS, REFUSED)
 }
 
 // The tables are right but for the letters of a name.
-const LETTERS: [&str; 2] = [
+static LETTERS: [&str; 2] = [
     "DROP TABLE meta; CREATE TABLE META (name TEXT NOT NULL PRIMARY KEY, value INTEGER NOT NULL) STRICT;
      INSERT INTO META (name, value) VALUES ('format', 2), ('epoch', 0)",
     "DROP TABLE entry;
@@ -107,11 +115,10 @@ const LETTERS: [&str; 2] = [
 
 #[test]
 fn a_name_in_other_letters(rt: HostRuntime) -> Result<(), Fail> {
-    assert_eq!(rt; first_other(rt.alloc(), &LETTERS, REFUSED)?, None);
-    Ok(())
+    all_tell(&rt, rt.alloc(), &LETTERS, REFUSED)
 }
 
-const NUMBERS: [&str; 4] = [
+static NUMBERS: [&str; 4] = [
     "DELETE FROM meta WHERE name = 'epoch'",
     "DELETE FROM meta WHERE name = 'format'",
     "DELETE FROM meta",
@@ -120,33 +127,30 @@ const NUMBERS: [&str; 4] = [
 
 #[test]
 fn numbers_missing_or_more(rt: HostRuntime) -> Result<(), Fail> {
-    assert_eq!(rt; first_other(rt.alloc(), &NUMBERS, REFUSED)?, None);
-    Ok(())
+    all_tell(&rt, rt.alloc(), &NUMBERS, REFUSED)
 }
 
-const FORMATS: [&str; 2] = [
+static FORMATS: [&str; 2] = [
     "UPDATE meta SET value = 0 WHERE name = 'format'",
     "UPDATE meta SET value = 3 WHERE name = 'format'",
 ];
 
 #[test]
 fn another_format(rt: HostRuntime) -> Result<(), Fail> {
-    assert_eq!(rt; first_other(rt.alloc(), &FORMATS, REFUSED)?, None);
-    Ok(())
+    all_tell(&rt, rt.alloc(), &FORMATS, REFUSED)
 }
 
-const EPOCHS: [&str; 2] = [
+static EPOCHS: [&str; 2] = [
     "UPDATE meta SET value = -1 WHERE name = 'epoch'",
     "UPDATE meta SET value = 10000000 WHERE name = 'epoch'",
 ];
 
 #[test]
 fn an_epoch_out_of_range(rt: HostRuntime) -> Result<(), Fail> {
-    assert_eq!(rt; first_other(rt.alloc(), &EPOCHS, REFUSED)?, None);
-    Ok(())
+    all_tell(&rt, rt.alloc(), &EPOCHS, REFUSED)
 }
 
-const PLACES: [&str; 3] = [
+static PLACES: [&str; 3] = [
     r#"INSERT INTO entry (doc, place, text) VALUES ('d', 3, '["op",[2,"p"],[["p",1]],[[["m",0]],"k"],["assign",2]]')"#,
     r#"INSERT INTO entry (doc, place, text) VALUES ('d', 0, '["op",[2,"p"],[["p",1]],[[["m",0]],"k"],["assign",2]]')"#,
     r#"INSERT INTO entry (doc, place, text) VALUES ('d', -1, '["op",[2,"p"],[["p",1]],[[["m",0]],"k"],["assign",2]]')"#,
@@ -154,11 +158,10 @@ const PLACES: [&str; 3] = [
 
 #[test]
 fn a_gap_in_the_places(rt: HostRuntime) -> Result<(), Fail> {
-    assert_eq!(rt; first_other(rt.alloc(), &PLACES, REFUSED)?, None);
-    Ok(())
+    all_tell(&rt, rt.alloc(), &PLACES, REFUSED)
 }
 
-const NAMES: [&str; 3] = [
+static NAMES: [&str; 3] = [
     r#"INSERT INTO entry (doc, place, text) VALUES ('E', 1, '["op",[1,"p"],[],[[["m",0]],"k"],["assign",1]]')"#,
     r#"INSERT INTO entry (doc, place, text) VALUES ('', 1, '["op",[1,"p"],[],[[["m",0]],"k"],["assign",1]]')"#,
     r#"INSERT INTO entry (doc, place, text) VALUES ('aaaaaaaaaaaaaaaaaaaaaaaaaaaaaaaaa', 1, '["op",[1,"p"],[],[[["m",0]],"k"],["assign",1]]')"#,
@@ -166,12 +169,11 @@ const NAMES: [&str; 3] = [
 
 #[test]
 fn a_bad_document_name(rt: HostRuntime) -> Result<(), Fail> {
-    assert_eq!(rt; first_other(rt.alloc(), &NAMES, REFUSED)?, None);
-    Ok(())
+    all_tell(&rt, rt.alloc(), &NAMES, REFUSED)
 }
 
 // No JSON; no operation; another text of the same JSON.
-const TEXTS: [&str; 3] = [
+static TEXTS: [&str; 3] = [
     "INSERT INTO entry (doc, place, text) VALUES ('d', 2, '[')",
     "INSERT INTO entry (doc, place, text) VALUES ('d', 2, '[]')",
     r#"INSERT INTO entry (doc, place, text) VALUES ('d', 2, '["op", [2,"p"],[["p",1]],[[["m",0]],"k"],["assign",2]]')"#,
@@ -179,24 +181,22 @@ const TEXTS: [&str; 3] = [
 
 #[test]
 fn a_text_that_is_not_written_so(rt: HostRuntime) -> Result<(), Fail> {
-    assert_eq!(rt; first_other(rt.alloc(), &TEXTS, REFUSED)?, None);
-    Ok(())
+    all_tell(&rt, rt.alloc(), &TEXTS, REFUSED)
 }
 
 // An id that stands already; one that needs what is not there.
-const MISFITS: [&str; 2] = [
+static MISFITS: [&str; 2] = [
     r#"INSERT INTO entry (doc, place, text) VALUES ('d', 2, '["op",[1,"p"],[],[[["m",0]],"k"],["assign",1]]')"#,
     r#"INSERT INTO entry (doc, place, text) VALUES ('d', 2, '["op",[3,"p"],[["p",2]],[[["m",0]],"k"],["assign",2]]')"#,
 ];
 
 #[test]
 fn an_operation_that_does_not_fit(rt: HostRuntime) -> Result<(), Fail> {
-    assert_eq!(rt; first_other(rt.alloc(), &MISFITS, REFUSED)?, None);
-    Ok(())
+    all_tell(&rt, rt.alloc(), &MISFITS, REFUSED)
 }
 
 // A table beside the two changes nothing of what is refused.
-const BESIDE_A_TABLE: [&str; 4] = [
+static BESIDE_A_TABLE: [&str; 4] = [
     "CREATE TABLE note (id INTEGER PRIMARY KEY) STRICT; DROP TABLE entry",
     "CREATE TABLE note (id INTEGER PRIMARY KEY) STRICT; UPDATE meta SET value = 3 WHERE name = 'format'",
     "CREATE TABLE note (id INTEGER PRIMARY KEY) STRICT; INSERT INTO entry (doc, place, text) VALUES ('d', 2, '[]')",
@@ -206,8 +206,7 @@ const BESIDE_A_TABLE: [&str; 4] = [
 
 #[test]
 fn beside_a_table(rt: HostRuntime) -> Result<(), Fail> {
-    assert_eq!(rt; first_other(rt.alloc(), &BESIDE_A_TABLE, REFUSED)?, None);
-    Ok(())
+    all_tell(&rt, rt.alloc(), &BESIDE_A_TABLE, REFUSED)
 }
 
 // A connection in the middle of a transaction.

@@ -5,10 +5,10 @@ use serde_json::Value;
 use std::alloc::Global;
 
 /// One that makes the document.
-pub const FIRST_RUN: [&str; 1] = [r#"["op",[1,"srv-1"],[],[[],0],["assign",{}]]"#];
+pub static FIRST_RUN: [&str; 1] = [r#"["op",[1,"srv-1"],[],[[],0],["assign",{}]]"#];
 
 /// Two assignments that know only one before them.
-pub const CONCURRENT_REGISTER: [&str; 3] = [
+pub static CONCURRENT_REGISTER: [&str; 3] = [
     r#"["op",[1,"p"],[],[[["m",0]],"k"],["assign","A"]]"#,
     r#"["op",[2,"p"],[["p",1]],[[["m",0]],"k"],["assign","B"]]"#,
     r#"["op",[2,"q"],[["p",1]],[[["m",0]],"k"],["assign","C"]]"#,
@@ -18,7 +18,7 @@ pub const CONCURRENT_REGISTER: [&str; 3] = [
 pub const COLORS: &str = r#"["op",[1,"p"],[],[[["m",0]],"colors"],["assign",{}]]"#;
 
 /// A list that two replicas change at once.
-pub const CONCURRENT_LIST_EDITS: [&str; 9] = [
+pub static CONCURRENT_LIST_EDITS: [&str; 9] = [
     r#"["op",[1,"o"],[],[[],0],["assign",{}]]"#,
     r#"["op",[2,"o"],[["o",1]],[[["m",0]],"l"],["assign",[]]]"#,
     r#"["op",[3,"o"],[["o",2]],[[["m",0],["l","l"]],1],["insert","a"]]"#,

@@ -7,6 +7,8 @@ use log_copy::{Fault, LogCopy};
 use op_core::Operation;
 use sqlite::{Alter, Connection};
 use std::alloc::Global;
+use std::process::Abort;
+use std::test::Fail;
 
 /// What is done with the database.
 #[derive(Clone, Copy)]
@@ -300,4 +302,16 @@ pub fn first_other<S: Alter + Drop>(
 ) -> Option<(usize, StepAnswer)> {
     let (_, other) = walked(alloc, conn, log, steps);
     other
+}
+
+/// Over an empty database in memory each of these steps tells what is due.
+pub fn all_told<R: Abort>(
+    rt: &R,
+    alloc: Global,
+    log: &[Operation],
+    steps: &[(Step<'_>, StepAnswer)],
+) -> Result<(), Fail> {
+    let conn = Connection::open_in_memory(alloc)?;
+    assert_eq!(rt; first_other(alloc, conn, log, steps), None);
+    Ok(())
 }

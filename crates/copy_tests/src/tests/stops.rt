@@ -7,6 +7,7 @@ use log_copy::Fault;
 use op_core::Operation;
 use sqlite_disk::Files;
 use std::alloc::Global;
+use std::process::Abort;
 use std::test::Fail;
 
 // What stopped them is told as a fault of the store, and never as a refusal.
@@ -83,7 +84,7 @@ fn calls_in_all(
     None
 }
 
-const BATCHES: [(Step<'static>, StepAnswer); 5] = [
+static BATCHES: [(Step<'static>, StepAnswer); 5] = [
     (Step::Open, StepAnswer::Done),
     (Step::Up, StepAnswer::Number(1)),
     (Step::Add("d", 0, 0, 5), StepAnswer::Done),
@@ -122,19 +123,27 @@ const AFTER_BATCHES: [&[(Step<'static>, StepAnswer)]; 6] = [
     ],
 ];
 
+// After how many calls of one of the disks nothing of the batches is stopped.
+fn calls_of_batches(alloc: Global, log: &[Operation], is_log: bool) -> Option<u64> {
+    calls_in_all(alloc, log, &BATCHES, &AFTER_BATCHES, is_log)
+}
+
+// So many calls are more than that.
+fn are_more<R: Abort>(rt: &R, calls: Option<u64>, least: u64) {
+    assert!(rt; calls > Some(least), "{calls:?}");
+}
+
 #[test]
 fn stops_of_the_log(rt: HostRuntime) -> Result<(), Fail> {
     let log = samples::operations(rt.alloc(), &samples::CONCURRENT_LIST_EDITS)?;
-    let calls = calls_in_all(rt.alloc(), log.as_slice(), &BATCHES, &AFTER_BATCHES, true);
-    assert!(rt; calls > Some(20), "{calls:?}");
+    are_more(&rt, calls_of_batches(rt.alloc(), log.as_slice(), true), 20);
     Ok(())
 }
 
 #[test]
 fn stops_of_the_file(rt: HostRuntime) -> Result<(), Fail> {
     let log = samples::operations(rt.alloc(), &samples::CONCURRENT_LIST_EDITS)?;
-    let calls = calls_in_all(rt.alloc(), log.as_slice(), &BATCHES, &AFTER_BATCHES, false);
-    assert!(rt; calls > Some(2), "{calls:?}");
+    are_more(&rt, calls_of_batches(rt.alloc(), log.as_slice(), false), 2);
     Ok(())
 }
 
@@ -164,7 +173,7 @@ fn one_allocation_refused(rt: HostRuntime) -> Result<(), Fail> {
 }
 
 // An old copy with one entry and the epoch 1, in one transaction.
-const RAISE: [(Step<'static>, StepAnswer); 2] = [
+static RAISE: [(Step<'static>, StepAnswer); 2] = [
     (
         Step::Run(
             r#"BEGIN;
@@ -211,18 +220,20 @@ const AFTER_RAISE: [&[(Step<'static>, StepAnswer)]; 3] = [
     ],
 ];
 
+fn calls_of_raise(alloc: Global, log: &[Operation], is_log: bool) -> Option<u64> {
+    calls_in_all(alloc, log, &RAISE, &AFTER_RAISE, is_log)
+}
+
 #[test]
 fn stops_while_raised(rt: HostRuntime) -> Result<(), Fail> {
     let log = samples::operations(rt.alloc(), &samples::CONCURRENT_LIST_EDITS)?;
-    let of_log = calls_in_all(rt.alloc(), log.as_slice(), &RAISE, &AFTER_RAISE, true);
-    assert!(rt; of_log > Some(5), "{of_log:?}");
-    let of_file = calls_in_all(rt.alloc(), log.as_slice(), &RAISE, &AFTER_RAISE, false);
-    assert!(rt; of_file > Some(1), "{of_file:?}");
+    are_more(&rt, calls_of_raise(rt.alloc(), log.as_slice(), true), 5);
+    are_more(&rt, calls_of_raise(rt.alloc(), log.as_slice(), false), 1);
     Ok(())
 }
 
 // Beside a further table.
-const BESIDE: [(Step<'static>, StepAnswer); 5] = [
+static BESIDE: [(Step<'static>, StepAnswer); 5] = [
     (
         Step::Run(
             "BEGIN; CREATE TABLE note (size INTEGER NOT NULL) STRICT; INSERT INTO note (size) VALUES (41); COMMIT",
@@ -269,12 +280,14 @@ const AFTER_BESIDE: [&[(Step<'static>, StepAnswer)]; 6] = [
     ],
 ];
 
+fn calls_beside(alloc: Global, log: &[Operation], is_log: bool) -> Option<u64> {
+    calls_in_all(alloc, log, &BESIDE, &AFTER_BESIDE, is_log)
+}
+
 #[test]
 fn stops_beside_a_table(rt: HostRuntime) -> Result<(), Fail> {
     let log = samples::operations(rt.alloc(), &samples::CONCURRENT_LIST_EDITS)?;
-    let of_log = calls_in_all(rt.alloc(), log.as_slice(), &BESIDE, &AFTER_BESIDE, true);
-    assert!(rt; of_log > Some(20), "{of_log:?}");
-    let of_file = calls_in_all(rt.alloc(), log.as_slice(), &BESIDE, &AFTER_BESIDE, false);
-    assert!(rt; of_file > Some(2), "{of_file:?}");
+    are_more(&rt, calls_beside(rt.alloc(), log.as_slice(), true), 20);
+    are_more(&rt, calls_beside(rt.alloc(), log.as_slice(), false), 2);
     Ok(())
 }
