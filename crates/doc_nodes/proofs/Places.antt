@@ -27,9 +27,6 @@ module _ (nodes : List Node) where
       let parts = walk_split (child_of nodes) root c up.0 up.1 (ap (walk (child_of nodes) root) (sym up.3) ∙ way.2) in
       (parts.0, up.1, node_by q j up.0 parts.0 up.2 parts.1, parts.2)
 
-  pub same_node : (o : Option NodeNumber) (m c : NodeNumber) → o ≡ Some m → o ≡ Some c → m ≡ c
-  same_node o m c e f = let same : ◌≡◌ {A = Option NodeNumber} (Some m) (Some c) = sym e ∙ f in cc
-
   module _ (tree : AreTree nodes) where
     -- a node of a place is one of the nodes
     pub node_within : (p : List Tagged) (k : Key) (m : NodeNumber) → node_at nodes p k ≡ Some m → m.0 < length nodes

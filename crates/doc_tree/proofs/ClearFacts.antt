@@ -6,6 +6,7 @@ use Rattle.doc_words.specs.Words.{Id, Key, Tagged}
 use Rattle.op_core.specs.Front.{covers}
 use Rattle.crdt_rules.specs.Within.{is_within}
 use Rattle.crdt_rules.proofs.StepFacts.{none_either}
+use Rattle.crdt_rules.proofs.Tests.{same_found}
 use Rattle.doc_words.specs.declared.role.Role.{Role}
 use Rattle.presence_set.specs.ById.{get, uncovered}
 use Rattle.presence_set.proofs.ByIdLaws.{get-uncovered}
@@ -14,7 +15,7 @@ use Rattle.doc_nodes.specs.declared.node.Node.{Node}
 use Rattle.doc_nodes.specs.Walk.{walk}
 use Rattle.doc_nodes.specs.Nodes.{node_of, child_of, node_at, list_node_at, role_in, part_in, ids_in, role_at, facts_of, AreTree, ClearsUnder, cleared, clear_facts_at}
 use Rattle.doc_nodes.proofs.Clearing.{same_children}
-use Rattle.doc_nodes.proofs.Places.{node_above, same_node, within_from_walk}
+use Rattle.doc_nodes.proofs.Places.{node_above, within_from_walk}
 use Rattle.doc_tree.proofs.SameShape.{same_node_at, same_ids}
 
 module _ (front : List (List ℕ × ℕ)) (old new : List Node) (tree : AreTree old) (p : List Tagged) (k : Key) (m : NodeNumber)
@@ -26,7 +27,7 @@ module _ (front : List (List ℕ × ℕ)) (old new : List Node) (tree : AreTree 
   inside : (q : List Tagged) (j : Key) (c : NodeNumber) → node_at old q j ≡ Some c → is_within q j p k ≡ true → node_of new c ≡ cleared front (node_of old c)
   inside q j c e w =
       let up = node_above old q j p k c e w in
-      clears.inside c up.1 (subst (λ z. walk (child_of old) z up.1 ≡ Some c) (same_node old (node_at old p k) up.0 m up.2 at) up.3)
+      clears.inside c up.1 (subst (λ z. walk (child_of old) z up.1 ≡ Some c) (same_found up.2 at) up.3)
 
   outside : (q : List Tagged) (j : Key) (c : NodeNumber) → node_at old q j ≡ Some c → is_within q j p k ≡ false → node_of new c ≡ node_of old c
   outside q j c e w = clears.outside c (λ keys g. true≢false (sym (within_from_walk old tree q j p k c m keys e at g) ∙ w))

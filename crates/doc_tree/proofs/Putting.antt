@@ -9,6 +9,7 @@ use Rattle.op_core.specs.Shape.{key_of, may_follow}
 use Rattle.crdt_rules.specs.Same.{key_eq, id_eq, path_eq}
 use Rattle.doc_words.specs.declared.role.Role.{Role}
 use Rattle.presence_set.specs.ById.{uncovered}
+use Rattle.presence_set.proofs.ByIdLaws.{length-uncovered}
 use Rattle.doc_nodes.specs.declared.node.NodeNumber.{NodeNumber}
 use Rattle.doc_nodes.specs.declared.node.Node.{Node}
 use Rattle.doc_nodes.specs.Walk.{walk, root, trail, trail_below}
@@ -60,14 +61,6 @@ known_way nodes p k m e =
     let way = way_to nodes p k m e in
     let same = keys_of_trail p k way.0 way.1 in
     (way.1 ∙ ap Some same, subst (λ l. walk (child_of nodes) root l ≡ Some m) same way.2)
-
-length-uncovered : {X : Type 0} (front : List (List ℕ × ℕ)) (entries : List (Id × X)) → length (uncovered front entries) ≤ length entries
-length-uncovered front [] = omega arith
-length-uncovered {X} front (e ∷ entries) = go (covers front e.0) (length-uncovered front entries)
-  where
-    go : (b : Bool) → length (uncovered front entries) ≤ length entries → length (if not b then e ∷ uncovered front entries else uncovered front entries) ≤ length (e ∷ entries)
-    go true ih = omega (arith, ih)
-    go false ih = omega (arith, ih)
 
 module _ (front : List (List ℕ × ℕ)) (old new : List Node) (each : IsPartCleared front old new) where
   shape : child_of new ≡ child_of old

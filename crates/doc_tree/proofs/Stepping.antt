@@ -107,8 +107,3 @@ ready-linked nodes n after id within p k adds ready = record {
 
     same_node : node_at (set nodes n.0 (with_entry after id (node_of nodes n))) p k ≡ node_at nodes p k
     same_node = ap (λ g. option_and_then (walk g root) (trail p k)) (shape-set nodes n (with_entry after id (node_of nodes n)) within refl)
-
--- the order that the facts tell is that of the node
-pub order-node : (nodes : List Node) (p : List Tagged) (n : NodeNumber) → list_node_at nodes p ≡ Some n → (facts_of nodes).order p ≡ ids_of (node_of nodes n).order.0
-unfolding facts_of
-order-node nodes p n e = ap (ids_in nodes) e

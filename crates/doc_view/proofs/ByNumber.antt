@@ -17,7 +17,7 @@ use Rattle.doc_nodes.specs.Children.{number_at}
 use Rattle.doc_nodes.specs.KeyOrder.{IsInKeyOrder}
 use Rattle.doc_nodes.specs.Nodes.{node_of, node_at, child_of}
 use Rattle.doc_nodes.proofs.ChildrenLaws.{number_at-own, number_at-Contains}
-use Rattle.doc_nodes.proofs.Places.{same_node}
+use Rattle.crdt_rules.proofs.Tests.{same_found}
 use Rattle.doc_tree.specs.Nodes.{tree_facts, tree_number}
 use Rattle.doc_tree.proofs.Below.{list-into, number-into, present_child}
 use Rattle.doc_tree.proofs.Reading.{role_read, role_absent, scalar_read, scalar_absent, number_read, number_absent, ids_read, ids_absent}
@@ -29,7 +29,7 @@ use Rattle.doc_view.specs.ByNumber.{AtNode, HasItems, IsTextAt, ShowsThose}
 use Rattle.doc_view.specs.Readings.{GivesUnlessMemory}
 use Rattle.doc_view.specs.Showing.{EachElement, IsShown, IsMapShown, IsListShown}
 use Rattle.doc_view.proofs.Entries.{are_all}
-use Rattle.doc_view.proofs.Lists.{take_read}
+use Rattle.list_laws.proofs.Reading.{take_read}
 use Rattle.doc_view.proofs.MapLaws.{those_append}
 use Rattle.doc_view.proofs.Presence.{AreRoles, present_role}
 use Rattle.doc_view.proofs.ShowLaws.{shown_from}
@@ -85,7 +85,7 @@ module _ (tree : List Node × Option Scalar) (p : List Tagged) (k : Key) (n : No
     pub has_child : (text : List ℕ) (i : Id) → (tree_facts tree).present (into_map p k) (Text text) i ≡ true → (c : NodeNumber) × Contains children (Text text, c)
     has_child text i here =
         let below = present_child tree.0 p k text i here in
-        let same = same_node tree.0 (node_at tree.0 p k) below.0 n below.2 at in (
+        let same = same_found below.2 at in (
           below.1,
           subst (λ (cs : List (Key × NodeNumber)). Contains cs (Text text, below.1)) (sym these)
               (number_at-Contains (node_of tree.0 n).children (Text text) below.1 (subst (λ m. child_of tree.0 m (Text text) ≡ Some below.1) same below.3)),

@@ -4,7 +4,7 @@ use Rattle.doc_words.specs.Words.{Refusal, Cursor}
 use Rattle.crdt_rules.specs.Facts.{Facts}
 use Rattle.doc_words.specs.declared.place.Step.{Step}
 use Rattle.doc_rules.specs.Resolve.{Goes, Leads}
-use Rattle.doc_view.proofs.Lists.{drop_read}
+use Rattle.list_laws.proofs.Reading.{drop_read}
 
 -- a refusal stays
 pub leads_err : (f : Facts) (steps : List Step) (e : Refusal) → Leads f steps (Err e) (Err e)

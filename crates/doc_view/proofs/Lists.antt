@@ -1,6 +1,7 @@
 -- Elements of a list, one more at the end.
 use Rattle.std.proofs.Common.{◌≡◌, ℕ, zero, suc, arith, ◌+◌, ◌<◌, List, [], ◌∷◌, ◌++◌, length, get_or, map, take, drop, Bool, true, false, true≢false, Decides, if◌then◌else◌, refl, sym, ap, append-nil, subst, ◌∙◌}
-use Rattle.std.proofs.lemmas.List.{take_more, drop_more, map-append, take-append-drop}
+use Rattle.std.proofs.lemmas.List.{map-append, take-append-drop}
+use Rattle.list_laws.proofs.Reading.{take_read}
 use Rattle.doc_words.specs.Words.{Id, Scalar, Tagged}
 use Rattle.op_core.specs.declared.cursor.Key.TheVariants.{Element}
 use Rattle.crdt_rules.specs.Facts.{Facts}
@@ -24,14 +25,6 @@ module _ {X : Type 0} {holds : X → Type 0} where
   those_more x true d those = those_kept x those (d.0 refl)
   those_more {xs} {kept} x false d those =
       subst (λ l. AreThose holds (xs ++ x ∷ []) l) (sym (append-nil kept)) (those_left x those (λ h. absurd (true≢false (sym (d.1 h)))))
-
--- one element more of those taken so far
-pub take_read : {X : Type 0} (xs : List X) (i : ℕ) (x : X) → i < length xs → x ≡ get_or xs i x → take (i + 1) xs ≡ take i xs ++ x ∷ []
-take_read xs i x within is = take_more xs i x within ∙ ap (λ y. take i xs ++ y ∷ []) (sym is)
-
--- and one less of those left
-pub drop_read : {X : Type 0} (xs : List X) (i : ℕ) (x : X) → i < length xs → x ≡ get_or xs i x → drop i xs ≡ x ∷ drop (i + 1) xs
-drop_read xs i x within is = drop_more xs i x within ∙ ap (λ y. y ∷ drop (i + 1) xs) (sym is)
 
 -- the first of those left is the next one
 pub drop_gives : {X : Type 0} (xs : List X) (i : ℕ) (x : X) (rest : List X) → drop i xs ≡ x ∷ rest → (i < length xs) × (x ≡ get_or xs i x) × (drop (i + 1) xs ≡ rest)

@@ -25,7 +25,7 @@ use Rattle.doc_view.specs.Members.{texts_at, texts_in}
 use Rattle.doc_view.specs.Showing.{is_map, is_list_role, branch_of, field_data, IsShown, IsMapShown, IsListShown, EachField, AreFields, EachElement, AreShown}
 use Rattle.doc_view.specs.TreeValues.{tree_values}
 use Rattle.doc_view.proofs.Presence.{AreRoles, role_of, present_from, entry_from}
-use Rattle.doc_view.proofs.Lists.{take_read}
+use Rattle.list_laws.proofs.Reading.{take_read}
 use Rattle.doc_view.proofs.MapLaws.{those_append, those_hold, are_keys, texts_in-push}
 
 -- ---- which values are put

@@ -20,12 +20,9 @@ use Rattle.list_order.proofs.Paths.{walk-None}
 use Rattle.list_order.proofs.Placing.{last_of}
 use Rattle.list_order.proofs.Linking.{fresh_of}
 use Rattle.list_order.proofs.Inserting.{cut, made, new_path, marks_stay, mark_is, entries_inserted, order_inserted, none_ordered}
-use Rattle.list_order.proofs.Counting.{Along, IsSameMark}
+use Rattle.list_order.proofs.Counting.{Along, IsSameMark, less_of}
 use Rattle.list_order.proofs.Same.{count-same, blocks-same, from-same, rising-same}
 use Rattle.list_order.proofs.Presence.{count-presence}
-
-less_of : (k len : ℕ) → eqb k len ≡ false → k < len + 1 → k < len
-less_of k len e h = grind (arith, nat_tests)
 
 -- the block of the last slot
 abbrev last_block : ℕ → List Mark → List SlotNumber → ℕ

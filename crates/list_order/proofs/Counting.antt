@@ -1,6 +1,7 @@
 -- Counts, blocks and presence along a path.
-use Rattle.std.proofs.Common.{◌≡◌, ◌≢◌, ◌<◌, ◌≤◌, ◌+◌, ◌-◌, ℕ, zero, suc, List, [], ◌∷◌, ◌++◌, length, Bool, true, false, ◌&&◌, nat_eq, nat_le, if◌then◌else◌, Option, Some, None, slice_get, refl, sym, ap, ◌∙◌, subst, true≢false, arith}
+use Rattle.std.proofs.Common.{◌≡◌, ◌≢◌, ◌<◌, ◌≤◌, ◌+◌, ◌-◌, ℕ, zero, suc, List, [], ◌∷◌, ◌++◌, length, Bool, true, false, ◌&&◌, nat_eq, nat_le, eqb, if◌then◌else◌, Option, Some, None, slice_get, refl, sym, ap, ◌∙◌, subst, true≢false, arith}
 use Rattle.std.proofs.lemmas.Bool.{eqb-true, eq-eqb, leb-true, leb-false}
+use Rattle.std.proofs.lemmas.Bool.Decides.{nat_tests}
 use Rattle.std.proofs.Math.Dec.{leb-zero}
 use Rattle.lamport_id.specs.declared.id.Id.{Id}
 use Rattle.list_order.specs.declared.slots.Slot.{Slot}
@@ -11,6 +12,10 @@ use Rattle.list_order.specs.Slots.{slot_at, IsPath, slots_from, LinksEnd}
 use Rattle.list_order.specs.Marks.{mark_at, count_where, is_marked_in, from_block, start_of, IsInBlockOrder, present_along, bit, block_at, IsCounted}
 use Rattle.list_order.proofs.Paths.{path_from-path, walk_from_path, length-path_from}
 use Rattle.list_order.proofs.Scanning.{IsStep}
+
+-- one that is at most the last, and isn't it
+pub less_of : (k len : ℕ) → eqb k len ≡ false → k < suc len → k < len
+less_of k len e h = grind (arith, nat_tests)
 
 -- each slot of a path is so
 abbrev pub Along : (SlotNumber → Type 0) → List SlotNumber → Type 0

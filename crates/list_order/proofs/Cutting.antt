@@ -12,7 +12,7 @@ use Rattle.list_order.specs.Slots.{slot_at, IsPath, slots_from, LinksEnd}
 use Rattle.list_order.specs.Marks.{mark_at, block_at, no_block, count_where, is_marked_in, from_block, start_of, IsInBlockOrder, IsCounted, bit, set_block, IsClosed, IsRecut}
 use Rattle.list_order.proofs.Scanning.{IsStep}
 use Rattle.list_order.proofs.Paths.{path_from-path, walk_from_path, walk-None, length-path_from}
-use Rattle.list_order.proofs.Counting.{Along, along-map, from-zero, count-later, rising-from, length-from, path-from, IsSameMark, not_other}
+use Rattle.list_order.proofs.Counting.{Along, along-map, from-zero, count-later, rising-from, length-from, path-from, IsSameMark, not_other, less_of}
 use Rattle.list_order.proofs.Same.{count-same, blocks-same, from-same, rising-same, count-append, count_within, from-none, count-none, start-append, rising-append, along-snoc}
 use Rattle.list_order.proofs.Apart.{apart_front, set_here, set_other, set_apart}
 
@@ -45,9 +45,6 @@ presence marks n block within m = go (eqb m.0 n.0) refl
 bit_small : (b : Bool) → bit b ≤ 1
 bit_small true = omega arith
 bit_small false = omega arith
-
-less_of : (k len : ℕ) → eqb k len ≡ false → k < suc len → k < len
-less_of k len e h = grind (arith, nat_tests)
 
 last_other : (marks : List Mark) (test : Mark → Bool) (path : List SlotNumber) (n : SlotNumber) → test (mark_at marks n) ≡ false
     → count_where test marks (path ++ n ∷ []) ≡ count_where test marks path

@@ -37,10 +37,6 @@ regroup true true false d = refl
 regroup true false false d = refl
 regroup false b c d = refl
 
-no_pair : (b : Bool) → (b && false) ≡ false
-no_pair true = refl
-no_pair false = refl
-
 -- two fronts are the same where their names are and their counters
 pub eq-pairs : (names others : List (List ℕ)) (counters more : List ℕ) → length names ≡ length counters → length others ≡ length more
     → (pointwise bytes_eq names others && pointwise nat_eq counters more) ≡ front_eq (zip names counters) (zip others more)

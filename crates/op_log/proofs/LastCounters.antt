@@ -13,7 +13,7 @@ use Rattle.crdt_rules.specs.Fits.{Fits, replicas}
 use Rattle.list_laws.proofs.Members.{Contains-here, Contains-there, Contains-map, map-from}
 use Rattle.crdt_rules.proofs.Tests.{any_at, any_none}
 use Rattle.crdt_rules.proofs.Fronts.{entry-max_counter, shaped_counter, entry_of-Contains}
-use Rattle.crdt_rules.proofs.LastCounter.{below_last}
+use Rattle.crdt_rules.proofs.LastCounter.{below_last, last_from}
 use Rattle.crdt_rules.proofs.Tests.{some≢none}
 use Rattle.doc_rules.proofs.WholeFront.{entry_of-at, rising_from_ascending}
 use Rattle.op_log.proofs.Fronts.{NamesRise}
@@ -37,16 +37,6 @@ last_counter-push (o ∷ log) op name =
     swapped true false x y l = refl
     swapped false true x y l = refl
     swapped false false x y l = refl
-
--- a counter that a replica has is that of an operation of it
-pub last_counter-Some : (log : List Op) (name : List ℕ) (c : ℕ) → last_counter log name ≡ Some c → (o : Op) × Contains log o × (o.id.replica ≡ name)
-last_counter-Some [] name c h = absurd (some≢none (sym h))
-last_counter-Some (o ∷ log) name c h = by (bytes_eq o.id.replica name) refl h (last_counter-Some log name c)
-  where
-    by : (b : Bool) → bytes_eq o.id.replica name ≡ b → (if b then Some (max o.id.counter (unwrap_or (last_counter log name) 0)) else last_counter log name) ≡ Some c
-        → (last_counter log name ≡ Some c → (z : Op) × Contains log z × (z.id.replica ≡ name)) → (z : Op) × Contains (o ∷ log) z × (z.id.replica ≡ name)
-    by true same h ih = (o, Contains-here log refl, (bytes_decides o.id.replica name).0 same)
-    by false other h ih = let r = ih h in (r.0, Contains-there o log r.1, r.2)
 
 -- an operation that fits is the last of its replica
 last_below : (op : Op) (log : List Op) → Fits op log → unwrap_or (last_counter log op.id.replica) 0 ≤ max_counter op.front
@@ -88,7 +78,7 @@ length-front log front is =
     in_log rise n c =
         let f = map-from (λ (e : List ℕ × ℕ). e.0) front c in
         let found : last_counter log n ≡ Some (f.0).1 = sym (is.last n) ∙ subst (λ m. entry_of front m ≡ Some (f.0).1) f.2 (entry_of-at front f.0 rise f.1) in
-        let o = last_counter-Some log n (f.0).1 found in
+        let o = last_from log n (f.0).1 found in
         subst (Contains (replicas log)) o.2 (replicas-at log o.1)
 
     in_front : (n : List ℕ) → Contains (replicas log) n → Contains (map (λ e. e.0) front) n
@@ -113,7 +103,7 @@ is_replica log name = by (last_counter log name) refl
             let l = below_last log o.0 name o.1 (o.2 ∙ sym ((bytes_decides name n).0 e)) in
             absurd (some≢none (sym l.1 ∙ h))
     by (Some c) h =
-        let o = last_counter-Some log name c h in
+        let o = last_from log name c h in
         any_at (bytes_eq name) (replicas log) (replicas-at log o.1) ((bytes_decides name (o.0).id.replica).1 (sym o.2))
 
 -- whether a log takes one more operation of a replica

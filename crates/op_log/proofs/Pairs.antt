@@ -10,7 +10,7 @@ use Rattle.lamport_id.specs.Order.{name_cmp}
 use Rattle.op_core.specs.Front.{id_of, is_ascending}
 use Rattle.doc_words.specs.Words.{Id}
 use Rattle.op_core.proofs.FrontPairs.{length-pairs, name-at}
-use Rattle.op_log.proofs.Cursors.{drop_at}
+use Rattle.list_laws.proofs.Reading.{drop_at}
 use Rattle.doc_rules.proofs.OneAnswer.{name_order}
 use Rattle.doc_rules.proofs.WholeFront.{rising_from_ascending}
 use Rattle.sorted_lists.specs.Sorted.{IsPlace, IsGap}

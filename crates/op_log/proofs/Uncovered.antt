@@ -9,7 +9,7 @@ use Rattle.crdt_rules.specs.Log.{IsGood}
 use Rattle.crdt_rules.proofs.Fronts.{covers_at, entry_of-Contains}
 use Rattle.doc_rules.specs.Answers.{since}
 use Rattle.op_log.specs.Index.{StandsAt, AreLasts, IsLast, IsFirstFrom, CoversChain, CoversBefore}
-use Rattle.op_log.proofs.Cursors.{take_at}
+use Rattle.list_laws.proofs.Reading.{take_at}
 use Rattle.doc_rules.proofs.WholeFront.{entry_of-at, rising_from_ascending}
 use Rattle.op_log.proofs.Indexes.{rises_up_to}
 

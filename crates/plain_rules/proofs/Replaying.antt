@@ -13,6 +13,7 @@ use Rattle.crdt_rules.specs.Dependencies.{dependencies, is_logged}
 use Rattle.crdt_rules.specs.Context.{Context, empty, present, register, counter, order, step}
 use Rattle.crdt_rules.specs.Facts.{facts, context_at}
 use Rattle.crdt_rules.specs.Log.{replay, replay_after}
+use Rattle.std.proofs.Math.Bool.{and-false}
 use Rattle.crdt_rules.proofs.SameLaws.{id_decides}
 use Rattle.plain_rules.specs.Plain.{is_in, blank_context}
 use Rattle.plain_rules.proofs.Descending.{descend-made}
@@ -34,11 +35,7 @@ module _ (p : Id → Bool) (ops : List Op) (i : ℕ) (x : Op) (within : i < leng
 
 -- the ids of earlier operations that a front covers are the dependencies
 pub is_in-covered : (op : Op) (log : List Op) (i : Id) → is_in (filter (covers op.front) (map (λ o. o.id) log)) i ≡ dependencies op log i
-is_in-covered op [] i = none (covers op.front i)
-  where
-    none : (b : Bool) → false ≡ (b && false)
-    none true = refl
-    none false = refl
+is_in-covered op [] i = sym (and-false (covers op.front i))
 is_in-covered op (o ∷ log) i =
     by (covers op.front o.id) (id_eq o.id i) refl (λ h. ap (covers op.front) (id_decides.same o.id i h)) (is_in-covered op log i)
   where

@@ -22,6 +22,7 @@ use Rattle.presence_set.specs.Blocks.{pairs_in, has_pair, starts_by, blocks_by, 
 use Rattle.presence_set.specs.declared.lack.Lack.{Lack}
 use Rattle.presence_set.specs.declared.lack.Lack.TheVariants.{Nowhere, InFirst, InRest, Anywhere}
 use Rattle.presence_set.proofs.Ascending.{ids_ordered}
+use Rattle.presence_set.proofs.ByIdLaws.{length-uncovered}
 
 -- less than one that isn't greater
 less_le : (a b c : Id) → id_cmp a b ≡ Less → is_lt (id_cmp c b) ≡ false → id_cmp a c ≡ Less
@@ -198,14 +199,6 @@ module _ {X : Type 0} where
   filled-filled [] = tt
   filled-filled (([], n) ∷ blocks) = filled-filled blocks
   filled-filled ((e ∷ es, n) ∷ blocks) = (refl, filled-filled blocks)
-
-  length-uncovered : (front : List (List ℕ × ℕ)) (entries : List (Id × X)) → length (uncovered front entries) ≤ length entries
-  length-uncovered front [] = omega arith
-  length-uncovered front (e ∷ entries) = go (not (covers front e.0)) (length-uncovered front entries)
-    where
-      go : (b : Bool) → length (uncovered front entries) ≤ length entries → length (if b then e ∷ uncovered front entries else uncovered front entries) ≤ length (e ∷ entries)
-      go true h = omega (arith, h)
-      go false h = omega (arith, h)
 
   pub room-cleared : (front : List (List ℕ × ℕ)) (b : List (Id × X) × ℕ) → HasSpareRoom b → HasSpareRoom (uncovered front b.0, b.1)
   room-cleared front b room = omega (arith, room, length-uncovered front b.0)
@@ -414,9 +407,5 @@ module _ {X : Type 0} where
 
 -- where a list's length is zero nothing stands in it
 module _ {A : Type 0} where
-  pub nil_if : (xs : List A) → (length xs == 0) ≡ true → xs ≡ []
-  nil_if [] e = refl
-  nil_if (x ∷ xs) e = let never : (length (x ∷ xs) == 0) ≡ false = grind (arith, nat_tests) in absurd (true≢false (sym e ∙ never))
-
   pub nil_is : (xs : List A) → xs ≡ [] → (length xs == 0) ≡ true
   nil_is xs e = let none : (length {A = A} [] == 0) ≡ true = grind (arith, nat_tests) in ap (λ l. length l == 0) e ∙ none

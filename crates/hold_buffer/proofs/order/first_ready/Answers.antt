@@ -1,7 +1,7 @@
 use Rattle.std.proofs.Common.{◌≡◌, ◌==◌, ◌∙◌, ◌+◌, suc, subst, sym, ap, length, find, drop, arith}
 use Rattle.std.specs.Option.{option_map}
 use Rattle.std.proofs.lemmas.List.{drop_all}
-use Rattle.op_log.proofs.Cursors.{drop_at}
+use Rattle.list_laws.proofs.Reading.{drop_at}
 use Rattle.hold_buffer.specs.declared.ticket.Ticket.{Ticket}
 use Rattle.hold_buffer.proofs.Going.{find-here, find-later}
 use Rattle.hold_buffer.proofs.order.first_ready.Goals as goal

@@ -1,6 +1,6 @@
-use Rattle.std.proofs.Common.{List, ◌++◌, ◌∷◌, [], ap, ◌∙◌}
+use Rattle.std.proofs.Common.{List, ◌++◌, ◌∷◌, [], sym, ap, ◌∙◌}
 use Rattle.op_core.specs.Op.{Op}
-use Rattle.op_log.proofs.Firsts.{taken-more}
+use Rattle.list_laws.proofs.Reading.{take_read}
 use Rattle.op_log.proofs.copies.copies.Goals as goal
 
 pub loop-op-preserved : goal.loop-op-preserved
@@ -8,4 +8,4 @@ loop-op-preserved c =
     let op = c.op-item.result in
     c.in_ok-push_copy.ensures.ok
     ∙ ap (λ (l : List Op). l ++ op ∷ []) c.loop-op.invariant
-    ∙ taken-more c.args.operations.now c.loop-op.op-index op c.loop-op-test.true c.op-item.is
+    ∙ sym (take_read c.args.operations.now c.loop-op.op-index op c.loop-op-test.true c.op-item.is)

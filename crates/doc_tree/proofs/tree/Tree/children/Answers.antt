@@ -8,7 +8,8 @@ use Rattle.doc_nodes.specs.declared.node.NodeNumber.{NodeNumber}
 use Rattle.doc_nodes.specs.Nodes.{blank_node, node_of, node_at, child_of}
 use Rattle.doc_tree.specs.Nodes.{tree_facts, tree_number}
 use Rattle.doc_nodes.proofs.ChildrenLaws.{number_at-Contains}
-use Rattle.doc_nodes.proofs.Places.{node_within, same_node}
+use Rattle.crdt_rules.proofs.Tests.{same_found}
+use Rattle.doc_nodes.proofs.Places.{node_within}
 use Rattle.doc_tree.proofs.Below.{number-into, present_child}
 use Rattle.doc_tree.proofs.tree.Tree.children.Goals as goal
 
@@ -44,7 +45,7 @@ returns-in-Some-clause-map c = λ text i there.
     c.index.ensures
     ∙ get_or_default nodes c.in-Some.at.0 c.index.result.now blank_node (node_within nodes c.self.invariant.0 p k c.in-Some.at found) in
     let child = present_child nodes p k text i (subst (λ t. (tree_facts t).present (p ++ Map k ∷ []) (Text text) i ≡ true) (sym c.self.view_is) there) in
-    let same = same_node nodes (node_at nodes p k) child.0 c.in-Some.at child.2 found in
+    let same = same_found child.2 found in
     let at : child_of nodes c.in-Some.at (Text text) ≡ Some child.1 = subst (λ n. child_of nodes n (Text text) ≡ Some child.1) same child.3 in (
       child.1,
       subst (λ l. Contains l (Text text, child.1)) (sym (c.each.ensures.value ∙ ap (λ z. z.children) read))

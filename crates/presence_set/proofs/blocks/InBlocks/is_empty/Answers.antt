@@ -1,8 +1,9 @@
-use Rattle.std.proofs.Common.{◌≡◌, ◌++◌, ◌∙◌, [], length, ap, refl, sym, true≢false}
+use Rattle.std.proofs.Common.{◌≡◌, ◌++◌, ◌∙◌, [], length, ap, refl, sym, true≢false, eqb-true}
 use Rattle.std.specs.Prelude.{IsTrue, vec_len}
 use Rattle.std.specs.Bool.{◌==◌}
+use Rattle.std.proofs.lemmas.List.{nil_from_length}
 use Rattle.presence_set.specs.Blocks.{pairs_in}
-use Rattle.presence_set.proofs.BlockLaws.{pairs_in-nil, nil_if, nil_is}
+use Rattle.presence_set.proofs.BlockLaws.{pairs_in-nil, nil_is}
 use Rattle.presence_set.proofs.blocks.InBlocks.is_empty.Goals as goal
 
 pub returns-then-is_empty : goal.returns-then-is_empty
@@ -10,7 +11,7 @@ returns-then-is_empty g c =
     let first = c.self.inside.first.0 in
     let rest = c.self.inside.rest.items in
     let counted : (vec_len c.self.inside.rest == 0) ≡ (length rest == 0) = ap (λ n. n == 0) c.self.inside.rest.ok.0 in
-    let ends : IsTrue c.is_empty-then-is_empty.result → rest ≡ [] = λ yes. nil_if rest (sym counted ∙ sym c.is_empty-then-is_empty.ensures ∙ yes) in
+    let ends : IsTrue c.is_empty-then-is_empty.result → rest ≡ [] = λ yes. nil_from_length rest (eqb-true (length rest) 0 (sym counted ∙ sym c.is_empty-then-is_empty.ensures ∙ yes)) in
     let back : rest ≡ [] → IsTrue c.is_empty-then-is_empty.result = λ none. c.is_empty-then-is_empty.ensures ∙ counted ∙ nil_is rest none in
     rw (← c.self.view_is) (
       (λ yes. ap (λ l. l ++ pairs_in rest) (c.if-is_empty.ensures.0 refl) ∙ ap pairs_in (ends yes)),
