@@ -19,7 +19,8 @@ ghost use Rattle.doc_rules.specs.Role.{role_of, step_roles};
 ghost use Rattle.doc_tree.specs.Prepared.{AreReady, IsNewElement, IsReadyList, KnowsReference};
 
 use doc_nodes::{
-    Node, clear_under, clear_way, count, enter, find, keys, known_list, known_node, link, mark_way,
+    Node, clear_under, clear_way, count, element_in, enter, find, keys, known_list, known_node, link,
+    mark_way,
 };
 use json_scalar::{Scalar, Val};
 use lamport_id::Id;
@@ -65,16 +66,6 @@ pub fn role_for(val: &Val) -> Role
     }
 }
 
-/// The element that an insertion comes after.
-fn reference_in(key: &Key) -> Option<Id>
-    ensures { result ≡ reference key.now }
-{
-    match key {
-        Key::Element(id) => Some(*id),
-        _ => None,
-    }
-}
-
 /// Clears a place and what is below it, if it has a node.
 pub fn clear_at(nodes: &mut [Node], path: &[Tagged], key: &Key, front: &Front)
     requires tree { AreTree nodes.old }
@@ -115,7 +106,7 @@ pub fn insert_at(
     ensures backed { AreBacked nodes.new }
 {
     let at = known_list(nodes, path);
-    link(nodes, at, reference_in(after), id);
+    link(nodes, at, element_in(after), id);
     let key = Key::Element(*id);
     put_at(nodes, path, &key, front, id, role, scalar);
 }
