@@ -1,4 +1,5 @@
-use Rattle.std.proofs.Common.{◌+◌, List, ℕ, map, string_bytes, inl, inr, refl, Err, sym, ap, subst, ◌∙◌, arith}
+use Rattle.std.proofs.Common.{◌+◌, List, ℕ, length, map, string_bytes, inl, inr, refl, Err, sym, ap, subst, ◌∙◌, arith, eqb-true}
+use Rattle.std.proofs.lemmas.List.{nil_from_length}
 use Rattle.sqlite.specs.Held.{state}
 use Rattle.sqlite.specs.State.{HasCleanDisk}
 use Rattle.copy_schema.specs.Content.{Content, with_rows, rows_from}
@@ -6,7 +7,7 @@ use Rattle.copy_tables.specs.Statements.{RanAll, batch_of}
 use Rattle.copy_tables.specs.Steps.{IsOpenWith}
 use Rattle.copy_docs.specs.Docs.{op_text}
 use Rattle.log_copy.specs.Batch.{IsLeft}
-use Rattle.log_copy.proofs.SoundLemmas.{some_from, none_from, batch_rows, same_lengths, texts_writable}
+use Rattle.log_copy.proofs.SoundLemmas.{some_from, batch_rows, same_lengths, texts_writable}
 use Rattle.log_copy.proofs.BatchLemmas.{left_by, sends}
 use Rattle.log_copy.proofs.copy.try_batch.Goals as goal
 
@@ -19,7 +20,7 @@ returns-then-not-may_add g c = (
 pub returns-then-is_empty : goal.returns-then-is_empty
 returns-then-is_empty g c =
     let may = rw c.as_slice.ensures.value at (c.may_add.ensures.0 c.if-not-may_add.false) in
-    inl (record { same_conn = refl; same_docs = refl }, may, none_from c.args.entries.now (sym c.is_empty.ensures ∙ c.if-is_empty.true))
+    inl (record { same_conn = refl; same_docs = refl }, may, nil_from_length c.args.entries.now (eqb-true (length c.args.entries.now) 0 (sym c.is_empty.ensures ∙ c.if-is_empty.true)))
 
 pub overflow_cast-from : goal.overflow_cast-from
 overflow_cast-from g c =
