@@ -1,5 +1,5 @@
 -- Where a list of operations stops to be a good log.
-use Rattle.std.proofs.Common.{◌≡◌, ℕ, ◌<◌, zero, suc, List, [], ◌∷◌, ◌++◌, length, take, drop, get_or, true, false, Option, Some, None, Result, Ok, Err, if◌then◌else◌, sym, ap, subst, ◌∙◌, arith}
+use Rattle.std.proofs.Common.{◌≡◌, ℕ, ◌<◌, suc, List, ◌∷◌, ◌++◌, length, take, drop, get_or, true, false, Option, Some, None, Result, Ok, Err, if◌then◌else◌, sym, ap, subst, ◌∙◌, arith}
 use Rattle.std.specs.Prelude.{⊤, IfErr, IfSome}
 use Rattle.std.proofs.lemmas.List.{length-take}
 use Rattle.doc_words.specs.Words.{Refusal, Op}
@@ -20,12 +20,6 @@ misfit_here ops log place op cause is within read good against = record {
   place_is = ap length is ∙ (let long = length-take place ops in omega (arith, long, within));
   cause_is = against;
 }
-
--- the first operations, and the next
-pub taken_next : (ops : List Op) (i : ℕ) (op : Op) → i < length ops → op ≡ get_or ops i op → take i ops ++ op ∷ [] ≡ take (suc i) ops
-taken_next [] i op within read = absurd (omega arith)
-taken_next (x ∷ ops) zero op within read = ap (λ z. z ∷ []) read
-taken_next (x ∷ ops) (suc i) op within read = ap (λ l. x ∷ l) (taken_next ops i op (omega arith) read)
 
 pub conflict_here : (op : Op) (log : List Op) → is_logged log op.id ≡ true → misfit_of op log ≡ Err IdConflict
 conflict_here op log h = ap (λ b. if◌then◌else◌ {A = Result ⊤ Refusal} b (Err IdConflict) (cause_of op log)) h

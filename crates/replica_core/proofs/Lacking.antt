@@ -1,15 +1,20 @@
 -- Where a replica tells want of memory.
-use Rattle.std.proofs.Common.{◌≡◌, ◌≢◌, inl, inr, Bool, true, false, sym, ◌∙◌}
-use Rattle.doc_words.specs.Words.{NoMemory, Op}
+use Rattle.std.proofs.Common.{◌≡◌, ◌≢◌, inl, inr, Bool, true, false, Ok, sym, ◌∙◌}
+use Rattle.doc_words.specs.Words.{UnlessMemory, NoMemory, Op}
 use Rattle.doc_words.specs.declared.ask.Command.TheVariants as command
 use Rattle.doc_words.specs.declared.reply.Reply.{Reply}
 use Rattle.doc_words.specs.declared.reply.Reply.TheVariants as reply
 use Rattle.doc_rules.specs.Cause.{cause_of, first_fit_cause}
 use Rattle.doc_rules.specs.Events.{Due, told, held, logged, Event, due_by_cause, delivered_rows, due_delivered}
 use Rattle.doc_rules.specs.Replica.{Replica}
+use Rattle.doc_rules.proofs.Resolved.{ok_same, ok≢err}
 use Rattle.doc_rules.proofs.Tables.{by_rows}
 use Rattle.replica_core.specs.Memory.{NeedsMemory, MayLack}
 use Rattle.replica_core.specs.Outcomes.{Meets}
+
+-- what is answered was due
+pub answered : {X : Type 0} {x y : X} → UnlessMemory {A = X} (Ok x) (Ok y) → x ≡ y
+answered h = ok_same (h (λ e. ok≢err (sym e)))
 
 pub event_from : (r : Replica) (op : Op) (answer : Reply) (s : Replica) → Meets r (due_delivered r op) answer s → Event r (command.Deliver op) answer s
 event_from r op answer s (inl does) = inl does

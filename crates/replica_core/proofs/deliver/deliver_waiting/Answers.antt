@@ -1,9 +1,9 @@
 use Rattle.std.proofs.Common.{◌≤◌, ◌<◌, length, inl, inr, refl, arith}
 use Rattle.json_scalar.specs.declared.refusal.Refusal.TheVariants.{NoMemory}
 use Rattle.doc_words.specs.declared.reply.Reply.TheVariants as reply
-use Rattle.doc_rules.proofs.Resolved.{ok_same}
 use Rattle.replica_core.specs.Whole.{replica_of}
 use Rattle.replica_core.proofs.Meeting.{meets_as, waiting_full, waiting_held}
+use Rattle.replica_core.proofs.Lacking.{answered}
 use Rattle.replica_core.proofs.deliver.deliver_waiting.Goals as goal
 
 pub returns-then-len-ge-MAX_HELD-clause-met : goal.returns-then-len-ge-MAX_HELD-clause-met
@@ -16,7 +16,7 @@ pub hold-requires-clause-room : goal.hold-requires-clause-room
 hold-requires-clause-room c = omega (arith, c.len.ensures.len, c.if-len-ge-MAX_HELD.false)
 
 pub hold-requires-clause-missed : goal.hold-requires-clause-missed
-hold-requires-clause-missed c = ok_same (c.in-Ok.ensures (λ memory. cc))
+hold-requires-clause-missed c = answered c.in-Ok.ensures
 
 pub returns-in-Ok-clause-met : goal.returns-in-Ok-clause-met
 returns-in-Ok-clause-met c name =

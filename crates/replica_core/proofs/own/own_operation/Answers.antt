@@ -6,11 +6,11 @@ use Rattle.op_core.specs.Shape.{shape_of}
 use Rattle.json_scalar.specs.Refusal.{and_then}
 use Rattle.crdt_rules.specs.Pull.{front_of}
 use Rattle.doc_rules.specs.Replica.{own_op}
-use Rattle.doc_rules.proofs.Resolved.{ok_same}
 use Rattle.doc_rules.proofs.WholeFront.{max_counter_below}
 use Rattle.replica_core.specs.Whole.{replica_of}
 use Rattle.hold_buffer.proofs.Waiting.{lacks}
 use Rattle.replica_core.proofs.Owning.{shaped_ok}
+use Rattle.replica_core.proofs.Lacking.{answered}
 use Rattle.replica_core.proofs.own.own_operation.Goals as goal
 
 pub returns-in_err-front : goal.returns-in_err-front
@@ -25,13 +25,13 @@ few_more op log h = omega arith
 
 pub next_id-id-requires : goal.next_id-id-requires
 next_id-id-requires c =
-    let front : c.in_ok-front.front ≡ front_of c.args.log.now.operations = ok_same (c.in_ok-front.ensures (λ e. cc)) in
+    let front : c.in_ok-front.front ≡ front_of c.args.log.now.operations = answered c.in_ok-front.ensures in
     let few : length c.args.log.now.operations + 1 ≤ 100000 = few_more (own_op (replica_of c.args.name c.args.log.now.operations []) c.args.cursor c.args.mutation) c.args.log.now.operations c.requires.room.operations in
     omega (arith, ap max_counter front, max_counter_below c.args.log.now.operations c.keeps_good.ensures, few)
 
 pub returns : goal.returns
 returns c other =
-    let front : c.in_ok-front.front ≡ front_of c.args.log.now.operations = ok_same (c.in_ok-front.ensures (λ e. cc)) in
+    let front : c.in_ok-front.front ≡ front_of c.args.log.now.operations = answered c.in_ok-front.ensures in
     let own = own_op (replica_of c.args.name c.args.log.now.operations []) c.args.cursor c.args.mutation in
     let counter = c.next_id-id.ensures.0 ∙ ap (λ f. max_counter f + 1) front in
     c.shaped.ensures

@@ -1,16 +1,16 @@
-use Rattle.std.proofs.Common.{◌≡◌, ◌+◌, suc, List, [], ◌∷◌, ◌++◌, Err, ap, ◌∙◌, arith}
+use Rattle.std.proofs.Common.{◌≡◌, List, [], ◌∷◌, ◌++◌, Err, ap, sym, ◌∙◌}
 use Rattle.std.proofs.lemmas.List.{take_all}
 use Rattle.op_core.specs.Op.{Op}
 use Rattle.doc_rules.specs.Cause.{misfit_of}
-use Rattle.replica_core.proofs.FirstMisfits.{misfit_here, cause_told, taken_next}
+use Rattle.list_laws.proofs.Reading.{take_read}
+use Rattle.replica_core.proofs.FirstMisfits.{misfit_here, cause_told}
 use Rattle.replica_core.proofs.restore.log_all.Goals as goal
 
 pub loop-place-preserved : goal.loop-place-preserved
 loop-place-preserved c =
-    let op = c.index-operations-place.result in
-    let one : c.loop-place.place + 1 ≡ suc c.loop-place.place = omega arith in (
+    let op = c.index-operations-place.result in (
       c.in-Ok.ensures.ok ∙ ap (λ (l : List Op). l ++ op ∷ []) c.loop-place.invariant.0
-          ∙ rw one (taken_next c.args.operations.now c.loop-place.place op c.loop-place-test.true c.index-operations-place.is),
+          ∙ sym (take_read c.args.operations.now c.loop-place.place op c.loop-place-test.true c.index-operations-place.is),
       c.log_next.ensures.tells,
     )
 
