@@ -1,0 +1,59 @@
+-- What an outcome makes of a session, and what the sink keeps back, from what was done for it.
+use Rattle.std.proofs.Common.{◌≡◌, inl, inr, ◌||◌, Bool, true, false, ℕ, List, [], Option, Some, None, if◌then◌else◌, refl, sym, ap, ◌∙◌, subst}
+use Rattle.std.specs.Io.KnownBytes.{Appends}
+use Rattle.json_scalar.specs.declared.refusal.Refusal.TheVariants.{LineTooLong}
+use Rattle.line_feed.specs.Cut.{AppendsCut}
+use Rattle.line_feed.specs.declared.feed.Outcome.{Outcome}
+use Rattle.line_feed.specs.declared.feed.Outcome.TheVariants as outcome
+use Rattle.line_proto.specs.Replies.{line_told}
+use Rattle.line_proto.specs.declared.line_reply.LineReply.{LineReply}
+use Rattle.session_rules.specs.Session.{Access, Session, MayAnswerLine, is_bye, refused}
+use Rattle.session_rules.specs.declared.Ending.{Ending}
+use Rattle.session_rules.specs.declared.Ending.TheVariants.{Quit, End, TooLong, ReadFault, WriteFault}
+use Rattle.session_core.specs.Ended.{KeepsBack, Turns, WritesLine}
+
+module _ {D : Type 0} (a : Access D) (given : Outcome) (line : List ℕ) (s : Session D) (held : Option (List ℕ)) where
+  pub line_turns : (t : Session D) (holds : Option (List ℕ)) (bye last : Bool) → given ≡ outcome.Line → bye ≡ last
+      → (out : LineReply) × (bye ≡ is_bye out) × MayAnswerLine a s line out t × Appends held holds (line_told out)
+      → Turns a given line s held (if last then Some Quit else None) t holds
+  line_turns t holds bye last is tells (out, ends, may, appended) =
+      subst (λ (o : Outcome). Turns a o line s held (if◌then◌else◌ {A = Option Ending} last (Some Quit) None) t holds) (sym is)
+      (out, may, inl (appended, ap (λ (b : Bool). if◌then◌else◌ {A = Option Ending} b (Some Quit) None) (sym tells ∙ ends)))
+
+  pub cut_turns : (t : Session D) (holds : Option (List ℕ)) → given ≡ outcome.Line
+      → (out : LineReply) × MayAnswerLine a s line out t × AppendsCut held holds (line_told out)
+      → Turns a given line s held (Some WriteFault) t holds
+  cut_turns t holds is (out, may, cut) = subst (λ (o : Outcome). Turns a o line s held (Some WriteFault) t holds) (sym is) (out, may, inr (cut, refl))
+
+  pub long_turns : (holds : Option (List ℕ)) (why : Option Ending) → given ≡ outcome.TooLong → WritesLine (refused LineTooLong) held holds (Some TooLong) why
+      → Turns a given line s held why s holds
+  long_turns holds why is writes = subst (λ (o : Outcome). Turns a o line s held why s holds) (sym is) (refl, writes)
+
+  pub end_turns : given ≡ outcome.End → Turns a given line s held (Some End) s held
+  end_turns is = subst (λ (o : Outcome). Turns a o line s held (Some End) s held) (sym is) (refl, refl, refl)
+
+  pub fault_turns : given ≡ outcome.Fault → Turns a given line s held (Some ReadFault) s held
+  fault_turns is = subst (λ (o : Outcome). Turns a o line s held (Some ReadFault) s held) (sym is) (refl, refl, refl)
+
+-- ---- what is kept back
+
+or_true : (b : Bool) → (b || true) ≡ true
+or_true true = refl
+or_true false = refl
+
+module _ (given : Outcome) (waits : Bool) (kept keeps : List ℕ) where
+  pub quit_keeps : (bye : Bool) → given ≡ outcome.Line → bye ≡ true → ((waits || bye) ≡ true → keeps ≡ []) → KeepsBack given waits kept (Some Quit) keeps
+  quit_keeps bye is ends empty =
+      subst (λ (o : Outcome). KeepsBack o waits kept (Some Quit) keeps) (sym is) (λ well. empty (ap (λ (b : Bool). waits || b) ends ∙ or_true waits))
+
+  pub goes_on_keeps : (bye : Bool) → given ≡ outcome.Line → ((waits || bye) ≡ true → keeps ≡ []) → KeepsBack given waits kept None keeps
+  goes_on_keeps bye is empty = subst (λ (o : Outcome). KeepsBack o waits kept None keeps) (sym is) (λ w. empty (ap (λ (b : Bool). b || bye) w))
+
+  pub cut_keeps : given ≡ outcome.Line → KeepsBack given waits kept (Some WriteFault) keeps
+  cut_keeps is = subst (λ (o : Outcome). KeepsBack o waits kept (Some WriteFault) keeps) (sym is) (λ well. absurd (well refl))
+
+  pub long_cut_keeps : given ≡ outcome.TooLong → KeepsBack given waits kept (Some WriteFault) keeps
+  long_cut_keeps is = subst (λ (o : Outcome). KeepsBack o waits kept (Some WriteFault) keeps) (sym is) (λ well. absurd (well refl))
+
+  pub long_keeps : given ≡ outcome.TooLong → keeps ≡ [] → KeepsBack given waits kept (Some TooLong) keeps
+  long_keeps is empty = subst (λ (o : Outcome). KeepsBack o waits kept (Some TooLong) keeps) (sym is) (λ well. empty)
