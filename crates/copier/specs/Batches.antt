@@ -1,4 +1,4 @@
--- What is copied.
+-- What is copied: a copier writes what sessions log into the copy, in batches, while they run.
 use Rattle.std.specs.Prelude.{◌≡◌, ◌≢◌, ℕ, Bool, true, false, List, [], Contains, length, Option, None}
 use Rattle.doc_words.specs.Words.{Op}
 use Rattle.copy_docs.specs.Docs.{Doc, IsBatch, add_batch, log_of}

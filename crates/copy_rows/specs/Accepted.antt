@@ -11,7 +11,7 @@ use Rattle.copy_docs.specs.Docs.{Doc, AreInOrder, AreGood, op_text, log_of, add_
 use Rattle.copy_rows.specs.Rows.{rows_of}
 use Rattle.copy_rows.specs.declared.parse.TheConstants.{LAST_EPOCH}
 
--- its text is UTF-8, and the old format has no additions
+-- its text is UTF-8, and in format 1, which older programs wrote, no operation adds to a counter
 abbrev pub IsWritable : ℕ → Op → Type 0
 IsWritable format op = IsUtf8 (op_text op) × (format ≡ 1 → is_add op.mutation ≡ false)
 

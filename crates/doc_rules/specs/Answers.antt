@@ -46,7 +46,7 @@ ReadsAt r place reads answer =
 abbrev pub since : List (List ℕ × ℕ) → List Op → List Op
 since front log = filter (λ o. not (covers front o.id)) log
 
--- how many of the entries are the seat's, the replica does not know
+-- mine is how many of the logged operations are the asking seat's, which the replica doesn't know
 abbrev pub Reads : Replica → ℕ → Query → Reply → Type 0
 Reads r mine (query.Resolve place) answer = ReadsAt r place (λ c a. a ≡ reply.Resolved c) answer
 Reads r mine (query.Look look place) answer = ReadsAt r place (LooksHere (replica_facts r) (value_put_at r.log) look) answer

@@ -25,7 +25,7 @@ abbrev pub stands_in : Facts → List Tagged → Key → Bool
 stands_in f p (Element i) = list_any (id_eq i) (f.order p)
 stands_in f p _ = true
 
--- each key that is within its limit stands where it is named; p is the way so far
+-- each key is within its limit and stands where it is named; p is the way so far
 abbrev pub way_stands : Facts → List Tagged → List Tagged → Key → Bool
 way_stands f p [] k = is_short k && stands_in f p k
 way_stands f p (t ∷ path) k = is_short (key_of t) && stands_in f p (key_of t) && way_stands f (p ++ t ∷ []) path k

@@ -9,7 +9,7 @@ use Rattle.doc_words.specs.declared.reply.Reply.TheVariants.{Refused}
 use Rattle.doc_rules.specs.Document.{Document, Acts, Answers, count_of, count_in, logged_by}
 
 pub record Seat : Type 0 where
-  -- its document's place on the shelf, and its own among the document's seats
+  -- its document's number among those of the server, and its own among the document's seats
   pub number : ℕ
   pub seat : ℕ
   -- the ids that were logged for it, as it was told
@@ -30,7 +30,7 @@ operation_ids ops = map (λ op. op.id) ops
 abbrev pub IsSeatOf : ℕ → Document → Seat → Type 0
 IsSeatOf number d s = (s.number ≡ number) × (0 < s.seat) × (s.seat ≤ d.opened)
 
--- the answer to the call that is counted from s to t
+-- a is the answer to the call that took the seat from s to t
 pub record IsAnswerTo (s t : Seat) (a : Answer) : Type 0 where
   pub same : (t.number ≡ s.number) × (t.seat ≡ s.seat)
   pub calls : t.calls ≡ s.calls + 1
@@ -61,7 +61,7 @@ pub record TurnsAway (d : Document) (s : Seat) (a : Answer) (e : Document) (t : 
 
 -- ---- at the end
 
--- the end of a seat that was told just its operations, in order
+-- a seat's end is the seat as its session gave it back; this one was told just its operations, in order
 abbrev pub IsEndOf : ℕ → Document → ℕ → Seat → Type 0
 IsEndOf number d seat s = (s.number ≡ number) × (s.seat ≡ seat) × (s.told ≡ operation_ids (logged_by seat d))
 

@@ -1,4 +1,4 @@
--- A whole element as it is shown.
+-- All that stands at a place, as it is shown.
 use Rattle.std.specs.Prelude.{◌≡◌, ◌⊎◌, ℕ, ℤ, List, [], ◌∷◌, ◌++◌, map, codes, true, Option, Some, None}
 use Rattle.std.specs.Fmt.{signed_decimal}
 use Rattle.serde_json.specs.Data.{Data, string, array, Items, no_items, item}
@@ -12,8 +12,8 @@ use Rattle.crdt_rules.specs.Facts.{Facts}
 use Rattle.doc_rules.specs.Views.{Values, into_map, into_list, IsPresent, AreKeys, AreElements, AreEntries, AreTerms, total}
 
 mutual
-  -- an element: its map and its list, where they stand there, the entries of its register, and the total of its counter,
-  -- where that has an entry
+  -- what is shown: the map and the list of the place, where they stand there, the entries of its register, and the total of its
+  -- counter, where that has an entry
   pub data Shown : Type 0 where
     shown : MapShown → ListShown → List (Id × Scalar) → Option ℤ → Shown
 

@@ -5,6 +5,6 @@ use Rattle.std.specs.Prelude.{ℕ}
 abbrev pub longest_name : ℕ
 longest_name = 32
 
--- counters go from 1 to this
+-- the number of an id, its counter, goes from 1 to this
 abbrev pub greatest_counter : ℕ
 greatest_counter = 100000
