@@ -1,11 +1,14 @@
 -- What a document begins with stays its beginning.
-use Rattle.std.proofs.Common.{◌≡◌, ◌≢◌, ℕ, ◌-◌, ◌<◌, List, [], ◌++◌, length, replicate, append_assoc, append-nil, refl, sym, ap, ◌∙◌, arith}
+use Rattle.std.proofs.Common.{◌≡◌, ◌≢◌, ℕ, ◌+◌, ◌-◌, ◌<◌, List, [], ◌++◌, length, replicate, append_assoc, append-nil, refl, sym, ap, ◌∙◌, arith}
+use Rattle.std.specs.Prelude.{sum}
 use Rattle.op_core.specs.Op.{Op}
 use Rattle.doc_words.specs.declared.ask.Command.{Command}
 use Rattle.doc_words.specs.declared.reply.Reply.{Reply}
 use Rattle.doc_rules.specs.Replica.{Replica}
 use Rattle.doc_rules.specs.Events.{Event}
 use Rattle.doc_rules.specs.Document.{Document, IsSound, by, count_of, for_seat}
+use Rattle.doc_rules.specs.Seats.{Seat, AreEndsOf, told_counts}
+use Rattle.doc_rules.proofs.Gathered.{ends_add_up}
 use Rattle.doc_rules.proofs.Shares.{by-replicate_same}
 use Rattle.doc_rules.proofs.Shared.{acts_gives, share_is}
 use Rattle.locked_doc.specs.Locked.{Begins, document_of}
@@ -31,3 +34,8 @@ begins_after first d seat command reply s seats_of seats opened copied each some
 -- so many of its operations are of seat 0
 pub share_of_first : (first : List Op) (d : Document) → IsSound d → Begins first d → count_of 0 d.seats_of ≡ length first
 share_of_first first d sound begun = sym (share_is d 0 sound) ∙ ap length begun.2
+
+-- what the ends were told, and what the document began with, is all that is logged
+pub told_and_begun : (first : List Op) (number : ℕ) (d : Document) (ends : List Seat) → IsSound d × Begins first d → AreEndsOf number d ends
+    → sum (told_counts ends) + length first ≡ length d.replica.log
+told_and_begun first number d ends kept are = omega (arith, ends_add_up number d ends kept.0 are, share_of_first first d kept.0 kept.1)

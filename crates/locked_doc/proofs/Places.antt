@@ -8,7 +8,7 @@ use Rattle.doc_words.specs.declared.reply.Reply.{Reply}
 use Rattle.list_laws.specs.Walk.{SameMembers}
 use Rattle.list_laws.proofs.Members.{Contains-nil, Contains-here, Contains-there, Contains-cases}
 use Rattle.crdt_rules.specs.Effect.{value_put}
-use Rattle.crdt_rules.specs.Facts.{Facts, facts, ends_here}
+use Rattle.crdt_rules.specs.Facts.{facts, ends_here}
 use Rattle.crdt_rules.specs.Log.{IsGood, replay}
 use Rattle.crdt_rules.proofs.Readings.{here_from}
 use Rattle.crdt_rules.proofs.Orders as Laws
