@@ -5,10 +5,6 @@ use Rattle.copier.specs.Batches.{AreAdded, AddsBatches}
 use Rattle.served_copy.specs.Named.{IsRaised}
 use Rattle.served_copy.specs.Totals.{ServesSessions}
 
--- a seat's number is at most this
-abbrev pub greatest_seat : ℕ
-greatest_seat = 65535
-
 -- The server took a name of a greater epoch of the copy, and so many connections were served over documents of these names, each restored
 -- from the copy as it was then; and the copy has what it had, and batches that fit behind it.
 pub record ServesCopied {S : Type 0} (name : List ℕ) (names : List (List ℕ)) (count : ℕ) (old new : Kept S) (held holds : Option (List ℕ)) : Type 0 where

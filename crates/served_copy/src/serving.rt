@@ -1,12 +1,13 @@
 //! Serving from a copy.
 ghost use Rattle.std.specs.Prelude.{◌≡◌, ◌⊎◌, ◌≤◌, List, Option, None, false, length, map, IfSome, min, vec_len};
 ghost use Rattle.doc_rules.specs.Seats as seats;
+ghost use Rattle.locked_doc.specs.Books.{most_seats};
 ghost use Rattle.doc_ledger.specs.Numbers.{greatest_number};
 ghost use Rattle.server_core.specs.Attended.{AreAttended};
 ghost use Rattle.server_core.specs.Sums.{AreTotalsFrom};
 ghost use Rattle.copier.specs.Batches.{AddsBatches, HasCopied};
 ghost use Rattle.served_copy.specs.Restored.{entries_at};
-ghost use Rattle.served_copy.specs.Served.{KeepsRows, ServesCopied, greatest_seat};
+ghost use Rattle.served_copy.specs.Served.{KeepsRows, ServesCopied};
 ghost use Rattle.served_copy.specs.Totals.{ServesSessions};
 
 use crate::naming::raise;
@@ -31,7 +32,7 @@ use std::time::Clock;
 
 /// How many seats a document has for so many sessions: one for each, as far as there are numbers for seats.
 fn seats_for(sessions: usize) -> u16
-    ensures { result ≡ min sessions greatest_seat }
+    ensures { result ≡ min sessions most_seats }
 {
     sessions.min(usize::from(u16::MAX)) as u16
 }
