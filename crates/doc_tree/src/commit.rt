@@ -19,8 +19,8 @@ ghost use Rattle.doc_rules.specs.Role.{role_of, step_roles};
 ghost use Rattle.doc_tree.specs.Prepared.{AreReady, IsNewElement, IsReadyList, KnowsReference};
 
 use doc_nodes::{
-    Node, clear_under, clear_way, count, element_in, enter, find, keys, known_list, known_node, link,
-    mark_way,
+    Node, clear_under, clear_way, count, element_in, enter, find, keys, known_list, known_node,
+    link, mark_way,
 };
 use json_scalar::{Scalar, Val};
 use lamport_id::Id;
