@@ -12,7 +12,7 @@ use clap::ArgMatches;
 use clap::error::ErrorKind;
 use copy_files::open_copy;
 use log::Log;
-use log_copy::LogCopy;
+use log_copy::{Fault, LogCopy};
 use run_core::is_good;
 use served_copy::{serve_over, tell_fault};
 use sqlite::Alter;
@@ -86,6 +86,47 @@ fn serve_at<
     status
 }
 
+/// Serves from a copy, if it could be opened, and lets it go: all over any store, since each such step costs its proof much at the
+/// store of a file.
+fn serve_opened<
+    R: Net<Listener = TcpListener, Stream = TcpStream>
+        + Threads
+        + Wait
+        + Eprint
+        + Sync
+        + Log
+        + Clock,
+    S: Alter + Drop,
+    W: io::Write,
+>(
+    rt: &R,
+    alloc: Global,
+    name: &str,
+    documents: &[&str],
+    address: &str,
+    sessions: u16,
+    opened: Result<LogCopy<S>, Fault>,
+    out: &mut W,
+) -> u8
+    requires few { length documents.now ≤ greatest_number }
+    ensures status { result ≤ 1 }
+    ensures served { result ≡ 0 → ServesAt (map (λ s. s.now) documents.now) sessions (W.contents out.old) (W.contents out.new) }
+{
+    match opened {
+        Ok(copy) => {
+            let mut copy = copy;
+            serve_at(
+                rt, alloc, name, documents, address, sessions, &mut copy, out,
+            )
+        }
+        Err(fault) => {
+            // Of a fault of the file standard error was told.
+            tell_fault(fault, out);
+            1
+        }
+    }
+}
+
 /// Opens the file, or makes it, and serves from it.
 fn serve_file<
     R: Net<Listener = TcpListener, Stream = TcpStream>
@@ -111,19 +152,8 @@ fn serve_file<
     ensures status { result ≤ 1 }
     ensures served { result ≡ 0 → ServesAt (map (λ s. s.now) documents.now) sessions (W.contents out.old) (W.contents out.new) }
 {
-    match open_copy(host, file) {
-        Ok(copy) => {
-            let mut copy = copy;
-            serve_at(
-                rt, alloc, name, documents, address, sessions, &mut copy, out,
-            )
-        }
-        Err(fault) => {
-            // Of a fault of the file standard error was told.
-            tell_fault(fault, out);
-            1
-        }
-    }
+    let opened = open_copy(host, file);
+    serve_opened(rt, alloc, name, documents, address, sessions, opened, out)
 }
 
 /// Serves what these texts ask for, and gives the program's status: 2 exactly where a name is bad, there are too many documents, or
