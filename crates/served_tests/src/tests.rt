@@ -1,8 +1,11 @@
 //! Servers over a copy: what they serve and copy, and what the next one starts from.
 mod command_lines;
+mod deeds;
 mod faults;
+mod files;
 mod notes;
 mod serving;
 mod starts;
 mod stops;
+mod told;
 mod watched;

@@ -3,8 +3,8 @@ ghost use Rattle.std.specs.Prelude.{◌≡◌, ◌≤◌, length, map};
 ghost use Rattle.doc_ledger.specs.Numbers.{greatest_number};
 ghost use Rattle.served_copy.specs.Restored.{entries_at};
 
-use super::serving::{THREE, empty, serve};
-use super::stops::copy_that_stops;
+use super::deeds::{Case, Deed, adopted, all_in_memory};
+use super::serving::{Start, THREE_WHOLE, started};
 use copier::{Copier, Watch};
 use doc_ledger::Ledger;
 use lamport_id::ReplicaName;
@@ -13,12 +13,11 @@ use log_copy::{Fault, LogCopy};
 use served_copy::{restored_stock, shelve};
 use server_core::{Library, Side};
 use share_ledger::{Blank, Marker};
-use sqlite::Alter;
+use sqlite::{Alter, Connection, MemStore};
 use std::alloc::{AllocError, Global};
 use std::marker::Brand;
 use std::process::Abort;
 use std::sync::{Mutex, Wait};
-use std::test::*;
 use std::thread::Threads;
 use std::time::Clock;
 
@@ -36,13 +35,22 @@ impl<R: Wait> Watch for Counting<'_, R> {
     }
 }
 
-/// The document d with the operations that a server logged, none of which stands in another copy.
-fn with_three<R: Threads + Wait + Sync + Log + Clock>(
+static LOGS_THREE: Start<'static> = Start {
+    server: "srv",
+    sessions: &[THREE_WHOLE],
+    status: 0,
+    totals: b"[\"total\",\"d\",3,3,3]\n",
+    replies: None,
+};
+
+/// A copy with the three operations of the document d that a server logged, none of which stands in another copy.
+fn with_three<R: Threads + Wait + Abort + Sync + Log + Clock>(
     rt: &R,
     alloc: Global,
-) -> Result<LogCopy<sqlite::MemStore>, AllocError> {
-    let mut copy = empty(alloc)?;
-    let _served = serve(rt, alloc, "srv", &["d"], &[THREE], &mut copy)?;
+) -> Result<LogCopy<MemStore>, AllocError> {
+    let mut copy = adopted(alloc, Connection::open_in_memory(alloc)?)?;
+    let logs = &LOGS_THREE;
+    started(rt, alloc, "three operations", &["d"], logs, &mut copy)?;
     Ok(copy)
 }
 
@@ -103,39 +111,25 @@ fn told_beside<M: Marker, R: Wait, F: Alter, S: Alter>(
     Ok(told::<M, R, S>(rt, &library, sessions, copy))
 }
 
-// To adopt new files takes 20 calls, and the first batch ten or so more.
-const STOPS_IN_THE_FIRST_BATCH: u64 = 24;
-
-#[test]
-fn fault_is_told_while_a_session_runs(rt: HostRuntime) -> Result<(), Fail> {
-    let full = with_three(&rt, rt.alloc())?;
-    let mut copy = copy_that_stops(rt.alloc(), STOPS_IN_THE_FIRST_BATCH)?;
-    let times = told_beside::<Brand, _, _, _>(
-        &rt,
-        rt.alloc(),
-        Blank::new(),
-        &full,
-        &["d"],
-        1,
-        &mut copy,
-    )?;
-    assert_eq!(rt; times, 1);
-    Ok(())
+/// Copies a document with three operations to the copy beside so many sessions, none of which ends, and gives how often the watch was
+/// told of a fault.
+pub fn faults_told<R: Threads + Wait + Abort + Sync + Log + Clock, S: Alter>(
+    rt: &R,
+    alloc: Global,
+    sessions: u64,
+    copy: &mut LogCopy<S>,
+) -> Result<u32, AllocError> {
+    let full = with_three(rt, alloc)?;
+    told_beside::<Brand, _, _, _>(rt, alloc, Blank::new(), &full, &["d"], sessions, copy)
 }
 
+static NO_FAULT: [Case<'static>; 1] = [Case {
+    name: "nothing_is_told_without_a_fault",
+    documents: &["d"],
+    deeds: &[Deed::Copies(0, 0)],
+}];
+
 #[test]
-fn nothing_is_told_without_a_fault(rt: HostRuntime) -> Result<(), Fail> {
-    let full = with_three(&rt, rt.alloc())?;
-    let mut copy = empty(rt.alloc())?;
-    let times = told_beside::<Brand, _, _, _>(
-        &rt,
-        rt.alloc(),
-        Blank::new(),
-        &full,
-        &["d"],
-        0,
-        &mut copy,
-    )?;
-    assert_eq!(rt; times, 0);
-    Ok(())
+fn no_fault(rt: HostRuntime) {
+    all_in_memory(&rt, rt.alloc(), &NO_FAULT);
 }

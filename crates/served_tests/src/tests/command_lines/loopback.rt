@@ -1,9 +1,9 @@
 //! Sessions over loopback, with both ends in one process, from a copy in memory.
-use super::holds;
+use super::super::deeds::adopted;
+use super::super::told::{holds, is_told};
 use commands::serve_on;
 use log::Log;
-use log_copy::LogCopy;
-use sqlite::{Connection, MemStore};
+use sqlite::Connection;
 use std::alloc::{AllocError, Global};
 use std::io;
 use std::io::Write;
@@ -13,15 +13,6 @@ use std::sync::Wait;
 use std::test::Fail;
 use std::thread::Threads;
 use std::time::Clock;
-
-/// An empty copy.
-fn empty(alloc: Global) -> Result<LogCopy<MemStore>, AllocError> {
-    let conn = Connection::open_in_memory(alloc)?;
-    match LogCopy::adopt(alloc, conn) {
-        Ok(copy) => Ok(copy),
-        Err(_) => Err(AllocError),
-    }
-}
 
 const THREE: &[u8] = br#"["open","d"]
 ["assign","d",[0,"a"],1]
@@ -109,7 +100,7 @@ fn serve<R: Threads + Wait + Sync + Log + Clock>(
     if documents.len() > 16 {
         return Ok((2, out));
     }
-    let mut copy = empty(alloc)?;
+    let mut copy = adopted(alloc, Connection::open_in_memory(alloc)?)?;
     let status = serve_on(
         rt, alloc, "srv", documents, listener, sessions, &mut copy, &mut out,
     );
@@ -134,7 +125,7 @@ fn served<R: Net<Listener = TcpListener, Stream = TcpStream> + Threads + Wait + 
 }
 
 /// A session of so many assignments was told of its seat, of each of them, and at the end this. The counters are not its own alone.
-fn is_told<R: Abort>(rt: &R, replies: &str, done: usize, last: &str) {
+fn is_told_all<R: Abort>(rt: &R, replies: &str, done: usize, last: &str) {
     let mut lines = replies.lines();
     let opened = lines.next().unwrap_or("");
     holds(rt, opened.starts_with("[\"opened\","), opened);
@@ -143,8 +134,15 @@ fn is_told<R: Abort>(rt: &R, replies: &str, done: usize, last: &str) {
         let is = line.starts_with("[\"applied\",1,0,[") && line.ends_with(",\"srv-1\"]]");
         holds(rt, is, line);
     }
-    assert_eq!(rt; lines.next(), Some(last));
-    assert_eq!(rt; lines.next(), None);
+    let line = lines.next().unwrap_or("").as_bytes();
+    is_told(
+        rt,
+        "a session over loopback",
+        "the last line",
+        line,
+        last.as_bytes(),
+    );
+    holds(rt, lines.next().is_none(), "nothing more is told");
 }
 
 /// Which of two sessions has which of the two seats is open.
@@ -156,25 +154,46 @@ fn have_both_seats(first: &str, second: &str) -> bool {
     }
 }
 
+/// What two sessions at one document were told, three assignments and two.
+fn two_are_told<R: Abort>(rt: &R, told: &Told) {
+    holds(rt, told.has(b"[\"total\",\"d\",5,5,5]\n"), "the totals");
+    is_told_all(rt, told.reply(0), 3, "[\"values\",[3]]");
+    is_told_all(rt, told.reply(1), 2, "[\"values\",[2]]");
+    let seats = have_both_seats(told.reply(0), told.reply(1));
+    holds(rt, seats, "each has a seat of its own");
+}
+
 #[test]
 fn two_sessions_over_loopback(rt: HostRuntime) -> Result<(), Fail> {
-    let told = served(&rt, rt.alloc(), &["d"], &[THREE, TWO])?;
-    holds(&rt, told.has(b"[\"total\",\"d\",5,5,5]\n"), "the totals");
-    is_told(&rt, told.reply(0), 3, "[\"values\",[3]]");
-    is_told(&rt, told.reply(1), 2, "[\"values\",[2]]");
-    let seats = have_both_seats(told.reply(0), told.reply(1));
-    holds(&rt, seats, "each has a seat of its own");
+    two_are_told(&rt, &served(&rt, rt.alloc(), &["d"], &[THREE, TWO])?);
     Ok(())
+}
+
+/// What a server tells a client whose line is too long.
+fn served_too_long<
+    R: Net<Listener = TcpListener, Stream = TcpStream> + Threads + Wait + Sync + Log + Clock,
+>(rt: &R, alloc: Global) -> io::Result<Told> {
+    let line = vec![in alloc; b' '; 66_000]?;
+    served(rt, alloc, &["d", "e"], &[line.as_slice()])
+}
+
+fn is_told_too_long<R: Abort>(rt: &R, told: &Told) {
+    let totals = b"[\"total\",\"d\",0,0,0]\n[\"total\",\"e\",0,0,0]\n";
+    holds(rt, told.has(totals), "the totals");
+    let reply = told.reply(0).as_bytes();
+    is_told(
+        rt,
+        "line_too_long_is_told",
+        "replies",
+        reply,
+        b"[\"no\",3,\"line-too-long\"]\n",
+    );
 }
 
 // A client whose line is too long, who has sent more than is read of it, and reads nothing until the server has ended, is told so,
 // and then that nothing more comes: its connection isn't reset.
 #[test]
 fn line_too_long_is_told(rt: HostRuntime) -> Result<(), Fail> {
-    let line = vec![in rt.alloc(); b' '; 66_000]?;
-    let told = served(&rt, rt.alloc(), &["d", "e"], &[line.as_slice()])?;
-    let totals = b"[\"total\",\"d\",0,0,0]\n[\"total\",\"e\",0,0,0]\n";
-    holds(&rt, told.has(totals), "the totals");
-    assert_eq!(rt; told.reply(0), "[\"no\",3,\"line-too-long\"]\n");
+    is_told_too_long(&rt, &served_too_long(&rt, rt.alloc())?);
     Ok(())
 }

@@ -1,0 +1,114 @@
+//! What is done with a copy, one deed after another, and what each has to tell. All of it stands over any store, since each call that
+//! names a store in files is dear to prove.
+use super::serving::{Start, started};
+use super::told::{counts, holds, is_told};
+use super::watched::faults_told;
+use copy_report::check_over;
+use line_feed::Writer;
+use log::Log;
+use log_copy::LogCopy;
+use sqlite::{Alter, Connection};
+use std::alloc::{AllocError, Global};
+use std::process::Abort;
+use std::sync::Wait;
+use std::thread::Threads;
+use std::time::Clock;
+
+/// What is done with a copy.
+#[derive(Clone, Copy)]
+pub enum Deed<'a> {
+    /// A server starts, serves, and ends.
+    Serves(Start<'a>),
+    /// A check of it prints this.
+    Holds(&'a [u8]),
+    /// A copier copies a document to it beside so many sessions, none of which ends, and tells of so many faults.
+    Copies(u64, u32),
+}
+
+/// What is done with one copy, over documents of these names.
+#[derive(Clone, Copy)]
+pub struct Case<'a> {
+    pub name: &'a str,
+    pub documents: &'a [&'a str],
+    pub deeds: &'a [Deed<'a>],
+}
+
+/// The copy over this connection. Where there is none memory is said to be wanting.
+pub fn adopted<S: Alter + Drop>(
+    alloc: Global,
+    conn: Connection<S>,
+) -> Result<LogCopy<S>, AllocError> {
+    match LogCopy::adopt(alloc, conn) {
+        Ok(copy) => Ok(copy),
+        Err(_) => Err(AllocError),
+    }
+}
+
+/// What a check of the copy prints.
+fn checked<S: Alter>(alloc: Global, copy: &LogCopy<S>) -> Vec<u8> {
+    let mut out = Vec::<u8>::new(alloc);
+    let _status = check_over(alloc, copy, &mut Writer::new(&mut out));
+    out
+}
+
+fn prints<R: Abort, S: Alter>(rt: &R, alloc: Global, case: &str, copy: &LogCopy<S>, report: &[u8]) {
+    is_told(rt, case, "report", checked(alloc, copy).as_slice(), report);
+}
+
+fn done<R: Threads + Wait + Abort + Sync + Log + Clock, S: Alter>(
+    rt: &R,
+    alloc: Global,
+    case: &Case<'_>,
+    deed: &Deed<'_>,
+    copy: &mut LogCopy<S>,
+) -> Result<(), AllocError> {
+    match deed {
+        Deed::Serves(start) => started(rt, alloc, case.name, case.documents, start, copy)?,
+        Deed::Holds(report) => prints(rt, alloc, case.name, copy, report),
+        Deed::Copies(sessions, faults) => {
+            let told = faults_told(rt, alloc, *sessions, copy)?;
+            counts(
+                rt,
+                case.name,
+                "faults told",
+                u64::from(told),
+                u64::from(*faults),
+            );
+        }
+    }
+    Ok(())
+}
+
+/// Does all of it with the copy over this connection, and gives the store back.
+pub fn all_done<R: Threads + Wait + Abort + Sync + Log + Clock, S: Alter + Drop>(
+    rt: &R,
+    alloc: Global,
+    case: &Case<'_>,
+    conn: Connection<S>,
+) -> Result<S, AllocError> {
+    let mut copy = adopted(alloc, conn)?;
+    for deed in case.deeds {
+        done(rt, alloc, case, deed, &mut copy)?;
+    }
+    Ok(copy.into_connection().into_store())
+}
+
+fn done_in_memory<R: Threads + Wait + Abort + Sync + Log + Clock>(
+    rt: &R,
+    alloc: Global,
+    case: &Case<'_>,
+) -> Result<(), AllocError> {
+    let _store = all_done(rt, alloc, case, Connection::open_in_memory(alloc)?)?;
+    Ok(())
+}
+
+/// Does each of these cases over an empty copy in memory.
+pub fn all_in_memory<R: Threads + Wait + Abort + Sync + Log + Clock>(
+    rt: &R,
+    alloc: Global,
+    cases: &[Case<'_>],
+) {
+    for case in cases {
+        holds(rt, done_in_memory(rt, alloc, case).is_ok(), case.name);
+    }
+}
