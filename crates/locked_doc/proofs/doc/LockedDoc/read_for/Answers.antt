@@ -1,0 +1,30 @@
+use Rattle.std.proofs.Common.{◌≡◌, ◌<◌, ◌≤◌, length, refl, ap, sym, subst, ◌∙◌, arith}
+use Rattle.share_ledger.specs.Counters.{Counter, seat_counter}
+use Rattle.doc_rules.specs.Document.{count_of}
+use Rattle.doc_rules.specs.Answers.{MayAnswer}
+use Rattle.locked_doc.specs.Locked.{document_of}
+use Rattle.locked_doc.proofs.Counted.{book_at}
+use Rattle.locked_doc.proofs.doc.LockedDoc.read_for.Goals as goal
+
+pub returns : goal.returns
+returns g c =
+    let d = c.self.inside in
+    let s = c.seat-of.result in
+    let mine = rw (← c.self.view_is, ← c.seat.view_is) at c.requires in
+    let some : 0 < s = omega (arith, mine.1, c.seat-of.ensures) in
+    let within : s ≤ d.opened = omega (arith, mine.2, c.seat-of.ensures) in
+    let book : c.index.result.now ≡ seat_counter d.number s (count_of s d.seats_of.items) =
+    book_at d.number (document_of d.replica d.seats_of.items (length d.books.items) d.opened d.copied) d.books.items d.kept.items s c.index.result.now c.self.invariant.0 some within c.index.ensures in
+    let share : c.seat.inside.share.count ≡ count_of c.seat.inside.share.seat d.seats_of.items =
+    sym (ap (λ (b : Counter). b.count) c.agree.ensures) ∙ (ap (λ (b : Counter). b.count) book ∙ ap (λ k. count_of k d.seats_of.items) c.seat-of.ensures) in
+    rw (← c.self.view_is, ← c.seat.view_is)
+    (record {
+      reads = subst (λ n. MayAnswer d.replica n c.args.query c.read-reply.result) (c.count.ensures ∙ share) c.read-reply.ensures.answer;
+      told = refl;
+      counted = sym share ∙ c.seat.invariant;
+      answer = record {
+        same = (refl, refl);
+        calls = ap (λ x. x.calls) c.count-2.ensures.calls;
+        of = (c.number-number.ensures, c.seat-of.ensures, ap (λ x. x.calls) c.count-2.ensures.stamp);
+      };
+    })

@@ -1,0 +1,5 @@
+use Rattle.std.proofs.Common.{refl}
+use Rattle.locked_doc.proofs.ledgers.Ledgers.make.Goals as goal
+
+pub returns-clause-ok : goal.returns-clause-ok
+returns-clause-ok g c = (refl, c.open_all.ensures.books.1, c.open_all.ensures.table)
