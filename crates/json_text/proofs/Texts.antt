@@ -1,5 +1,6 @@
 -- The text of what was put.
-use Rattle.std.proofs.Common.{◌≡◌, ℕ, ◌+◌, ◌<◌, length, get_or, take, List, [], ◌∷◌, ◌++◌, map, sym, ap, ◌∙◌, refl, append_assoc, append-nil}
+use Rattle.std.proofs.Common.{◌≡◌, ℕ, ◌+◌, ◌<◌, length, get_or, take, List, [], ◌∷◌, ◌++◌, map, sym, ap, ◌∙◌, refl, append_assoc, append-nil, Result, Ok, Err}
+use Rattle.std.specs.Prelude.{⊤}
 use Rattle.std.proofs.lemmas.List.{map-append, take_more}
 use Rattle.json.specs.Token.{Token, begin_array, end_array}
 use Rattle.json.specs.Tree.{items_tokens}
@@ -9,7 +10,8 @@ use Rattle.serde_json.specs.View.{items_of}
 use Rattle.serde_json.specs.Written.{compact_text, items_outline}
 use Rattle.serde_json.proofs.Texts.{print-outline}
 use Rattle.op_core.specs.Wire.{list_data}
-use Rattle.json_text.specs.Tokens.{data_tokens, all_tokens}
+use Rattle.json_scalar.specs.declared.refusal.Refusal.{Refusal}
+use Rattle.json_text.specs.Tokens.{data_tokens, all_tokens, Puts}
 
 -- a whole text with nothing before it
 pub whole_text : (before text : List ℕ) (tokens : List Token) (d : Data) → text ≡ before ++ print tokens → before ≡ [] → tokens ≡ data_tokens d → text ≡ compact_text d
@@ -45,6 +47,11 @@ pub put_five : (old : List Token) (a b c d e : Data)
 put_five old a b c d e = simp append_assoc
 
 pub ruleset fives = (put_five)
+
+-- what is put last completes what is put in all
+pub put_last : (last all old mid new : List Token) (r : Result ⊤ Refusal) → Puts last mid new r → mid ++ last ≡ old ++ all → Puts all old new r
+put_last last all old mid new (Ok _) put same = put ∙ same
+put_last last all old mid new (Err _) put same = put
 
 -- one more of the parts
 pub put_next : {X : Type 0} (json : X → Data) (old : List Token) (xs : List X) (i : ℕ) (x : X) → i < length xs → x ≡ get_or xs i x
