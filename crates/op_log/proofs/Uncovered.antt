@@ -58,6 +58,10 @@ chains_all front log lasts n are each k op there below = by (entry_of lasts op.i
     by None is = absurd (are.none op.id.replica is k here)
     by (Some p) is = each (op.id.replica, p) (entry_of-Contains lasts op.id.replica p is) k here below
 
+-- nothing stands before the start
+pub covers_none : (front : List (List ℕ × ℕ)) (log : List Op) → CoversBefore front log 0
+covers_none front log k op there below = absurd (omega arith)
+
 -- what is covered at the start needs no look
 pub since-drop : (front : List (List ℕ × ℕ)) (log : List Op) (n : ℕ) → CoversBefore front log n → since front (drop n log) ≡ since front log
 since-drop front log zero covered = refl

@@ -56,7 +56,6 @@ impl OpLog {
         Ok(())
     }
 
-    #[tactic(auto, using(crate::proofs::Comparing::shaped_ascending))]
     fn first_fit_cause(&self, op: &Operation) -> Result<(), Refusal>
         ensures cause { result ≡ cause_of op.now self.now.operations }
         ensures shaped { is_shaped op.now ≡ true }

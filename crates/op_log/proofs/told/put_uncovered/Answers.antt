@@ -1,4 +1,4 @@
-use Rattle.std.proofs.Common.{◌≡◌, ◌+◌, ◌++◌, [], ◌∷◌, length, take, map, not, refl, sym, ap, ◌∙◌, rules, arith}
+use Rattle.std.proofs.Common.{◌≡◌, ◌+◌, ◌++◌, [], ◌∷◌, append-nil, length, take, map, not, refl, sym, ap, ◌∙◌, rules, arith}
 use Rattle.std.proofs.lemmas.List.{length-append}
 use Rattle.op_core.specs.Front.{covers}
 use Rattle.op_core.specs.Op.{Op}
@@ -9,6 +9,9 @@ use Rattle.json_text.proofs.Texts.{told_one_more}
 use Rattle.op_log.proofs.Firsts.{firsts-full, firsts-more, firsts-passed}
 use Rattle.op_log.proofs.told.put_uncovered.Goals as goal
 use Rattle.op_log.proofs.told.put_uncovered.Goals.{then-not-covers+in_ok-put_in, else-not-covers}
+
+pub loop-op-init : goal.loop-op-init
+loop-op-init c = (sym (append-nil c.args.text.now), omega arith)
 
 pub loop-op-preserved : goal.loop-op-preserved
 loop-op-preserved c =
