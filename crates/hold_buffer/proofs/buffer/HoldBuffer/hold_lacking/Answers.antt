@@ -10,6 +10,9 @@ use Rattle.hold_buffer.proofs.buffer.HoldBuffer.hold_lacking.Goals as goal
 pub store-requires-clause-ordered : goal.store-requires-clause-ordered
 store-requires-clause-ordered c = let g = c.admit.ensures in (grown c.self.invariant g.slots g.order).ordered
 
+pub store-requires-clause-gap : goal.store-requires-clause-gap
+store-requires-clause-gap c = subst (λ (o : List Ticket). IsGap id_cmp (λ (t : Ticket). t.id) o c.args.op.id c.in-Ok.at) (sym c.admit.ensures.order) c.in-Ok.ensures.gap
+
 pub invariant_of-self : goal.invariant_of-self
 invariant_of-self c =
     let g = c.admit.ensures in
