@@ -15,3 +15,9 @@ returns-clause-given_back g c =
     let few : d.document.opened ≤ 1 = subst (λ k. d.document.opened ≤ k) c.args.self.one_seat c.keeps_sound.ensures.sound.few in
     MatchResult-weaker c.gather.result c.gather.ensures.err (λ totals p. tt)
     (λ back p end given told. one_is_right d.number d.document c.args.ends.items end back.refusal p.2 few given told)
+
+pub returns-clause-ok : goal.returns-clause-ok
+returns-clause-ok g c = c.gather.ensures.ok
+
+pub returns-clause-err : goal.returns-clause-err
+returns-clause-err g c = MatchResult-weaker c.gather.result c.gather.ensures.err (λ totals p. tt) (λ back p. (p.0, p.1))
