@@ -1,12 +1,11 @@
-//! Real files. What is done with one that was opened stands over any disks, since each call that names the store of a real file is dear to
+//! Real files. What is done with one that was opened stands over any store, since each call that names the store of a real file is dear to
 //! prove.
 use super::samples;
 use super::steps::{Step, StepAnswer, first_other};
 use copy_files::open_file;
 use log_copy::{Fault, LogCopy};
 use op_core::Operation;
-use sqlite::{Connection, Error, FileStore};
-use sqlite_disk::Disk;
+use sqlite::{Alter, Connection, Error};
 use std::alloc::Global;
 use std::fs;
 use std::test::Fail;
@@ -21,7 +20,7 @@ const PATH: &str = "copy_test/copy.db";
 
 const BYTES: &str = "no database, but some bytes that a person wrote";
 
-fn fault_of<D: Disk + Drop>(opened: Result<LogCopy<FileStore<D>>, Fault>) -> Option<Fault> {
+fn fault_of<S: Alter + Drop>(opened: Result<LogCopy<S>, Fault>) -> Option<Fault> {
     match opened {
         Ok(_) => None,
         Err(fault) => Some(fault),
@@ -45,9 +44,9 @@ fn no_database(rt: HostRuntime) -> Result<(), Fail> {
     Ok(())
 }
 
-fn other_over<D: Disk + Drop>(
+fn other_over<S: Alter + Drop>(
     alloc: Global,
-    opened: Result<Connection<FileStore<D>>, Error>,
+    opened: Result<Connection<S>, Error>,
     log: &[Operation],
     steps: &[(Step<'_>, StepAnswer)],
 ) -> Option<(usize, StepAnswer)> {

@@ -1,7 +1,5 @@
 //! The format from before there were additions: raised where it is opened, and refused with an addition in it.
-use super::samples;
-use super::steps::{REFUSED, Step, StepAnswer, all_told};
-use std::test::Fail;
+use super::steps::{Case, Log, REFUSED, Step, StepAnswer, all_told};
 
 const TABLES: &str =
     "CREATE TABLE meta (name TEXT NOT NULL PRIMARY KEY, value INTEGER NOT NULL) STRICT;
@@ -10,63 +8,66 @@ const TABLES: &str =
 
 const FORMAT: &str = "SELECT value FROM meta WHERE name = 'format'";
 
-static OLD_FORMAT_RAISED: [(Step<'static>, StepAnswer); 13] = [
-    (Step::Run(TABLES), StepAnswer::Done),
-    (
-        Step::Run(
-            r#"INSERT INTO entry (doc, place, text) VALUES ('d', 1, '["op",[1,"p"],[],[[["m",0]],"k"],["assign",1]]')"#,
-        ),
-        StepAnswer::Done,
-    ),
-    (Step::Open, StepAnswer::Done),
-    (Step::Epoch, StepAnswer::Number(7)),
-    (Step::Load("d"), StepAnswer::Rows(1)),
-    (Step::Ask(FORMAT), StepAnswer::Number(2)),
-    (
-        Step::Ask(
-            r#"SELECT count(*) FROM entry WHERE doc = 'd' AND place = 1 AND text = '["op",[1,"p"],[],[[["m",0]],"k"],["assign",1]]'"#,
-        ),
-        StepAnswer::Number(1),
-    ),
-    (Step::Open, StepAnswer::Done),
-    (Step::Up, StepAnswer::Number(8)),
-    (Step::Add("d", 1, 1, 3), StepAnswer::Done),
-    (Step::Open, StepAnswer::Done),
-    (Step::Epoch, StepAnswer::Number(8)),
-    (Step::Load("d"), StepAnswer::Rows(3)),
+static FORMATS: [Case<'static>; 2] = [
+    Case {
+        name: "old_format_raised",
+        log: Log::Numbered(3, 0),
+        steps: &[
+            (Step::Run(TABLES), StepAnswer::Done),
+            (
+                Step::Run(
+                    r#"INSERT INTO entry (doc, place, text) VALUES ('d', 1, '["op",[1,"p"],[],[[["m",0]],"k"],["assign",1]]')"#,
+                ),
+                StepAnswer::Done,
+            ),
+            (Step::Open, StepAnswer::Done),
+            (Step::Epoch, StepAnswer::Number(7)),
+            (Step::Load("d"), StepAnswer::Rows(1)),
+            (Step::Ask(FORMAT), StepAnswer::Number(2)),
+            (
+                Step::Ask(
+                    r#"SELECT count(*) FROM entry WHERE doc = 'd' AND place = 1 AND text = '["op",[1,"p"],[],[[["m",0]],"k"],["assign",1]]'"#,
+                ),
+                StepAnswer::Number(1),
+            ),
+            (Step::Open, StepAnswer::Done),
+            (Step::Up, StepAnswer::Number(8)),
+            (Step::Add("d", 1, 1, 3), StepAnswer::Done),
+            (Step::Open, StepAnswer::Done),
+            (Step::Epoch, StepAnswer::Number(8)),
+            (Step::Load("d"), StepAnswer::Rows(3)),
+        ],
+    },
+    // The refused database is as it was; with the new format written by hand it is a copy.
+    Case {
+        name: "old_format_has_no_additions",
+        log: Log::Numbered(0, 0),
+        steps: &[
+            (Step::Run(TABLES), StepAnswer::Done),
+            (
+                Step::Run(
+                    r#"INSERT INTO entry (doc, place, text) VALUES ('d', 1, '["op",[1,"p"],[],[[["m",0]],"k"],["add",1]]')"#,
+                ),
+                StepAnswer::Done,
+            ),
+            (Step::Open, REFUSED),
+            (Step::Ask(FORMAT), StepAnswer::Number(1)),
+            (
+                Step::Ask("SELECT count(*) FROM entry"),
+                StepAnswer::Number(1),
+            ),
+            (
+                Step::Run("UPDATE meta SET value = 2 WHERE name = 'format'"),
+                StepAnswer::Done,
+            ),
+            (Step::Open, StepAnswer::Done),
+            (Step::Epoch, StepAnswer::Number(7)),
+            (Step::Docs, StepAnswer::Rows(1)),
+        ],
+    },
 ];
 
 #[test]
-fn old_format_raised(rt: HostRuntime) -> Result<(), Fail> {
-    let log = samples::log(rt.alloc(), 3)?;
-    all_told(&rt, rt.alloc(), log.as_slice(), &OLD_FORMAT_RAISED)
-}
-
-// The refused database is as it was; with the new format written by hand it is a copy.
-static OLD_FORMAT_HAS_NO_ADDITIONS: [(Step<'static>, StepAnswer); 9] = [
-    (Step::Run(TABLES), StepAnswer::Done),
-    (
-        Step::Run(
-            r#"INSERT INTO entry (doc, place, text) VALUES ('d', 1, '["op",[1,"p"],[],[[["m",0]],"k"],["add",1]]')"#,
-        ),
-        StepAnswer::Done,
-    ),
-    (Step::Open, REFUSED),
-    (Step::Ask(FORMAT), StepAnswer::Number(1)),
-    (
-        Step::Ask("SELECT count(*) FROM entry"),
-        StepAnswer::Number(1),
-    ),
-    (
-        Step::Run("UPDATE meta SET value = 2 WHERE name = 'format'"),
-        StepAnswer::Done,
-    ),
-    (Step::Open, StepAnswer::Done),
-    (Step::Epoch, StepAnswer::Number(7)),
-    (Step::Docs, StepAnswer::Rows(1)),
-];
-
-#[test]
-fn old_format_has_no_additions(rt: HostRuntime) -> Result<(), Fail> {
-    all_told(&rt, rt.alloc(), &[], &OLD_FORMAT_HAS_NO_ADDITIONS)
+fn formats(rt: HostRuntime) {
+    all_told(&rt, rt.alloc(), &FORMATS);
 }

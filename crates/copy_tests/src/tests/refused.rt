@@ -3,7 +3,6 @@ use super::disks::{Stopping, made, walked_over};
 use super::steps::{REFUSED, Step, StepAnswer};
 use sqlite_disk::Files;
 use std::alloc::{AllocError, Global};
-use std::process::Abort;
 use std::test::Fail;
 
 const COPY: &str =
@@ -55,158 +54,133 @@ fn first_other(
     Ok(None)
 }
 
-// After each of these changes this is told.
-fn all_tell<R: Abort>(
-    rt: &R,
-    alloc: Global,
-    changes: &[&str],
-    due: StepAnswer,
-) -> Result<(), Fail> {
-    assert_eq!(rt; first_other(alloc, changes, due)?, None);
-    Ok(())
-}
-
-// Changes after which it is a copy still: what is refused below is refused for the one thing that differs.
-static SOUND: [&str; 3] = [
-    "UPDATE meta SET value = 9999999 WHERE name = 'epoch'",
-    r#"INSERT INTO entry (doc, place, text) VALUES ('d', 2, '["op",[2,"p"],[["p",1]],[[["m",0]],"k"],["assign",2]]')"#,
-    r#"INSERT INTO entry (doc, place, text) VALUES ('e', 1, '["op",[1,"p"],[],[[["m",0]],"k"],["assign",1]]')"#,
-];
-
-#[test]
-fn sound_copies(rt: HostRuntime) -> Result<(), Fail> {
-    all_tell(&rt, rt.alloc(), &SOUND, StepAnswer::Done)
-}
-
-static MISSING: [&str; 2] = ["DROP TABLE entry", "DROP TABLE meta"];
-
-#[test]
-fn a_missing_table(rt: HostRuntime) -> Result<(), Fail> {
-    all_tell(&rt, rt.alloc(), &MISSING, REFUSED)
-}
-
-static COLUMNS: [&str; 2] = [
-    "DROP TABLE entry; CREATE TABLE entry (doc TEXT, place INTEGER) STRICT",
-    "DROP TABLE meta; CREATE TABLE meta (name TEXT, value TEXT) STRICT",
-];
-
-#[test]
-fn other_columns(rt: HostRuntime) -> Result<(), Fail> {
-    all_tell(&rt, rt.alloc(), &COLUMNS, REFUSED)
-}
-
-static VIEWS: [&str; 2] = [
-    "DROP TABLE entry; CREATE VIEW entry AS SELECT name AS doc, value AS place, name AS text FROM meta",
-    "DROP TABLE meta; CREATE VIEW meta AS SELECT doc AS name, place AS value FROM entry",
-];
-
-#[test]
-fn a_view_for_a_table(rt: HostRuntime) -> Result<(), Fail> {
-    all_tell(&rt, rt.alloc(), &VIEWS, REFUSED)
-}
-
-// The tables are right but for the letters of a name.
-static LETTERS: [&str; 2] = [
-    "DROP TABLE meta; CREATE TABLE META (name TEXT NOT NULL PRIMARY KEY, value INTEGER NOT NULL) STRICT;
+// Changes of a copy with one entry, each by itself, and what is told after each of them.
+static CHANGES: [(&str, &[&str], StepAnswer); 13] = [
+    // Changes after which it is a copy still: what is refused below is refused for the one thing that differs.
+    (
+        "sound_copies",
+        &[
+            "UPDATE meta SET value = 9999999 WHERE name = 'epoch'",
+            r#"INSERT INTO entry (doc, place, text) VALUES ('d', 2, '["op",[2,"p"],[["p",1]],[[["m",0]],"k"],["assign",2]]')"#,
+            r#"INSERT INTO entry (doc, place, text) VALUES ('e', 1, '["op",[1,"p"],[],[[["m",0]],"k"],["assign",1]]')"#,
+        ],
+        StepAnswer::Done,
+    ),
+    (
+        "a_missing_table",
+        &["DROP TABLE entry", "DROP TABLE meta"],
+        REFUSED,
+    ),
+    (
+        "other_columns",
+        &[
+            "DROP TABLE entry; CREATE TABLE entry (doc TEXT, place INTEGER) STRICT",
+            "DROP TABLE meta; CREATE TABLE meta (name TEXT, value TEXT) STRICT",
+        ],
+        REFUSED,
+    ),
+    (
+        "a_view_for_a_table",
+        &[
+            "DROP TABLE entry; CREATE VIEW entry AS SELECT name AS doc, value AS place, name AS text FROM meta",
+            "DROP TABLE meta; CREATE VIEW meta AS SELECT doc AS name, place AS value FROM entry",
+        ],
+        REFUSED,
+    ),
+    // The tables are right but for the letters of a name.
+    (
+        "a_name_in_other_letters",
+        &[
+            "DROP TABLE meta; CREATE TABLE META (name TEXT NOT NULL PRIMARY KEY, value INTEGER NOT NULL) STRICT;
      INSERT INTO META (name, value) VALUES ('format', 2), ('epoch', 0)",
-    "DROP TABLE entry;
+            "DROP TABLE entry;
      CREATE TABLE Entry (doc TEXT NOT NULL, place INTEGER NOT NULL, text TEXT NOT NULL, PRIMARY KEY (doc, place)) STRICT",
+        ],
+        REFUSED,
+    ),
+    (
+        "numbers_missing_or_more",
+        &[
+            "DELETE FROM meta WHERE name = 'epoch'",
+            "DELETE FROM meta WHERE name = 'format'",
+            "DELETE FROM meta",
+            "INSERT INTO meta (name, value) VALUES ('more', 1)",
+        ],
+        REFUSED,
+    ),
+    (
+        "another_format",
+        &[
+            "UPDATE meta SET value = 0 WHERE name = 'format'",
+            "UPDATE meta SET value = 3 WHERE name = 'format'",
+        ],
+        REFUSED,
+    ),
+    (
+        "an_epoch_out_of_range",
+        &[
+            "UPDATE meta SET value = -1 WHERE name = 'epoch'",
+            "UPDATE meta SET value = 10000000 WHERE name = 'epoch'",
+        ],
+        REFUSED,
+    ),
+    (
+        "a_gap_in_the_places",
+        &[
+            r#"INSERT INTO entry (doc, place, text) VALUES ('d', 3, '["op",[2,"p"],[["p",1]],[[["m",0]],"k"],["assign",2]]')"#,
+            r#"INSERT INTO entry (doc, place, text) VALUES ('d', 0, '["op",[2,"p"],[["p",1]],[[["m",0]],"k"],["assign",2]]')"#,
+            r#"INSERT INTO entry (doc, place, text) VALUES ('d', -1, '["op",[2,"p"],[["p",1]],[[["m",0]],"k"],["assign",2]]')"#,
+        ],
+        REFUSED,
+    ),
+    (
+        "a_bad_document_name",
+        &[
+            r#"INSERT INTO entry (doc, place, text) VALUES ('E', 1, '["op",[1,"p"],[],[[["m",0]],"k"],["assign",1]]')"#,
+            r#"INSERT INTO entry (doc, place, text) VALUES ('', 1, '["op",[1,"p"],[],[[["m",0]],"k"],["assign",1]]')"#,
+            r#"INSERT INTO entry (doc, place, text) VALUES ('aaaaaaaaaaaaaaaaaaaaaaaaaaaaaaaaa', 1, '["op",[1,"p"],[],[[["m",0]],"k"],["assign",1]]')"#,
+        ],
+        REFUSED,
+    ),
+    // No JSON; no operation; another text of the same JSON.
+    (
+        "a_text_that_is_not_written_so",
+        &[
+            "INSERT INTO entry (doc, place, text) VALUES ('d', 2, '[')",
+            "INSERT INTO entry (doc, place, text) VALUES ('d', 2, '[]')",
+            r#"INSERT INTO entry (doc, place, text) VALUES ('d', 2, '["op", [2,"p"],[["p",1]],[[["m",0]],"k"],["assign",2]]')"#,
+        ],
+        REFUSED,
+    ),
+    // An id that stands already; one that needs what is not there.
+    (
+        "an_operation_that_does_not_fit",
+        &[
+            r#"INSERT INTO entry (doc, place, text) VALUES ('d', 2, '["op",[1,"p"],[],[[["m",0]],"k"],["assign",1]]')"#,
+            r#"INSERT INTO entry (doc, place, text) VALUES ('d', 2, '["op",[3,"p"],[["p",2]],[[["m",0]],"k"],["assign",2]]')"#,
+        ],
+        REFUSED,
+    ),
+    // A table beside the two changes nothing of what is refused.
+    (
+        "beside_a_table",
+        &[
+            "CREATE TABLE note (id INTEGER PRIMARY KEY) STRICT; DROP TABLE entry",
+            "CREATE TABLE note (id INTEGER PRIMARY KEY) STRICT; UPDATE meta SET value = 3 WHERE name = 'format'",
+            "CREATE TABLE note (id INTEGER PRIMARY KEY) STRICT; INSERT INTO entry (doc, place, text) VALUES ('d', 2, '[]')",
+            r#"CREATE TABLE note (id INTEGER PRIMARY KEY) STRICT; UPDATE meta SET value = 1 WHERE name = 'format';
+            INSERT INTO entry (doc, place, text) VALUES ('d', 2, '["op",[2,"p"],[["p",1]],[[["m",0]],"k"],["add",1]]')"#,
+        ],
+        REFUSED,
+    ),
 ];
 
 #[test]
-fn a_name_in_other_letters(rt: HostRuntime) -> Result<(), Fail> {
-    all_tell(&rt, rt.alloc(), &LETTERS, REFUSED)
-}
-
-static NUMBERS: [&str; 4] = [
-    "DELETE FROM meta WHERE name = 'epoch'",
-    "DELETE FROM meta WHERE name = 'format'",
-    "DELETE FROM meta",
-    "INSERT INTO meta (name, value) VALUES ('more', 1)",
-];
-
-#[test]
-fn numbers_missing_or_more(rt: HostRuntime) -> Result<(), Fail> {
-    all_tell(&rt, rt.alloc(), &NUMBERS, REFUSED)
-}
-
-static FORMATS: [&str; 2] = [
-    "UPDATE meta SET value = 0 WHERE name = 'format'",
-    "UPDATE meta SET value = 3 WHERE name = 'format'",
-];
-
-#[test]
-fn another_format(rt: HostRuntime) -> Result<(), Fail> {
-    all_tell(&rt, rt.alloc(), &FORMATS, REFUSED)
-}
-
-static EPOCHS: [&str; 2] = [
-    "UPDATE meta SET value = -1 WHERE name = 'epoch'",
-    "UPDATE meta SET value = 10000000 WHERE name = 'epoch'",
-];
-
-#[test]
-fn an_epoch_out_of_range(rt: HostRuntime) -> Result<(), Fail> {
-    all_tell(&rt, rt.alloc(), &EPOCHS, REFUSED)
-}
-
-static PLACES: [&str; 3] = [
-    r#"INSERT INTO entry (doc, place, text) VALUES ('d', 3, '["op",[2,"p"],[["p",1]],[[["m",0]],"k"],["assign",2]]')"#,
-    r#"INSERT INTO entry (doc, place, text) VALUES ('d', 0, '["op",[2,"p"],[["p",1]],[[["m",0]],"k"],["assign",2]]')"#,
-    r#"INSERT INTO entry (doc, place, text) VALUES ('d', -1, '["op",[2,"p"],[["p",1]],[[["m",0]],"k"],["assign",2]]')"#,
-];
-
-#[test]
-fn a_gap_in_the_places(rt: HostRuntime) -> Result<(), Fail> {
-    all_tell(&rt, rt.alloc(), &PLACES, REFUSED)
-}
-
-static NAMES: [&str; 3] = [
-    r#"INSERT INTO entry (doc, place, text) VALUES ('E', 1, '["op",[1,"p"],[],[[["m",0]],"k"],["assign",1]]')"#,
-    r#"INSERT INTO entry (doc, place, text) VALUES ('', 1, '["op",[1,"p"],[],[[["m",0]],"k"],["assign",1]]')"#,
-    r#"INSERT INTO entry (doc, place, text) VALUES ('aaaaaaaaaaaaaaaaaaaaaaaaaaaaaaaaa', 1, '["op",[1,"p"],[],[[["m",0]],"k"],["assign",1]]')"#,
-];
-
-#[test]
-fn a_bad_document_name(rt: HostRuntime) -> Result<(), Fail> {
-    all_tell(&rt, rt.alloc(), &NAMES, REFUSED)
-}
-
-// No JSON; no operation; another text of the same JSON.
-static TEXTS: [&str; 3] = [
-    "INSERT INTO entry (doc, place, text) VALUES ('d', 2, '[')",
-    "INSERT INTO entry (doc, place, text) VALUES ('d', 2, '[]')",
-    r#"INSERT INTO entry (doc, place, text) VALUES ('d', 2, '["op", [2,"p"],[["p",1]],[[["m",0]],"k"],["assign",2]]')"#,
-];
-
-#[test]
-fn a_text_that_is_not_written_so(rt: HostRuntime) -> Result<(), Fail> {
-    all_tell(&rt, rt.alloc(), &TEXTS, REFUSED)
-}
-
-// An id that stands already; one that needs what is not there.
-static MISFITS: [&str; 2] = [
-    r#"INSERT INTO entry (doc, place, text) VALUES ('d', 2, '["op",[1,"p"],[],[[["m",0]],"k"],["assign",1]]')"#,
-    r#"INSERT INTO entry (doc, place, text) VALUES ('d', 2, '["op",[3,"p"],[["p",2]],[[["m",0]],"k"],["assign",2]]')"#,
-];
-
-#[test]
-fn an_operation_that_does_not_fit(rt: HostRuntime) -> Result<(), Fail> {
-    all_tell(&rt, rt.alloc(), &MISFITS, REFUSED)
-}
-
-// A table beside the two changes nothing of what is refused.
-static BESIDE_A_TABLE: [&str; 4] = [
-    "CREATE TABLE note (id INTEGER PRIMARY KEY) STRICT; DROP TABLE entry",
-    "CREATE TABLE note (id INTEGER PRIMARY KEY) STRICT; UPDATE meta SET value = 3 WHERE name = 'format'",
-    "CREATE TABLE note (id INTEGER PRIMARY KEY) STRICT; INSERT INTO entry (doc, place, text) VALUES ('d', 2, '[]')",
-    r#"CREATE TABLE note (id INTEGER PRIMARY KEY) STRICT; UPDATE meta SET value = 1 WHERE name = 'format';
-    INSERT INTO entry (doc, place, text) VALUES ('d', 2, '["op",[2,"p"],[["p",1]],[[["m",0]],"k"],["add",1]]')"#,
-];
-
-#[test]
-fn beside_a_table(rt: HostRuntime) -> Result<(), Fail> {
-    all_tell(&rt, rt.alloc(), &BESIDE_A_TABLE, REFUSED)
+fn changes(rt: HostRuntime) {
+    for (case, changes, due) in &CHANGES {
+        let other = first_other(rt.alloc(), changes, *due);
+        assert!(rt; matches!(other, Ok(None)), "{case}: {other:?}");
+    }
 }
 
 // A connection in the middle of a transaction.

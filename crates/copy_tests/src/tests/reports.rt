@@ -7,7 +7,6 @@ use log_copy::{Fault, LogCopy};
 use sqlite::{Alter, Connection, MemStore};
 use std::alloc::{AllocError, Global};
 use std::fs;
-use std::process::Abort;
 use std::test::Fail;
 
 /// The status, and what a sink has taken that fails after so many bytes.
@@ -34,35 +33,46 @@ fn opened(alloc: Global, sql: &str) -> Result<Result<LogCopy<MemStore>, Fault>, 
     }
 }
 
-fn is_told<R: Abort>(
-    rt: &R,
+/// Whether this status and this text are told of a copy in memory after these statements, by a sink that fails after so many bytes.
+fn is_told(
     alloc: Global,
     sql: &str,
     after: usize,
     status: u8,
     text: &[u8],
-) -> Result<(), Fail> {
+) -> Result<bool, AllocError> {
     let (found, out) = told(alloc, opened(alloc, sql)?, after);
-    assert_eq!(rt; out.as_slice(), text);
-    assert_eq!(rt; found, status);
-    Ok(())
+    Ok(found == status && *out.as_slice() == *text)
 }
 
 const OTHER_TABLE: &str = "CREATE TABLE meta (name TEXT)";
 
-#[test]
-fn an_empty_copy_and_a_refused_one(rt: HostRuntime) -> Result<(), Fail> {
-    let alloc = rt.alloc();
-    is_told(&rt, alloc, "", usize::MAX, 0, b"[\"epoch\",0]\n")?;
-    let refused = b"[\"no\",26,\"copy-refused\"]\n";
-    is_told(&rt, alloc, OTHER_TABLE, usize::MAX, 1, refused)
-}
+/// What each is, the statements, the bytes after which the sink fails, and what is told.
+static TOLD: [(&str, &str, usize, u8, &[u8]); 4] = [
+    ("an_empty_copy", "", usize::MAX, 0, b"[\"epoch\",0]\n"),
+    (
+        "a_refused_copy",
+        OTHER_TABLE,
+        usize::MAX,
+        1,
+        b"[\"no\",26,\"copy-refused\"]\n",
+    ),
+    ("a_sink_that_fails", "", 5, 1, b"[\"epo"),
+    (
+        "a_sink_that_fails_within_the_refusal",
+        OTHER_TABLE,
+        6,
+        1,
+        b"[\"no\",",
+    ),
+];
 
 #[test]
-fn a_sink_that_fails(rt: HostRuntime) -> Result<(), Fail> {
-    let alloc = rt.alloc();
-    is_told(&rt, alloc, "", 5, 1, b"[\"epo")?;
-    is_told(&rt, alloc, OTHER_TABLE, 6, 1, b"[\"no\",")
+fn reports(rt: HostRuntime) {
+    for (case, sql, after, status, text) in &TOLD {
+        let is = is_told(rt.alloc(), sql, *after, *status, text);
+        assert!(rt; matches!(is, Ok(true)), "{case}");
+    }
 }
 
 #[test]

@@ -5,17 +5,15 @@ use serde_json::Value;
 use std::alloc::Global;
 
 /// One that makes the document.
-pub static FIRST_RUN: [&str; 1] = [r#"["op",[1,"srv-1"],[],[[],0],["assign",{}]]"#];
+pub const FIRST_RUN: [&str; 1] = [r#"["op",[1,"srv-1"],[],[[],0],["assign",{}]]"#];
 
-/// Two assignments that know only one before them.
-pub static CONCURRENT_REGISTER: [&str; 3] = [
+/// Two assignments that know only one before them, and another operation under the id of that one.
+pub const REGISTER_AND_COLORS: [&str; 4] = [
     r#"["op",[1,"p"],[],[[["m",0]],"k"],["assign","A"]]"#,
     r#"["op",[2,"p"],[["p",1]],[[["m",0]],"k"],["assign","B"]]"#,
     r#"["op",[2,"q"],[["p",1]],[[["m",0]],"k"],["assign","C"]]"#,
+    r#"["op",[1,"p"],[],[[["m",0]],"colors"],["assign",{}]]"#,
 ];
-
-/// Another operation under the id of the first of those.
-pub const COLORS: &str = r#"["op",[1,"p"],[],[[["m",0]],"colors"],["assign",{}]]"#;
 
 /// A list that two replicas change at once.
 pub static CONCURRENT_LIST_EDITS: [&str; 9] = [
@@ -56,7 +54,7 @@ fn text_of(alloc: Global, i: u64) -> Result<String, Refusal> {
     )?)
 }
 
-/// Operations of the replica p with the counters from 1 to n, but for the one left out. Each needs the one before it.
+/// Operations of the replica p with the counters from 1 to n, but for the one left out (0 leaves out none). Each needs the one before it.
 pub fn log_without(alloc: Global, n: u64, left_out: u64) -> Result<Vec<Operation>, Refusal> {
     let mut ops = Vec::new(alloc);
     for i in 1..=n {
@@ -66,9 +64,4 @@ pub fn log_without(alloc: Global, n: u64, left_out: u64) -> Result<Vec<Operation
         }
     }
     Ok(ops)
-}
-
-/// All of them.
-pub fn log(alloc: Global, n: u64) -> Result<Vec<Operation>, Refusal> {
-    log_without(alloc, n, 0)
 }

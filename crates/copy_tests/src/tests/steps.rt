@@ -1,14 +1,15 @@
 //! Steps over one database. Each call of the copy stands in a function of its own that promises nothing, so that the proof of a
 //! list of steps carries none of its clauses.
 use super::restored::{is_edited_after, is_restored};
+use super::samples;
 use copy_report::check_over;
+use json_scalar::Refusal;
 use line_feed::Writer;
 use log_copy::{Fault, LogCopy};
 use op_core::Operation;
 use sqlite::{Alter, Connection};
 use std::alloc::Global;
 use std::process::Abort;
-use std::test::Fail;
 
 /// What is done with the database.
 #[derive(Clone, Copy)]
@@ -50,6 +51,23 @@ pub enum StepAnswer {
     NoSql,
     /// There is no copy that could be asked.
     NoCopy,
+}
+
+/// What the entries that are added are taken from.
+#[derive(Clone, Copy)]
+pub enum Log<'a> {
+    /// The operations of these texts.
+    Texts(&'a [&'a str]),
+    /// Those of one replica with the counters up to the first number, but for the second one.
+    Numbered(u64, u64),
+}
+
+/// Steps over one database, each with what it has to tell.
+#[derive(Clone, Copy)]
+pub struct Case<'a> {
+    pub name: &'a str,
+    pub log: Log<'a>,
+    pub steps: &'a [(Step<'a>, StepAnswer)],
 }
 
 pub const REFUSED: StepAnswer = StepAnswer::Fault(Fault::Refused);
@@ -304,14 +322,24 @@ pub fn first_other<S: Alter + Drop>(
     other
 }
 
-/// Over an empty database in memory each of these steps tells what is due.
-pub fn all_told<R: Abort>(
-    rt: &R,
-    alloc: Global,
-    log: &[Operation],
-    steps: &[(Step<'_>, StepAnswer)],
-) -> Result<(), Fail> {
+fn log_of(alloc: Global, log: Log<'_>) -> Result<Vec<Operation>, Refusal> {
+    match log {
+        Log::Texts(texts) => samples::operations(alloc, texts),
+        Log::Numbered(most, left_out) => samples::log_without(alloc, most, left_out),
+    }
+}
+
+fn told_in_memory(alloc: Global, case: &Case<'_>) -> Result<Option<(usize, StepAnswer)>, Refusal> {
+    let log = log_of(alloc, case.log)?;
     let conn = Connection::open_in_memory(alloc)?;
-    assert_eq!(rt; first_other(alloc, conn, log, steps), None);
-    Ok(())
+    Ok(first_other(alloc, conn, log.as_slice(), case.steps))
+}
+
+/// Over an empty database in memory each step of each of these cases tells what is due.
+pub fn all_told<R: Abort>(rt: &R, alloc: Global, cases: &[Case<'_>]) {
+    for case in cases {
+        let name = case.name;
+        let other = told_in_memory(alloc, case);
+        assert!(rt; matches!(other, Ok(None)), "{name}: {other:?}");
+    }
 }

@@ -84,7 +84,7 @@ fn calls_in_all(
     None
 }
 
-static BATCHES: [(Step<'static>, StepAnswer); 5] = [
+const BATCHES: [(Step<'static>, StepAnswer); 5] = [
     (Step::Open, StepAnswer::Done),
     (Step::Up, StepAnswer::Number(1)),
     (Step::Add("d", 0, 0, 5), StepAnswer::Done),
@@ -123,30 +123,6 @@ const AFTER_BATCHES: [&[(Step<'static>, StepAnswer)]; 6] = [
     ],
 ];
 
-// After how many calls of one of the disks nothing of the batches is stopped.
-fn calls_of_batches(alloc: Global, log: &[Operation], is_log: bool) -> Option<u64> {
-    calls_in_all(alloc, log, &BATCHES, &AFTER_BATCHES, is_log)
-}
-
-// So many calls are more than that.
-fn are_more<R: Abort>(rt: &R, calls: Option<u64>, least: u64) {
-    assert!(rt; calls > Some(least), "{calls:?}");
-}
-
-#[test]
-fn stops_of_the_log(rt: HostRuntime) -> Result<(), Fail> {
-    let log = samples::operations(rt.alloc(), &samples::CONCURRENT_LIST_EDITS)?;
-    are_more(&rt, calls_of_batches(rt.alloc(), log.as_slice(), true), 20);
-    Ok(())
-}
-
-#[test]
-fn stops_of_the_file(rt: HostRuntime) -> Result<(), Fail> {
-    let log = samples::operations(rt.alloc(), &samples::CONCURRENT_LIST_EDITS)?;
-    are_more(&rt, calls_of_batches(rt.alloc(), log.as_slice(), false), 2);
-    Ok(())
-}
-
 fn log_again(alloc: Global) -> Result<Vec<Operation>, Refusal> {
     match samples::operations(alloc, &samples::CONCURRENT_LIST_EDITS) {
         Ok(log) => Ok(log),
@@ -173,7 +149,7 @@ fn one_allocation_refused(rt: HostRuntime) -> Result<(), Fail> {
 }
 
 // An old copy with one entry and the epoch 1, in one transaction.
-static RAISE: [(Step<'static>, StepAnswer); 2] = [
+const RAISE: [(Step<'static>, StepAnswer); 2] = [
     (
         Step::Run(
             r#"BEGIN;
@@ -220,20 +196,8 @@ const AFTER_RAISE: [&[(Step<'static>, StepAnswer)]; 3] = [
     ],
 ];
 
-fn calls_of_raise(alloc: Global, log: &[Operation], is_log: bool) -> Option<u64> {
-    calls_in_all(alloc, log, &RAISE, &AFTER_RAISE, is_log)
-}
-
-#[test]
-fn stops_while_raised(rt: HostRuntime) -> Result<(), Fail> {
-    let log = samples::operations(rt.alloc(), &samples::CONCURRENT_LIST_EDITS)?;
-    are_more(&rt, calls_of_raise(rt.alloc(), log.as_slice(), true), 5);
-    are_more(&rt, calls_of_raise(rt.alloc(), log.as_slice(), false), 1);
-    Ok(())
-}
-
 // Beside a further table.
-static BESIDE: [(Step<'static>, StepAnswer); 5] = [
+const BESIDE: [(Step<'static>, StepAnswer); 5] = [
     (
         Step::Run(
             "BEGIN; CREATE TABLE note (size INTEGER NOT NULL) STRICT; INSERT INTO note (size) VALUES (41); COMMIT",
@@ -280,14 +244,53 @@ const AFTER_BESIDE: [&[(Step<'static>, StepAnswer)]; 6] = [
     ],
 ];
 
-fn calls_beside(alloc: Global, log: &[Operation], is_log: bool) -> Option<u64> {
-    calls_in_all(alloc, log, &BESIDE, &AFTER_BESIDE, is_log)
+// Steps that are stopped at each call of a disk.
+struct StopCase<'a> {
+    name: &'a str,
+    steps: &'a [(Step<'a>, StepAnswer)],
+    after: &'a [&'a [(Step<'a>, StepAnswer)]],
+    // More calls than so many are made of the log, and than so many of the database.
+    least: (u64, u64),
+}
+
+static STOPS: [StopCase<'static>; 3] = [
+    StopCase {
+        name: "batches",
+        steps: &BATCHES,
+        after: &AFTER_BATCHES,
+        least: (20, 2),
+    },
+    StopCase {
+        name: "while_raised",
+        steps: &RAISE,
+        after: &AFTER_RAISE,
+        least: (5, 1),
+    },
+    StopCase {
+        name: "beside_a_table",
+        steps: &BESIDE,
+        after: &AFTER_BESIDE,
+        least: (20, 2),
+    },
+];
+
+// So many calls are more than that.
+fn are_more<R: Abort>(rt: &R, case: &str, disk: &str, calls: Option<u64>, least: u64) {
+    assert!(rt; calls > Some(least), "{case}, {disk}: {calls:?}");
+}
+
+fn stopped<R: Abort>(rt: &R, alloc: Global, log: &[Operation], case: &StopCase<'_>) {
+    let log_calls = calls_in_all(alloc, log, case.steps, case.after, true);
+    are_more(rt, case.name, "log", log_calls, case.least.0);
+    let db_calls = calls_in_all(alloc, log, case.steps, case.after, false);
+    are_more(rt, case.name, "database", db_calls, case.least.1);
 }
 
 #[test]
-fn stops_beside_a_table(rt: HostRuntime) -> Result<(), Fail> {
+fn stops(rt: HostRuntime) -> Result<(), Fail> {
     let log = samples::operations(rt.alloc(), &samples::CONCURRENT_LIST_EDITS)?;
-    are_more(&rt, calls_beside(rt.alloc(), log.as_slice(), true), 20);
-    are_more(&rt, calls_beside(rt.alloc(), log.as_slice(), false), 2);
+    for case in &STOPS {
+        stopped(&rt, rt.alloc(), log.as_slice(), case);
+    }
     Ok(())
 }
