@@ -1,13 +1,89 @@
-//! Lines from a source in pieces, devices that fail, and what an outbox hands on.
+//! Lines from a source in pieces, devices that fail, and what an outbox hands on. What is done with a device stands over any device and
+//! promises nothing, so that the proof of a test carries none of a device's clauses.
 ghost use Rattle.std.specs.Prelude.{◌≡◌, false};
 
 use line_feed::doubles::{FailAfter, InPieces};
 use line_feed::{
     DeviceFault, LineFeed, Outbox, Outcome, Reader, Sink, Source, Writer, write_all, write_line,
 };
+use std::alloc::{AllocError, Global};
 use std::io;
 use std::io::{ErrorKind, Read, Write};
 use std::test::Fail;
+
+// ---- sources
+
+/// Whether a read of the source fails, and it says so.
+fn fails_to_read<R: Source>(source: &mut R) -> bool
+    requires { R.has_failed source.old ≡ false }
+{
+    source.read_some(&mut [0; 4]).is_err() && source.failed()
+}
+
+/// The first lines of a source, a bar behind each, and what came behind them.
+fn lines_of<R: Source>(alloc: Global, source: &mut R) -> Result<(Vec<u8>, Outcome), AllocError>
+    requires { R.has_failed source.old ≡ false }
+{
+    let mut feed = LineFeed::new(alloc)?;
+    let mut lines = Vec::new(alloc);
+    for _ in 0..4 {
+        if source.failed() {
+            break;
+        }
+        let outcome = feed.next(source);
+        if outcome != Outcome::Line {
+            return Ok((lines, outcome));
+        }
+        lines.extend_from_slice(feed.line())?;
+        lines.push(b'|')?;
+    }
+    Ok((lines, Outcome::Line))
+}
+
+/// Whether these are the lines of the source, and this comes behind them.
+fn gives<R: Source>(
+    alloc: Global,
+    source: &mut R,
+    due: &[u8],
+    end: Outcome,
+) -> Result<bool, AllocError>
+    requires { R.has_failed source.old ≡ false }
+{
+    let (lines, outcome) = lines_of(alloc, source)?;
+    Ok(*lines.as_slice() == *due && outcome == end)
+}
+
+#[test]
+fn reads_as_much_as_there_is(rt: HostRuntime) -> Result<(), Fail> {
+    let mut source = InPieces::new(Reader::new(b"a\nb\nc".as_slice()), 64);
+    assert!(rt; gives(rt.alloc(), &mut source, b"a|b|c|", Outcome::End)?);
+    assert_eq!(rt; source.reads, 2);
+    Ok(())
+}
+
+#[test]
+fn a_source_that_fails_within_a_line_gives_a_fault(rt: HostRuntime) -> Result<(), Fail> {
+    let mut source = FailAfter::new(Reader::new(b"ab\ncd\n".as_slice()), 4);
+    assert!(rt; gives(rt.alloc(), &mut source, b"ab|", Outcome::Fault)?);
+    assert!(rt; source.failed());
+    Ok(())
+}
+
+// ---- sinks
+
+/// Whether a line that is written to the sink fails, and it says so.
+fn fails_at_line<W: Sink>(sink: &mut W, line: &[u8]) -> bool
+    requires { W.has_failed sink.old ≡ false }
+{
+    write_line(sink, line).is_err() && sink.failed()
+}
+
+#[test]
+fn a_sink_that_fails_within_a_line_has_its_front(rt: HostRuntime) {
+    let mut out = Vec::<u8>::new(rt.alloc());
+    assert!(rt; fails_at_line(&mut FailAfter::new(Writer::new(&mut out), 3), b"abcd"));
+    assert!(rt; out.as_slice() == b"abc".as_slice());
+}
 
 /// A reader and writer that a signal interrupts at the first call.
 #[derive(Drop)]
@@ -43,53 +119,33 @@ impl Write for Interrupted {
 
 #[test]
 fn an_interrupted_call_is_a_failure(rt: HostRuntime) {
-    let mut source = Reader::new(Interrupted { calls: 0 });
-    assert!(rt; source.read_some(&mut [0; 4]).is_err());
-    assert!(rt; source.failed());
-
-    let mut sink = Writer::new(Interrupted { calls: 0 });
-    assert!(rt; sink.write_some(b"a").is_err());
-    assert!(rt; sink.failed());
+    assert!(rt; fails_to_read(&mut Reader::new(Interrupted { calls: 0 })));
+    assert!(rt; fails_at_line(&mut Writer::new(Interrupted { calls: 0 }), b"a"));
 }
 
 #[test]
 fn a_write_of_no_bytes_is_a_failure(rt: HostRuntime) {
-    let mut sink = Writer::new(Interrupted { calls: 1 });
-    assert!(rt; write_line(&mut sink, b"a").is_err());
-    assert!(rt; sink.failed());
+    assert!(rt; fails_at_line(&mut Writer::new(Interrupted { calls: 1 }), b"a"));
 }
 
-#[test]
-fn reads_as_much_as_there_is(rt: HostRuntime) -> Result<(), Fail> {
-    let mut source = InPieces::new(Reader::new(b"a\nb\nc".as_slice()), 64);
-    let mut feed = LineFeed::new(rt.alloc())?;
-    for line in [b"a".as_slice(), b"b".as_slice(), b"c".as_slice()] {
-        assert!(rt; !source.failed());
-        assert!(rt; feed.next(&mut source) == Outcome::Line && feed.line() == line);
-    }
-    assert!(rt; !source.failed());
-    assert!(rt; feed.next(&mut source) == Outcome::End && source.reads == 2);
-    Ok(())
+// ---- an outbox
+
+/// Three short lines through an outbox, which are handed on then.
+fn three_lines<W: Sink + Drop>(alloc: Global, sink: W) -> Result<(), DeviceFault>
+    requires { W.has_failed sink ≡ false }
+{
+    let mut outbox = Outbox::new(alloc, sink);
+    write_line(&mut outbox, b"ab")?;
+    write_line(&mut outbox, b"cd")?;
+    write_line(&mut outbox, b"ef")?;
+    outbox.hand_on()
 }
 
-#[test]
-fn a_source_that_fails_within_a_line_gives_a_fault(rt: HostRuntime) -> Result<(), Fail> {
-    let mut source = FailAfter::new(Reader::new(b"ab\ncd\n".as_slice()), 4);
-    let mut feed = LineFeed::new(rt.alloc())?;
-    assert!(rt; !source.failed());
-    assert!(rt; feed.next(&mut source) == Outcome::Line && feed.line() == b"ab".as_slice());
-    assert!(rt; !source.failed());
-    assert!(rt; feed.next(&mut source) == Outcome::Fault && source.failed());
-    Ok(())
-}
-
-#[test]
-fn a_sink_that_fails_within_a_line_has_its_front(rt: HostRuntime) {
-    let mut sink = FailAfter::new(Writer::new(Vec::<u8>::new(rt.alloc())), 3);
-    assert!(rt; write_line(&mut sink, b"abcd").is_err());
-    assert!(rt; sink.failed());
-    let FailAfter { device, .. } = sink;
-    assert!(rt; device.into_inner().as_slice() == b"abc".as_slice());
+/// Bytes through an outbox.
+fn all_through<W: Sink + Drop>(alloc: Global, sink: W, bytes: &[u8]) -> Result<(), DeviceFault>
+    requires { W.has_failed sink ≡ false }
+{
+    write_all(&mut Outbox::new(alloc, sink), bytes)
 }
 
 /// A writer that counts how often it was called.
@@ -110,42 +166,29 @@ impl Write for Counted {
     }
 }
 
-/// Three short lines, which are handed on then.
-fn three_lines<W: Sink>(sink: &mut W) -> Result<(), DeviceFault>
-    requires { W.has_failed sink.old ≡ false }
-{
-    write_line(sink, b"ab")?;
-    write_line(sink, b"cd")?;
-    write_line(sink, b"ef")?;
-    sink.hand_on()
-}
-
 #[test]
 fn an_outbox_writes_at_once_what_it_kept(rt: HostRuntime) {
     let mut device = Counted {
         calls: 0,
         bytes: Vec::new(rt.alloc()),
     };
-    let told = three_lines(&mut Outbox::new(rt.alloc(), Writer::new(&mut device)));
+    let told = three_lines(rt.alloc(), Writer::new(&mut device));
     assert!(rt; told.is_ok() && device.calls == 1);
     assert!(rt; device.bytes.as_slice() == b"ab\ncd\nef\n".as_slice());
 }
 
 #[test]
 fn an_outbox_over_a_sink_that_fails_has_handed_a_front_on(rt: HostRuntime) {
-    let mut out = Vec::new(rt.alloc());
-    let told = three_lines(&mut Outbox::new(rt.alloc(), FailAfter::new(Writer::new(&mut out), 4)));
+    let mut out = Vec::<u8>::new(rt.alloc());
+    let told = three_lines(rt.alloc(), FailAfter::new(Writer::new(&mut out), 4));
     assert!(rt; told.is_err() && out.as_slice() == b"ab\nc".as_slice());
 }
 
 #[test]
 fn an_outbox_hands_on_what_it_has_no_room_for(rt: HostRuntime) -> Result<(), Fail> {
     let long = vec![in rt.alloc(); b'x'; 20_000]?;
-    let mut out = Vec::new(rt.alloc());
-    let told = write_all(
-        &mut Outbox::new(rt.alloc(), Writer::new(&mut out)),
-        long.as_slice(),
-    );
-    assert!(rt; told.is_ok() && out.as_slice() == long.as_slice());
+    let mut out = Vec::<u8>::new(rt.alloc());
+    let told = all_through(rt.alloc(), Writer::new(&mut out), long.as_slice());
+    assert!(rt; told.is_ok() && *out.as_slice() == *long.as_slice());
     Ok(())
 }
