@@ -12,7 +12,7 @@ use crate::cursor::{read_expr, read_variable};
 use crate::name::Name;
 use crate::request::{Ask, Request};
 use doc_words::Look;
-use json_scalar::{Refusal, Val};
+use json_scalar::{Refusal, Val, val_from_json};
 use op_core::{Front, Mutation, read_front, read_id, read_wire};
 use serde_json::Value;
 use std::alloc::Global;
@@ -295,8 +295,8 @@ fn read_mutation(alloc: Global, verb: &str, value: &Value) -> Result<Mutation, R
     ensures { UnlessMemory result (asked_mutation verb.now (view value.now)) }
 {
     match verb {
-        "assign" => Ok(Mutation::Assign(Val::from_json(alloc, value)?)),
-        "insert" => Ok(Mutation::Insert(Val::from_json(alloc, value)?)),
+        "assign" => Ok(Mutation::Assign(val_from_json(alloc, value)?)),
+        "insert" => Ok(Mutation::Insert(val_from_json(alloc, value)?)),
         "add" => read_addition(value),
         _ => Err(Refusal::BadRequest),
     }
