@@ -1,5 +1,6 @@
-//! Tests of servers over a copy: one start after another, sessions and disks that fail, starts that are refused. They stand above
-//! the crate that they try, so that it is proved once and not again for its tests.
+//! Tests of copies of logs, and of servers over them: batches and formats, one start after another, sessions and disks that fail, starts
+//! that are refused. They stand above the crates that they try, so that those are proved once and not again for their tests, and in one
+//! crate, since a program over a database is dear to compile.
 #![tactic(auto)]
 
 #[cfg(test)]

@@ -1,6 +1,8 @@
 //! Servers over a copy: what they serve and copy, and what the next one starts from.
 mod command_lines;
+mod copies;
 mod deeds;
+mod disks;
 mod faults;
 mod files;
 mod notes;

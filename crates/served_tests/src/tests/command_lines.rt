@@ -16,6 +16,7 @@ use std::fs;
 use std::marker::Brand;
 use std::net::{Net, TcpListener, TcpStream};
 use std::sync::Wait;
+use std::test::Fail;
 use std::thread::Threads;
 use std::time::Clock;
 
@@ -172,6 +173,28 @@ fn checks(rt: HostRuntime) {
     let is_removed = fs::remove_file(&rt, "jcrdt-check-test.db").is_ok();
     holds(&rt, is_removed, "the file that was made is removed");
     let _log = fs::remove_file(&rt, "jcrdt-check-test.db-wal");
+}
+
+/// A folder of this test alone, and a file in it.
+const FOLDER: &str = "jcrdt-no-database-test";
+
+const NO_DATABASE: &str = "jcrdt-no-database-test/copy.db";
+
+const BYTES: &str = "no database, but some bytes that a person wrote";
+
+// A file that is no database is refused, and has each byte that it had.
+#[test]
+fn no_database(rt: HostRuntime) -> Result<(), Fail> {
+    let _ = fs::remove_dir_all(&rt, FOLDER);
+    fs::create_dir(&rt, FOLDER)?;
+    fs::write(&rt, NO_DATABASE, BYTES.as_bytes())?;
+    let line = "check --file jcrdt-no-database-test/copy.db";
+    let told = tells(&rt, line, 1, "[\"no\",26,\"copy-refused\"]\n");
+    holds(&rt, matches!(told, Ok(true)), "it is refused");
+    let bytes = fs::read(&rt, NO_DATABASE)?;
+    assert_eq!(rt; bytes.as_slice(), BYTES.as_bytes());
+    fs::remove_dir_all(&rt, FOLDER)?;
+    Ok(())
 }
 
 /// Whether a line asks for no server, with nothing written.

@@ -1,5 +1,7 @@
 //! What is done with a copy, one deed after another, and what each has to tell. All of it stands over any store, since each call that
 //! names a store in files is dear to prove.
+use super::disks::new_files;
+use super::files::done_in_files;
 use super::serving::{Start, started};
 use super::told::{counts, holds, is_told};
 use super::watched::faults_told;
@@ -93,22 +95,14 @@ pub fn all_done<R: Threads + Wait + Abort + Sync + Log + Clock, S: Alter + Drop>
     Ok(copy.into_connection().into_store())
 }
 
-fn done_in_memory<R: Threads + Wait + Abort + Sync + Log + Clock>(
-    rt: &R,
-    alloc: Global,
-    case: &Case<'_>,
-) -> Result<(), AllocError> {
-    let _store = all_done(rt, alloc, case, Connection::open_in_memory(alloc)?)?;
-    Ok(())
-}
-
-/// Does each of these cases over an empty copy in memory.
+/// Does each of these cases over an empty copy in files in memory.
 pub fn all_in_memory<R: Threads + Wait + Abort + Sync + Log + Clock>(
     rt: &R,
     alloc: Global,
     cases: &[Case<'_>],
 ) {
     for case in cases {
-        holds(rt, done_in_memory(rt, alloc, case).is_ok(), case.name);
+        let done = done_in_files(rt, alloc, case, new_files(alloc, u64::MAX, u64::MAX));
+        holds(rt, done.is_ok(), case.name);
     }
 }

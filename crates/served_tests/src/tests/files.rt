@@ -1,8 +1,10 @@
 //! Copies in two files, the log and the database itself. This stands over any disks: each call that names a store in files is dear to
 //! prove, and at disks of one kind twice as dear.
-use super::deeds::{Case, Deed, all_done};
+use super::deeds::{Case, Deed, adopted, all_done};
+use super::disks::connected;
 use log::Log;
-use sqlite::{Connection, FileStore, Options};
+use log_copy::LogCopy;
+use sqlite::{Alter, Connection, Error, FileStore};
 use sqlite_disk::{Crash, Disk, Files};
 use std::alloc::{AllocError, Global};
 use std::process::Abort;
@@ -10,28 +12,27 @@ use std::sync::Wait;
 use std::thread::Threads;
 use std::time::Clock;
 
-/// The database in the files. Where they can't be opened memory is said to be wanting.
-fn connected<D: Disk + Drop>(
+/// The copy in the files. Where they can't be opened, or hold no copy, memory is said to be wanting.
+pub fn adopted_in<D: Disk + Drop>(
     alloc: Global,
     files: Files<D>,
-) -> Result<Connection<FileStore<D>>, AllocError> {
-    if !files.may_be_used() {
-        return Err(AllocError);
-    }
-    match Connection::open_files(alloc, files, Options::new(1)) {
-        Ok(conn) => Ok(conn),
+) -> Result<LogCopy<FileStore<D>>, AllocError> {
+    match connected(alloc, files) {
+        Ok(conn) => adopted(alloc, conn),
         Err(_) => Err(AllocError),
     }
 }
 
 /// Does all of it with the copy in the files, and then leaves them as they are.
-fn done_in_files<R: Threads + Wait + Abort + Sync + Log + Clock, D: Disk + Drop>(
+pub fn done_in_files<R: Threads + Wait + Abort + Sync + Log + Clock, D: Disk + Drop>(
     rt: &R,
     alloc: Global,
     case: &Case<'_>,
     files: Files<D>,
 ) -> Result<Files<D>, AllocError> {
-    let conn = connected(alloc, files)?;
+    let Ok(conn) = connected(alloc, files) else {
+        return Err(AllocError);
+    };
     let store = all_done(rt, alloc, case, conn)?;
     Ok(store.close())
 }
@@ -53,5 +54,19 @@ pub fn done_around_a_crash<R: Threads + Wait + Abort + Sync + Log + Clock, D: Cr
         deeds: after,
     };
     let _left = done_in_files(rt, alloc, &again, files)?;
+    Ok(())
+}
+
+/// Does all of it with the copy that was opened. Where there is none memory is said to be wanting.
+pub fn done_over<R: Threads + Wait + Abort + Sync + Log + Clock, S: Alter + Drop>(
+    rt: &R,
+    alloc: Global,
+    case: &Case<'_>,
+    opened: Result<Connection<S>, Error>,
+) -> Result<(), AllocError> {
+    let Ok(conn) = opened else {
+        return Err(AllocError);
+    };
+    let _store = all_done(rt, alloc, case, conn)?;
     Ok(())
 }

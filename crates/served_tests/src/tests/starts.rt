@@ -1,6 +1,12 @@
 //! One start after another from the same copy.
 use super::deeds::{Case, Deed, all_in_memory};
+use super::files::done_over;
 use super::serving::{Session, Start, THREE_WHOLE, TWO_WHOLE};
+use super::told::holds;
+use sqlite::Connection;
+use std::fs;
+use std::rt::HostRuntime;
+use std::test::Fail;
 
 /// A session of one line whose source never fails.
 const QUITS: Session<'static> = Session {
@@ -165,4 +171,52 @@ static STARTS: [Case<'static>; 4] = [
 #[test]
 fn starts(rt: HostRuntime) {
     all_in_memory(&rt, rt.alloc(), &STARTS);
+}
+
+const FOLDER: &str = "jcrdt-starts-test";
+
+const PATH: &str = "jcrdt-starts-test/copy.db";
+
+/// What is done with a file, which is closed and opened again between these.
+static OPENED_AGAIN: [Case<'static>; 2] = [
+    Case {
+        name: "a file that is new",
+        documents: &["d"],
+        deeds: &[Deed::Serves(Start {
+            server: "srv",
+            sessions: &[THREE_WHOLE],
+            status: 0,
+            totals: b"[\"total\",\"d\",3,3,3]\n",
+            replies: None,
+        })],
+    },
+    Case {
+        name: "the file opened again",
+        documents: &["d"],
+        deeds: &[
+            Deed::Holds(b"[\"doc\",\"d\",3,[[\"srv-1\",3]]]\n[\"epoch\",1]\n"),
+            Deed::Serves(Start {
+                server: "srv",
+                sessions: &[QUITS],
+                status: 0,
+                totals: b"[\"total\",\"d\",0,3,3]\n",
+                replies: Some(b"[\"bye\"]\n"),
+            }),
+        ],
+    },
+];
+
+fn is_done_in_file(rt: &HostRuntime, case: &Case<'_>) -> bool {
+    done_over(rt, rt.alloc(), case, Connection::open(rt, PATH)).is_ok()
+}
+
+#[test]
+fn opened_again(rt: HostRuntime) -> Result<(), Fail> {
+    let _ = fs::remove_dir_all(&rt, FOLDER);
+    fs::create_dir(&rt, FOLDER)?;
+    for case in &OPENED_AGAIN {
+        holds(&rt, is_done_in_file(&rt, case), case.name);
+    }
+    fs::remove_dir_all(&rt, FOLDER)?;
+    Ok(())
 }

@@ -1,23 +1,15 @@
 //! Disks that stop while a server runs or a copier copies.
 use super::deeds::{Case, Deed};
+use super::disks::new_files;
 use super::files::done_around_a_crash;
 use super::serving::{Start, THREE_WHOLE};
 use super::told::holds;
 use log::Log;
-use sqlite_disk::{Files, Fuse, Memory};
 use std::alloc::{AllocError, Global};
 use std::process::Abort;
 use std::sync::Wait;
 use std::thread::Threads;
 use std::time::Clock;
-
-/// New files, the first of which stops after so many calls.
-fn files_that_stop(alloc: Global, calls: u64) -> Files<Fuse<Memory>> {
-    Files {
-        log: Fuse::new(Memory::new(alloc), calls),
-        db: Fuse::new(Memory::new(alloc), u64::MAX),
-    }
-}
 
 /// What is done with a copy whose disk stops after so many calls, and with what it leaves in the files.
 struct Stop {
@@ -81,7 +73,7 @@ fn ends<R: Threads + Wait + Abort + Sync + Log + Clock>(
     alloc: Global,
     stop: &Stop,
 ) -> Result<(), AllocError> {
-    let files = files_that_stop(alloc, stop.calls);
+    let files = new_files(alloc, stop.calls, u64::MAX);
     done_around_a_crash(rt, alloc, &stop.case, stop.after, files)
 }
 

@@ -1,9 +1,10 @@
 //! Sessions over loopback, with both ends in one process, from a copy in memory.
-use super::super::deeds::adopted;
+use super::super::disks::new_files;
+use super::super::files::adopted_in;
 use super::super::told::{holds, is_told};
 use commands::serve_on;
 use log::Log;
-use sqlite::Connection;
+use sqlite_disk::{Disk, Files};
 use std::alloc::{AllocError, Global};
 use std::io;
 use std::io::Write;
@@ -84,14 +85,15 @@ fn replies(alloc: Global, clients: Vec<TcpStream>) -> io::Result<Vec<String>> {
     Ok(all)
 }
 
-/// Serves so many connections over at most 16 documents and an empty copy: the status, and what was written. It promises nothing, so
-/// that the proof of its caller carries no clause of a server.
-fn serve<R: Threads + Wait + Sync + Log + Clock>(
+/// Serves so many connections over at most 16 documents and a copy in new files: the status, and what was written. It promises nothing,
+/// so that the proof of its caller carries no clause of a server.
+fn serve<R: Threads + Wait + Sync + Log + Clock, D: Disk + Drop>(
     rt: &R,
     alloc: Global,
     documents: &[&str],
     listener: &TcpListener,
     sessions: usize,
+    files: Files<D>,
 ) -> Result<(u8, Vec<u8>), AllocError> {
     let mut out = Vec::new(alloc);
     let Ok(sessions) = u16::try_from(sessions) else {
@@ -100,7 +102,7 @@ fn serve<R: Threads + Wait + Sync + Log + Clock>(
     if documents.len() > 16 {
         return Ok((2, out));
     }
-    let mut copy = adopted(alloc, Connection::open_in_memory(alloc)?)?;
+    let mut copy = adopted_in(alloc, files)?;
     let status = serve_on(
         rt, alloc, "srv", documents, listener, sessions, &mut copy, &mut out,
     );
@@ -116,7 +118,8 @@ fn served<R: Net<Listener = TcpListener, Stream = TcpStream> + Threads + Wait + 
 ) -> io::Result<Told> {
     let listener = TcpListener::bind(rt, "127.0.0.1:0")?;
     let clients = clients(rt, alloc, &listener, sent)?;
-    let (status, out) = serve(rt, alloc, documents, &listener, sent.len())?;
+    let files = new_files(alloc, u64::MAX, u64::MAX);
+    let (status, out) = serve(rt, alloc, documents, &listener, sent.len(), files)?;
     Ok(Told {
         status,
         out,

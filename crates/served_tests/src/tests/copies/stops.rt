@@ -1,7 +1,8 @@
 //! A stop at each call of the disks: afterwards all that was answered is there, and of a batch all or nothing.
-use super::disks::{Stopping, crash, new_files, walked_over};
+use super::super::disks::{Stopping, crash, new_files};
 use super::samples;
 use super::steps::{Step, StepAnswer};
+use super::walks::walked_over;
 use json_scalar::Refusal;
 use log_copy::Fault;
 use op_core::Operation;

@@ -1,13 +1,12 @@
 //! What is told of a copy that was opened, and of one that was not.
-use copy_files::check_file;
+use super::super::disks::{Stopping, connected, new_files};
 use copy_report::check_opened;
 use line_feed::Writer;
 use line_feed::doubles::FailAfter;
 use log_copy::{Fault, LogCopy};
-use sqlite::{Alter, Connection, MemStore};
+use sqlite::{Alter, Connection, FileStore};
+use sqlite_disk::{Disk, Files};
 use std::alloc::{AllocError, Global};
-use std::fs;
-use std::test::Fail;
 
 /// The status, and what a sink has taken that fails after so many bytes.
 fn told<S: Alter + Drop>(
@@ -21,19 +20,31 @@ fn told<S: Alter + Drop>(
     (status, out)
 }
 
-/// A copy in memory, after these statements.
-fn opened(alloc: Global, sql: &str) -> Result<Result<LogCopy<MemStore>, Fault>, AllocError> {
-    let mut conn = Connection::open_in_memory(alloc)?;
-    if conn.execute_batch(sql).is_err() {
-        return Err(AllocError);
-    }
+fn adopted<S: Alter + Drop>(alloc: Global, conn: Connection<S>) -> Result<LogCopy<S>, Fault> {
     match LogCopy::adopt(alloc, conn) {
-        Ok(copy) => Ok(Ok(copy)),
-        Err((fault, _)) => Ok(Err(fault)),
+        Ok(copy) => Ok(copy),
+        Err((fault, _)) => Err(fault),
     }
 }
 
-/// Whether this status and this text are told of a copy in memory after these statements, by a sink that fails after so many bytes.
+/// What is told of the copy in the files after these statements, by a sink that fails after so many bytes.
+fn told_in<D: Disk + Drop>(
+    alloc: Global,
+    files: Files<D>,
+    sql: &str,
+    after: usize,
+) -> Result<(u8, Vec<u8>), AllocError> {
+    let Ok(conn) = connected(alloc, files) else {
+        return Err(AllocError);
+    };
+    let mut conn = conn;
+    if conn.execute_batch(sql).is_err() {
+        return Err(AllocError);
+    }
+    Ok(told(alloc, adopted(alloc, conn), after))
+}
+
+/// Whether this status and this text are told of a copy after these statements, by a sink that fails after so many bytes.
 fn is_told(
     alloc: Global,
     sql: &str,
@@ -41,7 +52,8 @@ fn is_told(
     status: u8,
     text: &[u8],
 ) -> Result<bool, AllocError> {
-    let (found, out) = told(alloc, opened(alloc, sql)?, after);
+    let files = new_files(alloc, u64::MAX, u64::MAX);
+    let (found, out) = told_in(alloc, files, sql, after)?;
     Ok(found == status && *out.as_slice() == *text)
 }
 
@@ -75,27 +87,14 @@ fn reports(rt: HostRuntime) {
     }
 }
 
-#[test]
-fn another_fault(rt: HostRuntime) -> Result<(), Fail> {
-    let none: Result<LogCopy<MemStore>, Fault> = Err(Fault::Store);
-    let (status, out) = told(rt.alloc(), none, usize::MAX);
-    assert_eq!(rt; status, 1);
-    assert!(rt; out.is_empty());
-    Ok(())
+/// What is told where a copy could not be opened.
+fn told_unopened<D: Disk + Drop>(alloc: Global, fault: Fault) -> (u8, Vec<u8>) {
+    told::<FileStore<D>>(alloc, Err(fault), usize::MAX)
 }
 
-const FILE: &str = "copy-report-test.db";
-
 #[test]
-fn a_file_twice(rt: HostRuntime) -> Result<(), Fail> {
-    let alloc = rt.alloc();
-    for _ in 0..2 {
-        let mut out = Vec::<u8>::new(alloc);
-        let status = check_file(&rt, alloc, FILE, &mut Writer::new(&mut out));
-        assert_eq!(rt; out.as_slice(), b"[\"epoch\",0]\n".as_slice());
-        assert_eq!(rt; status, 0);
-    }
-    fs::remove_file(&rt, FILE)?;
-    let _log = fs::remove_file(&rt, "copy-report-test.db-wal");
-    Ok(())
+fn another_fault(rt: HostRuntime) {
+    let (status, out) = told_unopened::<Stopping>(rt.alloc(), Fault::Store);
+    assert_eq!(rt; status, 1);
+    assert!(rt; out.is_empty());
 }

@@ -1,7 +1,9 @@
 //! Steps over one database. Each call of the copy stands in a function of its own that promises nothing, so that the proof of a
 //! list of steps carries none of its clauses.
+use super::super::disks::new_files;
 use super::restored::{is_edited_after, is_restored};
 use super::samples;
+use super::walks::walked_over;
 use copy_report::check_over;
 use json_scalar::Refusal;
 use line_feed::Writer;
@@ -311,17 +313,6 @@ pub fn walked<S: Alter + Drop>(
     (given_back(held), None)
 }
 
-/// The same without the tables.
-pub fn first_other<S: Alter + Drop>(
-    alloc: Global,
-    conn: Connection<S>,
-    log: &[Operation],
-    steps: &[(Step<'_>, StepAnswer)],
-) -> Option<(usize, StepAnswer)> {
-    let (_, other) = walked(alloc, conn, log, steps);
-    other
-}
-
 fn log_of(alloc: Global, log: Log<'_>) -> Result<Vec<Operation>, Refusal> {
     match log {
         Log::Texts(texts) => samples::operations(alloc, texts),
@@ -331,11 +322,12 @@ fn log_of(alloc: Global, log: Log<'_>) -> Result<Vec<Operation>, Refusal> {
 
 fn told_in_memory(alloc: Global, case: &Case<'_>) -> Result<Option<(usize, StepAnswer)>, Refusal> {
     let log = log_of(alloc, case.log)?;
-    let conn = Connection::open_in_memory(alloc)?;
-    Ok(first_other(alloc, conn, log.as_slice(), case.steps))
+    let files = new_files(alloc, u64::MAX, u64::MAX);
+    let (_, other) = walked_over(alloc, files, log.as_slice(), case.steps);
+    Ok(other)
 }
 
-/// Over an empty database in memory each step of each of these cases tells what is due.
+/// Over an empty database in files in memory each step of each of these cases tells what is due.
 pub fn all_told<R: Abort>(rt: &R, alloc: Global, cases: &[Case<'_>]) {
     for case in cases {
         let name = case.name;

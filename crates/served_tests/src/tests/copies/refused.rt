@@ -1,6 +1,7 @@
 //! Databases that are no copy, each made for what is wrong with it. A file that is refused has each byte that it had.
-use super::disks::{Stopping, made, walked_over};
+use super::super::disks::Stopping;
 use super::steps::{REFUSED, Step, StepAnswer};
+use super::walks::{made, walked_over};
 use sqlite_disk::Files;
 use std::alloc::{AllocError, Global};
 use std::test::Fail;

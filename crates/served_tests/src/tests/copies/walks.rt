@@ -1,33 +1,10 @@
-//! Databases in two files in memory, the log and the database itself. Each of the two stops after so many calls.
+//! Steps over databases in two files in memory.
+use super::super::disks::{Stopping, connected, new_files};
 use super::steps::{Step, StepAnswer, walked};
 use op_core::Operation;
-use sqlite::{Connection, FileStore, Options};
-use sqlite_disk::{Crash, Disk, Files, Fuse, Memory};
+use sqlite::{Connection, FileStore};
+use sqlite_disk::{Disk, Files};
 use std::alloc::Global;
-
-pub type Stopping = Fuse<Memory>;
-
-/// Two files with nothing in them.
-pub fn new_files(alloc: Global, log_calls: u64, db_calls: u64) -> Files<Stopping> {
-    Files {
-        log: Fuse::new(Memory::new(alloc), log_calls),
-        db: Fuse::new(Memory::new(alloc), db_calls),
-    }
-}
-
-// The files come back where they can't be opened.
-fn connected<D: Disk + Drop>(
-    alloc: Global,
-    files: Files<D>,
-) -> Result<Connection<FileStore<D>>, Files<D>> {
-    if !files.may_be_used() {
-        return Err(files);
-    }
-    match Connection::open_files(alloc, files, Options::new(1)) {
-        Ok(conn) => Ok(conn),
-        Err((_, left)) => Err(left.into_files()),
-    }
-}
 
 // Takes the steps over a database in two files. This stands here once and over any disks, since each call that names a store in files is
 // dear to prove.
@@ -72,10 +49,4 @@ fn made_in<D: Disk + Drop>(
 /// The files of a database that these steps made, with all of it in the second of them.
 pub fn made(alloc: Global, steps: &[(Step<'_>, StepAnswer)]) -> Option<Files<Stopping>> {
     made_in(alloc, new_files(alloc, u64::MAX, u64::MAX), steps)
-}
-
-/// The machine stops, and comes back with disks that stop no more.
-pub fn crash(files: &mut Files<Stopping>) {
-    files.log.crash();
-    files.db.crash();
 }

@@ -1,0 +1,11 @@
+//! Copies of logs: restarts, batches, formats and further tables. A test is a list of steps over one database, each with what it has to
+//! tell.
+mod formats;
+mod kept;
+mod refused;
+mod reports;
+mod restored;
+mod samples;
+mod steps;
+mod stops;
+mod walks;
