@@ -1,4 +1,5 @@
 //! Servers over a copy: what they serve and copy, and what the next one starts from.
+mod addresses;
 mod command_lines;
 mod copies;
 mod deeds;

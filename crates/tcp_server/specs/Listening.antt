@@ -12,3 +12,7 @@ listening_line address = codes "[\"listening\",\"" ++ (socket_text address ++ co
 pub record TellsAddress (held holds : Option (List ℕ)) : Type 0 where
   pub address : SocketAddr
   pub told : Appends held holds (listening_line address)
+
+-- what is told of an address that is none
+abbrev pub hint : List ℕ
+hint = codes "; HOST:PORT is wanted, as 127.0.0.1:7001 or [::1]:7001"

@@ -3,8 +3,6 @@
 
 mod accepting;
 mod listening;
-#[cfg(test)]
-mod tests;
 
 pub use accepting::{Accepting, Sent, connections};
-pub use listening::listen;
+pub use listening::{hint_of, listen};

@@ -1,6 +1,7 @@
 //! Where a server listens.
-ghost use Rattle.std.specs.Prelude.{IfSome, OnOk};
-ghost use Rattle.tcp_server.specs.Listening.{TellsAddress};
+ghost use Rattle.std.specs.Prelude.{◌≡◌, ◌≢◌, [], IfSome, OnOk};
+ghost use Rattle.std.specs.IoError.{error_kind};
+ghost use Rattle.tcp_server.specs.Listening.{TellsAddress, hint};
 
 use log::Log;
 use server_notes::note_listening;
@@ -20,12 +21,14 @@ fn tell_address<W: io::Write>(alloc: Global, listener: &TcpListener, out: &mut W
     out.flush()
 }
 
-/// What is right where the address is no address; nothing where it is one.
-pub fn hint_of(error: &io::Error) -> &'static str {
-    if error.kind() == ErrorKind::InvalidInput {
-        "; HOST:PORT is wanted, as 127.0.0.1:7001 or [::1]:7001"
-    } else {
-        ""
+/// What is right where an address that can't be listened at is no address; nothing where it is one.
+pub fn hint_of(error: &io::Error) -> &'static str
+    ensures hinted { error_kind error.now ≡ ErrorKind.InvalidInput → result.now ≡ hint }
+    ensures nothing { error_kind error.now ≢ ErrorKind.InvalidInput → result.now ≡ [] }
+{
+    match error.kind() {
+        ErrorKind::InvalidInput => "; HOST:PORT is wanted, as 127.0.0.1:7001 or [::1]:7001",
+        _ => "",
     }
 }
 

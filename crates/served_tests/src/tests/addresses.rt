@@ -1,10 +1,10 @@
 //! Addresses that can't be listened at.
-use crate::listening::{hint_of, listen};
 use log::Log;
 use std::alloc::Global;
 use std::net::{Net, TcpListener, TcpStream};
 use std::test::Fail;
 use std::time::Clock;
+use tcp_server::{hint_of, listen};
 
 /// Whether no listener is had at the address, nothing is written, and standard error is told what is right.
 fn is_no_address<R: Net<Listener = TcpListener, Stream = TcpStream> + Eprint + Log + Clock>(
