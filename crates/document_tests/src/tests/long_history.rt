@@ -1,7 +1,7 @@
 //! A history of 2,000 operations of four replicas: maps, lists, deletes, additions, and much that is concurrent.
 use crate::alike::{agree_at, is_free_at, show_alike};
 use crate::history::make_history;
-use crate::holds::no_fault;
+use crate::holds::no_fault_of;
 use crate::sites::{Site, add_operation};
 use converge_laws::replay_all;
 use doc_tree::Tree;
@@ -170,6 +170,6 @@ fn fault_of_history(alloc: Global) -> Result<(&'static str, &'static str), Refus
 #[test]
 fn long_history(rt: HostRuntime) -> Result<(), Fail> {
     let (case, fault) = fault_of_history(rt.alloc())?;
-    no_fault(&rt, case, fault);
+    no_fault_of(&rt, case, fault);
     Ok(())
 }

@@ -1,5 +1,5 @@
 use Rattle.std.proofs.Common.{◌+◌, ◌*◌}
-use Rattle.whole_tests.proofs.plain_shown.+shown.Given as goal
+use Rattle.document_tests.proofs.plain_shown.+shown.Given as goal
 
 abbrev pub decreases-write_members : goal.decreases-write_members
 decreases-write_members l = 4 * l.depth + 2

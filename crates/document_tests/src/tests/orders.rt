@@ -1,5 +1,5 @@
 //! Each causal order of the operations of a worked history says the same, and what the history says.
-use crate::holds::no_fault;
+use crate::holds::no_fault_of;
 use crate::orders::{History, Log, fault_of, fault_of_exchange};
 use crate::readings::Due;
 use json_scalar::Refusal;
@@ -143,7 +143,7 @@ fn fault_of_histories(alloc: Global) -> Result<(&'static str, &'static str), Ref
 #[test]
 fn histories_in_each_order(rt: HostRuntime) -> Result<(), Fail> {
     let (name, fault) = fault_of_histories(rt.alloc())?;
-    no_fault(&rt, name, fault);
+    no_fault_of(&rt, name, fault);
     Ok(())
 }
 
@@ -163,6 +163,6 @@ const BOTH: [Due<'static>; 1] = [Due::Conflicts(&[(1, "b-1", "B"), (2, "srv-1", 
 #[test]
 fn exchange_of_two_each_way(rt: HostRuntime) -> Result<(), Fail> {
     let fault = fault_of_exchange(rt.alloc(), &OURS, &THEIRS, "k", &BOTH)?;
-    no_fault(&rt, "exchange_of_two_each_way", fault);
+    no_fault_of(&rt, "exchange_of_two_each_way", fault);
     Ok(())
 }
