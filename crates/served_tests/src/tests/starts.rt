@@ -3,10 +3,15 @@ use super::deeds::{Case, Deed, all_in_memory};
 use super::files::done_over;
 use super::serving::{Session, Start, THREE_WHOLE, TWO_WHOLE};
 use super::told::holds;
+use log::Log;
 use sqlite::Connection;
 use std::fs;
+use std::process::Abort;
 use std::rt::HostRuntime;
+use std::sync::Wait;
 use std::test::Fail;
+use std::thread::Threads;
+use std::time::Clock;
 
 /// A session of one line whose source never fails.
 const QUITS: Session<'static> = Session {
@@ -206,8 +211,12 @@ static OPENED_AGAIN: [Case<'static>; 2] = [
     },
 ];
 
-fn is_done_in_file(rt: &HostRuntime, case: &Case<'_>) -> bool {
-    done_over(rt, rt.alloc(), case, Connection::open(rt, PATH)).is_ok()
+fn is_done_in_file<R: Threads + Wait + Abort + Sync + Log + Clock>(
+    host: &HostRuntime,
+    rt: &R,
+    case: &Case<'_>,
+) -> bool {
+    done_over(rt, host.alloc(), case, Connection::open(host, PATH)).is_ok()
 }
 
 #[test]
@@ -215,7 +224,7 @@ fn opened_again(rt: HostRuntime) -> Result<(), Fail> {
     let _ = fs::remove_dir_all(&rt, FOLDER);
     fs::create_dir(&rt, FOLDER)?;
     for case in &OPENED_AGAIN {
-        holds(&rt, is_done_in_file(&rt, case), case.name);
+        holds(&rt, is_done_in_file(&rt, &rt, case), case.name);
     }
     fs::remove_dir_all(&rt, FOLDER)?;
     Ok(())
