@@ -10,6 +10,6 @@ mod usage;
 
 pub use check::check_words;
 pub use command_line::{is_check, is_run, is_serve};
-pub use run::{run_asked, run_words};
-pub use serve::{serve_on, serve_words};
+pub use run::run_words;
+pub use serve::serve_words;
 pub use usage::{USAGE, VERSION, cause_of, usage_of};

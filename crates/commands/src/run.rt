@@ -15,7 +15,7 @@ use std::alloc::Global;
 /// Runs the session that clap's matches ask for, and gives the program's status: 2 where a name is bad or there are too many
 /// documents, with nothing read or written, and never where they are good; 1 where a device failed, or for want of memory
 /// before anything was read or written.
-pub fn run_asked<M: Maker, R: Source, W: Sink>(
+fn run_asked<M: Maker, R: Source, W: Sink>(
     alloc: Global,
     maker: &mut M,
     matches: &ArgMatches<'_>,

@@ -30,7 +30,7 @@ const SERVE_FAULT: &str =
     "jcrdt: the copy or standard output failed, or memory is wanting: `jcrdt check` tells what the file holds";
 
 /// Serves so many sessions, each over a connection of the listener, from the copy, as `serve_over`.
-pub fn serve_on<R: Threads + Wait + Sync + Log + Clock, S: Alter, W: io::Write>(
+fn serve_on<R: Threads + Wait + Sync + Log + Clock, S: Alter, W: io::Write>(
     rt: &R,
     alloc: Global,
     name: &str,

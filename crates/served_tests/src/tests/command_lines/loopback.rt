@@ -2,8 +2,8 @@
 use super::super::disks::new_files;
 use super::super::files::adopted_in;
 use super::super::told::{holds, is_told};
-use commands::serve_on;
 use log::Log;
+use served_copy::serve_over;
 use sqlite_disk::{Disk, Files};
 use std::alloc::{AllocError, Global};
 use std::io;
@@ -14,6 +14,7 @@ use std::sync::Wait;
 use std::test::Fail;
 use std::thread::Threads;
 use std::time::Clock;
+use tcp_server::connections;
 
 const THREE: &[u8] = br#"["open","d"]
 ["assign","d",[0,"a"],1]
@@ -103,9 +104,8 @@ fn serve<R: Threads + Wait + Sync + Log + Clock, D: Disk + Drop>(
         return Ok((2, out));
     }
     let mut copy = adopted_in(alloc, files)?;
-    let status = serve_on(
-        rt, alloc, "srv", documents, listener, sessions, &mut copy, &mut out,
-    );
+    let all = connections(alloc, listener, sessions)?;
+    let status = serve_over(rt, alloc, "srv", documents, all, &mut copy, &mut out);
     Ok((status, out))
 }
 
