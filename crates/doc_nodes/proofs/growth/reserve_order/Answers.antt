@@ -1,9 +1,9 @@
-use Rattle.std.proofs.Common.{◌≡◌, ◌<◌, length, sym, ap, subst, ◌∙◌}
+use Rattle.std.proofs.Common.{◌≡◌, ap, ◌∙◌}
 use Rattle.std.proofs.lemmas.List.{get_or_default}
 use Rattle.doc_nodes.specs.declared.node.Node.{Node}
 use Rattle.doc_nodes.specs.Nodes.{blank_node, node_of}
 use Rattle.doc_nodes.proofs.Adding.{more_order}
-use Rattle.doc_nodes.proofs.Marking.{here-set, tree-set}
+use Rattle.doc_nodes.proofs.Marking.{tree-set}
 use Rattle.doc_nodes.proofs.growth.reserve_order.Goals as goal
 
 pub returns-in_err-reserve_one-clause-tree : goal.returns-in_err-reserve_one-clause-tree
@@ -33,9 +33,3 @@ returns-clause-grows c =
     let node = c.index_mut-node.result.now in
     let is : node ≡ node_of items c.args.at = c.index_mut-node.ensures.value ∙ get_or_default items c.args.at.0 node blank_node c.requires.known in
     more_order items c.args.at c.requires.known node is c.reserve_one.new.self c.reserve_one.ensures.same c.reserve_one.ensures.grows
-
-pub returns-clause-room : goal.returns-clause-room
-returns-clause-room c =
-    let items = c.args.nodes.now.items in
-    let node = c.index_mut-node.result.now in
-    subst (λ (z : Node). length z.order.0 < z.order.1) (sym (here-set items c.args.at (record node { order = c.reserve_one.new.self }) c.requires.known)) c.in_ok-reserve_one.ensures.room

@@ -1,9 +1,9 @@
-use Rattle.std.proofs.Common.{◌≡◌, ◌<◌, length, sym, ap, subst, ◌∙◌}
+use Rattle.std.proofs.Common.{◌≡◌, ap, ◌∙◌}
 use Rattle.std.proofs.lemmas.List.{get_or_default}
 use Rattle.doc_nodes.specs.declared.node.Node.{Node}
 use Rattle.doc_nodes.specs.Nodes.{blank_node, node_of}
 use Rattle.doc_nodes.proofs.Adding.{more_register, more_counter}
-use Rattle.doc_nodes.proofs.Marking.{here-set, tree-set}
+use Rattle.doc_nodes.proofs.Marking.{tree-set}
 use Rattle.doc_nodes.proofs.growth.reserve_value.Goals as goal
 
 pub returns-in_err-reserve_one-clause-tree : goal.returns-in_err-reserve_one-clause-tree
@@ -61,15 +61,3 @@ returns-in_ok-reserve_one-2-clause-grows c =
     let node = c.index_mut-node.result.now in
     let is : node ≡ node_of items c.args.at = c.index_mut-node.ensures.value ∙ get_or_default items c.args.at.0 node blank_node c.requires.known in
     more_register items c.args.at c.requires.known node is c.reserve_one-else-adds.new.self c.reserve_one-else-adds.ensures.same c.reserve_one-else-adds.ensures.grows
-
-pub returns-in_ok-reserve_one-clause-counter : goal.returns-in_ok-reserve_one-clause-counter
-returns-in_ok-reserve_one-clause-counter c = λ adds.
-    let items = c.args.nodes.now.items in
-    let node = c.index_mut-node.result.now in
-    subst (λ (z : Node). length z.counter.0 < z.counter.1) (sym (here-set items c.args.at (record node { counter = c.reserve_one.new.self }) c.requires.known)) c.in_ok-reserve_one.ensures.room
-
-pub returns-in_ok-reserve_one-2-clause-register : goal.returns-in_ok-reserve_one-2-clause-register
-returns-in_ok-reserve_one-2-clause-register c = λ enters.
-    let items = c.args.nodes.now.items in
-    let node = c.index_mut-node.result.now in
-    subst (λ (z : Node). length z.register.0 < z.register.1) (sym (here-set items c.args.at (record node { register = c.reserve_one-else-adds.new.self }) c.requires.known)) c.in_ok-reserve_one-2.ensures.room
