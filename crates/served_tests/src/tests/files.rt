@@ -1,27 +1,15 @@
 //! Copies in two files, the log and the database itself. This stands over any disks: each call that names a store in files is dear to
 //! prove, and at disks of one kind twice as dear.
-use super::deeds::{Case, Deed, adopted, all_done};
+use super::deeds::{Case, Deed, all_done};
 use super::disks::connected;
 use log::Log;
-use log_copy::LogCopy;
-use sqlite::{Alter, Connection, Error, FileStore};
+use sqlite::{Alter, Connection, Error};
 use sqlite_disk::{Crash, Disk, Files};
 use std::alloc::{AllocError, Global};
 use std::process::Abort;
 use std::sync::Wait;
 use std::thread::Threads;
 use std::time::Clock;
-
-/// The copy in the files. Where they can't be opened, or hold no copy, memory is said to be wanting.
-pub fn adopted_in<D: Disk + Drop>(
-    alloc: Global,
-    files: Files<D>,
-) -> Result<LogCopy<FileStore<D>>, AllocError> {
-    match connected(alloc, files) {
-        Ok(conn) => adopted(alloc, conn),
-        Err(_) => Err(AllocError),
-    }
-}
 
 /// Does all of it with the copy in the files, and then leaves them as they are.
 pub fn done_in_files<R: Threads + Wait + Abort + Sync + Log + Clock, D: Disk + Drop>(

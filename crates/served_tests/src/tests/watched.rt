@@ -3,9 +3,7 @@ ghost use Rattle.std.specs.Prelude.{◌≡◌, ◌≤◌, length, map};
 ghost use Rattle.doc_ledger.specs.Numbers.{greatest_number};
 ghost use Rattle.served_copy.specs.Restored.{entries_at};
 
-use super::deeds::{Case, Deed, all_in_memory};
-use super::disks::new_files;
-use super::files::adopted_in;
+use super::deeds::{Case, Deed, adopted, all_in_memory};
 use super::serving::{Start, THREE_WHOLE, started};
 use copier::{Copier, Watch};
 use doc_ledger::Ledger;
@@ -15,8 +13,7 @@ use log_copy::{Fault, LogCopy};
 use served_copy::{restored_stock, shelve};
 use server_core::{Library, Side};
 use share_ledger::{Blank, Marker};
-use sqlite::{Alter, FileStore};
-use sqlite_disk::{Disk, Files};
+use sqlite::{Alter, Connection, MemStore};
 use std::alloc::{AllocError, Global};
 use std::marker::Brand;
 use std::process::Abort;
@@ -46,13 +43,12 @@ static LOGS_THREE: Start<'static> = Start {
     replies: None,
 };
 
-/// A copy in these files with the three operations of the document d that a server logged, none of which stands in another copy.
-fn with_three<R: Threads + Wait + Abort + Sync + Log + Clock, D: Disk + Drop>(
+/// A copy with the three operations of the document d that a server logged, none of which stands in another copy.
+fn with_three<R: Threads + Wait + Abort + Sync + Log + Clock>(
     rt: &R,
     alloc: Global,
-    files: Files<D>,
-) -> Result<LogCopy<FileStore<D>>, AllocError> {
-    let mut copy = adopted_in(alloc, files)?;
+) -> Result<LogCopy<MemStore>, AllocError> {
+    let mut copy = adopted(alloc, Connection::open_in_memory(alloc)?)?;
     let logs = &LOGS_THREE;
     started(rt, alloc, "three operations", &["d"], logs, &mut copy)?;
     Ok(copy)
@@ -115,18 +111,6 @@ fn told_beside<M: Marker, R: Wait, F: Alter, S: Alter>(
     Ok(told::<M, R, S>(rt, &library, sessions, copy))
 }
 
-/// The same where the full copy is one in these files, with three operations of one document.
-fn faults_told_beside<R: Threads + Wait + Abort + Sync + Log + Clock, D: Disk + Drop, S: Alter>(
-    rt: &R,
-    alloc: Global,
-    files: Files<D>,
-    sessions: u64,
-    copy: &mut LogCopy<S>,
-) -> Result<u32, AllocError> {
-    let full = with_three(rt, alloc, files)?;
-    told_beside::<Brand, _, _, _>(rt, alloc, Blank::new(), &full, &["d"], sessions, copy)
-}
-
 /// Copies a document with three operations to the copy beside so many sessions, none of which ends, and gives how often the watch was
 /// told of a fault.
 pub fn faults_told<R: Threads + Wait + Abort + Sync + Log + Clock, S: Alter>(
@@ -135,13 +119,8 @@ pub fn faults_told<R: Threads + Wait + Abort + Sync + Log + Clock, S: Alter>(
     sessions: u64,
     copy: &mut LogCopy<S>,
 ) -> Result<u32, AllocError> {
-    faults_told_beside(
-        rt,
-        alloc,
-        new_files(alloc, u64::MAX, u64::MAX),
-        sessions,
-        copy,
-    )
+    let full = with_three(rt, alloc)?;
+    told_beside::<Brand, _, _, _>(rt, alloc, Blank::new(), &full, &["d"], sessions, copy)
 }
 
 static NO_FAULT: [Case<'static>; 1] = [Case {

@@ -1,10 +1,9 @@
 //! Sessions over loopback, with both ends in one process, from a copy in memory.
-use super::super::disks::new_files;
-use super::super::files::adopted_in;
+use super::super::deeds::adopted;
 use super::super::told::{holds, is_told};
 use log::Log;
 use served_copy::serve_over;
-use sqlite_disk::{Disk, Files};
+use sqlite::Connection;
 use std::alloc::{AllocError, Global};
 use std::io;
 use std::io::Write;
@@ -86,15 +85,14 @@ fn replies(alloc: Global, clients: Vec<TcpStream>) -> io::Result<Vec<String>> {
     Ok(all)
 }
 
-/// Serves so many connections over at most 16 documents and a copy in new files: the status, and what was written. It promises nothing,
-/// so that the proof of its caller carries no clause of a server.
-fn serve<R: Threads + Wait + Sync + Log + Clock, D: Disk + Drop>(
+/// Serves so many connections over at most 16 documents and an empty copy: the status, and what was written. It promises nothing, so
+/// that the proof of its caller carries no clause of a server.
+fn serve<R: Threads + Wait + Sync + Log + Clock>(
     rt: &R,
     alloc: Global,
     documents: &[&str],
     listener: &TcpListener,
     sessions: usize,
-    files: Files<D>,
 ) -> Result<(u8, Vec<u8>), AllocError> {
     let mut out = Vec::new(alloc);
     let Ok(sessions) = u16::try_from(sessions) else {
@@ -103,7 +101,7 @@ fn serve<R: Threads + Wait + Sync + Log + Clock, D: Disk + Drop>(
     if documents.len() > 16 {
         return Ok((2, out));
     }
-    let mut copy = adopted_in(alloc, files)?;
+    let mut copy = adopted(alloc, Connection::open_in_memory(alloc)?)?;
     let all = connections(alloc, listener, sessions)?;
     let status = serve_over(rt, alloc, "srv", documents, all, &mut copy, &mut out);
     Ok((status, out))
@@ -118,8 +116,7 @@ fn served<R: Net<Listener = TcpListener, Stream = TcpStream> + Threads + Wait + 
 ) -> io::Result<Told> {
     let listener = TcpListener::bind(rt, "127.0.0.1:0")?;
     let clients = clients(rt, alloc, &listener, sent)?;
-    let files = new_files(alloc, u64::MAX, u64::MAX);
-    let (status, out) = serve(rt, alloc, documents, &listener, sent.len(), files)?;
+    let (status, out) = serve(rt, alloc, documents, &listener, sent.len())?;
     Ok(Told {
         status,
         out,

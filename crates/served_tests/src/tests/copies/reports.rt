@@ -1,12 +1,11 @@
 //! What is told of a copy that was opened, and of one that was not.
-use super::super::disks::{Stopping, connected, new_files};
 use copy_report::check_opened;
 use line_feed::Writer;
 use line_feed::doubles::FailAfter;
 use log_copy::{Fault, LogCopy};
-use sqlite::{Alter, Connection, FileStore};
-use sqlite_disk::{Disk, Files};
+use sqlite::{Alter, Connection, MemStore};
 use std::alloc::{AllocError, Global};
+use std::test::Fail;
 
 /// The status, and what a sink has taken that fails after so many bytes.
 fn told<S: Alter + Drop>(
@@ -20,31 +19,19 @@ fn told<S: Alter + Drop>(
     (status, out)
 }
 
-fn adopted<S: Alter + Drop>(alloc: Global, conn: Connection<S>) -> Result<LogCopy<S>, Fault> {
-    match LogCopy::adopt(alloc, conn) {
-        Ok(copy) => Ok(copy),
-        Err((fault, _)) => Err(fault),
-    }
-}
-
-/// What is told of the copy in the files after these statements, by a sink that fails after so many bytes.
-fn told_in<D: Disk + Drop>(
-    alloc: Global,
-    files: Files<D>,
-    sql: &str,
-    after: usize,
-) -> Result<(u8, Vec<u8>), AllocError> {
-    let Ok(conn) = connected(alloc, files) else {
-        return Err(AllocError);
-    };
-    let mut conn = conn;
+/// A copy in memory, after these statements.
+fn opened(alloc: Global, sql: &str) -> Result<Result<LogCopy<MemStore>, Fault>, AllocError> {
+    let mut conn = Connection::open_in_memory(alloc)?;
     if conn.execute_batch(sql).is_err() {
         return Err(AllocError);
     }
-    Ok(told(alloc, adopted(alloc, conn), after))
+    match LogCopy::adopt(alloc, conn) {
+        Ok(copy) => Ok(Ok(copy)),
+        Err((fault, _)) => Ok(Err(fault)),
+    }
 }
 
-/// Whether this status and this text are told of a copy after these statements, by a sink that fails after so many bytes.
+/// Whether this status and this text are told of a copy in memory after these statements, by a sink that fails after so many bytes.
 fn is_told(
     alloc: Global,
     sql: &str,
@@ -52,8 +39,7 @@ fn is_told(
     status: u8,
     text: &[u8],
 ) -> Result<bool, AllocError> {
-    let files = new_files(alloc, u64::MAX, u64::MAX);
-    let (found, out) = told_in(alloc, files, sql, after)?;
+    let (found, out) = told(alloc, opened(alloc, sql)?, after);
     Ok(found == status && *out.as_slice() == *text)
 }
 
@@ -87,14 +73,11 @@ fn reports(rt: HostRuntime) {
     }
 }
 
-/// What is told where a copy could not be opened.
-fn told_unopened<D: Disk + Drop>(alloc: Global, fault: Fault) -> (u8, Vec<u8>) {
-    told::<FileStore<D>>(alloc, Err(fault), usize::MAX)
-}
-
 #[test]
-fn another_fault(rt: HostRuntime) {
-    let (status, out) = told_unopened::<Stopping>(rt.alloc(), Fault::Store);
+fn another_fault(rt: HostRuntime) -> Result<(), Fail> {
+    let none: Result<LogCopy<MemStore>, Fault> = Err(Fault::Store);
+    let (status, out) = told(rt.alloc(), none, usize::MAX);
     assert_eq!(rt; status, 1);
     assert!(rt; out.is_empty());
+    Ok(())
 }
