@@ -16,5 +16,11 @@ loop-preserved-in-Ok-true g c =
       alone = now.alone ∙ before.alone;
     }
 
+pub returns-in-Err-clause-ok : goal.returns-in-Err-clause-ok
+returns-in-Err-clause-ok g c = tt
+
+pub returns-in-Err-clause-works : goal.returns-in-Err-clause-works
+returns-in-Err-clause-works g c = tt
+
 pub returns-in-Err-clause-err : goal.returns-in-Err-clause-err
 returns-in-Err-clause-err g c = grows_until c.loop.invariant.grown c.in-Err.ensures.err
