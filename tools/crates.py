@@ -1,0 +1,307 @@
+"""The crates of this repository, and how they are proved side by side: for tools/build, tools/prove-all and tools/gate.
+
+rt locks a crate's folder and those of all crates below it, so two crates on one base would wait for each other. Here each crate
+is proved in a copy of its own: its sources, and links to the built libraries below it. What was made moves back into its out/."""
+
+import collections
+import contextlib
+import fcntl
+import hashlib
+import os
+import shutil
+import signal
+import subprocess
+import sys
+import threading
+import time
+
+TOP = os.path.dirname(os.path.dirname(os.path.abspath(__file__)))
+PROGRAM = "jcrdt"
+PARTS = ("src", "specs", "proofs")
+
+# Memory that a check may need, in bytes: most need 1 to 3 GB, a few up to 5.2.
+NEEDS = 4_000_000_000
+
+# Seconds of a first proof on four processors that had other work too. They only decide which crate starts first.
+SECONDS = {
+    "commands": 498, "jcrdt": 463, "server_core": 399, "served_copy": 381, "run_core": 220,
+    "op_core": 192, "locked_doc": 188, "line_proto": 179, "session_core": 179, "doc_view": 170,
+    "replica_core": 168, "copy_files": 167, "copier": 160, "doc_nodes": 156, "log_copy": 126,
+    "op_log": 124, "doc_ledger": 116, "presence_set": 110, "copy_docs": 109, "doc_tree": 95,
+    "line_feed": 94, "copy_rows": 87, "list_order": 86, "tcp_server": 85, "copy_report": 83,
+    "hold_buffer": 83, "json_text": 65, "copy_schema": 61, "json_scalar": 51, "copy_tables": 43,
+    "doc_words": 37, "crdt_rules": 28, "doc_rules": 25, "lamport_id": 24, "server_notes": 24,
+    "share_ledger": 21, "session_rules": 16, "list_laws": 13, "sorted_lists": 8,
+}
+
+Crate = collections.namedtuple("Crate", "line deps")
+
+
+def read(top=TOP):
+    """The crates of crates.txt by name: the parsed line, and the crates of the repository that it lists."""
+    found = {}
+    with open(f"{top}/crates.txt", encoding="utf-8") as lines:
+        for line in lines:
+            head, colon, deps = line.partition("#")[0].partition(":")
+            if colon:
+                found[head.split()[0]] = " ".join([*head.split(), ":", *deps.split()]), deps.split()
+    return {name: Crate(line, [it for it in deps if it in found]) for name, (line, deps) in found.items()}
+
+
+def below(crates, name):
+    """The crates that a crate stands on, each after those that it stands on itself."""
+    found = []
+    for dep in crates[name].deps:
+        found += [it for it in [*below(crates, dep), dep] if it not in found]
+    return found
+
+
+def seconds_to_end(crates, names):
+    """For each of these crates the seconds from its start to the end of the longest chain above it."""
+    found = {}
+    for name in sorted(names, key=lambda it: -len(below(crates, it))):
+        above = [found[it] for it in names if name in crates[it].deps]
+        found[name] = SECONDS.get(name, 60) + max(above, default=0)
+    return found
+
+
+def free_memory():
+    with open("/proc/meminfo", encoding="ascii") as lines:
+        return next((int(it.split()[1]) * 1024 for it in lines if it.startswith("MemAvailable:")), NEEDS)
+
+
+def jobs_here():
+    """How many crates may be proved at once: JCRDT_JOBS, or what processors and memory allow."""
+    given = os.environ.get("JCRDT_JOBS", "")
+    if given.isdigit() and int(given):
+        return int(given)
+    return max(1, min(len(os.sched_getaffinity(0)), free_memory() // NEEDS))
+
+
+def kit():
+    """The line that names the kit, or nothing where there is none."""
+    if not shutil.which("rt"):
+        return ""
+    return subprocess.run(["rt", "version"], stdin=subprocess.DEVNULL, stdout=subprocess.PIPE, text=True, check=False).stdout.strip()
+
+
+def sum_of(file):
+    with open(file, "rb") as it:
+        return hashlib.sha256(it.read()).hexdigest()
+
+
+def source_sum(top=TOP):
+    """The sum of the sources that the program is built from."""
+    return subprocess.run([f"{TOP}/tools/source-sum", top], stdout=subprocess.PIPE, text=True, check=True).stdout.strip()
+
+
+def note_program(summed):
+    """Notes beside the program the sum of the sources that it was built from, for ./jcrdt."""
+    with open(f"{TOP}/crates/{PROGRAM}/out/{PROGRAM}.sources", "w", encoding="utf-8") as it:
+        it.write(f"{summed}\n")
+
+
+@contextlib.contextmanager
+def one_at_a_time():
+    """Waits until no other build works in this checkout, and keeps others out."""
+    os.makedirs(f"{TOP}/crates/{PROGRAM}/out", exist_ok=True)
+    with open(f"{TOP}/crates/{PROGRAM}/out/build.lock", "w", encoding="utf-8") as lock:
+        try:
+            fcntl.flock(lock, fcntl.LOCK_EX | fcntl.LOCK_NB)
+        except BlockingIOError:
+            print("jcrdt: another build is under way here; waiting for its end.", file=sys.stderr, flush=True)
+            fcntl.flock(lock, fcntl.LOCK_EX)
+        remove_copies()
+        yield
+
+
+def copies():
+    return f"{TOP}/crates/{PROGRAM}/out/copies"
+
+
+def remove_copies():
+    """Removes what a build that was killed left. rt ci refuses a crates.txt below the top."""
+    shutil.rmtree(copies(), ignore_errors=True)
+
+
+@contextlib.contextmanager
+def locked(names):
+    """Keeps every rt out of these crates' folders."""
+    held = [os.open(it, os.O_RDONLY) for it in sorted(f"{TOP}/crates/{name}" for name in names)]
+    try:
+        for it in held:
+            fcntl.flock(it, fcntl.LOCK_EX)
+        yield
+    finally:
+        for it in held:
+            os.close(it)
+
+
+def link_or_copy(one, other):
+    """Gives a file a second name: rt never writes into a file that it made."""
+    try:
+        os.link(one, other)
+    except OSError:
+        shutil.copy2(one, other)
+
+
+class Proofs:
+    """Proves crates, several at once. Those that are proved already, from the same sources by the same kit, are left alone."""
+
+    def __init__(self, names):
+        self.crates = read()
+        self.names = [it for it in self.crates if it in names]
+        self.stands_on = {it: below(self.crates, it) for it in self.names}
+        self.known = list(dict.fromkeys(it for name in self.names for it in [*self.stands_on[name], name]))
+        self.order = seconds_to_end(self.crates, self.known)
+        os.makedirs(copies())
+        for name in self.known:
+            for part in PARTS:
+                if os.path.isdir(f"{TOP}/crates/{name}/{part}"):
+                    shutil.copytree(f"{TOP}/crates/{name}/{part}", f"{copies()}/sources/crates/{name}/{part}")
+        for name in ("HANDLES", "crates.txt"):
+            shutil.copy(f"{TOP}/{name}", f"{copies()}/sources/{name}")
+        self.sums, self.kit = {}, kit()
+        self.done = {it for it in self.known if self.is_proved(it)}
+        self.refused, self.running, self.changed = [], {}, threading.Condition()
+        self.is_stopped = False
+
+    def sum(self, name):
+        """The sum of all that the proof of a crate reads."""
+        if name not in self.sums:
+            here = f"{copies()}/sources/crates/{name}"
+            found = hashlib.sha256(repr((self.kit, self.crates[name].line)).encode())
+            files = sorted(os.path.join(at, it) for part in PARTS for at, _, names in os.walk(f"{here}/{part}") for it in names)
+            for file in [f"{copies()}/sources/HANDLES", *files]:
+                with open(file, "rb") as it:
+                    found.update(repr((os.path.relpath(file, here), it.read())).encode())
+            found.update(repr([self.sum(it) for it in self.crates[name].deps]).encode())
+            self.sums[name] = found.hexdigest()
+        return self.sums[name]
+
+    def is_library(self, name):
+        return not os.path.isfile(f"{TOP}/crates/{name}/src/main.rt")
+
+    def is_proved(self, name):
+        out = f"{TOP}/crates/{name}/out"
+        made = f"{out}/rlib/{name}.rlib/format" if self.is_library(name) else f"{out}/{name}"
+        with contextlib.suppress(OSError), open(f"{out}/built", encoding="utf-8") as it:
+            return os.path.isfile(made) and it.read().split()[:1] == [self.sum(name)]
+        return False
+
+    def copy(self, name):
+        """Makes the copy that a crate is proved in, and returns it."""
+        room = f"{copies()}/{name}"
+        names = [*below(self.crates, name), name]
+        os.makedirs(f"{room}/crates")
+        shutil.copy(f"{copies()}/sources/HANDLES", room)
+        with open(f"{room}/crates.txt", "w", encoding="utf-8") as it:
+            it.write("".join(f"{self.crates[name].line}\n" for name in names))
+        for it in names:
+            shutil.copytree(f"{copies()}/sources/crates/{it}", f"{room}/crates/{it}", copy_function=link_or_copy)
+            os.makedirs(f"{TOP}/crates/{it}/out", exist_ok=True)
+        with locked(names):
+            for it in names:
+                for kept in ["rlib"] + ["incremental"] * (it == name):
+                    if os.path.isdir(f"{TOP}/crates/{it}/out/{kept}"):
+                        shutil.copytree(f"{TOP}/crates/{it}/out/{kept}", f"{room}/crates/{it}/out/{kept}", copy_function=link_or_copy)
+        os.makedirs(f"{room}/crates/{name}/out", exist_ok=True)
+        return room
+
+    def take_back(self, name):
+        """Moves what was made of a crate from its copy to its own out/."""
+        made, out = f"{copies()}/{name}/crates/{name}/out", f"{TOP}/crates/{name}/out"
+        with locked([name]):
+            for it in os.listdir(made):
+                if os.path.isdir(f"{out}/{it}") and not os.path.islink(f"{out}/{it}"):
+                    shutil.rmtree(f"{out}/{it}")
+                os.rename(f"{made}/{it}", f"{out}/{it}")
+
+    def prove(self, name):
+        """Proves a crate, and returns whether it is proved. What rt said stands in its out/build.log."""
+        out, began = f"{TOP}/crates/{name}/out", time.monotonic()
+        room = self.copy(name)
+        with contextlib.suppress(FileNotFoundError):
+            os.remove(f"{out}/built")
+        # The program is run without words, and ends with status 2: what counts is that it is there. So it is proved once.
+        # One job a check: each job of a check loads the libraries below by itself.
+        words = ["rt", *(["lib", "--jobs", "1"] if self.is_library(name) else ["run", "--jobs", "1", "--"])]
+        with open(f"{out}/build.log", "wb") as log:
+            how = {"stdin": subprocess.DEVNULL, "stdout": log, "stderr": log, "start_new_session": True}
+            with self.changed:
+                if self.is_stopped:
+                    return False
+                self.running[name] = child = subprocess.Popen(words, cwd=f"{room}/crates/{name}", **how)
+            status = child.wait()
+        is_well = status == 0 if self.is_library(name) else os.access(f"{room}/crates/{name}/out/{name}", os.X_OK)
+        self.take_back(name)
+        shutil.rmtree(room, ignore_errors=True)
+        if is_well:
+            with open(f"{out}/built", "w", encoding="utf-8") as it:
+                it.write(f"{self.sum(name)} {time.monotonic() - began:.0f} s\n")
+        return is_well
+
+    def work(self, name):
+        is_well = False
+        try:
+            is_well = self.prove(name)
+        except OSError as error:
+            if not self.is_stopped:
+                print(f"jcrdt: {name}: {error}", file=sys.stderr, flush=True)
+        finally:
+            with self.changed:
+                del self.running[name]
+                if is_well:
+                    self.done.add(name)
+                elif not self.is_stopped:
+                    self.refused.append(name)
+                self.changed.notify()
+
+    def next(self):
+        """The crates that can be started, the one with the longest chain above it first."""
+        waiting = [it for it in self.names if it not in self.done and it not in self.refused and it not in self.running]
+        return sorted((it for it in waiting if self.done.issuperset(self.stands_on[it])), key=lambda it: -self.order[it])
+
+    def run(self, jobs, tell, keeps_going=False):
+        """Proves the crates, and returns whether all are proved. `tell` is called each second, and with each name that ended.
+        Where one is refused, the others are stopped, unless it keeps going."""
+        told = set(self.done)
+        try:
+            with self.changed:
+                while keeps_going or not self.refused:
+                    ready = self.next()
+                    while ready and len(self.running) < jobs and (not self.running or free_memory() > NEEDS):
+                        name = ready.pop(0)
+                        self.running[name] = None
+                        threading.Thread(target=self.work, args=(name,)).start()
+                    if not self.running:
+                        break
+                    self.changed.wait(1)
+                    for name in sorted({*self.done, *self.refused} - told):
+                        told.add(name)
+                        tell(name)
+                    tell(None)
+        finally:
+            self.stop()
+        return self.done.issuperset(self.names)
+
+    def stop(self):
+        """Ends what is still under way. rt ends all that it started."""
+        with self.changed:
+            self.is_stopped = True
+            children = [it for it in self.running.values() if it]
+        for number in (signal.SIGTERM, signal.SIGKILL):
+            for it in children:
+                with contextlib.suppress(ProcessLookupError):
+                    os.killpg(it.pid, number)
+            with self.changed:
+                self.changed.wait_for(lambda: not self.running, 10)
+        remove_copies()
+
+
+def end_on_signals():
+    """Has SIGTERM and SIGHUP end this process as Ctrl-C does, so that what is under way is ended too."""
+    def stop(number, _):
+        raise SystemExit(128 + number)
+    for it in (signal.SIGTERM, signal.SIGHUP):
+        signal.signal(it, stop)
