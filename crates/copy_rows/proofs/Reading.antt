@@ -41,7 +41,7 @@ module _ {S : Type 0} (g : Ghosts S) (old : Held S) (format : ℕ) where
   -- The rows that were given stand in the documents, and nothing is changed.
   pub record HasReadTo (now : Held S) (docs : List Doc) : Type 0 where
     pub given : List Row
-    pub held : HoldsRows given docs
+    pub held : HoldsRows format given docs
     pub next : (more : List Row) → AreNext format [] (given ++ more) → AreNext format docs more
     pub reads : IsGiven now given
     pub crash : LeavesAll now
@@ -51,7 +51,7 @@ module _ {S : Type 0} (g : Ghosts S) (old : Held S) (format : ℕ) where
       → Survives (state g old) (state g now) (CommitsShowing read_entries_text [] (state g old)) → HasReadTo now []
   has_begun now begun outside survives = record {
     given = [];
-    held = record { in_order = tt; good = tt; writable = tt; rows_are = IsPermutation-refl [] };
+    held = record { in_order = tt; good = tt; writable = tt; in_format = tt; rows_are = IsPermutation-refl [] };
     next = λ more h. h;
     reads = λ clean has. begun_plain g read_entries_text [] old now (subst (λ s. IsPlain (understood s read_entries_text)) (sym has) read_entries_is.1) (begun clean);
     crash = commits_none (state g old) (state g now) survives;
@@ -70,7 +70,7 @@ module _ {S : Type 0} (g : Ghosts S) (old : Held S) (format : ℕ) where
           (moved clean read_entries_text [] before.given was.0, unchanged_then (state g old) (state g mid) (state g new) was.1 (same clean))
 
       -- one row more
-      pub reads_on : (more : List Doc) → AddsRow row docs more → ((name : List ℕ) (op : Op) → IsNext format docs row name op → more ≡ add_log name (op ∷ []) docs) → StaysOutside (state g mid) (state g new)
+      pub reads_on : (more : List Doc) → AddsRow format row docs more → ((name : List ℕ) (op : Op) → IsNext format docs row name op → more ≡ add_log name (op ∷ []) docs) → StaysOutside (state g mid) (state g new)
           → HasReadTo new more
       reads_on more adds added outside = record {
         given = before.given ++ row ∷ [];
