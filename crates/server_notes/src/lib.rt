@@ -1,6 +1,6 @@
-//! What a server notes on standard error while it runs: one line each, with the time.
+//! Notes of a server on standard error: one line each, with the time.
 //!
-//! A note that is lost changes nothing: no call here answers anything, and none takes memory.
+//! A lost note changes nothing: no call here answers anything, and none allocates.
 #![tactic(auto)]
 
 use jiff::Timestamp;
@@ -8,17 +8,27 @@ use log::{Level, Log, log};
 use std::fmt::Display;
 use std::time::Clock;
 
-/// The time of a clock, in whole seconds, if it tells one.
+/// The time of a clock in whole seconds, if it has one.
 fn time_of<R: Clock>(rt: &R) -> Option<Timestamp> {
     let now = Timestamp::now(rt).ok()?;
     Timestamp::from_second(now.as_second()).ok()
 }
 
-/// Writes a note behind the time. Where the clock tells none it is lost.
+/// Writes a note behind the time. A clock without a time loses it.
 fn note<R: Log + Clock, W: Display>(rt: &R, level: Level, what: &W) {
     if let Some(at) = time_of(rt) {
         log!(rt; target: "jcrdt", level, "{at} {what}");
     }
+}
+
+/// Notes that a file was made, since there was none.
+pub fn note_made<R: Log + Clock>(rt: &R, path: &str) {
+    note(rt, Level::Info, &format_args!("made a new file {path}"));
+}
+
+/// Notes that a start has folded what another run left in the write-ahead log of the file at this path.
+pub fn note_took_over<R: Log + Clock>(rt: &R, path: &str) {
+    note(rt, Level::Info, &format_args!("took over {path}-wal"));
 }
 
 /// Notes where the server listens.
@@ -26,15 +36,62 @@ pub fn note_listening<R: Log + Clock, A: Display>(rt: &R, address: &A) {
     note(rt, Level::Info, &format_args!("listening at {address}"));
 }
 
-/// Notes of a document that so many of its operations were restored from the copy.
-pub fn note_restored<R: Log + Clock>(rt: &R, document: &str, operations: u64) {
-    let what = format_args!("restored {operations} operations of {document}");
+/// Notes the name of the replica that the server is.
+pub fn note_serving<R: Log + Clock>(rt: &R, replica: &str) {
+    note(rt, Level::Info, &format_args!("serving as {replica}"));
+}
+
+/// A count of a document, and its limit.
+#[derive(Clone, Copy)]
+pub struct Fill {
+    /// How many there are.
+    pub count: usize,
+    /// The most that there may be.
+    pub limit: usize,
+}
+
+impl Fill {
+    /// Whether nine tenths of the limit are reached.
+    pub fn is_nearly_full(&self) -> bool {
+        self.count >= self.limit - self.limit / 10
+    }
+}
+
+/// Notes a document that was restored, with its operations and the replicas that made them.
+pub fn note_restored<R: Log + Clock>(rt: &R, document: &str, operations: Fill, replicas: Fill) {
+    let (count, limit) = (operations.count, operations.limit);
+    let (makers, most) = (replicas.count, replicas.limit);
+    let what = format_args!(
+        "restored {document}: {count} of {limit} operations, {makers} of {most} replicas"
+    );
     note(rt, Level::Info, &what);
 }
 
-/// Notes that the copying has stopped, and why. Sessions go on.
+/// Warns that a document is nearly full of what is counted: of operations, or of replicas.
+pub fn note_nearly_full<R: Log + Clock>(rt: &R, document: &str, fill: Fill, counted: &str) {
+    let (count, limit) = (fill.count, fill.limit);
+    let what = format_args!("{document} is nearly full: {count} of {limit} {counted}");
+    note(rt, Level::Warn, &what);
+}
+
+/// Notes that a session begins: how many have begun, of how many, and from where its client connects.
+pub fn note_begun<R: Log + Clock, A: Display>(rt: &R, begun: u64, sessions: u16, from: &A) {
+    let what = format_args!("session {begun} of {sessions} begins, from {from}");
+    note(rt, Level::Info, &what);
+}
+
+/// Warns that a session has no connection, and why. It counts as one that has ended.
+pub fn note_unconnected<R: Log + Clock, E: Display>(rt: &R, begun: u64, sessions: u16, why: &E) {
+    let what = format_args!("session {begun} of {sessions} has no connection: {why}");
+    note(rt, Level::Warn, &what);
+}
+
+/// Warns that copying has stopped, and why. Sessions go on.
 pub fn note_stopped<R: Log + Clock, F: Display>(rt: &R, why: &F) {
-    note(rt, Level::Warn, &format_args!("copying stopped: {why}"));
+    let what = format_args!(
+        "copying stopped: {why}; what is accepted from now on is in memory only: exchange with a peer before you stop"
+    );
+    note(rt, Level::Warn, &what);
 }
 
 /// Notes that all sessions have ended.
