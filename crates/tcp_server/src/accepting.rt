@@ -1,17 +1,22 @@
 //! Connections that a listener accepts.
 ghost use Rattle.std.specs.Prelude.{◌≡◌, length, IfOk};
 
+use crate::keep_alive::keep_alive;
 use line_feed::{DeviceFault, Outbox, Reader, Writer};
+use log::Log;
 use server_core::Connect;
+use server_notes::{note_begun, note_unconnected};
 use std::alloc::{AllocError, Global};
 use std::io;
 use std::io::Read;
 use std::net::{Shutdown, TcpListener, TcpStream};
+use std::sync::atomic::{AtomicU64, Ordering};
+use std::time::Clock;
 
-/// How often at most a connection is read when it is let go.
+/// How often at most a connection is read when it is dropped.
 const LAST_READS: u16 = 256;
 
-/// Reads away what has come, as far as that needs no waiting: at most 1 MiB.
+/// Discards what has come, as far as that needs no waiting: at most 1 MiB.
 fn read_away(mut stream: &TcpStream) {
     let mut unread = [0; 4096];
     for _ in 0..LAST_READS {
@@ -22,8 +27,8 @@ fn read_away(mut stream: &TcpStream) {
     }
 }
 
-/// What a client sends. When it is let go the client is told that nothing more comes, and what it has sent by then is read away: a
-/// system that closes a connection with bytes unread resets it, and a client may lose by that the last replies.
+/// What a client sends. Its drop ends what the client reads, and then discards what it has sent: a system that closes a connection
+/// with unread bytes resets it, and the client may lose the last replies by that.
 pub struct Sent {
     stream: TcpStream,
 }
@@ -45,25 +50,66 @@ impl Read for Sent {
     }
 }
 
+/// A listener that sessions share, and how many of them have begun.
+#[derive(Drop)]
+pub struct Entrance<'a, R> {
+    rt: &'a R,
+    listener: &'a TcpListener,
+    sessions: u16,
+    begun: AtomicU64,
+}
+
+impl<'a, R: Log + Clock> Entrance<'a, R> {
+    /// One for so many sessions, none of which has begun.
+    pub fn new(rt: &'a R, listener: &'a TcpListener, sessions: u16) -> Entrance<'a, R> {
+        Entrance {
+            rt,
+            listener,
+            sessions,
+            begun: AtomicU64::new(0),
+        }
+    }
+
+    /// How many sessions have begun with this one.
+    fn begin(&self) -> u64 {
+        self.begun.fetch_add(1, Ordering::SeqCst).saturating_add(1)
+    }
+
+    /// Waits for the next connection, which begins a session. A note says so, or why there is none.
+    fn accept(&self) -> Option<TcpStream> {
+        match self.listener.accept() {
+            Ok((stream, from)) => {
+                note_begun(self.rt, self.begin(), self.sessions, &from);
+                Some(stream)
+            }
+            Err(error) => {
+                note_unconnected(self.rt, self.begin(), self.sessions, &error);
+                None
+            }
+        }
+    }
+}
+
 /// The next connection of a listener that sessions share.
 #[derive(Drop)]
-pub struct Accepting<'a> {
-    /// The listener.
-    pub listener: &'a TcpListener,
-    /// Where the room for its replies comes from.
+pub struct Accepting<'a, R> {
+    /// Where it comes from.
+    pub entrance: &'a Entrance<'a, R>,
+    /// Allocates the buffer of its replies.
     pub alloc: Global,
 }
 
-impl Connect for Accepting<'_> {
+impl<R: Log + Clock + Sync> Connect for Accepting<'_, R> {
     type Source = Reader<Sent>;
 
     type Sink = Outbox<Writer<TcpStream>>;
 
     fn open(self) -> Result<(Reader<Sent>, Outbox<Writer<TcpStream>>), DeviceFault> {
-        let Ok((stream, _)) = self.listener.accept() else {
+        let Some(stream) = self.entrance.accept() else {
             return Err(DeviceFault);
         };
-        // What is handed on goes out at once. Where that can't be had the system may hold it back for a while, and nothing is lost.
+        keep_alive(&stream);
+        // Flushed replies go out at once. Where that can't be had the system may hold them back for a while, and nothing is lost.
         let _at_once = stream.set_nodelay(true);
         let Ok(other) = stream.try_clone() else {
             return Err(DeviceFault);
@@ -74,16 +120,16 @@ impl Connect for Accepting<'_> {
 }
 
 /// One connection for each session.
-pub fn connections<'a>(
+pub fn connections<'a, R: Log + Clock>(
     alloc: Global,
-    listener: &'a TcpListener,
+    entrance: &'a Entrance<'a, R>,
     sessions: u16,
-) -> Result<Vec<Accepting<'a>>, AllocError>
+) -> Result<Vec<Accepting<'a, R>>, AllocError>
     ensures { IfOk result (λ all. length all.items ≡ sessions) }
 {
     let mut all = Vec::new(alloc);
     for _ in 0..sessions {
-        all.push(Accepting { listener, alloc })?;
+        all.push(Accepting { entrance, alloc })?;
     }
     Ok(all)
 }

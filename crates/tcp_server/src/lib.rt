@@ -2,7 +2,8 @@
 #![tactic(auto)]
 
 mod accepting;
+mod keep_alive;
 mod listening;
 
-pub use accepting::{Accepting, Sent, connections};
+pub use accepting::{Accepting, Entrance, Sent, connections};
 pub use listening::{hint_of, listen};

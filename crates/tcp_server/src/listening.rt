@@ -8,14 +8,13 @@ use server_notes::note_listening;
 use std::alloc::Global;
 use std::io;
 use std::io::ErrorKind;
-use std::net::{Net, TcpListener, TcpStream};
+use std::net::{Net, SocketAddr, TcpListener, TcpStream};
 use std::time::Clock;
 
 /// Writes where the server listens.
-fn tell_address<W: io::Write>(alloc: Global, listener: &TcpListener, out: &mut W) -> io::Result<()>
+fn write_address<W: io::Write>(alloc: Global, address: SocketAddr, out: &mut W) -> io::Result<()>
     ensures { OnOk result (TellsAddress (W.contents out.old) (W.contents out.new)) }
 {
-    let address = listener.local_addr()?;
     let line = format!(in alloc; "[\"listening\",\"{address}\"]\n")?;
     out.write_all(line.as_bytes())?;
     out.flush()
@@ -32,39 +31,56 @@ pub fn hint_of(error: &io::Error) -> &'static str
     }
 }
 
-/// Notes where the server listens.
-fn note_address<R: Log + Clock>(rt: &R, listener: &TcpListener) {
-    if let Ok(address) = listener.local_addr() {
-        note_listening(rt, &address);
+/// Tells standard error why the address can't be listened at. A fault of standard error changes nothing.
+fn tell_unheard<R: Eprint>(rt: &R, address: &str, error: &io::Error) {
+    let hint = hint_of(error);
+    let _told = rt.eprintln(format_args!("jcrdt: cannot listen at {address}: {error}{hint}"));
+}
+
+/// Tells standard error why the address could not be written.
+fn tell_unwritten<R: Eprint>(rt: &R, error: &io::Error) {
+    let _told = match error.kind() {
+        ErrorKind::OutOfMemory => rt.eprintln("jcrdt: out of memory while the address was written"),
+        _ => rt.eprintln(format_args!("jcrdt: standard output failed: {error}")),
+    };
+}
+
+/// A listener at the address, and where it listens. Where there is none standard error is told why.
+fn bound<R: Net<Listener = TcpListener, Stream = TcpStream> + Eprint>(
+    rt: &R,
+    address: &str,
+) -> Option<(TcpListener, SocketAddr)> {
+    match TcpListener::bind(rt, address) {
+        Ok(listener) => match listener.local_addr() {
+            Ok(at) => Some((listener, at)),
+            Err(error) => {
+                tell_unheard(rt, address, &error);
+                None
+            }
+        },
+        Err(error) => {
+            tell_unheard(rt, address, &error);
+            None
+        }
     }
 }
 
-/// Listens at the address, and writes where. None where it can't be listened at, where the writer fails, or for want of memory:
-/// standard error is told why. That it listens at this address no clause can say.
+/// Listens at the address, and writes where. None where it can't be listened at, where the writer fails, or where memory runs out:
+/// standard error is told which. That it listens at this address no clause can say.
 pub fn listen<
     R: Net<Listener = TcpListener, Stream = TcpStream> + Eprint + Log + Clock,
     W: io::Write,
 >(rt: &R, alloc: Global, address: &str, out: &mut W) -> Option<TcpListener>
     ensures { IfSome result (λ listener. TellsAddress (W.contents out.old) (W.contents out.new)) }
 {
-    let listener = match TcpListener::bind(rt, address) {
-        Ok(listener) => listener,
-        Err(error) => {
-            let hint = hint_of(&error);
-            // A fault of standard error changes nothing.
-            let _told = rt.eprintln(format_args!(
-                "jcrdt: cannot listen at {address}: {error}{hint}"
-            ));
-            return None;
-        }
-    };
-    match tell_address(alloc, &listener, out) {
+    let (listener, at) = bound(rt, address)?;
+    match write_address(alloc, at, out) {
         Ok(()) => {
-            note_address(rt, &listener);
+            note_listening(rt, &at);
             Some(listener)
         }
         Err(error) => {
-            let _told = rt.eprintln(format_args!("jcrdt: cannot tell where it listens: {error}"));
+            tell_unwritten(rt, &error);
             None
         }
     }

@@ -2,4 +2,4 @@ use Rattle.std.proofs.Common.{◌≡◌, length}
 use Rattle.tcp_server.proofs.accepting.connections.Given as goal
 
 abbrev pub invariant-loop : goal.invariant-loop
-invariant-loop l = length l.all.items ≡ l.counter
+invariant-loop g l = length l.all.items ≡ l.counter

@@ -3,10 +3,10 @@ use Rattle.std.specs.Io.KnownBytes.{Appends}
 use Rattle.std.proofs.KnownBytes.{Appends-kept}
 use Rattle.tcp_server.specs.Listening.{listening_line}
 use Rattle.server_notes.proofs.Telling.{on_ok}
-use Rattle.tcp_server.proofs.listening.tell_address.Goals as goal
+use Rattle.tcp_server.proofs.listening.write_address.Goals as goal
 
 pub returns : goal.returns
 returns g c =
-    let told : Appends (g.W.Write.contents c.args.out.now) (g.W.Write.contents c.write_all.new.self) (listening_line c.in_ok-address.address) =
+    let told : Appends (g.W.Write.contents c.args.out.now) (g.W.Write.contents c.write_all.new.self) (listening_line c.args.address) =
     subst (λ bs. Appends (g.W.Write.contents c.args.out.now) (g.W.Write.contents c.write_all.new.self) bs) (c.as_bytes.ensures.value ∙ c.in_ok-line.ensures.ok) c.in_ok-write_all.ensures.bytes in
-    on_ok c.flush.result (record { address = c.in_ok-address.address; told = Appends-kept _ _ _ _ told c.flush.ensures.bytes })
+    on_ok c.flush.result (record { address = c.args.address; told = Appends-kept _ _ _ _ told c.flush.ensures.bytes })
