@@ -4,18 +4,18 @@ use Rattle.std.proofs.lemmas.List.{map-append}
 use Rattle.std.specs.List.{AllZip}
 use Rattle.doc_rules.specs.Seats as seats
 use Rattle.session_rules.specs.declared.Ending.{Ending}
-use Rattle.server_core.specs.Attended.{AreAttended, IsAttended}
+use Rattle.server_core.specs.Attended.{AreAttended, Bytes, IsAttended}
 
 -- one more behind them
-pub one_attended : (names : List (List ℕ)) (all : List (Option (List ℕ))) (endings : List (Option Ending)) (sessions : List (List (Option seats.Seat)))
-    (had : Option (List ℕ)) (why : Option Ending) (ends : List (Option seats.Seat)) → AreAttended names all endings sessions → IsAttended names had why ends
-    → AreAttended names (all ++ had ∷ []) (endings ++ why ∷ []) (sessions ++ ends ∷ [])
-one_attended names [] [] [] had why ends are is = (is, tt)
-one_attended names [] [] (x ∷ sessions) had why ends are is = absurd are
-one_attended names [] (w ∷ endings) sessions had why ends are is = absurd are
-one_attended names (h ∷ all) [] sessions had why ends are is = absurd are
-one_attended names (h ∷ all) (w ∷ endings) [] had why ends are is = absurd are
-one_attended names (h ∷ all) (w ∷ endings) (x ∷ sessions) had why ends are is = (are.0, one_attended names all endings sessions had why ends are.1 is)
+pub one_attended : (names : List (List ℕ)) (all : List (Bytes)) (endings : List (Option Ending)) (sessions : List (List (Option seats.Seat)))
+    (connection : Bytes) (why : Option Ending) (ends : List (Option seats.Seat)) → AreAttended names all endings sessions → IsAttended names connection why ends
+    → AreAttended names (all ++ connection ∷ []) (endings ++ why ∷ []) (sessions ++ ends ∷ [])
+one_attended names [] [] [] connection why ends are is = (is, tt)
+one_attended names [] [] (x ∷ sessions) connection why ends are is = absurd are
+one_attended names [] (w ∷ endings) sessions connection why ends are is = absurd are
+one_attended names (h ∷ all) [] sessions connection why ends are is = absurd are
+one_attended names (h ∷ all) (w ∷ endings) [] connection why ends are is = absurd are
+one_attended names (h ∷ all) (w ∷ endings) (x ∷ sessions) connection why ends are is = (are.0, one_attended names all endings sessions connection why ends are.1 is)
 
 -- what holds of the items of two lists, place by place, and of one more
 pub zip_more : {A B : Type 0} (R : A → B → Type 0) (xs : List A) (ys : List B) (x : A) (y : B) → AllZip R xs ys → R x y → AllZip R (xs ++ x ∷ []) (ys ++ y ∷ [])
@@ -47,18 +47,18 @@ all_begun R all rest given ys so_far none same =
     subst (λ xs. AllZip R xs ys) (sym (so_far.parts ∙ ap (λ xs. so_far.done ++ xs) none ∙ append-nil so_far.done) ∙ same) so_far.each
 
 -- So many were joined, and the others are still due.
-pub record IsJoined {C B : Type 0} (requests : C → Option (List ℕ)) (R : C → B → Type 0) (names : List (List ℕ)) (all : List C) (rest : List B)
+pub record IsJoined {C B : Type 0} (bytes_of : C → Bytes) (R : C → B → Type 0) (names : List (List ℕ)) (all : List C) (rest : List B)
     (endings : List (Option Ending)) (sessions : List (List (Option seats.Seat))) : Type 0 where
   pub done : List C
   pub left : List C
   pub parts : all ≡ done ++ left
   pub due : AllZip R left rest
-  pub attended : AreAttended names (map requests done) endings sessions
+  pub attended : AreAttended names (map bytes_of done) endings sessions
 
-pub none_joined : {C B : Type 0} (requests : C → Option (List ℕ)) (R : C → B → Type 0) (names : List (List ℕ)) (all : List C) (rest given : List B)
+pub none_joined : {C B : Type 0} (bytes_of : C → Bytes) (R : C → B → Type 0) (names : List (List ℕ)) (all : List C) (rest given : List B)
     (endings : List (Option Ending)) (sessions : List (List (Option seats.Seat))) → AllZip R all given → rest ≡ given → endings ≡ [] → sessions ≡ []
-    → IsJoined requests R names all rest endings sessions
-none_joined requests R names all rest given endings sessions due same no_endings no_sessions =
+    → IsJoined bytes_of R names all rest endings sessions
+none_joined bytes_of R names all rest given endings sessions due same no_endings no_sessions =
     record {
       done = [];
       left = all;
@@ -68,45 +68,45 @@ none_joined requests R names all rest given endings sessions due same no_endings
     }
 
 -- a thread of this connection keeps its promise, and without a thread there is no session
-pub is_kept : {T V C : Type 0} (running : Option T) (names_of : T → V) (connection_of : T → C) (items : V → List (List ℕ)) (requests : C → Option (List ℕ)) (names : V)
+pub is_kept : {T V C : Type 0} (running : Option T) (names_of : T → V) (connection_of : T → C) (items : V → List (List ℕ)) (bytes_of : C → Bytes) (names : V)
     (why : Option Ending) (ends : List (Option seats.Seat))
-    → MatchOption running ((why ≡ None) × (ends ≡ [])) (λ t. IsAttended (items (names_of t)) (requests (connection_of t)) why ends)
-    → (c : C) → IfSome running (λ t. (names_of t ≡ names) × (connection_of t ≡ c)) → IsAttended (items names) (requests c) why ends
-is_kept None names_of connection_of items requests names why ends kept c due =
-    subst (λ w. IsAttended (items names) (requests c) w ends) (sym kept.0) kept.1
-is_kept (Some t) names_of connection_of items requests names why ends kept c due =
-    subst (λ v. IsAttended (items v) (requests c) why ends) due.0 (subst (λ x. IsAttended (items (names_of t)) (requests x) why ends) due.1 kept)
+    → MatchOption running ((why ≡ None) × (ends ≡ [])) (λ t. IsAttended (items (names_of t)) (bytes_of (connection_of t)) why ends)
+    → (c : C) → IfSome running (λ t. (names_of t ≡ names) × (connection_of t ≡ c)) → IsAttended (items names) (bytes_of c) why ends
+is_kept None names_of connection_of items bytes_of names why ends kept c due =
+    subst (λ w. IsAttended (items names) (bytes_of c) w ends) (sym kept.0) kept.1
+is_kept (Some t) names_of connection_of items bytes_of names why ends kept c due =
+    subst (λ v. IsAttended (items v) (bytes_of c) why ends) due.0 (subst (λ x. IsAttended (items (names_of t)) (bytes_of x) why ends) due.1 kept)
 
 pub mapped_push : {X Y : Type 0} (f : X → Y) (xs new : List X) (x : X) → new ≡ xs ++ x ∷ [] → map f new ≡ map f xs ++ f x ∷ []
 mapped_push f xs new x more = ap (map f) more ∙ map-append f xs (x ∷ [])
 
-pub more_joined : {C B : Type 0} (requests : C → Option (List ℕ)) (R : C → B → Type 0) (names : List (List ℕ)) (all : List C) (rest later : List B)
+pub more_joined : {C B : Type 0} (bytes_of : C → Bytes) (R : C → B → Type 0) (names : List (List ℕ)) (all : List C) (rest later : List B)
     (endings ended : List (Option Ending)) (sessions given : List (List (Option seats.Seat))) (y : B) (why : Option Ending) (ends : List (Option seats.Seat))
-    → IsJoined requests R names all rest endings sessions → rest ≡ y ∷ later → ended ≡ endings ++ why ∷ [] → given ≡ sessions ++ ends ∷ []
-    → ((c : C) → R c y → IsAttended names (requests c) why ends) → IsJoined requests R names all later ended given
-more_joined {C} {B} requests R names all rest later endings ended sessions given y why ends so_far is one_ended one_given kept =
+    → IsJoined bytes_of R names all rest endings sessions → rest ≡ y ∷ later → ended ≡ endings ++ why ∷ [] → given ≡ sessions ++ ends ∷ []
+    → ((c : C) → R c y → IsAttended names (bytes_of c) why ends) → IsJoined bytes_of R names all later ended given
+more_joined {C} {B} bytes_of R names all rest later endings ended sessions given y why ends so_far is one_ended one_given kept =
     by so_far.left so_far.parts (subst (AllZip R so_far.left) is so_far.due)
   where
-    by : (left : List C) → all ≡ so_far.done ++ left → AllZip R left (y ∷ later) → IsJoined requests R names all later ended given
+    by : (left : List C) → all ≡ so_far.done ++ left → AllZip R left (y ∷ later) → IsJoined bytes_of R names all later ended given
     by [] parts due = absurd due
     by (c ∷ left) parts due =
-        let one = one_attended names (map requests so_far.done) endings sessions (requests c) why ends so_far.attended (kept c due.0) in
-        let over = subst (λ xs. AreAttended names xs (endings ++ why ∷ []) (sessions ++ ends ∷ [])) (sym (map-append requests so_far.done (c ∷ []))) one in
+        let one = one_attended names (map bytes_of so_far.done) endings sessions (bytes_of c) why ends so_far.attended (kept c due.0) in
+        let over = subst (λ xs. AreAttended names xs (endings ++ why ∷ []) (sessions ++ ends ∷ [])) (sym (map-append bytes_of so_far.done (c ∷ []))) one in
         record {
           done = so_far.done ++ c ∷ [];
           left = left;
           parts = parts ∙ sym (append_assoc so_far.done (c ∷ []) left);
           due = due.1;
           attended =
-              subst (λ xs. AreAttended names (map requests (so_far.done ++ c ∷ [])) xs given) (sym one_ended)
-              (subst (AreAttended names (map requests (so_far.done ++ c ∷ [])) (endings ++ why ∷ [])) (sym one_given) over);
+              subst (λ xs. AreAttended names (map bytes_of (so_far.done ++ c ∷ [])) xs given) (sym one_ended)
+              (subst (AreAttended names (map bytes_of (so_far.done ++ c ∷ [])) (endings ++ why ∷ [])) (sym one_given) over);
         }
 
-pub all_joined : {C B : Type 0} (requests : C → Option (List ℕ)) (R : C → B → Type 0) (names : List (List ℕ)) (all : List C) (rest : List B)
-    (endings : List (Option Ending)) (sessions : List (List (Option seats.Seat))) → IsJoined requests R names all rest endings sessions → rest ≡ []
-    → AreAttended names (map requests all) endings sessions
-all_joined {C} {B} requests R names all rest endings sessions so_far none = by so_far.left so_far.parts (subst (AllZip R so_far.left) none so_far.due)
+pub all_joined : {C B : Type 0} (bytes_of : C → Bytes) (R : C → B → Type 0) (names : List (List ℕ)) (all : List C) (rest : List B)
+    (endings : List (Option Ending)) (sessions : List (List (Option seats.Seat))) → IsJoined bytes_of R names all rest endings sessions → rest ≡ []
+    → AreAttended names (map bytes_of all) endings sessions
+all_joined {C} {B} bytes_of R names all rest endings sessions so_far none = by so_far.left so_far.parts (subst (AllZip R so_far.left) none so_far.due)
   where
-    by : (left : List C) → all ≡ so_far.done ++ left → AllZip R left [] → AreAttended names (map requests all) endings sessions
-    by [] parts due = subst (λ xs. AreAttended names (map requests xs) endings sessions) (sym (parts ∙ append-nil so_far.done)) so_far.attended
+    by : (left : List C) → all ≡ so_far.done ++ left → AllZip R left [] → AreAttended names (map bytes_of all) endings sessions
+    by [] parts due = subst (λ xs. AreAttended names (map bytes_of xs) endings sessions) (sym (parts ∙ append-nil so_far.done)) so_far.attended
     by (c ∷ left) parts due = absurd due

@@ -1,5 +1,6 @@
 //! Connections for tests.
 ghost use Rattle.std.specs.Prelude.{◌≡◌, None, Some};
+ghost use Rattle.server_core.specs.Attended.{Bytes};
 
 use crate::sessions::Connect;
 use line_feed::doubles::FailAfter;
@@ -75,7 +76,7 @@ impl<'a, R: Wait + Sync> Connect for Script<'a, R> {
 
     type Sink = FailAfter<Kept<'a, R>>;
 
-    ghost requests = { λ s. Some s.input.now };
+    ghost bytes = { λ s. let known : Bytes = record { source = Some s.input.now; sink = None } in known };
 
     fn open(self) -> Result<(FailAfter<Reader<&'a [u8]>>, FailAfter<Kept<'a, R>>), DeviceFault> {
         if !self.opens {
