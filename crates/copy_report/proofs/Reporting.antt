@@ -1,5 +1,5 @@
 -- What was written is a report of a copy, the refusal of one, or a part of either.
-use Rattle.std.proofs.Common.{◌⊎◌, inl, inr, ℕ, List, Option, Result, Ok, Err, IfOk, IsOkAnd, refl}
+use Rattle.std.proofs.Common.{◌≡◌, ◌⊎◌, inl, inr, ℕ, List, Option, Result, Ok, Err, IfOk, IfErr, IsOkAnd, refl, subst}
 use Rattle.std.specs.Io.KnownBytes.{Appends}
 use Rattle.line_feed.specs.Cut.{AppendsCut}
 use Rattle.copy_docs.specs.Docs.{Doc, AreInOrder, AreGood}
@@ -24,3 +24,12 @@ cut_short held holds docs epoch good (inr same) = inr same
 pub refused_short : {Same : Type 0} (held holds : Option (List ℕ)) → Appends held holds refusal_line ⊎ AppendsCut held holds refusal_line → StopsShort held holds ⊎ Same
 refused_short held holds (inl whole) = inl (inl whole)
 refused_short held holds (inr cut) = inl (inr (refusal_line, inr refl, cut))
+
+pub cut_of : {T E : Type 0} (Same : Type 0) (r : Result T E) (held holds : Option (List ℕ)) (text due : List ℕ) → text ≡ due → IfErr r (λ _. AppendsCut held holds text) → IfErr r (λ _. AppendsCut held holds due ⊎ Same)
+cut_of Same (Ok x) held holds text due is cut = tt
+cut_of Same (Err e) held holds text due is cut = inl (subst (AppendsCut held holds) is cut)
+
+pub short_of : {T E : Type 0} (Same : Type 0) (r : Result T E) (held holds : Option (List ℕ)) (docs : List Doc) (epoch : ℕ) → AreInOrder docs × AreGood docs
+    → IfErr r (λ _. AppendsCut held holds (report docs epoch) ⊎ Same) → IfErr r (λ _. StopsShort held holds ⊎ Same)
+short_of Same (Ok x) held holds docs epoch good cut = tt
+short_of Same (Err e) held holds docs epoch good cut = cut_short held holds docs epoch good cut
