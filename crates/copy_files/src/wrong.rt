@@ -1,0 +1,209 @@
+//! What of a database is wrong for a stored log. It is looked for once a database was refused, and nothing is claimed of it.
+use copy_docs::{Fault, KeptDoc, count, is_doc_name, operation_of};
+use copy_rows::{FORMAT, OLD_FORMAT, meta_in};
+use copy_tables::{Found, find_tables, read_meta};
+use op_core::{Mutation, Operation};
+use sqlite::types::ValueRef;
+use sqlite::{Alter, Connection, Row};
+use sqlite_schema::schema::Schema;
+use std::alloc::Global;
+use std::{fmt, slice};
+
+/// What of a database is wrong for a stored log.
+#[derive(Clone, Copy, Debug)]
+pub enum Wrong {
+    /// The table of this name is not there, and the other one is.
+    NoTable(&'static str),
+    /// One of the two tables has other columns or another key, or is a view.
+    OtherTable,
+    /// `meta` does not have the two numbers that it should.
+    Meta,
+    /// Its epoch can't have been given out.
+    Epoch,
+    /// Its format is none of those that are read.
+    Format(u32),
+    /// This row of `entry`, counted from 1 by document and place, and what of it.
+    Row(u64, Part),
+    /// It could not be looked at once more.
+    Unknown,
+}
+
+/// What of a row of `entry` is wrong.
+#[derive(Clone, Copy, Debug)]
+pub enum Part {
+    /// Its document has no such name.
+    Doc,
+    /// Its place is not the next one of the document.
+    Place,
+    /// Its text is no operation of the format.
+    Text,
+    /// Its operation does not fit behind the rows before it.
+    Order,
+}
+
+impl fmt::Display for Wrong {
+    fn fmt<W: fmt::Write>(&self, f: &mut fmt::Formatter<W>) -> fmt::Result {
+        match self {
+            Wrong::NoTable(name) => write!(f, "the table {name} is missing"),
+            Wrong::OtherTable => f.write_str("its table meta or entry has another form"),
+            Wrong::Meta => f.write_str("its table meta has other rows than format and epoch"),
+            Wrong::Epoch => f.write_str("its epoch in meta is none that can be given out"),
+            Wrong::Format(format) => {
+                write!(
+                    f,
+                    "its format is {format}, and {OLD_FORMAT} and {FORMAT} are read"
+                )
+            }
+            Wrong::Row(at, part) => {
+                let what = part_words(*part);
+                write!(f, "row no. {at} of entry, by doc and place: {what}")
+            }
+            Wrong::Unknown => f.write_str("a table has a row that does not fit"),
+        }
+    }
+}
+
+fn part_words(part: Part) -> &'static str {
+    match part {
+        Part::Doc => "doc is no name of a document",
+        Part::Place => "place is not the next one of its document",
+        Part::Text => "text is no operation of this format",
+        Part::Order => "text is an operation that does not fit behind the rows before it",
+    }
+}
+
+/// What of the database that was refused is wrong.
+pub(crate) fn wrong_of<S: Alter>(alloc: Global, conn: &mut Connection<S>) -> Wrong {
+    match find_tables(conn.schema()) {
+        Found::Both => wrong_rows(alloc, conn),
+        Found::Neither | Found::Other => wrong_tables(conn.schema()),
+    }
+}
+
+fn wrong_tables(schema: &Schema) -> Wrong {
+    if schema.table_named(b"meta").is_none() && schema.view_named(b"meta").is_none() {
+        return Wrong::NoTable("meta");
+    }
+    if schema.table_named(b"entry").is_none() && schema.view_named(b"entry").is_none() {
+        return Wrong::NoTable("entry");
+    }
+    Wrong::OtherTable
+}
+
+fn wrong_rows<S: Alter>(alloc: Global, conn: &mut Connection<S>) -> Wrong {
+    let Ok(rows) = read_meta(conn) else {
+        return Wrong::Unknown;
+    };
+    match meta_in(rows.as_slice()) {
+        Ok(meta) => wrong_entries(alloc, conn, meta.format),
+        Err(_) => wrong_meta(rows.as_slice()),
+    }
+}
+
+fn wrong_meta(rows: &[Row]) -> Wrong {
+    let [first, second] = rows else {
+        return Wrong::Meta;
+    };
+    if !is_text(first, 1, "format") || !is_text(second, 1, "epoch") {
+        return Wrong::Meta;
+    }
+    match first.get(2) {
+        Ok(format) => format_wrong(format),
+        Err(_) => Wrong::Meta,
+    }
+}
+
+fn format_wrong(format: u32) -> Wrong {
+    if format == FORMAT || format == OLD_FORMAT {
+        Wrong::Epoch
+    } else {
+        Wrong::Format(format)
+    }
+}
+
+fn is_text(row: &Row, at: usize, text: &str) -> bool {
+    text_at(row, at) == Some(text)
+}
+
+fn text_at(row: &Row, at: usize) -> Option<&str> {
+    match row.get_ref(at) {
+        Ok(ValueRef::Text(bytes)) => str::from_utf8(bytes).ok(),
+        _ => None,
+    }
+}
+
+/// Reads the rows of `entry` as a start does, up to the first that does not fit.
+fn wrong_entries<S: Alter>(alloc: Global, conn: &mut Connection<S>, format: u32) -> Wrong {
+    let Ok(mut rows) = conn.query(
+        "SELECT doc, place, text FROM entry ORDER BY doc, place",
+        &[],
+    ) else {
+        return Wrong::Unknown;
+    };
+    let mut docs = Vec::new(alloc);
+    for at in 1..u64::MAX {
+        let Ok(Some(row)) = rows.next() else {
+            return Wrong::Unknown;
+        };
+        match wrong_part(&mut docs, alloc, format, row) {
+            Ok(None) => {}
+            Ok(Some(part)) => return Wrong::Row(at, part),
+            Err(_) => return Wrong::Unknown,
+        }
+    }
+    Wrong::Unknown
+}
+
+/// What of this row is wrong, if anything. Otherwise its operation is added to the documents.
+fn wrong_part(
+    docs: &mut Vec<KeptDoc>,
+    alloc: Global,
+    format: u32,
+    row: &Row,
+) -> Result<Option<Part>, Fault> {
+    let Some(name) = text_at(row, 0) else {
+        return Ok(Some(Part::Doc));
+    };
+    if !is_doc_name(name) {
+        return Ok(Some(Part::Doc));
+    }
+    if !is_next(docs.as_slice(), name, row) {
+        return Ok(Some(Part::Place));
+    }
+    match operation_at(alloc, format, row) {
+        Ok(entry) => wrong_order(docs, alloc, name, &entry),
+        Err(Fault::Refused) => Ok(Some(Part::Text)),
+        Err(fault) => Err(fault),
+    }
+}
+
+fn is_next(docs: &[KeptDoc], name: &str, row: &Row) -> bool {
+    match row.get::<u32>(1) {
+        Ok(place) => place != 0 && place as usize - 1 == count(docs, name),
+        Err(_) => false,
+    }
+}
+
+fn operation_at(alloc: Global, format: u32, row: &Row) -> Result<Operation, Fault> {
+    let Some(text) = text_at(row, 2) else {
+        return Err(Fault::Refused);
+    };
+    let entry = operation_of(alloc, text)?;
+    if format == OLD_FORMAT && matches!(entry.mutation(), Mutation::Add(_)) {
+        return Err(Fault::Refused);
+    }
+    Ok(entry)
+}
+
+fn wrong_order(
+    docs: &mut Vec<KeptDoc>,
+    alloc: Global,
+    name: &str,
+    entry: &Operation,
+) -> Result<Option<Part>, Fault> {
+    match copy_docs::add(docs, alloc, name, slice::from_ref(entry)) {
+        Ok(()) => Ok(None),
+        Err(Fault::Refused) => Ok(Some(Part::Order)),
+        Err(fault) => Err(fault),
+    }
+}
