@@ -1,5 +1,5 @@
 //! The next entries of documents.
-ghost use Rattle.std.specs.Prelude.{◌≡◌, ◌≢◌, ◌⊎◌, ◌↔◌, ◌<◌, List, [], length, Contains, true, false, IfOk, IfErr, OnOk, Ok, Err};
+ghost use Rattle.std.specs.Prelude.{◌≡◌, ◌≢◌, ◌⊎◌, ◌↔◌, ◌<◌, List, [], length, get_or, Contains, true, false, IfOk, IfErr, OnOk, Ok, Err};
 ghost use Rattle.json_scalar.specs.Refusal.{UnlessMemory};
 ghost use Rattle.sqlite.specs.Tree.{Trees};
 ghost use Rattle.sqlite.specs.Held.{state};
@@ -11,6 +11,7 @@ ghost use Rattle.copy_docs.specs.Docs.{IsBatch, add_batch, log_of};
 ghost use Rattle.log_copy.specs.Kept.{content};
 ghost use Rattle.copier.specs.Batches.{AddsNext, AreAdded, AddsBatches};
 
+use crate::watch::Watch;
 use doc_words::Operations;
 use json_scalar::Refusal;
 use locked_doc::LockedDoc;
@@ -79,6 +80,21 @@ fn note_at<M: Marker, R: Wait, S: Alter>(
     note_rows(&mut doc, copy, name)
 }
 
+/// Tells the watch of these entries, which were just added to the document of this name. Nothing is claimed of it.
+fn tell_added<S: Alter, T: Watch>(
+    watch: &T,
+    copy: &LogCopy<S>,
+    name: &str,
+    entries: &[op_core::Operation],
+) {
+    let Ok(docs) = copy.docs() else {
+        return;
+    };
+    if let Some(at) = copy_docs::find(docs, name) {
+        watch.added(&docs[at], entries);
+    }
+}
+
 /// Adds these entries to the copy, as the document's next ones.
 fn add_next<S: Alter>(
     copy: &mut LogCopy<S>,
@@ -99,16 +115,18 @@ fn add_next<S: Alter>(
     copy.add_batch(name, from, entries)
 }
 
-/// Copies the next entries of the document of this name at this index, at most 256, and then notes how many of it the copy has. The
-/// answer is whether there were any. Its lock isn't held while they are written. A fault notes nothing.
-pub fn copy_some<M: Marker, R: Wait, S: Alter>(
+/// Copies the next entries of the document of this name at this index, at most 256, and then notes how many of it the copy has, and
+/// tells the watch of them. The answer is whether there were any. Its lock isn't held while they are written. A fault notes nothing.
+pub fn copy_some<M: Marker, R: Wait, S: Alter, T: Watch>(
     rt: &R,
     library: &Library<M>,
     index: usize,
     name: &str,
     copy: &mut LogCopy<S>,
+    watch: &T,
 ) -> Result<bool, Fault>
-    requires { index < length library.now.names.items }
+    requires within { index < length library.now.names.items }
+    requires named { name.now ≡ get_or library.now.names.items index [] }
     ensures some { result ≡ Ok true → AddsNext name.now copy.old.docs copy.new.docs }
     ensures none { result ≡ Ok false → copy.new ≡ copy.old }
     ensures works { OnOk result ((copy.new.epoch ≡ copy.old.epoch) × (copy.new.has_failed ≡ false)) }
@@ -125,22 +143,25 @@ pub fn copy_some<M: Marker, R: Wait, S: Alter>(
     }
     add_next(copy, name, next.as_slice())?;
     note_at(rt, library, index, copy, name)?;
+    tell_added(watch, copy, name, next.as_slice());
     Ok(true)
 }
 
 /// The name of the document at this index.
 fn name_at<M: Marker>(library: &Library<M>, index: usize) -> &str
     requires { index < length library.now.names.items }
-    ensures { Contains library.entry.now.names.items result.now }
+    ensures named { result.now ≡ get_or library.entry.now.names.items index [] }
+    ensures among { Contains library.entry.now.names.items result.now }
 {
     library.names[index].as_str()
 }
 
 /// Copies the next entries of each document, and tells whether there were any.
-pub fn copy_each<M: Marker, R: Wait, S: Alter>(
+pub fn copy_each<M: Marker, R: Wait, S: Alter, T: Watch>(
     rt: &R,
     library: &Library<M>,
     copy: &mut LogCopy<S>,
+    watch: &T,
 ) -> Result<bool, Fault>
     ensures ok { IfOk result (λ any. AreAdded library.now.names.items copy.old.docs any copy.new.docs) }
     ensures none { result ≡ Ok false → copy.new.docs ≡ copy.old.docs }
@@ -152,7 +173,7 @@ pub fn copy_each<M: Marker, R: Wait, S: Alter>(
     let mut any = false;
     for index in 0..library.names.len() {
         let name = name_at(library, index);
-        if copy_some(rt, library, index, name, copy)? {
+        if copy_some(rt, library, index, name, copy, watch)? {
             any = true;
         }
     }

@@ -3,6 +3,7 @@ ghost use Rattle.std.specs.Prelude.{◌≡◌, ◌⊎◌, OnOk, IfErr, Err, true
 ghost use Rattle.copier.specs.Batches.{AddsBatches, HasCopied};
 
 use crate::batch::copy_each;
+use crate::watch::Watch;
 use log_copy::{Fault, LogCopy};
 use server_core::{Library, Side, Signalled};
 use share_ledger::Marker;
@@ -10,12 +11,13 @@ use sqlite::Alter;
 use std::sync::Wait;
 
 /// Copies what so many sessions log while they run, and what is left once they have ended. It sleeps while there is nothing to copy,
-/// and holds no lock while it writes. A fault ends it.
-pub fn keep_up<M: Marker, R: Wait, S: Alter>(
+/// and holds no lock while it writes. It tells the watch of each batch. A fault ends it.
+pub fn keep_up<M: Marker, R: Wait, S: Alter, T: Watch>(
     rt: &R,
     library: &Library<M>,
     sessions: u64,
     copy: &mut LogCopy<S>,
+    watch: &T,
 ) -> Result<(), Fault>
     ensures ok { OnOk result (AddsBatches library.now.names.items copy.old copy.new) }
     ensures err { IfErr result (λ e. (e ≡ Fault.Store) ⊎ AddsBatches library.now.names.items copy.old copy.new) }
@@ -28,7 +30,7 @@ pub fn keep_up<M: Marker, R: Wait, S: Alter>(
         ended: 0,
     };
     for _ in rt.forever() {
-        match copy_each(rt, library, copy) {
+        match copy_each(rt, library, copy, watch) {
             Ok(true) => {}
             Ok(false) => {
                 // What was logged before all had ended was just copied.
@@ -43,16 +45,10 @@ pub fn keep_up<M: Marker, R: Wait, S: Alter>(
     Ok(())
 }
 
-/// Is told of a copier's fault. Nothing is claimed of it.
-pub trait Watch {
-    /// Is called once, by a copier that a fault ends, as soon as it has met it: sessions may still run.
-    fn stopped(&self, why: &Fault);
-}
-
 /// Tells the watch why the copying ended, if by a fault.
-fn tell_stopped<T: Watch>(watch: &T, fault: &Option<Fault>) {
+fn tell_stopped<T: Watch, S: Alter>(watch: &T, fault: &Option<Fault>, copy: &LogCopy<S>) {
     if let Some(why) = fault {
-        watch.stopped(why);
+        watch.stopped(why, copy.cause());
     }
 }
 
@@ -61,7 +57,7 @@ fn tell_stopped<T: Watch>(watch: &T, fault: &Option<Fault>) {
 pub struct Copier<'a, S: Alter, T: Watch> {
     /// The copy.
     pub copy: &'a mut LogCopy<S>,
-    /// Who is told of a fault.
+    /// What is told of each batch, and of a fault.
     pub watch: &'a T,
     /// Why the copying ended before all was copied, if it did.
     pub fault: Option<Fault>,
@@ -99,7 +95,7 @@ impl<M: Marker, S: Alter, T: Watch> Side<M> for Copier<'_, S, T> {
     ghost becomes = { λ names old new. (new.copy.ghost_name ≡ old.copy.ghost_name) × HasCopied names old.copy.now new.copy.now new.fault };
 
     fn run<R: Wait>(&mut self, rt: &R, library: &Library<M>, sessions: u64) {
-        self.fault = keep_up(rt, library, sessions, self.copy).err();
-        tell_stopped(self.watch, &self.fault);
+        self.fault = keep_up(rt, library, sessions, self.copy, self.watch).err();
+        tell_stopped(self.watch, &self.fault, self.copy);
     }
 }
