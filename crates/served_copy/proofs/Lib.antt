@@ -1,3 +1,4 @@
 mod Lines
 mod Restored
 mod Keeping
+mod Left

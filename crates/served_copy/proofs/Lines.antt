@@ -1,12 +1,12 @@
 -- What a server tells of itself.
-use Rattle.std.proofs.Common.{◌≡◌, ◌<◌, ◌≤◌, ◌+◌, ◌++◌, ℕ, List, [], map, drop, get_or, length, Option, Some, IfSome, vec_len, refl, sym, ap, subst, ◌∙◌, add-one, drop-cons}
+use Rattle.std.proofs.Common.{◌≡◌, ◌<◌, ◌≤◌, ◌+◌, ◌++◌, ℕ, List, [], map, drop, get_or, length, Option, Result, Ok, IfOk, vec_len, refl, sym, ap, subst, ◌∙◌, add-one, drop-cons}
 use Rattle.std.proofs.lemmas.List.{drop_all}
 use Rattle.std.specs.Borrow.{Bor}
 use Rattle.std.specs.Io.KnownBytes.{Appends}
 use Rattle.doc_rules.specs.Seats.{Seat}
 use Rattle.locked_doc.specs.declared.gather.Totals.{Totals}
 use Rattle.server_core.specs.declared.gathering.Gathered.{Gathered}
-use Rattle.server_core.specs.Attended.{AreAttended}
+use Rattle.server_core.specs.Attended.{AreAttended, Bytes}
 use Rattle.server_core.specs.Sums.{AreTotalsFrom}
 use Rattle.op_core.specs.Op.{Op}
 use Rattle.copy_docs.specs.Docs.{Doc}
@@ -25,16 +25,16 @@ pub lines_end : (names : List (Bor (List ℕ))) (totals : List Totals) (i : ℕ)
 lines_end names totals i past = rw (drop_all i names past) refl
 
 -- what sessions did over documents of these names, and what was told of it
-pub serves : (begun : ℕ → List Op) (docs : List Doc) (shelved names : List (List ℕ)) (connections : List (Option (List ℕ))) (count : ℕ) {ran : Option Gathered} (gathered : Gathered)
-    (held holds : Option (List ℕ)) → ran ≡ Some gathered
-    → IfSome ran (λ g. (given : List (List (Option Seat))) × AreAttended shelved connections g.endings.items given × AreTotalsFrom begun 0 given g.totals.items)
-    → IfSome ran (λ g. vec_len g.totals ≡ length shelved)
+pub serves : (begun : ℕ → List Op) (docs : List Doc) (shelved names : List (List ℕ)) (connections : List Bytes) (count : ℕ) {F : Type 0} {ran : Result Gathered F} (gathered : Gathered)
+    (held holds : Option (List ℕ)) → ran ≡ Ok gathered
+    → IfOk ran (λ g. (given : List (List (Option Seat))) × AreAttended shelved connections g.endings.items given × AreTotalsFrom begun 0 given g.totals.items)
+    → IfOk ran (λ g. vec_len g.totals ≡ length shelved)
     → begun ≡ entries_at docs names → shelved ≡ names → length connections ≡ count → Appends held holds (total_lines names gathered.totals.items)
     → ServesSessions docs names count held holds
 serves begun docs shelved names connections count gathered held holds is sessions each restored same so_many told =
     let (given, attended, added) = subst
-    (λ ran. IfSome ran (λ g. (given : List (List (Option Seat))) × AreAttended shelved connections g.endings.items given × AreTotalsFrom begun 0 given g.totals.items)) is sessions in
-    let many : vec_len gathered.totals ≡ length shelved = subst (λ ran. IfSome ran (λ g. vec_len g.totals ≡ length shelved)) is each in
+    (λ ran. IfOk ran (λ g. (given : List (List (Option Seat))) × AreAttended shelved connections g.endings.items given × AreTotalsFrom begun 0 given g.totals.items)) is sessions in
+    let many : vec_len gathered.totals ≡ length shelved = subst (λ ran. IfOk ran (λ g. vec_len g.totals ≡ length shelved)) is each in
     record {
       connections = connections;
       endings = gathered.endings.items;

@@ -2,3 +2,4 @@ pub mod Named
 pub mod Restored
 pub mod Totals
 pub mod Served
+pub mod Stored

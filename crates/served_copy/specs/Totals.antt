@@ -5,7 +5,7 @@ use Rattle.std.specs.Io.KnownBytes.{Appends}
 use Rattle.doc_rules.specs.Seats.{Seat}
 use Rattle.locked_doc.specs.declared.gather.Totals.{Totals}
 use Rattle.session_rules.specs.declared.Ending.{Ending}
-use Rattle.server_core.specs.Attended.{AreAttended}
+use Rattle.server_core.specs.Attended.{AreAttended, Bytes}
 use Rattle.server_core.specs.Sums.{AreTotalsFrom}
 use Rattle.copy_docs.specs.Docs.{Doc}
 use Rattle.served_copy.specs.Restored.{entries_at}
@@ -23,9 +23,9 @@ total_lines (name ∷ names) [] = []
 
 -- So many connections, each with a session over documents of these names, or with none; and then a line of totals for each
 -- document, which are those of the seats that these sessions had. Each document began with just the entries that it has in these
--- documents of a copy. Where known, the bytes are those that a connection has to read.
+-- documents of a copy. Where they are known, the bytes are what a connection's source has and what its sink has taken.
 pub record ServesSessions (docs : List Doc) (names : List (List ℕ)) (count : ℕ) (held holds : Option (List ℕ)) : Type 0 where
-  pub connections : List (Option (List ℕ))
+  pub connections : List Bytes
   pub endings : List (Option Ending)
   pub given : List (List (Option Seat))
   pub totals : List Totals

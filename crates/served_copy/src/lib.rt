@@ -1,13 +1,17 @@
 //! Shared documents that start from a copy of their logs, and are copied while they are served.
 #![tactic(auto)]
 
+mod failure;
 mod naming;
 mod noting;
 mod restoring;
 mod serving;
+mod stored;
 mod telling;
 
+pub use failure::{Failure, Step};
 pub use naming::raise;
 pub use restoring::{Stock, restored_stock, shelve};
-pub use serving::serve_over;
+pub use serving::{serve_from, serve_over};
+pub use stored::{Ended, serve_stored};
 pub use telling::{tell_fault, tell_totals};

@@ -1,15 +1,17 @@
 //! Serving from a copy.
-ghost use Rattle.std.specs.Prelude.{◌≡◌, ◌⊎◌, ◌≤◌, List, Option, None, false, length, map, IfSome, min, vec_len};
+ghost use Rattle.std.specs.Prelude.{◌≡◌, ◌⊎◌, ◌≤◌, List, Option, None, false, length, map, IfOk, OnOk, min, vec_len};
 ghost use Rattle.doc_rules.specs.Seats as seats;
 ghost use Rattle.locked_doc.specs.Books.{most_seats};
 ghost use Rattle.doc_ledger.specs.Numbers.{greatest_number};
 ghost use Rattle.server_core.specs.Attended.{AreAttended};
 ghost use Rattle.server_core.specs.Sums.{AreTotalsFrom};
 ghost use Rattle.copier.specs.Batches.{AddsBatches, HasCopied};
+ghost use Rattle.served_copy.specs.Named.{replica_name};
 ghost use Rattle.served_copy.specs.Restored.{entries_at};
 ghost use Rattle.served_copy.specs.Served.{KeepsRows, ServesCopied};
 ghost use Rattle.served_copy.specs.Totals.{ServesSessions};
 
+use crate::failure::{Failure, Step};
 use crate::naming::raise;
 use crate::noting::{Noting, note_documents};
 use crate::restoring::{Stock, restored_stock, shelve};
@@ -20,7 +22,7 @@ use lamport_id::ReplicaName;
 use log::Log;
 use log_copy::{Fault, LogCopy};
 use server_core::{Connect, Gathered, Library, OpenGate, run_sessions};
-use server_notes::note_ended;
+use server_notes::{note_ended, note_serving};
 use share_ledger::{Blank, Marker};
 use sqlite::Alter;
 use std::alloc::Global;
@@ -37,7 +39,7 @@ fn seats_for(sessions: usize) -> u16
     sessions.min(usize::from(u16::MAX)) as u16
 }
 
-/// Serves the connections while the copier runs, and gives that back. What sessions did is kept, if it could be gathered.
+/// Serves the connections while the copier runs, and gives that back. What sessions did is kept, or why it could not be gathered.
 fn serve_beside<
     'a,
     M: Marker + Send + Sync,
@@ -51,30 +53,30 @@ fn serve_beside<
     library: Library<M>,
     connections: Vec<C>,
     copier: Copier<'a, S, T>,
-    ran: &mut Option<Gathered>,
+    ran: &mut Result<Gathered, Failure>,
 ) -> Copier<'a, S, T>
-    ensures sessions { IfSome ran.new (λ g. (given : List (List (Option seats.Seat)))
-        × AreAttended library.names.items (map C.requests connections.items) g.endings.items given × AreTotalsFrom M.begun 0 given g.totals.items) }
-    ensures each { IfSome ran.new (λ g. vec_len g.totals ≡ length library.names.items) }
+    ensures sessions { IfOk ran.new (λ g. (given : List (List (Option seats.Seat)))
+        × AreAttended library.names.items (map C.bytes connections.items) g.endings.items given × AreTotalsFrom M.begun 0 given g.totals.items) }
+    ensures each { IfOk ran.new (λ g. vec_len g.totals ≡ length library.names.items) }
     ensures same_reference { result.copy.ghost_name ≡ copier.entry.copy.ghost_name }
-    // The copier has run, or memory was wanting before the first session.
-    ensures left { ((ran.new ≡ None) × (result.copy.now ≡ copier.entry.copy.now)) ⊎ HasCopied library.names.items copier.entry.copy.now result.copy.now result.fault }
+    // The copier has run, or memory ran out before the first session.
+    ensures left { (OnOk ran.new ⊥ × (result.copy.now ≡ copier.entry.copy.now)) ⊎ HasCopied library.names.items copier.entry.copy.now result.copy.now result.fault }
 {
     let (gathered, copier) = run_sessions(rt, alloc, library, connections, &OpenGate, copier);
     match gathered {
         Ok(gathered) => {
-            *ran = Some(gathered);
+            *ran = Ok(gathered);
             copier
         }
-        Err(_) => {
-            *ran = None;
+        Err(left) => {
+            *ran = Err(Failure::of_gathering(&left));
             copier
         }
     }
 }
 
-/// What sessions did over the documents of a shelf, if it could be gathered, and why the copying ended before all was copied, if it
-/// did.
+/// What sessions did over the documents of a shelf, or why it could not be gathered; and why the copying ended before all was copied,
+/// if it did.
 fn serve_copied<
     M: Marker + Send + Sync,
     R: Threads + Wait + Sync + Log + Clock,
@@ -86,34 +88,33 @@ fn serve_copied<
     library: Library<M>,
     connections: Vec<C>,
     copy: &mut LogCopy<S>,
-) -> (Option<Gathered>, Option<Fault>)
-    ensures sessions { IfSome result.0 (λ g. (given : List (List (Option seats.Seat)))
-        × AreAttended library.names.items (map C.requests connections.items) g.endings.items given × AreTotalsFrom M.begun 0 given g.totals.items) }
-    ensures each { IfSome result.0 (λ g. vec_len g.totals ≡ length library.names.items) }
-    ensures left { ((result.0 ≡ None) × (copy.new ≡ copy.old)) ⊎ HasCopied library.names.items copy.old copy.new result.1 }
+) -> (Result<Gathered, Failure>, Option<Fault>)
+    ensures sessions { IfOk result.0 (λ g. (given : List (List (Option seats.Seat)))
+        × AreAttended library.names.items (map C.bytes connections.items) g.endings.items given × AreTotalsFrom M.begun 0 given g.totals.items) }
+    ensures each { IfOk result.0 (λ g. vec_len g.totals ≡ length library.names.items) }
+    ensures left { (OnOk result.0 ⊥ × (copy.new ≡ copy.old)) ⊎ HasCopied library.names.items copy.old copy.new result.1 }
 {
-    let mut ran = None;
     let noting = Noting { rt };
     let copier = Copier::new(copy, &noting);
+    let mut ran = Err(Failure::Memory(Step::Begin));
     let copier = serve_beside(rt, alloc, library, connections, copier, &mut ran);
     let why = copier.end();
     note_ended(rt);
     (ran, why)
 }
 
-/// The status once all is told: 1 where the copying ended before all was copied.
-fn status_of(fault: Option<Fault>) -> u8
-    ensures bound { result ≤ 1 }
-    ensures copied { result ≡ 0 → fault ≡ None }
+/// What is due once all is told: the failure of the copying, where that ended before all was copied.
+fn outcome_of<S: Alter>(fault: Option<Fault>, copy: &LogCopy<S>) -> Result<(), Failure>
+    ensures copied { OnOk result (fault ≡ None) }
 {
     match fault {
-        None => 0,
-        Some(_) => 1,
+        None => Ok(()),
+        Some(why) => Err(Failure::of_copying(why, copy)),
     }
 }
 
-/// Serves these connections over the documents of a library, which are copied meanwhile, and writes the totals at the end. The status
-/// is 1 for want of memory, where the writer fails, or where the copying ended before all was copied.
+/// Serves these connections over the documents of a library, which are copied meanwhile, and writes the totals at the end. It fails
+/// where memory runs out, where the writer fails, or where the copying ended before all was copied.
 fn serve_library<
     M: Marker + Send + Sync,
     R: Threads + Wait + Sync + Log + Clock,
@@ -128,28 +129,25 @@ fn serve_library<
     connections: Vec<C>,
     copy: &mut LogCopy<S>,
     out: &mut W,
-) -> u8
+) -> Result<(), Failure>
     requires names { library.names.items ≡ map (λ s. s.now) names.now }
     requires begun { M.begun ≡ entries_at copy.old.docs (map (λ s. s.now) names.now) }
-    ensures status { result ≤ 1 }
-    ensures served { result ≡ 0 → ServesSessions copy.old.docs (map (λ s. s.now) names.now) (length connections.items) (W.contents out.old) (W.contents out.new) }
-    ensures copied { result ≡ 0 → AddsBatches (map (λ s. s.now) names.now) copy.old copy.new }
-    ensures works { result ≡ 0 → copy.old.has_failed ≡ false → copy.new.has_failed ≡ false }
+    ensures served { OnOk result (ServesSessions copy.old.docs (map (λ s. s.now) names.now) (length connections.items) (W.contents out.old) (W.contents out.new)) }
+    ensures copied { OnOk result (AddsBatches (map (λ s. s.now) names.now) copy.old copy.new) }
+    ensures works { OnOk result (copy.old.has_failed ≡ false → copy.new.has_failed ≡ false) }
     ensures grown { copy.new.has_failed ≡ false → AddsBatches (map (λ s. s.now) names.now) copy.old copy.new }
     ensures alone { copy.new.is_alone ≡ copy.old.is_alone }
 {
     let (ran, fault) = serve_copied(rt, alloc, library, connections, copy);
-    let Some(gathered) = ran else {
-        return 1;
-    };
+    let gathered = ran?;
     match tell_totals(alloc, names, gathered.totals.as_slice(), out) {
-        Ok(()) => status_of(fault),
-        Err(_) => 1,
+        Ok(()) => outcome_of(fault, copy),
+        Err(error) => Err(Failure::Output(error)),
     }
 }
 
-/// Serves these connections over these documents, which were restored from the copy, and writes the totals at the end. The
-/// status is 1 for want of memory, where the writer fails, or where the copying ended before all was copied.
+/// Serves these connections over these documents, which were restored from the copy, and writes the totals at the end, as
+/// `serve_library`.
 fn serve_stock<
     M: Marker + Send + Sync,
     R: Threads + Wait + Sync + Log + Clock,
@@ -164,25 +162,23 @@ fn serve_stock<
     connections: Vec<C>,
     copy: &mut LogCopy<S>,
     out: &mut W,
-) -> u8
+) -> Result<(), Failure>
     requires names { stock.names.items ≡ map (λ s. s.now) names.now }
     requires begun { M.begun ≡ entries_at copy.old.docs (map (λ s. s.now) names.now) }
-    ensures status { result ≤ 1 }
-    ensures served { result ≡ 0 → ServesSessions copy.old.docs (map (λ s. s.now) names.now) (length connections.items) (W.contents out.old) (W.contents out.new) }
-    ensures copied { result ≡ 0 → AddsBatches (map (λ s. s.now) names.now) copy.old copy.new }
-    ensures works { result ≡ 0 → copy.old.has_failed ≡ false → copy.new.has_failed ≡ false }
+    ensures served { OnOk result (ServesSessions copy.old.docs (map (λ s. s.now) names.now) (length connections.items) (W.contents out.old) (W.contents out.new)) }
+    ensures copied { OnOk result (AddsBatches (map (λ s. s.now) names.now) copy.old copy.new) }
+    ensures works { OnOk result (copy.old.has_failed ≡ false → copy.new.has_failed ≡ false) }
     ensures grown { copy.new.has_failed ≡ false → AddsBatches (map (λ s. s.now) names.now) copy.old copy.new }
     ensures alone { copy.new.is_alone ≡ copy.old.is_alone }
 {
     let Ok(library) = shelve(alloc, stock) else {
-        return 1;
+        return Err(Failure::Memory(Step::Restore));
     };
     serve_library(rt, alloc, library, names, connections, copy, out)
 }
 
-/// Serves these connections, one session each, on documents of these names that it restores from the copy, for the replica of this
-/// name, copies what is logged meanwhile, and writes the totals at the end. The status is 1 for want of memory, where the writer fails,
-/// or where the copy fails.
+/// Serves these connections, one session each, on documents of these names that it restores from the copy, for this replica, copies
+/// what is logged meanwhile, and writes the totals at the end. The replica has the server's name, and the copy's epoch behind it.
 fn serve_restored<
     M: Marker + Send + Sync,
     R: Threads + Wait + Sync + Log + Clock,
@@ -193,22 +189,24 @@ fn serve_restored<
     rt: &R,
     alloc: Global,
     blank: Blank,
+    name: &[u8],
     replica: &ReplicaName,
     documents: &[&str],
     connections: Vec<C>,
     copy: &mut LogCopy<S>,
     out: &mut W,
-) -> u8
+) -> Result<(), Failure>
     requires blank { blank ≡ M.name }
+    requires named { replica.now ≡ replica_name name.now copy.old.epoch }
     requires begun { M.begun ≡ entries_at copy.old.docs (map (λ s. s.now) documents.now) }
     requires few { length documents.now ≤ greatest_number }
-    ensures status { result ≤ 1 }
-    ensures served { result ≡ 0 → ServesSessions copy.old.docs (map (λ s. s.now) documents.now) (length connections.items) (W.contents out.old) (W.contents out.new) }
-    ensures copied { result ≡ 0 → AddsBatches (map (λ s. s.now) documents.now) copy.old copy.new }
-    ensures works { result ≡ 0 → copy.old.has_failed ≡ false → copy.new.has_failed ≡ false }
+    ensures served { OnOk result (ServesSessions copy.old.docs (map (λ s. s.now) documents.now) (length connections.items) (W.contents out.old) (W.contents out.new)) }
+    ensures copied { OnOk result (AddsBatches (map (λ s. s.now) documents.now) copy.old copy.new) }
+    ensures works { OnOk result (copy.old.has_failed ≡ false → copy.new.has_failed ≡ false) }
     ensures grown { copy.new.has_failed ≡ false → AddsBatches (map (λ s. s.now) documents.now) copy.old copy.new }
     ensures alone { copy.new.is_alone ≡ copy.old.is_alone }
 {
+    note_serving(rt, replica.as_str());
     let mut ledger = Ledger::<M>::new(blank);
     let seats = seats_for(connections.len());
     match restored_stock(alloc, &mut ledger, copy, replica, documents, seats) {
@@ -216,13 +214,75 @@ fn serve_restored<
             note_documents(rt, copy, documents);
             serve_stock(rt, alloc, stock, documents, connections, copy, out)
         }
-        Err(_) => 1,
+        Err(fault) => Err(Failure::of_restoring(fault, copy)),
     }
 }
 
-/// Serves these connections, one session each, on documents of these names: raises the epoch of the copy, restores the documents from
-/// it, copies what is logged meanwhile, and writes the totals at the end. The status is 1 for want of memory, where the writer fails,
-/// or where the copy is refused, which a line tells, or fails; sessions go on without a copy that fails while they run.
+/// The same, with a new table of shares.
+pub(crate) fn serve_raised<
+    R: Threads + Wait + Sync + Log + Clock,
+    C: Connect,
+    S: Alter,
+    W: io::Write,
+>(
+    rt: &R,
+    alloc: Global,
+    name: &str,
+    replica: &ReplicaName,
+    documents: &[&str],
+    connections: Vec<C>,
+    copy: &mut LogCopy<S>,
+    out: &mut W,
+) -> Result<(), Failure>
+    requires few { length documents.now ≤ greatest_number }
+    requires named { replica.now ≡ replica_name name.now copy.old.epoch }
+    ensures served { OnOk result (ServesSessions copy.old.docs (map (λ s. s.now) documents.now) (length connections.items) (W.contents out.old) (W.contents out.new)) }
+    ensures copied { OnOk result (AddsBatches (map (λ s. s.now) documents.now) copy.old copy.new) }
+    ensures works { OnOk result (copy.old.has_failed ≡ false → copy.new.has_failed ≡ false) }
+    ensures grown { copy.new.has_failed ≡ false → AddsBatches (map (λ s. s.now) documents.now) copy.old copy.new }
+    ensures alone { copy.new.is_alone ≡ copy.old.is_alone }
+{
+    serve_restored::<Brand, R, C, S, W>(
+        rt,
+        alloc,
+        Blank::new(),
+        name.as_bytes(),
+        replica,
+        documents,
+        connections,
+        copy,
+        out,
+    )
+}
+
+/// Serves these connections, one session each, on documents of these names: starts a new epoch of the copy, restores the documents from
+/// it, copies what is logged meanwhile, and writes the totals at the end. Otherwise the failure says why; a copy that is refused is
+/// told by a line, too. Sessions go on without a copy that fails while they run.
+pub fn serve_from<R: Threads + Wait + Sync + Log + Clock, C: Connect, S: Alter, W: io::Write>(
+    rt: &R,
+    alloc: Global,
+    name: &str,
+    documents: &[&str],
+    connections: Vec<C>,
+    copy: &mut LogCopy<S>,
+    out: &mut W,
+) -> Result<(), Failure>
+    requires few { length documents.now ≤ greatest_number }
+    ensures served { OnOk result (ServesCopied name.now (map (λ s. s.now) documents.now) (length connections.items) copy.old copy.new (W.contents out.old) (W.contents out.new)) }
+    // However it ends, no row is lost.
+    ensures kept { copy.new.has_failed ≡ false → KeepsRows (map (λ s. s.now) documents.now) copy.old copy.new }
+    ensures alone { copy.new.is_alone ≡ copy.old.is_alone }
+{
+    match raise(alloc, copy, name, documents) {
+        Ok(replica) => serve_raised(rt, alloc, name, &replica, documents, connections, copy, out),
+        Err(fault) => {
+            tell_fault(fault, out);
+            Err(Failure::of_epoch(fault, copy))
+        }
+    }
+}
+
+/// The same, answered by the program's status: 0, or 1 where it failed.
 pub fn serve_over<R: Threads + Wait + Sync + Log + Clock, C: Connect, S: Alter, W: io::Write>(
     rt: &R,
     alloc: Global,
@@ -239,20 +299,8 @@ pub fn serve_over<R: Threads + Wait + Sync + Log + Clock, C: Connect, S: Alter, 
     ensures kept { copy.new.has_failed ≡ false → KeepsRows (map (λ s. s.now) documents.now) copy.old copy.new }
     ensures alone { copy.new.is_alone ≡ copy.old.is_alone }
 {
-    match raise(alloc, copy, name, documents) {
-        Ok(replica) => serve_restored::<Brand, R, C, S, W>(
-            rt,
-            alloc,
-            Blank::new(),
-            &replica,
-            documents,
-            connections,
-            copy,
-            out,
-        ),
-        Err(fault) => {
-            tell_fault(fault, out);
-            1
-        }
+    match serve_from(rt, alloc, name, documents, connections, copy, out) {
+        Ok(()) => 0,
+        Err(_) => 1,
     }
 }

@@ -1,0 +1,145 @@
+//! Why a server ends with status 1.
+use copy_rows::LAST_EPOCH;
+use json_scalar::Refusal;
+use log_copy::{Fault, LogCopy, words_of};
+use server_core::Ungathered;
+use share_ledger::Marker;
+use sqlite::{Alter, ErrorCode};
+use std::fmt::{Display, Formatter};
+use std::io::ErrorKind;
+use std::{fmt, io};
+
+/// What was under way.
+#[derive(Clone, Copy, Debug, PartialEq, Eq)]
+pub enum Step {
+    /// A new epoch was started.
+    Epoch,
+    /// The file's log was folded in.
+    Fold,
+    /// The documents were restored.
+    Restore,
+    /// The first session was about to begin.
+    Begin,
+    /// The totals of sessions were added up.
+    Totals,
+}
+
+impl Display for Step {
+    fn fmt<W: fmt::Write>(&self, f: &mut Formatter<W>) -> fmt::Result {
+        let words = match self {
+            Step::Epoch => "while a new epoch was started",
+            Step::Fold => "while its log was folded in",
+            Step::Restore => "while the documents were restored",
+            Step::Begin => "before the first session",
+            Step::Totals => "while the totals were added up",
+        };
+        f.write_str(words)
+    }
+}
+
+/// The one cause for which a server ends with status 1.
+#[derive(Debug, Drop)]
+pub enum Failure {
+    /// All epochs of the file are given out.
+    Epochs,
+    /// The name with the epoch behind it is no name of a replica.
+    Name,
+    /// Memory ran out.
+    Memory(Step),
+    /// The database failed, by this error where it is known.
+    Database(Step, Option<ErrorCode>),
+    /// What the sessions were told differs from what the log has.
+    Lists,
+    /// The totals could not be written.
+    Output(io::Error),
+    /// Copying stopped while sessions ran.
+    Stopped(Fault, Option<ErrorCode>),
+}
+
+impl Failure {
+    /// The failure of a call of the stored log that answered this fault.
+    fn of_fault<S: Alter>(step: Step, fault: Fault, copy: &LogCopy<S>) -> Failure {
+        match fault {
+            Fault::Memory => Failure::Memory(step),
+            Fault::Refused | Fault::Store => Failure::Database(step, copy.cause()),
+        }
+    }
+
+    /// Why no new epoch was started.
+    pub(crate) fn of_epoch<S: Alter>(fault: Fault, copy: &LogCopy<S>) -> Failure {
+        if fault != Fault::Refused {
+            return Failure::of_fault(Step::Epoch, fault, copy);
+        }
+        match copy.epoch() {
+            Ok(epoch) if epoch >= u64::from(LAST_EPOCH) => Failure::Epochs,
+            _ => Failure::Name,
+        }
+    }
+
+    /// Why the documents were not restored.
+    pub(crate) fn of_restoring<S: Alter>(fault: Fault, copy: &LogCopy<S>) -> Failure {
+        Failure::of_fault(Step::Restore, fault, copy)
+    }
+
+    /// Why the totals of sessions were not added up. Where no session has begun there are no ends of seats.
+    pub(crate) fn of_gathering<M: Marker>(left: &Ungathered<M>) -> Failure {
+        match left.refusal {
+            Refusal::ListsDiffer => Failure::Lists,
+            _ => if left.sessions.is_empty() {
+                Failure::Memory(Step::Begin)
+            } else {
+                Failure::Memory(Step::Totals)
+            },
+        }
+    }
+
+    /// Why copying stopped.
+    pub(crate) fn of_copying<S: Alter>(fault: Fault, copy: &LogCopy<S>) -> Failure {
+        Failure::Stopped(fault, copy.cause())
+    }
+}
+
+/// What the database failed by, in words.
+fn words_of_code(code: Option<ErrorCode>) -> &'static str {
+    match code {
+        Some(code) => words_of(code),
+        None => "a database error",
+    }
+}
+
+/// Why copying stopped, in words.
+pub fn words_of_stop(fault: &Fault, code: Option<ErrorCode>) -> &'static str {
+    match fault {
+        Fault::Memory => "out of memory",
+        Fault::Refused => "the file refuses an operation",
+        Fault::Store => words_of_code(code),
+    }
+}
+
+impl Display for Failure {
+    fn fmt<W: fmt::Write>(&self, f: &mut Formatter<W>) -> fmt::Result {
+        match self {
+            Failure::Epochs => write!(f, "all {LAST_EPOCH} epochs of the file are given out"),
+            Failure::Name => f.write_str("the name with its epoch is too long"),
+            Failure::Memory(step) => write!(f, "out of memory {step}"),
+            Failure::Database(step, code) => {
+                let why = words_of_code(*code);
+                write!(f, "the file failed {step}: {why}")
+            }
+            Failure::Lists => f.write_str("what the sessions were told differs from the log"),
+            Failure::Output(error) => fmt_output(error, f),
+            Failure::Stopped(fault, code) => {
+                let why = words_of_stop(fault, *code);
+                write!(f, "copying stopped while sessions ran: {why}")
+            }
+        }
+    }
+}
+
+/// Why the totals could not be written, in words.
+fn fmt_output<W: fmt::Write>(error: &io::Error, f: &mut Formatter<W>) -> fmt::Result {
+    match error.kind() {
+        ErrorKind::OutOfMemory => f.write_str("out of memory while the totals were written"),
+        _ => write!(f, "standard output failed: {error}"),
+    }
+}

@@ -1,0 +1,145 @@
+//! A server over a store of two files, from its start to the end of its file.
+ghost use Rattle.std.specs.Prelude.{◌≡◌, ◌≤◌, true, false, length, map, OnOk, OnErr};
+ghost use Rattle.doc_ledger.specs.Numbers.{greatest_number};
+ghost use Rattle.log_copy.specs.Folded.{IsHeld, StillHolds};
+ghost use Rattle.log_copy.specs.Kept.{content};
+ghost use Rattle.served_copy.specs.Named.{replica_name};
+ghost use Rattle.served_copy.specs.Stored.{LeavesStored, ServesFolded, ServesStored};
+
+use crate::failure::{Failure, Step};
+use crate::naming::raise;
+use crate::serving::serve_raised;
+use crate::telling::tell_fault;
+use lamport_id::ReplicaName;
+use log::Log;
+use log_copy::{Foldable, LogCopy};
+use server_core::Connect;
+use sqlite::{Alter, ErrorCode};
+use std::alloc::Global;
+use std::io;
+use std::sync::Wait;
+use std::thread::Threads;
+use std::time::Clock;
+
+/// How a server over a stored log has ended.
+#[derive(Drop)]
+pub struct Ended<S> {
+    /// Whether it served to its end, or why not.
+    pub served: Result<(), Failure>,
+    /// Whether all that was committed is in the database file alone, or the error of the database.
+    pub closed: Result<(), ErrorCode>,
+    /// Whether the database failed while it served.
+    pub has_failed: bool,
+    /// The store, whose drop closes its files.
+    pub store: S,
+}
+
+/// Whether the stored log has failed.
+fn has_failed<S: Alter>(copy: &LogCopy<S>) -> bool
+    ensures { result ≡ copy.now.has_failed }
+{
+    copy.epoch().is_err()
+}
+
+/// Closes the stored log of a server that has ended.
+fn end<S: Foldable + Drop>(served: Result<(), Failure>, copy: LogCopy<S>) -> Ended<S>
+    ensures served { result.served ≡ served }
+    ensures failed { result.has_failed ≡ copy.has_failed }
+    ensures held { OnOk result.closed (copy.has_failed ≡ false → copy.is_alone ≡ true → IsHeld S.Store S.Foldable.holds_alone (content copy.epoch copy.docs) result.store) }
+    ensures left { OnErr result.closed (copy.has_failed ≡ false → copy.is_alone ≡ true → StillHolds S.Store (content copy.epoch copy.docs) result.store) }
+{
+    let has_failed = has_failed(&copy);
+    match copy.close() {
+        Ok(store) => Ended {
+            served,
+            closed: Ok(()),
+            has_failed,
+            store,
+        },
+        Err((code, store)) => Ended {
+            served,
+            closed: Err(code),
+            has_failed,
+            store,
+        },
+    }
+}
+
+/// Folds the stored log, whose epoch is the replica's, into its file. Only then it serves these connections over the documents of these
+/// names, as `serve_raised`, and closes the log.
+fn serve_folded<
+    R: Threads + Wait + Sync + Log + Clock,
+    C: Connect,
+    S: Foldable + Drop,
+    W: io::Write,
+>(
+    rt: &R,
+    alloc: Global,
+    name: &str,
+    replica: &ReplicaName,
+    documents: &[&str],
+    connections: Vec<C>,
+    copy: LogCopy<S>,
+    out: &mut W,
+) -> Ended<S>
+    requires few { length documents.now ≤ greatest_number }
+    requires named { replica.now ≡ replica_name name.now copy.epoch }
+    requires works { copy.has_failed ≡ false }
+    ensures served { OnOk result.served (ServesFolded S.Store S.Foldable.holds_alone (map (λ s. s.now) documents.now) (length connections.items) copy result.closed result.store (W.contents out.old) (W.contents out.new)) }
+    ensures left { LeavesStored S.Store S.Foldable.holds_alone (map (λ s. s.now) documents.now) copy result.has_failed result.closed result.store }
+{
+    match copy.fold() {
+        Ok(folded) => {
+            let mut copy = folded;
+            let served = serve_raised(
+                rt,
+                alloc,
+                name,
+                replica,
+                documents,
+                connections,
+                &mut copy,
+                out,
+            );
+            end(served, copy)
+        }
+        Err((code, store)) => Ended {
+            served: Err(Failure::Database(Step::Fold, Some(code))),
+            closed: Err(code),
+            has_failed: false,
+            store,
+        },
+    }
+}
+
+/// Serves these connections, one session each, on documents of these names: starts a new epoch of the stored log and folds it into the
+/// database file, restores the documents from it, stores what is logged meanwhile, writes the totals at the end, and closes the log,
+/// however it ends. So the database file alone has the epoch before anything is served, and all of the log at the end.
+pub fn serve_stored<
+    R: Threads + Wait + Sync + Log + Clock,
+    C: Connect,
+    S: Foldable + Drop,
+    W: io::Write,
+>(
+    rt: &R,
+    alloc: Global,
+    name: &str,
+    documents: &[&str],
+    connections: Vec<C>,
+    copy: LogCopy<S>,
+    out: &mut W,
+) -> Ended<S>
+    requires few { length documents.now ≤ greatest_number }
+    ensures served { OnOk result.served (ServesStored S.Store S.Foldable.holds_alone name.now (map (λ s. s.now) documents.now) (length connections.items) copy result.closed result.store (W.contents out.old) (W.contents out.new)) }
+    ensures left { LeavesStored S.Store S.Foldable.holds_alone (map (λ s. s.now) documents.now) copy result.has_failed result.closed result.store }
+{
+    let mut copy = copy;
+    match raise(alloc, &mut copy, name, documents) {
+        Ok(replica) => serve_folded(rt, alloc, name, &replica, documents, connections, copy, out),
+        Err(fault) => {
+            tell_fault(fault, out);
+            let failure = Failure::of_epoch(fault, &copy);
+            end(Err(failure), copy)
+        }
+    }
+}
