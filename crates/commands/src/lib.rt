@@ -12,4 +12,4 @@ pub use check::check_words;
 pub use command_line::{is_check, is_run, is_serve};
 pub use run::run_words;
 pub use serve::serve_words;
-pub use usage::{USAGE, VERSION, cause_of, usage_of};
+pub use usage::{NO_MEMORY, USAGE, VERSION, cause_of, run_failure, usage_of};

@@ -1,10 +1,9 @@
 //! Serving over TCP, from a file.
-ghost use Rattle.std.specs.Prelude.{◌≡◌, ◌≢◌, ◌⊎◌, ◌≤◌, length, map, false};
+ghost use Rattle.std.specs.Prelude.{◌≡◌, ◌≢◌, ◌⊎◌, ◌≤◌, length, map, false, OnErr};
 ghost use Rattle.clap.specs.Words.{found_of, rows_of};
 ghost use Rattle.doc_ledger.specs.Numbers.{greatest_number};
-ghost use Rattle.served_copy.specs.Served.{ServesCopied};
 ghost use Rattle.commands.specs.CommandLine.{AsksToServe, IsServer, NamesServer, WantedServer, is_serve};
-ghost use Rattle.commands.specs.Server.{ServesAt};
+ghost use Rattle.commands.specs.Server.{ServesAndCloses, ServesAt};
 
 use crate::command_line::{is_serve, serve_matches, sessions_of};
 use crate::usage::NO_MEMORY;
@@ -12,10 +11,10 @@ use clap::ArgMatches;
 use clap::error::ErrorKind;
 use copy_files::open_copy;
 use log::Log;
-use log_copy::{Fault, LogCopy};
+use log_copy::{Fault, Foldable, LogCopy, words_of};
 use run_core::is_good;
-use served_copy::{serve_over, tell_fault};
-use sqlite::Alter;
+use served_copy::{Failure, Step, serve_stored, tell_fault};
+use sqlite::ErrorCode;
 use std::alloc::Global;
 use std::io;
 use std::net::{Net, TcpListener, TcpStream};
@@ -23,34 +22,82 @@ use std::rt::HostRuntime;
 use std::sync::Wait;
 use std::thread::Threads;
 use std::time::Clock;
-use tcp_server::{connections, listen};
+use tcp_server::{Entrance, connections, listen};
 
-/// What standard error is told where serving ends badly.
-const SERVE_FAULT: &str =
-    "jcrdt: the copy or standard output failed, or memory is wanting: `jcrdt check` tells what the file holds";
+/// Tells standard error why the stored log was not closed, if it was not. A fault of standard error changes nothing.
+fn tell_unclosed<R: Eprint>(rt: &R, closed: &Result<(), ErrorCode>) {
+    if let Err(code) = closed {
+        let why = words_of(*code);
+        let _told = rt.eprintln(format_args!("jcrdt: the file failed while it was closed: {why}"));
+    }
+}
 
-/// Serves so many sessions, each over a connection of the listener, from the copy, as `serve_over`.
-fn serve_on<R: Threads + Wait + Sync + Log + Clock, S: Alter, W: io::Write>(
+/// Closes the stored log, and tells standard error where that fails.
+fn close<R: Eprint, S: Foldable + Drop>(rt: &R, copy: LogCopy<S>) {
+    let closed = match copy.close() {
+        Ok(_) => Ok(()),
+        Err((code, _)) => Err(code),
+    };
+    tell_unclosed(rt, &closed);
+}
+
+/// Whether this failure tells why the file was not closed, too.
+fn is_of_folding(failure: &Failure) -> bool {
+    matches!(failure, Failure::Database(Step::Fold, _))
+}
+
+/// Tells standard error why a server ended with status 1: one line a cause.
+fn tell_causes<R: Eprint>(rt: &R, served: &Result<(), Failure>, closed: &Result<(), ErrorCode>) {
+    match served {
+        Ok(()) => tell_unclosed(rt, closed),
+        Err(failure) => {
+            let _told = rt.eprintln(format_args!("jcrdt: {failure}"));
+            if !is_of_folding(failure) {
+                tell_unclosed(rt, closed);
+            }
+        }
+    }
+}
+
+/// The status of a server that has ended: 0 where it served and closed its stored log.
+fn status_of(served: &Result<(), Failure>, closed: &Result<(), ErrorCode>) -> u8
+    ensures bound { result ≤ 1 }
+    ensures well { result ≡ 0 → OnErr served.now ⊥ × OnErr closed.now ⊥ }
+{
+    match (served, closed) {
+        (Ok(()), Ok(())) => 0,
+        _ => 1,
+    }
+}
+
+/// Serves so many sessions, each over a connection of the listener, from the stored log, as `serve_stored`, and tells standard error
+/// why it ended with status 1.
+fn serve_on<R: Threads + Wait + Eprint + Sync + Log + Clock, S: Foldable + Drop, W: io::Write>(
     rt: &R,
     alloc: Global,
     name: &str,
     documents: &[&str],
     listener: &TcpListener,
     sessions: u16,
-    copy: &mut LogCopy<S>,
+    copy: LogCopy<S>,
     out: &mut W,
 ) -> u8
     requires few { length documents.now ≤ greatest_number }
     ensures status { result ≤ 1 }
-    ensures served { result ≡ 0 → ServesCopied name.now (map (λ s. s.now) documents.now) sessions copy.old copy.new (W.contents out.old) (W.contents out.new) }
+    ensures served { result ≡ 0 → ServesAndCloses S.Store S.Foldable.holds_alone name.now (map (λ s. s.now) documents.now) sessions copy (W.contents out.old) (W.contents out.new) }
 {
-    match connections(alloc, listener, sessions) {
-        Ok(all) => serve_over(rt, alloc, name, documents, all, copy, out),
-        Err(_) => 1,
-    }
+    let entrance = Entrance::new(rt, listener, sessions);
+    let Ok(all) = connections(alloc, &entrance, sessions) else {
+        let _told = rt.eprintln("jcrdt: out of memory while the sessions were prepared");
+        close(rt, copy);
+        return 1;
+    };
+    let ended = serve_stored(rt, alloc, name, documents, all, copy, out);
+    tell_causes(rt, &ended.served, &ended.closed);
+    status_of(&ended.served, &ended.closed)
 }
 
-/// Listens at the address, writes where, and serves from the copy.
+/// Listens at the address, writes where, serves from the stored log, and closes it.
 fn serve_at<
     R: Net<Listener = TcpListener, Stream = TcpStream>
         + Threads
@@ -59,7 +106,7 @@ fn serve_at<
         + Sync
         + Log
         + Clock,
-    S: Alter,
+    S: Foldable + Drop,
     W: io::Write,
 >(
     rt: &R,
@@ -68,26 +115,24 @@ fn serve_at<
     documents: &[&str],
     address: &str,
     sessions: u16,
-    copy: &mut LogCopy<S>,
+    copy: LogCopy<S>,
     out: &mut W,
 ) -> u8
     requires few { length documents.now ≤ greatest_number }
     ensures status { result ≤ 1 }
-    ensures served { result ≡ 0 → ServesAt (map (λ s. s.now) documents.now) sessions (W.contents out.old) (W.contents out.new) }
+    ensures served { result ≡ 0 → ServesAt name.now (map (λ s. s.now) documents.now) sessions (W.contents out.old) (W.contents out.new) }
 {
-    let Some(listener) = listen(rt, alloc, address, out) else {
-        return 1;
-    };
-    let status = serve_on(rt, alloc, name, documents, &listener, sessions, copy, out);
-    if status == 1 {
-        // A fault of standard error changes nothing.
-        let _told = rt.eprintln(SERVE_FAULT);
+    match listen(rt, alloc, address, out) {
+        Some(listener) => serve_on(rt, alloc, name, documents, &listener, sessions, copy, out),
+        None => {
+            close(rt, copy);
+            1
+        }
     }
-    status
 }
 
-/// Serves from a copy, if it could be opened, and lets it go: all over any store, since each such step costs its proof much at the
-/// store of a file.
+/// Serves from a stored log, if it could be opened: all over any store, since each such step costs its proof much at the store of a
+/// file.
 fn serve_opened<
     R: Net<Listener = TcpListener, Stream = TcpStream>
         + Threads
@@ -96,7 +141,7 @@ fn serve_opened<
         + Sync
         + Log
         + Clock,
-    S: Alter + Drop,
+    S: Foldable + Drop,
     W: io::Write,
 >(
     rt: &R,
@@ -110,15 +155,10 @@ fn serve_opened<
 ) -> u8
     requires few { length documents.now ≤ greatest_number }
     ensures status { result ≤ 1 }
-    ensures served { result ≡ 0 → ServesAt (map (λ s. s.now) documents.now) sessions (W.contents out.old) (W.contents out.new) }
+    ensures served { result ≡ 0 → ServesAt name.now (map (λ s. s.now) documents.now) sessions (W.contents out.old) (W.contents out.new) }
 {
     match opened {
-        Ok(copy) => {
-            let mut copy = copy;
-            serve_at(
-                rt, alloc, name, documents, address, sessions, &mut copy, out,
-            )
-        }
+        Ok(copy) => serve_at(rt, alloc, name, documents, address, sessions, copy, out),
         Err(fault) => {
             // Of a fault of the file standard error was told.
             tell_fault(fault, out);
@@ -150,7 +190,7 @@ fn serve_file<
 ) -> u8
     requires few { length documents.now ≤ greatest_number }
     ensures status { result ≤ 1 }
-    ensures served { result ≡ 0 → ServesAt (map (λ s. s.now) documents.now) sessions (W.contents out.old) (W.contents out.new) }
+    ensures served { result ≡ 0 → ServesAt name.now (map (λ s. s.now) documents.now) sessions (W.contents out.old) (W.contents out.new) }
 {
     let opened = open_copy(host, file);
     serve_opened(rt, alloc, name, documents, address, sessions, opened, out)
@@ -182,7 +222,7 @@ fn serve_named<
     ensures status { result ≤ 2 }
     ensures asked { result ≢ 2 → (wanted : WantedServer) × IsServer name.now (map (λ s. s.now) documents.now) address.now count.now wanted }
     ensures served { result ≡ 0 → (wanted : WantedServer) × IsServer name.now (map (λ s. s.now) documents.now) address.now count.now wanted
-        × ServesAt wanted.documents wanted.sessions (W.contents out.old) (W.contents out.new) }
+        × ServesAt wanted.name wanted.documents wanted.sessions (W.contents out.old) (W.contents out.new) }
     ensures refused { result ≡ 2 → (wanted : WantedServer) → IsServer name.now (map (λ s. s.now) documents.now) address.now count.now wanted → ⊥ }
     ensures untouched { result ≡ 2 → out.new ≡ out.old }
 {
@@ -212,7 +252,7 @@ fn serve_asked<
     ensures status { result ≤ 2 }
     ensures asked { result ≢ 2 → (wanted : WantedServer) × NamesServer (rows_of (found_of matches.now)) wanted }
     ensures served { result ≡ 0 → (wanted : WantedServer) × NamesServer (rows_of (found_of matches.now)) wanted
-        × ServesAt wanted.documents wanted.sessions (W.contents out.old) (W.contents out.new) }
+        × ServesAt wanted.name wanted.documents wanted.sessions (W.contents out.old) (W.contents out.new) }
     ensures refused { result ≡ 2 → (wanted : WantedServer) → NamesServer (rows_of (found_of matches.now)) wanted → ⊥ }
     ensures untouched { result ≡ 2 → out.new ≡ out.old }
 {
@@ -242,7 +282,7 @@ pub fn serve_words<
     // As many sessions as the words say, over the documents of the words: what was written is where the server listens, and then
     // the totals of what these sessions did.
     ensures served { result ≡ 0 → (wanted : WantedServer) × AsksToServe (map (λ s. s.now) words.now) wanted
-        × ServesAt wanted.documents wanted.sessions (W.contents out.old) (W.contents out.new) }
+        × ServesAt wanted.name wanted.documents wanted.sessions (W.contents out.old) (W.contents out.new) }
 
     // The words asked for a server, or nothing was written.
     ensures failed { result ≡ 1 → ((wanted : WantedServer) × AsksToServe (map (λ s. s.now) words.now) wanted) ⊎ (out.new ≡ out.old) }

@@ -1,5 +1,5 @@
-//! What standard error is told of a command line that can't be served, and of want of memory. The status says that it can't; of this
-//! text no clause says anything, and `bench/whole-program` has one for each mistake.
+//! What standard error is told of a command line that can't be served. The status says that it can't; of this text no clause says
+//! anything, and `tests/whole-program` has one for each mistake.
 use crate::command_line::{check_matches, run_matches, serve_matches, sessions_of};
 use clap::error::ErrorKind;
 use clap::{ArgMatches, Error};
@@ -13,8 +13,19 @@ pub const USAGE: &str =
 /// The program's own line.
 pub const VERSION: &str = "jcrdt, version 2 of its requests and operations";
 
-/// What is told for want of memory.
-pub const NO_MEMORY: &str = "jcrdt: memory is wanting";
+/// What is told where memory runs out before anything was asked for.
+pub const NO_MEMORY: &str = "jcrdt: out of memory while the command line was read";
+
+/// Why a run ended with status 1: a device failed, or memory ran out before it began.
+pub fn run_failure(has_input_failed: bool, has_output_failed: bool) -> &'static str {
+    if has_input_failed {
+        "jcrdt: standard input failed"
+    } else if has_output_failed {
+        "jcrdt: standard output failed"
+    } else {
+        "jcrdt: out of memory before the first line was read"
+    }
+}
 
 /// What is told behind the cause, if there is one: how the program is called, or its version where that was asked for.
 pub fn usage_of(words: &[&str]) -> &'static str {

@@ -1,8 +1,8 @@
-use Rattle.std.proofs.Common.{ℕ, map, subst}
-use Rattle.served_copy.specs.Served.{ServesCopied}
+use Rattle.commands.proofs.Closed.{served_and_closed}
 use Rattle.commands.proofs.serve.serve_on.Goals as goal
 
-pub returns-in-Ok-clause-served : goal.returns-in-Ok-clause-served
-returns-in-Ok-clause-served g c = λ zero.
-    subst (λ (n : ℕ). ServesCopied c.args.name.now (map (λ s. s.now) c.args.documents.now) n c.args.copy.now c.serve_over.new.copy (g.W.Write.contents c.args.out.now) (g.W.Write.contents c.serve_over.new.out))
-    c.in-Ok.ensures (c.serve_over.ensures.served zero)
+pub returns-clause-served : goal.returns-clause-served
+returns-clause-served g c = λ zero.
+    let ended = c.serve_stored-ended.result in
+    let well = c.status_of.ensures.well zero in
+    served_and_closed g.S.Store g.S.Foldable.holds_alone _ _ _ _ c.args.copy ended.served ended.closed ended.store _ _ c.in-Ok.ensures c.serve_stored-ended.ensures.served well.0 well.1
