@@ -4,6 +4,7 @@ mod command_lines;
 mod copies;
 mod deeds;
 mod disks;
+mod failures;
 mod faults;
 mod files;
 mod notes;

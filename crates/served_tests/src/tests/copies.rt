@@ -1,5 +1,6 @@
 //! Copies of logs: restarts, batches, formats and further tables. A test is a list of steps over one database, each with what it has to
 //! tell.
+mod causes;
 mod formats;
 mod kept;
 mod refused;

@@ -32,3 +32,12 @@ pub fn crash(files: &mut Files<Stopping>) {
     files.log.crash();
     files.db.crash();
 }
+
+/// The database file alone: the log is lost, and an empty one takes its place.
+pub fn without_log(alloc: Global, files: Files<Stopping>) -> Files<Stopping> {
+    let Files { log: _, db } = files;
+    Files {
+        log: Fuse::new(Memory::new(alloc), u64::MAX),
+        db,
+    }
+}

@@ -1,12 +1,19 @@
 //! Notes as they stand on standard error.
 use log::sink::Memory;
-use log::{Level, Logged};
-use server_notes::{note_ended, note_listening, note_restored, note_stopped};
+use log::{Level, Log, Logged};
+use server_notes::{
+    Fill, note_begun, note_ended, note_listening, note_made, note_nearly_full, note_restored,
+    note_serving, note_stopped, note_took_over, note_unconnected,
+};
 use std::alloc::{Alloc, AllocError};
 use std::io;
 use std::process::Abort;
 use std::rt::HostRuntime;
 use std::time::{Clock, Duration};
+
+fn fill(count: usize, limit: usize) -> Fill {
+    Fill { count, limit }
+}
 
 /// A clock that stands still.
 #[derive(Drop)]
@@ -22,26 +29,66 @@ impl Clock for Stopped {
     }
 }
 
+/// What each note says, in the order in which they are written below.
+const NOTES: [&str; 11] = [
+    "[INFO  jcrdt] 2025-11-24T16:00:00Z made a new file a.db",
+    "[INFO  jcrdt] 2025-11-24T16:00:00Z took over a.db-wal",
+    "[INFO  jcrdt] 2025-11-24T16:00:00Z listening at 127.0.0.1:7001",
+    "[INFO  jcrdt] 2025-11-24T16:00:00Z serving as srv-2",
+    "[INFO  jcrdt] 2025-11-24T16:00:00Z restored d: 12 of 100000 operations, 3 of 256 replicas",
+    "[WARN  jcrdt] 2025-11-24T16:00:00Z d is nearly full: 90000 of 100000 operations",
+    "[WARN  jcrdt] 2025-11-24T16:00:00Z d is nearly full: 231 of 256 replicas",
+    "[INFO  jcrdt] 2025-11-24T16:00:00Z session 3 of 16 begins, from 127.0.0.1:50123",
+    "[WARN  jcrdt] 2025-11-24T16:00:00Z session 4 of 16 has no connection: too many open files",
+    "[WARN  jcrdt] 2025-11-24T16:00:00Z copying stopped: the disk is full; what is accepted from now on is in memory only: exchange with a peer before you stop",
+    "[INFO  jcrdt] 2025-11-24T16:00:00Z all sessions have ended",
+];
+
+/// Notes of a start.
+fn note_start<R: Log + Clock>(rt: &R) {
+    note_made(rt, "a.db");
+    note_took_over(rt, "a.db");
+    note_listening(rt, &"127.0.0.1:7001");
+    note_serving(rt, "srv-2");
+    note_restored(rt, "d", fill(12, 100_000), fill(3, 256));
+    note_nearly_full(rt, "d", fill(90_000, 100_000), "operations");
+    note_nearly_full(rt, "d", fill(231, 256), "replicas");
+}
+
+/// Notes of sessions.
+fn note_sessions<R: Log + Clock>(rt: &R) {
+    note_begun(rt, 3, 16, &"127.0.0.1:50123");
+    note_unconnected(rt, 4, 16, &"too many open files");
+    note_stopped(rt, &"the disk is full");
+    note_ended(rt);
+}
+
 #[test]
 fn notes_have_the_time(rt: HostRuntime) -> Result<(), AllocError> {
     let notes = Logged::new(Stopped, Level::Info, Memory::new(rt.alloc()));
-    note_listening(&notes, &"127.0.0.1:7001");
-    note_restored(&notes, "d", 12);
-    note_stopped(&notes, &"store");
-    note_ended(&notes);
+    note_start(&notes);
+    note_sessions(&notes);
     let (_clock, sink) = notes.into_parts();
     let lines = sink.into_lines().into_vec();
-    let due = [
-        "[INFO  jcrdt] 2025-11-24T16:00:00Z listening at 127.0.0.1:7001",
-        "[INFO  jcrdt] 2025-11-24T16:00:00Z restored 12 operations of d",
-        "[WARN  jcrdt] 2025-11-24T16:00:00Z copying stopped: store",
-        "[INFO  jcrdt] 2025-11-24T16:00:00Z all sessions have ended",
-    ];
-    assert_eq!(rt; lines.len(), due.len());
-    for (line, want) in lines.iter().zip(due.iter()) {
+    assert_eq!(rt; lines.len(), NOTES.len());
+    for (line, want) in lines.iter().zip(NOTES.iter()) {
         assert_eq!(rt; line.as_str(), *want);
     }
     Ok(())
+}
+
+#[test]
+fn nearly_full_from_nine_tenths_on(rt: HostRuntime) {
+    for (count, limit, is) in [
+        (89_999, 100_000, false),
+        (90_000, 100_000, true),
+        (100_000, 100_000, true),
+        (230, 256, false),
+        (231, 256, true),
+        (0, 256, false),
+    ] {
+        assert_eq!(rt; fill(count, limit).is_nearly_full(), is);
+    }
 }
 
 /// A clock that tells no time.

@@ -9,11 +9,12 @@ use copier::{Copier, Watch};
 use doc_ledger::Ledger;
 use lamport_id::ReplicaName;
 use log::Log;
-use log_copy::{Fault, LogCopy};
+use log_copy::{Fault, KeptDoc, LogCopy};
+use op_core::Operation;
 use served_copy::{restored_stock, shelve};
 use server_core::{Library, Side};
 use share_ledger::{Blank, Marker};
-use sqlite::{Alter, Connection, MemStore};
+use sqlite::{Alter, Connection, ErrorCode, MemStore};
 use std::alloc::{AllocError, Global};
 use std::marker::Brand;
 use std::process::Abort;
@@ -29,7 +30,9 @@ struct Counting<'a, R: Wait> {
 }
 
 impl<R: Wait> Watch for Counting<'_, R> {
-    fn stopped(&self, _why: &Fault) {
+    fn added(&self, _document: &KeptDoc, _entries: &[Operation]) {}
+
+    fn stopped(&self, _why: &Fault, _code: Option<ErrorCode>) {
         let mut times = self.times.lock(self.rt);
         *times = times.saturating_add(1);
     }

@@ -13,7 +13,7 @@ use std::sync::Wait;
 use std::test::Fail;
 use std::thread::Threads;
 use std::time::Clock;
-use tcp_server::connections;
+use tcp_server::{Entrance, connections};
 
 const THREE: &[u8] = br#"["open","d"]
 ["assign","d",[0,"a"],1]
@@ -102,7 +102,8 @@ fn serve<R: Threads + Wait + Sync + Log + Clock>(
         return Ok((2, out));
     }
     let mut copy = adopted(alloc, Connection::open_in_memory(alloc)?)?;
-    let all = connections(alloc, listener, sessions)?;
+    let entrance = Entrance::new(rt, listener, sessions);
+    let all = connections(alloc, &entrance, sessions)?;
     let status = serve_over(rt, alloc, "srv", documents, all, &mut copy, &mut out);
     Ok((status, out))
 }

@@ -1,83 +1,140 @@
 //! What is told of a copy that was opened, and of one that was not.
-use copy_report::check_opened;
+use super::super::disks::{connected, new_files};
+use copy_report::{Untold, check_opened};
 use line_feed::Writer;
 use line_feed::doubles::FailAfter;
-use log_copy::{Fault, LogCopy};
-use sqlite::{Alter, Connection, MemStore};
+use log_copy::{Fault, Foldable, LogCopy};
+use sqlite::{Alter, Connection, ErrorCode};
+use sqlite_disk::{Disk, Files};
 use std::alloc::{AllocError, Global};
-use std::test::Fail;
 
-/// The status, and what a sink has taken that fails after so many bytes.
-fn told<S: Alter + Drop>(
+/// What a check answers.
+type Answer = Result<(), Untold>;
+
+/// What is answered, and what a sink has taken that fails after so many bytes.
+fn told<S: Foldable + Drop>(
     alloc: Global,
     opened: Result<LogCopy<S>, Fault>,
     after: usize,
-) -> (u8, Vec<u8>) {
+) -> (Answer, Vec<u8>) {
     let mut out = Vec::<u8>::new(alloc);
     let mut sink = FailAfter::new(Writer::new(&mut out), after);
-    let status = check_opened(alloc, opened, &mut sink);
-    (status, out)
+    let answer = check_opened(alloc, opened, &mut sink);
+    (answer, out)
 }
 
-/// A copy in memory, after these statements.
-fn opened(alloc: Global, sql: &str) -> Result<Result<LogCopy<MemStore>, Fault>, AllocError> {
-    let mut conn = Connection::open_in_memory(alloc)?;
+/// The copy over a connection, after these statements.
+fn opened<S: Alter + Drop>(
+    alloc: Global,
+    mut conn: Connection<S>,
+    sql: &str,
+) -> Result<Result<LogCopy<S>, Fault>, AllocError> {
     if conn.execute_batch(sql).is_err() {
         return Err(AllocError);
     }
     match LogCopy::adopt(alloc, conn) {
         Ok(copy) => Ok(Ok(copy)),
-        Err((fault, _)) => Ok(Err(fault)),
+        Err((fault, _, _)) => Ok(Err(fault)),
     }
 }
 
-/// Whether this status and this text are told of a copy in memory after these statements, by a sink that fails after so many bytes.
+/// The same of a copy in these files.
+fn told_in<D: Disk + Drop>(
+    alloc: Global,
+    files: Files<D>,
+    sql: &str,
+    after: usize,
+) -> Result<(Answer, Vec<u8>), AllocError> {
+    let Ok(conn) = connected(alloc, files) else {
+        return Err(AllocError);
+    };
+    let found = opened(alloc, conn, sql)?;
+    Ok(told(alloc, found, after))
+}
+
+/// Whether this is answered and this text told of a copy in memory after these statements, by a sink that fails after so many bytes.
 fn is_told(
     alloc: Global,
     sql: &str,
     after: usize,
-    status: u8,
+    due: Answer,
     text: &[u8],
 ) -> Result<bool, AllocError> {
-    let (found, out) = told(alloc, opened(alloc, sql)?, after);
-    Ok(found == status && *out.as_slice() == *text)
+    let files = new_files(alloc, u64::MAX, u64::MAX);
+    let (answer, out) = told_in(alloc, files, sql, after)?;
+    Ok(answer == due && *out.as_slice() == *text)
 }
 
 const OTHER_TABLE: &str = "CREATE TABLE meta (name TEXT)";
 
 /// What each is, the statements, the bytes after which the sink fails, and what is told.
-static TOLD: [(&str, &str, usize, u8, &[u8]); 4] = [
-    ("an_empty_copy", "", usize::MAX, 0, b"[\"epoch\",0]\n"),
+static TOLD: [(&str, &str, usize, Answer, &[u8]); 4] = [
+    ("an_empty_copy", "", usize::MAX, Ok(()), b"[\"epoch\",0]\n"),
     (
         "a_refused_copy",
         OTHER_TABLE,
         usize::MAX,
-        1,
+        Err(Untold::Unopened),
         b"[\"no\",26,\"copy-refused\"]\n",
     ),
-    ("a_sink_that_fails", "", 5, 1, b"[\"epo"),
+    ("a_sink_that_fails", "", 5, Err(Untold::Output), b"[\"epo"),
     (
         "a_sink_that_fails_within_the_refusal",
         OTHER_TABLE,
         6,
-        1,
+        Err(Untold::Unopened),
         b"[\"no\",",
     ),
 ];
 
 #[test]
 fn reports(rt: HostRuntime) {
-    for (case, sql, after, status, text) in &TOLD {
-        let is = is_told(rt.alloc(), sql, *after, *status, text);
+    for (case, sql, after, due, text) in &TOLD {
+        let is = is_told(rt.alloc(), sql, *after, *due, text);
         assert!(rt; matches!(is, Ok(true)), "{case}");
     }
 }
 
+/// What is answered of a copy whose database file stops after so many calls, and how many bytes are told.
+fn told_of_a_stop(alloc: Global, calls: u64) -> Option<(Answer, usize)> {
+    let files = new_files(alloc, u64::MAX, calls);
+    match told_in(alloc, files, "", usize::MAX) {
+        Ok((answer, out)) => Some((answer, out.len())),
+        Err(_) => None,
+    }
+}
+
+/// A database file that stops while it is closed is told as a fault, and nothing else is told.
 #[test]
-fn another_fault(rt: HostRuntime) -> Result<(), Fail> {
-    let none: Result<LogCopy<MemStore>, Fault> = Err(Fault::Store);
-    let (status, out) = told(rt.alloc(), none, usize::MAX);
-    assert_eq!(rt; status, 1);
-    assert!(rt; out.is_empty());
-    Ok(())
+fn a_fault_of_closing(rt: HostRuntime) {
+    let mut faults = 0u64;
+    for calls in 0u64..40 {
+        match told_of_a_stop(rt.alloc(), calls) {
+            Some((Err(Untold::Unclosed(ErrorCode::SystemIoFailure)), 0)) => faults += 1,
+            Some((Ok(()), told)) => assert!(rt; told == 12 && faults > 2, "{calls}: {faults}"),
+            Some((Err(Untold::Unopened), _)) | None => assert!(rt; faults == 0, "{calls}"),
+            other => assert!(rt; false, "{calls}: {other:?}"),
+        }
+    }
+}
+
+/// Whether nothing is told where a copy could not be opened in the files, for another cause than a refusal.
+fn is_silent<S: Foldable + Drop>(alloc: Global, conn: Connection<S>) -> bool {
+    drop(conn);
+    let none: Result<LogCopy<S>, Fault> = Err(Fault::Store);
+    let (answer, out) = told(alloc, none, usize::MAX);
+    answer == Err(Untold::Unopened) && out.is_empty()
+}
+
+fn is_silent_in<D: Disk + Drop>(alloc: Global, files: Files<D>) -> bool {
+    match connected(alloc, files) {
+        Ok(conn) => is_silent(alloc, conn),
+        Err(_) => false,
+    }
+}
+
+#[test]
+fn another_fault(rt: HostRuntime) {
+    let files = new_files(rt.alloc(), u64::MAX, u64::MAX);
+    assert!(rt; is_silent_in(rt.alloc(), files));
 }

@@ -7,7 +7,7 @@ use super::walks::walked_over;
 use copy_report::check_over;
 use json_scalar::Refusal;
 use line_feed::Writer;
-use log_copy::{Fault, LogCopy};
+use log_copy::{Fault, Foldable, LogCopy};
 use op_core::Operation;
 use sqlite::{Alter, Connection};
 use std::alloc::Global;
@@ -33,6 +33,10 @@ pub enum Step<'a> {
     Restore(&'a str, usize, usize),
     /// The epoch is raised to one that is greater than this.
     UpFrom(u64),
+    /// The log of the commits is copied into the database file, and the copy goes on.
+    Fold,
+    /// The same, and the copy is closed.
+    Close,
     /// The copy gives the tables back, and these statements run over them.
     Run(&'a str),
     /// The copy gives the tables back, and this query finds a number in them.
@@ -74,11 +78,12 @@ pub struct Case<'a> {
 
 pub const REFUSED: StepAnswer = StepAnswer::Fault(Fault::Refused);
 
-/// A copy, or a connection that is none.
+/// A copy, a connection that is none, or a store that was closed.
 #[derive(Drop)]
 enum Held<S: Alter> {
     Copy(LogCopy<S>),
     Tables(Connection<S>),
+    Closed(S),
 }
 
 // ---- the calls of the copy
@@ -183,7 +188,21 @@ fn told_rows(loaded: &[Operation], log: &[Operation]) -> StepAnswer {
 fn adopt<S: Alter + Drop>(alloc: Global, conn: Connection<S>) -> (Held<S>, StepAnswer) {
     match LogCopy::adopt(alloc, conn) {
         Ok(copy) => (Held::Copy(copy), StepAnswer::Done),
-        Err((fault, conn)) => (Held::Tables(conn), StepAnswer::Fault(fault)),
+        Err((fault, conn, _)) => (Held::Tables(conn), StepAnswer::Fault(fault)),
+    }
+}
+
+fn fold<S: Foldable + Drop>(copy: LogCopy<S>) -> (Held<S>, StepAnswer) {
+    match copy.fold() {
+        Ok(copy) => (Held::Copy(copy), StepAnswer::Done),
+        Err((_, store)) => (Held::Closed(store), StepAnswer::Fault(Fault::Store)),
+    }
+}
+
+fn close<S: Foldable + Drop>(copy: LogCopy<S>) -> (Held<S>, StepAnswer) {
+    match copy.close() {
+        Ok(store) => (Held::Closed(store), StepAnswer::Done),
+        Err((_, store)) => (Held::Closed(store), StepAnswer::Fault(Fault::Store)),
     }
 }
 
@@ -248,20 +267,33 @@ fn over_tables<S: Alter + Drop>(
     (Held::Tables(conn), told)
 }
 
-fn over_copy<S: Alter + Drop>(
+fn over_copy<S: Foldable + Drop>(
+    alloc: Global,
+    copy: LogCopy<S>,
+    log: &[Operation],
+    step: Step<'_>,
+) -> (Held<S>, StepAnswer) {
+    match step {
+        Step::Open | Step::Run(_) | Step::Ask(_) => {
+            over_tables(alloc, copy.into_connection(), step)
+        }
+        Step::Fold => fold(copy),
+        Step::Close => close(copy),
+        _ => over_open(alloc, copy, log, step),
+    }
+}
+
+fn over_open<S: Alter + Drop>(
     alloc: Global,
     mut copy: LogCopy<S>,
     log: &[Operation],
     step: Step<'_>,
 ) -> (Held<S>, StepAnswer) {
-    if matches!(step, Step::Open | Step::Run(_) | Step::Ask(_)) {
-        return over_tables(alloc, copy.into_connection(), step);
-    }
     let told = asked(alloc, &mut copy, log, step);
     (Held::Copy(copy), told)
 }
 
-fn take<S: Alter + Drop>(
+fn take<S: Foldable + Drop>(
     alloc: Global,
     held: Held<S>,
     log: &[Operation],
@@ -270,11 +302,12 @@ fn take<S: Alter + Drop>(
     match held {
         Held::Copy(copy) => over_copy(alloc, copy, log, step),
         Held::Tables(conn) => over_tables(alloc, conn, step),
+        Held::Closed(store) => (Held::Closed(store), StepAnswer::NoCopy),
     }
 }
 
 // Where memory is wanting nothing has changed, so the step is taken once more.
-fn take_patiently<S: Alter + Drop>(
+fn take_patiently<S: Foldable + Drop>(
     alloc: Global,
     held: Held<S>,
     log: &[Operation],
@@ -287,21 +320,22 @@ fn take_patiently<S: Alter + Drop>(
     (held, told)
 }
 
-fn given_back<S: Alter + Drop>(held: Held<S>) -> Connection<S> {
+fn given_back<S: Alter + Drop>(held: Held<S>) -> S {
     match held {
-        Held::Copy(copy) => copy.into_connection(),
-        Held::Tables(conn) => conn,
+        Held::Copy(copy) => copy.into_connection().into_store(),
+        Held::Tables(conn) => conn.into_store(),
+        Held::Closed(store) => store,
     }
 }
 
 /// The place of the first step that tells something else than is due, and what it tells. Each is handed what the one before it left,
-/// and the last leaves the tables.
-pub fn walked<S: Alter + Drop>(
+/// and the last leaves the store.
+pub fn walked<S: Foldable + Drop>(
     alloc: Global,
     conn: Connection<S>,
     log: &[Operation],
     steps: &[(Step<'_>, StepAnswer)],
-) -> (Connection<S>, Option<(usize, StepAnswer)>) {
+) -> (S, Option<(usize, StepAnswer)>) {
     let mut held = Held::Tables(conn);
     for (at, (step, due)) in steps.iter().enumerate() {
         let (next, told) = take_patiently(alloc, held, log, *step);

@@ -1,5 +1,5 @@
 //! A stop at each call of the disks: afterwards all that was answered is there, and of a batch all or nothing.
-use super::super::disks::{Stopping, crash, new_files};
+use super::super::disks::{Stopping, crash, new_files, without_log};
 use super::samples;
 use super::steps::{Step, StepAnswer};
 use super::walks::walked_over;
@@ -19,17 +19,21 @@ fn is_stop(other: Option<(usize, StepAnswer)>) -> bool {
     )
 }
 
-// Whether these steps pass when the machine has come back, at one of so many tries.
+// Whether these steps pass when the machine has come back, at one of so many tries, with the database file alone if it is said so.
 fn passes(
     alloc: Global,
     stopped: Files<Stopping>,
     log: &[Operation],
     due: &[(Step<'_>, StepAnswer)],
     tries: u32,
+    is_alone: bool,
 ) -> bool {
     let mut files = stopped;
     for _ in 0..tries {
         crash(&mut files);
+        if is_alone {
+            files = without_log(alloc, files);
+        }
         let (left, other) = walked_over(alloc, files, log, due);
         if other.is_none() {
             return true;
@@ -39,25 +43,30 @@ fn passes(
     false
 }
 
-// How many steps were taken before disks stopped that stop after so many calls, if the steps that then have to pass do. These are the
-// first list where the first step was stopped, and the last list where none was.
+// How many steps of the case were taken before disks stopped that stop after so many calls, if the steps that then have to pass do.
+// These are the first list where the first step was stopped, and the last list where none was.
 fn steps_taken(
     alloc: Global,
     log: &[Operation],
-    steps: &[(Step<'_>, StepAnswer)],
-    after: &[&[(Step<'_>, StepAnswer)]],
+    case: &StopCase<'_>,
     (log_calls, db_calls): (u64, u64),
     tries: u32,
 ) -> Option<usize> {
-    let (files, other) = walked_over(alloc, new_files(alloc, log_calls, db_calls), log, steps);
+    let (files, other) = walked_over(
+        alloc,
+        new_files(alloc, log_calls, db_calls),
+        log,
+        case.steps,
+    );
     if !is_stop(other) {
         return None;
     }
     let taken = match other {
         Some((at, _)) => at,
-        None => steps.len(),
+        None => case.steps.len(),
     };
-    if passes(alloc, files, log, after.get(taken)?, tries) {
+    let due = case.after.get(taken)?;
+    if due.is_empty() || passes(alloc, files, log, due, tries, case.is_alone) {
         Some(taken)
     } else {
         None
@@ -68,8 +77,7 @@ fn steps_taken(
 fn calls_in_all(
     alloc: Global,
     log: &[Operation],
-    steps: &[(Step<'_>, StepAnswer)],
-    after: &[&[(Step<'_>, StepAnswer)]],
+    case: &StopCase<'_>,
     is_log: bool,
 ) -> Option<u64> {
     for calls in 1u64..200 {
@@ -78,7 +86,7 @@ fn calls_in_all(
         } else {
             (u64::MAX, calls)
         };
-        if steps_taken(alloc, log, steps, after, both, 1)? == steps.len() {
+        if steps_taken(alloc, log, case, both, 1)? == case.steps.len() {
             return Some(calls);
         }
     }
@@ -137,14 +145,7 @@ fn log_again(alloc: Global) -> Result<Vec<Operation>, Refusal> {
 fn one_allocation_refused(rt: HostRuntime) -> Result<(), Fail> {
     let log = log_again(rt.alloc())?;
     let both = (u64::MAX, u64::MAX);
-    let taken = steps_taken(
-        rt.alloc(),
-        log.as_slice(),
-        &BATCHES,
-        &AFTER_BATCHES,
-        both,
-        2,
-    );
+    let taken = steps_taken(rt.alloc(), log.as_slice(), &STOPS[0], both, 2);
     assert!(rt; taken.is_some());
     Ok(())
 }
@@ -245,11 +246,69 @@ const AFTER_BESIDE: [&[(Step<'static>, StepAnswer)]; 6] = [
     ],
 ];
 
+// As a server and a check take them: the log is copied into the database file once the epoch is raised, and at the end.
+const FOLDS: [(Step<'static>, StepAnswer); 7] = [
+    (Step::Open, StepAnswer::Done),
+    (Step::Up, StepAnswer::Number(1)),
+    (Step::Fold, StepAnswer::Done),
+    (Step::Add("d", 0, 0, 5), StepAnswer::Done),
+    (Step::Up, StepAnswer::Number(2)),
+    (Step::Fold, StepAnswer::Done),
+    (Step::Close, StepAnswer::Done),
+];
+
+const UP_FROM_1: [(Step<'static>, StepAnswer); 3] = [
+    (Step::Open, StepAnswer::Done),
+    (Step::Restore("d", 0, 0), StepAnswer::Done),
+    (Step::UpFrom(1), StepAnswer::Done),
+];
+
+const ROWS_FROM_2: [(Step<'static>, StepAnswer); 3] = [
+    (Step::Open, StepAnswer::Done),
+    (Step::Restore("d", 5, 5), StepAnswer::Done),
+    (Step::UpFrom(2), StepAnswer::Done),
+];
+
+// While the log is copied no row is lost, and the epoch does not sink.
+const AFTER_FOLDS: [&[(Step<'static>, StepAnswer)]; 8] = [
+    &AS_NEW,
+    &AS_NEW,
+    &UP_FROM_1,
+    &[
+        (Step::Open, StepAnswer::Done),
+        (Step::Restore("d", 0, 5), StepAnswer::Done),
+        (Step::UpFrom(1), StepAnswer::Done),
+    ],
+    &[
+        (Step::Open, StepAnswer::Done),
+        (Step::Restore("d", 5, 5), StepAnswer::Done),
+        (Step::UpFrom(1), StepAnswer::Done),
+    ],
+    &ROWS_FROM_2,
+    &ROWS_FROM_2,
+    &ROWS_FROM_2,
+];
+
+// Once it is copied the database file alone has the epoch, and the rows of that time. While it is copied that file is of two ages, of
+// which nothing is said here.
+const ALONE_AFTER_FOLDS: [&[(Step<'static>, StepAnswer)]; 8] = [
+    &[],
+    &[],
+    &[],
+    &UP_FROM_1,
+    &UP_FROM_1,
+    &[],
+    &ROWS_FROM_2,
+    &ROWS_FROM_2,
+];
+
 // Steps that are stopped at each call of a disk.
 struct StopCase<'a> {
     name: &'a str,
     steps: &'a [(Step<'a>, StepAnswer)],
     after: &'a [&'a [(Step<'a>, StepAnswer)]],
+    // The log is lost when the machine comes back, and the database file is there alone.
+    is_alone: bool,
     // More calls than so many are made of the log, and than so many of the database.
     least: (u64, u64),
 }
@@ -259,19 +318,40 @@ static STOPS: [StopCase<'static>; 3] = [
         name: "batches",
         steps: &BATCHES,
         after: &AFTER_BATCHES,
+        is_alone: false,
         least: (20, 2),
     },
     StopCase {
         name: "while_raised",
         steps: &RAISE,
         after: &AFTER_RAISE,
+        is_alone: false,
         least: (5, 1),
     },
     StopCase {
         name: "beside_a_table",
         steps: &BESIDE,
         after: &AFTER_BESIDE,
+        is_alone: false,
         least: (20, 2),
+    },
+];
+
+// Those whose log is copied into the database file.
+static FOLD_STOPS: [StopCase<'static>; 2] = [
+    StopCase {
+        name: "while_folded",
+        steps: &FOLDS,
+        after: &AFTER_FOLDS,
+        is_alone: false,
+        least: (20, 6),
+    },
+    StopCase {
+        name: "with_the_file_alone",
+        steps: &FOLDS,
+        after: &ALONE_AFTER_FOLDS,
+        is_alone: true,
+        least: (20, 6),
     },
 ];
 
@@ -281,9 +361,9 @@ fn are_more<R: Abort>(rt: &R, case: &str, disk: &str, calls: Option<u64>, least:
 }
 
 fn stopped<R: Abort>(rt: &R, alloc: Global, log: &[Operation], case: &StopCase<'_>) {
-    let log_calls = calls_in_all(alloc, log, case.steps, case.after, true);
+    let log_calls = calls_in_all(alloc, log, case, true);
     are_more(rt, case.name, "log", log_calls, case.least.0);
-    let db_calls = calls_in_all(alloc, log, case.steps, case.after, false);
+    let db_calls = calls_in_all(alloc, log, case, false);
     are_more(rt, case.name, "database", db_calls, case.least.1);
 }
 
@@ -291,6 +371,15 @@ fn stopped<R: Abort>(rt: &R, alloc: Global, log: &[Operation], case: &StopCase<'
 fn stops(rt: HostRuntime) -> Result<(), Fail> {
     let log = samples::operations(rt.alloc(), &samples::CONCURRENT_LIST_EDITS)?;
     for case in &STOPS {
+        stopped(&rt, rt.alloc(), log.as_slice(), case);
+    }
+    Ok(())
+}
+
+#[test]
+fn folds(rt: HostRuntime) -> Result<(), Fail> {
+    let log = samples::operations(rt.alloc(), &samples::CONCURRENT_LIST_EDITS)?;
+    for case in &FOLD_STOPS {
         stopped(&rt, rt.alloc(), log.as_slice(), case);
     }
     Ok(())

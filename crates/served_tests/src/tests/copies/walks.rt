@@ -1,6 +1,7 @@
 //! Steps over databases in two files in memory.
 use super::super::disks::{Stopping, connected, new_files};
 use super::steps::{Step, StepAnswer, walked};
+use log_copy::Foldable;
 use op_core::Operation;
 use sqlite::{Connection, FileStore};
 use sqlite_disk::{Disk, Files};
@@ -13,7 +14,7 @@ fn walked_in<D: Disk + Drop>(
     conn: Connection<FileStore<D>>,
     log: &[Operation],
     steps: &[(Step<'_>, StepAnswer)],
-) -> (Connection<FileStore<D>>, Option<(usize, StepAnswer)>) {
+) -> (FileStore<D>, Option<(usize, StepAnswer)>) {
     walked(alloc, conn, log, steps)
 }
 
@@ -26,8 +27,8 @@ pub fn walked_over<D: Disk + Drop>(
 ) -> (Files<D>, Option<(usize, StepAnswer)>) {
     match connected(alloc, files) {
         Ok(conn) => {
-            let (conn, other) = walked_in(alloc, conn, log, steps);
-            (conn.into_store().close(), other)
+            let (store, other) = walked_in(alloc, conn, log, steps);
+            (store.close(), other)
         }
         Err(files) => (files, Some((0, StepAnswer::NoSql))),
     }
@@ -41,9 +42,13 @@ fn made_in<D: Disk + Drop>(
     let Ok(conn) = connected(alloc, files) else {
         return None;
     };
-    let (conn, other) = walked_in(alloc, conn, &[], steps);
-    let files = conn.close_files().ok();
-    if other.is_none() { files } else { None }
+    let (store, other) = walked_in(alloc, conn, &[], steps);
+    let mut store = store;
+    if other.is_none() && store.fold().is_ok() {
+        Some(store.close())
+    } else {
+        None
+    }
 }
 
 /// The files of a database that these steps made, with all of it in the second of them.
