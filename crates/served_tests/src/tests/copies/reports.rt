@@ -110,7 +110,9 @@ fn a_fault_of_closing(rt: HostRuntime) {
     let mut faults = 0u64;
     for calls in 0u64..40 {
         match told_of_a_stop(rt.alloc(), calls) {
-            Some((Err(Untold::Unclosed(ErrorCode::SystemIoFailure)), 0)) => faults += 1,
+            Some((Err(Untold::Unclosed(ErrorCode::SystemIoFailure)), 0)) => {
+                faults = faults.wrapping_add(1);
+            }
             Some((Ok(()), told)) => assert!(rt; told == 12 && faults > 2, "{calls}: {faults}"),
             Some((Err(Untold::Unopened), _)) | None => assert!(rt; faults == 0, "{calls}"),
             other => assert!(rt; false, "{calls}: {other:?}"),
