@@ -163,7 +163,7 @@ class Proofs:
             shutil.copy(f"{TOP}/{name}", f"{copies()}/sources/{name}")
         self.sums, self.kit = {}, kit()
         self.done = {it for it in self.known if self.is_proved(it)}
-        self.refused, self.running, self.changed = [], {}, threading.Condition()
+        self.refused, self.running, self.jobs, self.changed = [], {}, {}, threading.Condition()
         self.is_stopped = False
 
     def sum(self, name):
@@ -224,8 +224,8 @@ class Proofs:
         with contextlib.suppress(FileNotFoundError):
             os.remove(f"{out}/built")
         # The program is run without words, and ends with status 2: what counts is that it is there. So it is proved once.
-        # One job a check: each job of a check loads the libraries below by itself.
-        words = ["rt", *(["lib", "--jobs", "1"] if self.is_library(name) else ["run", "--jobs", "1", "--"])]
+        jobs = str(self.jobs[name])
+        words = ["rt", *(["lib", "--jobs", jobs] if self.is_library(name) else ["run", "--jobs", jobs, "--"])]
         with open(f"{out}/build.log", "wb") as log:
             how = {"stdin": subprocess.DEVNULL, "stdout": log, "stderr": log, "start_new_session": True}
             with self.changed:
@@ -262,6 +262,11 @@ class Proofs:
         waiting = [it for it in self.names if it not in self.done and it not in self.refused and it not in self.running]
         return sorted((it for it in waiting if self.done.issuperset(self.stands_on[it])), key=lambda it: -self.order[it])
 
+    def jobs_of(self, name, jobs):
+        """With how many jobs a crate is proved. Those on the longest chain decide how long all takes, so such a one may use every
+        processor. The others have one job each, since each job of a check loads the libraries below by itself."""
+        return jobs if all(self.order[name] >= self.order[it] for it in self.running) else 1
+
     def run(self, jobs, tell, keeps_going=False):
         """Proves the crates, and returns whether all are proved. `tell` is called each second, and with each name that ended.
         Where one is refused, the others are stopped, unless it keeps going."""
@@ -272,6 +277,7 @@ class Proofs:
                     ready = self.next()
                     while ready and len(self.running) < jobs and (not self.running or free_memory() > NEEDS):
                         name = ready.pop(0)
+                        self.jobs[name] = self.jobs_of(name, jobs)
                         self.running[name] = None
                         threading.Thread(target=self.work, args=(name,)).start()
                     if not self.running:
