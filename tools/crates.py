@@ -224,10 +224,13 @@ class Proofs:
         with contextlib.suppress(FileNotFoundError):
             os.remove(f"{out}/built")
         # The program is run without words, and ends with status 2: what counts is that it is there. So it is proved once.
-        jobs = str(self.jobs[name])
-        words = ["rt", *(["lib", "--jobs", jobs] if self.is_library(name) else ["run", "--jobs", jobs, "--"])]
+        jobs = self.jobs[name]
+        words = ["rt", *(["lib", "--jobs", str(jobs)] if self.is_library(name) else ["run", "--jobs", str(jobs), "--"])]
+        # What isn't on the longest chain runs behind what is. A group of its own, so that Ctrl-C reaches this command alone, and
+        # no session of its own: Linux shares processors out among sessions before it looks at priorities.
+        words = ["nice", *words] if jobs == 1 else words
         with open(f"{out}/build.log", "wb") as log:
-            how = {"stdin": subprocess.DEVNULL, "stdout": log, "stderr": log, "start_new_session": True}
+            how = {"stdin": subprocess.DEVNULL, "stdout": log, "stderr": log, "preexec_fn": os.setpgrp}
             with self.changed:
                 if self.is_stopped:
                     return False
