@@ -1,13 +1,14 @@
 use Rattle.std.proofs.Common.{◌≡◌, ◌<◌, ◌≤◌, length, refl, ap, sym, subst, ◌∙◌, arith}
 use Rattle.share_ledger.specs.Counters.{Counter, seat_counter}
+use Rattle.doc_words.specs.declared.reply.Reply.TheVariants.{Account}
 use Rattle.doc_rules.specs.Document.{count_of}
 use Rattle.doc_rules.specs.Answers.{MayAnswer}
 use Rattle.locked_doc.specs.Locked.{document_of}
 use Rattle.locked_doc.proofs.Counted.{book_at}
 use Rattle.locked_doc.proofs.doc.LockedDoc.read_for.Goals as goal
 
-pub returns : goal.returns
-returns g c =
+pub returns-clause-answers : goal.returns-clause-answers
+returns-clause-answers g c =
     let d = c.self.inside in
     let s = c.seat-of.result in
     let mine = rw (← c.self.view_is, ← c.seat.view_is) at c.requires in
@@ -28,3 +29,7 @@ returns g c =
         of = (c.number-number.ensures, c.seat-of.ensures, ap (λ x. x.calls) c.count-2.ensures.stamp);
       };
     })
+
+pub returns-clause-account : goal.returns-clause-account
+returns-clause-account g c =
+    rw (← c.seat.view_is) (λ is. c.read-reply.ensures.account is ∙ ap Account (c.count.ensures ∙ c.seat.invariant))
