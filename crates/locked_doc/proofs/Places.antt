@@ -1,21 +1,23 @@
--- What is read at a place is the same for all causal orders of a log, and for its set.
-use Rattle.std.proofs.Common.{◌≡◌, ◌⊎◌, inl, inr, ℕ, List, [], ◌∷◌, Bool, true, false, None, if◌then◌else◌, Contains, refl, sym, ap, subst, ◌∙◌, true≢false}
+-- What is read at a place, and what a tree says, is the same for all causal orders of a log, and for its set.
+use Rattle.std.proofs.Common.{◌≡◌, ◌⊎◌, inl, inr, ℕ, List, [], ◌∷◌, Bool, true, false, Option, Some, None, if◌then◌else◌, Contains, refl, sym, ap, subst, ◌∙◌, true≢false}
 use mathlib.Core.Path.{fun_ext}
 use Rattle.doc_words.specs.Words.{Id, Key, Tagged, Op}
 use Rattle.doc_words.specs.declared.ask.Query.{Query}
 use Rattle.doc_words.specs.declared.ask.Query.TheVariants as query
 use Rattle.doc_words.specs.declared.reply.Reply.{Reply}
+use Rattle.doc_words.specs.declared.role.Role.{Role}
 use Rattle.list_laws.specs.Walk.{SameMembers}
 use Rattle.list_laws.proofs.Members.{Contains-nil, Contains-here, Contains-there, Contains-cases}
 use Rattle.crdt_rules.specs.Effect.{value_put}
-use Rattle.crdt_rules.specs.Facts.{facts, ends_here}
-use Rattle.crdt_rules.specs.Log.{IsGood, replay}
+use Rattle.crdt_rules.specs.Facts.{Facts, ends_here}
+use Rattle.crdt_rules.specs.Log.{IsGood, IsCausalOrder}
 use Rattle.crdt_rules.proofs.Readings.{here_from}
 use Rattle.crdt_rules.proofs.Orders as Laws
 use Rattle.crdt_rules.proofs.SameSet.{HasOneEach, good_one_each, replay_free, facts_of_one_set}
 use Rattle.doc_rules.specs.Answers.{MayAnswer}
 use Rattle.doc_rules.specs.Replica.{Replica, replica_facts}
-use Rattle.doc_rules.specs.Role.{value_put_at}
+use Rattle.doc_rules.specs.Role.{AreOf, value_put_at}
+use Rattle.doc_rules.proofs.SameOperations.{role_at-same}
 use Rattle.locked_doc.specs.Places.{IsReadOf, IsReadInEachOrder, IsReadOfSet}
 
 -- ---- the values that a set of operations puts
@@ -87,3 +89,15 @@ pub of_the_set : (r : Replica) (mine : ℕ) (q : Query) (answer : Reply) → IsG
 of_the_set r mine q answer good h = λ f free.
     let one : replica_facts r ≡ f = facts_of_one_set r.log r.log (replica_facts r) f (λ o. ((λ c. c), (λ c. c))) (good_one_each r.log good) (replay_free r.log good) free in
     subst (λ f. IsReadOf f (value_put_at r.log) q answer) one (read_of r mine q answer h)
+
+-- ---- what a tree says
+
+-- what agrees with a good log agrees with each causal order of it
+pub agrees_in_each_order : (log : List Op) (f : Facts) (roles : List Tagged → Key → Id → Option Role) → IsGood log → AreOf log f roles
+    → (order : List Op) → IsCausalOrder log order → AreOf order f roles
+agrees_in_each_order log f roles good are order causal =
+    let other = Laws.all_orders log good order causal in
+    record {
+      facts_are = are.facts_are ∙ sym other.1;
+      roles_are = λ p k i. are.roles_are p k i ∙ ap (λ r. if◌then◌else◌ {A = Option Role} (f.present p k i) (Some r) None) (role_at-same log order good other.0 causal.same p k i);
+    }
