@@ -15,6 +15,7 @@ use Rattle.copy_docs.specs.declared.docs.TheConstants.{MAX_BATCH}
 use Rattle.copy_docs.specs.declared.fault.Fault.{Fault}
 use Rattle.copy_docs.specs.declared.fault.Fault.TheVariants.{Refused, Store, Memory}
 use Rattle.copy_rows.specs.Accepted.{IsWritable}
+use Rattle.log_copy.specs.Failing.{FailsAmong}
 
 -- these may be tried as a batch, and may still not fit
 abbrev pub MayAdd : List ℕ → ℕ → List Op → List Doc → Type 0
@@ -42,6 +43,11 @@ module _ {S : Type 0} (g : Ghosts S) (name : List ℕ) (from : ℕ) (ops : List 
     pub shows : HasCleanDisk (state g new) → (was : Content) → IsOpenWith was (state g old) → IsOpenWith (with_rows (rows_from name (from + 1) (map op_text ops)) was) (state g new)
     pub ran : HasCleanDisk (state g new) → RanAll g (batch_of (rows_from name (from + 1) (map op_text ops))) old new
 
+  -- The database answered one of them by an error.
+  pub record FailsToStore : Type 0 where
+    pub sent : Sends
+    pub failed : HasCleanDisk (state g new) → FailsAmong g (batch_of (rows_from name (from + 1) (map op_text ops))) old new
+
   -- All is as it was.
   pub record IsLeft : Type 0 where
     pub same_conn : new ≡ old
@@ -50,5 +56,5 @@ module _ {S : Type 0} (g : Ghosts S) (name : List ℕ) (from : ℕ) (ops : List 
   abbrev pub Tries : Result (Unit {0}) Fault → Type 0
   Tries (Ok x) = (IsLeft × MayAdd name from ops docs × (ops ≡ [])) ⊎ Stores
   Tries (Err Refused) = IsLeft × ¬ IsBatch name from ops docs
-  Tries (Err Store) = Sends
+  Tries (Err Store) = FailsToStore
   Tries (Err Memory) = IsLeft

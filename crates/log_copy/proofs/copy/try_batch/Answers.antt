@@ -7,6 +7,7 @@ use Rattle.copy_tables.specs.Statements.{RanAll, batch_of}
 use Rattle.copy_tables.specs.Steps.{IsOpenWith}
 use Rattle.copy_docs.specs.Docs.{op_text}
 use Rattle.log_copy.specs.Batch.{IsLeft}
+use Rattle.log_copy.specs.Failing.{FailsAmong}
 use Rattle.log_copy.proofs.SoundLemmas.{some_from, batch_rows, same_lengths, texts_writable}
 use Rattle.log_copy.proofs.BatchLemmas.{left_by, sends}
 use Rattle.log_copy.proofs.copy.try_batch.Goals as goal
@@ -56,5 +57,9 @@ pub returns : goal.returns
 returns g c =
     let may = rw c.as_slice.ensures.value at (c.may_add.ensures.0 c.if-not-may_add.false) in
     let told = ap (map string_bytes) c.as_slice-2.ensures.value ∙ c.in_ok-texts.ensures.texts in
-    sends g.S.Store c.args.doc.now c.args.from c.args.entries.now c.args.conn.now c.put_entries.new.conn c.args.docs.now.items c.add_kept.new.docs.items (map string_bytes c.as_slice-2.result.now) told may
-    (some_from c.args.entries.now (sym c.is_empty.ensures ∙ c.if-is_empty.false)) c.in_ok-texts.ensures.ok.1 (texts_writable c.as_slice-2.result.now c.args.entries.now told) c.in_ok-texts.ensures.ok.0 c.put_entries.ensures.crash
+    let old = c.args.conn.now in
+    let new = c.put_entries.new.conn in record {
+      sent = sends g.S.Store c.args.doc.now c.args.from c.args.entries.now old new c.args.docs.now.items c.add_kept.new.docs.items (map string_bytes c.as_slice-2.result.now) told may
+          (some_from c.args.entries.now (sym c.is_empty.ensures ∙ c.if-is_empty.false)) c.in_ok-texts.ensures.ok.1 (texts_writable c.as_slice-2.result.now c.args.entries.now told) c.in_ok-texts.ensures.ok.0 c.put_entries.ensures.crash;
+      failed = λ clean. subst (λ (t : List (List ℕ)). FailsAmong g.S.Store (batch_of (rows_from c.args.doc.now (c.args.from + 1) t)) old new) told (c.in-Err.error, c.in-Err.ensures.err clean);
+    }

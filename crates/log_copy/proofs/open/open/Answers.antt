@@ -2,9 +2,9 @@ use Rattle.std.proofs.Common.{◌≡◌, inl, inr, sym, ◌∙◌}
 use Rattle.std.proofs.lemmas.Result.{IfOk-weaker, IfErr-weaker}
 use Rattle.sqlite.specs.Held.{state}
 use Rattle.sqlite.proofs.StateLemmas.{survives_weaker}
-use Rattle.copy_schema.specs.Tables.{copy_schema}
+use Rattle.copy_schema.specs.Tables.{copy_schema, HasBoth, HasNeither}
 use Rattle.copy_tables.specs.Steps.{IsBare, IsIdle, IsOurs}
-use Rattle.log_copy.proofs.OpenLemmas.{bare_is_neither, copy_is_both, outside_if, inside_if, both_ok, never_refused, survives_same}
+use Rattle.log_copy.proofs.OpenLemmas.{any_error, bare_is_neither, copy_is_both, outside_if, inside_if, both_ok, never_refused, survives_same}
 use Rattle.log_copy.proofs.open.open.Goals as goal
 
 pub returns-then-not-is_autocommit : goal.returns-then-not-is_autocommit
@@ -21,6 +21,8 @@ returns-then-not-is_autocommit g c =
       outside = λ clean same. same;
       refused = λ is ours. survives_same old _;
       bare = λ is it. inside it.autocommit;
+      asked = λ is. absurd cc;
+      database = λ clean is. absurd cc;
     }
 
 pub returns-in-Neither : goal.returns-in-Neither
@@ -28,6 +30,7 @@ returns-in-Neither g c =
     let old = state g.S.Store c.args.conn.now in
     let no_copy : old.now.schema ≡ copy_schema → ⊥ = λ is. absurd (let both = copy_is_both old.now.schema c.find_tables.result (rw c.schema.ensures.value at c.find_tables.ensures.both) is in let here = c.in-Neither.is in cc) in
     let autocommit = outside_if c.is_autocommit.result old.in_transaction c.is_autocommit.ensures.value c.if-not-is_autocommit.false in
+    let neither : HasNeither old.now.schema = (rw c.schema.ensures.value at c.find_tables.ensures.neither).0 c.in-Neither.is in
     let is_bare : IsOurs old → IsBare old = λ ours. record { autocommit = autocommit; schema = elim ours [ inl none ↦ none | inr copy ↦ absurd (no_copy copy) ] } in
     record {
       good = c.fresh.ensures.good;
@@ -39,12 +42,15 @@ returns-in-Neither g c =
       outside = c.fresh.ensures.outside;
       refused = λ is ours. absurd (never_refused c.fresh.result c.fresh.ensures.err is);
       bare = λ is. absurd (never_refused c.fresh.result c.fresh.ensures.err is);
+      asked = IfErr-weaker c.fresh.result _ _ (λ e same is. record { autocommit = autocommit; tables = inl neither }) c.fresh.ensures.err;
+      database = λ clean. IfErr-weaker c.fresh.result _ _ (λ e fails is. inl (neither, fails)) (c.fresh.ensures.database clean);
     }
 
 pub returns-in-Both : goal.returns-in-Both
 returns-in-Both g c =
     let old = state g.S.Store c.args.conn.now in
     let not_bare : IsBare old → ⊥ = λ it. absurd (let neither = bare_is_neither old.now.schema c.find_tables.result (rw c.schema.ensures.value at c.find_tables.ensures.neither) it.schema in let here = c.in-Both.is in cc) in
+    let both : HasBoth old.now.schema = (rw c.schema.ensures.value at c.find_tables.ensures.both).0 c.in-Both.is in
     let idle : IsIdle old = record { autocommit = outside_if c.is_autocommit.result old.in_transaction c.is_autocommit.ensures.value c.if-not-is_autocommit.false; settled = c.is_autocommit.ensures.settled c.if-not-is_autocommit.false } in
     let is_copy : IsOurs old → old.now.schema ≡ copy_schema = λ ours. elim ours [ inl none ↦ absurd (not_bare (record { autocommit = idle.autocommit; schema = none })) | inr copy ↦ copy ] in
     record {
@@ -57,6 +63,8 @@ returns-in-Both g c =
       outside = c.stored.ensures.outside;
       refused = λ is ours. c.stored.ensures.refused is (is_copy ours);
       bare = λ is. not_bare;
+      asked = any_error c.stored.result (λ e is. record { autocommit = idle.autocommit; tables = inr both });
+      database = λ clean. IfErr-weaker c.stored.result _ _ (λ e fails is. inr (both, fails is)) (c.stored.ensures.database clean);
     }
 
 pub returns-in-Other : goal.returns-in-Other
@@ -74,4 +82,6 @@ returns-in-Other g c =
       outside = λ clean same. same;
       refused = λ is ours. survives_same old _;
       bare = λ is. not_bare;
+      asked = λ is. absurd cc;
+      database = λ clean is. absurd cc;
     }
