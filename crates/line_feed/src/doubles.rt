@@ -3,7 +3,7 @@ ghost use Rattle.std.specs.Prelude.{◌≡◌, ◌<◌, ◌||◌, ◌+◌, ℕ, 
 
 use crate::DeviceFault;
 use crate::reading::Source;
-use crate::writing::Sink;
+use crate::writing::{Sink, Unbuffered};
 
 /// A source or a sink over another one that fails once so many bytes have passed, for tests.
 #[derive(Debug, Drop)]
@@ -78,6 +78,10 @@ impl<W: Sink> Sink for FailAfter<W> {
     }
 }
 
+impl<W: Unbuffered> Unbuffered for FailAfter<W> {
+    ghost keeps_none = { λ s. W.keeps_none s.device };
+}
+
 /// A source or a sink over another one that gives or takes at most so many bytes at once, and counts how often it was
 /// read, for tests.
 #[derive(Debug, Drop)]
@@ -142,4 +146,8 @@ impl<W: Sink> Sink for InPieces<W> {
     fn failed(&self) -> bool {
         Sink::failed(&self.device)
     }
+}
+
+impl<W: Unbuffered> Unbuffered for InPieces<W> {
+    ghost keeps_none = { λ s. W.keeps_none s.device };
 }

@@ -4,7 +4,7 @@ ghost use Rattle.std.specs.Io.KnownBytes.{Appends};
 ghost use Rattle.std.specs.Option.{option_map};
 
 use crate::DeviceFault;
-use crate::writing::Sink;
+use crate::writing::{Sink, Unbuffered};
 use std::alloc::Global;
 
 /// Bytes for which an outbox has room.
@@ -86,12 +86,12 @@ impl<W: Sink> Outbox<W> {
     }
 }
 
-impl<W: Sink> Sink for Outbox<W> {
+impl<W: Unbuffered> Sink for Outbox<W> {
     ghost contents = { λ s. option_map (λ taken. taken ++ drop s.sent s.kept.items) (W.contents s.sink) };
 
     ghost has_failed = { λ s. W.has_failed s.sink };
 
-    ghost kept = { λ s. drop s.sent s.kept.items };
+    ghost kept = { λ s. W.kept s.sink ++ drop s.sent s.kept.items };
 
     fn write_some(&mut self, bytes: &[u8]) -> Result<usize, DeviceFault> {
         if self.keep(bytes) {

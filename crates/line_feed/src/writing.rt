@@ -1,5 +1,5 @@
 //! Where bytes go.
-ghost use Rattle.std.specs.Prelude.{◌≡◌, ℕ, Bool, false, List, [], Option, ◌<◌, length, is_err, IfOk, OnOk, OnErr};
+ghost use Rattle.std.specs.Prelude.{◌≡◌, ℕ, Bool, false, List, [], Option, ◌<◌, length, is_err, IfOk, OnOk, OnErr, refl};
 ghost use Rattle.std.specs.Io.{WritesAtMost};
 ghost use Rattle.std.specs.Io.KnownBytes.{Appends, Keeps, WriteAppends};
 ghost use Rattle.line_feed.specs.Cut.{AppendsCut, LosesLast, line_of};
@@ -40,6 +40,12 @@ pub trait Sink {
     /// Whether a call has failed, after which the device isn't written to again.
     fn failed(&self) -> bool
         ensures { result ≡ has_failed self.now };
+}
+
+/// A sink that keeps nothing back: its device has all that it has taken.
+pub trait Unbuffered: Sink {
+    /// The law that it keeps nothing.
+    ghost keeps_none: { (sink : Self) → Self.kept sink ≡ [] };
 }
 
 /// A sink over any writer of std. A write of 0 bytes and an interrupted write are failures.
@@ -92,6 +98,10 @@ impl<W: Write> Sink for Writer<W> {
     fn failed(&self) -> bool {
         self.failed
     }
+}
+
+impl<W: Write> Unbuffered for Writer<W> {
+    ghost keeps_none = { λ _. refl };
 }
 
 /// Writes all the bytes, in as many calls of the device as it wants. `DeviceFault` where the sink fails before it has

@@ -4,7 +4,8 @@ ghost use Rattle.std.specs.Prelude.{◌≡◌, false};
 
 use line_feed::doubles::{FailAfter, InPieces};
 use line_feed::{
-    DeviceFault, LineFeed, Outbox, Outcome, Reader, Sink, Source, Writer, write_all, write_line,
+    DeviceFault, LineFeed, Outbox, Outcome, Reader, Sink, Source, Unbuffered, Writer, write_all,
+    write_line,
 };
 use std::alloc::{AllocError, Global};
 use std::io;
@@ -131,7 +132,7 @@ fn a_write_of_no_bytes_is_a_failure(rt: HostRuntime) {
 // ---- an outbox
 
 /// Three short lines through an outbox, which are handed on then.
-fn three_lines<W: Sink + Drop>(alloc: Global, sink: W) -> Result<(), DeviceFault>
+fn three_lines<W: Unbuffered + Drop>(alloc: Global, sink: W) -> Result<(), DeviceFault>
     requires { W.has_failed sink ≡ false }
 {
     let mut outbox = Outbox::new(alloc, sink);
@@ -142,7 +143,11 @@ fn three_lines<W: Sink + Drop>(alloc: Global, sink: W) -> Result<(), DeviceFault
 }
 
 /// Bytes through an outbox.
-fn all_through<W: Sink + Drop>(alloc: Global, sink: W, bytes: &[u8]) -> Result<(), DeviceFault>
+fn all_through<W: Unbuffered + Drop>(
+    alloc: Global,
+    sink: W,
+    bytes: &[u8],
+) -> Result<(), DeviceFault>
     requires { W.has_failed sink ≡ false }
 {
     write_all(&mut Outbox::new(alloc, sink), bytes)
