@@ -4,6 +4,7 @@ ghost use Rattle.std.specs.List.{list_any};
 ghost use Rattle.std.specs.Io.KnownBytes.{Consumes, IsAtEnd, Keeps};
 ghost use Rattle.line_feed.specs.Lines.{is_newline, HasNoNewline};
 ghost use Rattle.line_feed.specs.Feed.{Advances, Gives, Stops};
+ghost use Rattle.line_feed.specs.Limits.{line_room, longest_line};
 
 use crate::DeviceFault;
 use crate::reading::Source;
@@ -16,6 +17,12 @@ pub const MAX_LINE_BYTES: usize = 65_536;
 
 /// Room for a line of the most bytes and its newline; so many reads at most fill it.
 pub const LINE_ROOM: usize = 65_537;
+
+/// The law that these limits are those of the definitions.
+pub fn limits_as_defined()
+    ensures line { MAX_LINE_BYTES ≡ longest_line }
+    ensures room { LINE_ROOM ≡ line_room }
+{}
 
 /// What the next line is.
 #[derive(Clone, Copy, Debug, PartialEq, Eq)]
@@ -147,7 +154,7 @@ pub struct LineFeed {
 impl Model for LineFeed {
     ghost use Rattle.std.specs.Prelude.{◌≡◌, ◌-◌, ◌≤◌, true, slice_range, vec_len};
     ghost use Rattle.line_feed.specs.Feed.{Feed, IsSpan};
-    ghost use Rattle.line_feed.specs.declared.feed.TheConstants.{LINE_ROOM};
+    ghost use Rattle.line_feed.specs.Limits.{line_room};
 
     ghost Value = { Feed };
 
@@ -157,7 +164,7 @@ impl Model for LineFeed {
       ended = f.ended;
     } };
 
-    ghost invariant = { λ f. (vec_len f.buffer ≡ LINE_ROOM)
+    ghost invariant = { λ f. (vec_len f.buffer ≡ line_room)
         × IsSpan f.line_start f.line_end × IsSpan f.start f.end × (f.ended ≡ true → f.start ≡ f.end) };
 }
 
@@ -206,7 +213,7 @@ impl LineFeed {
         ensures at_end { (self.old.ended ≡ true → IsAtEnd (R.remaining source.old))
             → self.new.ended ≡ true → IsAtEnd (R.remaining source.new) }
         ensures failed { IsTrue (R.has_failed source.new) ↔ (result ≡ Outcome.Fault) }
-        ensures reads { R.reads source.new ≤ R.reads source.old + LINE_ROOM }
+        ensures reads { R.reads source.new ≤ R.reads source.old + line_room }
     {
         if self.ended {
             return Outcome::End;
@@ -222,10 +229,10 @@ impl LineFeed {
         ensures open { self.new.ended ≡ false }
         ensures bytes { (read : List ℕ) × Consumes (R.remaining source.old) (R.remaining source.new) read
             × (self.new.held ≡ self.old.held ++ read) }
-        ensures stop { Stops self.new.held LINE_ROOM result }
+        ensures stop { Stops self.new.held line_room result }
         ensures at_end { result ≡ Stop.End → IsAtEnd (R.remaining source.new) }
         ensures failed { IsTrue (R.has_failed source.new) ↔ (result ≡ Stop.Fault) }
-        ensures reads { R.reads source.new ≤ R.reads source.old + LINE_ROOM }
+        ensures reads { R.reads source.new ≤ R.reads source.old + line_room }
     {
         if let Some(at) = newline_at(&self.buffer[self.start..self.end]) {
             return Stop::Newline(at);
@@ -240,7 +247,7 @@ impl LineFeed {
     // What is given of what is held, where reading stopped for this cause.
     fn give(&mut self, stop: Stop) -> Outcome
         requires open { self.old.ended ≡ false }
-        requires stops { Stops self.old.held LINE_ROOM stop }
+        requires stops { Stops self.old.held line_room stop }
         ensures advances { Advances self.old.held result self.new }
         ensures ended { self.new.ended ≡ true → stop ≡ Stop.End }
         ensures fault { (result ≡ Outcome.Fault) ↔ (stop ≡ Stop.Fault) }

@@ -21,8 +21,8 @@ use Rattle.line_proto.specs.declared.request.Ask.{Ask}
 use Rattle.line_proto.specs.declared.request.Ask.TheVariants as ask
 use Rattle.line_proto.specs.declared.request.Request.{Request}
 use Rattle.line_proto.specs.declared.request.Request.TheVariants.{Quit, Version, Of}
-use Rattle.line_proto.specs.declared.cursor.TheConstants.{MAX_VARIABLE_LEN}
-use Rattle.line_proto.specs.declared.read.TheConstants.{MAX_LIMIT}
+use Rattle.line_proto.specs.Limits.{longest_variable}
+use Rattle.line_proto.specs.Limits.{greatest_limit}
 
 -- ---- cursor expressions
 
@@ -43,7 +43,7 @@ steps_from (item d ds) = do
 
 -- the name of a variable has at most 128 bytes
 abbrev pub variable_of : List ℕ → Option (List ℕ)
-variable_of s = some_if (nat_le (length s) MAX_VARIABLE_LEN) s
+variable_of s = some_if (nat_le (length s) longest_variable) s
 
 abbrev pub variable_from : Data → Option (List ℕ)
 variable_from d = as_str d >>= variable_of
@@ -124,7 +124,7 @@ naming_from n d =
 
 -- 1 to 64
 abbrev pub limit_of : ℕ → Option ℕ
-limit_of n = some_if (nat_le 1 n && nat_le n MAX_LIMIT) n
+limit_of n = some_if (nat_le 1 n && nat_le n greatest_limit) n
 
 abbrev pub limit_from : Data → Option ℕ
 limit_from d = u64_of d >>= limit_of

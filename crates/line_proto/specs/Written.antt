@@ -21,8 +21,8 @@ use Rattle.line_proto.specs.declared.request.Ask.{Ask}
 use Rattle.line_proto.specs.declared.request.Ask.TheVariants as ask
 use Rattle.line_proto.specs.declared.request.Request.{Request}
 use Rattle.line_proto.specs.declared.request.Request.TheVariants.{Quit, Version, Of}
-use Rattle.line_proto.specs.declared.cursor.TheConstants.{MAX_VARIABLE_LEN}
-use Rattle.line_proto.specs.declared.read.TheConstants.{MAX_LIMIT}
+use Rattle.line_proto.specs.Limits.{longest_variable}
+use Rattle.line_proto.specs.Limits.{greatest_limit}
 
 abbrev pub start_data : Start → Data
 start_data Document = number (unsigned 0)
@@ -75,7 +75,7 @@ request_data (Of document ask) = ask_data document ask
 
 -- the name of a variable has at most 128 bytes
 abbrev pub is_variable : List ℕ → Bool
-is_variable name = nat_le (length name) MAX_VARIABLE_LEN
+is_variable name = nat_le (length name) longest_variable
 
 abbrev pub is_start : Start → Bool
 is_start Document = true
@@ -105,7 +105,7 @@ is_ask (ask.Change expr change) = is_start expr.start && is_change change
 is_ask (ask.Look expr look) = is_start expr.start
 is_ask (ask.Let name expr) = is_variable name && is_start expr.start
 is_ask (ask.Deliver op) = is_shaped op
-is_ask (ask.Operations front limit) = (list_all is_entry front && is_ascending front) && (nat_le 1 limit && nat_le limit MAX_LIMIT)
+is_ask (ask.Operations front limit) = (list_all is_entry front && is_ascending front) && (nat_le 1 limit && nat_le limit greatest_limit)
 is_ask (ask.Forget id) = is_id id
 
 abbrev pub is_request : Request → Bool

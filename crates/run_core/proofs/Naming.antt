@@ -5,10 +5,10 @@ use Rattle.std.proofs.lemmas.Bool.{and_parts, and_from, leb-true, le-leb}
 use Rattle.std.proofs.lemmas.List.Folds.{list_all-append}
 use Rattle.lamport_id.specs.Name.{is_name, is_name_byte}
 use Rattle.run_core.specs.Names.{first_replica}
-use Rattle.run_core.specs.declared.names.TheConstants.{MAX_NAME_BYTES}
+use Rattle.run_core.specs.Limits.{longest_server_name}
 
 -- a server's name, with the number of its first start, is a replica's
-pub first_replica-is_name : (name : List ℕ) → is_name name ≡ true → length name ≤ MAX_NAME_BYTES → is_name (first_replica name) ≡ true
+pub first_replica-is_name : (name : List ℕ) → is_name name ≡ true → length name ≤ longest_server_name → is_name (first_replica name) ≡ true
 first_replica-is_name name named short =
     let (lengths, bytes) = and_parts (nat_le 1 (length name) && nat_le (length name) 32) (list_all is_name_byte name) named in
     let (some, few) = and_parts (nat_le 1 (length name)) (nat_le (length name) 32) lengths in

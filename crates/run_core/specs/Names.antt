@@ -3,7 +3,7 @@ use Rattle.std.specs.Prelude.{Bool, true, ◌&&◌, not, ℕ, List, [], ◌∷�
 use Rattle.std.specs.List.{list_all, list_any}
 use Rattle.std.specs.Str.{bytes_eq}
 use Rattle.lamport_id.specs.Name.{is_name}
-use Rattle.run_core.specs.declared.names.TheConstants.{MAX_DOCUMENTS, MAX_NAME_BYTES}
+use Rattle.run_core.specs.Limits.{longest_server_name, most_documents}
 
 -- the name of the server, and those of its documents
 pub record Wanted : Type 0 where
@@ -20,7 +20,7 @@ all_differ (t ∷ ts) = not (list_any (bytes_eq t) ts) && all_differ ts
 
 -- at most 16 documents, of names that differ, and a name that leaves room for the number of a start
 abbrev pub is_good : List ℕ → List (List ℕ) → Bool
-is_good name documents = (is_name name && nat_le (length name) MAX_NAME_BYTES) && ((nat_le (length documents) MAX_DOCUMENTS && list_all is_name documents) && all_differ documents)
+is_good name documents = (is_name name && nat_le (length name) longest_server_name) && ((nat_le (length documents) most_documents && list_all is_name documents) && all_differ documents)
 
 -- the name of the replica that a server is at its first start
 abbrev pub first_replica : List ℕ → List ℕ

@@ -3,6 +3,7 @@ ghost use Rattle.std.specs.Prelude.{◌≡◌, ◌≤◌, true, length, map, Som
 ghost use Rattle.std.specs.List.{list_all, list_any};
 ghost use Rattle.std.specs.Str.{bytes_eq};
 ghost use Rattle.lamport_id.specs.Name.{is_name};
+ghost use Rattle.run_core.specs.Limits.{longest_server_name};
 ghost use Rattle.run_core.specs.Names.{all_differ, first_replica, is_good};
 
 use lamport_id::ReplicaName;
@@ -63,7 +64,7 @@ pub fn is_good(name: &str, documents: &[&str]) -> bool
 
 /// The name of the replica that a server of this name is at its first start.
 pub fn first_replica(alloc: Global, name: &str) -> Result<Option<ReplicaName>, AllocError>
-    requires { (is_name name.now ≡ true) × (length name.now ≤ MAX_NAME_BYTES) }
+    requires { (is_name name.now ≡ true) × (length name.now ≤ longest_server_name) }
     ensures { IfOk result (λ replica. replica ≡ Some (first_replica name.now)) }
 {
     let mut bytes = Vec::new(alloc);

@@ -3,7 +3,7 @@ ghost use Rattle.std.specs.Prelude.{◌≡◌, ◌≢◌, ◌⊎◌, ◌≤◌, 
 ghost use Rattle.doc_rules.specs.Document.{new_document};
 ghost use Rattle.run_core.specs.Names.{Wanted, first_replica, is_good, wanted_by};
 ghost use Rattle.run_core.specs.Served.{ServesAll, ServesUntilFault};
-ghost use Rattle.run_core.specs.declared.names.TheConstants.{MAX_DOCUMENTS};
+ghost use Rattle.run_core.specs.Limits.{most_documents};
 
 use crate::names::{first_replica, is_good};
 use json_scalar::Refusal;
@@ -119,7 +119,7 @@ pub fn run_over<M: Maker, R: Source, W: Sink>(
     source: &mut R,
     sink: &mut W,
 ) -> u8
-    requires room { MAX_DOCUMENTS ≤ M.room maker.old }
+    requires room { most_documents ≤ M.room maker.old }
     requires source_works { R.has_failed source.old ≡ false }
     requires sink_works { W.has_failed sink.old ≡ false }
 

@@ -7,7 +7,7 @@ use Rattle.line_feed.specs.declared.feed.Outcome.{Outcome}
 use Rattle.line_feed.specs.declared.feed.Outcome.TheVariants as outcome
 use Rattle.session_rules.specs.declared.Ending.{Ending}
 use Rattle.session_rules.specs.declared.Ending.TheVariants.{WriteFault}
-use Rattle.session_rules.specs.declared.TheConstants.{MAX_LINES}
+use Rattle.session_rules.specs.Limits.{most_lines}
 use Rattle.session_core.specs.Ended.{KeepsBack}
 
 -- nothing is kept, or a whole line is held
@@ -21,23 +21,23 @@ unkept given kept held (inr at_hand) line other = absurd (other (line at_hand))
 
 -- nothing is kept, or a whole line is held and will be answered
 abbrev pub KeepsOn : List ℕ → List ℕ → ℕ → Type 0
-KeepsOn kept held answered = (kept ≡ []) ⊎ ((list_any is_newline held ≡ true) × (answered < MAX_LINES))
+KeepsOn kept held answered = (kept ≡ []) ⊎ ((list_any is_newline held ≡ true) × (answered < most_lines))
 
 pub keeps_for : (kept held : List ℕ) (answered : ℕ) → KeepsOn kept held answered → KeepsFor kept held
 keeps_for kept held answered (inl none) = inl none
 keeps_for kept held answered (inr at_hand) = inr at_hand.0
 
 -- all lines answered
-pub used_up_empty : (kept held : List ℕ) (answered : ℕ) → KeepsOn kept held answered → ¬ (answered < MAX_LINES) → kept ≡ []
+pub used_up_empty : (kept held : List ℕ) (answered : ℕ) → KeepsOn kept held answered → ¬ (answered < most_lines) → kept ≡ []
 used_up_empty kept held answered (inl none) up = none
 used_up_empty kept held answered (inr at_hand) up = absurd (up at_hand.1)
 
 -- where a session doesn't wait, the next line is at hand
-pub keeps_on : (kept held : List ℕ) (answered : ℕ) (waits : Bool) → waits ≡ (answered + 1 == MAX_LINES || not (list_any is_newline held)) → answered < MAX_LINES
+pub keeps_on : (kept held : List ℕ) (answered : ℕ) (waits : Bool) → waits ≡ (answered + 1 == most_lines || not (list_any is_newline held)) → answered < most_lines
     → (waits ≡ true → kept ≡ []) → KeepsOn kept held (answered + 1)
-keeps_on kept held answered waits is more empty = by (answered + 1 == MAX_LINES) (list_any is_newline held) refl refl
+keeps_on kept held answered waits is more empty = by (answered + 1 == most_lines) (list_any is_newline held) refl refl
   where
-    by : (last has : Bool) → (answered + 1 == MAX_LINES) ≡ last → list_any is_newline held ≡ has → KeepsOn kept held (answered + 1)
+    by : (last has : Bool) → (answered + 1 == most_lines) ≡ last → list_any is_newline held ≡ has → KeepsOn kept held (answered + 1)
     by true has p q = inl (empty (is ∙ rw p refl))
     by false false p q = inl (empty (is ∙ rw (p, q) refl))
     by false true p q = inr (q, omega (arith, more, eqb-false _ _ p))

@@ -3,12 +3,12 @@ use Rattle.std.proofs.lemmas.List.{take-take, drop-take, drop-drop}
 use Rattle.line_feed.specs.Lines.{HasNoNewline, EndsFirstLine}
 use Rattle.line_feed.specs.Feed.{Feed, Advances}
 use Rattle.line_feed.specs.declared.feed.Outcome.TheVariants.{Line}
-use Rattle.line_feed.specs.declared.feed.TheConstants.{LINE_ROOM}
+use Rattle.line_feed.specs.Limits.{line_room}
 use Rattle.line_feed.proofs.feed.LineFeed.give.Goals as goal
 
 -- the line up to a newline in the buffer, and what is held behind it
 gives_line : (items : List ℕ) (start end at line_end rest : ℕ) (ended : Bool) → EndsFirstLine (slice_range items start end) at
-    → end ≤ LINE_ROOM → line_end ≡ start + at → rest ≡ line_end + 1 → ended ≡ false
+    → end ≤ line_room → line_end ≡ start + at → rest ≡ line_end + 1 → ended ≡ false
     → Advances (slice_range items start end) Line (record { line = slice_range items start line_end; held = slice_range items rest end; ended = ended })
 gives_line items start end at line_end rest ended p room e f still =
     let d = drop start items in
