@@ -4,7 +4,7 @@ ghost use Rattle.std.specs.Io.KnownBytes.{Appends};
 ghost use Rattle.serde_json.specs.Data.{Data};
 ghost use Rattle.serde_json.specs.Written.{comma_if, compact_text};
 ghost use Rattle.op_core.specs.Wire.{id_data};
-ghost use Rattle.doc_words.specs.declared.reply.Reply.TheVariants.{Held, Show};
+ghost use Rattle.doc_words.specs.declared.reply.Reply.TheVariants.{Held, Items, Keys, Operations, Show};
 ghost use Rattle.line_feed.specs.Cut.{AppendsCut, line_of};
 ghost use Rattle.line_proto.specs.Replies.{line_text, reply_data, reply_text, told_text, line_told, worded};
 ghost use Rattle.line_proto.specs.Writing.{is_lengthy, is_in_pieces, may_lack, is_device};
@@ -62,6 +62,14 @@ impl LineReply {
     /// The law that a shown element is told as JSON: for the compact text of an element, `["show",ELEMENT]`.
     pub fn shown_as_json()
         ensures { (d : Data) → told_text (Answered (Show (compact_text d))) ≡ compact_text (worded (codes "show") (d ∷ [])) }
+    {}
+
+    /// The law that keys, the elements of a list and operations are told as JSON: for the compact text of their array, an array of
+    /// the word and that.
+    pub fn listed_as_json()
+        ensures keys { (d : Data) → told_text (Answered (Keys (compact_text d))) ≡ compact_text (worded (codes "keys") (d ∷ [])) }
+        ensures items { (d : Data) → told_text (Answered (Items (compact_text d))) ≡ compact_text (worded (codes "items") (d ∷ [])) }
+        ensures ops { (d : Data) → told_text (Answered (Operations (compact_text d))) ≡ compact_text (worded (codes "ops") (d ∷ [])) }
     {}
 }
 
