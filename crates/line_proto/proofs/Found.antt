@@ -48,7 +48,7 @@ if_Ok true e x y h = (refl, cc)
 if_Ok false e x y h = cc
 
 -- what holds where the verb is this word, and else of what comes behind it
-by_word : {A : Type 0} (P : A → Type 0) (verb word : List ℕ) (x y : A) → (verb ≡ word → P x) → P y → P (cond (bytes_eq verb word) x y)
+pub by_word : {A : Type 0} (P : A → Type 0) (verb word : List ℕ) (x y : A) → (verb ≡ word → P x) → P y → P (cond (bytes_eq verb word) x y)
 by_word P verb word x y here behind = go (bytes_eq verb word) (bytes_eq-Decides verb word).0
   where
     go : (b : Bool) → (b ≡ true → verb ≡ word) → P (cond b x y)
@@ -111,7 +111,7 @@ expr_items-Some (item d ds) expr h =
     let made = start_from-Some d start.0 start.1 in
     (ap expr_data whole ∙ ap array (both_items made.0 (steps_from-Some ds steps.0 steps.1)), ap (λ e. is_start e.start) whole ∙ made.1)
 
-expr_from-Some : (d : Data) (expr : CursorExpr) → expr_from d ≡ Some expr → (expr_data expr ≡ d) × (is_start expr.start ≡ true)
+pub expr_from-Some : (d : Data) (expr : CursorExpr) → expr_from d ≡ Some expr → (expr_data expr ≡ d) × (is_start expr.start ≡ true)
 expr_from-Some d expr h =
     let items = some_step (as_array d) expr_items expr h in
     let made = expr_items-Some items.0 expr items.2 in
@@ -238,7 +238,7 @@ naming-Ok verb document a b is asked h =
     let made = expr_from-Some b expr.0 expr.1 in
     writes_two verb _ document a b _ _ asked _ is named.0 made.0 same refl (both_hold _ _ named.1 made.1)
 
-limit_from-Some : (d : Data) (limit : ℕ) → limit_from d ≡ Some limit → (number (unsigned limit) ≡ d) × ((nat_le 1 limit && nat_le limit 64) ≡ true)
+pub limit_from-Some : (d : Data) (limit : ℕ) → limit_from d ≡ Some limit → (number (unsigned limit) ≡ d) × ((nat_le 1 limit && nat_le limit 64) ≡ true)
 limit_from-Some null limit h = cc
 limit_from-Some (boolean b) limit h = cc
 limit_from-Some (number m) limit h =
@@ -378,7 +378,7 @@ request_items-Ok (item verb (item document (item a no_items))) r h = short_from-
 request_items-Ok (item verb (item document (item a (item b no_items)))) r h = long_from-Ok verb document a b r h
 request_items-Ok (item verb (item document (item a (item b (item c ds))))) r h = cc
 
-request_from-Ok : (d : Data) (r : Request) → request_from d ≡ Ok r → IsOf d r
+pub request_from-Ok : (d : Data) (r : Request) → request_from d ≡ Ok r → IsOf d r
 request_from-Ok d r h =
     let items = found_step (as_array d) BadRequest request_items r h in
     let made = request_items-Ok items.0 r items.2 in

@@ -1,5 +1,7 @@
 pub mod Lines
 pub mod Requests
 pub mod Found
+pub mod Refusing
+pub mod Due
 pub mod Texts
 pub mod Pieces

@@ -36,7 +36,7 @@ expr_from-parts : (start : Start) (steps : List Step) → is_start start ≡ tru
 expr_from-parts Document steps h = rw (steps_from-step_data steps) refl
 expr_from-parts (Variable name) steps h = rw (h, steps_from-step_data steps) refl
 
-expr_from-expr_data : (expr : CursorExpr) → is_start expr.start ≡ true → expr_from (expr_data expr) ≡ Some expr
+pub expr_from-expr_data : (expr : CursorExpr) → is_start expr.start ≡ true → expr_from (expr_data expr) ≡ Some expr
 expr_from-expr_data expr h = expr_from-parts expr.start expr.steps h
 
 val_of-put : (val : Val) → is_put val ≡ true → val_of (val_data val) ≡ Ok val

@@ -96,6 +96,10 @@ is_change (Insert val) = is_put val
 is_change Delete = true
 is_change (Add n) = is_amount n
 
+-- 1 to 64
+abbrev pub is_limit : ℕ → Bool
+is_limit limit = nat_le 1 limit && nat_le limit greatest_limit
+
 abbrev pub is_ask : Ask → Bool
 is_ask ask.Open = true
 is_ask ask.Front = true
@@ -105,7 +109,7 @@ is_ask (ask.Change expr change) = is_start expr.start && is_change change
 is_ask (ask.Look expr look) = is_start expr.start
 is_ask (ask.Let name expr) = is_variable name && is_start expr.start
 is_ask (ask.Deliver op) = is_shaped op
-is_ask (ask.Operations front limit) = (list_all is_entry front && is_ascending front) && (nat_le 1 limit && nat_le limit greatest_limit)
+is_ask (ask.Operations front limit) = (list_all is_entry front && is_ascending front) && is_limit limit
 is_ask (ask.Forget id) = is_id id
 
 abbrev pub is_request : Request → Bool

@@ -22,8 +22,10 @@ use std::str;
 const MAX_LIMIT: u64 = 64;
 
 impl Request {
-    ghost use Rattle.std.specs.Prelude.{Some, Ok, IfOk, IsTrue};
+    ghost use Rattle.std.specs.Prelude.{◌≢◌, Some, Ok, Err, IfOk, IfErr, IsTrue};
+    ghost use Rattle.json_scalar.specs.declared.refusal.Refusal.{Refusal};
     ghost use Rattle.line_proto.specs.Written.{request_data, is_request};
+    ghost use Rattle.line_proto.specs.Refused.{IsDueAt};
     ghost use Rattle.line_proto.specs.declared.request.Request.{Request};
 
     /// The request that this line is, without its newline, or the first cause against it. The line's length is the
@@ -37,7 +39,9 @@ impl Request {
     /// answer.
     pub fn read(alloc: Global, line: &[u8]) -> Result<Request, Refusal>
         ensures reads { IfOk result (λ r. (line_data line.now ≡ Some (request_data r)) × IsTrue (is_request r)) }
+        ensures refuses { IfErr result (IsDueAt (line_data line.now)) }
         ensures complete { (r : Request) → IsTrue (is_request r) → line_data line.now ≡ Some (request_data r) → UnlessMemory result (Ok r) }
+        ensures due { (cause : Refusal) → cause ≢ NoMemory → IsDueAt (line_data line.now) cause → UnlessMemory result (Err cause) }
         ensures answer { UnlessMemory result (request_of line.now) }
     {
         read_line(alloc, line)

@@ -1,0 +1,69 @@
+-- Which refusal is due for a line that is no request, told by the written forms alone.
+use Rattle.std.specs.Prelude.{◌≡◌, ◌≢◌, ◌⊎◌, ℕ, false, List, [], ◌∷◌, codes, Option, Some, None, Err, IsTrue, ⊤}
+use Rattle.std.specs.List.{list_all}
+use Rattle.serde_json.specs.Data.{Data, number, unsigned}
+use Rattle.doc_words.specs.Words.{Refusal, NoMemory}
+use Rattle.json_scalar.specs.declared.refusal.Refusal.TheVariants.{NotJson, BadRequest, BadValue, BadOperation, BadFront, TooDeep}
+use Rattle.op_core.specs.Front.{is_ascending}
+use Rattle.op_core.specs.Shape.{is_entry}
+use Rattle.op_core.specs.Wire.{front_data}
+use Rattle.op_core.specs.Written.{ReadsOp}
+use Rattle.line_proto.specs.Written.{asks, expr_data, request_data, is_start, is_limit, is_request}
+use Rattle.line_proto.specs.declared.request.CursorExpr.{CursorExpr}
+use Rattle.line_proto.specs.declared.request.Request.{Request}
+
+-- the changes that put something
+pub data Putting : Type 0 where
+  assigns : Putting
+  inserts : Putting
+  adds : Putting
+
+abbrev pub putting_word : Putting → List ℕ
+putting_word assigns = codes "assign"
+putting_word inserts = codes "insert"
+putting_word adds = codes "add"
+
+-- The JSON is an assignment, an insertion or an addition, of whatever JSON.
+pub record AsksToPut (d : Data) : Type 0 where
+  pub putting : Putting
+  pub document : List ℕ
+  pub expr : CursorExpr
+  pub value : Data
+  pub started : IsTrue (is_start expr.start)
+  pub form : asks (putting_word putting) document (expr_data expr ∷ value ∷ []) ≡ d
+
+-- The JSON is a delivery of this, whatever it is.
+pub record AsksToDeliver (d op : Data) : Type 0 where
+  pub document : List ℕ
+  pub form : asks (codes "deliver") document (op ∷ []) ≡ d
+
+-- The JSON asks for operations that this front doesn't cover, whatever its order.
+pub record AsksForOperations (d : Data) (front : List (List ℕ × ℕ)) : Type 0 where
+  pub document : List ℕ
+  pub limit : ℕ
+  pub entries : IsTrue (list_all is_entry front)
+  pub limited : IsTrue (is_limit limit)
+  pub form : asks (codes "ops") document (front_data front ∷ number (unsigned limit) ∷ []) ≡ d
+
+-- no request is written so
+abbrev pub IsNoRequest : Data → Type 0
+IsNoRequest d = (r : Request) → IsTrue (is_request r) → request_data r ≢ d
+
+-- What JSON that is no request is refused for: it has no form of a request; or it has one, and what is put is no value, what is delivered
+-- is refused so, or the front doesn't ascend. Or memory is wanting.
+abbrev pub IsDue : Data → Refusal → Type 0
+IsDue d BadRequest = IsNoRequest d × ¬ AsksToPut d × ((op : Data) → ¬ AsksToDeliver d op) × ((front : List (List ℕ × ℕ)) → ¬ AsksForOperations d front)
+IsDue d BadValue = AsksToPut d × IsNoRequest d
+IsDue d TooDeep = (op : Data) × AsksToDeliver d op × ReadsOp op (Err TooDeep)
+IsDue d BadOperation = (op : Data) × AsksToDeliver d op × ReadsOp op (Err BadOperation)
+IsDue d BadFront =
+    ((op : Data) × AsksToDeliver d op × ReadsOp op (Err BadFront)) ⊎ ((front : List (List ℕ × ℕ)) × AsksForOperations d front × (is_ascending front ≡ false))
+IsDue d NoMemory = ⊤
+IsDue d _ = ⊥
+
+-- what a line is refused for, by the JSON that it is
+abbrev pub IsDueAt : Option Data → Refusal → Type 0
+IsDueAt None NotJson = ⊤
+IsDueAt None NoMemory = ⊤
+IsDueAt None _ = ⊥
+IsDueAt (Some d) cause = IsDue d cause
