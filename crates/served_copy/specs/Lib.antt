@@ -3,3 +3,4 @@ pub mod Restored
 pub mod Totals
 pub mod Served
 pub mod Stored
+pub mod Unwritten

@@ -1,4 +1,7 @@
 //! Why a server ends with status 1.
+ghost use Rattle.std.specs.Prelude.{◌≡◌};
+ghost use Rattle.served_copy.specs.Unwritten.{IsUnwritten};
+
 use copy_rows::LAST_EPOCH;
 use json_scalar::Refusal;
 use log_copy::{Fault, LogCopy, words_of};
@@ -66,7 +69,9 @@ impl Failure {
     }
 
     /// Why no new epoch was started.
-    pub(crate) fn of_epoch<S: Alter>(fault: Fault, copy: &LogCopy<S>) -> Failure {
+    pub(crate) fn of_epoch<S: Alter>(fault: Fault, copy: &LogCopy<S>) -> Failure
+        ensures { fault ≡ Fault.Refused → ¬ IsUnwritten result }
+    {
         if fault != Fault::Refused {
             return Failure::of_fault(Step::Epoch, fault, copy);
         }
@@ -94,7 +99,9 @@ impl Failure {
     }
 
     /// Why copying stopped.
-    pub(crate) fn of_copying<S: Alter>(fault: Fault, copy: &LogCopy<S>) -> Failure {
+    pub(crate) fn of_copying<S: Alter>(fault: Fault, copy: &LogCopy<S>) -> Failure
+        ensures { ¬ IsUnwritten result }
+    {
         Failure::Stopped(fault, copy.cause())
     }
 }

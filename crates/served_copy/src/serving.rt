@@ -1,5 +1,5 @@
 //! Serving from a copy.
-ghost use Rattle.std.specs.Prelude.{◌≡◌, ◌⊎◌, ◌≤◌, List, Option, None, false, length, map, IfOk, OnOk, min, vec_len};
+ghost use Rattle.std.specs.Prelude.{◌≡◌, ◌⊎◌, ◌≤◌, List, Option, None, false, length, map, IfOk, IfErr, OnOk, min, vec_len};
 ghost use Rattle.doc_rules.specs.Seats as seats;
 ghost use Rattle.locked_doc.specs.Books.{most_seats};
 ghost use Rattle.doc_ledger.specs.Numbers.{greatest_number};
@@ -10,6 +10,7 @@ ghost use Rattle.served_copy.specs.Named.{replica_name};
 ghost use Rattle.served_copy.specs.Restored.{entries_at};
 ghost use Rattle.served_copy.specs.Served.{KeepsRows, ServesCopied};
 ghost use Rattle.served_copy.specs.Totals.{ServesSessions};
+ghost use Rattle.served_copy.specs.Unwritten.{IsUnwritten};
 
 use crate::failure::{Failure, Step};
 use crate::naming::raise;
@@ -106,6 +107,7 @@ fn serve_copied<
 /// What is due once all is told: the failure of the copying, where that ended before all was copied.
 fn outcome_of<S: Alter>(fault: Option<Fault>, copy: &LogCopy<S>) -> Result<(), Failure>
     ensures copied { OnOk result (fault ≡ None) }
+    ensures written { IfErr result (λ why. ¬ IsUnwritten why) }
 {
     match fault {
         None => Ok(()),
@@ -133,6 +135,7 @@ fn serve_library<
     requires names { library.names.items ≡ map (λ s. s.now) names.now }
     requires begun { M.begun ≡ entries_at copy.old.docs (map (λ s. s.now) names.now) }
     ensures served { OnOk result (ServesSessions copy.old.docs (map (λ s. s.now) names.now) (length connections.items) (W.contents out.old) (W.contents out.new)) }
+    ensures unwritten { IfErr result (λ why. IsUnwritten why → out.new ≡ out.old) }
     ensures copied { OnOk result (AddsBatches (map (λ s. s.now) names.now) copy.old copy.new) }
     ensures works { OnOk result (copy.old.has_failed ≡ false → copy.new.has_failed ≡ false) }
     ensures grown { copy.new.has_failed ≡ false → AddsBatches (map (λ s. s.now) names.now) copy.old copy.new }
@@ -166,6 +169,7 @@ fn serve_stock<
     requires names { stock.names.items ≡ map (λ s. s.now) names.now }
     requires begun { M.begun ≡ entries_at copy.old.docs (map (λ s. s.now) names.now) }
     ensures served { OnOk result (ServesSessions copy.old.docs (map (λ s. s.now) names.now) (length connections.items) (W.contents out.old) (W.contents out.new)) }
+    ensures unwritten { IfErr result (λ why. IsUnwritten why → out.new ≡ out.old) }
     ensures copied { OnOk result (AddsBatches (map (λ s. s.now) names.now) copy.old copy.new) }
     ensures works { OnOk result (copy.old.has_failed ≡ false → copy.new.has_failed ≡ false) }
     ensures grown { copy.new.has_failed ≡ false → AddsBatches (map (λ s. s.now) names.now) copy.old copy.new }
@@ -201,6 +205,7 @@ fn serve_restored<
     requires begun { M.begun ≡ entries_at copy.old.docs (map (λ s. s.now) documents.now) }
     requires few { length documents.now ≤ greatest_number }
     ensures served { OnOk result (ServesSessions copy.old.docs (map (λ s. s.now) documents.now) (length connections.items) (W.contents out.old) (W.contents out.new)) }
+    ensures unwritten { IfErr result (λ why. IsUnwritten why → out.new ≡ out.old) }
     ensures copied { OnOk result (AddsBatches (map (λ s. s.now) documents.now) copy.old copy.new) }
     ensures works { OnOk result (copy.old.has_failed ≡ false → copy.new.has_failed ≡ false) }
     ensures grown { copy.new.has_failed ≡ false → AddsBatches (map (λ s. s.now) documents.now) copy.old copy.new }
@@ -237,6 +242,7 @@ pub(crate) fn serve_raised<
     requires few { length documents.now ≤ greatest_number }
     requires named { replica.now ≡ replica_name name.now copy.old.epoch }
     ensures served { OnOk result (ServesSessions copy.old.docs (map (λ s. s.now) documents.now) (length connections.items) (W.contents out.old) (W.contents out.new)) }
+    ensures unwritten { IfErr result (λ why. IsUnwritten why → out.new ≡ out.old) }
     ensures copied { OnOk result (AddsBatches (map (λ s. s.now) documents.now) copy.old copy.new) }
     ensures works { OnOk result (copy.old.has_failed ≡ false → copy.new.has_failed ≡ false) }
     ensures grown { copy.new.has_failed ≡ false → AddsBatches (map (λ s. s.now) documents.now) copy.old copy.new }
@@ -269,6 +275,7 @@ pub fn serve_from<R: Threads + Wait + Sync + Log + Clock, C: Connect, S: Alter, 
 ) -> Result<(), Failure>
     requires few { length documents.now ≤ greatest_number }
     ensures served { OnOk result (ServesCopied name.now (map (λ s. s.now) documents.now) (length connections.items) copy.old copy.new (W.contents out.old) (W.contents out.new)) }
+    ensures unwritten { IfErr result (λ why. IsUnwritten why → out.new ≡ out.old) }
     // However it ends, no row is lost.
     ensures kept { copy.new.has_failed ≡ false → KeepsRows (map (λ s. s.now) documents.now) copy.old copy.new }
     ensures alone { copy.new.is_alone ≡ copy.old.is_alone }

@@ -1,10 +1,11 @@
 //! A server over a store of two files, from its start to the end of its file.
-ghost use Rattle.std.specs.Prelude.{◌≡◌, ◌≤◌, true, false, length, map, OnOk, OnErr};
+ghost use Rattle.std.specs.Prelude.{◌≡◌, ◌≤◌, true, false, length, map, IfErr, OnOk, OnErr};
 ghost use Rattle.doc_ledger.specs.Numbers.{greatest_number};
 ghost use Rattle.log_copy.specs.Folded.{IsHeld, StillHolds};
 ghost use Rattle.log_copy.specs.Kept.{content};
 ghost use Rattle.served_copy.specs.Named.{replica_name};
 ghost use Rattle.served_copy.specs.Stored.{LeavesStored, ServesFolded, ServesStored};
+ghost use Rattle.served_copy.specs.Unwritten.{IsUnwritten};
 
 use crate::failure::{Failure, Step};
 use crate::naming::raise;
@@ -86,6 +87,7 @@ fn serve_folded<
     requires named { replica.now ≡ replica_name name.now copy.epoch }
     requires works { copy.has_failed ≡ false }
     ensures served { OnOk result.served (ServesFolded S.Store S.Foldable.holds_alone (map (λ s. s.now) documents.now) (length connections.items) copy result.closed result.store (W.contents out.old) (W.contents out.new)) }
+    ensures unwritten { IfErr result.served (λ why. IsUnwritten why → out.new ≡ out.old) }
     ensures left { LeavesStored S.Store S.Foldable.holds_alone (map (λ s. s.now) documents.now) copy result.has_failed result.closed result.store }
 {
     match copy.fold() {
@@ -131,6 +133,7 @@ pub fn serve_stored<
 ) -> Ended<S>
     requires few { length documents.now ≤ greatest_number }
     ensures served { OnOk result.served (ServesStored S.Store S.Foldable.holds_alone name.now (map (λ s. s.now) documents.now) (length connections.items) copy result.closed result.store (W.contents out.old) (W.contents out.new)) }
+    ensures unwritten { IfErr result.served (λ why. IsUnwritten why → out.new ≡ out.old) }
     ensures left { LeavesStored S.Store S.Foldable.holds_alone (map (λ s. s.now) documents.now) copy result.has_failed result.closed result.store }
 {
     let mut copy = copy;
