@@ -1,5 +1,5 @@
 //! A gate that is passed only where sessions at two documents run at the same time.
-use super::samples::{NO_FAULT, run_two};
+use super::samples::{NO_FAULT, run_two, waits_in_vain};
 use crate::told::{holds, is_told};
 use json_scalar::Refusal;
 use server_core::Gate;
@@ -7,7 +7,6 @@ use std::alloc::Global;
 use std::process::Abort;
 use std::sync::Wait;
 use std::sync::atomic::{AtomicU64, Ordering};
-use std::thread;
 use std::thread::Threads;
 
 /// Holds session 2 back before its first line until session 1 is inside, and session 1 inside until session 2 comes to its second line.
@@ -18,20 +17,9 @@ struct Meeting {
     missed: AtomicU64,
 }
 
-/// Waits for 1,000,000 turns at most, and says whether it was in vain.
-fn waits_in_vain(flag: &AtomicU64) -> bool {
-    for _ in 0..1_000_000u32 {
-        if flag.load(Ordering::SeqCst) == 1 {
-            return false;
-        }
-        thread::yield_now();
-    }
-    true
-}
-
 impl Meeting {
     fn meet(&self, flag: &AtomicU64) {
-        if waits_in_vain(flag) {
+        if waits_in_vain(flag, 1) {
             self.missed.store(1, Ordering::SeqCst);
         }
     }

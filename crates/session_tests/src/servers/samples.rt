@@ -10,12 +10,14 @@ use lamport_id::ReplicaName;
 use line_proto::Name;
 use locked_doc::{Shelf, Totals};
 use server_core::doubles::Script;
-use server_core::{Gate, Gathered, Idle, Library, OpenGate, Signal, run_sessions};
+use server_core::{Gate, Gathered, Idle, Library, OpenGate, Side, Signal, run_sessions};
 use share_ledger::{Blank, Marker};
 use std::alloc::Global;
 use std::marker::Brand;
 use std::process::Abort;
+use std::sync::atomic::{AtomicU64, Ordering};
 use std::sync::{Mutex, Wait};
+use std::thread;
 use std::thread::Threads;
 
 /// A session of three changes of `a`.
@@ -86,7 +88,30 @@ pub fn library_of<M: Marker>(
     })
 }
 
-/// What the sessions of these connections did at new documents, of so many seats each.
+/// What the sessions of these connections did at new documents, of so many seats each, and what the side that ran beside them became.
+pub fn serve_beside<M: Marker + Send + Sync, R: Threads + Wait + Sync, G: Gate + Sync, S: Side<M>>(
+    rt: &R,
+    alloc: Global,
+    blank: Blank,
+    documents: &[&str],
+    seats: u16,
+    scripts: Vec<Script<'_, R>>,
+    gate: &G,
+    side: S,
+) -> Result<(Gathered, S), Refusal>
+    requires blank { blank ≡ M.name }
+    requires begun { BeginEmpty M.begun }
+    requires few { length documents.now ≤ greatest_number }
+{
+    let library = library_of::<M>(alloc, blank, documents, seats)?;
+    let (gathered, side) = run_sessions(rt, alloc, library, scripts, gate, side);
+    match gathered {
+        Ok(gathered) => Ok((gathered, side)),
+        Err(ungathered) => Err(ungathered.refusal),
+    }
+}
+
+/// The same with no side.
 fn serve<M: Marker + Send + Sync, R: Threads + Wait + Sync, G: Gate + Sync>(
     rt: &R,
     alloc: Global,
@@ -100,11 +125,8 @@ fn serve<M: Marker + Send + Sync, R: Threads + Wait + Sync, G: Gate + Sync>(
     requires begun { BeginEmpty M.begun }
     requires few { length documents.now ≤ greatest_number }
 {
-    let library = library_of::<M>(alloc, blank, documents, seats)?;
-    match run_sessions(rt, alloc, library, scripts, gate, Idle).0 {
-        Ok(gathered) => Ok(gathered),
-        Err(ungathered) => Err(ungathered.refusal),
-    }
+    let ran = serve_beside::<M, _, _, _>(rt, alloc, blank, documents, seats, scripts, gate, Idle)?;
+    Ok(ran.0)
 }
 
 /// The same, over a table of its own.
@@ -188,6 +210,17 @@ pub fn first_did<R: Abort>(rt: &R, case: &str, gathered: &Gathered, all: u64, sh
         _ => false,
     };
     holds(rt, is, case);
+}
+
+/// Waits for 1,000,000 turns at most until the count has come so far, and says whether it was in vain.
+pub fn waits_in_vain(count: &AtomicU64, due: u64) -> bool {
+    for _ in 0..1_000_000u32 {
+        if count.load(Ordering::SeqCst) >= due {
+            return false;
+        }
+        thread::yield_now();
+    }
+    true
 }
 
 /// Whether so many operations were done at a document, and these by each of its seats.

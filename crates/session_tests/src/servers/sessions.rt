@@ -2,11 +2,11 @@
 ghost use Rattle.std.specs.Prelude.{◌≡◌};
 ghost use Rattle.share_ledger.specs.Begun.{BeginEmpty};
 
-use super::samples::{NO_FAULT, THREE, TWO, first_did, library_of, run_two, serve_all};
+use super::samples::{NO_FAULT, THREE, TWO, first_did, run_two, serve_all, serve_beside};
 use crate::told::holds;
 use json_scalar::Refusal;
 use server_core::doubles::Script;
-use server_core::{Gathered, Library, OpenGate, Side, Signalled, run_sessions};
+use server_core::{Gathered, Library, OpenGate, Side, Signalled};
 use share_ledger::{Blank, Marker};
 use std::alloc::{AllocError, Global};
 use std::marker::Brand;
@@ -132,11 +132,17 @@ impl<M: Marker> Side<M> for Watching {
         }
         self.sessions = sessions;
         self.ended = seen.ended;
-        if library.shelf.len() > 0 {
-            let doc = library.shelf.doc(0).lock(rt);
-            self.logged = doc.tail(0, 1000).ok().map(|ops| ops.as_slice().len());
-        }
+        self.logged = logged_first(rt, library);
     }
+}
+
+/// How much is logged at the first document, of which at most 1,000 operations are looked at.
+pub fn logged_first<M: Marker, R: Wait>(rt: &R, library: &Library<M>) -> Option<usize> {
+    if library.shelf.len() == 0 {
+        return None;
+    }
+    let doc = library.shelf.doc(0).lock(rt);
+    doc.tail(0, 1000).ok().map(|ops| ops.as_slice().len())
 }
 
 /// What they did, and the side, which is given back.
@@ -153,14 +159,10 @@ fn watched<M: Marker + Send + Sync, R: Threads + Wait + Sync>(
         ended: 0,
         logged: None,
     };
-    let library = library_of::<M>(alloc, blank, &["a", "b"], 64)?;
+    let documents = &["a", "b"];
     let replies = Mutex::new(Vec::new(alloc));
     let scripts = many(rt, alloc, &replies)?;
-    let (gathered, side) = run_sessions(rt, alloc, library, scripts, &OpenGate, begins);
-    match gathered {
-        Ok(gathered) => Ok((gathered, side)),
-        Err(ungathered) => Err(ungathered.refusal),
-    }
+    serve_beside::<M, _, _, _>(rt, alloc, blank, documents, 64, scripts, &OpenGate, begins)
 }
 
 /// The side sees that all have ended, and what they did.
