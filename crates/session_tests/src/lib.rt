@@ -7,4 +7,6 @@ mod runs;
 #[cfg(test)]
 mod servers;
 #[cfg(test)]
+mod texts;
+#[cfg(test)]
 mod told;

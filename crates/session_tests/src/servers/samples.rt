@@ -143,7 +143,22 @@ pub fn serve_all<R: Threads + Wait + Sync, G: Gate + Sync>(
     serve::<Brand, R, G>(rt, alloc, Blank::new(), documents, seats, scripts, gate)
 }
 
-/// What the one session of a server of these documents is told.
+/// What the one session of a server of these documents did, and what it was told.
+pub fn run_alone<R: Threads + Wait + Sync>(
+    rt: &R,
+    alloc: Global,
+    documents: &[&str],
+    input: &[u8],
+) -> Result<(Gathered, Vec<u8>), Refusal>
+    requires { length documents.now ≤ greatest_number }
+{
+    let replies = Mutex::new(Vec::new(alloc));
+    let scripts = vec![in alloc; Script::new(rt, input, &replies)]?;
+    let gathered = serve_all(rt, alloc, documents, 1, scripts, &OpenGate)?;
+    Ok((gathered, replies.into_inner()))
+}
+
+/// What it was told.
 pub fn told_alone<R: Threads + Wait + Sync>(
     rt: &R,
     alloc: Global,
@@ -152,10 +167,7 @@ pub fn told_alone<R: Threads + Wait + Sync>(
 ) -> Result<Vec<u8>, Refusal>
     requires { length documents.now ≤ greatest_number }
 {
-    let replies = Mutex::new(Vec::new(alloc));
-    let scripts = vec![in alloc; Script::new(rt, input, &replies)]?;
-    serve_all(rt, alloc, documents, 1, scripts, &OpenGate)?;
-    Ok(replies.into_inner())
+    Ok(run_alone(rt, alloc, documents, input)?.1)
 }
 
 /// What two sessions at new documents `a` and `b` did, and what each was told.
@@ -224,6 +236,6 @@ pub fn waits_in_vain(count: &AtomicU64, due: u64) -> bool {
 }
 
 /// Whether so many operations were done at a document, and these by each of its seats.
-fn did(totals: &Totals, all: u64, shares: &[u64]) -> bool {
+pub fn did(totals: &Totals, all: u64, shares: &[u64]) -> bool {
     totals.accepted == all && totals.logged == all && totals.by_seat.as_slice() == shares
 }
