@@ -1,4 +1,4 @@
-//! The shopping list by devices that take pieces, and cut after each byte.
+//! The shopping list by devices that take pieces, and that fail or end after each byte.
 ghost use Rattle.std.specs.Prelude.{◌<◌};
 
 use super::{Run, run_of, writes};
@@ -45,11 +45,16 @@ fn first_lines(text: &[u8], count: usize) -> &[u8] {
     text
 }
 
+/// How many lines of a text have ended.
+fn lines_ended(text: &[u8]) -> usize {
+    text.iter().filter(|byte| **byte == b'\n').count()
+}
+
 /// What the shopping list's input gives where it ends after so many bytes: each whole line has its reply, with its newline or
 /// without, and a line that was cut is no JSON.
 fn shopped_after(alloc: Global, after: usize) -> Result<Vec<u8>, AllocError> {
     let read = front(SHOPPING, after);
-    let ended = read.iter().filter(|byte| **byte == b'\n').count();
+    let ended = lines_ended(read);
     let is_between = matches!(read.last(), None | Some(b'\n'));
     let is_whole = SHOPPING.get(after) == Some(&b'\n');
     let (replies, refusal): (usize, &[u8]) = if is_between {
@@ -77,6 +82,23 @@ fn output_cut_after<R: Abort>(rt: &R, alloc: Global, after: usize) {
     };
     let name = "cut_after_every_byte";
     writes(rt, alloc, name, run, 1, front(SHOPPED, after));
+}
+
+/// The source fails after so many bytes: the lines that had ended by then have their replies, and no more.
+fn read_fault_after<R: Abort>(rt: &R, alloc: Global, after: usize) {
+    let run = Run {
+        read_after: after,
+        ..run_of(SHOPPING)
+    };
+    let due = first_lines(SHOPPED, lines_ended(front(SHOPPING, after)));
+    writes(rt, alloc, "read_fault_after_every_byte", run, 1, due);
+}
+
+#[test]
+fn read_fault_after_every_byte(rt: HostRuntime) {
+    for after in 0..=SHOPPING.len() {
+        read_fault_after(&rt, rt.alloc(), after);
+    }
 }
 
 #[test]
