@@ -1,7 +1,7 @@
 //! One allocation is refused, whichever it is. A call that meets it leaves all as it was, and made again it does what it does with
 //! ample memory. Held operations may be dropped instead.
 //!
-//! `rt test` refuses none. `bench/each-allocation replica_tests TEST..` runs a test of this file once for each of its allocations,
+//! `rt test` refuses none. `tests/each-allocation replica_tests TEST..` runs a test of this file once for each of its allocations,
 //! with that one refused. `rt try --test --fail-alloc N` refuses the Nth of each test, for one N a run, and the tests of the other
 //! files fail under it, since they expect ample memory.
 ghost use Rattle.std.specs.Prelude.{◌≡◌, ◌≤◌, ℕ, IfOk};
