@@ -1,5 +1,5 @@
 //! Serving over TCP, from a file.
-ghost use Rattle.std.specs.Prelude.{◌≡◌, ◌≢◌, ◌⊎◌, ◌≤◌, length, map, false, OnErr};
+ghost use Rattle.std.specs.Prelude.{◌≡◌, ◌≢◌, ◌⊎◌, ◌≤◌, length, map, false, IfErr, OnErr};
 ghost use Rattle.clap.specs.Words.{found_of, rows_of};
 ghost use Rattle.doc_ledger.specs.Numbers.{greatest_number};
 ghost use Rattle.commands.specs.CommandLine.{AsksToServe, IsServer, NamesServer, WantedServer, is_serve};
@@ -156,6 +156,7 @@ fn serve_opened<
     requires few { length documents.now ≤ greatest_number }
     ensures status { result ≤ 1 }
     ensures served { result ≡ 0 → ServesAt name.now (map (λ s. s.now) documents.now) sessions (W.contents out.old) (W.contents out.new) }
+    ensures untold { IfErr opened (λ fault. (fault ≡ Fault.Refused) ⊎ (out.new ≡ out.old)) }
 {
     match opened {
         Ok(copy) => serve_at(rt, alloc, name, documents, address, sessions, copy, out),
