@@ -139,10 +139,10 @@ fn log_again(alloc: Global) -> Result<Vec<Operation>, Refusal> {
     }
 }
 
-// `bench/each-allocation copy_tests tests::stops::one_allocation_refused` runs it once for each of its allocations, with that one
-// refused: in the steps, or in what has to pass after them, which then passes at the second try.
+// `tests/each-allocation served_tests tests::copies::stops::batches_with_memory_wanting` runs it once for each of its allocations,
+// with that one refused: in the steps, or in what has to pass after them, which then passes at the second try.
 #[test]
-fn one_allocation_refused(rt: HostRuntime) -> Result<(), Fail> {
+fn batches_with_memory_wanting(rt: HostRuntime) -> Result<(), Fail> {
     let log = log_again(rt.alloc())?;
     let both = (u64::MAX, u64::MAX);
     let taken = steps_taken(rt.alloc(), log.as_slice(), &STOPS[0], both, 2);
