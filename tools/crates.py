@@ -95,17 +95,28 @@ def source_sum(top=TOP):
     return subprocess.run([f"{TOP}/tools/source-sum", top], stdout=subprocess.PIPE, text=True, check=True).stdout.strip()
 
 
+def opened_anew(path):
+    """A new file of this name, to be written: other clones may have a link to the old one, which stays as it is."""
+    with contextlib.suppress(FileNotFoundError):
+        os.remove(path)
+    return open(path, "wb")
+
+
 def note_program(summed):
     """Notes beside the program the sum of the sources that it was built from, for ./jcrdt."""
-    with open(f"{TOP}/crates/{PROGRAM}/out/{PROGRAM}.sources", "w", encoding="utf-8") as it:
-        it.write(f"{summed}\n")
+    noted = f"{TOP}/crates/{PROGRAM}/out/{PROGRAM}.sources"
+    with opened_anew(noted) as it:
+        it.write(f"{summed}\n".encode())
 
 
 @contextlib.contextmanager
 def one_at_a_time():
     """Waits until no other build works in this checkout, and keeps others out."""
-    os.makedirs(f"{TOP}/crates/{PROGRAM}/out", exist_ok=True)
-    with open(f"{TOP}/crates/{PROGRAM}/out/build.lock", "w", encoding="utf-8") as lock:
+    out = f"{TOP}/crates/{PROGRAM}/out"
+    os.makedirs(out, exist_ok=True)
+    # The folder is the lock, and no file in it: clones may share the files of their folders out/ by links.
+    lock = os.open(out, os.O_RDONLY)
+    try:
         try:
             fcntl.flock(lock, fcntl.LOCK_EX | fcntl.LOCK_NB)
         except BlockingIOError:
@@ -113,6 +124,8 @@ def one_at_a_time():
             fcntl.flock(lock, fcntl.LOCK_EX)
         remove_copies()
         yield
+    finally:
+        os.close(lock)
 
 
 def copies():
@@ -229,7 +242,7 @@ class Proofs:
         # What isn't on the longest chain runs behind what is. A group of its own, so that Ctrl-C reaches this command alone, and
         # no session of its own: Linux shares processors out among sessions before it looks at priorities.
         words = ["nice", *words] if jobs == 1 else words
-        with open(f"{out}/build.log", "wb") as log:
+        with opened_anew(f"{out}/build.log") as log:
             how = {"stdin": subprocess.DEVNULL, "stdout": log, "stderr": log, "preexec_fn": os.setpgrp}
             with self.changed:
                 if self.is_stopped:
