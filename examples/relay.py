@@ -24,7 +24,7 @@ import signal
 import sys
 
 from jcrdt_client import encoded, Refused
-from relay_link import covers, host_and_port, link_to, Log, pull
+from relay_link import covers, host_and_port, link_to, Listener, Log, pull
 
 # How much is delivered before the replies are awaited, in bytes.
 CHUNK = 1 << 20
@@ -66,22 +66,15 @@ def tell_refused(place, operation_id, cause):
     tell(f"{place.server}: {place.log.name}: refused {counter} of {replica}: {advice(cause)}")
 
 
-class Place:
+class Place(Listener):
     """How far one server is at one document."""
 
     def __init__(self, server, link, log, has, tell_refused=None):
-        self.server, self.link, self.log, self.has = server, link, log, has
+        super().__init__(log, has)
+        self.server, self.link = server, link
         self.tell_refused = tell_refused
         # How many of the log's operations were looked at; what was refused, by kind and by replica.
         self.at, self.refused, self.stopped, self.again = 0, {}, {}, False
-        self.news = asyncio.Event()
-        log.listeners.add(self.news)
-
-    def close(self):
-        self.log.listeners.discard(self.news)
-
-    def agrees(self):
-        return self.has == self.log.front
 
     async def pull(self):
         await pull(self.link, self.log, self.has)

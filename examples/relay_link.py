@@ -169,6 +169,21 @@ async def page_beyond(link, log, has):
     return page
 
 
+class Listener:
+    """What a Log is delivered to: `has` is its front, and `news` is set when the log has more."""
+
+    def __init__(self, log, has):
+        self.log, self.has = log, has
+        self.news = asyncio.Event()
+        log.listeners.add(self.news)
+
+    def close(self):
+        self.log.listeners.discard(self.news)
+
+    def agrees(self):
+        return self.has == self.log.front
+
+
 class Chain:
     """The operations of one replica, while they are pulled. Each front names the one before it."""
 

@@ -13,7 +13,7 @@ import json
 import redis.asyncio
 import redis.exceptions
 
-from relay_link import covers, host_and_port, SILENCE
+from relay_link import covers, host_and_port, Listener, SILENCE
 
 # How many entries are read or added at once, and how many milliseconds a reading waits for more.
 PAGE = 1000
@@ -32,22 +32,15 @@ def operation_in(fields):
         return None
 
 
-class Place:
+class Place(Listener):
     """How far the stream of one document is."""
 
     def __init__(self, server, log, client):
-        self.server, self.log, self.client, self.key = server, log, client, f"jcrdt:{log.name}"
+        super().__init__(log, {})
+        self.server, self.client, self.key = server, client, f"jcrdt:{log.name}"
         # It is no session of a server.
         self.link = None
-        self.last, self.has, self.at, self.early, self.refused = "0-0", {}, 0, [], {}
-        self.news = asyncio.Event()
-        log.listeners.add(self.news)
-
-    def close(self):
-        self.log.listeners.discard(self.news)
-
-    def agrees(self):
-        return self.has == self.log.front
+        self.last, self.at, self.early, self.refused = "0-0", 0, [], {}
 
     async def pull(self, wait=None):
         """Reads to the end of the stream; with a wait also what comes within so many milliseconds."""
