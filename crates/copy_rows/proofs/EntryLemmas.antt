@@ -12,7 +12,8 @@ use Rattle.sqlite.specs.declared.types.Value.TheVariants.{Null}
 use Rattle.sqlite.proofs.Callers.{IsPlain, EndsIn, command_of, reads_as, begins_shown, unchanged_then, never_commits}
 use Rattle.copy_schema.specs.Tables.{copy_schema}
 use Rattle.copy_schema.proofs.TextLemmas.{read_entries_text, read_entries_query, read_entries_is}
-use Rattle.copy_schema.specs.Content.{entry_tree, entry_columns, row_cmp}
+use Rattle.copy_schema.specs.Content.{entry_tree, entry_columns}
+use Rattle.copy_rows.proofs.SortLemmas.{row_cmp}
 use Rattle.copy_tables.proofs.ReadLemmas.{answers_whole, sorted_whole, shown_unchanged}
 
 -- what a whole answer of the entries holds

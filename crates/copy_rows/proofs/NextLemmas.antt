@@ -1,5 +1,5 @@
 -- The rows of good documents, in order, are next one after another.
-use Rattle.std.proofs.Common.{◌≡◌, ◌≢◌, ◌+◌, ◌<◌, ◌^◌, ℕ, zero, suc, drop, get_or, Result, Ok, Err, IfErr, List, [], ◌∷◌, ◌++◌, length, map, true, false, Contains, refl, sym, ap, subst, ◌∙◌, append-nil, append_assoc, arith, length-append, Ordering, Less, Equal, Greater}
+use Rattle.std.proofs.Common.{◌≡◌, ◌≢◌, ◌+◌, ◌<◌, ◌^◌, ℕ, zero, suc, drop, get_or, Result, Ok, Err, IfErr, List, [], ◌∷◌, ◌++◌, length, map, true, false, ⊤, Contains, refl, sym, ap, subst, ◌∙◌, append-nil, append_assoc, arith, length-append, Ordering, Less, Equal, Greater}
 use Rattle.std.specs.List.{AllByRecursion, list_any}
 use Rattle.std.specs.Ordering.{is_lt}
 use Rattle.std.specs.Str.{bytes_eq}
@@ -20,7 +20,13 @@ use Rattle.copy_docs.specs.declared.fault.Fault.{Fault}
 use Rattle.copy_docs.specs.declared.fault.Fault.TheVariants.{Refused, Store, Memory}
 use Rattle.copy_rows.proofs.RowLemmas.{few_rows}
 use Rattle.copy_rows.specs.Rows.{rows_of}
-use Rattle.copy_rows.specs.Accepted.{IsWritable, AreWritable, IsNext, AreNext}
+use Rattle.copy_rows.specs.Accepted.{IsWritable, AreWritable, IsNext}
+
+-- the rows are next one after another
+abbrev pub AreNext : ℕ → List Doc → List Row → Type 0
+AreNext format old [] = ⊤
+AreNext format old (row ∷ rows) = (name : List ℕ) × (op : Op) × IsNext format old row name op
+    × AreNext format (add_log name (op ∷ []) old) rows
 
 abbrev IsBefore : List ℕ → Doc → Type 0
 IsBefore name d = name_cmp d.name name ≡ Less

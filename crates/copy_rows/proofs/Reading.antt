@@ -17,10 +17,10 @@ use Rattle.copy_tables.specs.Steps.{StaysOutside}
 use Rattle.copy_rows.proofs.EntryLemmas.{first_entries, reads_entries_only}
 use Rattle.op_core.specs.Op.{Op}
 use Rattle.copy_docs.specs.Docs.{Doc, add_log}
-use Rattle.copy_rows.specs.Accepted.{IsNext, AreNext, IsSoundContent}
+use Rattle.copy_rows.specs.Accepted.{IsNext, IsSoundContent}
 use Rattle.copy_rows.specs.Parsed.{HoldsRows, AddsRow}
 use Rattle.copy_rows.specs.Rows.{rows_of}
-use Rattle.copy_rows.proofs.NextLemmas.{all_next}
+use Rattle.copy_rows.proofs.NextLemmas.{AreNext, all_next}
 use Rattle.copy_rows.proofs.SortLemmas.{entries_are}
 
 -- the query commits nothing

@@ -8,6 +8,9 @@ use Rattle.std.proofs.lemmas.List.Sorted.{IsPermutation-trans}
 use Rattle.sqlite.specs.Order.{Row}
 use Rattle.sqlite.specs.Tree.{Trees}
 use Rattle.sqlite.specs.declared.types.Value.TheVariants.{Text}
+use Rattle.std.specs.declared.cmp.Ordering.{Ordering}
+use Rattle.sqlite_sql.specs.Query.{key_cmp}
+use Rattle.sqlite_value.specs.declared.keys.Key.{Key}
 use Rattle.sqlite_value.specs.declared.keys.Collation.TheVariants.{Binary}
 use Rattle.sqlite_value.proofs.OrderLemmas.{value_cmp-Int, value_cmp-Text, value_cmp_total}
 use Rattle.sqlite_trees.specs.Tree.{IsAscending}
@@ -16,9 +19,16 @@ use Rattle.sqlite_keyed.proofs.SortLemmas.{sorted_unique}
 use Rattle.sqlite_sql.proofs.QueryLemmas.{key_cmp_total}
 use Rattle.lamport_id.specs.Order.{name_cmp}
 use Rattle.list_laws.proofs.Members.{Contains-here, Contains-there}
-use Rattle.copy_schema.specs.Content.{Content, Holds, meta_row, entry_row, rows_from, meta_columns, entry_columns, meta_tree, entry_tree, meta_cmp, row_cmp, rising}
+use Rattle.copy_schema.specs.Content.{Content, Holds, meta_row, entry_row, rows_from, meta_columns, entry_columns, meta_tree, entry_tree, meta_cmp}
 use Rattle.copy_docs.specs.Docs.{Doc, AreInOrder, op_text}
 use Rattle.copy_rows.specs.Rows.{doc_rows, rows_of}
+
+abbrev pub rising : Key
+rising = record { collation = Binary; descending = false }
+
+-- the order of the rows of `entry`: by document, then by place
+abbrev pub row_cmp : Row → Row → Ordering
+row_cmp = key_cmp 0 (rising ∷ rising ∷ [])
 
 abbrev IsLess : Row → Row → Type 0
 IsLess a b = row_cmp a b ≡ Less

@@ -1,5 +1,5 @@
 -- What the tables of a sound copy hold, whatever program wrote them.
-use Rattle.std.specs.Prelude.{◌≡◌, ◌⊎◌, ◌+◌, ◌≤◌, ℕ, List, [], ◌∷◌, ◌++◌, length, true, false, ⊤, IsUtf8}
+use Rattle.std.specs.Prelude.{◌≡◌, ◌⊎◌, ◌+◌, ◌≤◌, ℕ, List, [], ◌∷◌, ◌++◌, length, true, false, IsUtf8}
 use Rattle.std.specs.List.{AllByRecursion}
 use Rattle.sqlite.specs.Order.{Row}
 use Rattle.lamport_id.specs.Name.{is_name}
@@ -7,7 +7,7 @@ use Rattle.op_core.specs.Op.{Op}
 use Rattle.crdt_rules.specs.Effect.{is_add}
 use Rattle.crdt_rules.specs.Log.{IsGood}
 use Rattle.copy_schema.specs.Content.{Content, entry_row}
-use Rattle.copy_docs.specs.Docs.{Doc, AreInOrder, AreGood, op_text, log_of, add_log}
+use Rattle.copy_docs.specs.Docs.{Doc, AreInOrder, AreGood, op_text, log_of}
 use Rattle.copy_rows.specs.Rows.{rows_of}
 use Rattle.copy_rows.specs.declared.parse.TheConstants.{LAST_EPOCH}
 
@@ -36,7 +36,3 @@ pub record IsNext (format : ℕ) (old : List Doc) (row : Row) (name : List ℕ) 
   pub named : is_name name ≡ true
   pub good : IsGood (log_of name old ++ op ∷ [])
   pub writable : IsWritable format op
-
-abbrev pub AreNext : ℕ → List Doc → List Row → Type 0
-AreNext format old [] = ⊤
-AreNext format old (row ∷ rows) = (name : List ℕ) × (op : Op) × IsNext format old row name op × AreNext format (add_log name (op ∷ []) old) rows

@@ -2,7 +2,7 @@
 #![tactic(auto)]
 
 mod parse;
-mod read;
+mod load;
 
 pub use parse::{FORMAT, LAST_EPOCH, Meta, OLD_FORMAT, meta_in};
 pub use read::read_docs;

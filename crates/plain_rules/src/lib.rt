@@ -5,7 +5,7 @@
 mod context;
 mod copy;
 mod order;
-mod read;
+mod query;
 mod replay;
 
 pub use context::{PlainContext, plain_step};
