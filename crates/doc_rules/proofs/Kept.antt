@@ -12,8 +12,8 @@ use Rattle.crdt_rules.specs.Fits.{Fits}
 use Rattle.crdt_rules.proofs.SameLaws.{id_decides, eq_from}
 use Rattle.crdt_rules.proofs.Tests.{any_none}
 use Rattle.doc_rules.specs.Cause.{cause_of}
-use Rattle.doc_rules.specs.Events.{Due, told, held, logged, Settles, due_by_cause, has_id_of, changed_rows, due_placed, delivered_rows, due_delivered, Forgets, Does, Event, IsWellMade}
-use Rattle.doc_rules.specs.Replica.{Replica, replica_facts, find_id, hold, let_go, own_op, IsKept}
+use Rattle.doc_rules.specs.Events.{Expected, replied, held, logged, Settles, expected_by_cause, has_id_of, changed_rows, expected_at_place, delivered_rows, expected_of_delivery, Forgets, Does, Event, IsWellMade}
+use Rattle.doc_rules.specs.Replica.{Replica, replica_facts, find_id, hold, without_held, own_op, IsKept}
 use Rattle.doc_rules.specs.Resolve.{Resolves}
 use Rattle.doc_words.specs.declared.place.Place.{Place}
 use Rattle.doc_words.specs.declared.ask.Command.{Command}
@@ -24,7 +24,7 @@ use Rattle.list_laws.proofs.Filters.{filter-Contains}
 use Rattle.doc_rules.proofs.Held.{find_none, put_among_from, length-put_among, rising-put_among}
 use Rattle.doc_rules.proofs.OwnFits.{unopposed_fits}
 use Rattle.doc_rules.proofs.Tables.{by_rows}
-use Rattle.doc_rules.proofs.Drained.{tidy_from, kept_from, append_tidy, let_go_tidy, drain_keeps}
+use Rattle.doc_rules.proofs.Drained.{tidy_from, kept_from, append_tidy, without_held_tidy, drain_keeps}
 
 -- an operation that may be held
 pub record MayHold (r : Replica) (op : Op) : Type 0 where
@@ -38,8 +38,8 @@ pub record MayLog (r : Replica) (op : Op) : Type 0 where
   pub fits : Fits op r.log
   pub unheld : (o : Op) → Contains r.held o → op.id ≢ o.id
 
-abbrev IsSafe : Replica → Due → Type 0
-IsSafe r (told reply) = Unit {0}
+abbrev IsSafe : Replica → Expected → Type 0
+IsSafe r (replied reply) = Unit {0}
 IsSafe r (held op) = MayHold r op
 IsSafe r (logged op) = MayLog r op
 
@@ -55,15 +55,15 @@ hold_keeps {r} op k h =
     })
     (λ o c. elim (put_among_from op r.held c) [ inl is ↦ subst (λ z. is_ready z r.log ≡ false) is h.waits | inr old ↦ k.waits o old ])
 
-settles_keeps : {r s : Replica} (reply : Reply) (due : Due) → IsKept r → IsSafe r due → Settles r due reply s → IsKept s
-settles_keeps reply (told answer) k safe h = subst IsKept (sym h.1) k
+settles_keeps : {r s : Replica} (reply : Reply) (due : Expected) → IsKept r → IsSafe r due → Settles r due reply s → IsKept s
+settles_keeps reply (replied answer) k safe h = subst IsKept (sym h.1) k
 settles_keeps reply (held op) k safe h = subst IsKept (sym h.1) (hold_keeps op k safe)
 settles_keeps reply (logged op) k safe h = drain_keeps h.drains (append_tidy op (tidy_from k) safe.fits safe.unheld)
 
 -- ---- operations handed in
 
 by_cause_safe : (r : Replica) (op : Op) (cause : Result ⊤ Refusal) → cause_of op r.log ≡ cause → is_shaped op ≡ true
-    → ((o : Op) → Contains r.held o → op.id ≢ o.id) → IsSafe r (due_by_cause cause op)
+    → ((o : Op) → Contains r.held o → op.id ≢ o.id) → IsSafe r (expected_by_cause cause op)
 by_cause_safe r op (Ok tt) e shaped unheld = record { fits = fits_from op r.log shaped e; unheld = unheld }
 by_cause_safe r op (Err cause) e shaped unheld = tt
 
@@ -95,9 +95,9 @@ may_hold r op unlogged unheld foreign waits room = record {
   room = has_room (is_ready op r.log) (length r.held) waits room;
 }
 
-delivered_safe : (r : Replica) (op : Op) → is_shaped op ≡ true → IsSafe r (due_delivered r op)
+delivered_safe : (r : Replica) (op : Op) → is_shaped op ≡ true → IsSafe r (expected_of_delivery r op)
 delivered_safe r op shaped =
-    by_rows (IsSafe r) (delivered_rows r op) (due_by_cause (cause_of op r.log) op) (
+    by_rows (IsSafe r) (delivered_rows r op) (expected_by_cause (cause_of op r.log) op) (
       (λ is. tt),
       λ other. (
         (λ is. tt),
@@ -124,15 +124,15 @@ delivered_safe r op shaped =
 forgets_keeps : (r s : Replica) (i : Id) (found : Option Op) (reply : Reply) → IsKept r → Forgets r i found reply s → IsKept s
 forgets_keeps r s i None reply k h = subst IsKept (sym h.1) k
 forgets_keeps r s i (Some o) reply k h =
-    subst IsKept (sym h.1) (kept_from (let_go_tidy i (tidy_from k)) (λ o c. k.waits o (held_before o c)))
+    subst IsKept (sym h.1) (kept_from (without_held_tidy i (tidy_from k)) (λ o c. k.waits o (held_before o c)))
   where
-    held_before : (o : Op) → Contains (let_go i r).held o → Contains r.held o
+    held_before : (o : Op) → Contains (without_held i r).held o → Contains r.held o
     held_before o c = (filter-Contains (λ o. not (id_eq o.id i)) r.held c).0
 
 -- ---- changes of one's own
 
 placed_safe : (r : Replica) (place : Place) (m : Mutation) (c : Result Cursor Refusal) → is_name r.name ≡ true → is_mutation m ≡ true → IsKept r
-    → Resolves (replica_facts r) place.start place.steps c → IsSafe r (due_placed r c m)
+    → Resolves (replica_facts r) place.start place.steps c → IsSafe r (expected_at_place r c m)
 placed_safe r place m (Err cause) named value k resolves = tt
 placed_safe r place m (Ok c) named value k resolves =
     by_rows (IsSafe r) (changed_rows r c m) (logged (own_op r c m)) (
@@ -157,8 +157,8 @@ placed_safe r place m (Ok c) named value k resolves =
 
 does_keeps : (r s : Replica) (command : Command) (reply : Reply) → is_name r.name ≡ true → IsWellMade command → IsKept r → Does r command reply s → IsKept s
 does_keeps r s (Change place m) reply named value k h =
-    settles_keeps reply (due_placed r h.0 m) k (placed_safe r place m h.0 named value k h.1) h.2
-does_keeps r s (Deliver op) reply named shaped k h = settles_keeps reply (due_delivered r op) k (delivered_safe r op shaped) h
+    settles_keeps reply (expected_at_place r h.0 m) k (placed_safe r place m h.0 named value k h.1) h.2
+does_keeps r s (Deliver op) reply named shaped k h = settles_keeps reply (expected_of_delivery r op) k (delivered_safe r op shaped) h
 does_keeps r s (Forget i) reply named made k h = forgets_keeps r s i (find_id r.held i) reply k h
 
 pub event_keeps : (r s : Replica) (command : Command) (reply : Reply) → is_name r.name ≡ true → IsWellMade command → IsKept r → Event r command reply s → IsKept s

@@ -15,21 +15,21 @@ use Rattle.doc_rules.specs.Replica.{Replica, replica_facts}
 use Rattle.doc_rules.specs.Resolve.{Resolves}
 pub use Rattle.doc_rules.specs.Role.{AreOf}
 use Rattle.doc_rules.specs.Role.{value_put_at, value_in, values_in, roles_of}
-use Rattle.doc_rules.proofs.Roles.{values_told}
+use Rattle.doc_rules.proofs.Roles.{roles_give_values}
 use Rattle.doc_rules.proofs.SameValues.{looks_same}
 
-pub looks_tell : (log : List Op) (f : Facts) (roles : List Tagged → Key → Id → Option Role) → IsGood log → AreOf log f roles → (l : Look) (c : Cursor) (answer : Reply)
+pub looks_agree : (log : List Op) (f : Facts) (roles : List Tagged → Key → Id → Option Role) → IsGood log → AreOf log f roles → (l : Look) (c : Cursor) (answer : Reply)
     → LooksHere f (values_in f roles) l c answer → LooksHere (facts (replay log)) (value_put_at log) l c answer
-looks_tell log f roles good are l c answer = subst IsTold (sym are.facts_are) told are.roles_are
+looks_agree log f roles good are l c answer = subst IsGiven (sym are.facts_are) told are.roles_are
   where
-    IsTold : Facts → Type 0
-    IsTold g =
+    IsGiven : Facts → Type 0
+    IsGiven g =
         ((p : List Tagged) (k : Key) (i : Id) → roles p k i ≡ roles_of g log p k i) → LooksHere g (values_in g roles) l c answer → LooksHere (facts (replay log)) (value_put_at log) l c answer
 
-    told : IsTold (facts (replay log))
+    told : IsGiven (facts (replay log))
     told same =
         looks_same (facts (replay log)) (values_in (facts (replay log)) roles) (value_put_at log)
-        (λ p k i here. ap (option_and_then (λ r. value_in r ((facts (replay log)).register p k i))) (same p k i) ∙ values_told log good p k i here) l c answer
+        (λ p k i here. ap (option_and_then (λ r. value_in r ((facts (replay log)).register p k i))) (same p k i) ∙ roles_give_values log good p k i here) l c answer
 
 -- so a look where the steps lead is the replica's answer
 pub look_answers : (r : Replica) (mine : ℕ) (f : Facts) (roles : List Tagged → Key → Id → Option Role) → IsGood r.log → AreOf r.log f roles → (l : Look) (place : Place)
@@ -40,5 +40,5 @@ look_answers r mine f roles good are l place c answer leads h =
   where
     by : (c : Result Cursor Refusal) → MatchResult c (λ c. LooksHere f (values_in f roles) l c answer) (λ e. answer ≡ Refused e)
         → MatchResult c (λ c. LooksHere (replica_facts r) (value_put_at r.log) l c answer) (λ e. answer ≡ Refused e)
-    by (Ok c) h = looks_tell r.log f roles good are l c answer h
+    by (Ok c) h = looks_agree r.log f roles good are l c answer h
     by (Err e) h = h

@@ -28,11 +28,11 @@ use Rattle.doc_words.specs.declared.reply.Reply.{Reply}
 use Rattle.doc_words.specs.declared.reply.Reply.TheVariants as reply
 use Rattle.doc_rules.specs.Resolve.{may_go_on, at_index, Goes, Leads, checked_start, Resolves}
 use Rattle.doc_rules.specs.Replica.{Replica, replica_facts}
-use Rattle.doc_rules.specs.Answers.{told_as, ReadsHere, LooksHere, ReadsAt, Reads}
+use Rattle.doc_rules.specs.Answers.{reply_with, ReadsHere, LooksHere, ReadsAt, Reads}
 use Rattle.doc_rules.specs.Role.{value_put_at}
 use Rattle.doc_rules.specs.Views.{Values, IsPresent, into_map, into_list, AreKeys, AreEntries, AreValues, HaveValues, AreItems, AreTerms, total, IsSum, AreConflicts, ReadsPlace}
 use Rattle.doc_rules.specs.Shown.{Shown, MapShown, ListShown, Fields, Elements, shown, no_map, a_map, no_list, a_list, no_fields, field, no_elements, element, names, HasList, total_shown, ShowsCount, Shows, ShowsMap, ShowsList, ShowsFields, ShowsElements, shown_data, ShowsText}
-use Rattle.doc_rules.specs.Told.{item_data, ToldAs, KeysText, ItemsText}
+use Rattle.doc_rules.specs.Encoded.{item_data, EncodedAs, KeysText, ItemsText}
 
 -- ---- lists that hold exactly these
 
@@ -139,18 +139,18 @@ module _ (f : Facts) (values : Values) where
   pub one_text : (p : List Tagged) (k : Key) (x y : List ℕ) → ShowsText f values p k x → ShowsText f values p k y → x ≡ y
   one_text p k x y a b = a.2 ∙ ap (λ e. compact_text (shown_data e)) (one_shown p k a.0 b.0 a.1 b.1) ∙ sym b.2
 
-  -- ---- readings that are told as text
+  -- ---- readings that are answered as text
 
-  one_told : {X : Type 0} (json : X → Data) (reads : List Tagged → Key → List X → Type 0)
+  one_encoding : {X : Type 0} (json : X → Data) (reads : List Tagged → Key → List X → Type 0)
       → ((p : List Tagged) (k : Key) (xs ys : List X) → reads p k xs → reads p k ys → xs ≡ ys)
-      → (p : List Tagged) (k : Key) (x y : List ℕ) → ToldAs json reads p k x → ToldAs json reads p k y → x ≡ y
-  one_told json reads one p k x y a b = a.2 ∙ ap (λ xs. compact_text (list_data (map json xs))) (one p k a.0 b.0 a.1 b.1) ∙ sym b.2
+      → (p : List Tagged) (k : Key) (x y : List ℕ) → EncodedAs json reads p k x → EncodedAs json reads p k y → x ≡ y
+  one_encoding json reads one p k x y a b = a.2 ∙ ap (λ xs. compact_text (list_data (map json xs))) (one p k a.0 b.0 a.1 b.1) ∙ sym b.2
 
   pub one_keys_text : (p : List Tagged) (k : Key) (x y : List ℕ) → KeysText f p k x → KeysText f p k y → x ≡ y
-  one_keys_text = one_told string (AreKeys f) one_keys
+  one_keys_text = one_encoding string (AreKeys f) one_keys
 
   pub one_items_text : (p : List Tagged) (k : Key) (x y : List ℕ) → ItemsText f p k x → ItemsText f p k y → x ≡ y
-  one_items_text = one_told item_data (AreItems f) one_items
+  one_items_text = one_encoding item_data (AreItems f) one_items
 
 -- ---- where steps lead
 
@@ -182,10 +182,10 @@ one_reading reads one c (Ok x) (Err e) a b = absurd (both_ways (is_head c.key) a
 one_reading reads one c (Err d) (Ok y) a b = absurd (both_ways (is_head c.key) b.0 a.0)
 one_reading reads one c (Err d) (Err e) a b = ap Err (a.1 ∙ sym b.1)
 
-one_here : {X : Type 0} (reads : List Tagged → Key → X → Type 0) (tell : X → Reply)
+one_here : {X : Type 0} (reads : List Tagged → Key → X → Type 0) (reply_of : X → Reply)
     → ((p : List Tagged) (k : Key) (x y : X) → reads p k x → reads p k y → x ≡ y)
-    → (c : Cursor) (x y : Reply) → ReadsHere reads tell c x → ReadsHere reads tell c y → x ≡ y
-one_here reads tell one c x y a b = a.2 ∙ ap (told_as tell) (one_reading reads one c a.0 b.0 a.1 b.1) ∙ sym b.2
+    → (c : Cursor) (x y : Reply) → ReadsHere reads reply_of c x → ReadsHere reads reply_of c y → x ≡ y
+one_here reads reply_of one c x y a b = a.2 ∙ ap (reply_with reply_of) (one_reading reads one c a.0 b.0 a.1 b.1) ∙ sym b.2
 
 pub one_look : (f : Facts) (values : Values) (l : Look) (c : Cursor) (x y : Reply) → LooksHere f values l c x → LooksHere f values l c y → x ≡ y
 one_look f values look.Keys = one_here (KeysText f) reply.Keys (one_keys_text f values)

@@ -23,11 +23,11 @@ use Rattle.crdt_rules.proofs.ReplayOrder.{replay_order, insertion_from, insertio
 use Rattle.crdt_rules.proofs.SameLaws.{id_decides, path_decides}
 use Rattle.crdt_rules.proofs.Tests.{any_from, all_from, not-false}
 use Rattle.crdt_rules.proofs.WalkLaws.{id_order}
-use Rattle.doc_rules.specs.Events.{logged, changed_rows, due_changed, is_past_operations, is_past_replicas}
+use Rattle.doc_rules.specs.Events.{logged, changed_rows, expected_of_change, is_past_operations, is_past_replicas}
 use Rattle.doc_rules.proofs.Tables.{by_rows}
 use Rattle.doc_rules.specs.Replica.{Replica, replica_facts, next_id, own_op}
 use Rattle.doc_words.specs.declared.place.Step.{Step}
-use Rattle.doc_rules.specs.Resolve.{is_short, stands_in, way_stands, Resolves}
+use Rattle.doc_rules.specs.Resolve.{is_short, exists_in, path_exists, Resolves}
 use Rattle.doc_rules.proofs.Resolved.{resolved_is_at}
 use Rattle.doc_rules.proofs.WholeFront.{front_rising, rising_ascends, front_from, front_last, knows_whole_front, max_counter_below}
 
@@ -55,7 +55,7 @@ element_of log p i good c =
     let s = insertion_from log p r.1 in
     (s.0, s.1, ap (λ e. e.0) s.2 ∙ r.2, s.3)
 
-key_known : (log : List Op) (p : List Tagged) (k : Key) → IsGood log → is_short k ≡ true → stands_in (facts (replay log)) p k ≡ true
+key_known : (log : List Op) (p : List Tagged) (k : Key) → IsGood log → is_short k ≡ true → exists_in (facts (replay log)) p k ≡ true
     → (knows_key (front_of log) log p k ≡ true) × (is_key k ≡ true)
 key_known log p Doc good short here = (refl, refl)
 key_known log p (Text text) good short here = (refl, short)
@@ -75,15 +75,15 @@ pub record IsKnown (log : List Op) (before path : List Tagged) (k : Key) : Type 
   pub tags : list_all is_tagged path ≡ true
   pub key : is_key k ≡ true
 
-cursor_known : (log : List Op) (before path : List Tagged) (k : Key) → IsGood log → way_stands (facts (replay log)) before path k ≡ true → IsKnown log before path k
+cursor_known : (log : List Op) (before path : List Tagged) (k : Key) → IsGood log → path_exists (facts (replay log)) before path k ≡ true → IsKnown log before path k
 cursor_known log before [] k good h =
-    let parts = and_parts (is_short k) (stands_in (facts (replay log)) before k) h in
+    let parts = and_parts (is_short k) (exists_in (facts (replay log)) before k) h in
     let one = key_known log before k good parts.0 parts.1 in
     record { known = one.0; tags = refl; key = one.1 }
 cursor_known log before (t ∷ path) k good h =
     let f = facts (replay log) in
-    let parts = and_parts (is_short (key_of t) && stands_in f before (key_of t)) (way_stands f (before ++ t ∷ []) path k) h in
-    let first = and_parts (is_short (key_of t)) (stands_in f before (key_of t)) parts.0 in
+    let parts = and_parts (is_short (key_of t) && exists_in f before (key_of t)) (path_exists f (before ++ t ∷ []) path k) h in
+    let first = and_parts (is_short (key_of t)) (exists_in f before (key_of t)) parts.0 in
     let one = key_known log before (key_of t) good first.0 first.1 in
     let rest = cursor_known log (before ++ t ∷ []) path k good parts.1 in
     record {
@@ -150,7 +150,7 @@ unopposed_fits r start steps c m named value good resolves h =
 
 -- so it fits where the table says that it is logged
 pub own_fits : (r : Replica) (start : Cursor) (steps : List Step) (c : Cursor) (m : Mutation) → is_name r.name ≡ true → is_mutation m ≡ true → IsGood r.log
-    → Resolves (replica_facts r) start steps (Ok c) → due_changed r c m ≡ logged (own_op r c m) → Fits (own_op r c m) r.log
+    → Resolves (replica_facts r) start steps (Ok c) → expected_of_change r c m ≡ logged (own_op r c m) → Fits (own_op r c m) r.log
 own_fits r start steps c m named value good resolves =
     by_rows (λ due. due ≡ logged (own_op r c m) → Fits (own_op r c m) r.log) (changed_rows r c m) (logged (own_op r c m)) (
       (λ is e. absurd (cc)),

@@ -8,13 +8,13 @@ use Rattle.doc_words.specs.declared.ask.Command.TheVariants.{Change, Deliver, Fo
 use Rattle.doc_words.specs.declared.ask.Query.{Query}
 use Rattle.doc_words.specs.declared.reply.Reply.TheVariants.{Refused}
 use Rattle.doc_rules.specs.Document.{Document, for_seat, Acts, opens}
-use Rattle.doc_rules.specs.Events.{Due, told, held, logged, Settles, due_placed, due_delivered, Forgets, Does, Event}
+use Rattle.doc_rules.specs.Events.{Expected, replied, held, logged, Settles, expected_at_place, expected_of_delivery, Forgets, Does, Event}
 use Rattle.doc_rules.specs.Replica.{Replica, find_id}
 use Rattle.doc_rules.specs.Seats.{Seat, Answer, operation_ids, IsAnswerTo, ActsFor, AnswersFor}
 use Rattle.doc_rules.specs.Unchanged.{called}
 
-settles_same : (r s : Replica) (due : Due) (cause : Refusal) → Settles r due (Refused cause) s → s ≡ r
-settles_same r s (told answer) cause h = h.1
+settles_same : (r s : Replica) (due : Expected) (cause : Refusal) → Settles r due (Refused cause) s → s ≡ r
+settles_same r s (replied answer) cause h = h.1
 settles_same r s (held op) cause h = let is = h.0 in cc
 settles_same r s (logged op) cause h = let is = h.reply_is in cc
 
@@ -23,8 +23,8 @@ forgets_same r s i (Some o) cause h = let is = h.0 in cc
 forgets_same r s i None cause h = h.1
 
 does_same : (r s : Replica) (command : Command) (cause : Refusal) → Does r command (Refused cause) s → s ≡ r
-does_same r s (Change place m) cause (c, resolves, settles) = settles_same r s (due_placed r c m) cause settles
-does_same r s (Deliver op) cause settles = settles_same r s (due_delivered r op) cause settles
+does_same r s (Change place m) cause (c, resolves, settles) = settles_same r s (expected_at_place r c m) cause settles
+does_same r s (Deliver op) cause settles = settles_same r s (expected_of_delivery r op) cause settles
 does_same r s (Forget i) cause forgets = forgets_same r s i (find_id r.held i) cause forgets
 
 pub event_same : (r s : Replica) (command : Command) (cause : Refusal) → Event r command (Refused cause) s → s ≡ r
@@ -52,12 +52,12 @@ opens_same d cause = by (nat_lt d.opened d.seats)
 
 -- ---- seats
 
--- a seat that was told of no operation has made one more call
-told_nothing : (s t : Seat) (a : Answer) → t.told ≡ s.told → IsAnswerTo s t a → t ≡ called s
-told_nothing s t a nothing answer i = record { number = answer.same.0 i; seat = answer.same.1 i; told = nothing i; calls = answer.calls i }
+-- a seat to which no operation was acknowledged has made one more call
+acknowledged_nothing : (s t : Seat) (a : Answer) → t.told ≡ s.told → IsAnswerTo s t a → t ≡ called s
+acknowledged_nothing s t a nothing answer i = record { number = answer.same.0 i; seat = answer.same.1 i; told = nothing i; calls = answer.calls i }
 
 pub act_called : (d e : Document) (s t : Seat) (command : Command) (a : Answer) (cause : Refusal) → a.reply ≡ Refused cause → ActsFor d s command a e t → (e ≡ d) × (t ≡ called s)
-act_called d e s t command a cause is acts = (kept, told_nothing s t a nothing acts.answer)
+act_called d e s t command a cause is acts = (kept, acknowledged_nothing s t a nothing acts.answer)
   where
     kept : e ≡ d
     kept = acts_same d e s.seat command cause (subst (λ r. Acts d s.seat command r e) is acts.event)
@@ -70,4 +70,4 @@ act_called d e s t command a cause is acts = (kept, told_nothing s t a nothing a
         ∙ append-nil s.told
 
 pub read_called : (d : Document) (s t : Seat) (query : Query) (a : Answer) → AnswersFor d s query a t → t ≡ called s
-read_called d s t query a answers = told_nothing s t a answers.told answers.answer
+read_called d s t query a answers = acknowledged_nothing s t a answers.told answers.answer

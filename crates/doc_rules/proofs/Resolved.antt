@@ -20,12 +20,12 @@ use Rattle.doc_rules.specs.Sorted.AreThose.{none, keep, skip}
 use Rattle.doc_rules.specs.Views.{into_list, AreElements}
 use Rattle.doc_words.specs.declared.place.Step.{Step}
 use Rattle.doc_words.specs.declared.place.Step.TheVariants.{Get, Index}
-use Rattle.doc_rules.specs.Resolve.{is_short, stands_in, way_stands, checked_start, may_go_on, at_text, at_index, Goes, Leads, Resolves}
+use Rattle.doc_rules.specs.Resolve.{is_short, exists_in, path_exists, checked_start, may_go_on, at_text, at_index, Goes, Leads, Resolves}
 
 pub record IsAt (f : Facts) (c : Cursor) : Type 0 where
   pub shallow : is_shallow c.path ≡ true
   pub placed : is_placed c.path c.key ≡ true
-  pub stands : way_stands f [] c.path c.key ≡ true
+  pub stands : path_exists f [] c.path c.key ≡ true
 
 pub ok_same : {A E : Type 0} {x y : A} → ◌≡◌ {A = Result A E} (Ok x) (Ok y) → x ≡ y
 ok_same h = cc
@@ -34,12 +34,12 @@ pub ok≢err : {A E : Type 0} {x : A} {e : E} → ◌≡◌ {A = Result A E} (Er
 ok≢err h = cc
 
 start_is_at : (f : Facts) (c d : Cursor) → checked_start f c ≡ Ok d → IsAt f d
-start_is_at f c d h = by (is_shallow c.path) refl (is_placed c.path c.key && way_stands f [] c.path c.key) refl h
+start_is_at f c d h = by (is_shallow c.path) refl (is_placed c.path c.key && path_exists f [] c.path c.key) refl h
   where
-    by : (a : Bool) → is_shallow c.path ≡ a → (b : Bool) → (is_placed c.path c.key && way_stands f [] c.path c.key) ≡ b
+    by : (a : Bool) → is_shallow c.path ≡ a → (b : Bool) → (is_placed c.path c.key && path_exists f [] c.path c.key) ≡ b
         → ◌≡◌ {A = Result Cursor Refusal} (if a then (if b then Ok c else Err BadCursor) else Err TooDeep) (Ok d) → IsAt f d
     by true a true b h =
-        let parts = and_parts (is_placed c.path c.key) (way_stands f [] c.path c.key) b in
+        let parts = and_parts (is_placed c.path c.key) (path_exists f [] c.path c.key) b in
         subst (IsAt f) (ok_same h) (record { shallow = a; placed = parts.0; stands = parts.1 })
     by true a false b h = absurd (ok≢err h)
     by false a b e h = absurd (ok≢err h)
@@ -64,18 +64,18 @@ placed-snoc (first ∷ rest) t k h on end =
     let parts = and_parts (is_doc (key_of first)) (follows first rest (key_of t)) h in
     and_from (is_doc (key_of first)) (follows first (rest ++ t ∷ []) k) parts.0 (follows-snoc first rest t k parts.1 on end)
 
-stands-snoc : (f : Facts) (p path : List Tagged) (t : Tagged) (k : Key) → way_stands f p path (key_of t) ≡ true → is_short k ≡ true
-    → stands_in f (p ++ (path ++ t ∷ [])) k ≡ true → way_stands f p (path ++ t ∷ []) k ≡ true
+stands-snoc : (f : Facts) (p path : List Tagged) (t : Tagged) (k : Key) → path_exists f p path (key_of t) ≡ true → is_short k ≡ true
+    → exists_in f (p ++ (path ++ t ∷ [])) k ≡ true → path_exists f p (path ++ t ∷ []) k ≡ true
 stands-snoc f p [] t k h short here =
-    and_from (is_short (key_of t) && stands_in f p (key_of t)) (is_short k && stands_in f (p ++ t ∷ []) k) h
-    (and_from (is_short k) (stands_in f (p ++ t ∷ []) k) short here)
+    and_from (is_short (key_of t) && exists_in f p (key_of t)) (is_short k && exists_in f (p ++ t ∷ []) k) h
+    (and_from (is_short k) (exists_in f (p ++ t ∷ []) k) short here)
 stands-snoc f p (s ∷ path) t k h short here =
-    let parts = and_parts (is_short (key_of s) && stands_in f p (key_of s)) (way_stands f (p ++ s ∷ []) path (key_of t)) h in
-    and_from (is_short (key_of s) && stands_in f p (key_of s)) (way_stands f (p ++ s ∷ []) (path ++ t ∷ []) k) parts.0
-    (stands-snoc f (p ++ s ∷ []) path t k parts.1 short (subst (λ q. stands_in f q k ≡ true) (sym (append_assoc p (s ∷ []) (path ++ t ∷ []))) here))
+    let parts = and_parts (is_short (key_of s) && exists_in f p (key_of s)) (path_exists f (p ++ s ∷ []) path (key_of t)) h in
+    and_from (is_short (key_of s) && exists_in f p (key_of s)) (path_exists f (p ++ s ∷ []) (path ++ t ∷ []) k) parts.0
+    (stands-snoc f (p ++ s ∷ []) path t k parts.1 short (subst (λ q. exists_in f q k ≡ true) (sym (append_assoc p (s ∷ []) (path ++ t ∷ []))) here))
 
 moved : (f : Facts) (p : List Tagged) (t : Tagged) (k : Key) → IsAt f (record { path = p; key = key_of t }) → is_head (key_of t) ≡ false
-    → nat_le 30 (length p) ≡ false → may_end t k ≡ true → is_short k ≡ true → stands_in f (p ++ t ∷ []) k ≡ true
+    → nat_le 30 (length p) ≡ false → may_end t k ≡ true → is_short k ≡ true → exists_in f (p ++ t ∷ []) k ≡ true
     → IsAt f (record { path = p ++ t ∷ []; key = k })
 moved f p t k is_at on deep end short here = record {
   shallow = le-leb (length (p ++ t ∷ [])) 30 (let few = below (length p) deep in omega (arith, length-append p (t ∷ []), few));

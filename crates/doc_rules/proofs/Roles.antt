@@ -1,4 +1,4 @@
--- Roles after one more operation: its own is what it does there, and the others stay. And the values that roles tell.
+-- Roles after one more operation: its own is what it does there, and the others stay. And the values that roles give.
 use Rattle.std.proofs.Common.{◌≡◌, ◌≢◌, List, [], ◌∷◌, ◌++◌, Bool, true, false, not, ◌&&◌, ◌||◌, Option, Some, None, if◌then◌else◌, Contains, refl, sym, ap, ◌∙◌, true≢false}
 use Rattle.std.specs.List.{list_any}
 use Rattle.std.proofs.lemmas.Bool.{and_parts, both_ways, false_from_ne_true, not-true}
@@ -38,7 +38,7 @@ module _ (p : List Tagged) (k : Key) (i : Id) where
   role-before [] op not_here = rw not_here refl
   role-before (o ∷ log) op not_here = ap (λ r. if ends_here o p k i then role_put o.mutation else r) (role-before log op not_here)
 
-  -- what was put here is what the role and the scalar tell
+  -- what was put here is what the role and the scalar give
   put_value : (m : Mutation) (before : Option Scalar) → value_put m ≡ value_in (role_put m) (entered true (scalar_put m) before)
   put_value (Assign (Plain s)) before = refl
   put_value (Assign EmptyMap) before = refl
@@ -49,9 +49,9 @@ module _ (p : List Tagged) (k : Key) (i : Id) where
   put_value Delete before = refl
   put_value (Add n) before = refl
 
-  value_told : (log : List Op) → value_put_at log p k i ≡ value_in (logged_role log p k i) (free.value_at scalar_put log p k i)
-  value_told [] = refl
-  value_told (o ∷ log) = by (ends_here o p k i) (value_told log)
+  value_given : (log : List Op) → value_put_at log p k i ≡ value_in (logged_role log p k i) (free.value_at scalar_put log p k i)
+  value_given [] = refl
+  value_given (o ∷ log) = by (ends_here o p k i) (value_given log)
     where
       by : (b : Bool) → value_put_at log p k i ≡ value_in (logged_role log p k i) (free.value_at scalar_put log p k i)
           → (if b then value_put o.mutation else value_put_at log p k i)
@@ -72,7 +72,7 @@ role_new log op p k fits =
 pub role_old : (log : List Op) (op : Op) (p : List Tagged) (k : Key) (i : Id) → op.id ≢ i → logged_role (log ++ op ∷ []) p k i ≡ logged_role log p k i
 role_old log op p k i other = role-before p k i log op (false_from_ne_true (ends_here op p k i) (λ h. other ((here_from op p k i h).id)))
 
--- of a present id, the role and the register's entry tell the value that was put
+-- of a present id, the role and the register's entry give the value that was put
 pub present_value : (log : List Op) (p : List Tagged) (k : Key) (i : Id) → IsGood log → (facts (replay log)).present p k i ≡ true
     → value_put_at log p k i ≡ value_in (logged_role log p k i) ((facts (replay log)).register p k i)
 present_value log p k i good here =
@@ -80,11 +80,11 @@ present_value log p k i good here =
     (and_parts (list_any (λ o. id_eq o.id i && marks o p k) log) (not (is_cleared log p k i)) (ap (λ f. f p k i) (sym (replay_present log good)) ∙ here)).1 in
     let entry : (facts (replay log)).register p k i ≡ free.value_at scalar_put log p k i =
     ap (λ f. f p k i) (replay_register log good) ∙ ap (λ b. if◌then◌else◌ {A = Option Scalar} b None (free.value_at scalar_put log p k i)) kept in
-    value_told p k i log ∙ ap (value_in (logged_role log p k i)) (sym entry)
+    value_given p k i log ∙ ap (value_in (logged_role log p k i)) (sym entry)
 
--- the roles of a good log and its registers tell what was put
-pub values_told : (log : List Op) → IsGood log → AgreeOnPresent (facts (replay log)) (values_in (facts (replay log)) (roles_of (facts (replay log)) log)) (value_put_at log)
-values_told log good p k i here =
+-- the roles of a good log and its registers give what was put
+pub roles_give_values : (log : List Op) → IsGood log → AgreeOnPresent (facts (replay log)) (values_in (facts (replay log)) (roles_of (facts (replay log)) log)) (value_put_at log)
+roles_give_values log good p k i here =
     ap (λ b. option_and_then (λ r. value_in r ((facts (replay log)).register p k i)) (if◌then◌else◌ {A = Option Role} b (Some (logged_role log p k i)) None)) here
     ∙ sym (present_value log p k i good here)
 
@@ -99,17 +99,17 @@ absent_new log op p k good fits =
     (λ o c. ap (λ b. b && marks o p k) (false_from_ne_true (id_eq o.id op.id) (λ e. fits_new fits o c (id_decides.same o.id op.id e)))))
 
 -- of an operation that marks the place
-told_new : (kept : Bool) (r h : Role) → r ≡ h → ◌≡◌ {A = Option Role} (if kept || true then Some r else None) (Some h)
-told_new true r h e = ap Some e
-told_new false r h e = ap Some e
+role_new : (kept : Bool) (r h : Role) → r ≡ h → ◌≡◌ {A = Option Role} (if kept || true then Some r else None) (Some h)
+role_new true r h e = ap Some e
+role_new false r h e = ap Some e
 
 -- and of the others
-told_old : (here cleared : Bool) (r s : Role) → (here ≡ true → r ≡ s)
+role_old : (here cleared : Bool) (r s : Role) → (here ≡ true → r ≡ s)
     → ◌≡◌ {A = Option Role} (if (here && not cleared) || false then Some r else None) (if cleared then None else (if here then Some s else None))
-told_old true true r s e = refl
-told_old true false r s e = ap Some (e refl)
-told_old false true r s e = refl
-told_old false false r s e = refl
+role_old true true r s e = refl
+role_old true false r s e = ap Some (e refl)
+role_old false true r s e = refl
+role_old false false r s e = refl
 
 pub roles_after : (log : List Op) (op : Op) (p : List Tagged) (k : Key) (i : Id) → IsGood log → Fits op log
     → roles_of (step_facts (facts (replay log)) op (covers op.front)) (log ++ op ∷ []) p k i
@@ -120,11 +120,11 @@ roles_after log op p k i good fits = by (marks op p k) refl (id_eq op.id i) refl
         → ◌≡◌ {A = Option Role} (if ((facts (replay log)).present p k i && not (clears op p k && covers op.front i)) || (a && b) then Some (logged_role (log ++ op ∷ []) p k i) else None)
         (if a && b then Some (role_here op p k) else (if clears op p k && covers op.front i then None else (if (facts (replay log)).present p k i then Some (logged_role log p k i) else None)))
     by true m true e =
-        told_new ((facts (replay log)).present p k i && not (clears op p k && covers op.front i)) (logged_role (log ++ op ∷ []) p k i) (role_here op p k)
+        role_new ((facts (replay log)).present p k i && not (clears op p k && covers op.front i)) (logged_role (log ++ op ∷ []) p k i) (role_here op p k)
         (ap (logged_role (log ++ op ∷ []) p k) (sym (id_decides.same op.id i e)) ∙ role_new log op p k fits)
-    by true m false e = told_old ((facts (replay log)).present p k i) (clears op p k && covers op.front i) (logged_role (log ++ op ∷ []) p k i) (logged_role log p k i) (λ h. role_old log op p k i (λ same. both_ways (id_eq op.id i) e (eq_from id_decides op.id i same)))
+    by true m false e = role_old ((facts (replay log)).present p k i) (clears op p k && covers op.front i) (logged_role (log ++ op ∷ []) p k i) (logged_role log p k i) (λ h. role_old log op p k i (λ same. both_ways (id_eq op.id i) e (eq_from id_decides op.id i same)))
     by false m b e =
-        told_old ((facts (replay log)).present p k i) (clears op p k && covers op.front i) (logged_role (log ++ op ∷ []) p k i) (logged_role log p k i)
+        role_old ((facts (replay log)).present p k i) (clears op p k && covers op.front i) (logged_role (log ++ op ∷ []) p k i) (logged_role log p k i)
         (λ h. role_old log op p k i (λ same. both_ways ((facts (replay log)).present p k i) (ap ((facts (replay log)).present p k) (sym same) ∙ absent_new log op p k good fits) h))
 
 -- ---- facts and roles of a log

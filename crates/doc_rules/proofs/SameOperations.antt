@@ -26,7 +26,7 @@ use Rattle.doc_rules.specs.Role.{value_put_at, role_put, logged_role, roles_of}
 use Rattle.doc_rules.proofs.SameValues.{looks_same}
 use Rattle.doc_rules.proofs.WholeFront.{fronts_same, front_rising, front_last}
 
--- ---- what the one operation of a test does, told by the first that passes it
+-- ---- what the one operation of a test does, read off the first that passes it
 
 module _ {X : Type 0} (test : Op → Bool) (does : Op → X) (first : List Op → X)
     (starts : (o : Op) (log : List Op) → first (o ∷ log) ≡ (if test o then does o else first log)) where

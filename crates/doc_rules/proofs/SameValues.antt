@@ -58,10 +58,10 @@ pub shows_same : (f : Facts) (v w : Values) → AgreeOnPresent f v w → (p : Li
 shows_same f v w same = shown_moved f v w same (λ p k i h. sym (same p k i h))
 
 -- so does each look
-here_moved : {X : Type 0} (reads reads' : List Tagged → Key → X → Type 0) (tell : X → Reply) → ((p : List Tagged) (k : Key) (x : X) → reads p k x → reads' p k x)
-    → (c : Cursor) (answer : Reply) → ReadsHere reads tell c answer → ReadsHere reads' tell c answer
-here_moved reads reads' tell move c answer (Ok x, h, is) = (Ok x, (h.0, move c.path c.key x h.1), is)
-here_moved reads reads' tell move c answer (Err e, h, is) = (Err e, h, is)
+here_moved : {X : Type 0} (reads reads' : List Tagged → Key → X → Type 0) (reply_of : X → Reply) → ((p : List Tagged) (k : Key) (x : X) → reads p k x → reads' p k x)
+    → (c : Cursor) (answer : Reply) → ReadsHere reads reply_of c answer → ReadsHere reads' reply_of c answer
+here_moved reads reads' reply_of move c answer (Ok x, h, is) = (Ok x, (h.0, move c.path c.key x h.1), is)
+here_moved reads reads' reply_of move c answer (Err e, h, is) = (Err e, h, is)
 
 pub looks_same : (f : Facts) (v w : Values) → AgreeOnPresent f v w → (l : Look) (c : Cursor) (answer : Reply) → LooksHere f v l c answer → LooksHere f w l c answer
 looks_same f v w same look.Keys c answer h = h
@@ -72,7 +72,7 @@ looks_same f v w same look.Show c answer h =
     here_moved (ShowsText f v) (ShowsText f w) reply.Show (λ p k text h. (h.0, shows_same f v w same p k h.0 h.1, h.2)) c answer h
 looks_same f v w same look.Sum c answer h = h
 
--- a reading that is told by cases, or that memory is wanting, is one at the place where memory is at hand
+-- a reading that is answered by cases, or out of memory, is one at the place where there is memory
 pub place_from : {X : Type 0} (reads : List Tagged → Key → X → Type 0) (c : Cursor) (r : Result X Refusal)
     → MatchBool (is_head c.key) (r ≡ Err AtHead) (MatchResult r (reads c.path c.key) (λ e. e ≡ NoMemory)) → r ≢ Err NoMemory → ReadsPlace reads c r
 place_from {X} reads c r h memory = by (is_head c.key) refl r h memory

@@ -1,4 +1,4 @@
--- Each event of a document keeps it sound, and gives to its seat just what it tells.
+-- Each event of a document keeps it sound, and gives to its seat just what it acknowledges.
 use Rattle.std.proofs.Common.{◌≡◌, ◌≢◌, inl, inr, ℕ, suc, ◌+◌, ◌-◌, ◌≤◌, List, [], ◌∷◌, ◌++◌, length, replicate, length-append, append_assoc, append-nil, nat_le, nat_lt, ◌&&◌, Bool, true, false, Option, Some, None, Result, Ok, Err, if◌then◌else◌, refl, sym, ap, subst, ◌∙◌, arith, leb-true}
 use Rattle.std.specs.Prelude.{⊤}
 use Rattle.std.proofs.lemmas.List.{length-replicate}
@@ -10,7 +10,7 @@ use Rattle.list_laws.proofs.Members.{Contains-nil}
 use Rattle.crdt_rules.specs.Log.{IsGood}
 use Rattle.doc_rules.specs.Cause.{cause_of}
 use Rattle.doc_rules.specs.Document.{Document, by, logged_by, count_of, total_of, count_in, for_seat, Acts, opens, copied_to, new_document, GivesTo, IsSound}
-use Rattle.doc_rules.specs.Events.{Due, told, held, logged, Settles, due_by_cause, changed_rows, due_placed, delivered_rows, due_delivered, Forgets, Does, Event, IsWellMade}
+use Rattle.doc_rules.specs.Events.{Expected, replied, held, logged, Settles, expected_by_cause, changed_rows, expected_at_place, delivered_rows, expected_of_delivery, Forgets, Does, Event, IsWellMade}
 use Rattle.doc_rules.specs.Replica.{Replica, find_id, own_op, GoesOn}
 use Rattle.doc_words.specs.declared.ask.Command.{Command}
 use Rattle.doc_words.specs.declared.ask.Command.TheVariants.{Change, Deliver, Forget}
@@ -20,20 +20,20 @@ use Rattle.doc_rules.proofs.Kept.{event_keeps}
 use Rattle.doc_rules.proofs.Tables.{by_rows}
 use Rattle.doc_rules.proofs.Shares.{length-by, by-append, by-replicate_same, by-replicate_other, total_of-all}
 
--- ---- the log goes on by what is told
+-- ---- the log grows by what is acknowledged
 
--- an answer that changes nothing tells of nothing
-abbrev TellsNone : Due → Type 0
-TellsNone (told answer) = count_in answer ≡ 0
-TellsNone _ = Unit {0}
+-- an answer that changes nothing counts no operation
+abbrev CountsNone : Expected → Type 0
+CountsNone (replied answer) = count_in answer ≡ 0
+CountsNone _ = Unit {0}
 
-by_cause_tells : (cause : Result ⊤ Refusal) (op : Op) → TellsNone (due_by_cause cause op)
-by_cause_tells (Ok x) op = tt
-by_cause_tells (Err cause) op = refl
+by_cause_counts : (cause : Result ⊤ Refusal) (op : Op) → CountsNone (expected_by_cause cause op)
+by_cause_counts (Ok x) op = tt
+by_cause_counts (Err cause) op = refl
 
-delivered_tells : (r : Replica) (op : Op) → TellsNone (due_delivered r op)
-delivered_tells r op =
-    by_rows TellsNone (delivered_rows r op) (due_by_cause (cause_of op r.log) op) (
+delivered_counts : (r : Replica) (op : Op) → CountsNone (expected_of_delivery r op)
+delivered_counts r op =
+    by_rows CountsNone (delivered_rows r op) (expected_by_cause (cause_of op r.log) op) (
       (λ is. refl),
       λ other. (
         (λ is. refl),
@@ -48,7 +48,7 @@ delivered_tells r op =
                 λ other. (
                   (λ is. tt),
                   λ other.
-                      by_cause_tells (cause_of op r.log) op,
+                      by_cause_counts (cause_of op r.log) op,
                 ),
               ),
             ),
@@ -57,18 +57,18 @@ delivered_tells r op =
       ),
     )
 
-placed_tells : (r : Replica) (c : Result Cursor Refusal) (m : Mutation) → TellsNone (due_placed r c m)
-placed_tells r (Err cause) m = refl
-placed_tells r (Ok c) m =
-    by_rows TellsNone (changed_rows r c m) (logged (own_op r c m))
+placed_counts : (r : Replica) (c : Result Cursor Refusal) (m : Mutation) → CountsNone (expected_at_place r c m)
+placed_counts r (Err cause) m = refl
+placed_counts r (Ok c) m =
+    by_rows CountsNone (changed_rows r c m) (logged (own_op r c m))
     ((λ is. refl), λ other. ((λ is. refl), λ other. ((λ is. refl), λ other. ((λ is. refl), λ other. tt))))
 
 -- the log stays
 stays : {r s : Replica} (n : ℕ) → n ≡ 0 → s.name ≡ r.name → s.log ≡ r.log → GoesOn r n s
 stays {r} n none name log = record { name = name; new = []; log = log ∙ sym (append-nil r.log); count = sym none }
 
-settles_on : (r s : Replica) (due : Due) (reply : Reply) → TellsNone due → Settles r due reply s → GoesOn r (count_in reply) s
-settles_on r s (told answer) reply none h = stays (count_in reply) (ap count_in h.0 ∙ none) (ap (λ x. x.name) h.1) (ap (λ x. x.log) h.1)
+settles_on : (r s : Replica) (due : Expected) (reply : Reply) → CountsNone due → Settles r due reply s → GoesOn r (count_in reply) s
+settles_on r s (replied answer) reply none h = stays (count_in reply) (ap count_in h.0 ∙ none) (ap (λ x. x.name) h.1) (ap (λ x. x.log) h.1)
 settles_on r s (held op) reply none h = stays (count_in reply) (ap count_in h.0) (ap (λ x. x.name) h.1) (ap (λ x. x.log) h.1)
 settles_on r s (logged op) reply none h =
     let g = drain_goes_on h.drains in
@@ -84,8 +84,8 @@ forgets_on r s i None reply h = stays (count_in reply) (ap count_in h.0) (ap (λ
 forgets_on r s i (Some o) reply h = stays (count_in reply) (ap count_in h.0) (ap (λ x. x.name) h.1) (ap (λ x. x.log) h.1)
 
 does_on : (r s : Replica) (command : Command) (reply : Reply) → Does r command reply s → GoesOn r (count_in reply) s
-does_on r s (Change place m) reply h = settles_on r s (due_placed r h.0 m) reply (placed_tells r h.0 m) h.2
-does_on r s (Deliver op) reply h = settles_on r s (due_delivered r op) reply (delivered_tells r op) h
+does_on r s (Change place m) reply h = settles_on r s (expected_at_place r h.0 m) reply (placed_counts r h.0 m) h.2
+does_on r s (Deliver op) reply h = settles_on r s (expected_of_delivery r op) reply (delivered_counts r op) h
 does_on r s (Forget i) reply h = forgets_on r s i (find_id r.held i) reply h
 
 pub event_on : (r s : Replica) (command : Command) (reply : Reply) → Event r command reply s → GoesOn r (count_in reply) s
@@ -196,7 +196,7 @@ shares_add_up d sound = total_of-all d.opened d.seats_of sound.opened_alone ∙ 
 pub share_is : (d : Document) (seat : ℕ) → IsSound d → length (logged_by seat d) ≡ count_of seat d.seats_of
 share_is d seat sound = length-by seat d.replica.log d.seats_of sound.each_has_a_seat
 
--- the share of the seat rises by what the answer tells, and the others stay
+-- the share of the seat rises by what the answer counts, and the others stay
 pub shares_rise : (d e : Document) (seat : ℕ) (reply : Reply) → IsSound d → IsSound e → GivesTo d seat reply e
     → (count_of seat e.seats_of ≡ count_of seat d.seats_of + count_in reply) × ((t : ℕ) → seat ≢ t → count_of t e.seats_of ≡ count_of t d.seats_of)
 shares_rise d e seat reply sound sound' given = (

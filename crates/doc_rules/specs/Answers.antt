@@ -17,18 +17,18 @@ use Rattle.doc_rules.specs.Replica.{Replica, replica_facts}
 use Rattle.doc_rules.specs.Resolve.{Resolves}
 use Rattle.doc_rules.specs.Role.{value_put_at}
 use Rattle.doc_rules.specs.Shown.{ShowsText}
-use Rattle.doc_rules.specs.Told.{KeysText, ItemsText, operations_text}
+use Rattle.doc_rules.specs.Encoded.{KeysText, ItemsText, operations_text}
 
--- what a reading is told as, or the cause against it
-abbrev pub told_as : {X : Type 0} → (X → Reply) → Result X Refusal → Reply
-told_as tell (Ok x) = tell x
-told_as tell (Err cause) = reply.Refused cause
+-- the reply to a reading, or the cause against it
+abbrev pub reply_with : {X : Type 0} → (X → Reply) → Result X Refusal → Reply
+reply_with reply_of (Ok x) = reply_of x
+reply_with reply_of (Err cause) = reply.Refused cause
 
--- a reading of this kind at a cursor, told so
+-- a reading of this kind at a cursor, with that reply
 abbrev pub ReadsHere : {X : Type 0} → (List Tagged → Key → X → Type 0) → (X → Reply) → Cursor → Reply → Type 0
-ReadsHere {X} reads tell c answer = (result : Result X Refusal) × ReadsPlace reads c result × (answer ≡ told_as tell result)
+ReadsHere {X} reads reply_of c answer = (result : Result X Refusal) × ReadsPlace reads c result × (answer ≡ reply_with reply_of result)
 
--- what a look at a cursor is told
+-- the reply to a look at a cursor
 abbrev pub LooksHere : Facts → Values → Look → Cursor → Reply → Type 0
 LooksHere f values look.Keys = ReadsHere (KeysText f) reply.Keys
 LooksHere f values look.Values = ReadsHere (AreValues f) reply.Values

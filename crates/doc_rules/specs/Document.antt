@@ -41,7 +41,7 @@ abbrev pub total_of : ℕ → List ℕ → ℕ
 total_of zero seats = 0
 total_of (suc n) seats = total_of n seats + count_of (suc n) seats
 
--- how many operations a reply tells of
+-- how many operations a reply counts
 abbrev pub count_in : Reply → ℕ
 count_in (Applied count dropped i) = count
 count_in _ = 0

@@ -13,34 +13,34 @@ use Rattle.crdt_rules.specs.Dependencies.{is_ready, missing}
 use Rattle.crdt_rules.specs.Effect.{is_insertion}
 use Rattle.crdt_rules.specs.Fits.{replicas}
 use Rattle.doc_rules.specs.Cause.{cause_of}
-use Rattle.doc_rules.specs.Replica.{Replica, replica_facts, find_id, hold, let_go, append, Drains, own_op}
+use Rattle.doc_rules.specs.Replica.{Replica, replica_facts, find_id, hold, without_held, append, Drains, own_op}
 use Rattle.doc_rules.specs.Resolve.{Resolves}
 
--- what a change of one's own, or an operation that is handed in, is due
-pub data Due : Type 0 where
+-- the outcome that the rules expect of a change of one's own, or of a delivered operation
+pub data Expected : Type 0 where
   -- this answer, with nothing changed
-  told : Reply → Due
+  replied : Reply → Expected
   -- the operation is held
-  held : Op → Due
+  held : Op → Expected
   -- it is logged, and all that it releases
-  logged : Op → Due
+  logged : Op → Expected
 
-abbrev pub no : Refusal → Due
-no cause = told (Refused cause)
+abbrev pub no : Refusal → Expected
+no cause = replied (Refused cause)
 
 -- by the first row whose test holds, or else this
-abbrev pub first_row : List (Bool × Due) → Due → Due
+abbrev pub first_row : List (Bool × Expected) → Expected → Expected
 first_row [] due = due
 first_row (row ∷ rows) due = if row.0 then row.1 else first_row rows due
 
 -- by the cause against it
-abbrev pub due_by_cause : Result ⊤ Refusal → Op → Due
-due_by_cause (Ok _) op = logged op
-due_by_cause (Err cause) op = no cause
+abbrev pub expected_by_cause : Result ⊤ Refusal → Op → Expected
+expected_by_cause (Ok _) op = logged op
+expected_by_cause (Err cause) op = no cause
 
 -- ---- the tests of the tables
 
--- an operation of this id stands among these
+-- an operation of this id is among these
 abbrev pub has_id_of : List Op → Op → Bool
 has_id_of ops op = is_some (find_id ops op.id)
 
@@ -49,8 +49,8 @@ is_same op (Some o) = operation_eq o op
 is_same op None = false
 
 -- and it is this very operation
-abbrev pub stands_equal : List Op → Op → Bool
-stands_equal ops op = is_same op (find_id ops op.id)
+abbrev pub has_equal : List Op → Op → Bool
+has_equal ops op = is_same op (find_id ops op.id)
 
 -- with this one the log has more than it may
 abbrev pub is_past_operations : Op → List Op → Bool
@@ -62,7 +62,7 @@ is_past_replicas op log = not (nat_le (length (replicas (op ∷ log))) most_repl
 -- ---- the tables
 
 -- a change of one's own at a cursor
-abbrev pub changed_rows : Replica → Cursor → Mutation → List (Bool × Due)
+abbrev pub changed_rows : Replica → Cursor → Mutation → List (Bool × Expected)
 changed_rows r c m =
     (is_insertion m && not (ends_in_list c.path), no NotInList)
     ∷ (not (is_insertion m) && is_head c.key, no AtHead)
@@ -70,28 +70,28 @@ changed_rows r c m =
     ∷ (is_past_replicas (own_op r c m) r.log, no TooManyReplicas)
     ∷ []
 
-abbrev pub due_changed : Replica → Cursor → Mutation → Due
-due_changed r c m = first_row (changed_rows r c m) (logged (own_op r c m))
+abbrev pub expected_of_change : Replica → Cursor → Mutation → Expected
+expected_of_change r c m = first_row (changed_rows r c m) (logged (own_op r c m))
 
 -- the same where the steps of its place led, if they led anywhere
-abbrev pub due_placed : Replica → Result Cursor Refusal → Mutation → Due
-due_placed r (Ok c) m = due_changed r c m
-due_placed r (Err cause) m = no cause
+abbrev pub expected_at_place : Replica → Result Cursor Refusal → Mutation → Expected
+expected_at_place r (Ok c) m = expected_of_change r c m
+expected_at_place r (Err cause) m = no cause
 
--- an operation that is handed in
-abbrev pub delivered_rows : Replica → Op → List (Bool × Due)
+-- a delivered operation
+abbrev pub delivered_rows : Replica → Op → List (Bool × Expected)
 delivered_rows r op =
-    (stands_equal r.log op, told Known)
+    (has_equal r.log op, replied Known)
     ∷ (has_id_of r.log op, no IdConflict)
-    ∷ (stands_equal r.held op, told (Held (missing op r.log)))
+    ∷ (has_equal r.held op, replied (Held (missing op r.log)))
     ∷ (has_id_of r.held op, no IdConflict)
     ∷ (bytes_eq op.id.replica r.name, no OwnName)
     ∷ (not (is_ready op r.log) && nat_le most_held (length r.held), no HeldFull)
     ∷ (not (is_ready op r.log), held op)
     ∷ []
 
-abbrev pub due_delivered : Replica → Op → Due
-due_delivered r op = first_row (delivered_rows r op) (due_by_cause (cause_of op r.log) op)
+abbrev pub expected_of_delivery : Replica → Op → Expected
+expected_of_delivery r op = first_row (delivered_rows r op) (expected_by_cause (cause_of op r.log) op)
 
 -- ---- what comes of it
 
@@ -102,15 +102,15 @@ pub record Logs (r : Replica) (op : Op) (reply : Reply) (s : Replica) : Type 0 w
   pub reply_is : reply ≡ Applied (suc count) dropped op.id
   pub drains : Drains (append op r) count dropped s
 
-abbrev pub Settles : Replica → Due → Reply → Replica → Type 0
-Settles r (told answer) reply s = (reply ≡ answer) × (s ≡ r)
+abbrev pub Settles : Replica → Expected → Reply → Replica → Type 0
+Settles r (replied answer) reply s = (reply ≡ answer) × (s ≡ r)
 Settles r (held op) reply s = (reply ≡ Held (missing op r.log)) × (s ≡ hold op r)
 Settles r (logged op) reply s = Logs r op reply s
 
--- ---- operations given up
+-- ---- held operations that are dropped
 
 abbrev pub Forgets : Replica → Id → Option Op → Reply → Replica → Type 0
-Forgets r i (Some o) reply s = (reply ≡ Forgotten) × (s ≡ let_go i r)
+Forgets r i (Some o) reply s = (reply ≡ Forgotten) × (s ≡ without_held i r)
 Forgets r i None reply s = (reply ≡ Refused NotHeld) × (s ≡ r)
 
 -- ---- commands
@@ -118,17 +118,17 @@ Forgets r i None reply s = (reply ≡ Refused NotHeld) × (s ≡ r)
 -- with memory at hand before the first change
 abbrev pub Does : Replica → Command → Reply → Replica → Type 0
 Does r (Change place m) reply s =
-    (c : Result Cursor Refusal) × Resolves (replica_facts r) place.start place.steps c × Settles r (due_placed r c m) reply s
-Does r (Deliver op) reply s = Settles r (due_delivered r op) reply s
+    (c : Result Cursor Refusal) × Resolves (replica_facts r) place.start place.steps c × Settles r (expected_at_place r c m) reply s
+Does r (Deliver op) reply s = Settles r (expected_of_delivery r op) reply s
 Does r (Forget i) reply s = Forgets r i (find_id r.held i) reply s
 
--- memory is wanting, and nothing has changed
-abbrev pub Lacks : Replica → Reply → Replica → Type 0
-Lacks r reply s = (reply ≡ Refused NoMemory) × (s ≡ r)
+-- out of memory, and nothing has changed
+abbrev pub IsOutOfMemory : Replica → Reply → Replica → Type 0
+IsOutOfMemory r reply s = (reply ≡ Refused NoMemory) × (s ≡ r)
 
 -- what a command may answer and do
 abbrev pub Event : Replica → Command → Reply → Replica → Type 0
-Event r command reply s = Does r command reply s ⊎ Lacks r reply s
+Event r command reply s = Does r command reply s ⊎ IsOutOfMemory r reply s
 
 -- what the types of its parts give of a command
 abbrev pub IsWellMade : Command → Type 0

@@ -2,7 +2,7 @@ pub mod Sorted
 pub mod Role
 pub mod Views
 pub mod Shown
-pub mod Told
+pub mod Encoded
 pub mod Resolve
 pub mod Cause
 pub mod Replica

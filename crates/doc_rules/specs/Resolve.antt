@@ -21,19 +21,19 @@ is_short (Text text) = nat_le (length text) longest_key
 is_short _ = true
 
 -- an element, as the key after the path p, stands in the list there
-abbrev pub stands_in : Facts → List Tagged → Key → Bool
-stands_in f p (Element i) = list_any (id_eq i) (f.order p)
-stands_in f p _ = true
+abbrev pub exists_in : Facts → List Tagged → Key → Bool
+exists_in f p (Element i) = list_any (id_eq i) (f.order p)
+exists_in f p _ = true
 
 -- each key is within its limit and stands where it is named; p is the way so far
-abbrev pub way_stands : Facts → List Tagged → List Tagged → Key → Bool
-way_stands f p [] k = is_short k && stands_in f p k
-way_stands f p (t ∷ path) k = is_short (key_of t) && stands_in f p (key_of t) && way_stands f (p ++ t ∷ []) path k
+abbrev pub path_exists : Facts → List Tagged → List Tagged → Key → Bool
+path_exists f p [] k = is_short k && exists_in f p k
+path_exists f p (t ∷ path) k = is_short (key_of t) && exists_in f p (key_of t) && path_exists f (p ++ t ∷ []) path k
 
 -- the first cause against a start, if there is one
 abbrev pub checked_start : Facts → Cursor → Result Cursor Refusal
 checked_start f c =
-    if is_shallow c.path then (if is_placed c.path c.key && way_stands f [] c.path c.key then Ok c else Err BadCursor) else Err TooDeep
+    if is_shallow c.path then (if is_placed c.path c.key && path_exists f [] c.path c.key then Ok c else Err BadCursor) else Err TooDeep
 
 -- ---- one step
 

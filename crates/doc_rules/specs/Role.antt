@@ -36,7 +36,7 @@ logged_role (o ∷ log) p k i = if ends_here o p k i then role_put o.mutation el
 abbrev pub role_here : Op → List Tagged → Key → Role
 role_here op p k = if path_eq (path_of op) p && key_eq (end_key op) k then role_put op.mutation else role.Through
 
--- the value that a role and a register's entry tell
+-- the value that a role and a register's entry give
 abbrev pub value_in : Role → Option Scalar → Option Val
 value_in role.Through entry = None
 value_in role.Map entry = Some EmptyMap
@@ -53,11 +53,11 @@ pub record AreOf (log : List Op) (f : Facts) (roles : List Tagged → Key → Id
   pub facts_are : f ≡ facts (replay log)
   pub roles_are : (p : List Tagged) (k : Key) (i : Id) → roles p k i ≡ roles_of f log p k i
 
--- the values that roles tell, with the entries of the registers
+-- the values that roles give, with the entries of the registers
 abbrev pub values_in : Facts → (List Tagged → Key → Id → Option Role) → List Tagged → Key → Id → Option Val
 values_in f roles p k i = option_and_then (λ role. value_in role (f.register p k i)) (roles p k i)
 
--- the roles after one more operation, which clears what deps tells
+-- the roles after one more operation, which clears what deps covers
 abbrev pub step_roles : (List Tagged → Key → Id → Option Role) → Op → (Id → Bool) → List Tagged → Key → Id → Option Role
 step_roles roles op deps p k i =
     if marks op p k && id_eq op.id i then Some (role_here op p k) else (if clears op p k && deps i then None else roles p k i)

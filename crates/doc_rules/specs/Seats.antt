@@ -1,4 +1,4 @@
--- Seats of a document: what each was told, and what all of them were told at the end.
+-- Seats of a document (session handles): the told list of each (the ids acknowledged to it), and the sums at the end.
 use Rattle.std.specs.Prelude.{◌≡◌, ℕ, suc, ◌+◌, ◌<◌, ◌≤◌, List, [], ◌∷◌, ◌++◌, length, map, drop, sum}
 use Rattle.doc_words.specs.Words.{Id, Op}
 use Rattle.json_scalar.specs.declared.refusal.Refusal.TheVariants.{NotOpen}
@@ -12,7 +12,7 @@ pub record Seat : Type 0 where
   -- its document's number among those of the server, and its own among the document's seats
   pub number : ℕ
   pub seat : ℕ
-  -- the ids that were logged for it, as it was told
+  -- the told list: the ids acknowledged to it, in order
   pub told : List Id
   pub calls : ℕ
 
@@ -36,8 +36,8 @@ pub record IsAnswerTo (s t : Seat) (a : Answer) : Type 0 where
   pub calls : t.calls ≡ s.calls + 1
   pub of : (a.number ≡ s.number) × (a.seat ≡ s.seat) × (a.place ≡ t.calls)
 
--- a command for a seat: one event, told to the seat, which has as many operations as it was told, before and after; it was told
--- of as many more as the reply counts
+-- a command for a seat: one event, acknowledged to the seat. It has as many operations as its told list has ids, before and
+-- after; the list grows by as many as the reply counts
 pub record ActsFor (d : Document) (s : Seat) (command : Command) (a : Answer) (e : Document) (t : Seat) : Type 0 where
   pub event : Acts d s.seat command a.reply e
   pub told : t.told ≡ s.told ++ operation_ids (drop (length d.replica.log) e.replica.log)
@@ -61,7 +61,7 @@ pub record TurnsAway (d : Document) (s : Seat) (a : Answer) (e : Document) (t : 
 
 -- ---- at the end
 
--- a seat's end is the seat as its session gave it back; this one was told just its operations, in order
+-- a seat's end is the seat as its session returned it; its told list has just its operations, in order
 abbrev pub IsEndOf : ℕ → Document → ℕ → Seat → Type 0
 IsEndOf number d seat s = (s.number ≡ number) × (s.seat ≡ seat) × (s.told ≡ operation_ids (logged_by seat d))
 

@@ -22,7 +22,7 @@ ghost use Rattle.crdt_rules.specs.Pull.{front_of};
 ghost use Rattle.doc_rules.specs.Answers.{LooksHere, Reads, IsOfOperations};
 ghost use Rattle.doc_rules.specs.Cause.{IsFirstMisfit, cause_of};
 ghost use Rattle.doc_rules.specs.Document.{Document, Acts, GivesTo, IsSound, copied_to, count_in, count_of, logged_by, new_document, opens, total_of};
-ghost use Rattle.doc_rules.specs.Events.{Event, IsWellMade, due_changed, logged};
+ghost use Rattle.doc_rules.specs.Events.{Event, IsWellMade, expected_of_change, logged};
 ghost use Rattle.doc_rules.specs.Memory.{DoesFully};
 ghost use Rattle.doc_rules.specs.Views.{AgreeOnPresent, AreConflicts, Values};
 ghost use Rattle.doc_rules.specs.Replica.{Replica, GoesOn, IsKept, replica_facts, own_op};
@@ -51,7 +51,7 @@ pub fn causes_decide()
     ensures no_cause { (op : Op) (log : List Op) → Fits op log → cause_of op log ≡ Ok tt }
     ensures own { (r : Replica) (start : Cursor) (steps : List Step) (c : Cursor) (m : Mutation) → is_name r.name ≡ true
         → is_mutation m ≡ true → IsGood r.log → Resolves (replica_facts r) start steps (Ok c)
-        → due_changed r c m ≡ logged (own_op r c m) → Fits (own_op r c m) r.log }
+        → expected_of_change r c m ≡ logged (own_op r c m) → Fits (own_op r c m) r.log }
 {}
 
 /// Roles after one more operation: its own is what it does at the place, and the others stay; so each present id has its role
@@ -66,9 +66,9 @@ pub fn roles_step()
         ≡ step_roles (roles_of (facts (replay log)) log) op (covers op.front) p k i }
 {}
 
-/// Of a present id, its role and its register's entry tell the value that it put; and readings ask for the values of present
+/// Of a present id, its role and its register's entry give the value that it put; and readings ask for the values of present
 /// ids alone.
-pub fn roles_tell()
+pub fn roles_give_values()
     ensures shows { (f : Facts) (v w : Values) → AgreeOnPresent f v w → (p : List Tagged) (k : Key) (x : Shown) → Shows f v p k x → Shows f w p k x }
     ensures conflicts { (f : Facts) (v w : Values) → AgreeOnPresent f v w → (p : List Tagged) (k : Key) (xs : List (Id × Val))
         → AreConflicts f v p k xs → AreConflicts f w p k xs }

@@ -119,14 +119,14 @@ fn checked(tree: &Tree, start: Cursor) -> Result<Cursor, Refusal>
 }
 
 fn stands(tree: &Tree, path: &[Tagged], key: &Key) -> bool
-    ensures { result ≡ (is_placed path.now key.now && rules.way_stands (tree_facts tree.now) [] path.now key.now) }
+    ensures { result ≡ (is_placed path.now key.now && rules.path_exists (tree_facts tree.now) [] path.now key.now) }
 {
     is_placed(path, key) && all_stand(tree, path, key)
 }
 
 /// Each key is within its limit and stands where it is named.
 fn all_stand(tree: &Tree, path: &[Tagged], key: &Key) -> bool
-    ensures { result ≡ rules.way_stands (tree_facts tree.now) [] path.now key.now }
+    ensures { result ≡ rules.path_exists (tree_facts tree.now) [] path.now key.now }
 {
     for (depth, tag) in path.iter().enumerate() {
         if !stands_in(tree, &path[..depth], tag.key()) {
@@ -138,7 +138,7 @@ fn all_stand(tree: &Tree, path: &[Tagged], key: &Key) -> bool
 
 /// The key is within its limit, and stands where the path leads. It looks for elements alone.
 fn stands_in(tree: &Tree, path: &[Tagged], key: &Key) -> bool
-    ensures { result ≡ (rules.is_short key.now && rules.stands_in (tree_facts tree.now) path.now key.now) }
+    ensures { result ≡ (rules.is_short key.now && rules.exists_in (tree_facts tree.now) path.now key.now) }
 {
     match key {
         Key::Doc => true,

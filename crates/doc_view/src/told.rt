@@ -7,7 +7,7 @@ ghost use Rattle.doc_tree.specs.Nodes.{tree_facts};
 ghost use Rattle.doc_rules.specs.Views as reads;
 ghost use Rattle.doc_rules.specs.Views.{AreItems, AreKeys, IsPresent};
 ghost use Rattle.doc_rules.specs.Sorted.{AreThose};
-ghost use Rattle.doc_rules.specs.Told.{item_data, ItemsText, KeysText};
+ghost use Rattle.doc_rules.specs.Encoded.{item_data, ItemsText, KeysText};
 ghost use Rattle.doc_view.specs.ByNumber.{AreIn, AtNode, HasItems, IsTextAt};
 ghost use Rattle.doc_view.specs.Members.{texts_at, texts_in};
 ghost use Rattle.doc_view.specs.Readings.{GivesUnlessMemory, ReadsUnlessMemory};

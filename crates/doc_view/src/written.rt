@@ -3,7 +3,7 @@ ghost use Rattle.std.specs.Prelude.{◌≡◌, ◌++◌, map, not};
 ghost use Rattle.json_scalar.specs.Scalar.{scalar_data};
 ghost use Rattle.op_core.specs.Wire.{list_data};
 ghost use Rattle.doc_rules.specs.Shown.{value_entry_data, count_branch, total_shown};
-ghost use Rattle.doc_rules.specs.Told.{item_data};
+ghost use Rattle.doc_rules.specs.Encoded.{item_data};
 ghost use Rattle.doc_view.specs.Telling.{beginning, ending};
 ghost use Rattle.json_text.specs.Tokens.{all_tokens, data_tokens, Puts};
 

@@ -1,4 +1,4 @@
--- The cursor that a reply tells.
+-- The cursor in a reply.
 use Rattle.std.specs.Prelude.{Result, Ok, Err}
 use Rattle.op_core.specs.declared.cursor.Cursor.{Cursor}
 use Rattle.doc_words.specs.declared.reply.Reply.{Reply}

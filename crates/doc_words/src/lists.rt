@@ -1,4 +1,4 @@
-//! Lists that are told.
+//! Lists in replies.
 ghost use Rattle.std.specs.Prelude.{◌≡◌};
 
 use json_scalar::{Scalar, Val};
@@ -6,7 +6,7 @@ use lamport_id::Id;
 use op_core::{KeyText, Operation};
 use std::marker::Model;
 
-/// A list that is told, in its order. A contract sees it as the list of its entries.
+/// A list in a reply, in its order. A contract sees it as the list of its entries.
 #[derive(Debug, Drop)]
 pub struct Listed<X> {
     entries: Vec<X>,
@@ -37,7 +37,7 @@ impl<X> From<Vec<X>> for Listed<X> {
     }
 }
 
-/// Ids, in the order in which they are told.
+/// Ids, in the order in which a reply has them.
 pub type Ids = Listed<Id>;
 
 /// Texts of a map, in byte order.

@@ -8,7 +8,7 @@ use lamport_id::Id;
 use op_core::{Cursor, Front};
 use std::marker::Model;
 
-/// The compact JSON text of what is told. A contract sees it as its bytes.
+/// The compact JSON text of an answer. A contract sees it as its bytes.
 #[derive(Debug, Drop)]
 pub struct CompactText {
     text: String,

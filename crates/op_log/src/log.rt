@@ -10,7 +10,7 @@ ghost use Rattle.crdt_rules.specs.Fits.{last_counter, Fits, replicas};
 ghost use Rattle.crdt_rules.specs.Log.{IsGood};
 ghost use Rattle.crdt_rules.specs.Pull.{front_of};
 ghost use Rattle.doc_rules.specs.Answers.{since};
-ghost use Rattle.doc_rules.specs.Told.{operations_text};
+ghost use Rattle.doc_rules.specs.Encoded.{operations_text};
 ghost use Rattle.doc_rules.specs.Replica.{find_id};
 
 use crate::copies::{copies, first_uncovered};

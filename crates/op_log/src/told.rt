@@ -3,7 +3,7 @@ ghost use Rattle.std.specs.Prelude.{◌≡◌, Ok, map, take};
 ghost use Rattle.json_scalar.specs.Refusal.{UnlessMemory};
 ghost use Rattle.op_core.specs.Wire.{list_data, wire};
 ghost use Rattle.doc_rules.specs.Answers.{since};
-ghost use Rattle.doc_rules.specs.Told.{operations_text};
+ghost use Rattle.doc_rules.specs.Encoded.{operations_text};
 ghost use Rattle.json_text.specs.Tokens.{all_tokens, data_tokens, Puts};
 
 use doc_words::CompactText;

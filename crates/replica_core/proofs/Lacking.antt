@@ -5,7 +5,7 @@ use Rattle.doc_words.specs.declared.ask.Command.TheVariants as command
 use Rattle.doc_words.specs.declared.reply.Reply.{Reply}
 use Rattle.doc_words.specs.declared.reply.Reply.TheVariants as reply
 use Rattle.doc_rules.specs.Cause.{cause_of, first_fit_cause}
-use Rattle.doc_rules.specs.Events.{Due, told, held, logged, Event, due_by_cause, delivered_rows, due_delivered}
+use Rattle.doc_rules.specs.Events.{Expected, replied, held, logged, Event, expected_by_cause, delivered_rows, expected_of_delivery}
 use Rattle.doc_rules.specs.Replica.{Replica}
 use Rattle.doc_rules.proofs.Resolved.{ok_same, ok≢err}
 use Rattle.doc_rules.proofs.Tables.{by_rows}
@@ -16,13 +16,13 @@ use Rattle.replica_core.specs.Outcomes.{Meets}
 pub answered : {X : Type 0} {x y : X} → UnlessMemory {A = X} (Ok x) (Ok y) → x ≡ y
 answered h = ok_same (h (λ e. ok≢err (sym e)))
 
-pub event_from : (r : Replica) (op : Op) (answer : Reply) (s : Replica) → Meets r (due_delivered r op) answer s → Event r (command.Deliver op) answer s
+pub event_from : (r : Replica) (op : Op) (answer : Reply) (s : Replica) → Meets r (expected_of_delivery r op) answer s → Event r (command.Deliver op) answer s
 event_from r op answer s (inl does) = inl does
 event_from r op answer s (inr lacks) = inr lacks.1
 
 -- no want of memory is due
 by_cause_told : (knows chain cursor operations replicas : Bool) (last : _) (op : Op)
-    → due_by_cause (first_fit_cause knows chain cursor operations replicas last) op ≢ told (reply.Refused NoMemory)
+    → expected_by_cause (first_fit_cause knows chain cursor operations replicas last) op ≢ replied (reply.Refused NoMemory)
 by_cause_told false chain cursor operations replicas last op e = absurd (cc)
 by_cause_told true false cursor operations replicas last op e = absurd (cc)
 by_cause_told true true false operations replicas last op e = absurd (cc)
@@ -30,9 +30,9 @@ by_cause_told true true true false replicas last op e = absurd (cc)
 by_cause_told true true true true false last op e = absurd (cc)
 by_cause_told true true true true true last op e = absurd (cc)
 
-delivered_told : (r : Replica) (op : Op) → due_delivered r op ≢ told (reply.Refused NoMemory)
+delivered_told : (r : Replica) (op : Op) → expected_of_delivery r op ≢ replied (reply.Refused NoMemory)
 delivered_told r op =
-    by_rows (λ due. due ≢ told (reply.Refused NoMemory)) (delivered_rows r op) (due_by_cause (cause_of op r.log) op) (
+    by_rows (λ due. due ≢ replied (reply.Refused NoMemory)) (delivered_rows r op) (expected_by_cause (cause_of op r.log) op) (
       (λ is e. absurd (cc)),
       λ other. (
         (λ is e. absurd (cc)),
@@ -57,12 +57,12 @@ delivered_told r op =
     )
 
 -- so where it is told, something grows
-meets_grows : (r : Replica) (due : Due) (answer : Reply) (s : Replica) → due ≢ told (reply.Refused NoMemory) → answer ≡ reply.Refused NoMemory → Meets r due answer s → NeedsMemory due
+meets_grows : (r : Replica) (due : Expected) (answer : Reply) (s : Replica) → due ≢ replied (reply.Refused NoMemory) → answer ≡ reply.Refused NoMemory → Meets r due answer s → NeedsMemory due
 meets_grows r due answer s other lacks (inr grows) = grows.0
-meets_grows r (told x) answer s other lacks (inl does) = absurd (other (λ i. told ((sym does.0 ∙ lacks) i)))
+meets_grows r (replied x) answer s other lacks (inl does) = absurd (other (λ i. replied ((sym does.0 ∙ lacks) i)))
 meets_grows r (held op) answer s other lacks (inl does) = tt
 meets_grows r (logged op) answer s other lacks (inl does) = tt
 
 pub deliver_lacks : (r : Replica) (op : Op) (answer : Reply) (s : Replica) → answer ≡ reply.Refused NoMemory
-    → Meets r (due_delivered r op) answer s → MayLack r (command.Deliver op)
-deliver_lacks r op answer s lacks met = meets_grows r (due_delivered r op) answer s (delivered_told r op) lacks met
+    → Meets r (expected_of_delivery r op) answer s → MayLack r (command.Deliver op)
+deliver_lacks r op answer s lacks met = meets_grows r (expected_of_delivery r op) answer s (delivered_told r op) lacks met

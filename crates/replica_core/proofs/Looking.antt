@@ -14,7 +14,7 @@ use Rattle.doc_tree.specs.Nodes.{tree_facts, tree_role}
 use Rattle.crdt_rules.specs.Log.{IsGood}
 use Rattle.doc_view.specs.Readings as view
 use Rattle.doc_view.specs.TreeValues.{tree_values}
-use Rattle.doc_rules.specs.Answers.{MayAnswer, ReadsHere, LooksHere, told_as}
+use Rattle.doc_rules.specs.Answers.{MayAnswer, ReadsHere, LooksHere, reply_with}
 use Rattle.doc_rules.specs.Resolve.{Resolves}
 use Rattle.doc_rules.proofs.Looks.{look_answers}
 use Rattle.replica_core.specs.AgreesWith.{AgreesWith}
@@ -22,12 +22,12 @@ use Rattle.replica_core.specs.Whole.{replica_of}
 
 -- a reader's answer is told as a look's, unless memory is wanting
 pub told_here : {X : Type 0} (reads : List Tagged → Key → X → Type 0) (tell : X → Reply) (c : Cursor) (r : Result X Refusal) → view.ReadsUnlessMemory reads c r
-    → (told_as tell r ≡ reply.Refused NoMemory) ⊎ ReadsHere reads tell c (told_as tell r)
+    → (reply_with tell r ≡ reply.Refused NoMemory) ⊎ ReadsHere reads tell c (reply_with tell r)
 told_here {X} reads tell c r h = by (is_head c.key) refl r h
   where
     by : (b : Bool) → is_head c.key ≡ b → (r : Result X Refusal) → MatchBool b (r ≡ Err AtHead) (view.GivesUnlessMemory (reads c.path c.key) r)
-        → (told_as tell r ≡ reply.Refused NoMemory) ⊎ ReadsHere reads tell c (told_as tell r)
-    by true e r h = inr (Err AtHead, (e, refl), ap (told_as tell) h)
+        → (reply_with tell r ≡ reply.Refused NoMemory) ⊎ ReadsHere reads tell c (reply_with tell r)
+    by true e r h = inr (Err AtHead, (e, refl), ap (reply_with tell) h)
     by false e (Ok x) h = inr (Ok x, (e, h), refl)
     by false e (Err cause) h = inl (ap reply.Refused h)
 

@@ -11,7 +11,7 @@ use Rattle.doc_words.specs.declared.reply.Reply.{Reply}
 use Rattle.doc_words.specs.declared.reply.Reply.TheVariants as reply
 use Rattle.crdt_rules.specs.Dependencies.{is_ready, missing}
 use Rattle.doc_rules.specs.Cause.{cause_of}
-use Rattle.doc_rules.specs.Events.{Due, told, held, logged, Settles, no, first_row, is_same, due_by_cause, due_delivered}
+use Rattle.doc_rules.specs.Events.{Expected, replied, held, logged, Settles, no, first_row, is_same, expected_by_cause, expected_of_delivery}
 use Rattle.doc_rules.specs.Replica.{Replica, Drains, append, find_id}
 use Rattle.replica_core.specs.declared.outcome.Applied.{Applied}
 use Rattle.replica_core.specs.Memory.{NeedsMemory}
@@ -32,94 +32,94 @@ meets_logged r op a s h = record {
 }
 
 -- memory is wanting
-pub meets_lacking : (r : Replica) (due : Due) (e : Refusal) (s : Replica) → NeedsMemory due → e ≡ NoMemory → s ≡ r → Meets r due (reply.Refused e) s
+pub meets_lacking : (r : Replica) (due : Expected) (e : Refusal) (s : Replica) → NeedsMemory due → e ≡ NoMemory → s ≡ r → Meets r due (reply.Refused e) s
 meets_lacking r due e s grows memory same = inr (grows, (ap reply.Refused memory, same))
 
 -- a ready operation is logged, or refused
 pub meets_ready : (r : Replica) (op : Op) (cause : Result ⊤ Refusal) (answer : Reply) (s : Replica) → Ok tt ≡ cause → Meets r (logged op) answer s
-    → Meets r (due_by_cause cause op) answer s
-meets_ready r op cause answer s is h = subst (λ (c : Result ⊤ Refusal). Meets r (due_by_cause c op) answer s) is h
+    → Meets r (expected_by_cause cause op) answer s
+meets_ready r op cause answer s is h = subst (λ (c : Result ⊤ Refusal). Meets r (expected_by_cause c op) answer s) is h
 
 pub meets_refused : (r : Replica) (op : Op) (cause : Result ⊤ Refusal) (e : Refusal) (s : Replica) → Err e ≡ cause → s ≡ r
-    → Meets r (due_by_cause cause op) (reply.Refused e) s
-meets_refused r op cause e s is same = subst (λ (c : Result ⊤ Refusal). Meets r (due_by_cause c op) (reply.Refused e) s) is (inl (refl, same))
+    → Meets r (expected_by_cause cause op) (reply.Refused e) s
+meets_refused r op cause e s is same = subst (λ (c : Result ⊤ Refusal). Meets r (expected_by_cause c op) (reply.Refused e) s) is (inl (refl, same))
 
 -- ---- the table of operations that are handed in, a few rows at a time
 
 -- the rows that look for its id, with what stands there
-abbrev by_id : Op → Option Op → Due → Due → Due
+abbrev by_id : Op → Option Op → Expected → Expected → Expected
 by_id op found known due = first_row ((is_same op found, known) ∷ (is_some found, no IdConflict) ∷ []) due
 
 -- the rows of a new id
-abbrev by_tests : Bool → Bool → Bool → Op → Due → Due
+abbrev by_tests : Bool → Bool → Bool → Op → Expected → Expected
 by_tests own ready full op due = first_row ((own, no OwnName) ∷ (not ready && full, no HeldFull) ∷ (not ready, held op) ∷ []) due
 
 pub none_found : (op : Op) (o : Option Op) → None ≡ option_map (λ x. operation_eq x op) o → o ≡ None
 none_found op None h = refl
 none_found op (Some x) h = absurd (cc)
 
-id_taken : (op : Op) (o : Option Op) (b : Bool) (known due : Due) → Some b ≡ option_map (λ x. operation_eq x op) o
+id_taken : (op : Op) (o : Option Op) (b : Bool) (known due : Expected) → Some b ≡ option_map (λ x. operation_eq x op) o
     → (if b then known else no IdConflict) ≡ by_id op o known due
 id_taken op None b known due h = absurd (cc)
 id_taken op (Some x) b known due h = let same : b ≡ operation_eq x op = cc in ap (λ c. if c then known else no IdConflict) same
 
-id_free : (op : Op) (o : Option Op) (known due : Due) → o ≡ None → due ≡ by_id op o known due
+id_free : (op : Op) (o : Option Op) (known due : Expected) → o ≡ None → due ≡ by_id op o known due
 id_free op None known due h = refl
 id_free op (Some x) known due h = absurd (cc)
 
-abbrev new_due : Replica → Op → Due
-new_due r op = by_tests (bytes_eq op.id.replica r.name) (is_ready op r.log) (nat_le most_held (length r.held)) op (due_by_cause (cause_of op r.log) op)
+abbrev new_due : Replica → Op → Expected
+new_due r op = by_tests (bytes_eq op.id.replica r.name) (is_ready op r.log) (nat_le most_held (length r.held)) op (expected_by_cause (cause_of op r.log) op)
 
-abbrev unlogged_due : Replica → Op → Due
-unlogged_due r op = by_id op (find_id r.held op.id) (told (reply.Held (missing op r.log))) (new_due r op)
+abbrev unlogged_due : Replica → Op → Expected
+unlogged_due r op = by_id op (find_id r.held op.id) (replied (reply.Held (missing op r.log))) (new_due r op)
 
 -- its id is logged
 pub delivered_logged : (r : Replica) (op : Op) (b : Bool) → Some b ≡ option_map (λ x. operation_eq x op) (find_id r.log op.id)
-    → (if b then told reply.Known else no IdConflict) ≡ due_delivered r op
-delivered_logged r op b h = id_taken op (find_id r.log op.id) b (told reply.Known) (unlogged_due r op) h
+    → (if b then replied reply.Known else no IdConflict) ≡ expected_of_delivery r op
+delivered_logged r op b h = id_taken op (find_id r.log op.id) b (replied reply.Known) (unlogged_due r op) h
 
 -- its id is held
 pub delivered_held : (r : Replica) (op : Op) (b : Bool) → find_id r.log op.id ≡ None → Some b ≡ option_map (λ x. operation_eq x op) (find_id r.held op.id)
-    → (if b then told (reply.Held (missing op r.log)) else no IdConflict) ≡ due_delivered r op
+    → (if b then replied (reply.Held (missing op r.log)) else no IdConflict) ≡ expected_of_delivery r op
 delivered_held r op b new h =
-    id_taken op (find_id r.held op.id) b (told (reply.Held (missing op r.log))) (new_due r op) h
-    ∙ id_free op (find_id r.log op.id) (told reply.Known) (unlogged_due r op) new
+    id_taken op (find_id r.held op.id) b (replied (reply.Held (missing op r.log))) (new_due r op) h
+    ∙ id_free op (find_id r.log op.id) (replied reply.Known) (unlogged_due r op) new
 
 -- its id is new
 module _ (r : Replica) (op : Op) (new : find_id r.log op.id ≡ None) (unheld : find_id r.held op.id ≡ None) where
-  delivered_new : new_due r op ≡ due_delivered r op
+  delivered_new : new_due r op ≡ expected_of_delivery r op
   delivered_new =
-      id_free op (find_id r.held op.id) (told (reply.Held (missing op r.log))) (new_due r op) unheld
-      ∙ id_free op (find_id r.log op.id) (told reply.Known) (unlogged_due r op) new
+      id_free op (find_id r.held op.id) (replied (reply.Held (missing op r.log))) (new_due r op) unheld
+      ∙ id_free op (find_id r.log op.id) (replied reply.Known) (unlogged_due r op) new
 
-  pub delivered_own : true ≡ bytes_eq op.id.replica r.name → no OwnName ≡ due_delivered r op
+  pub delivered_own : true ≡ bytes_eq op.id.replica r.name → no OwnName ≡ expected_of_delivery r op
   delivered_own own = by (bytes_eq op.id.replica r.name) own ∙ delivered_new
     where
-      by : (b : Bool) → true ≡ b → no OwnName ≡ by_tests b (is_ready op r.log) (nat_le most_held (length r.held)) op (due_by_cause (cause_of op r.log) op)
+      by : (b : Bool) → true ≡ b → no OwnName ≡ by_tests b (is_ready op r.log) (nat_le most_held (length r.held)) op (expected_by_cause (cause_of op r.log) op)
       by true h = refl
       by false h = absurd (true≢false h)
 
-  pub delivered_ready : false ≡ bytes_eq op.id.replica r.name → true ≡ is_ready op r.log → due_by_cause (cause_of op r.log) op ≡ due_delivered r op
+  pub delivered_ready : false ≡ bytes_eq op.id.replica r.name → true ≡ is_ready op r.log → expected_by_cause (cause_of op r.log) op ≡ expected_of_delivery r op
   delivered_ready other ready = by (bytes_eq op.id.replica r.name) (is_ready op r.log) other ready ∙ delivered_new
     where
       by : (own ready : Bool) → false ≡ own → true ≡ ready
-          → due_by_cause (cause_of op r.log) op ≡ by_tests own ready (nat_le most_held (length r.held)) op (due_by_cause (cause_of op r.log) op)
+          → expected_by_cause (cause_of op r.log) op ≡ by_tests own ready (nat_le most_held (length r.held)) op (expected_by_cause (cause_of op r.log) op)
       by true ready h e = absurd (true≢false (sym h))
       by false true h e = refl
       by false false h e = absurd (true≢false e)
 
   pub delivered_waiting : false ≡ bytes_eq op.id.replica r.name → false ≡ is_ready op r.log
-      → (if nat_le most_held (length r.held) then no HeldFull else held op) ≡ due_delivered r op
+      → (if nat_le most_held (length r.held) then no HeldFull else held op) ≡ expected_of_delivery r op
   delivered_waiting other waits = by (bytes_eq op.id.replica r.name) (is_ready op r.log) other waits ∙ delivered_new
     where
       by : (own ready : Bool) → false ≡ own → false ≡ ready
-          → (if nat_le most_held (length r.held) then no HeldFull else held op) ≡ by_tests own ready (nat_le most_held (length r.held)) op (due_by_cause (cause_of op r.log) op)
+          → (if nat_le most_held (length r.held) then no HeldFull else held op) ≡ by_tests own ready (nat_le most_held (length r.held)) op (expected_by_cause (cause_of op r.log) op)
       by true ready h e = absurd (true≢false (sym h))
       by false true h e = absurd (true≢false (sym e))
       by false false h e = refl
 
 -- what is due, under another name
-pub meets_as : (r : Replica) (due other : Due) (answer : Reply) (s : Replica) → due ≡ other → Meets r due answer s → Meets r other answer s
+pub meets_as : (r : Replica) (due other : Expected) (answer : Reply) (s : Replica) → due ≡ other → Meets r due answer s → Meets r other answer s
 meets_as r due other answer s is h = subst (λ d. Meets r d answer s) is h
 
 -- an operation of one's own was logged, or memory is wanting

@@ -13,7 +13,7 @@ use Rattle.doc_words.specs.declared.reply.Reply.{Reply}
 use Rattle.doc_words.specs.declared.ask.Command.TheVariants as command
 use Rattle.doc_words.specs.declared.place.Place.{Place}
 use Rattle.doc_rules.specs.Cause.{first_fit_cause}
-use Rattle.doc_rules.specs.Events.{logged, no, first_row, due_by_cause, due_placed, Does, Event, Forgets}
+use Rattle.doc_rules.specs.Events.{logged, no, first_row, expected_by_cause, expected_at_place, Does, Event, Forgets}
 use Rattle.doc_rules.specs.Resolve.{Resolves}
 use Rattle.replica_core.specs.Outcomes.{Meets, place_told, told_forgotten}
 use Rattle.doc_rules.specs.Replica.{Replica, replica_facts, find_id}
@@ -21,7 +21,7 @@ use Rattle.doc_rules.specs.Replica.{Replica, replica_facts, find_id}
 -- the first cause against a change, by the place and then by the room
 pub changed_by_causes : (listed at_head operations replicas : Bool) (op : Op)
     → first_row ((listed, no NotInList) ∷ (at_head, no AtHead) ∷ (not operations, no LogFull) ∷ (not replicas, no TooManyReplicas) ∷ []) (logged op)
-    ≡ due_by_cause (and_then (place_told listed at_head) (λ _. first_fit_cause true true true operations replicas 0)) op
+    ≡ expected_by_cause (and_then (place_told listed at_head) (λ _. first_fit_cause true true true operations replicas 0)) op
 changed_by_causes true at_head operations replicas op = refl
 changed_by_causes false true operations replicas op = refl
 changed_by_causes false false false replicas op = refl
@@ -62,7 +62,7 @@ forgets_none name log waiting waiting' i answer answered is same =
 -- ---- a change at a place
 
 pub event_change : (r s : Replica) (place : Place) (m : Mutation) (answer : Reply) (c : Result Cursor Refusal)
-    → (c ≢ Err NoMemory → Resolves (replica_facts r) place.start place.steps c) → Meets r (due_placed r c m) answer s → Event r (command.Change place m) answer s
+    → (c ≢ Err NoMemory → Resolves (replica_facts r) place.start place.steps c) → Meets r (expected_at_place r c m) answer s → Event r (command.Change place m) answer s
 event_change r s place m answer (Ok c) h met =
     elim met [ inl does ↦ inl (Ok c, h (λ e. cc), does) | inr lacks ↦ inr lacks.1 ]
 event_change r s place m answer (Err NoMemory) h met = elim met [ inl does ↦ inr does | inr lacks ↦ inr lacks.1 ]

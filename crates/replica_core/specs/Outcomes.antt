@@ -4,7 +4,7 @@ use Rattle.json_scalar.specs.declared.refusal.Refusal.{Refusal}
 use Rattle.json_scalar.specs.declared.refusal.Refusal.TheVariants.{AtHead, NotInList}
 use Rattle.doc_words.specs.declared.reply.Reply.{Reply}
 use Rattle.doc_words.specs.declared.reply.Reply.TheVariants as reply
-use Rattle.doc_rules.specs.Events.{Due, Settles, Lacks}
+use Rattle.doc_rules.specs.Events.{Expected, Settles, IsOutOfMemory}
 use Rattle.doc_rules.specs.Replica.{Replica}
 use Rattle.replica_core.specs.Memory.{NeedsMemory}
 use Rattle.replica_core.specs.declared.outcome.Applied.{Applied}
@@ -32,5 +32,5 @@ place_told false true = Err AtHead
 place_told false false = Ok tt
 
 -- what is due comes about, or, where something grows, memory is wanting and nothing has changed
-abbrev pub Meets : Replica → Due → Reply → Replica → Type 0
-Meets r due reply s = Settles r due reply s ⊎ (NeedsMemory due × Lacks r reply s)
+abbrev pub Meets : Replica → Expected → Reply → Replica → Type 0
+Meets r due reply s = Settles r due reply s ⊎ (NeedsMemory due × IsOutOfMemory r reply s)

@@ -9,7 +9,7 @@ ghost use Rattle.crdt_rules.specs.Dependencies.{missing};
 ghost use Rattle.crdt_rules.specs.Fits.{Fits};
 ghost use Rattle.doc_rules.specs.Cause.{cause_of};
 ghost use Rattle.doc_rules.specs.Events as due;
-ghost use Rattle.doc_rules.specs.Events.{due_by_cause, due_delivered};
+ghost use Rattle.doc_rules.specs.Events.{expected_by_cause, expected_of_delivery};
 ghost use Rattle.doc_rules.specs.Replica.{Replica, Drains, find_id};
 ghost use Rattle.hold_buffer.specs.Held.{IsCurrent};
 ghost use Rattle.replica_core.specs.AgreesWith.{AgreesWith};
@@ -73,7 +73,7 @@ pub fn deliver(
     requires current { IsCurrent held.old log.old.operations }
     requires few { length held.old.held ≤ most_held }
     ensures met { let r = replica_of name log.old.operations held.old.held in
-        Meets r (due_delivered r op) (told_delivered result) (replica_of name log.new.operations held.new.held) }
+        Meets r (expected_of_delivery r op) (told_delivered result) (replica_of name log.new.operations held.new.held) }
     ensures tells { AgreesWith tree.new log.new.operations }
     ensures current { IsCurrent held.new log.new.operations }
 {
@@ -97,7 +97,7 @@ fn is_same_logged(log: &OpLog, op: &Operation) -> Option<bool>
 }
 
 fn known_or_not(is_same: bool) -> Result<Delivered, Refusal>
-    ensures { (r : Replica) → Meets r (if is_same then due.told Reply.Known else due.no Refusal.IdConflict) (told_delivered result) r }
+    ensures { (r : Replica) → Meets r (if is_same then due.replied Reply.Known else due.no Refusal.IdConflict) (told_delivered result) r }
 {
     if is_same {
         Ok(Delivered::Known)
@@ -118,7 +118,7 @@ fn deliver_unlogged(
     requires current { IsCurrent held.old log.old.operations }
     requires few { length held.old.held ≤ most_held }
     ensures met { let r = replica_of name log.old.operations held.old.held in
-        Meets r (due_delivered r op) (told_delivered result) (replica_of name log.new.operations held.new.held) }
+        Meets r (expected_of_delivery r op) (told_delivered result) (replica_of name log.new.operations held.new.held) }
     ensures tells { AgreesWith tree.new log.new.operations }
     ensures current { IsCurrent held.new log.new.operations }
 {
@@ -144,7 +144,7 @@ fn is_same_held(held: &HoldBuffer, op: &Operation) -> Option<bool>
 
 fn waits_or_not(log: &OpLog, op: &Operation, is_same: bool) -> Result<Delivered, Refusal>
     ensures { (r : Replica) →
-        Meets r (if is_same then due.told (Reply.Held (missing op.now log.now.operations)) else due.no Refusal.IdConflict) (told_delivered result) r }
+        Meets r (if is_same then due.replied (Reply.Held (missing op.now log.now.operations)) else due.no Refusal.IdConflict) (told_delivered result) r }
 {
     if !is_same {
         return Err(Refusal::IdConflict);
@@ -168,7 +168,7 @@ fn deliver_new(
     requires current { IsCurrent held.old log.old.operations }
     requires few { length held.old.held ≤ most_held }
     ensures met { let r = replica_of name log.old.operations held.old.held in
-        Meets r (due_delivered r op) (told_delivered result) (replica_of name log.new.operations held.new.held) }
+        Meets r (expected_of_delivery r op) (told_delivered result) (replica_of name log.new.operations held.new.held) }
     ensures tells { AgreesWith tree.new log.new.operations }
     ensures current { IsCurrent held.new log.new.operations }
 {
@@ -199,7 +199,7 @@ fn deliver_ready(
     requires tells { AgreesWith tree.old log.old.operations }
     requires current { IsCurrent held.old log.old.operations }
     requires few { length held.old.held ≤ most_held }
-    ensures met { (name : List ℕ) → Meets (replica_of name log.old.operations held.old.held) (due_by_cause (cause_of op log.old.operations) op)
+    ensures met { (name : List ℕ) → Meets (replica_of name log.old.operations held.old.held) (expected_by_cause (cause_of op log.old.operations) op)
         (told_delivered result) (replica_of name log.new.operations held.new.held) }
     ensures tells { AgreesWith tree.new log.new.operations }
     ensures current { IsCurrent held.new log.new.operations }

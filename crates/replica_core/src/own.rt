@@ -9,7 +9,7 @@ ghost use Rattle.op_core.specs.Shape as shape;
 ghost use Rattle.crdt_rules.specs.Effect.{is_insertion};
 ghost use Rattle.crdt_rules.specs.Fits.{Fits};
 ghost use Rattle.doc_rules.specs.Events as due;
-ghost use Rattle.doc_rules.specs.Events.{due_by_cause, due_changed, due_placed};
+ghost use Rattle.doc_rules.specs.Events.{expected_by_cause, expected_of_change, expected_at_place};
 ghost use Rattle.doc_rules.specs.Replica.{own_op};
 ghost use Rattle.hold_buffer.specs.Held.{IsCurrent};
 ghost use Rattle.replica_core.specs.Resolved.{IsPlaceOf};
@@ -42,7 +42,7 @@ pub fn change(
     requires current { IsCurrent held.old log.old.operations }
     requires few { length held.old.held ≤ most_held }
     ensures met { let r = replica_of name log.old.operations held.old.held in
-        Meets r (due_placed r resolved mutation) (told_applied result) (replica_of name log.new.operations held.new.held) }
+        Meets r (expected_at_place r resolved mutation) (told_applied result) (replica_of name log.new.operations held.new.held) }
     ensures tells { AgreesWith tree.new log.new.operations }
     ensures current { IsCurrent held.new log.new.operations }
 {
@@ -73,7 +73,7 @@ fn log_own(
 ) -> Result<Applied, Refusal>
     requires named { is_name name ≡ true }
     requires place { IsPlaceOf log.old.operations (Ok cursor) }
-    requires unopposed { let r = replica_of name log.old.operations held.old.held in due_changed r cursor mutation ≡ due.logged (own_op r cursor mutation) }
+    requires unopposed { let r = replica_of name log.old.operations held.old.held in expected_of_change r cursor mutation ≡ due.logged (own_op r cursor mutation) }
     requires tells { AgreesWith tree.old log.old.operations }
     requires current { IsCurrent held.old log.old.operations }
     requires few { length held.old.held ≤ most_held }
@@ -98,7 +98,7 @@ fn own_cause(
     mutation: &Mutation,
 ) -> Result<(), Refusal>
     ensures { (waiting : List Op) → let r = replica_of name.now log.now.operations waiting in
-        due_changed r cursor.now mutation.now ≡ due_by_cause result (own_op r cursor.now mutation.now) }
+        expected_of_change r cursor.now mutation.now ≡ expected_by_cause result (own_op r cursor.now mutation.now) }
 {
     match place_cause(cursor, mutation) {
         Ok(()) => log.check_room(*name),

@@ -2,7 +2,7 @@
 ghost use Rattle.std.specs.Prelude.{◌≡◌, ◌⊎◌, ℕ, List};
 ghost use Rattle.op_core.specs.Op.{Op};
 ghost use Rattle.doc_tree.specs.Nodes.{tree_facts};
-ghost use Rattle.doc_rules.specs.Answers.{MayAnswer, LooksHere, told_as};
+ghost use Rattle.doc_rules.specs.Answers.{MayAnswer, LooksHere, reply_with};
 ghost use Rattle.doc_view.specs.TreeValues.{tree_values};
 ghost use Rattle.doc_words.specs.declared.ask.Query.TheVariants as query;
 ghost use Rattle.hold_buffer.specs.Held.{IsCurrent};
@@ -114,7 +114,7 @@ fn waiting(log: &OpLog, held: &HoldBuffer) -> Reply
 }
 
 fn keys_reply(answer: Result<CompactText, Refusal>) -> Reply
-    ensures { result ≡ told_as (λ x. Reply.Keys x) answer }
+    ensures { result ≡ reply_with (λ x. Reply.Keys x) answer }
 {
     match answer {
         Ok(text) => Reply::Keys(text),
@@ -123,7 +123,7 @@ fn keys_reply(answer: Result<CompactText, Refusal>) -> Reply
 }
 
 fn values_reply(answer: Result<Scalars, Refusal>) -> Reply
-    ensures { result ≡ told_as (λ x. Reply.Values x) answer }
+    ensures { result ≡ reply_with (λ x. Reply.Values x) answer }
 {
     match answer {
         Ok(values) => Reply::Values(values),
@@ -132,7 +132,7 @@ fn values_reply(answer: Result<Scalars, Refusal>) -> Reply
 }
 
 fn items_reply(answer: Result<CompactText, Refusal>) -> Reply
-    ensures { result ≡ told_as (λ x. Reply.Items x) answer }
+    ensures { result ≡ reply_with (λ x. Reply.Items x) answer }
 {
     match answer {
         Ok(text) => Reply::Items(text),
@@ -141,7 +141,7 @@ fn items_reply(answer: Result<CompactText, Refusal>) -> Reply
 }
 
 fn conflicts_reply(answer: Result<Conflicts, Refusal>) -> Reply
-    ensures { result ≡ told_as (λ x. Reply.Conflicts x) answer }
+    ensures { result ≡ reply_with (λ x. Reply.Conflicts x) answer }
 {
     match answer {
         Ok(conflicts) => Reply::Conflicts(conflicts),
@@ -150,7 +150,7 @@ fn conflicts_reply(answer: Result<Conflicts, Refusal>) -> Reply
 }
 
 fn show_reply(answer: Result<CompactText, Refusal>) -> Reply
-    ensures { result ≡ told_as (λ x. Reply.Show x) answer }
+    ensures { result ≡ reply_with (λ x. Reply.Show x) answer }
 {
     match answer {
         Ok(text) => Reply::Show(text),
@@ -159,7 +159,7 @@ fn show_reply(answer: Result<CompactText, Refusal>) -> Reply
 }
 
 fn sum_reply(answer: Result<i128, Refusal>) -> Reply
-    ensures { result ≡ told_as (λ x. Reply.Sum x) answer }
+    ensures { result ≡ reply_with (λ x. Reply.Sum x) answer }
 {
     match answer {
         Ok(sum) => Reply::Sum(sum),

@@ -1,7 +1,7 @@
 use Rattle.std.proofs.Common.{◌++◌, Ok, map, sym, ap, ◌∙◌}
 use Rattle.op_core.specs.Wire.{list_data}
 use Rattle.doc_tree.specs.Nodes.{tree_facts}
-use Rattle.doc_rules.specs.Told.{item_data, ItemsText}
+use Rattle.doc_rules.specs.Encoded.{item_data, ItemsText}
 use Rattle.json_text.specs.Tokens.{data_tokens}
 use Rattle.doc_view.proofs.Reading.{reads}
 use Rattle.doc_view.proofs.told.items_text.Goals as goal

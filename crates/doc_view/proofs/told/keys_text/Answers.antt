@@ -2,7 +2,7 @@ use Rattle.std.proofs.Common.{◌++◌, Ok, map, sym, ap, ◌∙◌}
 use Rattle.serde_json.specs.Data.{string}
 use Rattle.op_core.specs.Wire.{list_data}
 use Rattle.doc_tree.specs.Nodes.{tree_facts}
-use Rattle.doc_rules.specs.Told.{KeysText}
+use Rattle.doc_rules.specs.Encoded.{KeysText}
 use Rattle.json_text.specs.Tokens.{data_tokens}
 use Rattle.doc_view.proofs.Reading.{reads}
 use Rattle.doc_view.proofs.told.keys_text.Goals as goal

@@ -4,7 +4,7 @@ use Rattle.doc_words.specs.Words.{Id, Scalar}
 use Rattle.doc_tree.specs.Nodes.{tree_facts}
 use Rattle.doc_rules.specs.Views.{into_list}
 use Rattle.doc_rules.specs.Sorted.AreThose.{none, keep, skip}
-use Rattle.doc_rules.specs.Told.{item_data}
+use Rattle.doc_rules.specs.Encoded.{item_data}
 use Rattle.doc_view.specs.ByNumber.{AtNode, HasItems}
 use Rattle.doc_view.proofs.ByNumber.{entries_by_number}
 use Rattle.json_text.proofs.Texts.{told_nothing}

@@ -1,7 +1,7 @@
 use Rattle.std.proofs.Common.{take}
 use Rattle.doc_tree.specs.Nodes.{tree_facts}
 use Rattle.doc_rules.specs.Views.{into_list}
-use Rattle.doc_rules.specs.Told.{item_data}
+use Rattle.doc_rules.specs.Encoded.{item_data}
 use Rattle.doc_view.specs.ByNumber.{AtNode, HasItems}
 use Rattle.doc_view.specs.Telling.{TellsAll}
 use Rattle.doc_view.proofs.told.put_elements.Given as goal

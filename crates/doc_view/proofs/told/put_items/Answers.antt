@@ -1,7 +1,7 @@
 use Rattle.std.proofs.Common.{sym, ◌∙◌}
 use Rattle.doc_tree.specs.Nodes.{tree_facts}
 use Rattle.doc_rules.specs.Views.{AreItems}
-use Rattle.doc_rules.specs.Told.{item_data}
+use Rattle.doc_rules.specs.Encoded.{item_data}
 use Rattle.doc_view.proofs.ByNumber.{no_items}
 use Rattle.doc_view.proofs.TellingAll.{none_told, told_at}
 use Rattle.doc_view.proofs.told.put_items.Goals as goal

@@ -2,7 +2,7 @@ use Rattle.std.proofs.Common.{List, ◌∙◌, subst}
 use Rattle.doc_words.specs.Words.{Id}
 use Rattle.doc_tree.specs.Nodes.{tree_facts}
 use Rattle.doc_rules.specs.Views.{AreItems, into_list}
-use Rattle.doc_rules.specs.Told.{item_data}
+use Rattle.doc_rules.specs.Encoded.{item_data}
 use Rattle.doc_view.specs.ByNumber.{AtNode, HasItems}
 use Rattle.doc_view.proofs.ByNumber.{order_by_number}
 use Rattle.doc_view.proofs.TellingAll.{array_told}

@@ -8,7 +8,7 @@ use Rattle.doc_view.specs.TreeValues.{tree_values}
 use Rattle.doc_rules.specs.Answers.{LooksHere}
 use Rattle.doc_rules.specs.Views.{AreValues, AreConflicts, IsSum}
 use Rattle.doc_rules.specs.Shown.{ShowsText}
-use Rattle.doc_rules.specs.Told.{KeysText, ItemsText}
+use Rattle.doc_rules.specs.Encoded.{KeysText, ItemsText}
 use Rattle.replica_core.proofs.Looking.{told_here}
 use Rattle.replica_core.proofs.read.look_at.Goals as goal
 

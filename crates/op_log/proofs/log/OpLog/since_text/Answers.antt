@@ -1,6 +1,6 @@
 use Rattle.std.proofs.Common.{Ok, List, take, ap, ◌∙◌}
 use Rattle.op_core.specs.Op.{Op}
-use Rattle.doc_rules.specs.Told.{operations_text}
+use Rattle.doc_rules.specs.Encoded.{operations_text}
 use Rattle.op_log.proofs.log.OpLog.since_text.Goals as goal
 
 pub returns : goal.returns

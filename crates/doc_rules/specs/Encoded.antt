@@ -1,4 +1,4 @@
--- What is told as JSON text.
+-- What is answered as JSON text.
 use Rattle.std.specs.Prelude.{◌≡◌, ℕ, List, [], ◌∷◌, map}
 use Rattle.serde_json.specs.Data.{Data, string}
 use Rattle.serde_json.specs.Written.{compact_text}
@@ -13,16 +13,16 @@ abbrev pub item_data : Id × List Scalar → Data
 item_data item = list_data (id_data item.0 ∷ list_data (map scalar_data item.1) ∷ [])
 
 -- the compact text of an array of all that is read so, each written as this JSON
-abbrev pub ToldAs : {X : Type 0} → (X → Data) → (List Tagged → Key → List X → Type 0) → List Tagged → Key → List ℕ → Type 0
-ToldAs {X} json reads p k text = (xs : List X) × reads p k xs × (text ≡ compact_text (list_data (map json xs)))
+abbrev pub EncodedAs : {X : Type 0} → (X → Data) → (List Tagged → Key → List X → Type 0) → List Tagged → Key → List ℕ → Type 0
+EncodedAs {X} json reads p k text = (xs : List X) × reads p k xs × (text ≡ compact_text (list_data (map json xs)))
 
 -- the text of the present keys of the map at a place
 abbrev pub KeysText : Facts → List Tagged → Key → List ℕ → Type 0
-KeysText f = ToldAs string (AreKeys f)
+KeysText f = EncodedAs string (AreKeys f)
 
 -- the text of the present elements of the list at a place, each with its scalars
 abbrev pub ItemsText : Facts → List Tagged → Key → List ℕ → Type 0
-ItemsText f = ToldAs item_data (AreItems f)
+ItemsText f = EncodedAs item_data (AreItems f)
 
 -- the text of operations, in their order
 abbrev pub operations_text : List Op → List ℕ
