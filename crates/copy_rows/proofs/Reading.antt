@@ -27,7 +27,7 @@ use Rattle.copy_rows.proofs.SortLemmas.{entries_are}
 pub commits_none : (old new : State) → Survives old new (CommitsShowing read_entries_text [] old) → Survives old new (λ _. old.now.schema ≡ copy_schema → ⊥)
 commits_none old new = survives_weaker old new _ _ (λ clean db h has. reads_entries_only old db has h)
 
--- the connection is given back as it was lent last
+-- the connection is returned as it was lent last
 pub given_back : {S : Type 0} (g : Ghosts S) (old : State) (P : Trees → Type 0) (now end : Held S) → Survives old (state g now) P → end ≡ now → Survives old (state g end) P
 given_back g old P now end h same = subst (λ c. Survives old (state g c) P) (sym same) h
 

@@ -15,8 +15,9 @@ use copy_docs::{Fault, KeptDoc};
 use sqlite::{Alter, Connection};
 use std::alloc::Global;
 
-/// The documents that the rows of `entry` hold, which it reads by document and place. Each row is let go once its entry stands
-/// in a log, before the next is asked for, so no more rows are held than the database reads ahead. It changes nothing.
+/// The documents that the rows of `entry` hold, which it reads by document and place. Each row is dropped
+/// once its entry stands in a log, before the next is asked for, so no more rows are held than the database
+/// reads ahead. It changes nothing.
 pub fn read_docs<S: Alter>(
     alloc: Global,
     conn: &mut Connection<S>,
@@ -24,11 +25,16 @@ pub fn read_docs<S: Alter>(
 ) -> Result<Vec<KeptDoc>, Fault>
     ensures good { IfOk result (λ docs. AreInOrder docs.items × AreGood docs.items × AreWritable 2 docs.items) }
     ensures in_format { IfOk result (λ docs. AreWritable format docs.items) }
-    ensures ok { HasCleanDisk (state S.Store conn.new) → IfOk result (λ docs. (state S.Store conn.old).now.schema ≡ copy_schema
-        → IsPermutation (map entry_columns ((state S.Store conn.old).now.trees entry_tree)) (rows_of docs.items) × IsUnchanged (state S.Store conn.old) (state S.Store conn.new)) }
-    ensures accepts { HasCleanDisk (state S.Store conn.new) → IfErr result (λ e. (was : Content) → IsSoundContent was → was.format ≡ format → (state S.Store conn.old).now.schema ≡ copy_schema
+    ensures ok { HasCleanDisk (state S.Store conn.new)
+        → IfOk result (λ docs. (state S.Store conn.old).now.schema ≡ copy_schema
+        → IsPermutation (map entry_columns ((state S.Store conn.old).now.trees entry_tree)) (rows_of docs.items)
+            × IsUnchanged (state S.Store conn.old) (state S.Store conn.new)) }
+    ensures accepts { HasCleanDisk (state S.Store conn.new)
+        → IfErr result (λ e. (was : Content) → IsSoundContent was → was.format ≡ format
+        → (state S.Store conn.old).now.schema ≡ copy_schema
         → Holds was (state S.Store conn.old).now.trees → e ≢ Fault.Refused) }
-    ensures crash { Survives (state S.Store conn.old) (state S.Store conn.new) (λ _. (state S.Store conn.old).now.schema ≢ copy_schema) }
+    ensures crash { Survives (state S.Store conn.old) (state S.Store conn.new)
+        (λ _. (state S.Store conn.old).now.schema ≢ copy_schema) }
     ensures outside { StaysOutside (state S.Store conn.old) (state S.Store conn.new) }
 {
     let Ok(mut rows) = conn.query(

@@ -67,7 +67,7 @@ runs_then g its more old mid new x r first second =
       err = λ clean. IfErr-weaker r _ _ (λ e h. stops_after g its more old mid new e (before clean) h) (second.err clean);
     }
 
--- the error that a `?` hands on
+-- the error that a `?` passes on
 pub runs_until : {S T U : Type 0} (g : Ghosts S) (its more : List Statement) (old new : Held S) (e : Error) (r : Result U Error) → IsErrAnd r (λ y. y ≡ e) → RunsThrough {T = T} g its old new (Err e)
     → RunsThrough g (its ++ more) old new r
 runs_until g its more old new e (Ok x) is h = absurd is

@@ -28,10 +28,12 @@ abbrev pub insert_row : Row → Statement
 insert_row row = record { text = codes "INSERT INTO entry (doc, place, text) VALUES (?1, ?2, ?3)"; params = row }
 
 abbrev pub update_epoch : ℕ → Statement
-update_epoch epoch = record { text = codes "UPDATE meta SET value = ?1 WHERE name = 'epoch'"; params = Int (pos epoch) ∷ [] }
+update_epoch epoch =
+    record { text = codes "UPDATE meta SET value = ?1 WHERE name = 'epoch'"; params = Int (pos epoch) ∷ [] }
 
 abbrev pub update_format : ℕ → Statement
-update_format format = record { text = codes "UPDATE meta SET value = ?1 WHERE name = 'format'"; params = Int (pos format) ∷ [] }
+update_format format =
+    record { text = codes "UPDATE meta SET value = ?1 WHERE name = 'format'"; params = Int (pos format) ∷ [] }
 
 abbrev pub roll_it_back : Statement
 roll_it_back = record { text = codes "ROLLBACK"; params = [] }
@@ -46,7 +48,8 @@ abbrev pub create_entry_it : Statement
 create_entry_it = record { text = entry_text; params = [] }
 
 abbrev pub insert_numbers : Statement
-insert_numbers = record { text = codes "INSERT INTO meta (name, value) VALUES ('format', 2), ('epoch', 0)"; params = [] }
+insert_numbers =
+    record { text = codes "INSERT INTO meta (name, value) VALUES ('format', 2), ('epoch', 0)"; params = [] }
 
 -- the rows in one transaction
 abbrev pub batch_of : List Row → List Statement
@@ -77,15 +80,19 @@ RanAll {S} g (it ∷ more) old new = (mid : Held S) × Ran g it old mid × RanAl
 -- one of them failed by this error, after those before it ran, and none behind it was tried
 abbrev pub StopsBy : {S : Type 0} → Ghosts S → List Statement → Held S → Held S → Error → Type 0
 StopsBy g [] old new error = ⊥
-StopsBy {S} g (it ∷ more) old new error = RunsTo g it old new (Err error) ⊎ ((mid : Held S) × Ran g it old mid × StopsBy g more mid new error)
+StopsBy {S} g (it ∷ more) old new error =
+    RunsTo g it old new (Err error) ⊎ ((mid : Held S) × Ran g it old mid × StopsBy g more mid new error)
 
 -- one of them commits this, after those before it ran
 abbrev pub CommitsOneOf : {S : Type 0} → Ghosts S → List Statement → Held S → Trees → Type 0
 CommitsOneOf g [] old db = ⊥
-CommitsOneOf {S} g (it ∷ more) old db = CommitsBy it.text it.params (state g old) db ⊎ ((mid : Held S) × Ran g it old mid × CommitsOneOf g more mid db)
+CommitsOneOf {S} g (it ∷ more) old db =
+    CommitsBy it.text it.params (state g old) db ⊎ ((mid : Held S) × Ran g it old mid × CommitsOneOf g more mid db)
 
--- They were run in turn, up to the first that failed. A crash leaves what was there before, or what one of them commits.
-pub record RunsThrough {S T : Type 0} (g : Ghosts S) (its : List Statement) (old new : Held S) (r : Result T Error) : Type 0 where
+-- They were run in turn, up to the first that failed. A crash leaves what was there before, or what one of
+-- them commits.
+pub record RunsThrough {S T : Type 0} (g : Ghosts S) (its : List Statement) (old new : Held S)
+    (r : Result T Error) : Type 0 where
   pub crash : Survives (state g old) (state g new) (CommitsOneOf g its old)
   pub ran : HasCleanDisk (state g new) → OnOk r (RanAll g its old new)
   pub err : HasCleanDisk (state g new) → IfErr r (StopsBy g its old new)

@@ -1,4 +1,5 @@
--- The sum of a counter to which two replicas added, and what an assignment that knows of one of them leaves of it, computed.
+-- The sum of a counter to which two replicas added, and what an assignment that knows of one of them leaves
+-- of it, computed.
 use Rattle.std.proofs.Common.{◌≡◌, ◌⊎◌, inl, inr, ℕ, ℤ, pos, negsuc, List, [], ◌∷◌, Some, Ok, refl, sym, ap, subst, ◌∙◌, codes, Contains, Less}
 use Rattle.doc_words.specs.Words.{Id, id_cmp, Key, Tagged, Mutation, Assign, Add, Op}
 use Rattle.json_scalar.specs.declared.scalar.Scalar.TheVariants.{Text as TextValue}

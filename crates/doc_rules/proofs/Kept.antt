@@ -60,7 +60,7 @@ settles_keeps reply (replied answer) k safe h = subst IsKept (sym h.1) k
 settles_keeps reply (held op) k safe h = subst IsKept (sym h.1) (hold_keeps op k safe)
 settles_keeps reply (logged op) k safe h = drain_keeps h.drains (append_tidy op (tidy_from k) safe.fits safe.unheld)
 
--- ---- operations handed in
+-- ---- delivered operations
 
 by_cause_safe : (r : Replica) (op : Op) (cause : Result ⊤ Refusal) → cause_of op r.log ≡ cause → is_shaped op ≡ true
     → ((o : Op) → Contains r.held o → op.id ≢ o.id) → IsSafe r (expected_by_cause cause op)

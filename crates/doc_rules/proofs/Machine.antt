@@ -46,7 +46,7 @@ k = Text (codes "k")
 abbrev int : ℕ → Val
 int n = ScalarVal (Int (pos n))
 
--- three in a chain, handed in from the last to the first
+-- three in a chain, passed in from the last to the first
 abbrev third : Op
 third = op 3 p ((p, 2) ∷ []) root k (Assign (int 3))
 

@@ -1,4 +1,5 @@
--- Where steps lead, if they are not refused: a cursor that is placed, in limits, and each of whose elements stands in its list.
+-- Where steps lead, if they are not refused: a cursor that is placed, in limits, and each of whose elements
+-- stands in its list.
 use Rattle.std.proofs.Common.{◌≡◌, inl, inr, ℕ, zero, suc, ◌<◌, nat_le, List, [], ◌∷◌, ◌++◌, length, length-append, append_assoc, Bool, true, false, ◌&&◌, Option, Some, None, option_map, slice_get, Result, Ok, Err, ok_or, if◌then◌else◌, Contains, refl, sym, subst, arith, le-leb}
 use Rattle.std.specs.Prelude.{⊤, MatchResult}
 use Rattle.list_laws.proofs.Scanning.{Contains-from_slice_get}

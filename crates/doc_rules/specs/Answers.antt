@@ -26,7 +26,8 @@ reply_with reply_of (Err cause) = reply.Refused cause
 
 -- a reading of this kind at a cursor, with that reply
 abbrev pub ReadsHere : {X : Type 0} → (List Tagged → Key → X → Type 0) → (X → Reply) → Cursor → Reply → Type 0
-ReadsHere {X} reads reply_of c answer = (result : Result X Refusal) × ReadsPlace reads c result × (answer ≡ reply_with reply_of result)
+ReadsHere {X} reads reply_of c answer =
+    (result : Result X Refusal) × ReadsPlace reads c result × (answer ≡ reply_with reply_of result)
 
 -- the reply to a look at a cursor
 abbrev pub LooksHere : Facts → Values → Look → Cursor → Reply → Type 0
@@ -40,7 +41,8 @@ LooksHere f values look.Sum = ReadsHere (IsSum f) reply.Sum
 -- a reading at the place where the steps lead, or the cause against them
 abbrev pub ReadsAt : Replica → Place → (Cursor → Reply → Type 0) → Reply → Type 0
 ReadsAt r place reads answer =
-    (c : Result Cursor Refusal) × Resolves (replica_facts r) place.start place.steps c × MatchResult c (λ c. reads c answer) (λ e. answer ≡ reply.Refused e)
+    (c : Result Cursor Refusal) × Resolves (replica_facts r) place.start place.steps c
+        × MatchResult c (λ c. reads c answer) (λ e. answer ≡ reply.Refused e)
 
 -- the operations that a front does not cover, in log order
 abbrev pub since : List (List ℕ × ℕ) → List Op → List Op
@@ -49,8 +51,10 @@ since front log = filter (λ o. not (covers front o.id)) log
 -- mine is how many of the logged operations are the asking seat's, which the replica doesn't know
 abbrev pub Reads : Replica → ℕ → Query → Reply → Type 0
 Reads r mine (query.Resolve place) answer = ReadsAt r place (λ c a. a ≡ reply.Resolved c) answer
-Reads r mine (query.Look look place) answer = ReadsAt r place (LooksHere (replica_facts r) (value_put_at r.log) look) answer
-Reads r mine (query.Operations front limit) answer = answer ≡ reply.Operations (operations_text (take limit (since front r.log)))
+Reads r mine (query.Look look place) answer =
+    ReadsAt r place (LooksHere (replica_facts r) (value_put_at r.log) look) answer
+Reads r mine (query.Operations front limit) answer =
+    answer ≡ reply.Operations (operations_text (take limit (since front r.log)))
 Reads r mine query.Front answer = answer ≡ reply.Front (front_of r.log)
 Reads r mine query.Held answer = answer ≡ reply.Waiting (map (λ o. (o.id, missing o r.log)) r.held)
 Reads r mine query.Account answer = answer ≡ reply.Account mine

@@ -50,7 +50,8 @@ count_in _ = 0
 
 -- what a replica logged for a seat is the seat's
 abbrev pub for_seat : ℕ → Replica → Document → Document
-for_seat seat s d = record d { replica = s; seats_of = d.seats_of ++ replicate (length s.log - length d.replica.log) seat }
+for_seat seat s d =
+    record d { replica = s; seats_of = d.seats_of ++ replicate (length s.log - length d.replica.log) seat }
 
 -- a command for a seat
 abbrev pub Acts : Document → ℕ → Command → Reply → Document → Type 0
@@ -70,7 +71,8 @@ Answers d seat query reply = replica_answers.MayAnswer d.replica (count_of seat 
 
 -- the next seat, or that there is none
 abbrev pub opens : Document → Result ℕ Refusal × Document
-opens d = if nat_lt d.opened d.seats then (Ok (d.opened + 1), record d { opened = d.opened + 1 }) else (Err SeatsFull, d)
+opens d =
+    if nat_lt d.opened d.seats then (Ok (d.opened + 1), record d { opened = d.opened + 1 }) else (Err SeatsFull, d)
 
 -- so many are copied, where that is no fewer than were and no more than are logged
 abbrev pub copied_to : ℕ → Document → Document

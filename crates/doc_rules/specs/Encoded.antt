@@ -13,7 +13,8 @@ abbrev pub item_data : Id × List Scalar → Data
 item_data item = list_data (id_data item.0 ∷ list_data (map scalar_data item.1) ∷ [])
 
 -- the compact text of an array of all that is read so, each written as this JSON
-abbrev pub EncodedAs : {X : Type 0} → (X → Data) → (List Tagged → Key → List X → Type 0) → List Tagged → Key → List ℕ → Type 0
+abbrev pub EncodedAs : {X : Type 0} → (X → Data) → (List Tagged → Key → List X → Type 0) → List Tagged → Key → List ℕ
+    → Type 0
 EncodedAs {X} json reads p k text = (xs : List X) × reads p k xs × (text ≡ compact_text (list_data (map json xs)))
 
 -- the text of the present keys of the map at a place

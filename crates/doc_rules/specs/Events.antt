@@ -1,4 +1,5 @@
--- What a command does to a replica, and what it answers. The tables have the rows of docs/FORMATS.md, "The order of causes".
+-- What a command does to a replica, and what it answers. The tables have the rows of docs/FORMATS.md, "The
+-- order of causes".
 use Rattle.std.specs.Prelude.{◌≡◌, ◌⊎◌, ℕ, suc, nat_le, length, bytes_eq, ◌&&◌, not, Bool, true, false, List, [], ◌∷◌, Option, Some, None, is_some, Result, Ok, Err, if◌then◌else◌, ⊤}
 use Rattle.doc_words.specs.Words.{Id, Refusal, NoMemory, Op, Cursor, Mutation}
 use Rattle.json_scalar.specs.declared.refusal.Refusal.TheVariants.{AtHead, NotInList, LogFull, TooManyReplicas, IdConflict, OwnName, HeldFull, NotHeld}
@@ -118,7 +119,8 @@ Forgets r i None reply s = (reply ≡ Refused NotHeld) × (s ≡ r)
 -- with memory at hand before the first change
 abbrev pub Does : Replica → Command → Reply → Replica → Type 0
 Does r (Change place m) reply s =
-    (c : Result Cursor Refusal) × Resolves (replica_facts r) place.start place.steps c × Settles r (expected_at_place r c m) reply s
+    (c : Result Cursor Refusal) × Resolves (replica_facts r) place.start place.steps c
+        × Settles r (expected_at_place r c m) reply s
 Does r (Deliver op) reply s = Settles r (expected_of_delivery r op) reply s
 Does r (Forget i) reply s = Forgets r i (find_id r.held i) reply s
 

@@ -33,7 +33,8 @@ path_exists f p (t ∷ path) k = is_short (key_of t) && exists_in f p (key_of t)
 -- the first cause against a start, if there is one
 abbrev pub checked_start : Facts → Cursor → Result Cursor Refusal
 checked_start f c =
-    if is_shallow c.path then (if is_placed c.path c.key && path_exists f [] c.path c.key then Ok c else Err BadCursor) else Err TooDeep
+    if is_shallow c.path then (if is_placed c.path c.key
+        && path_exists f [] c.path c.key then Ok c else Err BadCursor) else Err TooDeep
 
 -- ---- one step
 
@@ -42,7 +43,8 @@ abbrev pub may_go_on : Cursor → Result ⊤ Refusal
 may_go_on c = if is_head c.key then Err AtHead else (if nat_le longest_path (length c.path) then Err TooDeep else Ok tt)
 
 abbrev pub at_text : Cursor → List ℕ → Result Cursor Refusal
-at_text c text = if is_short (Text text) then Ok (record { path = into_map c.path c.key; key = Text text }) else Err BadCursor
+at_text c text =
+    if is_short (Text text) then Ok (record { path = into_map c.path c.key; key = Text text }) else Err BadCursor
 
 -- index 0 is the head, and 1 the first of the present elements
 abbrev pub key_at : List Id → ℕ → Option Key
@@ -50,20 +52,24 @@ key_at ids zero = Some Head
 key_at ids (suc n) = option_map Element (slice_get ids n)
 
 abbrev pub at_index : Cursor → List Id → ℕ → Result Cursor Refusal
-at_index c ids n = and_then (ok_or (key_at ids n) IndexPastEnd) (λ k. Ok (record { path = into_list c.path c.key; key = k }))
+at_index c ids n =
+    and_then (ok_or (key_at ids n) IndexPastEnd) (λ k. Ok (record { path = into_list c.path c.key; key = k }))
 
 -- one step leads here, or is refused
 abbrev pub Goes : Facts → Cursor → Step → Result Cursor Refusal → Type 0
 Goes f c (Get text) r = r ≡ and_then (may_go_on c) (λ _. at_text c text)
-Goes f c (Index n) r = (ids : List Id) × AreElements f c.path c.key ids × (r ≡ and_then (may_go_on c) (λ _. at_index c ids n))
+Goes f c (Index n) r =
+    (ids : List Id) × AreElements f c.path c.key ids × (r ≡ and_then (may_go_on c) (λ _. at_index c ids n))
 
 -- ---- all steps
 
 -- the steps lead here, or the first that is refused is refused so
 abbrev pub Leads : Facts → List Step → Result Cursor Refusal → Result Cursor Refusal → Type 0
 Leads f [] from r = r ≡ from
-Leads f (step ∷ steps) from r = (next : Result Cursor Refusal) × MatchResult from (λ c. Goes f c step next) (λ e. next ≡ Err e) × Leads f steps next r
+Leads f (step ∷ steps) from r =
+    (next : Result Cursor Refusal) × MatchResult from (λ c. Goes f c step next) (λ e. next ≡ Err e)
+    × Leads f steps next r
 
--- from a start that a caller hands in
+-- from a start that a caller passes in
 abbrev pub Resolves : Facts → Cursor → List Step → Result Cursor Refusal → Type 0
 Resolves f start steps r = Leads f steps (checked_start f start) r

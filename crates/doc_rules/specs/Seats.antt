@@ -36,8 +36,8 @@ pub record IsAnswerTo (s t : Seat) (a : Answer) : Type 0 where
   pub calls : t.calls ≡ s.calls + 1
   pub of : (a.number ≡ s.number) × (a.seat ≡ s.seat) × (a.place ≡ t.calls)
 
--- a command for a seat: one event, acknowledged to the seat. It has as many operations as its told list has ids, before and
--- after; the list grows by as many as the reply counts
+-- a command for a seat: one event, acknowledged to the seat. It has as many operations as its told list has
+-- ids, before and after; the list grows by as many as the reply counts
 pub record ActsFor (d : Document) (s : Seat) (command : Command) (a : Answer) (e : Document) (t : Seat) : Type 0 where
   pub event : Acts d s.seat command a.reply e
   pub told : t.told ≡ s.told ++ operation_ids (drop (length d.replica.log) e.replica.log)
@@ -86,4 +86,5 @@ pub record Totals : Type 0 where
 -- the totals that the ends of all opened seats give
 abbrev pub totals_of : Document → List Seat → Totals
 totals_of d ends =
-    record { accepted = sum (told_counts ends); by_seat = told_counts ends; logged = length d.replica.log; copied = d.copied }
+    record { accepted = sum (told_counts ends); by_seat = told_counts ends; logged = length d.replica.log;
+        copied = d.copied }

@@ -12,8 +12,8 @@ use Rattle.crdt_rules.specs.Facts.{Facts}
 use Rattle.doc_rules.specs.Views.{Values, into_map, into_list, IsPresent, AreKeys, AreElements, AreEntries, AreTerms, total}
 
 mutual
-  -- what is shown: the map and the list of the place, where they stand there, the entries of its register, and the total of its
-  -- counter, where that has an entry
+  -- what is shown: the map and the list of the place, where they stand there, the entries of its register,
+  -- and the total of its counter, where that has an entry
   pub data Shown : Type 0 where
     shown : MapShown → ListShown → List (Id × Scalar) → Option ℤ → Shown
 
@@ -60,7 +60,8 @@ module _ (f : Facts) (values : Values) where
   abbrev mutual
     -- what is shown at a place
     pub Shows : List Tagged → Key → Shown → Type 0
-    Shows p k (shown m l entries count) = ShowsMap p k m × ShowsList p k l × AreEntries f p k entries × ShowsCount f p k count
+    Shows p k (shown m l entries count) =
+        ShowsMap p k m × ShowsList p k l × AreEntries f p k entries × ShowsCount f p k count
 
     pub ShowsMap : List Tagged → Key → MapShown → Type 0
     ShowsMap p k no_map = ¬ (HasMap f values p k)
@@ -68,7 +69,8 @@ module _ (f : Facts) (values : Values) where
 
     pub ShowsList : List Tagged → Key → ListShown → Type 0
     ShowsList p k no_list = (ids : List Id) × AreElements f p k ids × ¬ (HasList f values p k ids)
-    ShowsList p k (a_list es) = (ids : List Id) × AreElements f p k ids × HasList f values p k ids × ShowsElements (into_list p k) ids es
+    ShowsList p k (a_list es) =
+        (ids : List Id) × AreElements f p k ids × HasList f values p k ids × ShowsElements (into_list p k) ids es
 
     -- each under its name, in the map at the path
     pub ShowsFields : List Tagged → Fields → Type 0
@@ -78,7 +80,8 @@ module _ (f : Facts) (values : Values) where
     -- those of these ids, in the list at the path
     pub ShowsElements : List Tagged → List Id → Elements → Type 0
     ShowsElements p ids no_elements = ids ≡ []
-    ShowsElements p ids (element e es) = (i : Id) × (rest : List Id) × (ids ≡ i ∷ rest) × Shows p (Element i) e × ShowsElements p rest es
+    ShowsElements p ids (element e es) =
+        (i : Id) × (rest : List Id) × (ids ≡ i ∷ rest) × Shows p (Element i) e × ShowsElements p rest es
 
 -- ---- how it is written: an array of its branches
 
@@ -91,7 +94,8 @@ count_branch (Some n) = list_data (string (codes "cnt") ∷ string (signed_decim
 
 abbrev mutual
   pub shown_data : Shown → Data
-  shown_data (shown m l entries count) = list_data (map_branch m ++ list_branch l ++ map value_entry_data entries ++ count_branch count)
+  shown_data (shown m l entries count) =
+      list_data (map_branch m ++ list_branch l ++ map value_entry_data entries ++ count_branch count)
 
   pub map_branch : MapShown → List Data
   map_branch no_map = []

@@ -37,7 +37,8 @@ AreEntries f p k = AreAll id_cmp (λ entry. entry.0) (λ entry. f.register p k e
 
 -- and their scalars
 abbrev pub AreValues : Facts → List Tagged → Key → List Scalar → Type 0
-AreValues f p k scalars = (entries : List (Id × Scalar)) × AreEntries f p k entries × (scalars ≡ map (λ entry. entry.1) entries)
+AreValues f p k scalars =
+    (entries : List (Id × Scalar)) × AreEntries f p k entries × (scalars ≡ map (λ entry. entry.1) entries)
 
 -- each id with the scalars of the element's register
 abbrev pub HaveValues : Facts → List Tagged → List Id → List (Id × List Scalar) → Type 0

@@ -8,9 +8,9 @@ use op_core::{Front, Mutation, Operation};
 pub enum Command {
     /// A change of one's own at a place.
     Change(Place, Mutation),
-    /// An operation that was made elsewhere is handed in.
+    /// An operation that was made elsewhere is delivered.
     Deliver(Operation),
-    /// A held operation is given up.
+    /// A held operation is dropped.
     Forget(Id),
 }
 

@@ -48,7 +48,7 @@ pub enum Reply {
     Applied {
         /// How many operations were logged, the first included.
         count: u64,
-        /// How many held operations were given up.
+        /// How many held operations were dropped.
         dropped: u64,
         /// The id of the first.
         id: Id,
@@ -85,7 +85,7 @@ pub enum Reply {
     Refused(Refusal),
 }
 
-// One function for all the places where a reply is let go: a derived `drop` is written out at each.
+// One function for all the places where a reply is dropped: a derived `drop` is written out at each.
 impl Drop for Reply {
     fn drop(self) {
         match self {

@@ -1,5 +1,5 @@
-//! How values are read from JSON, and written as JSON. They are functions beside the types: a method would carry the library of
-//! JSON into each crate that names a value.
+//! How values are read from JSON, and written as JSON. They are functions beside the types: a method would
+//! carry the library of JSON into each crate that names a value.
 ghost use Rattle.std.specs.Prelude.{◌≡◌, Ok, IsTrue};
 ghost use Rattle.serde_json.specs.View.{view, items_view, members_view};
 ghost use Rattle.json_scalar.specs.Refusal.{UnlessMemory};
@@ -12,8 +12,8 @@ use crate::scalar::{Scalar, Text, Val};
 use serde_json::{Map, Value};
 use std::alloc::Global;
 
-/// The value that this JSON writes. `BadValue` where it writes none: a number that is no integer of 64 bits, a text
-/// of more than 4,096 bytes, a map with members or a list with items. `NoMemory` where memory is wanting.
+/// The value that this JSON writes. `BadValue` where it writes none: a number that is no integer of 64 bits,
+/// a text of more than 4,096 bytes, a map with members or a list with items. `NoMemory` when out of memory.
 pub fn val_from_json(alloc: Global, value: &Value) -> Result<Val, Refusal>
     ensures reads { ReadsVal (view value.now) result }
     ensures complete { (v : Val) → IsTrue (is_val v) → val_data v ≡ view value.now → UnlessMemory result (Ok v) }
@@ -22,7 +22,7 @@ pub fn val_from_json(alloc: Global, value: &Value) -> Result<Val, Refusal>
     read_val(alloc, value)
 }
 
-/// The value's JSON. `NoMemory` where memory is wanting, and no other refusal.
+/// The value's JSON. The only refusal is `NoMemory`.
 pub fn val_to_json(alloc: Global, val: &Val) -> Result<Value, Refusal>
     ensures { Writes (val_data val.now) result }
 {

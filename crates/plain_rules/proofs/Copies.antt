@@ -1,4 +1,4 @@
--- Copies, which are refused for want of memory alone.
+-- Copies, which are refused only when out of memory.
 use Rattle.std.proofs.Common.{◌≡◌, ◌≢◌, Result, Ok, Err, IfOk, IfErr, refl}
 use Rattle.json_scalar.specs.Refusal.{UnlessMemory}
 use Rattle.json_scalar.specs.declared.refusal.Refusal.{Refusal}

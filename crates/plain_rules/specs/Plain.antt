@@ -33,7 +33,8 @@ first_value_at [] k i = None
 first_value_at (e ∷ rest) k i = if key_eq e.0 k && id_eq e.1 i then Some e.2 else first_value_at rest k i
 
 -- a context, from the lists that are kept of it
-abbrev pub whole : List (Tagged × Context) → List (Key × Id × Scalar) → List (Key × Id × ℤ) → List (Key × Id) → List Id → Context
+abbrev pub whole : List (Tagged × Context) → List (Key × Id × Scalar) → List (Key × Id × ℤ) → List (Key × Id)
+    → List Id → Context
 whole children scalars numbers marks order =
     node (child_in children) (first_value_at scalars) (first_value_at numbers) (present_in marks) order
 
@@ -74,4 +75,5 @@ place_of_child children t = prefix_len (λ c. not (tagged_eq c.0 t)) children
 -- an operation has passed a key: it has marked it, unless it is a delete
 abbrev pub passed_key : Id → Key → Mutation → Context → Context
 passed_key id key m ctx =
-    node (child ctx) (register ctx) (counter ctx) (λ k i. present ctx k i || (not (is_delete m) && key_eq key k && id_eq id i)) (order ctx)
+    node (child ctx) (register ctx) (counter ctx) (λ k i. present ctx k i
+        || (not (is_delete m) && key_eq key k && id_eq id i)) (order ctx)

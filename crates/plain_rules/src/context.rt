@@ -41,7 +41,7 @@ impl PlainContext {
     }
 }
 
-/// Whether a set has an id.
+// Whether a set has an id.
 fn is_in(ids: &[Id], id: &Id) -> bool
     ensures { result ≡ is_in ids.now id.now }
 {
@@ -88,7 +88,7 @@ fn clear_values_at<T: Drop>(values: &mut Vec<(Key, Id, T)>, key: &Key, dependenc
     );
 }
 
-/// Takes the ids of a set out of a whole context.
+// Takes the ids of a set out of a whole context.
 #[cycle(clearing)]
 fn clear_all(context: &mut PlainContext, dependencies: &[Id])
     ensures { context_of context.new ≡ clear_all (is_in dependencies.now) (context_of context.old) }
@@ -117,14 +117,15 @@ fn clear_child_at(child: &mut (Tagged, PlainContext), key: &Key, dependencies: &
 }
 
 fn clear_children_at(children: &mut [(Tagged, PlainContext)], key: &Key, dependencies: &[Id])
-    ensures { contexts_of children.new ≡ clear_each (λ k. key_eq k key.now) (is_in dependencies.now) (contexts_of children.old) }
+    ensures { contexts_of children.new ≡ clear_each (λ k. key_eq k key.now) (is_in dependencies.now)
+        (contexts_of children.old) }
 {
     for i in 0..children.len() {
         clear_child_at(&mut children[i], key, dependencies);
     }
 }
 
-/// Takes the ids of a set out at a key, and of the map and the list there.
+// Takes the ids of a set out at a key, and of the map and the list there.
 fn clear_elem(context: &mut PlainContext, key: &Key, dependencies: &[Id])
     ensures { context_of context.new ≡ clear_elem (is_in dependencies.now) key.now (context_of context.old) }
 {
@@ -134,7 +135,7 @@ fn clear_elem(context: &mut PlainContext, key: &Key, dependencies: &[Id])
     clear_children_at(&mut context.children, key, dependencies);
 }
 
-/// Adds an id to the presence set of a key.
+// Adds an id to the presence set of a key.
 fn mark(context: &mut PlainContext, key: &Key, id: &Id) -> Result<(), Refusal>
     ensures done { OnOk result (context_of context.new ≡ mark id.now key.now (context_of context.old)) }
     ensures memory { IfErr result (λ e. e ≡ NoMemory) }
@@ -144,9 +145,10 @@ fn mark(context: &mut PlainContext, key: &Key, id: &Id) -> Result<(), Refusal>
     Ok(())
 }
 
-/// Enters a value, if it is a scalar, into the register of a key.
+// Enters a value, if it is a scalar, into the register of a key.
 fn enter(context: &mut PlainContext, key: &Key, id: &Id, val: &Val) -> Result<(), Refusal>
-    ensures done { OnOk result (context_of context.new ≡ enter id.now key.now (scalar_in val.now) (context_of context.old)) }
+    ensures done { OnOk result (context_of context.new
+        ≡ enter id.now key.now (scalar_in val.now) (context_of context.old)) }
     ensures memory { IfErr result (λ e. e ≡ NoMemory) }
 {
     match val {
@@ -159,7 +161,7 @@ fn enter(context: &mut PlainContext, key: &Key, id: &Id, val: &Val) -> Result<()
     }
 }
 
-/// Enters a number into the counter of a key.
+// Enters a number into the counter of a key.
 fn count(context: &mut PlainContext, key: &Key, id: &Id, number: &i64) -> Result<(), Refusal>
     ensures done { OnOk result (context_of context.new ≡ count id.now key.now number.now (context_of context.old)) }
     ensures memory { IfErr result (λ e. e ≡ NoMemory) }
@@ -169,9 +171,10 @@ fn count(context: &mut PlainContext, key: &Key, id: &Id, number: &i64) -> Result
     Ok(())
 }
 
-/// Adds a number at a key.
+// Adds a number at a key.
 fn add(context: &mut PlainContext, key: &Key, id: &Id, number: &i64) -> Result<(), Refusal>
-    ensures done { OnOk result (context_of context.new ≡ count id.now key.now number.now (mark id.now key.now (context_of context.old))) }
+    ensures done { OnOk result (context_of context.new
+        ≡ count id.now key.now number.now (mark id.now key.now (context_of context.old))) }
     ensures memory { IfErr result (λ e. e ≡ NoMemory) }
 {
     mark(context, key, id)?;
@@ -186,7 +189,7 @@ pub fn child_place(children: &[(Tagged, PlainContext)], key: &Tagged) -> usize
     children.iter().take_while(|child| child.0 != *key).count()
 }
 
-/// Takes the child at a key out; one that is missing is a new one.
+// Takes the child at a key out; one that is missing is a new one.
 fn take_child(
     alloc: Global,
     children: &mut Vec<(Tagged, PlainContext)>,
@@ -204,13 +207,14 @@ fn take_child(
     }
 }
 
-/// Puts a child in front of the others.
+// Puts a child in front of the others.
 fn put_child(
     children: &mut Vec<(Tagged, PlainContext)>,
     key: &Tagged,
     child: PlainContext,
 ) -> Result<(), Refusal>
-    ensures done { OnOk result (contexts_of children.new.items ≡ seen (key.now, child) ∷ contexts_of children.old.items) }
+    ensures done { OnOk result (contexts_of children.new.items
+        ≡ seen (key.now, child) ∷ contexts_of children.old.items) }
     ensures memory { IfErr result (λ e. e ≡ NoMemory) }
 {
     let entry = (tagged_copy(key)?, child);
@@ -218,7 +222,7 @@ fn put_child(
     Ok(())
 }
 
-/// Assigns a value at a key.
+// Assigns a value at a key.
 fn put(
     context: &mut PlainContext,
     key: &Key,
@@ -226,7 +230,8 @@ fn put(
     val: &Val,
     dependencies: &[Id],
 ) -> Result<(), Refusal>
-    ensures done { OnOk result (context_of context.new ≡ put (is_in dependencies.now) id.now key.now val.now (context_of context.old)) }
+    ensures done { OnOk result (context_of context.new
+        ≡ put (is_in dependencies.now) id.now key.now val.now (context_of context.old)) }
     ensures memory { IfErr result (λ e. e ≡ NoMemory) }
 {
     clear_elem(context, key, dependencies);
@@ -234,7 +239,7 @@ fn put(
     enter(context, key, id, val)
 }
 
-/// Takes an id into the order of the list.
+// Takes an id into the order of the list.
 fn place(context: &mut PlainContext, after: &Key, id: &Id) -> Result<(), Refusal>
     ensures done { OnOk result (context_of context.new ≡ place_id id.now after.now (context_of context.old)) }
     ensures memory { IfErr result (λ e. e ≡ NoMemory) }
@@ -242,7 +247,7 @@ fn place(context: &mut PlainContext, after: &Key, id: &Id) -> Result<(), Refusal
     insert_by_rule(&mut context.order, after, id)
 }
 
-/// Inserts a value into the list.
+// Inserts a value into the list.
 fn insert(
     context: &mut PlainContext,
     after: &Key,
@@ -250,14 +255,15 @@ fn insert(
     val: &Val,
     dependencies: &[Id],
 ) -> Result<(), Refusal>
-    ensures done { OnOk result (context_of context.new ≡ mutate (is_in dependencies.now) id.now after.now (Insert val.now) (context_of context.old)) }
+    ensures done { OnOk result (context_of context.new
+        ≡ mutate (is_in dependencies.now) id.now after.now (Insert val.now) (context_of context.old)) }
     ensures memory { IfErr result (λ e. e ≡ NoMemory) }
 {
     place(context, after, id)?;
     put(context, &Key::Element(*id), id, val, dependencies)
 }
 
-/// What a mutation does at a key.
+// What a mutation does at a key.
 fn mutate(
     context: &mut PlainContext,
     key: &Key,
@@ -265,7 +271,8 @@ fn mutate(
     mutation: &Mutation,
     dependencies: &[Id],
 ) -> Result<(), Refusal>
-    ensures done { OnOk result (context_of context.new ≡ mutate (is_in dependencies.now) id.now key.now mutation.now (context_of context.old)) }
+    ensures done { OnOk result (context_of context.new
+        ≡ mutate (is_in dependencies.now) id.now key.now mutation.now (context_of context.old)) }
     ensures memory { IfErr result (λ e. e ≡ NoMemory) }
 {
     match mutation {
@@ -279,9 +286,10 @@ fn mutate(
     }
 }
 
-/// Marks a key on the way of an operation, unless it is a delete.
+// Marks a key on the way of an operation, unless it is a delete.
 fn pass(context: &mut PlainContext, key: &Key, id: &Id, mutation: &Mutation) -> Result<(), Refusal>
-    ensures done { OnOk result (context_of context.new ≡ passed_key id.now key.now mutation.now (context_of context.old)) }
+    ensures done { OnOk result (context_of context.new
+        ≡ passed_key id.now key.now mutation.now (context_of context.old)) }
     ensures memory { IfErr result (λ e. e ≡ NoMemory) }
 {
     match mutation {
@@ -290,7 +298,7 @@ fn pass(context: &mut PlainContext, key: &Key, id: &Id, mutation: &Mutation) -> 
     }
 }
 
-/// An operation on its way down.
+// An operation on its way down.
 #[cycle(descending)]
 fn descend(
     alloc: Global,
@@ -299,7 +307,8 @@ fn descend(
     path: &[Tagged],
     dependencies: &[Id],
 ) -> Result<(), Refusal>
-    ensures done { OnOk result (context_of context.new ≡ descend (is_in dependencies.now) op.now path.now (context_of context.old)) }
+    ensures done { OnOk result (context_of context.new
+        ≡ descend (is_in dependencies.now) op.now path.now (context_of context.old)) }
     ensures memory { IfErr result (λ e. e ≡ NoMemory) }
 {
     match path {
@@ -314,7 +323,7 @@ fn descend(
     }
 }
 
-/// One key of its way: it passes the key, and goes on in the child there.
+// One key of its way: it passes the key, and goes on in the child there.
 #[cycle(descending)]
 fn follow(
     alloc: Global,
@@ -324,7 +333,8 @@ fn follow(
     rest: &[Tagged],
     dependencies: &[Id],
 ) -> Result<(), Refusal>
-    ensures done { OnOk result (context_of context.new ≡ descend (is_in dependencies.now) op.now (first.now ∷ rest.now) (context_of context.old)) }
+    ensures done { OnOk result (context_of context.new
+        ≡ descend (is_in dependencies.now) op.now (first.now ∷ rest.now) (context_of context.old)) }
     ensures memory { IfErr result (λ e. e ≡ NoMemory) }
 {
     pass(context, first.key(), &op.id(), op.mutation())?;
@@ -337,7 +347,7 @@ fn follow(
 /// The context after the step of an operation whose dependencies are the ids of a set, by the rules as they are
 /// defined. The step asks nothing of the operation: one that doesn't fit takes its step too.
 ///
-/// Refused for want of memory alone (22); the context is let go then.
+/// The only refusal is out of memory (22); the context is dropped then.
 pub fn plain_step(
     alloc: Global,
     context: PlainContext,

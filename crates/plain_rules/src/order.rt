@@ -42,7 +42,7 @@ fn insert_behind(order: &mut Vec<Id>, previous: &Id, id: &Id) -> Result<(), Refu
     Ok(())
 }
 
-/// Where an id stands, or the length.
+// Where an id stands, or the length.
 fn place_in(ids: &[Id], id: &Id) -> usize
     ensures value { result ≡ place_of ids.now id.now }
     ensures within { result ≤ length ids.now }
@@ -50,7 +50,7 @@ fn place_in(ids: &[Id], id: &Id) -> usize
     ids.iter().take_while(|x| **x != *id).count()
 }
 
-/// How many ids, at the front, are not less than this one.
+// How many ids, at the front, are not less than this one.
 fn greater_in(ids: &[Id], id: &Id) -> usize
     ensures value { result ≡ greater_len ids.now id.now }
     ensures within { result ≤ length ids.now }

@@ -90,7 +90,7 @@ fn is_key_marked(marks: &[(Key, Id)], key: &Key) -> bool
     false
 }
 
-/// The first value of an id at a key.
+// The first value of an id at a key.
 fn value_of<'a, T>(values: &'a [(Key, Id, T)], key: &Key, id: &Id) -> Option<&'a T>
     ensures { MatchOption result
         (first_value_at values.now key.now id.now ≡ None)
@@ -121,7 +121,7 @@ fn child_at<'a>(children: &'a [(Tagged, PlainContext)], key: &Tagged) -> Option<
     }
 }
 
-/// The context at the end of a path; one that is missing is empty.
+// The context at the end of a path; one that is missing is empty.
 #[cycle(going_down)]
 fn below<'a>(context: &'a PlainContext, path: &[Tagged]) -> Option<&'a PlainContext>
     ensures { MatchOption result

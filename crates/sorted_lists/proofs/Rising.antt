@@ -1,4 +1,5 @@
--- Laws of lists whose keys rise: what a binary search finds in them, what an insertion and a filter keep, and that their members tell them.
+-- Laws of lists whose keys rise: what a binary search finds in them, what an insertion and a filter keep, and
+-- that their members tell them.
 use Rattle.std.proofs.Common.{◌≡◌, ◌≢◌, ℕ, ◌+◌, ◌<◌, inl, inr, zero, suc, List, [], ◌∷◌, ◌++◌, length, take, drop, get_or, map, filter, Bool, true, false, if◌then◌else◌, Contains, refl, sym, subst, ◌∙◌, arith, Result, Ok, Err, Ordering, Less, Greater, length-drop}
 use Rattle.std.specs.Prelude.{MatchResult, insert}
 use Rattle.std.specs.Ordering.{ordering_index}
