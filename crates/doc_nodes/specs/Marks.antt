@@ -1,5 +1,5 @@
 -- The marks of an operation on the nodes that it passes, and where it ends.
-use Rattle.std.specs.Prelude.{◌≡◌, ◌≢◌, ◌⊎◌, ◌<◌, List, [], ◌∷◌, ◌++◌, length, Some, ◌&&◌, ◌||◌, IsSome, Bool, true, false}
+use Rattle.std.specs.Prelude.{◌≡◌, ◌≢◌, ◌⊎◌, ◌<◌, List, [], ◌∷◌, ◌++◌, length, map, Some, ◌&&◌, ◌||◌, IsSome, Bool, true, false}
 use Rattle.doc_words.specs.Words.{Id, Key, Tagged}
 use Rattle.op_core.specs.Shape.{key_of}
 use Rattle.crdt_rules.specs.Same.{id_eq}
@@ -40,6 +40,11 @@ keys_below (s ∷ way) k = key_of s ∷ keys_below way k
 abbrev pub keys_to : List Tagged → Key → List Key
 keys_to [] k = []
 keys_to (t ∷ way) k = keys_below way k
+
+-- the keys on the way to the node above a place, and to the root if the place is the root
+abbrev pub keys_above : List Tagged → List Key
+keys_above [] = []
+keys_above (t ∷ way) = map key_of way
 
 -- there is room for one more id in the presence of each node on the way
 abbrev pub HasRoomAlong : List Node → NodeNumber → List Key → Type 0

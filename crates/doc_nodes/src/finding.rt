@@ -1,5 +1,5 @@
 //! The node of a place.
-ghost use Rattle.std.specs.Prelude.{◌≡◌, Some, None, IsSome, option_and_then, if◌then◌else◌};
+ghost use Rattle.std.specs.Prelude.{◌≡◌, Some, None, option_and_then, if◌then◌else◌};
 ghost use Rattle.op_core.specs.Shape.{may_follow};
 ghost use Rattle.crdt_rules.specs.Same.{key_eq};
 ghost use Rattle.op_core.specs.declared.cursor.Key.TheVariants.{Doc};
@@ -76,22 +76,6 @@ fn find_list_below(
             Some(below) => find_list_below(nodes, below, next, rest),
         },
     }
-}
-
-/// The node of a place that has one.
-pub fn known_node(nodes: &[Node], path: &[Tagged], key: &Key) -> NodeNumber
-    requires { IsSome (node_at nodes.now path.now key.now) }
-    ensures { node_at nodes.now path.now key.now ≡ Some result }
-{
-    find(nodes, path, key).unwrap()
-}
-
-/// The node of a list that has one.
-pub fn known_list(nodes: &[Node], path: &[Tagged]) -> NodeNumber
-    requires { IsSome (list_node_at nodes.now path.now) }
-    ensures { list_node_at nodes.now path.now ≡ Some result }
-{
-    find_list(nodes, path).unwrap()
 }
 
 /// The child of a node at a key, if the tagged key leads to keys of that kind.

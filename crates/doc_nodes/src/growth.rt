@@ -1,57 +1,84 @@
 //! Growth that changes nothing of what the nodes say.
-ghost use Rattle.std.specs.Prelude.{◌≡◌, ◌<◌, ◌≤◌, ◌+◌, ◌++◌, ◌∷◌, [], length, Some, None, OnOk, OnErr, IfOk, IfErr, slice_set, true, false};
+ghost use Rattle.std.specs.Prelude.{◌≡◌, ◌<◌, ◌≤◌, ◌+◌, ◌++◌, ◌∷◌, [], length, Some, None, OnOk, OnErr, IfOk, IfErr, map, slice_set, true, false};
 ghost use Rattle.json_scalar.specs.declared.refusal.Refusal.TheVariants.{NoMemory};
 ghost use Rattle.doc_nodes.specs.Nodes.{AreTree, node_of, child_of};
-ghost use Rattle.doc_nodes.specs.Marks.{keys_below, keys_to};
-ghost use Rattle.doc_nodes.specs.Walk.{root};
+ghost use Rattle.op_core.specs.Shape.{key_of};
+ghost use Rattle.doc_nodes.specs.Marks.{keys_above, keys_below, keys_to};
+ghost use Rattle.doc_nodes.specs.Walk.{root, walk};
 ghost use Rattle.doc_nodes.specs.Growth.{Grows, IsMade, with_child};
 
-use crate::node::{Node, NodeNumber, ROOT};
+use crate::node::{Node, NodeNumber, PlaceNodes, ROOT};
 use json_scalar::Refusal;
 use op_core::{Key, Tagged};
 
-/// Makes the nodes on the way from the root down to a place, with room for one more id in each: at
-/// most one node for each key of the path.
-pub fn prepare_way(nodes: &mut Vec<Node>, path: &[Tagged], key: &Key) -> Result<(), Refusal>
+/// Makes the nodes on the way from the root down to a place, with room for one more id in each, and returns the last two:
+/// at most one new node for each key of the path.
+pub fn prepare_way(nodes: &mut Vec<Node>, path: &[Tagged], key: &Key) -> Result<PlaceNodes, Refusal>
     requires tree { AreTree nodes.old.items }
     ensures tree { AreTree nodes.new.items }
     ensures grows { Grows nodes.old.items nodes.new.items }
     ensures few { length nodes.new.items ≤ length nodes.old.items + length path.now }
     ensures ok { OnOk result (IsMade nodes.new.items root (keys_to path.now key.now)) }
+    ensures node { IfOk result
+        (λ place. walk (child_of nodes.new.items) root (keys_to path.now key.now) ≡ Some place.node) }
+    ensures above { IfOk result (λ place. walk (child_of nodes.new.items) root (keys_above path.now) ≡ Some place.above) }
     ensures memory { IfErr result (λ cause. cause ≡ NoMemory) }
 {
+    reserve_presence(nodes, ROOT)?;
     match path.split_first() {
-        None => reserve_presence(nodes, ROOT),
+        None => Ok(PlaceNodes {
+            node: ROOT,
+            above: ROOT,
+        }),
         Some((_, way)) => prepare_below(nodes, ROOT, way, key),
     }
 }
 
-/// Makes the nodes on the way from a node down to a place, with room for one more id in each.
+/// Makes the nodes on the way from a node that has room down to a place, with room for one more id in each.
 fn prepare_below(
     nodes: &mut Vec<Node>,
     at: NodeNumber,
     way: &[Tagged],
     key: &Key,
-) -> Result<(), Refusal>
+) -> Result<PlaceNodes, Refusal>
     requires tree { AreTree nodes.old.items }
     requires known { at.0 < length nodes.old.items }
+    requires room { (node_of nodes.old.items at).presence.1 ≡ true }
     ensures tree { AreTree nodes.new.items }
     ensures grows { Grows nodes.old.items nodes.new.items }
     ensures few { length nodes.new.items ≤ length nodes.old.items + length way.now + 1 }
     ensures ok { OnOk result (IsMade nodes.new.items at (keys_below way.now key.now)) }
+    ensures node { IfOk result
+        (λ place. walk (child_of nodes.new.items) at (keys_below way.now key.now) ≡ Some place.node) }
+    ensures above { IfOk result (λ place. walk (child_of nodes.new.items) at (map key_of way.now) ≡ Some place.above) }
     ensures memory { IfErr result (λ cause. cause ≡ NoMemory) }
 {
-    reserve_presence(nodes, at)?;
     match way.split_first() {
         None => {
-            let end = grown_child(nodes, at, key)?;
-            reserve_presence(nodes, end)
+            let node = ready_child(nodes, at, key)?;
+            Ok(PlaceNodes { node, above: at })
         }
         Some((next, rest)) => {
-            let below = grown_child(nodes, at, next.key())?;
+            let below = ready_child(nodes, at, next.key())?;
             prepare_below(nodes, below, rest, key)
         }
     }
+}
+
+/// The child of a node at a key, made if there is none, with room for one more id.
+fn ready_child(nodes: &mut Vec<Node>, at: NodeNumber, key: &Key) -> Result<NodeNumber, Refusal>
+    requires tree { AreTree nodes.old.items }
+    requires known { at.0 < length nodes.old.items }
+    ensures tree { AreTree nodes.new.items }
+    ensures grows { Grows nodes.old.items nodes.new.items }
+    ensures few { length nodes.new.items ≤ length nodes.old.items + 1 }
+    ensures child { IfOk result (λ c. child_of nodes.new.items at key.now ≡ Some c) }
+    ensures room { IfOk result (λ c. (node_of nodes.new.items c).presence.1 ≡ true) }
+    ensures memory { IfErr result (λ cause. cause ≡ NoMemory) }
+{
+    let child = grown_child(nodes, at, key)?;
+    reserve_presence(nodes, child)?;
+    Ok(child)
 }
 
 /// Makes room for one more number in a node, or for one more scalar.
@@ -61,8 +88,10 @@ pub fn reserve_value(nodes: &mut Vec<Node>, at: NodeNumber, adds: bool) -> Resul
     ensures tree { AreTree nodes.new.items }
     ensures grows { Grows nodes.old.items nodes.new.items }
     ensures none { length nodes.new.items ≡ length nodes.old.items }
-    ensures register { adds ≡ false → OnOk result (length (node_of nodes.new.items at).register.0 < (node_of nodes.new.items at).register.1) }
-    ensures counter { adds ≡ true → OnOk result (length (node_of nodes.new.items at).counter.0 < (node_of nodes.new.items at).counter.1) }
+    ensures register { adds ≡ false
+        → OnOk result (length (node_of nodes.new.items at).register.0 < (node_of nodes.new.items at).register.1) }
+    ensures counter { adds ≡ true
+        → OnOk result (length (node_of nodes.new.items at).counter.0 < (node_of nodes.new.items at).counter.1) }
     ensures memory { IfErr result (λ cause. cause ≡ NoMemory) }
 {
     let node = &mut nodes[at.0];
@@ -80,7 +109,8 @@ pub fn reserve_order(nodes: &mut Vec<Node>, at: NodeNumber) -> Result<(), Refusa
     ensures tree { AreTree nodes.new.items }
     ensures grows { Grows nodes.old.items nodes.new.items }
     ensures none { length nodes.new.items ≡ length nodes.old.items }
-    ensures room { OnOk result (length (node_of nodes.new.items at).order.0 < (node_of nodes.new.items at).order.1) }
+    ensures room { OnOk result
+        (length (node_of nodes.new.items at).order.0 < (node_of nodes.new.items at).order.1) }
     ensures memory { IfErr result (λ cause. cause ≡ NoMemory) }
 {
     let node = &mut nodes[at.0];
@@ -151,7 +181,9 @@ fn seek_child(nodes: &mut Vec<Node>, at: NodeNumber, key: &Key) -> Option<NodeNu
 fn add_child(nodes: &mut Vec<Node>, at: NodeNumber, key: Key, fresh: Node) -> Result<(), Refusal>
     requires known { at.0 < length nodes.old.items }
     requires missing { child_of nodes.old.items at key ≡ None }
-    ensures ok { OnOk result (nodes.new.items ≡ slice_set nodes.old.items at.0 (with_child key (record { 0 = length nodes.old.items }) (node_of nodes.old.items at)) ++ fresh ∷ []) }
+    ensures ok { OnOk result (nodes.new.items
+        ≡ slice_set nodes.old.items at.0
+            (with_child key (record { 0 = length nodes.old.items }) (node_of nodes.old.items at)) ++ fresh ∷ []) }
     ensures err { OnErr result (nodes.new.items ≡ nodes.old.items) }
     ensures memory { IfErr result (λ cause. cause ≡ NoMemory) }
 {

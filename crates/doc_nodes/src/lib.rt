@@ -12,8 +12,8 @@ mod write;
 
 pub use children::{Children, EachChild, Spot};
 pub use clear::{clear_under, clear_way};
-pub use finding::{find, find_list, keys, known_list, known_node};
+pub use finding::{find, find_list, keys};
 pub use growth::{prepare_way, reserve_order, reserve_value};
 pub use mark::mark_way;
-pub use node::{Counter, Node, NodeNumber, Register, element_in};
+pub use node::{Counter, Node, NodeNumber, PlaceNodes, ROOT, Register, element_in};
 pub use write::{count, enter, link};

@@ -17,6 +17,15 @@ pub struct NodeNumber(pub usize);
 /// The number of the root.
 pub const ROOT: NodeNumber = NodeNumber(0);
 
+/// The nodes at the end of the way to a place.
+#[derive(Clone, Copy)]
+pub struct PlaceNodes {
+    /// The node of the place.
+    pub node: NodeNumber,
+    /// The node above it, which has the list that the place is an element of; the root if the place is the root.
+    pub above: NodeNumber,
+}
+
 /// The scalars that operations put at a place.
 pub type Register = ById<Scalar>;
 

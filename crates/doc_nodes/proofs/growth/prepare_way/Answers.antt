@@ -1,6 +1,5 @@
 use Rattle.std.proofs.Common.{◌≡◌, [], sym, ap, subst}
 use Rattle.std.proofs.lemmas.List.{nil_from_length}
-use Rattle.std.proofs.lemmas.Result.{on_ok_weaker}
 use Rattle.doc_nodes.specs.Walk.{root}
 use Rattle.doc_nodes.specs.Marks.{keys_to}
 use Rattle.doc_nodes.specs.Growth.{IsMade}
@@ -10,8 +9,7 @@ use Rattle.doc_nodes.proofs.growth.prepare_way.Goals as goal
 pub returns-in-None-clause-ok : goal.returns-in-None-clause-ok
 returns-in-None-clause-ok c =
     let new = c.reserve_presence.new.nodes.items in
-    let keys : keys_to c.args.path.now c.args.key.now ≡ [] = ap (λ p. keys_to p c.args.key.now) (nil_from_length c.args.path.now c.in-None.ensures.cases) in
-    on_ok_weaker c.reserve_presence.result
-    (λ room. subst (IsMade new root) (sym keys)
-    (made_end new root room))
-    c.reserve_presence.ensures.room
+    let keys : keys_to c.args.path.now c.args.key.now ≡ [] =
+    ap (λ p. keys_to p c.args.key.now) (nil_from_length c.args.path.now c.in-None.ensures.cases) in
+    subst (IsMade new root) (sym keys)
+    (made_end new root c.in_ok-reserve_presence.ensures.room)
