@@ -1,4 +1,4 @@
--- More room in one node, and one node more, change nothing of what the nodes say.
+-- More room in one node, and one node more, change no fact.
 use Rattle.std.proofs.Common.{◌≡◌, ℕ, ℤ, ◌+◌, ◌<◌, ◌≤◌, List, [], ◌∷◌, ◌++◌, length, set, Bool, true, false, if◌then◌else◌, Option, Some, None, ◌⊎◌, inl, inr, ⊎_elim, refl, sym, ap, ◌∙◌, subst, arith, true≢false}
 use Rattle.std.proofs.lemmas.List.{get_or_past, get_or_append_left, get_or_push, length_push, length-set}
 use Rattle.std.proofs.lemmas.Bool.{cases_eq, cases_lt}
@@ -10,10 +10,19 @@ use Rattle.doc_nodes.specs.declared.node.NodeNumber.{NodeNumber}
 use Rattle.doc_nodes.specs.declared.node.Node.{Node}
 use Rattle.doc_nodes.specs.Children.{number_at}
 use Rattle.doc_nodes.specs.Nodes.{blank_node, node_of, child_of, AreTree}
-use Rattle.doc_nodes.specs.Growth.{Grows, with_child, IsFresh}
+use Rattle.doc_nodes.specs.Growth.{Grows, with_child}
 use Rattle.doc_nodes.proofs.ChildrenLaws.{number_at-insert_rank}
-use Rattle.doc_nodes.proofs.Marking.{here-set, other-set, eq_number, shape-set}
+use Rattle.doc_nodes.proofs.AddingPresence.{here-set, other-set, eq_number, shape-set}
 use Rattle.doc_nodes.proofs.WriteFacts.{unwritten}
+
+-- a fresh node is empty
+pub record IsFresh (node : Node) : Type 0 where
+  pub presence : node.presence.0 ≡ []
+  pub register : node.register.0 ≡ []
+  pub counter : node.counter.0 ≡ []
+  pub order : node.order.0 ≡ []
+  pub children : node.children ≡ []
+  pub may_have_present_child : node.may_have_present_child ≡ false
 
 module _ (nodes : List Node) (n : NodeNumber) (within : n.0 < length nodes) where
   no_less : (part : Node → ℕ) (node : Node) → part (node_of nodes n) ≤ part node → (j : NodeNumber) → part (node_of nodes j) ≤ part (node_of (set nodes n.0 node) j)
@@ -41,7 +50,7 @@ module _ (nodes : List Node) (n : NodeNumber) (within : n.0 < length nodes) wher
     pub counter_room : (node_of nodes n).counter.1 ≤ node.counter.1
     pub order_room : (node_of nodes n).order.1 ≤ node.order.1
     pub children : node.children ≡ (node_of nodes n).children
-    pub leads : node.leads ≡ (node_of nodes n).leads
+    pub may_have_present_child : node.may_have_present_child ≡ (node_of nodes n).may_have_present_child
 
   pub grows_room : (node : Node) → SaysTheSame node → Grows nodes (set nodes n.0 node)
   grows_room node same = record {
@@ -50,7 +59,7 @@ module _ (nodes : List Node) (n : NodeNumber) (within : n.0 < length nodes) wher
     register = unwritten nodes n within (λ z. z.register.0) node same.register;
     counter = unwritten nodes n within (λ z. z.counter.0) node same.counter;
     order = unwritten nodes n within (λ z. z.order.0) node same.order;
-    leads = unwritten nodes n within (λ z. z.leads) node same.leads;
+    may_have_present_child = unwritten nodes n within (λ z. z.may_have_present_child) node same.may_have_present_child;
     presence_room = no_less_room node same.presence_room;
     register_room = no_less (λ z. z.register.1) node same.register_room;
     counter_room = no_less (λ z. z.counter.1) node same.counter_room;
@@ -72,7 +81,7 @@ module _ (nodes : List Node) (n : NodeNumber) (within : n.0 < length nodes) wher
       counter_room = omega (arith, ap (λ (z : Node). z.counter.1) is);
       order_room = omega (arith, ap (λ (z : Node). z.order.1) is);
       children = ap (λ (z : Node). z.children) is;
-      leads = ap (λ (z : Node). z.leads) is;
+      may_have_present_child = ap (λ (z : Node). z.may_have_present_child) is;
     })
 
     pub more_register : (part : List (Id × Scalar) × ℕ) → part.0 ≡ node.register.0 → node.register.1 ≤ part.1 → Grows nodes (set nodes n.0 (record node { register = part }))
@@ -86,7 +95,7 @@ module _ (nodes : List Node) (n : NodeNumber) (within : n.0 < length nodes) wher
       counter_room = omega (arith, ap (λ (z : Node). z.counter.1) is);
       order_room = omega (arith, ap (λ (z : Node). z.order.1) is);
       children = ap (λ (z : Node). z.children) is;
-      leads = ap (λ (z : Node). z.leads) is;
+      may_have_present_child = ap (λ (z : Node). z.may_have_present_child) is;
     })
 
     pub more_counter : (part : List (Id × ℤ) × ℕ) → part.0 ≡ node.counter.0 → node.counter.1 ≤ part.1 → Grows nodes (set nodes n.0 (record node { counter = part }))
@@ -100,7 +109,7 @@ module _ (nodes : List Node) (n : NodeNumber) (within : n.0 < length nodes) wher
       counter_room = omega (arith, room, ap (λ (z : Node). z.counter.1) is);
       order_room = omega (arith, ap (λ (z : Node). z.order.1) is);
       children = ap (λ (z : Node). z.children) is;
-      leads = ap (λ (z : Node). z.leads) is;
+      may_have_present_child = ap (λ (z : Node). z.may_have_present_child) is;
     })
 
     pub more_order : (part : List (Id × Bool) × ℕ) → part.0 ≡ node.order.0 → node.order.1 ≤ part.1 → Grows nodes (set nodes n.0 (record node { order = part }))
@@ -114,7 +123,7 @@ module _ (nodes : List Node) (n : NodeNumber) (within : n.0 < length nodes) wher
       counter_room = omega (arith, ap (λ (z : Node). z.counter.1) is);
       order_room = omega (arith, room, ap (λ (z : Node). z.order.1) is);
       children = ap (λ (z : Node). z.children) is;
-      leads = ap (λ (z : Node). z.leads) is;
+      may_have_present_child = ap (λ (z : Node). z.may_have_present_child) is;
     })
 
 module _ (nodes : List Node) (tree : AreTree nodes) (n : NodeNumber) (within : n.0 < length nodes) (k : Key) (none : child_of nodes n k ≡ None)
@@ -125,7 +134,7 @@ module _ (nodes : List Node) (tree : AreTree nodes) (n : NodeNumber) (within : n
   abbrev added : List Node
   added = set nodes n.0 (with_child k number (node_of nodes n)) ++ fresh ∷ []
 
-  -- which node stands at a number
+  -- which node has a number
   before : (j : NodeNumber) → j.0 < length nodes → node_of added j ≡ node_of written j
   before j l = get_or_append_left written (fresh ∷ []) blank_node j.0 (omega (arith, length-set nodes n.0 (with_child k number (node_of nodes n)), l))
 
@@ -236,7 +245,7 @@ module _ (nodes : List Node) (tree : AreTree nodes) (n : NodeNumber) (within : n
     register = same_part (λ z. z.register.0) refl is_fresh.register;
     counter = same_part (λ z. z.counter.0) refl is_fresh.counter;
     order = same_part (λ z. z.order.0) refl is_fresh.order;
-    leads = same_part (λ z. z.leads) refl is_fresh.leads;
+    may_have_present_child = same_part (λ z. z.may_have_present_child) refl is_fresh.may_have_present_child;
     presence_room = no_fewer;
     register_room = fewer (λ z. z.register.1) refl refl;
     counter_room = fewer (λ z. z.counter.1) refl refl;

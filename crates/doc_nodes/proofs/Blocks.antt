@@ -137,7 +137,7 @@ ends_within blocks n d within =
     subst (λ (bs : List (List (Key × NodeNumber))). length (joined (take n blocks)) + length (get_or blocks n d) ≤ length (joined bs))
     (take_all (length blocks) blocks (omega arith)) (starts_rise blocks n (length blocks) d within (omega arith))
 
--- what stands at a place is found from a start that isn't behind it
+-- the entry at a place is found from a start that isn't behind it
 module _ (blocks : List (List (Key × NodeNumber))) (n before at : ℕ) (is : IsStart blocks n before) (le : before ≤ at) where
   parted : joined (take n blocks) ++ joined (drop n blocks) ≡ joined blocks
   parted = sym (flat_map-append (λ (b : List (Key × NodeNumber)). b) (take n blocks) (drop n blocks)) ∙ ap joined (take-append-drop n blocks)
@@ -229,12 +229,12 @@ module _ (key : Key) where
         total : (a b r : ℕ) → a ≡ b → r ≡ 0 → a + r ≡ b
         total a b r e f = omega (arith, e, f)
 
-    -- stands nowhere
+    -- is nowhere
     pub number_at-past : length blocks ≤ block_rank key blocks → number_at (joined blocks) key ≡ None
     number_at-past past =
         number_at-missing (joined blocks) key (key, record { 0 = 0 }) are.rising (λ within. absurd (omega (arith, rank-greatest past, within)))
 
-    -- and any other stands in its block, or nowhere
+    -- and any other is in its block, or nowhere
     pub number_at-block : block_rank key blocks < length blocks → number_at (joined blocks) key ≡ number_at (get_or blocks (block_rank key blocks) []) key
     number_at-block within = go (key_eq (get_or block (key_rank block key) d).0 key) refl
       where
@@ -273,7 +273,7 @@ joined-Contains (block ∷ blocks) zero e within has = Contains-append_left bloc
 joined-Contains (block ∷ blocks) (suc n) e within has =
     Contains-append_right block (joined blocks) e (joined-Contains blocks n e (omega (arith, within)) has)
 
--- what stands in a block is found by its key
+-- an entry of a block is found by its key
 pub number_at-there : (blocks : List (List (Key × NodeNumber))) → AreBlocks blocks → (n : ℕ) (key : Key) (number : NodeNumber) → n < length blocks
     → Contains (get_or blocks n []) (key, number) → number_at (joined blocks) key ≡ Some number
 number_at-there blocks are n key number within has = number_at-own (joined blocks) are.rising (key, number) (joined-Contains blocks n (key, number) within has)
@@ -303,7 +303,7 @@ filled-more [] block filled some = (some, tt)
 filled-more (b ∷ blocks) block filled some = (filled.0, filled-more blocks block filled.1 some)
 
 module _ (key : Key) (number : NodeNumber) (blocks : List (List (Key × NodeNumber))) (are : AreBlocks blocks) where
-  -- a key that stands nowhere yet, in its block
+  -- a key that is nowhere yet, in its block
   pub joined-here : block_rank key blocks < length blocks
       → joined (set blocks (block_rank key blocks) (insert (get_or blocks (block_rank key blocks) []) (key_rank (get_or blocks (block_rank key blocks) []) key) (key, number)))
       ≡ insert (joined blocks) (key_rank (joined blocks) key) (key, number)
@@ -393,7 +393,7 @@ blocks-cut blocks n h are within some more = record {
   rising = subst IsInKeyOrder (sym (joined-cut blocks n h within)) are.rising;
 }
 
--- ---- what stands where bisection ends, in blocks that are read twice
+-- ---- the entry where bisection ends, in blocks that are read twice
 pub where_sought : (key : Key) (blocks far near : List (List (Key × NodeNumber))) (block place : ℕ) (result : Option NodeNumber) → far ≡ blocks → near ≡ blocks
     → block ≡ block_rank key far → place ≡ key_rank (get_or far block []) key
     → (block ≡ block_rank key near → place ≡ key_rank (get_or near block []) key → result ≡ number_at (joined near) key) → result ≡ number_at (joined blocks) key

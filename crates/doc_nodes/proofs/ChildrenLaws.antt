@@ -11,7 +11,7 @@ use Rattle.doc_nodes.specs.Children.{number_at}
 use Rattle.doc_nodes.specs.KeyOrder.{key_rank, IsInKeyOrder}
 use Rattle.doc_nodes.proofs.KeyOrder.{keys_ordered}
 
--- the number at a key is what stands there
+-- the number at a key is that of its entry
 pub number_at-get_by : (entries : List (Key × NodeNumber)) (k : Key) → number_at entries k ≡ get_by key_eq entries k
 number_at-get_by [] k = refl
 number_at-get_by (e ∷ entries) k = ap (λ o. if key_eq e.0 k then Some e.1 else o) (number_at-get_by entries k)
@@ -21,7 +21,7 @@ module _ (entries : List (Key × NodeNumber)) where
   pub number_at-own : IsInKeyOrder entries → (e : Key × NodeNumber) → Contains entries e → number_at entries e.0 ≡ Some e.1
   number_at-own rising e c = number_at-get_by entries e.0 ∙ get-own keys_ordered entries rising e c
 
-  -- and each number that is found stands in an entry
+  -- and each number that is found is in an entry
   pub number_at-Contains : (k : Key) (n : NodeNumber) → number_at entries k ≡ Some n → Contains entries (k, n)
   number_at-Contains k n e = get-Contains keys_ordered entries k n (sym (number_at-get_by entries k) ∙ e)
 
@@ -36,7 +36,7 @@ module _ (entries : List (Key × NodeNumber)) where
   pub rising-insert_rank : (k : Key) (n : NodeNumber) → IsInKeyOrder entries → number_at entries k ≡ None → IsInKeyOrder (insert entries (key_rank entries k) (k, n))
   rising-insert_rank k n rising none = rising-insert keys_ordered entries k n rising (sym (number_at-get_by entries k) ∙ none)
 
-  -- the number at a key stands where bisection ends, or nowhere
+  -- the number at a key is where bisection ends, or nowhere
   pub number_at-rank : (k : Key) (d : Key × NodeNumber) → key_rank entries k < length entries → key_eq (get_or entries (key_rank entries k) d).0 k ≡ true
       → number_at entries k ≡ Some (get_or entries (key_rank entries k) d).1
   number_at-rank k d within same = number_at-get_by entries k ∙ get-rank keys_ordered entries k d within same

@@ -12,7 +12,7 @@ use Rattle.doc_nodes.specs.Walk.{walk, IsTree}
 use Rattle.doc_nodes.specs.Nodes.{blank_node, node_of, child_of, cleared, ClearsUnder, AreTree}
 use Rattle.doc_nodes.proofs.ChildrenLaws.{number_at-Contains}
 use Rattle.doc_nodes.proofs.Walks.{parts_of}
-use Rattle.doc_nodes.proofs.Marking.{eq_number}
+use Rattle.doc_nodes.proofs.AddingPresence.{eq_number}
 
 pub cleared-cleared : (front : List (List ℕ × ℕ)) (node : Node) → cleared front (cleared front node) ≡ cleared front node
 cleared-cleared front node =

@@ -20,7 +20,7 @@ grows_not nodes = record {
   register = λ n. refl;
   counter = λ n. refl;
   order = λ n. refl;
-  leads = λ n. refl;
+  may_have_present_child = λ n. refl;
   presence_room = λ n room. room;
   register_room = λ n. omega arith;
   counter_room = λ n. omega arith;
@@ -36,7 +36,7 @@ grows_twice a b c one two = record {
   register = λ n. two.register n ∙ one.register n;
   counter = λ n. two.counter n ∙ one.counter n;
   order = λ n. two.order n ∙ one.order n;
-  leads = λ n. two.leads n ∙ one.leads n;
+  may_have_present_child = λ n. two.may_have_present_child n ∙ one.may_have_present_child n;
   presence_room = λ n room. two.presence_room n (one.presence_room n room);
   register_room = λ n. omega (arith, one.register_room n, two.register_room n);
   counter_room = λ n. omega (arith, one.counter_room n, two.counter_room n);
@@ -61,12 +61,12 @@ module _ (old new : List Node) (grows : Grows old new) where
 
   -- what a part of the node says, wherever keys lead
   same_part : {X : Type 0} (part : Node → X) (none : X) → ((n : NodeNumber) → part (node_of new n) ≡ part (node_of old n)) → part blank_node ≡ none → AreTree old → AreTree new
-      → (told : List Node → Option NodeNumber → X) → ((nodes : List Node) → told nodes None ≡ none) → ((nodes : List Node) (n : NodeNumber) → told nodes (Some n) ≡ part (node_of nodes n))
-      → (way : Option (List Key)) → told new (option_and_then (walk (child_of new) root) way) ≡ told old (option_and_then (walk (child_of old) root) way)
-  same_part {X} part none same empty old_tree new_tree told at_none at_some None = at_none new ∙ sym (at_none old)
-  same_part {X} part none same empty old_tree new_tree told at_none at_some (Some keys) = go (walk (child_of new) root keys) refl (walk (child_of old) root keys) refl
+      → (reads : List Node → Option NodeNumber → X) → ((nodes : List Node) → reads nodes None ≡ none) → ((nodes : List Node) (n : NodeNumber) → reads nodes (Some n) ≡ part (node_of nodes n))
+      → (way : Option (List Key)) → reads new (option_and_then (walk (child_of new) root) way) ≡ reads old (option_and_then (walk (child_of old) root) way)
+  same_part {X} part none same empty old_tree new_tree reads at_none at_some None = at_none new ∙ sym (at_none old)
+  same_part {X} part none same empty old_tree new_tree reads at_none at_some (Some keys) = go (walk (child_of new) root keys) refl (walk (child_of old) root keys) refl
     where
-      go : (a : Option NodeNumber) → walk (child_of new) root keys ≡ a → (b : Option NodeNumber) → walk (child_of old) root keys ≡ b → told new a ≡ told old b
+      go : (a : Option NodeNumber) → walk (child_of new) root keys ≡ a → (b : Option NodeNumber) → walk (child_of old) root keys ≡ b → reads new a ≡ reads old b
       go None e None f = at_none new ∙ sym (at_none old)
       go None e (Some d) f = let both : ◌≡◌ {A = Option NodeNumber} None (Some d) = sym e ∙ walk_forward root d keys f in absurd (cc)
       go (Some c) e (Some d) f =

@@ -4,13 +4,13 @@ pub mod Trails
 pub mod ChildrenLaws
 pub mod Blocks
 pub mod Clearing
-pub mod Backing
+pub mod HasPresence
 pub mod Places
-pub mod Marking
+pub mod AddingPresence
 pub mod WriteFacts
 pub mod Growing
 pub mod Adding
 pub mod Made
 pub mod Plain
-pub mod Flagging
+pub mod ListPresence
 pub mod Passing

@@ -1,5 +1,5 @@
 -- Places and their nodes.
-use Rattle.std.proofs.Common.{◌≡◌, ◌<◌, List, ◌++◌, length, true, Option, Some, sym, ap, ◌∙◌}
+use Rattle.std.proofs.Common.{◌≡◌, ◌<◌, List, ◌++◌, length, true, Some, sym, ap, ◌∙◌}
 use Rattle.std.specs.Prelude.{option_and_then}
 use Rattle.doc_words.specs.Words.{Key, Tagged}
 use Rattle.crdt_rules.specs.Within.{is_within}

@@ -12,23 +12,23 @@ use Rattle.doc_nodes.specs.declared.node.Node.{Node}
 use Rattle.doc_nodes.specs.Children.{number_at}
 use Rattle.doc_nodes.specs.Walk.{walk, root, trail, list_trail, IsTree}
 use Rattle.doc_nodes.specs.Nodes.{blank_node, node_of, child_of, node_at, list_node_at, role_in, part_in, ids_in, role_at, facts_of, AreTree}
-use Rattle.doc_nodes.specs.Marks.{HasRoomAlong, IsReady}
-use Rattle.doc_nodes.specs.Flags.{flagged, node_stands, told, unflagged, plain}
+use Rattle.doc_nodes.specs.PresenceAlong.{HasRoomAlong, IsReady}
+use Rattle.doc_nodes.specs.ListPresence.{with_element_presence, is_node_present, with_list_presence, without_list_presence, plain}
 
-unflagged_at : (nodes : List Node) (i : ℕ) → get_or (map unflagged nodes) i blank_node ≡ unflagged (get_or nodes i blank_node)
-unflagged_at [] i = refl
-unflagged_at (node ∷ nodes) zero = refl
-unflagged_at (node ∷ nodes) (suc i) = unflagged_at nodes i
+without_list_presence_at : (nodes : List Node) (i : ℕ) → get_or (map without_list_presence nodes) i blank_node ≡ without_list_presence (get_or nodes i blank_node)
+without_list_presence_at [] i = refl
+without_list_presence_at (node ∷ nodes) zero = refl
+without_list_presence_at (node ∷ nodes) (suc i) = without_list_presence_at nodes i
 
 module _ (nodes : List Node) where
-  pub node_of-plain : (n : NodeNumber) → node_of (plain nodes) n ≡ unflagged (node_of nodes n)
-  node_of-plain n = unflagged_at nodes n.0
+  pub node_of-plain : (n : NodeNumber) → node_of (plain nodes) n ≡ without_list_presence (node_of nodes n)
+  node_of-plain n = without_list_presence_at nodes n.0
 
   pub child_of-plain : child_of (plain nodes) ≡ child_of nodes
-  child_of-plain = fun_ext (λ n. fun_ext (λ k. ap (λ z. number_at z.children k) (unflagged_at nodes n.0)))
+  child_of-plain = fun_ext (λ n. fun_ext (λ k. ap (λ z. number_at z.children k) (without_list_presence_at nodes n.0)))
 
   pub length-plain : length (plain nodes) ≡ length nodes
-  length-plain = length-map nodes unflagged
+  length-plain = length-map nodes without_list_presence
 
   pub node_at-plain : (p : List Tagged) (k : Key) → node_at (plain nodes) p k ≡ node_at nodes p k
   node_at-plain p k = ap (λ f. option_and_then (walk f root) (trail p k)) child_of-plain
@@ -52,25 +52,25 @@ module _ (nodes : List Node) where
         subst (λ z. z.presence.1 ≡ true) (node_of-plain j) (ready.room front rest j e (ap (λ f. walk f n front) child_of-plain ∙ w));
   }
 
-  -- a write to another part than the flags
-  pub write-plain : (n : NodeNumber) (f : Node → Node) → ((node : Node) → unflagged (f node) ≡ f (unflagged node))
+  -- a write to another part than the list presence
+  pub write-plain : (n : NodeNumber) (f : Node → Node) → ((node : Node) → without_list_presence (f node) ≡ f (without_list_presence node))
       → plain (set nodes n.0 (f (node_of nodes n))) ≡ set (plain nodes) n.0 (f (node_of (plain nodes) n))
   write-plain n f apart =
-      map-set unflagged nodes n.0 (f (node_of nodes n))
+      map-set without_list_presence nodes n.0 (f (node_of nodes n))
       ∙ ap (set (plain nodes) n.0) (apart (node_of nodes n) ∙ ap f (sym (node_of-plain n)))
 
-  -- what is told anew
-  pub told-plain : (n : NodeNumber) (element : Option Id) (child : NodeNumber) → plain (told nodes n element child) ≡ plain nodes
-  told-plain n None child = refl
-  told-plain n (Some id) child =
-      map-set unflagged nodes n.0 (flagged id (node_stands nodes (Some child)) (node_of nodes n))
+  -- an update of the list presence
+  pub list_presence-plain : (n : NodeNumber) (element : Option Id) (child : NodeNumber) → plain (with_list_presence nodes n element child) ≡ plain nodes
+  list_presence-plain n None child = refl
+  list_presence-plain n (Some id) child =
+      map-set without_list_presence nodes n.0 (with_element_presence id (is_node_present nodes (Some child)) (node_of nodes n))
       ∙ ap (set (plain nodes) n.0) (same (node_of nodes n) ∙ sym (node_of-plain n))
       ∙ set-get_or (plain nodes) n.0 blank_node
     where
-      same : (node : Node) → unflagged (flagged id (node_stands nodes (Some child)) node) ≡ unflagged node
-      same node = λ i. record node { order = (all_absent-with node.order.0 id (node_stands nodes (Some child)) i, node.order.1) }
+      same : (node : Node) → without_list_presence (with_element_presence id (is_node_present nodes (Some child)) node) ≡ without_list_presence node
+      same node = λ i. record node { order = (all_absent-with node.order.0 id (is_node_present nodes (Some child)) i, node.order.1) }
 
-  part_in-plain : {X : Type 0} (part : Node → X) → ((node : Node) → part (unflagged node) ≡ part node) → (n : NodeNumber) → part (node_of (plain nodes) n) ≡ part (node_of nodes n)
+  part_in-plain : {X : Type 0} (part : Node → X) → ((node : Node) → part (without_list_presence node) ≡ part node) → (n : NodeNumber) → part (node_of (plain nodes) n) ≡ part (node_of nodes n)
   part_in-plain part same n = ap part (node_of-plain n) ∙ same (node_of nodes n)
 
   pub role-plain : (p : List Tagged) (k : Key) (i : Id) → role_at (plain nodes) p k i ≡ role_at nodes p k i
@@ -81,7 +81,7 @@ module _ (nodes : List Node) where
       go None = refl
       go (Some c) = ap (λ z. get z.presence.0 i) (node_of-plain c)
 
-  value-plain : {X : Type 0} (part : Node → List (Id × X)) → ((node : Node) → part (unflagged node) ≡ part node) → (p : List Tagged) (k : Key) (i : Id)
+  value-plain : {X : Type 0} (part : Node → List (Id × X)) → ((node : Node) → part (without_list_presence node) ≡ part node) → (p : List Tagged) (k : Key) (i : Id)
       → part_in part (plain nodes) (node_at (plain nodes) p k) i ≡ part_in part nodes (node_at nodes p k) i
   value-plain {X} part same p k i = ap (λ o. part_in part (plain nodes) o i) (node_at-plain p k) ∙ go (node_at nodes p k)
     where

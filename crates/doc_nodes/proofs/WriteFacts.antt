@@ -15,7 +15,7 @@ use Rattle.list_order.specs.Entries.{ids_of}
 use Rattle.list_order.proofs.Entries.{ids_of-insert}
 use Rattle.doc_nodes.specs.Nodes.{node_of, node_at, list_node_at, role_in, part_in, ids_in, role_at, facts_of, AreTree}
 use Rattle.doc_nodes.specs.Writes.{with_scalar, with_number, with_entry, enter_facts, count_facts, order_facts}
-use Rattle.doc_nodes.proofs.Marking.{here-set, other-set, eq_number, shape-set}
+use Rattle.doc_nodes.proofs.AddingPresence.{here-set, other-set, eq_number, shape-set}
 use Rattle.doc_nodes.proofs.Places.{place_of_node, path_of_node}
 
 module _ (nodes : List Node) (n : NodeNumber) (within : n.0 < length nodes) where

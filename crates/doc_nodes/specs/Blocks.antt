@@ -20,7 +20,7 @@ pub record AreBlocks (blocks : List (List (Key × NodeNumber))) : Type 0 where
   pub filled : AreFilled blocks
   pub rising : IsInKeyOrder (joined blocks)
 
--- so many children stand before a block
+-- so many children come before a block
 abbrev pub IsStart : List (List (Key × NodeNumber)) → ℕ → ℕ → Type 0
 IsStart blocks block before = before ≡ length (joined (take block blocks))
 

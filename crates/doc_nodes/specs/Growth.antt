@@ -1,27 +1,29 @@
--- Growth of the nodes that changes nothing of what they say.
-use Rattle.std.specs.Prelude.{◌≡◌, ◌<◌, ◌≤◌, List, [], length, insert, Some, IsSome, true, false}
+-- Growth of the nodes that changes no fact.
+use Rattle.std.specs.Prelude.{◌≡◌, ◌<◌, ◌≤◌, List, length, insert, Some, IsSome, true}
 use Rattle.op_core.specs.declared.cursor.Key.{Key}
 use Rattle.doc_nodes.specs.declared.node.NodeNumber.{NodeNumber}
 use Rattle.doc_nodes.specs.declared.node.Node.{Node}
 use Rattle.doc_nodes.specs.KeyOrder.{key_rank}
 use Rattle.doc_nodes.specs.Walk.{walk}
 use Rattle.doc_nodes.specs.Nodes.{node_of, child_of}
-use Rattle.doc_nodes.specs.Marks.{HasRoomAlong}
+use Rattle.doc_nodes.specs.PresenceAlong.{HasRoomAlong}
 
--- the new nodes say what the old ones did, with no less room; there may be more of them, in which nothing stands
+-- the new nodes hold what the old ones did, with no less room; there may be more of them, which are empty
 pub record Grows (old new : List Node) : Type 0 where
   pub size : length old ≤ length new
   pub presence : (n : NodeNumber) → (node_of new n).presence.0 ≡ (node_of old n).presence.0
   pub register : (n : NodeNumber) → (node_of new n).register.0 ≡ (node_of old n).register.0
   pub counter : (n : NodeNumber) → (node_of new n).counter.0 ≡ (node_of old n).counter.0
   pub order : (n : NodeNumber) → (node_of new n).order.0 ≡ (node_of old n).order.0
-  pub leads : (n : NodeNumber) → (node_of new n).leads ≡ (node_of old n).leads
+  pub may_have_present_child : (n : NodeNumber)
+      → (node_of new n).may_have_present_child ≡ (node_of old n).may_have_present_child
   pub presence_room : (n : NodeNumber) → (node_of old n).presence.1 ≡ true → (node_of new n).presence.1 ≡ true
   pub register_room : (n : NodeNumber) → (node_of old n).register.1 ≤ (node_of new n).register.1
   pub counter_room : (n : NodeNumber) → (node_of old n).counter.1 ≤ (node_of new n).counter.1
   pub order_room : (n : NodeNumber) → (node_of old n).order.1 ≤ (node_of new n).order.1
   pub forward : (n : NodeNumber) (k : Key) (c : NodeNumber) → child_of old n k ≡ Some c → child_of new n k ≡ Some c
-  pub back : (n : NodeNumber) (k : Key) (c : NodeNumber) → child_of new n k ≡ Some c → c.0 < length old → child_of old n k ≡ Some c
+  pub back : (n : NodeNumber) (k : Key) (c : NodeNumber) → child_of new n k ≡ Some c → c.0 < length old
+      → child_of old n k ≡ Some c
 
 -- keys lead on from a node, with room on the way
 pub record IsMade (nodes : List Node) (n : NodeNumber) (keys : List Key) : Type 0 where
@@ -31,12 +33,3 @@ pub record IsMade (nodes : List Node) (n : NodeNumber) (keys : List Key) : Type 
 -- a node with one more child
 abbrev pub with_child : Key → NodeNumber → Node → Node
 with_child k c node = record node { children = insert node.children (key_rank node.children k) (k, c) }
-
--- a fresh node says nothing
-pub record IsFresh (node : Node) : Type 0 where
-  pub presence : node.presence.0 ≡ []
-  pub register : node.register.0 ≡ []
-  pub counter : node.counter.0 ≡ []
-  pub order : node.order.0 ≡ []
-  pub children : node.children ≡ []
-  pub leads : node.leads ≡ false

@@ -23,7 +23,9 @@ element_id (Element i) = i
 element_id _ = record { counter = 0; replica = [] }
 
 abbrev pub key_cmp : Key → Key → Ordering
-key_cmp a b = ordering_then (nat_cmp (kind_of a) (kind_of b)) (ordering_then (slice_cmp nat_cmp (key_text a) (key_text b)) (id_cmp (element_id a) (element_id b)))
+key_cmp a b =
+    ordering_then (nat_cmp (kind_of a) (kind_of b))
+    (ordering_then (slice_cmp nat_cmp (key_text a) (key_text b)) (id_cmp (element_id a) (element_id b)))
 
 -- how many children, at the front, have a lesser key
 abbrev pub key_rank : List (Key × NodeNumber) → Key → ℕ

@@ -3,8 +3,8 @@ pub mod Children
 pub mod Blocks
 pub mod Walk
 pub mod Nodes
-pub mod Marks
+pub mod PresenceAlong
 pub mod Writes
 pub mod Growth
-pub mod Flags
-pub mod Backing
+pub mod ListPresence
+pub mod HasPresence

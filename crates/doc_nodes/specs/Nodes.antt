@@ -1,4 +1,4 @@
--- What numbered nodes say of a document.
+-- The facts of a document that is kept as numbered nodes.
 use Rattle.std.specs.Prelude.{◌≡◌, ◌≢◌, ℕ, ℤ, List, [], Bool, ◌&&◌, not, Option, Some, None, is_some, option_and_then, slice_index_or, if◌then◌else◌, ◌⊎◌, length, false}
 use Rattle.doc_words.specs.Words.{Id, Scalar, Key, Tagged}
 use Rattle.crdt_rules.specs.Within.{is_within}
@@ -11,9 +11,17 @@ use Rattle.list_order.specs.Entries.{ids_of}
 use Rattle.doc_nodes.specs.Children.{number_at}
 use Rattle.doc_nodes.specs.Walk.{trail, list_trail, walk, root, IsTree}
 
--- a node in which nothing stands
+-- an empty node
 abbrev pub blank_node : Node
-blank_node = record { presence = ([], false); register = ([], 0); counter = ([], 0); order = ([], 0); children = []; leads = false }
+blank_node =
+    record {
+      presence = ([], false);
+      register = ([], 0);
+      counter = ([], 0);
+      order = ([], 0);
+      children = [];
+      may_have_present_child = false;
+    }
 
 abbrev pub node_of : List Node → NodeNumber → Node
 node_of nodes n = slice_index_or nodes n.0 blank_node
@@ -29,7 +37,7 @@ node_at nodes p k = option_and_then (walk (child_of nodes) root) (trail p k)
 abbrev pub list_node_at : List Node → List Tagged → Option NodeNumber
 list_node_at nodes p = option_and_then (walk (child_of nodes) root) (list_trail p)
 
--- what stands in a node, if there is one
+-- what a node holds, if there is one
 abbrev pub role_in : List Node → Option NodeNumber → Id → Option Role
 role_in nodes None i = None
 role_in nodes (Some n) i = get (node_of nodes n).presence.0 i
@@ -68,16 +76,24 @@ AreTree nodes = IsTree (child_of nodes) (length nodes)
 
 -- a node without what the front covers
 abbrev pub cleared : List (List ℕ × ℕ) → Node → Node
-cleared front node = record node { presence = (uncovered front node.presence.0, node.presence.1); register = (uncovered front node.register.0, node.register.1); counter = (uncovered front node.counter.0, node.counter.1) }
+cleared front node =
+    record node {
+      presence = (uncovered front node.presence.0, node.presence.1);
+      register = (uncovered front node.register.0, node.register.1);
+      counter = (uncovered front node.counter.0, node.counter.1);
+    }
 
 -- the nodes from n down are cleared, and no other
 pub record ClearsUnder (front : List (List ℕ × ℕ)) (old new : List Node) (n : NodeNumber) : Type 0 where
   pub each : (j : NodeNumber) → (node_of new j ≡ node_of old j) ⊎ (node_of new j ≡ cleared front (node_of old j))
-  pub changed : (j : NodeNumber) → (node_of new j ≡ node_of old j) ⊎ ((keys : List Key) × (walk (child_of old) n keys ≡ Some j))
-  pub inside : (j : NodeNumber) (keys : List Key) → walk (child_of old) n keys ≡ Some j → node_of new j ≡ cleared front (node_of old j)
-  pub outside : (j : NodeNumber) → ((keys : List Key) → walk (child_of old) n keys ≢ Some j) → node_of new j ≡ node_of old j
+  pub changed : (j : NodeNumber)
+      → (node_of new j ≡ node_of old j) ⊎ ((keys : List Key) × (walk (child_of old) n keys ≡ Some j))
+  pub inside : (j : NodeNumber) (keys : List Key) → walk (child_of old) n keys ≡ Some j
+      → node_of new j ≡ cleared front (node_of old j)
+  pub outside : (j : NodeNumber) → ((keys : List Key) → walk (child_of old) n keys ≢ Some j)
+      → node_of new j ≡ node_of old j
 
--- what the ids of deps put at a place and below it is taken out of the facts
+-- the facts without what the ids of deps put at a place and below it
 abbrev pub clear_facts_at : Facts → List Tagged → Key → (Id → Bool) → Facts
 clear_facts_at f p k deps =
     record {

@@ -10,7 +10,8 @@ use Rattle.doc_nodes.specs.declared.node.NodeNumber.{NodeNumber}
 -- the keys on the way from a tagged key down to a place; none where it is no place
 abbrev pub trail_below : Tagged → List Tagged → Key → Option (List Key)
 trail_below t [] k = if may_follow t k then Some (k ∷ []) else None
-trail_below t (s ∷ path) k = if may_follow t (key_of s) then option_map (λ keys. key_of s ∷ keys) (trail_below s path k) else None
+trail_below t (s ∷ path) k =
+    if may_follow t (key_of s) then option_map (λ keys. key_of s ∷ keys) (trail_below s path k) else None
 
 abbrev pub trail : List Tagged → Key → Option (List Key)
 trail [] k = if key_eq k Doc then Some [] else None
@@ -19,7 +20,8 @@ trail (t ∷ path) k = if key_eq (key_of t) Doc then trail_below t path k else N
 -- the keys on the way to the element whose list a path leads to
 abbrev pub list_trail_below : Tagged → List Tagged → Option (List Key)
 list_trail_below t [] = if is_list t then Some [] else None
-list_trail_below t (s ∷ path) = if may_follow t (key_of s) then option_map (λ keys. key_of s ∷ keys) (list_trail_below s path) else None
+list_trail_below t (s ∷ path) =
+    if may_follow t (key_of s) then option_map (λ keys. key_of s ∷ keys) (list_trail_below s path) else None
 
 abbrev pub list_trail : List Tagged → Option (List Key)
 list_trail [] = None
@@ -40,4 +42,5 @@ pub record IsTree (child : NodeNumber → Key → Option NodeNumber) (size : ℕ
   pub rooted : 0 < size
   pub rising : (n : NodeNumber) (k : Key) (c : NodeNumber) → child n k ≡ Some c → n.0 < c.0
   pub within : (n : NodeNumber) (k : Key) (c : NodeNumber) → child n k ≡ Some c → c.0 < size
-  pub unique : (n m : NodeNumber) (k j : Key) (c : NodeNumber) → child n k ≡ Some c → child m j ≡ Some c → (n ≡ m) × (k ≡ j)
+  pub unique : (n m : NodeNumber) (k j : Key) (c : NodeNumber) → child n k ≡ Some c → child m j ≡ Some c
+      → (n ≡ m) × (k ≡ j)

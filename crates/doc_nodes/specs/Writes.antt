@@ -1,4 +1,4 @@
--- Writes to one node, and what they say of the facts.
+-- Writes to one node, and how they change the facts.
 use Rattle.std.specs.Prelude.{◌≡◌, ◌<◌, ℤ, List, length, Bool, true, false, Option, Some, None, IsSome, ◌&&◌, if◌then◌else◌}
 use Rattle.doc_words.specs.Words.{Id, Scalar, Key, Tagged}
 use Rattle.crdt_rules.specs.Same.{id_eq, key_eq, path_eq}
@@ -13,7 +13,7 @@ use Rattle.doc_nodes.specs.Walk.{root}
 use Rattle.list_laws.specs.Order.{insert_after}
 use Rattle.list_order.specs.Entries.{entry_cmp, entry_of_reference, absent}
 use Rattle.doc_nodes.specs.Nodes.{node_of, node_at, clear_facts_at}
-use Rattle.doc_nodes.specs.Marks.{mark_facts, keys_to, HasRoomAlong}
+use Rattle.doc_nodes.specs.PresenceAlong.{presence_facts, keys_to, HasRoomAlong}
 
 -- a node with a scalar in its register
 abbrev pub with_scalar : Id → Scalar → Node → Node
@@ -25,40 +25,46 @@ with_number id n node = record node { counter = (put_at_id node.counter.0 id n, 
 
 -- a node with one more id in its list
 abbrev pub with_entry : Option Id → Id → Node → Node
-with_entry after id node = record node { order = (insert_after entry_cmp node.order.0 (entry_of_reference after) (absent id), node.order.1) }
+with_entry after id node =
+    record node { order = (insert_after entry_cmp node.order.0 (entry_of_reference after) (absent id), node.order.1) }
 
--- a scalar stands in the register of a place
+-- one more scalar in the register of a place
 abbrev pub enter_facts : Facts → List Tagged → Key → Id → Scalar → Facts
-enter_facts f p k id s = record f { register = λ q j i. if path_eq p q && key_eq k j && id_eq id i then Some s else f.register q j i }
+enter_facts f p k id s =
+    record f { register = λ q j i. if path_eq p q && key_eq k j && id_eq id i then Some s else f.register q j i }
 
--- a number stands in the counter of a place
+-- one more number in the counter of a place
 abbrev pub count_facts : Facts → List Tagged → Key → Id → ℤ → Facts
-count_facts f p k id n = record f { counter = λ q j i. if path_eq p q && key_eq k j && id_eq id i then Some n else f.counter q j i }
+count_facts f p k id n =
+    record f { counter = λ q j i. if path_eq p q && key_eq k j && id_eq id i then Some n else f.counter q j i }
 
 -- the order of a list is changed
 abbrev pub order_facts : Facts → List Tagged → (List Id → List Id) → Facts
 order_facts f p change = record f { order = λ q. if path_eq p q then change (f.order q) else f.order q }
 
--- a scalar stands there if there is one
+-- if there is a scalar
 abbrev pub enter_if : Facts → List Tagged → Key → Id → Option Scalar → Facts
 enter_if f p k id None = f
 enter_if f p k id (Some s) = enter_facts f p k id s
 
 -- an assignment at a place clears it, makes it and those above it present, and enters a scalar
 abbrev pub put_facts : Facts → List Tagged → Key → (Id → Bool) → Id → Option Scalar → Facts
-put_facts f p k deps id scalar = enter_if (mark_facts (clear_facts_at f p k deps) p k id) p k id scalar
+put_facts f p k deps id scalar = enter_if (presence_facts (clear_facts_at f p k deps) p k id) p k id scalar
 
 -- the roles after that
-abbrev pub put_role : (List Tagged → Key → Id → Option Role) → List Tagged → Key → (Id → Bool) → Id → Role → List Tagged → Key → Id → Option Role
+abbrev pub put_role : (List Tagged → Key → Id → Option Role) → List Tagged → Key → (Id → Bool) → Id → Role
+    → List Tagged → Key → Id → Option Role
 put_role before p k deps id role q j i =
-    if is_within p k q j && id_eq id i then Some (if path_eq p q && key_eq k j then role else Through) else if is_within q j p k && deps i then None else before q j i
+    if is_within p k q j && id_eq id i then Some (if path_eq p q && key_eq k j then role else Through)
+    else if is_within q j p k && deps i then None else before q j i
 
 -- an add at a place makes it and those above it present, and enters a number
 abbrev pub add_facts : Facts → List Tagged → Key → Id → ℤ → Facts
-add_facts f p k id n = count_facts (mark_facts f p k id) p k id n
+add_facts f p k id n = count_facts (presence_facts f p k id) p k id n
 
 -- the roles after that
-abbrev pub add_role : (List Tagged → Key → Id → Option Role) → List Tagged → Key → Id → Role → List Tagged → Key → Id → Option Role
+abbrev pub add_role : (List Tagged → Key → Id → Option Role) → List Tagged → Key → Id → Role
+    → List Tagged → Key → Id → Option Role
 add_role before p k id role q j i =
     if is_within p k q j && id_eq id i then Some (if path_eq p q && key_eq k j then role else Through) else before q j i
 
@@ -66,5 +72,7 @@ add_role before p k id role q j i =
 pub record IsReadyFor (nodes : List Node) (p : List Tagged) (k : Key) (adds : Bool) : Type 0 where
   pub found : IsSome (node_at nodes p k)
   pub along : HasRoomAlong nodes root (keys_to p k)
-  pub register : adds ≡ false → (m : NodeNumber) → node_at nodes p k ≡ Some m → length (node_of nodes m).register.0 < (node_of nodes m).register.1
-  pub counter : adds ≡ true → (m : NodeNumber) → node_at nodes p k ≡ Some m → length (node_of nodes m).counter.0 < (node_of nodes m).counter.1
+  pub register : adds ≡ false → (m : NodeNumber) → node_at nodes p k ≡ Some m
+      → length (node_of nodes m).register.0 < (node_of nodes m).register.1
+  pub counter : adds ≡ true → (m : NodeNumber) → node_at nodes p k ≡ Some m
+      → length (node_of nodes m).counter.0 < (node_of nodes m).counter.1

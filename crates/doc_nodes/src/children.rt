@@ -18,25 +18,25 @@ use op_core::Key;
 use std::alloc::{AllocError, Global};
 use std::marker::Model;
 
-// How many children a block takes, so many that there are few blocks, and so few that one more moves little.
+// How many children a block takes: enough that there are few blocks, few enough that an insertion moves little.
 const FULL: usize = 128;
 
-/// Where a child stands: its block, and its place there. It says nothing of what stands there now, so that one that is
-/// out of date, or of other children, costs time alone.
+/// Where a search for a child starts: a block, and a place in it. It is only a hint: one that is out of date, or that
+/// belongs to other children, costs time and changes no result.
 #[derive(Clone, Copy)]
-pub struct Spot {
+pub struct SearchHint {
     block: usize,
     place: usize,
 }
 
-impl Spot {
-    /// The first place.
-    pub fn first() -> Spot {
-        Spot { block: 0, place: 0 }
+impl SearchHint {
+    /// The first place of the first block.
+    pub fn first() -> SearchHint {
+        SearchHint { block: 0, place: 0 }
     }
 }
 
-// How many children stand before a block.
+// How many children come before a block.
 #[derive(Clone, Copy)]
 struct Start {
     block: usize,
@@ -64,13 +64,13 @@ impl Drop for Block {
     }
 }
 
-/// The nodes below a node, in the order of their keys: in blocks, so that a new one moves few of the others. The last that
-/// was added or sought is looked at first, since it is what an operation asks for next. Who goes from place to place begins at the block
-/// where he was. Clauses see the list of their keys and numbers.
+/// The nodes below a node, in the order of their keys: in blocks, so that a new one moves few of the others. A search
+/// first looks at the child that was added or found last, which an operation asks for next. `go_to` starts at the block
+/// where it was. Clauses see the list of their keys and numbers.
 pub struct Children {
     blocks: Vec<Block>,
     count: usize,
-    latest: Spot,
+    latest: SearchHint,
     start: Start,
 }
 
@@ -84,7 +84,8 @@ impl Model for Children {
 
     ghost view = { λ c. joined c.blocks.items };
 
-    ghost invariant = { λ c. AreBlocks c.blocks.items × (c.count ≡ length (joined c.blocks.items)) × IsStart c.blocks.items c.start.block c.start.before };
+    ghost invariant = { λ c. AreBlocks c.blocks.items × (c.count ≡ length (joined c.blocks.items))
+        × IsStart c.blocks.items c.start.block c.start.before };
 }
 
 impl Drop for Children {
@@ -99,14 +100,14 @@ impl Drop for Children {
 }
 
 impl Children {
-    /// No child. It takes no memory yet.
+    /// No child. Allocates nothing yet.
     pub fn new(alloc: Global) -> Children
         ensures { result ≡ [] }
     {
         Children {
             blocks: Vec::new(alloc),
             count: 0,
-            latest: Spot::first(),
+            latest: SearchHint::first(),
             start: first_start(),
         }
     }
@@ -120,13 +121,13 @@ impl Children {
         }
         number_there(
             self.blocks.as_slice(),
-            spot_of(self.blocks.as_slice(), key),
+            hint_for(self.blocks.as_slice(), key),
             key,
         )
     }
 
-    /// The same as `find` tells, which then finds the child at once. Who asks for one key after another in their order has each at
-    /// once: it stands right behind the one before.
+    /// The same as `find`, which then finds the child at once. Asking for keys in their order is fast: each child is
+    /// right behind the one before.
     pub fn seek(&mut self, key: &Key) -> Option<NodeNumber>
         ensures same { self.new ≡ self.old }
         ensures value { result ≡ number_at self.old key.now }
@@ -134,35 +135,35 @@ impl Children {
         if let Some(number) = number_there(self.blocks.as_slice(), self.latest, key) {
             return Some(number);
         }
-        let next = spot_behind(self.blocks.as_slice(), self.latest);
+        let next = hint_behind(self.blocks.as_slice(), self.latest);
         if let Some(number) = number_there(self.blocks.as_slice(), next, key) {
             self.latest = next;
             return Some(number);
         }
-        self.latest = spot_of(self.blocks.as_slice(), key);
+        self.latest = hint_for(self.blocks.as_slice(), key);
         number_there(self.blocks.as_slice(), self.latest, key)
     }
 
-    /// The same as `find` tells, found at once where the child stands right behind the spot or right before it. The spot is
-    /// then where it stands.
-    pub fn find_beside(&self, key: &Key, spot: &mut Spot) -> Option<NodeNumber>
+    /// The same as `find`, fast if the child is right behind the hint or right before it. The hint is then where the
+    /// child is.
+    pub fn find_beside(&self, key: &Key, hint: &mut SearchHint) -> Option<NodeNumber>
         ensures { result ≡ number_at self.now key.now }
     {
-        let next = spot_behind(self.blocks.as_slice(), *spot);
+        let next = hint_behind(self.blocks.as_slice(), *hint);
         if let Some(number) = number_there(self.blocks.as_slice(), next, key) {
-            *spot = next;
+            *hint = next;
             return Some(number);
         }
-        let last = spot_before(self.blocks.as_slice(), *spot);
+        let last = hint_before(self.blocks.as_slice(), *hint);
         if let Some(number) = number_there(self.blocks.as_slice(), last, key) {
-            *spot = last;
+            *hint = last;
             return Some(number);
         }
-        *spot = spot_of(self.blocks.as_slice(), key);
-        number_there(self.blocks.as_slice(), *spot, key)
+        *hint = hint_for(self.blocks.as_slice(), key);
+        number_there(self.blocks.as_slice(), *hint, key)
     }
 
-    /// Adds a child at a key that has none, in the order of keys.
+    /// Adds a child at a key that has none, in the order of keys. It fails only when out of memory.
     pub fn insert(&mut self, key: Key, number: NodeNumber) -> Result<(), AllocError>
         requires { number_at self.old key ≡ None }
         ensures ok { OnOk result (self.new ≡ insert self.old (KeyOrder.key_rank self.old key) (key, number)) }
@@ -196,15 +197,15 @@ impl Children {
         }
     }
 
-    /// Goes to a place, where `element` and `number` then find the child at once if it stands in the block of the place
-    /// before or in the next one.
+    /// Makes `element` and `number` fast at an index, if its child is in the block of the index before or in the next
+    /// one.
     pub fn go_to(&mut self, at: usize)
         ensures { self.new ≡ self.old }
     {
         self.start = start_for(self.blocks.as_slice(), self.start, at);
     }
 
-    /// The element of the child at a place, if its key is one.
+    /// The element of the child at an index, if its key is one.
     pub fn element(&self, at: usize) -> Option<Id>
         requires { at < length self.now }
         ensures { (d : Key × NodeNumber) → result ≡ reference (slice_index_or self.now at d).0 }
@@ -212,7 +213,7 @@ impl Children {
         element_in(&entry_from(self.blocks.as_slice(), self.start, at).0)
     }
 
-    /// The number of the child at a place.
+    /// The number of the child at an index.
     pub fn number(&self, at: usize) -> NodeNumber
         requires { at < length self.now }
         ensures value { (d : Key × NodeNumber) → (slice_index_or self.now at d).1 ≡ result }
@@ -276,83 +277,84 @@ impl<'a> Iterator for EachChild<'a> {
     }
 }
 
-/// Where a key stands, or would stand, found by bisection.
-fn spot_of(blocks: &[Block], key: &Key) -> Spot
+/// Where a key is, or would be, found by bisection.
+fn hint_for(blocks: &[Block], key: &Key) -> SearchHint
     requires { AreBlocks blocks.now }
     ensures block { result.block ≡ block_rank key.now blocks.now }
     ensures place { result.place ≡ KeyOrder.key_rank (slice_index_or blocks.now result.block []) key.now }
 {
     let at = block_of(blocks, key);
     match blocks.get(at) {
-        None => Spot {
+        None => SearchHint {
             block: at,
             place: 0,
         },
-        Some(block) => Spot {
+        Some(block) => SearchHint {
             block: at,
             place: rank_of_key(block.entries.as_slice(), key),
         },
     }
 }
 
-/// The place behind a spot: in its block, or at the start of the next one.
-fn spot_behind(blocks: &[Block], spot: Spot) -> Spot {
-    let Some(block) = blocks.get(spot.block) else {
-        return spot;
+/// The place behind a hint: in its block, or at the start of the next one.
+fn hint_behind(blocks: &[Block], hint: SearchHint) -> SearchHint {
+    let Some(block) = blocks.get(hint.block) else {
+        return hint;
     };
     let count = block.entries.len();
-    if spot.place >= count {
-        return spot;
+    if hint.place >= count {
+        return hint;
     }
-    if spot.place + 1 < count {
-        Spot {
-            block: spot.block,
-            place: spot.place + 1,
+    if hint.place + 1 < count {
+        SearchHint {
+            block: hint.block,
+            place: hint.place + 1,
         }
     } else {
-        Spot {
-            block: spot.block + 1,
+        SearchHint {
+            block: hint.block + 1,
             place: 0,
         }
     }
 }
 
-/// The place before a spot: in its block, or at the end of the block before.
-fn spot_before(blocks: &[Block], spot: Spot) -> Spot {
-    if spot.place > 0 {
-        return Spot {
-            block: spot.block,
-            place: spot.place - 1,
+/// The place before a hint: in its block, or at the end of the block before.
+fn hint_before(blocks: &[Block], hint: SearchHint) -> SearchHint {
+    if hint.place > 0 {
+        return SearchHint {
+            block: hint.block,
+            place: hint.place - 1,
         };
     }
-    if spot.block == 0 {
-        return spot;
+    if hint.block == 0 {
+        return hint;
     }
-    match blocks.get(spot.block - 1) {
-        None => spot,
-        Some(block) => Spot {
-            block: spot.block - 1,
+    match blocks.get(hint.block - 1) {
+        None => hint,
+        Some(block) => SearchHint {
+            block: hint.block - 1,
             place: block.entries.len().saturating_sub(1),
         },
     }
 }
 
-/// The number of the entry at a spot, if that is the one of the key. At the spot where bisection ends, it is what all blocks
-/// have at the key.
-fn number_there(blocks: &[Block], spot: Spot, key: &Key) -> Option<NodeNumber>
+/// The number of the entry at a hint, if its key is this one. Where bisection ends, it is what all blocks have at the
+/// key.
+fn number_there(blocks: &[Block], hint: SearchHint, key: &Key) -> Option<NodeNumber>
     requires { AreBlocks blocks.now }
     ensures found { IfSome result (λ number. number_at (joined blocks.now) key.now ≡ Some number) }
-    ensures sought { spot.block ≡ block_rank key.now blocks.now → spot.place ≡ KeyOrder.key_rank (slice_index_or blocks.now spot.block []) key.now
+    ensures sought { hint.block ≡ block_rank key.now blocks.now
+        → hint.place ≡ KeyOrder.key_rank (slice_index_or blocks.now hint.block []) key.now
         → result ≡ number_at (joined blocks.now) key.now }
 {
-    match blocks.get(spot.block) {
+    match blocks.get(hint.block) {
         None => None,
-        Some(block) => number_here(block.entries.as_slice(), spot.place, key),
+        Some(block) => number_here(block.entries.as_slice(), hint.place, key),
     }
 }
 
-/// The number of the entry at a place in one block, if that is the one of the key. At the place where bisection ends, it is
-/// what the block has at the key.
+/// The number of the entry at a place in one block, if its key is this one. Where bisection ends, it is what the block
+/// has at the key.
 fn number_here(entries: &[(Key, NodeNumber)], place: usize, key: &Key) -> Option<NodeNumber>
     requires { IsInKeyOrder entries.now }
     ensures found { IfSome result (λ number. Contains entries.now (key.now, number)) }
@@ -418,12 +420,13 @@ fn add_entry(
     at: usize,
     key: Key,
     number: NodeNumber,
-) -> Result<Spot, AllocError>
+) -> Result<SearchHint, AllocError>
     requires blocks { AreBlocks blocks.old.items }
     requires at { at ≡ block_rank key blocks.old.items }
     requires missing { number_at (joined blocks.old.items) key ≡ None }
     ensures blocks { AreBlocks blocks.new.items }
-    ensures ok { OnOk result (joined blocks.new.items ≡ insert (joined blocks.old.items) (KeyOrder.key_rank (joined blocks.old.items) key) (key, number)) }
+    ensures ok { OnOk result (joined blocks.new.items
+        ≡ insert (joined blocks.old.items) (KeyOrder.key_rank (joined blocks.old.items) key) (key, number)) }
     ensures err { OnErr result (joined blocks.new.items ≡ joined blocks.old.items) }
 {
     match open_block(blocks.as_slice(), at) {
@@ -432,10 +435,11 @@ fn add_entry(
     }
 }
 
-/// The block that takes a key which belongs to the block at a place: this one, or the last if the key is greater than all.
+/// The block for a key that belongs to the block at a place: this one, or the last if the key is greater than all.
 fn open_block(blocks: &[Block], at: usize) -> Option<usize>
     requires { at ≤ length blocks.now }
-    ensures open { IfSome result (λ n. (n < length blocks.now) × ((n ≡ at) ⊎ ((n + 1 ≡ at) × (at ≡ length blocks.now)))) }
+    ensures open { IfSome result
+        (λ n. (n < length blocks.now) × ((n ≡ at) ⊎ ((n + 1 ≡ at) × (at ≡ length blocks.now)))) }
     ensures none { IfNone result (at ≡ length blocks.now) }
 {
     if at < blocks.len() {
@@ -453,20 +457,26 @@ fn put_in(
     at: usize,
     key: Key,
     number: NodeNumber,
-) -> Result<Spot, AllocError>
+) -> Result<SearchHint, AllocError>
     requires known { at < length blocks.old.items }
     requires rising { IsInKeyOrder (slice_index_or blocks.old.items at []) }
-    ensures ok { OnOk result (blocks.new.items ≡ slice_set blocks.old.items at (insert (slice_index_or blocks.old.items at []) (KeyOrder.key_rank (slice_index_or blocks.old.items at []) key) (key, number))) }
+    ensures ok { OnOk result (blocks.new.items
+        ≡ slice_set blocks.old.items at (insert (slice_index_or blocks.old.items at [])
+        (KeyOrder.key_rank (slice_index_or blocks.old.items at []) key) (key, number))) }
     ensures err { OnErr result (blocks.new.items ≡ blocks.old.items) }
 {
     let block = &mut blocks[at];
     let place = rank_of_key(block.entries.as_slice(), &key);
     block.entries.insert(place, (key, number))?;
-    Ok(Spot { block: at, place })
+    Ok(SearchHint { block: at, place })
 }
 
 /// Puts an entry behind all others, in a block of its own.
-fn put_behind(blocks: &mut Vec<Block>, key: Key, number: NodeNumber) -> Result<Spot, AllocError>
+fn put_behind(
+    blocks: &mut Vec<Block>,
+    key: Key,
+    number: NodeNumber,
+) -> Result<SearchHint, AllocError>
     ensures ok { OnOk result (blocks.new.items ≡ blocks.old.items ++ ((key, number) ∷ []) ∷ []) }
     ensures err { OnErr result (blocks.new.items ≡ blocks.old.items) }
 {
@@ -479,7 +489,7 @@ fn put_behind(blocks: &mut Vec<Block>, key: Key, number: NodeNumber) -> Result<S
     entries.reserve_exact(1)?;
     entries.push((key, number))?;
     blocks.push(Block { entries })?;
-    Ok(Spot { block, place: 0 })
+    Ok(SearchHint { block, place: 0 })
 }
 
 /// The start of the first block.

@@ -1,9 +1,9 @@
-//! Growth that changes nothing of what the nodes say.
+//! Growth that changes no fact.
 ghost use Rattle.std.specs.Prelude.{◌≡◌, ◌<◌, ◌≤◌, ◌+◌, ◌++◌, ◌∷◌, [], length, Some, None, OnOk, OnErr, IfOk, IfErr, map, slice_set, true, false};
 ghost use Rattle.json_scalar.specs.declared.refusal.Refusal.TheVariants.{NoMemory};
 ghost use Rattle.doc_nodes.specs.Nodes.{AreTree, node_of, child_of};
 ghost use Rattle.op_core.specs.Shape.{key_of};
-ghost use Rattle.doc_nodes.specs.Marks.{keys_above, keys_below, keys_to};
+ghost use Rattle.doc_nodes.specs.PresenceAlong.{keys_above, keys_below, keys_to};
 ghost use Rattle.doc_nodes.specs.Walk.{root, walk};
 ghost use Rattle.doc_nodes.specs.Growth.{Grows, IsMade, with_child};
 
@@ -11,8 +11,8 @@ use crate::node::{Node, NodeNumber, PlaceNodes, ROOT};
 use json_scalar::Refusal;
 use op_core::{Key, Tagged};
 
-/// Makes the nodes on the way from the root down to a place, with room for one more id in each, and returns the last two:
-/// at most one new node for each key of the path.
+/// Makes the nodes on the way from the root down to a place, with room for one more id in each, and returns the last
+/// two. There is at most one new node for each key of the path.
 pub fn prepare_way(nodes: &mut Vec<Node>, path: &[Tagged], key: &Key) -> Result<PlaceNodes, Refusal>
     requires tree { AreTree nodes.old.items }
     ensures tree { AreTree nodes.new.items }
@@ -21,7 +21,8 @@ pub fn prepare_way(nodes: &mut Vec<Node>, path: &[Tagged], key: &Key) -> Result<
     ensures ok { OnOk result (IsMade nodes.new.items root (keys_to path.now key.now)) }
     ensures node { IfOk result
         (λ place. walk (child_of nodes.new.items) root (keys_to path.now key.now) ≡ Some place.node) }
-    ensures above { IfOk result (λ place. walk (child_of nodes.new.items) root (keys_above path.now) ≡ Some place.above) }
+    ensures above { IfOk result
+        (λ place. walk (child_of nodes.new.items) root (keys_above path.now) ≡ Some place.above) }
     ensures memory { IfErr result (λ cause. cause ≡ NoMemory) }
 {
     reserve_presence(nodes, ROOT)?;
@@ -50,7 +51,8 @@ fn prepare_below(
     ensures ok { OnOk result (IsMade nodes.new.items at (keys_below way.now key.now)) }
     ensures node { IfOk result
         (λ place. walk (child_of nodes.new.items) at (keys_below way.now key.now) ≡ Some place.node) }
-    ensures above { IfOk result (λ place. walk (child_of nodes.new.items) at (map key_of way.now) ≡ Some place.above) }
+    ensures above { IfOk result
+        (λ place. walk (child_of nodes.new.items) at (map key_of way.now) ≡ Some place.above) }
     ensures memory { IfErr result (λ cause. cause ≡ NoMemory) }
 {
     match way.split_first() {
@@ -167,7 +169,7 @@ fn new_child(nodes: &mut Vec<Node>, at: NodeNumber, key: &Key) -> Result<NodeNum
     Ok(number)
 }
 
-/// The child of a node at a key, if there is one. Who asks for it again finds it at once.
+/// The child of a node at a key, if there is one. Asking for it again is fast.
 fn seek_child(nodes: &mut Vec<Node>, at: NodeNumber, key: &Key) -> Option<NodeNumber>
     requires known { at.0 < length nodes.old.items }
     ensures same { nodes.new.items ≡ nodes.old.items }
@@ -183,7 +185,7 @@ fn add_child(nodes: &mut Vec<Node>, at: NodeNumber, key: Key, fresh: Node) -> Re
     requires missing { child_of nodes.old.items at key ≡ None }
     ensures ok { OnOk result (nodes.new.items
         ≡ slice_set nodes.old.items at.0
-            (with_child key (record { 0 = length nodes.old.items }) (node_of nodes.old.items at)) ++ fresh ∷ []) }
+        (with_child key (record { 0 = length nodes.old.items }) (node_of nodes.old.items at)) ++ fresh ∷ []) }
     ensures err { OnErr result (nodes.new.items ≡ nodes.old.items) }
     ensures memory { IfErr result (λ cause. cause ≡ NoMemory) }
 {

@@ -1,19 +1,19 @@
-//! The numbered nodes of a document's tree: how they are found, cleared, marked, written and grown.
+//! The numbered nodes of a document's tree: how they are found, made, made present, written and cleared.
 #![tactic(auto)]
 
 mod children;
 mod clear;
 mod finding;
-mod flag;
 mod growth;
-mod mark;
+mod list_presence;
 mod node;
+mod presence;
 mod write;
 
-pub use children::{Children, EachChild, Spot};
+pub use children::{Children, EachChild, SearchHint};
 pub use clear::{clear_under, clear_way};
 pub use finding::{find, find_list, keys};
 pub use growth::{prepare_way, reserve_order, reserve_value};
-pub use mark::mark_way;
 pub use node::{Counter, Node, NodeNumber, PlaceNodes, ROOT, Register, element_in};
+pub use presence::add_presence_along;
 pub use write::{count, enter, link};

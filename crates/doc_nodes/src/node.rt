@@ -1,4 +1,4 @@
-//! Nodes, and what stands in each.
+//! Nodes, and what each holds.
 ghost use Rattle.std.specs.Prelude.{◌≡◌, []};
 ghost use Rattle.crdt_rules.specs.Context.{reference};
 
@@ -42,20 +42,21 @@ pub fn element_in(key: &Key) -> Option<Id>
     }
 }
 
-/// An element of the document: what makes it present, its register, its counter, the order of its list, and the elements below.
+/// A place of the document: what makes it present, its register, its counter, the order of its list, and the nodes
+/// below it.
 pub struct Node {
-    /// The operations that make the element present, each with its role.
+    /// The operations that make the place present, each with its role.
     pub presence: Presence,
-    /// The scalars that stand at the element, by the operations that put them there.
+    /// The scalars at the place, by the operations that put them there.
     pub register: Register,
-    /// The numbers that stand at the element, by the operations that added them there.
+    /// The numbers at the place, by the operations that added them there.
     pub counter: Counter,
     /// The elements of its list, deleted ones included.
     pub order: ListOrder,
     /// The nodes at the keys of its map and at the elements of its list.
     pub children: Children,
-    /// Whether a child may be present. Where it is false, none is.
-    pub leads: bool,
+    /// Whether a child may be present. If this is false, none is.
+    pub may_have_present_child: bool,
 }
 
 impl Drop for Node {
@@ -66,7 +67,7 @@ impl Drop for Node {
             counter: _,
             order: _,
             children: _,
-            leads: _,
+            may_have_present_child: _,
         } = self;
     }
 }
@@ -75,14 +76,14 @@ impl Node {
     ghost use Rattle.std.specs.Prelude.{◌≡◌, [], false};
     ghost use Rattle.doc_nodes.specs.Nodes.{cleared};
 
-    /// A node in which nothing stands. It takes no memory yet.
+    /// An empty node. Allocates nothing yet.
     pub fn new(alloc: Global) -> Node
         ensures presence { result.presence.0 ≡ [] }
         ensures register { result.register.0 ≡ [] }
         ensures counter { result.counter.0 ≡ [] }
         ensures order { result.order.0 ≡ [] }
         ensures children { result.children ≡ [] }
-        ensures leads { result.leads ≡ false }
+        ensures may_have_present_child { result.may_have_present_child ≡ false }
     {
         Node {
             presence: Presence::new(alloc),
@@ -90,7 +91,7 @@ impl Node {
             counter: Counter::new(alloc),
             order: ListOrder::new(alloc),
             children: Children::new(alloc),
-            leads: false,
+            may_have_present_child: false,
         }
     }
 

@@ -6,12 +6,12 @@ use Rattle.doc_nodes.specs.declared.node.NodeNumber.{NodeNumber}
 use Rattle.crdt_rules.specs.Context.{reference}
 use Rattle.doc_nodes.specs.Walk.{walk}
 use Rattle.doc_nodes.specs.Nodes.{child_of, ClearsUnder}
-use Rattle.doc_nodes.specs.Marks.{keys_below}
-use Rattle.doc_nodes.specs.Flags.{plain, told, IsFlagged}
+use Rattle.doc_nodes.specs.PresenceAlong.{keys_below}
+use Rattle.doc_nodes.specs.ListPresence.{plain, with_list_presence, ShowsPresence}
 use Rattle.doc_nodes.proofs.Clearing.{same_children}
-use Rattle.doc_nodes.proofs.Marking.{first_step}
-use Rattle.doc_nodes.proofs.Plain.{shape_of-plain, told-plain, tree_same}
-use Rattle.doc_nodes.proofs.Flagging.{told-but}
+use Rattle.doc_nodes.proofs.AddingPresence.{first_step}
+use Rattle.doc_nodes.proofs.Plain.{shape_of-plain, list_presence-plain, tree_same}
+use Rattle.doc_nodes.proofs.ListPresence.{list_presence-but}
 use Rattle.doc_nodes.proofs.Passing.{walk_on}
 use Rattle.doc_nodes.proofs.clear.+clear_below.Goals as goal
 
@@ -22,25 +22,25 @@ returns-in-None-clause-clears t c = λ m way.
     let end = c.known_child-end.result in
     let key = c.args.key.now in
     let keys : keys_below c.args.way.now key ≡ key ∷ [] = ap (λ w. keys_below w key) (nil_from_length c.args.way.now c.in-None.ensures.cases) in
-    let is : c.tell.new.nodes ≡ told mid c.args.at (reference key) end = c.tell.ensures ∙ ap (λ e. told mid c.args.at e end) c.element_in.ensures in
+    let is : c.update_list_presence.new.nodes ≡ with_list_presence mid c.args.at (reference key) end = c.update_list_presence.ensures ∙ ap (λ e. with_list_presence mid c.args.at e end) c.element_in.ensures in
     let there : ◌≡◌ {A = Option NodeNumber} (Some end) (Some m) =
     walk_on (child_of nodes) c.args.at end m key [] c.known_child-end.ensures (subst (λ l. walk (child_of nodes) c.args.at l ≡ Some m) keys way) in
     let same : end ≡ m = cc in
-    subst (λ z. ClearsUnder c.args.front.now (plain nodes) (plain c.tell.new.nodes) z) same
-    (subst (λ l. ClearsUnder c.args.front.now (plain nodes) l end) (sym (ap plain is ∙ told-plain mid c.args.at (reference key) end)) c.clear_under.ensures.clears)
+    subst (λ z. ClearsUnder c.args.front.now (plain nodes) (plain c.update_list_presence.new.nodes) z) same
+    (subst (λ l. ClearsUnder c.args.front.now (plain nodes) l end) (sym (ap plain is ∙ list_presence-plain mid c.args.at (reference key) end)) c.clear_under.ensures.clears)
 
-pub returns-in-None-clause-flags : goal.returns-in-None-clause-flags
-returns-in-None-clause-flags t c = λ n i right.
+pub returns-in-None-clause-list_presence : goal.returns-in-None-clause-list_presence
+returns-in-None-clause-list_presence t c = λ n i right.
     let nodes = c.args.nodes.now in
     let mid = c.clear_under.new.nodes in
     let end = c.known_child-end.result in
     let key = c.args.key.now in
-    let is : c.tell.new.nodes ≡ told mid c.args.at (reference key) end = c.tell.ensures ∙ ap (λ e. told mid c.args.at e end) c.element_in.ensures in
+    let is : c.update_list_presence.new.nodes ≡ with_list_presence mid c.args.at (reference key) end = c.update_list_presence.ensures ∙ ap (λ e. with_list_presence mid c.args.at e end) c.element_in.ensures in
     let shape = shape_of-plain nodes mid (same_children c.args.front.now (plain nodes) (plain mid) c.clear_under.ensures.clears.each) in
     let same : length mid ≡ length nodes = c.clear_under.auto.nodes in
-    subst (λ l. IsFlagged l n i) (sym is)
-    (told-but mid c.args.at (omega (arith, c.requires.known, same)) end (tree_same nodes mid same shape c.requires.tree) key
-    (ap (λ f. f c.args.at key) shape ∙ c.known_child-end.ensures) n i (c.clear_under.ensures.flags n i right))
+    subst (λ l. ShowsPresence l n i) (sym is)
+    (list_presence-but mid c.args.at (omega (arith, c.requires.known, same)) end (tree_same nodes mid same shape c.requires.tree) key
+    (ap (λ f. f c.args.at key) shape ∙ c.known_child-end.ensures) n i (c.clear_under.ensures.list_presence n i right))
 
 pub clear_below-requires : goal.clear_below-requires
 clear_below-requires t c =
@@ -54,7 +54,7 @@ clear_below-requires t c =
     let both : ◌≡◌ {A = Option NodeNumber} (Some first.0) (Some below) = sym first.1 ∙ down in
     let same : first.0 ≡ below = cc in (
       omega (arith, c.in-Some.ensures.cases.1),
-      (c.requires.tree, (c.requires.tree.within c.args.at key below down, (c.requires.backed, subst (λ z. IsSome (walk (child_of nodes) z rest)) same first.2))),
+      (c.requires.tree, (c.requires.tree.within c.args.at key below down, (c.requires.has_presence, subst (λ z. IsSome (walk (child_of nodes) z rest)) same first.2))),
     )
 
 pub returns-in-Some-clause-clears : goal.returns-in-Some-clause-clears

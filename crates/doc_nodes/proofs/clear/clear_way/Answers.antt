@@ -4,11 +4,11 @@ use Rattle.std.proofs.lemmas.List.{nil_from_length}
 use Rattle.doc_nodes.specs.declared.node.NodeNumber.{NodeNumber}
 use Rattle.doc_nodes.specs.Walk.{walk, root}
 use Rattle.doc_nodes.specs.Nodes.{child_of, ClearsUnder}
-use Rattle.doc_nodes.specs.Marks.{keys_below, keys_to}
-use Rattle.doc_nodes.specs.Flags.{plain}
+use Rattle.doc_nodes.specs.PresenceAlong.{keys_below, keys_to}
+use Rattle.doc_nodes.specs.ListPresence.{plain}
 use Rattle.doc_nodes.proofs.Clearing.{same_children}
 use Rattle.doc_nodes.proofs.Plain.{shape_of-plain, tree_same}
-use Rattle.doc_nodes.proofs.Flagging.{flagged-but_root}
+use Rattle.doc_nodes.proofs.ListPresence.{shows_presence-but_root}
 use Rattle.doc_nodes.proofs.clear.clear_way.Goals as goal
 
 pub clear_under-requires-clause-known : goal.clear_under-requires-clause-known
@@ -30,13 +30,13 @@ returns-in-None-clause-clears c = λ m way.
     let same : root ≡ m = cc in
     subst (λ z. ClearsUnder c.args.front.now (plain nodes) (plain c.clear_under.new.nodes) z) same c.clear_under.ensures.clears
 
-pub returns-in-None-clause-flags : goal.returns-in-None-clause-flags
-returns-in-None-clause-flags c = λ right n i.
+pub returns-in-None-clause-list_presence : goal.returns-in-None-clause-list_presence
+returns-in-None-clause-list_presence c = λ right n i.
     let nodes = c.args.nodes.now in
     let new = c.clear_under.new.nodes in
     let shape = shape_of-plain nodes new (same_children c.args.front.now (plain nodes) (plain new) c.clear_under.ensures.clears.each) in
-    flagged-but_root new (tree_same nodes new c.clear_under.auto.nodes shape c.requires.tree) n i
-    (c.clear_under.ensures.flags n i (right n i))
+    shows_presence-but_root new (tree_same nodes new c.clear_under.auto.nodes shape c.requires.tree) n i
+    (c.clear_under.ensures.list_presence n i (right n i))
 
 pub returns-in-Some-clause-clears : goal.returns-in-Some-clause-clears
 returns-in-Some-clause-clears c = λ m way.
@@ -45,5 +45,5 @@ returns-in-Some-clause-clears c = λ m way.
     c.clear_below.ensures.clears m
     (ap (walk (child_of nodes) root) (sym keys) ∙ way)
 
-pub returns-in-Some-clause-flags : goal.returns-in-Some-clause-flags
-returns-in-Some-clause-flags c = λ right n i. c.clear_below.ensures.flags n i (right n i)
+pub returns-in-Some-clause-list_presence : goal.returns-in-Some-clause-list_presence
+returns-in-Some-clause-list_presence c = λ right n i. c.clear_below.ensures.list_presence n i (right n i)

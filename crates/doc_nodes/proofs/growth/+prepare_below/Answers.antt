@@ -3,7 +3,7 @@ use Rattle.std.proofs.lemmas.List.{nil_from_length}
 use Rattle.std.proofs.lemmas.Result.{on_ok_weaker}
 use Rattle.op_core.specs.Shape.{key_of}
 use Rattle.doc_nodes.specs.Nodes.{child_of}
-use Rattle.doc_nodes.specs.Marks.{keys_below}
+use Rattle.doc_nodes.specs.PresenceAlong.{keys_below}
 use Rattle.doc_nodes.specs.Growth.{IsMade}
 use Rattle.doc_nodes.proofs.Growing.{grows_twice}
 use Rattle.doc_nodes.proofs.Made.{made_end, made_step, room_kept}

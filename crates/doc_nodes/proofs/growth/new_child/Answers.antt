@@ -4,8 +4,8 @@ use Rattle.json_scalar.specs.declared.refusal.Refusal.{Refusal}
 use Rattle.op_core.specs.declared.cursor.Key.{Key}
 use Rattle.doc_nodes.specs.declared.node.NodeNumber.{NodeNumber}
 use Rattle.doc_nodes.specs.Nodes.{child_of, AreTree}
-use Rattle.doc_nodes.specs.Growth.{Grows, IsFresh}
-use Rattle.doc_nodes.proofs.Adding.{tree_added, grows_added, child_new}
+use Rattle.doc_nodes.specs.Growth.{Grows}
+use Rattle.doc_nodes.proofs.Adding.{IsFresh, tree_added, grows_added, child_new}
 use Rattle.doc_nodes.proofs.growth.new_child.Goals as goal
 
 copied : (k key : Key) → UnlessMemory {A = Key} (Ok k) (Ok key) → k ≡ key
@@ -17,7 +17,7 @@ returns-clause-tree c =
     let none : child_of items c.args.at c.in_ok-key.key ≡ None =
     ap (child_of items c.args.at) (copied c.in_ok-key.key c.args.key.now c.in_ok-key.ensures) ∙ c.requires.missing in
     let fresh : IsFresh c.new-fresh.result =
-    record { presence = c.new-fresh.ensures.presence; register = c.new-fresh.ensures.register; counter = c.new-fresh.ensures.counter; order = c.new-fresh.ensures.order; children = c.new-fresh.ensures.children; leads = c.new-fresh.ensures.leads } in
+    record { presence = c.new-fresh.ensures.presence; register = c.new-fresh.ensures.register; counter = c.new-fresh.ensures.counter; order = c.new-fresh.ensures.order; children = c.new-fresh.ensures.children; may_have_present_child = c.new-fresh.ensures.may_have_present_child } in
     subst AreTree (sym c.in_ok-add_child.ensures.ok)
     (tree_added items c.requires.tree c.args.at c.requires.known c.in_ok-key.key none (record { 0 = length items }) refl c.new-fresh.result fresh)
 
@@ -27,7 +27,7 @@ returns-clause-grows c =
     let none : child_of items c.args.at c.in_ok-key.key ≡ None =
     ap (child_of items c.args.at) (copied c.in_ok-key.key c.args.key.now c.in_ok-key.ensures) ∙ c.requires.missing in
     let fresh : IsFresh c.new-fresh.result =
-    record { presence = c.new-fresh.ensures.presence; register = c.new-fresh.ensures.register; counter = c.new-fresh.ensures.counter; order = c.new-fresh.ensures.order; children = c.new-fresh.ensures.children; leads = c.new-fresh.ensures.leads } in
+    record { presence = c.new-fresh.ensures.presence; register = c.new-fresh.ensures.register; counter = c.new-fresh.ensures.counter; order = c.new-fresh.ensures.order; children = c.new-fresh.ensures.children; may_have_present_child = c.new-fresh.ensures.may_have_present_child } in
     subst (Grows items) (sym c.in_ok-add_child.ensures.ok)
     (grows_added items c.requires.tree c.args.at c.requires.known c.in_ok-key.key none (record { 0 = length items }) refl c.new-fresh.result fresh)
 
@@ -37,7 +37,7 @@ returns-clause-child c =
     let none : child_of items c.args.at c.in_ok-key.key ≡ None =
     ap (child_of items c.args.at) (copied c.in_ok-key.key c.args.key.now c.in_ok-key.ensures) ∙ c.requires.missing in
     let fresh : IsFresh c.new-fresh.result =
-    record { presence = c.new-fresh.ensures.presence; register = c.new-fresh.ensures.register; counter = c.new-fresh.ensures.counter; order = c.new-fresh.ensures.order; children = c.new-fresh.ensures.children; leads = c.new-fresh.ensures.leads } in
+    record { presence = c.new-fresh.ensures.presence; register = c.new-fresh.ensures.register; counter = c.new-fresh.ensures.counter; order = c.new-fresh.ensures.order; children = c.new-fresh.ensures.children; may_have_present_child = c.new-fresh.ensures.may_have_present_child } in
     let number : ◌≡◌ {A = NodeNumber} (record { 0 = length items }) (record { 0 = c.len.result }) = λ i. record { 0 = (sym c.args.nodes.now.ok.0 ∙ sym c.len.ensures) i } in
     ap (child_of c.add_child.new.nodes.items c.args.at) (sym (copied c.in_ok-key.key c.args.key.now c.in_ok-key.ensures))
     ∙ ap (λ l. child_of l c.args.at c.in_ok-key.key) c.in_ok-add_child.ensures.ok

@@ -1,7 +1,7 @@
 use Rattle.std.proofs.Common.{◌≡◌, [], sym, ap, subst}
 use Rattle.std.proofs.lemmas.List.{nil_from_length}
 use Rattle.doc_nodes.specs.Walk.{root}
-use Rattle.doc_nodes.specs.Marks.{keys_to}
+use Rattle.doc_nodes.specs.PresenceAlong.{keys_to}
 use Rattle.doc_nodes.specs.Growth.{IsMade}
 use Rattle.doc_nodes.proofs.Made.{made_end}
 use Rattle.doc_nodes.proofs.growth.prepare_way.Goals as goal

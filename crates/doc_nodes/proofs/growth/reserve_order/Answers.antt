@@ -3,7 +3,7 @@ use Rattle.std.proofs.lemmas.List.{get_or_default}
 use Rattle.doc_nodes.specs.declared.node.Node.{Node}
 use Rattle.doc_nodes.specs.Nodes.{blank_node, node_of}
 use Rattle.doc_nodes.proofs.Adding.{more_order}
-use Rattle.doc_nodes.proofs.Marking.{tree-set}
+use Rattle.doc_nodes.proofs.AddingPresence.{tree-set}
 use Rattle.doc_nodes.proofs.growth.reserve_order.Goals as goal
 
 pub returns-in_err-reserve_one-clause-tree : goal.returns-in_err-reserve_one-clause-tree

@@ -1,4 +1,4 @@
--- The marks of an operation on the nodes that it passes, and where it ends.
+-- An operation makes the node where it ends present, and those above it.
 use Rattle.std.specs.Prelude.{◌≡◌, ◌≢◌, ◌⊎◌, ◌<◌, List, [], ◌∷◌, ◌++◌, length, map, Some, ◌&&◌, ◌||◌, IsSome, Bool, true, false}
 use Rattle.doc_words.specs.Words.{Id, Key, Tagged}
 use Rattle.op_core.specs.Shape.{key_of}
@@ -12,20 +12,24 @@ use Rattle.doc_nodes.specs.declared.node.NodeNumber.{NodeNumber}
 use Rattle.doc_nodes.specs.declared.node.Node.{Node}
 use Rattle.doc_nodes.specs.Walk.{walk}
 use Rattle.doc_nodes.specs.Nodes.{node_of, child_of, AreTree}
-use Rattle.doc_nodes.specs.Flags.{is_some_entry}
+use Rattle.doc_nodes.specs.ListPresence.{is_some_entry}
 
 -- an operation in this role goes on to a child
 abbrev pub passes : Role → Bool
 passes Through = true
 passes _ = false
 
--- whether a child may be present after an operation in a role: one may that was, as long as the node is present
-abbrev pub leads_after : Role → Node → Bool
-leads_after role node = passes role || (node.leads && is_some_entry node.presence.0)
+-- whether a child may be present after an operation in a role: if it may be before, while the node is present
+abbrev pub may_have_present_child_after : Role → Node → Bool
+may_have_present_child_after role node = passes role || (node.may_have_present_child && is_some_entry node.presence.0)
 
 -- a node that an operation makes present, in a role; it takes the room that was made for it
-abbrev pub marked : Id → Role → Node → Node
-marked id role node = record node { presence = (put_at_id node.presence.0 id role, false); leads = leads_after role node }
+abbrev pub made_present : Id → Role → Node → Node
+made_present id role node =
+    record node {
+      presence = (put_at_id node.presence.0 id role, false);
+      may_have_present_child = may_have_present_child_after role node;
+    }
 
 -- the role in a node from which keys still lead on
 abbrev pub role_before : List Key → Role → Role
@@ -52,16 +56,20 @@ HasRoomAlong nodes n keys =
     (front rest : List Key) (j : NodeNumber) → keys ≡ front ++ rest → walk (child_of nodes) n front ≡ Some j
     → (node_of nodes j).presence.1 ≡ true
 
--- the nodes on the way from n by the keys are marked, and no other
-pub record MarksAlong (id : Id) (role : Role) (old new : List Node) (n : NodeNumber) (keys : List Key) : Type 0 where
+-- the nodes on the way from n by the keys are made present, and no other
+pub record AddsPresenceAlong (id : Id) (role : Role) (old new : List Node) (n : NodeNumber) (keys : List Key) : Type 0 where
   pub along : (front rest : List Key) (j : NodeNumber) → keys ≡ front ++ rest → walk (child_of old) n front ≡ Some j
-      → node_of new j ≡ marked id (role_before rest role) (node_of old j)
-  pub outside : (j : NodeNumber) → ((front rest : List Key) → keys ≡ front ++ rest → walk (child_of old) n front ≢ Some j) → node_of new j ≡ node_of old j
-  pub changed : (j : NodeNumber) → (node_of new j ≡ node_of old j) ⊎ ((front : List Key) × (rest : List Key) × (keys ≡ front ++ rest) × (walk (child_of old) n front ≡ Some j))
+      → node_of new j ≡ made_present id (role_before rest role) (node_of old j)
+  pub outside : (j : NodeNumber)
+      → ((front rest : List Key) → keys ≡ front ++ rest → walk (child_of old) n front ≢ Some j)
+      → node_of new j ≡ node_of old j
+  pub changed : (j : NodeNumber) → (node_of new j ≡ node_of old j)
+      ⊎ ((front : List Key) × (rest : List Key) × (keys ≡ front ++ rest) × (walk (child_of old) n front ≡ Some j))
   pub shape : child_of new ≡ child_of old
-  pub kept : (j : NodeNumber) → ((node_of new j).register ≡ (node_of old j).register) × ((node_of new j).counter ≡ (node_of old j).counter) × ((node_of new j).order ≡ (node_of old j).order)
+  pub kept : (j : NodeNumber) → ((node_of new j).register ≡ (node_of old j).register)
+      × ((node_of new j).counter ≡ (node_of old j).counter) × ((node_of new j).order ≡ (node_of old j).order)
 
--- what marks on the way from n need
+-- what making the nodes on the way from n present needs
 pub record IsReady (nodes : List Node) (n : NodeNumber) (keys : List Key) : Type 0 where
   pub tree : AreTree nodes
   pub within : n.0 < length nodes
@@ -69,5 +77,5 @@ pub record IsReady (nodes : List Node) (n : NodeNumber) (keys : List Key) : Type
   pub room : HasRoomAlong nodes n keys
 
 -- a place, and those above it, are present by an id
-abbrev pub mark_facts : Facts → List Tagged → Key → Id → Facts
-mark_facts f p k id = record f { present = λ q j i. f.present q j i || (is_within p k q j && id_eq id i) }
+abbrev pub presence_facts : Facts → List Tagged → Key → Id → Facts
+presence_facts f p k id = record f { present = λ q j i. f.present q j i || (is_within p k q j && id_eq id i) }

@@ -1,7 +1,7 @@
 use Rattle.std.proofs.Common.{rules, ◌≡◌, ◌<◌, [], sym, subst, length, get_or}
 use Rattle.doc_nodes.specs.KeyOrder.{IsInKeyOrder}
 use Rattle.doc_nodes.proofs.Blocks.{rising_at}
-use Rattle.doc_nodes.proofs.children.spot_of.Goals as goal
+use Rattle.doc_nodes.proofs.children.hint_for.Goals as goal
 
 pub rank_of_key-requires : goal.rank_of_key-requires
 rank_of_key-requires c =

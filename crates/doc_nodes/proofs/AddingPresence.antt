@@ -1,4 +1,4 @@
--- What the marks on one node after another come to.
+-- One node after another is made present.
 use Rattle.std.proofs.Common.{◌≡◌, ◌≢◌, ◌<◌, List, [], ◌∷◌, ◌++◌, length, set, Option, Some, None, inl, inr, ⊎_elim, refl, sym, ap, ◌∙◌, subst, arith, true}
 use Rattle.std.proofs.lemmas.List.{get_or-set_same, get_or-set_other, length-set}
 use Rattle.std.proofs.lemmas.Bool.{cases_eq}
@@ -12,7 +12,7 @@ use Rattle.doc_nodes.specs.declared.node.Node.{Node}
 use Rattle.doc_nodes.specs.Children.{number_at}
 use Rattle.doc_nodes.specs.Walk.{walk, IsTree}
 use Rattle.doc_nodes.specs.Nodes.{blank_node, node_of, child_of, AreTree}
-use Rattle.doc_nodes.specs.Marks.{marked, role_before, MarksAlong, HasRoomAlong, IsReady}
+use Rattle.doc_nodes.specs.PresenceAlong.{made_present, role_before, AddsPresenceAlong, HasRoomAlong, IsReady}
 use Rattle.doc_nodes.proofs.Walks.{parts_of, walk_rises}
 
 -- one node is written
@@ -61,30 +61,30 @@ first_step nodes n k keys some = go (child_of nodes n k) refl some
 
 module _ (id : Id) (role : Role) (nodes : List Node) (n : NodeNumber) (within : n.0 < length nodes) where
   -- the end of the way
-  pub mark_end : MarksAlong id role nodes (set nodes n.0 (marked id role (node_of nodes n))) n []
-  mark_end = record {
+  pub presence_end : AddsPresenceAlong id role nodes (set nodes n.0 (made_present id role (node_of nodes n))) n []
+  presence_end = record {
     along = at;
-    outside = λ j off. other-set nodes n j (marked id role (node_of nodes n)) (λ e. off [] [] refl (ap Some (sym (eq_number j n e))));
-    changed = λ j. ⊎_elim (λ e. inr ([], [], refl, ap Some (sym (eq_number j n e)))) (λ e. inl (other-set nodes n j (marked id role (node_of nodes n)) e)) (cases_eq j.0 n.0);
-    shape = shape-set nodes n (marked id role (node_of nodes n)) within refl;
-    kept = kept-set nodes n (marked id role (node_of nodes n)) within refl refl refl;
+    outside = λ j off. other-set nodes n j (made_present id role (node_of nodes n)) (λ e. off [] [] refl (ap Some (sym (eq_number j n e))));
+    changed = λ j. ⊎_elim (λ e. inr ([], [], refl, ap Some (sym (eq_number j n e)))) (λ e. inl (other-set nodes n j (made_present id role (node_of nodes n)) e)) (cases_eq j.0 n.0);
+    shape = shape-set nodes n (made_present id role (node_of nodes n)) within refl;
+    kept = kept-set nodes n (made_present id role (node_of nodes n)) within refl refl refl;
   }
     where
       at : (front rest : List Key) (j : NodeNumber) → [] ≡ front ++ rest → walk (child_of nodes) n front ≡ Some j
-          → node_of (set nodes n.0 (marked id role (node_of nodes n))) j ≡ marked id (role_before rest role) (node_of nodes j)
+          → node_of (set nodes n.0 (made_present id role (node_of nodes n))) j ≡ made_present id (role_before rest role) (node_of nodes j)
       at [] [] j e w =
           let same : n ≡ j = cc in
-          subst (λ z. node_of (set nodes n.0 (marked id role (node_of nodes n))) z ≡ marked id role (node_of nodes z)) same (here-set nodes n (marked id role (node_of nodes n)) within)
+          subst (λ z. node_of (set nodes n.0 (made_present id role (node_of nodes n))) z ≡ made_present id role (node_of nodes z)) same (here-set nodes n (made_present id role (node_of nodes n)) within)
       at [] (k ∷ rest) j e w = cc
       at (k ∷ front) rest j e w = cc
 
   -- a step on the way
-  pub mark_step : AreTree nodes → (k : Key) (keys : List Key) (c : NodeNumber) (new : List Node) → child_of nodes n k ≡ Some c
-      → MarksAlong id role (set nodes n.0 (marked id Through (node_of nodes n))) new c keys → MarksAlong id role nodes new n (k ∷ keys)
-  mark_step tree k keys c new down marks = record {
+  pub presence_step : AreTree nodes → (k : Key) (keys : List Key) (c : NodeNumber) (new : List Node) → child_of nodes n k ≡ Some c
+      → AddsPresenceAlong id role (set nodes n.0 (made_present id Through (node_of nodes n))) new c keys → AddsPresenceAlong id role nodes new n (k ∷ keys)
+  presence_step tree k keys c new down added = record {
     along = at;
     outside = λ j off.
-        marks.outside j (λ front rest e w. off (k ∷ front) rest (ap (λ l. k ∷ l) e) (rw down (ap (λ f. walk f c front) (sym same_shape) ∙ w)))
+        added.outside j (λ front rest e w. off (k ∷ front) rest (ap (λ l. k ∷ l) e) (rw down (ap (λ f. walk f c front) (sym same_shape) ∙ w)))
         ∙ other-set nodes n j passed (λ e. off [] (k ∷ keys) refl (ap Some (sym (eq_number j n e))));
     changed = λ j. ⊎_elim
         (λ still. ⊎_elim
@@ -92,27 +92,27 @@ module _ (id : Id) (role : Role) (nodes : List Node) (n : NodeNumber) (within : 
         (λ e. inl (still ∙ other-set nodes n j passed e))
         (cases_eq j.0 n.0))
         (λ way. inr (k ∷ way.0, way.1, ap (λ l. k ∷ l) way.2, rw down (ap (λ f. walk f c way.0) (sym same_shape) ∙ way.3)))
-        (marks.changed j);
-    shape = marks.shape ∙ same_shape;
+        (added.changed j);
+    shape = added.shape ∙ same_shape;
     kept = λ j.
-        let one = kept-set nodes n (marked id Through (node_of nodes n)) within refl refl refl j in
-        let rest = marks.kept j in
+        let one = kept-set nodes n (made_present id Through (node_of nodes n)) within refl refl refl j in
+        let rest = added.kept j in
         (rest.0 ∙ one.0, rest.1 ∙ one.1, rest.2 ∙ one.2);
   }
     where
       passed : Node
-      passed = marked id Through (node_of nodes n)
+      passed = made_present id Through (node_of nodes n)
 
-      same_shape : child_of (set nodes n.0 (marked id Through (node_of nodes n))) ≡ child_of nodes
-      same_shape = shape-set nodes n (marked id Through (node_of nodes n)) within refl
+      same_shape : child_of (set nodes n.0 (made_present id Through (node_of nodes n))) ≡ child_of nodes
+      same_shape = shape-set nodes n (made_present id Through (node_of nodes n)) within refl
 
       at : (front rest : List Key) (j : NodeNumber) → k ∷ keys ≡ front ++ rest → walk (child_of nodes) n front ≡ Some j
-          → node_of new j ≡ marked id (role_before rest role) (node_of nodes j)
+          → node_of new j ≡ made_present id (role_before rest role) (node_of nodes j)
       at [] rest j e w =
           let same : n ≡ j = cc in
-          let still = marks.outside n (λ front more f g. absurd (omega (arith, tree.rising n k c down, walk_rises (child_of nodes) tree c n front (ap (λ h. walk h c front) (sym same_shape) ∙ g)))) in
-          subst (λ z. node_of new z ≡ marked id (role_before rest role) (node_of nodes z)) same
-          (still ∙ here-set nodes n (marked id Through (node_of nodes n)) within ∙ ap (λ r. marked id (role_before r role) (node_of nodes n)) e)
+          let still = added.outside n (λ front more f g. absurd (omega (arith, tree.rising n k c down, walk_rises (child_of nodes) tree c n front (ap (λ h. walk h c front) (sym same_shape) ∙ g)))) in
+          subst (λ z. node_of new z ≡ made_present id (role_before rest role) (node_of nodes z)) same
+          (still ∙ here-set nodes n (made_present id Through (node_of nodes n)) within ∙ ap (λ r. made_present id (role_before r role) (node_of nodes n)) e)
       at (i ∷ front) rest j e w =
           let first : k ≡ i = cc in
           let more : keys ≡ front ++ rest = cc in
@@ -121,32 +121,32 @@ module _ (id : Id) (role : Role) (nodes : List Node) (n : NodeNumber) (within : 
           let alike : ◌≡◌ {A = Option NodeNumber} (Some c) (Some step.0) = sym down ∙ ap (child_of nodes n) first ∙ step.1 in
           let same : c ≡ step.0 = cc in
           subst (λ z. walk (child_of nodes) z front ≡ Some j) (sym same) step.2 in
-          marks.along front rest j more (ap (λ h. walk h c front) same_shape ∙ below)
-          ∙ ap (marked id (role_before rest role)) (other-set nodes n j passed (λ f. absurd (omega (arith, tree.rising n k c down, walk_rises (child_of nodes) tree c j front below, f))))
+          added.along front rest j more (ap (λ h. walk h c front) same_shape ∙ below)
+          ∙ ap (made_present id (role_before rest role)) (other-set nodes n j passed (λ f. absurd (omega (arith, tree.rising n k c down, walk_rises (child_of nodes) tree c j front below, f))))
 
   -- the rest of the way has room still
   pub room_step : AreTree nodes → (k : Key) (keys : List Key) (c : NodeNumber) → child_of nodes n k ≡ Some c
-      → HasRoomAlong nodes n (k ∷ keys) → HasRoomAlong (set nodes n.0 (marked id role (node_of nodes n))) c keys
+      → HasRoomAlong nodes n (k ∷ keys) → HasRoomAlong (set nodes n.0 (made_present id role (node_of nodes n))) c keys
   room_step tree k keys c down room front rest j e w =
-      let same_shape = shape-set nodes n (marked id role (node_of nodes n)) within refl in
+      let same_shape = shape-set nodes n (made_present id role (node_of nodes n)) within refl in
       let below : walk (child_of nodes) c front ≡ Some j = ap (λ h. walk h c front) (sym same_shape) ∙ w in
-      let other = other-set nodes n j (marked id role (node_of nodes n)) (λ f. absurd (omega (arith, tree.rising n k c down, walk_rises (child_of nodes) tree c j front below, f))) in
+      let other = other-set nodes n j (made_present id role (node_of nodes n)) (λ f. absurd (omega (arith, tree.rising n k c down, walk_rises (child_of nodes) tree c j front below, f))) in
       subst (λ z. z.presence.1 ≡ true) (sym other) (room (k ∷ front) rest j (ap (λ l. k ∷ l) e) (rw down below))
 
--- After the mark on n the way goes on from its child.
+-- Once n is made present, the way goes on from its child.
 pub step_down : (id : Id) (nodes new : List Node) (n c : NodeNumber) (k : Key) (keys : List Key) → IsReady nodes n (k ∷ keys)
-    → new ≡ set nodes n.0 (marked id Through (node_of nodes n)) → child_of new n k ≡ Some c → IsReady new c keys
+    → new ≡ set nodes n.0 (made_present id Through (node_of nodes n)) → child_of new n k ≡ Some c → IsReady new c keys
 step_down id nodes new n c k keys ready is down =
     subst (λ l. IsReady l c keys) (sym is)
     (record {
-      tree = tree-set nodes n (marked id Through (node_of nodes n)) ready.within refl ready.tree;
-      within = subst (λ z. c.0 < z) (sym (length-set nodes n.0 (marked id Through (node_of nodes n)))) (ready.tree.within n k c before);
+      tree = tree-set nodes n (made_present id Through (node_of nodes n)) ready.within refl ready.tree;
+      within = subst (λ z. c.0 < z) (sym (length-set nodes n.0 (made_present id Through (node_of nodes n)))) (ready.tree.within n k c before);
       reached = subst (λ f. IsSome (walk f c keys)) (sym same_shape) (subst (λ z. IsSome (walk (child_of nodes) z keys)) same first.2);
       room = room_step id Through nodes n ready.within ready.tree k keys c before ready.room;
     })
   where
-    same_shape : child_of (set nodes n.0 (marked id Through (node_of nodes n))) ≡ child_of nodes
-    same_shape = shape-set nodes n (marked id Through (node_of nodes n)) ready.within refl
+    same_shape : child_of (set nodes n.0 (made_present id Through (node_of nodes n))) ≡ child_of nodes
+    same_shape = shape-set nodes n (made_present id Through (node_of nodes n)) ready.within refl
 
     before : child_of nodes n k ≡ Some c
     before = ap (λ f. f n k) (sym (ap child_of is ∙ same_shape)) ∙ down
@@ -158,6 +158,6 @@ step_down id nodes new n c k keys ready is down =
     same = let both : ◌≡◌ {A = Option NodeNumber} (Some (first_step nodes n k keys ready.reached).0) (Some c) = sym (first_step nodes n k keys ready.reached).1 ∙ before in cc
 
 pub child_before : (id : Id) (nodes new : List Node) (n c : NodeNumber) (k : Key) → n.0 < length nodes
-    → new ≡ set nodes n.0 (marked id Through (node_of nodes n)) → child_of new n k ≡ Some c → child_of nodes n k ≡ Some c
+    → new ≡ set nodes n.0 (made_present id Through (node_of nodes n)) → child_of new n k ≡ Some c → child_of nodes n k ≡ Some c
 child_before id nodes new n c k within is down =
-    ap (λ f. f n k) (sym (ap child_of is ∙ shape-set nodes n (marked id Through (node_of nodes n)) within refl)) ∙ down
+    ap (λ f. f n k) (sym (ap child_of is ∙ shape-set nodes n (made_present id Through (node_of nodes n)) within refl)) ∙ down
