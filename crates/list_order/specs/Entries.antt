@@ -28,7 +28,7 @@ entry_of_reference (Some id) = Some (absent id)
 abbrev pub with_presence : List (Id × Bool) → Id → Bool → List (Id × Bool)
 with_presence entries id is = map (λ e. if id_eq e.0 id then (e.0, is) else e) entries
 
--- the entries with nothing told
+-- the entries with none present
 abbrev pub all_absent : List (Id × Bool) → List (Id × Bool)
 all_absent entries = map (λ e. absent e.0) entries
 

@@ -1,4 +1,4 @@
--- What is kept of each slot beside its id and link: whether its id is present, and the block in which it stands.
+-- What is kept of each slot beside its id and link: whether its id is present, and the block that it is in.
 use Rattle.std.specs.Prelude.{◌≡◌, ◌⊎◌, ◌++◌, ◌<◌, ◌≤◌, ◌+◌, ◌-◌, ◌^◌, ℕ, suc, List, [], ◌∷◌, map, length, Bool, false, ◌&&◌, nat_eq, nat_le, Option, Some, None, slice_index_or, slice_set, if◌then◌else◌}
 use Rattle.lamport_id.specs.declared.id.Id.{Id}
 use Rattle.presence_set.specs.ById.{get}
@@ -6,7 +6,7 @@ use Rattle.list_order.specs.declared.slots.Slot.{Slot}
 use Rattle.list_order.specs.declared.slots.SlotNumber.{SlotNumber}
 use Rattle.list_order.specs.declared.marks.Mark.{Mark}
 use Rattle.list_order.specs.declared.marks.MarkBlock.{MarkBlock}
-use Rattle.list_order.specs.Slots.{slot_at, slots_from, IsOrder, LinksEnd}
+use Rattle.list_order.specs.Slots.{slot_at, slots_from, IsOrder}
 
 -- a mark for numbers that name none
 abbrev pub unmarked : Mark
@@ -25,7 +25,8 @@ block_at blocks k = slice_index_or blocks k no_block
 -- how many marks along a path pass a test
 abbrev pub count_where : (Mark → Bool) → List Mark → List SlotNumber → ℕ
 count_where test marks [] = 0
-count_where test marks (n ∷ path) = if test (mark_at marks n) then suc (count_where test marks path) else count_where test marks path
+count_where test marks (n ∷ path) =
+    if test (mark_at marks n) then suc (count_where test marks path) else count_where test marks path
 
 abbrev pub is_marked : Mark → Bool
 is_marked m = m.is_present
@@ -46,15 +47,17 @@ start_of at (n ∷ path) = Some n
 -- the blocks never fall along a path
 abbrev pub IsInBlockOrder : ℕ → List Mark → List SlotNumber → Type 0
 IsInBlockOrder low marks [] = Unit {0}
-IsInBlockOrder low marks (n ∷ path) = (low ≤ (mark_at marks n).block) × IsInBlockOrder (mark_at marks n).block marks path
+IsInBlockOrder low marks (n ∷ path) =
+    (low ≤ (mark_at marks n).block) × IsInBlockOrder (mark_at marks n).block marks path
 
--- each block has the count of its present slots, and the slot behind it. What is in no block stands at the end
-pub record IsCounted (marks : List Mark) (blocks : List MarkBlock) (path : List SlotNumber) (at : Option SlotNumber) : Type 0 where
+-- each block has the count of its present slots, and the slot behind it. Slots in no block are at the end
+pub record IsCounted (marks : List Mark) (blocks : List MarkBlock) (path : List SlotNumber) (at : Option SlotNumber)
+    : Type 0 where
   pub rising : IsInBlockOrder 0 marks path
   pub counted : (k : ℕ) → k < length blocks → (block_at blocks k).present ≡ count_where (is_marked_in k) marks path
   pub ends : (k : ℕ) → k < length blocks → (block_at blocks k).end ≡ start_of at (from_block (suc k) marks path)
 
--- the block in which a slot stands, or the first
+-- the block that a slot is in, or the first
 abbrev pub block_behind : List Mark → Option SlotNumber → ℕ
 block_behind marks None = 0
 block_behind marks (Some n) = (mark_at marks n).block
@@ -80,7 +83,8 @@ set_block marks n block = slice_set marks n.0 (record { is_present = (mark_at ma
 
 -- the open block was closed, or stays open
 abbrev pub IsClosed : List MarkBlock → List MarkBlock → ℕ → Option SlotNumber → ℕ → Type 0
-IsClosed blocks new present end left = ((new ≡ blocks ++ record { present = present; end = end } ∷ []) × (left ≡ 0)) ⊎ ((new ≡ blocks) × (left ≡ present))
+IsClosed blocks new present end left =
+    ((new ≡ blocks ++ record { present = present; end = end } ∷ []) × (left ≡ 0)) ⊎ ((new ≡ blocks) × (left ≡ present))
 
 -- the same ids are present, and the blocks are cut anew
 pub record IsRecut (marks new : List Mark) (blocks : List MarkBlock) (path : List SlotNumber) : Type 0 where
@@ -90,7 +94,8 @@ pub record IsRecut (marks new : List Mark) (blocks : List MarkBlock) (path : Lis
 
 -- the blocks with one count moved
 abbrev pub moved_in : List MarkBlock → ℕ → Bool → Bool → List MarkBlock
-moved_in blocks k was is = slice_set blocks k (record { present = moved (block_at blocks k).present was is; end = (block_at blocks k).end })
+moved_in blocks k was is =
+    slice_set blocks k (record { present = moved (block_at blocks k).present was is; end = (block_at blocks k).end })
 
 -- a count may be moved
 pub record MayMove (count : ℕ) (was is : Bool) : Type 0 where
@@ -98,29 +103,29 @@ pub record MayMove (count : ℕ) (was is : Bool) : Type 0 where
   pub fits : moved count was is < 2 ^ 64
 
 -- a mark may be changed
-pub record MaySet (marks : List Mark) (blocks : List MarkBlock) (present : ℕ) (n : SlotNumber) (is : Bool) : Type 0 where
+pub record MaySet (marks : List Mark) (blocks : List MarkBlock) (present : ℕ) (n : SlotNumber) (is : Bool)
+    : Type 0 where
   pub within : n.0 < length marks
   pub all : MayMove present (mark_at marks n).is_present is
-  pub in_block : (mark_at marks n).block < length blocks → MayMove (block_at blocks (mark_at marks n).block).present (mark_at marks n).is_present is
+  pub in_block : (mark_at marks n).block < length blocks
+      → MayMove (block_at blocks (mark_at marks n).block).present (mark_at marks n).is_present is
 
--- what stands in the slots along a path
+-- the entries of the slots along a path
 abbrev pub entries_along : List Slot → List Mark → List SlotNumber → List (Id × Bool)
 entries_along slots marks path = map (λ n. ((slot_at slots n).id, (mark_at marks n).is_present)) path
 
 -- the ids along a path that are present
 abbrev pub present_along : List Slot → List Mark → List SlotNumber → List Id
 present_along slots marks [] = []
-present_along slots marks (n ∷ path) = if (mark_at marks n).is_present then (slot_at slots n).id ∷ present_along slots marks path else present_along slots marks path
+present_along slots marks (n ∷ path) =
+    if (mark_at marks n).is_present then (slot_at slots n).id ∷ present_along slots marks path
+    else present_along slots marks path
 
 -- the order, its marks and its blocks fit together
-pub record IsMarkedOrder (slots : List Slot) (first : Option SlotNumber) (index : List (Id × SlotNumber)) (marks : List Mark) (blocks : List MarkBlock) (present : ℕ) : Type 0 where
+pub record IsMarkedOrder (slots : List Slot) (first : Option SlotNumber) (index : List (Id × SlotNumber))
+    (marks : List Mark) (blocks : List MarkBlock) (present : ℕ) : Type 0 where
   pub order : IsOrder slots first index
   pub own : (n : SlotNumber) → n.0 < length slots → get index (slot_at slots n).id ≡ Some n
   pub marked : length marks ≡ length slots
   pub counted : IsCounted marks blocks (slots_from slots first) None
   pub all : present ≡ count_where is_marked marks (slots_from slots first)
-
--- a slot from which links and marks lead on
-pub record IsThere (slots : List Slot) (marks : List Mark) (at : Option SlotNumber) : Type 0 where
-  pub walk : LinksEnd slots at
-  pub marked : length marks ≡ length slots

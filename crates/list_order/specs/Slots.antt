@@ -41,7 +41,7 @@ abbrev pub number_along : List Slot → List SlotNumber → Id → Option SlotNu
 number_along slots [] id = None
 number_along slots (n ∷ path) id = if id_eq (slot_at slots n).id id then Some n else number_along slots path id
 
--- the slot of the id after which something stands, if it is not the head
+-- the slot of the id that a new one comes after, if that is not the head
 abbrev pub number_for : List (Id × SlotNumber) → Option Id → Option SlotNumber
 number_for index None = None
 number_for index (Some id) = get index id
@@ -49,13 +49,15 @@ number_for index (Some id) = get index id
 -- the last slot that is not less than id, from the front on, or previous
 abbrev pub passed : List Slot → Id → Option SlotNumber → List SlotNumber → Option SlotNumber
 passed slots id previous [] = previous
-passed slots id previous (n ∷ path) = if is_lt (id_cmp (slot_at slots n).id id) then previous else passed slots id (Some n) path
+passed slots id previous (n ∷ path) =
+    if is_lt (id_cmp (slot_at slots n).id id) then previous else passed slots id (Some n) path
 
 -- the slots with one more, linked in behind a slot or as the first
 abbrev pub linked : List Slot → Option SlotNumber → Option SlotNumber → Id → List Slot
 linked slots first None id = slots ++ record { id = id; next = first } ∷ []
 linked slots first (Some p) id =
-    slice_set slots p.0 (record { id = (slot_at slots p).id; next = Some (record { 0 = length slots }) }) ++ record { id = id; next = (slot_at slots p).next } ∷ []
+    slice_set slots p.0 (record { id = (slot_at slots p).id; next = Some (record { 0 = length slots }) })
+    ++ record { id = id; next = (slot_at slots p).next } ∷ []
 
 abbrev pub linked_first : List Slot → Option SlotNumber → Option SlotNumber → Option SlotNumber
 linked_first slots first None = Some (record { 0 = length slots })

@@ -23,7 +23,7 @@ use std::marker::Model;
 
 /// The ids of a list in its order, deleted ones included, each with whether it is present: linked slots with marks, an
 /// index from id to slot, and blocks that count the present ids. Clauses see a pair: the entries, and how many of them
-/// the memory at hand can hold.
+/// the reserved memory can hold.
 pub struct LinkedOrder {
     slots: Vec<Slot>,
     first: Option<SlotNumber>,
@@ -42,7 +42,10 @@ impl Model for LinkedOrder {
 
     ghost Value = { List (Id × Bool) × ℕ };
 
-    ghost view = { λ o. (entries_along o.slots.items o.marks.items (slots_from o.slots.items o.first), min (vec_capacity o.slots) (min (vec_capacity o.index) (vec_capacity o.marks))) };
+    ghost view = { λ o. (
+        entries_along o.slots.items o.marks.items (slots_from o.slots.items o.first),
+        min (vec_capacity o.slots) (min (vec_capacity o.index) (vec_capacity o.marks))
+    ) };
 
     ghost invariant = { λ o. IsMarkedOrder o.slots.items o.first o.index.items o.marks.items o.blocks.items o.present };
 }
@@ -77,7 +80,7 @@ impl LinkedOrder {
         }
     }
 
-    /// Makes room for one more id. Where memory is wanting, the list stays.
+    /// Makes room for one more id. Out of memory, the list stays as it is.
     pub fn reserve_one(&mut self) -> Result<(), AllocError>
         ensures same { self.new.0 ≡ self.old.0 }
         ensures grows { self.old.1 ≤ self.new.1 }
@@ -129,8 +132,8 @@ impl LinkedOrder {
         }
     }
 
-    /// The i-th present id. It is found from block to block, and then from slot to slot; but the newest id at once, where it is the
-    /// last one: what is typed at the end of a list is asked for next.
+    /// The i-th present id. It is found from block to block, and then from slot to slot. The newest id is found at
+    /// once where it is the last one: a client that types at the end of a list asks for it next.
     pub fn nth_present(&self, i: usize) -> Option<Id>
         ensures { result ≡ slice_get (present_of self.now.0) i }
     {
@@ -146,7 +149,7 @@ impl LinkedOrder {
         )
     }
 
-    // The newest id, if none stands behind it and it is the i-th present one.
+    // The newest id, if none is behind it and it is the i-th present one.
     fn newest_at_end(&self, i: usize) -> Option<Id>
         ensures { IfSome result (λ id. slice_get (present_of self.now.0) i ≡ Some id) }
     {
@@ -161,24 +164,6 @@ impl LinkedOrder {
         } else {
             None
         }
-    }
-
-    /// The entries of the list in its order, to be gone through one after another. Nothing is copied.
-    pub fn entries(&self) -> OrderEntries<'_>
-        ensures { result ≡ self.now.0 }
-    {
-        OrderEntries {
-            slots: self.slots.as_slice(),
-            marks: self.marks.as_slice(),
-            at: self.first,
-        }
-    }
-
-    /// How many ids are present.
-    pub fn count_present(&self) -> usize
-        ensures { result ≡ length (present_of self.now.0) }
-    {
-        self.present
     }
 
     /// The id after another, or the first of the list.
@@ -200,59 +185,10 @@ impl LinkedOrder {
         number_of(self.index.as_slice(), &id).is_some()
     }
 
-    /// The ids of the list in its order. The error is want of memory.
+    /// The ids of the list in its order. The error is out of memory.
     pub fn ids(&self, alloc: Global) -> Result<Vec<Id>, AllocError>
         ensures { IfOk result (λ ids. ids.items ≡ ids_of self.now.0) }
     {
         ids_from(alloc, self.slots.as_slice(), self.first)
-    }
-}
-
-/// What is left of a list that is gone through. Clauses see the entries that are left.
-pub struct OrderEntries<'a> {
-    slots: &'a [Slot],
-    marks: &'a [Mark],
-    at: Option<SlotNumber>,
-}
-
-impl<'a> Model for OrderEntries<'a> {
-    ghost use Rattle.std.specs.Prelude.{◌≡◌, List, Bool, length};
-    ghost use Rattle.lamport_id.specs.declared.id.Id.{Id};
-    ghost use Rattle.list_order.specs.Slots.{slots_from, LinksEnd};
-    ghost use Rattle.list_order.specs.Marks.{entries_along, IsThere};
-
-    ghost Value = { List (Id × Bool) };
-
-    ghost view = { λ e. entries_along e.slots.now e.marks.now (slots_from e.slots.now e.at) };
-
-    ghost invariant = { λ e. IsThere e.slots.now e.marks.now e.at };
-}
-
-impl<'a> OrderEntries<'a> {
-    /// No entry.
-    pub fn none() -> OrderEntries<'a>
-        ensures { result ≡ [] }
-    {
-        OrderEntries {
-            slots: &[],
-            marks: &[],
-            at: None,
-        }
-    }
-
-    /// The next entry, which is then no longer among those that are left. It is `None` only where none is left.
-    pub fn next_entry(&mut self) -> Option<(Id, bool)>
-        ensures taken { self.old ≡ option_to_list result ++ self.new }
-        ensures ended { result ≡ None → self.old ≡ [] }
-    {
-        match self.at {
-            None => None,
-            Some(n) => {
-                let slot = slot_at(self.slots, n);
-                let is_present = mark_at(self.marks, n).is_present;
-                self.at = slot.next;
-                Some((slot.id, is_present))
-            }
-        }
     }
 }

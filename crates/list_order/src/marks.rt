@@ -11,7 +11,7 @@ use lamport_id::Id;
 /// How many slots a block has at least when it is closed.
 const LEAST_BLOCK: usize = 64;
 
-/// Whether the id of a slot is present, and the block in which the slot stands.
+/// Whether the id of a slot is present, and the block that the slot is in.
 #[derive(Clone, Copy)]
 pub struct Mark {
     pub is_present: bool,
@@ -42,7 +42,7 @@ pub fn set_mark(marks: &mut Vec<Mark>, n: SlotNumber, is_present: bool)
     marks[n.0].is_present = is_present;
 }
 
-/// The block in which a slot stands, or the first.
+/// The block that a slot is in, or the first.
 fn block_behind(marks: &[Mark], previous: Option<SlotNumber>) -> usize
     requires { ForSome previous (λ p. p.0 < length marks.now) }
     ensures { result ≡ Spec.block_behind marks.now previous }
@@ -53,7 +53,7 @@ fn block_behind(marks: &[Mark], previous: Option<SlotNumber>) -> usize
     }
 }
 
-/// Adds the mark of a new slot that stands behind another, or in front.
+/// Adds the mark of a new slot that is behind another, or in front.
 pub fn add_mark(marks: &mut Vec<Mark>, previous: Option<SlotNumber>)
     requires known { ForSome previous (λ p. p.0 < length marks.old.items) }
     requires room { length marks.old.items < vec_capacity marks.old }
@@ -154,7 +154,7 @@ pub fn nth_along(
     nth_from(slots, marks, at, left)
 }
 
-/// What stands behind the blocks that are cut so far.
+/// The slots behind the blocks that are cut so far.
 #[derive(Clone, Copy)]
 struct Open {
     len: usize,
@@ -199,7 +199,7 @@ fn closed(
     }
 }
 
-/// The first slot that stands behind all blocks.
+/// The first slot behind all blocks.
 fn behind_blocks(blocks: &[MarkBlock], first: Option<SlotNumber>) -> Option<SlotNumber>
     ensures none { length blocks.now ≡ 0 → result ≡ first }
     ensures last { 0 < length blocks.now → result ≡ (block_at blocks.now (length blocks.now - 1)).end }
@@ -211,7 +211,7 @@ fn behind_blocks(blocks: &[MarkBlock], first: Option<SlotNumber>) -> Option<Slot
     }
 }
 
-/// Cuts what stands behind the blocks into blocks of this length, too.
+/// Cuts the slots behind the blocks into blocks of this length, too.
 fn cut_on(
     slots: &[Slot],
     first: Option<SlotNumber>,
@@ -243,7 +243,7 @@ fn cut_on(
 pub struct NextCuts {
     /// All of them.
     pub whole: usize,
-    /// What stands behind the last of them.
+    /// The slots behind the last of them.
     pub tail: usize,
 }
 
@@ -258,8 +258,8 @@ pub fn first_cuts() -> NextCuts {
     }
 }
 
-/// How many slots a block has when a list of this length is cut. A longer list has longer blocks, so that there are fewer to go
-/// through.
+/// How many slots a block has when a list of this length is cut. A longer list has longer blocks, so that there
+/// are fewer to go through.
 fn block_len(len: usize) -> usize {
     LEAST_BLOCK.saturating_add(len / 256)
 }
@@ -281,7 +281,8 @@ fn cuts_behind_tail(whole: usize, len: usize, cut: usize) -> NextCuts {
     }
 }
 
-/// Cuts the list into blocks anew, where enough slots are new, and else what stands behind the blocks, where that may have become long.
+/// Cuts the list into blocks anew, where enough slots are new, and else the slots behind the blocks, where there may
+/// be many of them.
 pub fn recut_if_due(
     slots: &[Slot],
     first: Option<SlotNumber>,
@@ -327,7 +328,8 @@ pub fn set_presence(
     requires may { MaySet marks.old.items blocks.old.items present.old n is }
     ensures marks { marks.new.items ≡ set_mark marks.old.items n is }
     ensures capacity { vec_capacity marks.new ≡ vec_capacity marks.old }
-    ensures blocks { let mark = Spec.mark_at marks.old.items n in blocks.new.items ≡ moved_in blocks.old.items mark.block mark.is_present is }
+    ensures blocks { let mark = Spec.mark_at marks.old.items n in
+        blocks.new.items ≡ moved_in blocks.old.items mark.block mark.is_present is }
     ensures present { present.new ≡ Spec.moved present.old (Spec.mark_at marks.old.items n).is_present is }
 {
     let mark = mark_at(marks.as_slice(), n);

@@ -46,7 +46,7 @@ pub fn behind(
     }
 }
 
-/// The slot that a new id is to stand behind: from the slot behind its reference on, it passes greater ids.
+/// The slot that a new id comes behind: from the slot behind its reference on, it passes greater ids.
 pub fn last_passed(
     slots: &[Slot],
     first: Option<SlotNumber>,
@@ -55,26 +55,20 @@ pub fn last_passed(
 ) -> Option<SlotNumber>
     requires known { ForSome reference (λ p. p.0 < length slots.now) }
     requires walk { LinksEnd slots.now (Spec.behind slots.now first reference) }
-    ensures { result ≡ passed slots.now id.now reference (slots_from slots.now (Spec.behind slots.now first reference)) }
+    ensures { result
+        ≡ passed slots.now id.now reference (slots_from slots.now (Spec.behind slots.now first reference)) }
 {
     let mut previous = reference;
     let mut at = behind(slots, first, reference);
     while let Some(n) = at {
         let slot = slot_at(slots, n);
-        if is_less(&slot.id, id) {
+        if slot.id < *id {
             break;
         }
         previous = at;
         at = slot.next;
     }
     previous
-}
-
-/// Whether an id is less than another.
-fn is_less(a: &Id, b: &Id) -> bool
-    ensures { result ≡ is_lt (id_cmp a.now b.now) }
-{
-    *a < *b
 }
 
 /// Links a new id in behind a slot, or as the first.
@@ -152,7 +146,7 @@ pub fn number_of(index: &[(Id, SlotNumber)], id: &Id) -> Option<SlotNumber>
     }
 }
 
-/// The slot of the id after which something stands, if it is not the head.
+/// The slot of the id that a new one comes after, if that is not the head.
 pub fn number_for(index: &[(Id, SlotNumber)], after: Option<Id>) -> Option<SlotNumber>
     requires { IsAscending index.now }
     ensures { result ≡ Spec.number_for index.now after }

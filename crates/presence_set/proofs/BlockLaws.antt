@@ -1,5 +1,5 @@
 -- Laws of pairs in blocks: which block takes an id, and what a cut and a clearing leave.
-use Rattle.std.proofs.Common.{◌≡◌, ℕ, zero, suc, ◌<◌, ◌≤◌, ◌+◌, List, [], ◌∷◌, ◌++◌, append_assoc, append-nil, length, get_or, set, take, drop, map, filter, Bool, true, false, not, if◌then◌else◌, Contains, refl, sym, ap, ◌∙◌, subst, true≢false, arith, Less}
+use Rattle.std.proofs.Common.{◌≡◌, inl, inr, ℕ, zero, suc, ◌<◌, ◌≤◌, ◌+◌, List, [], ◌∷◌, ◌++◌, append_assoc, append-nil, length, get_or, set, take, drop, map, filter, Bool, true, false, not, ◌||◌, if◌then◌else◌, Contains, refl, sym, ap, ◌∙◌, subst, true≢false, arith, Less}
 use Rattle.std.specs.Prelude.{insert}
 use Rattle.std.specs.Ordering.{is_lt}
 use Rattle.std.specs.Bool.{◌==◌}
@@ -11,13 +11,13 @@ use Rattle.std.proofs.lemmas.List.Elements.{Contains-append_left, Contains-appen
 use Rattle.doc_words.specs.Words.{Id, id_cmp}
 use Rattle.op_core.specs.Front.{covers}
 use Rattle.list_laws.proofs.IdOrder.{transitive}
-use Rattle.list_laws.proofs.Members.{Contains-here, Contains-there}
+use Rattle.list_laws.proofs.Members.{Contains-nil, Contains-here, Contains-there, Contains-cases}
 use Rattle.crdt_rules.specs.Same.{id_eq}
 use Rattle.crdt_rules.proofs.SameLaws.{id_decides}
 use Rattle.crdt_rules.proofs.WalkLaws.{id_order}
-use Rattle.sorted_lists.proofs.Keys.{is_Less, apart_back, greater_is, not_less_back}
+use Rattle.sorted_lists.proofs.Keys.{is_Less, apart, apart_back, greater_is, not_less_back}
 use Rattle.sorted_lists.proofs.Rising.{IsRising-split}
-use Rattle.presence_set.specs.ById.{put_at_id, uncovered, IsAscending}
+use Rattle.presence_set.specs.ById.{put_at_id, contains, uncovered, IsAscending}
 use Rattle.presence_set.specs.Blocks.{pairs_in, has_pair, starts_by, blocks_by, AreNonEmpty, is_nowhere, settled, HasSpareRoom, AllHaveRoom, HaveRoomBut}
 use Rattle.presence_set.specs.declared.lack.Lack.{Lack}
 use Rattle.presence_set.specs.declared.lack.Lack.TheVariants.{Nowhere, InFirst, InRest, Anywhere}
@@ -130,6 +130,65 @@ module _ {X : Type 0} where
       go false is h ih =
           let behind : blocks_by id rest ≡ k = omega (arith, h) in
           put-past xs (e ∷ es ++ pairs_in rest) id x (below_start xs e (es ++ pairs_in rest) id rising is) ∙ ap (λ l. xs ++ l) (in_this k behind ih)
+
+  -- ---- which block has an id
+
+  contains-past : (xs ys : List (Id × X)) (id : Id) → ((e : Id × X) → Contains xs e → id_cmp e.0 id ≡ Less) → contains (xs ++ ys) id ≡ contains ys id
+  contains-past [] ys id below = refl
+  contains-past (e ∷ xs) ys id below =
+      rw (apart ids_ordered e.0 id (below e (Contains-here xs refl))) (contains-past xs ys id (λ y c. below y (Contains-there e xs c)))
+
+  contains-before : (xs ys : List (Id × X)) (id : Id) → ((e : Id × X) → Contains ys e → id_cmp id e.0 ≡ Less) → contains (xs ++ ys) id ≡ contains xs id
+  contains-before [] [] id above = refl
+  contains-before [] (e ∷ ys) id above =
+      rw (apart_back ids_ordered id e.0 (above e (Contains-here ys refl))) (contains-before [] ys id (λ y c. above y (Contains-there e ys c)))
+  contains-before (e ∷ xs) ys id above = ap (λ b. id_eq e.0 id || b) (contains-before xs ys id above)
+
+  -- an id that some block has is in the first, or in the last of those that start with an id that isn't greater
+  pub contains_first : (xs : List (Id × X)) (rest : List (List (Id × X) × ℕ)) (id : Id) → IsAscending (xs ++ pairs_in rest) → AreNonEmpty rest
+      → blocks_by id rest ≡ 0 → contains (xs ++ pairs_in rest) id ≡ contains xs id
+  contains_first xs [] id rising filled none = contains-before xs [] id (λ e c. absurd (Contains-nil c))
+  contains_first xs (([], n) ∷ rest) id rising filled none = absurd (true≢false (sym filled.0))
+  contains_first xs ((e ∷ es, n) ∷ rest) id rising filled none =
+      contains-before xs (e ∷ es ++ pairs_in rest) id (λ y c. elim (Contains-cases e (es ++ pairs_in rest) c) [
+        | inl first ↦ subst (λ (z : Id × X). id_cmp id z.0 ≡ Less) first less
+        | inr later ↦ transitive id_order {x = id} {y = e.0} {z = y.0} less (next.0 y later)
+      ])
+    where
+      next : IsAscending (e ∷ es ++ pairs_in rest)
+      next = (rising_parts xs (e ∷ es ++ pairs_in rest) rising).1
+
+      go : (b : Bool) → (if not b then 1 + blocks_by id rest else 0) ≡ 0 → b ≡ true
+      go true h = refl
+      go false h = absurd (omega (arith, h))
+
+      less : id_cmp id e.0 ≡ Less
+      less = is_Less (id_cmp id e.0) (go (is_lt (id_cmp id e.0)) none)
+
+  pub contains_rest : (xs : List (Id × X)) (rest : List (List (Id × X) × ℕ)) (id : Id) (k : ℕ) (d : List (Id × X) × ℕ)
+      → IsAscending (xs ++ pairs_in rest) → AreNonEmpty rest → blocks_by id rest ≡ suc k
+      → contains (xs ++ pairs_in rest) id ≡ contains (get_or rest k d).0 id
+  contains_rest xs [] id k d rising filled some = absurd (omega (arith, some))
+  contains_rest xs (([], n) ∷ rest) id k d rising filled some = absurd (true≢false (sym filled.0))
+  contains_rest xs ((e ∷ es, n) ∷ rest) id k d rising filled some =
+      go (is_lt (id_cmp id e.0)) refl some (λ j there. contains_rest (e ∷ es) rest id j d next filled.1 there)
+    where
+      next : IsAscending (e ∷ es ++ pairs_in rest)
+      next = (rising_parts xs (e ∷ es ++ pairs_in rest) rising).1
+
+      in_this : (m : ℕ) → blocks_by id rest ≡ m
+          → ((j : ℕ) → blocks_by id rest ≡ suc j → contains (e ∷ es ++ pairs_in rest) id ≡ contains (get_or rest j d).0 id)
+          → contains (e ∷ es ++ pairs_in rest) id ≡ contains (get_or ((e ∷ es, n) ∷ rest) m d).0 id
+      in_this zero here ih = contains_first (e ∷ es) rest id next filled.1 here
+      in_this (suc j) there ih = ih j there
+
+      go : (b : Bool) → is_lt (id_cmp id e.0) ≡ b → (if not b then 1 + blocks_by id rest else 0) ≡ suc k
+          → ((j : ℕ) → blocks_by id rest ≡ suc j → contains (e ∷ es ++ pairs_in rest) id ≡ contains (get_or rest j d).0 id)
+          → contains (xs ++ (e ∷ es ++ pairs_in rest)) id ≡ contains (get_or ((e ∷ es, n) ∷ rest) k d).0 id
+      go true is h ih = absurd (omega (arith, h))
+      go false is h ih =
+          let behind : blocks_by id rest ≡ k = omega (arith, h) in
+          contains-past xs (e ∷ es ++ pairs_in rest) id (below_start xs e (es ++ pairs_in rest) id rising is) ∙ in_this k behind ih
 
   start_above : (blocks : List (List (Id × X) × ℕ)) (id i : Id) (j : ℕ) (d : List (Id × X) × ℕ) → AreNonEmpty blocks
       → ((y : Id × X) → Contains (pairs_in blocks) y → id_cmp i y.0 ≡ Less) → j < length blocks

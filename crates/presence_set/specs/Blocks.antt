@@ -1,4 +1,4 @@
--- What stands at ids, in blocks: the pairs of a block, and how many it has room for.
+-- Values by ids, in blocks: the pairs of a block, and how many it has room for.
 use Rattle.std.specs.Prelude.{◌≡◌, ◌<◌, ℕ, suc, List, [], ◌∷◌, ◌++◌, length, take, drop, Bool, true, false, not}
 use Rattle.std.specs.List.{flat_map, prefix_len}
 use Rattle.std.specs.Ordering.{is_lt}
@@ -53,10 +53,12 @@ module _ {X : Type 0} where
   abbrev pub HaveRoomBut : Lack → List (Id × X) × ℕ → List (List (Id × X) × ℕ) → Type 0
   HaveRoomBut Nowhere first rest = HasSpareRoom first × AllHaveRoom rest
   HaveRoomBut InFirst first rest = AllHaveRoom rest
-  HaveRoomBut (InRest at) first rest = HasSpareRoom first × (at < length rest) × AllHaveRoom (take at rest) × AllHaveRoom (drop (suc at) rest)
+  HaveRoomBut (InRest at) first rest =
+      HasSpareRoom first × (at < length rest) × AllHaveRoom (take at rest) × AllHaveRoom (drop (suc at) rest)
   HaveRoomBut Anywhere first rest = Unit {0}
 
-  -- the ids rise in the first block and from there on, no other block is empty, and each has room but where it may lack it
+  -- the ids rise in the first block and from there on, no other block is empty, and each block has room except where it
+  -- may lack it
   pub record IsInBlocks (first : List (Id × X) × ℕ) (rest : List (List (Id × X) × ℕ)) (lack : Lack) : Type 0 where
     pub rising : IsAscending (first.0 ++ pairs_in rest)
     pub filled : AreNonEmpty rest

@@ -1,7 +1,7 @@
-//! What stands at the ids of operations where there may be many of them: in blocks, so that one more moves few others.
+//! Values by the ids of operations, in blocks, so that one more id moves few others.
 ghost use Rattle.std.specs.Prelude.{◌≡◌, ◌+◌, ◌<◌, ◌≤◌, ◌↔◌, ◌∷◌, ◌++◌, ℕ, [], true, false, length, map, filter, take, drop, not, insert, IsTrue, IfSome, OnOk, OnErr, slice_index_or, slice_set};
 ghost use Rattle.lamport_id.specs.declared.id.Id.{Id};
-ghost use Rattle.presence_set.specs.ById.{put_at_id, uncovered, IsAscending};
+ghost use Rattle.presence_set.specs.ById.{put_at_id, contains, uncovered, IsAscending};
 ghost use Rattle.presence_set.specs.Blocks.{pairs_in, has_pair, starts_by, blocks_by, AreNonEmpty, HasSpareRoom, AllHaveRoom, HaveRoomBut};
 ghost use Rattle.presence_set.specs.Blocks as Spec;
 
@@ -15,9 +15,9 @@ use std::marker::Model;
 // How many ids a block takes: so many that there are few blocks, and so few that one more moves little.
 const FULL: usize = 256;
 
-/// At most one value for each id, in id order: in blocks, of which the first may be empty. It knows which block may lack
-/// room, so that one more id asks few of them. Clauses see a pair: the ids with their values, and whether there is room for
-/// one more.
+/// At most one value for each id, in id order, in blocks, of which the first may be empty. It knows which block
+/// may lack room, so that making room looks at few of them. Clauses see a pair: the ids with their values, and
+/// whether there is room for one more.
 pub struct InBlocks<X> {
     first: ById<X>,
     rest: Vec<ById<X>>,
@@ -58,7 +58,7 @@ impl<X: Drop> InBlocks<X> {
         }
     }
 
-    /// Makes room for one more id. Where memory is wanting, what stands there stays.
+    /// Makes room for one more id. Out of memory, the entries stay as they are.
     pub fn reserve_one(&mut self) -> Result<(), AllocError>
         ensures same { self.new.0 ≡ self.old.0 }
         ensures grows { self.old.1 ≡ true → self.new.1 ≡ true }
@@ -97,6 +97,17 @@ impl<X: Drop> InBlocks<X> {
         ensures { IsTrue result ↔ (self.now.0 ≡ []) }
     {
         self.first.is_empty() && self.rest.is_empty()
+    }
+
+    /// Whether some entry has this id. Its block is found by bisection, and then its place in the block. The program
+    /// itself doesn't call it.
+    pub fn contains(&self, id: Id) -> bool
+        ensures { result ≡ contains self.now.0 id }
+    {
+        match blocks_by(self.rest.as_slice(), &id).checked_sub(1) {
+            None => self.first.contains(id),
+            Some(at) => self.rest[at].contains(id),
+        }
     }
 
     /// The ids with their values, in id order.
@@ -222,13 +233,14 @@ fn settled(lack: Lack) -> Lack
     }
 }
 
-/// Puts a value into the block where its id belongs, and tells that this one may lack room then.
+/// Puts a value into the block where its id belongs, and returns that this block may lack room then.
 fn put_into<X: Drop>(first: &mut ById<X>, rest: &mut Vec<ById<X>>, id: Id, value: X) -> Lack
     requires rising { IsAscending (first.old.0 ++ pairs_in rest.old.items) }
     requires filled { AreNonEmpty rest.old.items }
     requires first { HasSpareRoom first.old }
     requires rest { AllHaveRoom rest.old.items }
-    ensures same { first.new.0 ++ pairs_in rest.new.items ≡ put_at_id (first.old.0 ++ pairs_in rest.old.items) id value }
+    ensures same { first.new.0 ++ pairs_in rest.new.items
+        ≡ put_at_id (first.old.0 ++ pairs_in rest.old.items) id value }
     ensures filled { AreNonEmpty rest.new.items }
     ensures taken { Spec.is_nowhere result ≡ false }
     ensures room { HaveRoomBut result first.new rest.new.items }
@@ -413,7 +425,8 @@ fn make_room_at<X: Drop>(rest: &mut Vec<ById<X>>, at: usize) -> Result<(), Alloc
 /// Makes a block grow.
 fn grow_at<X: Drop>(rest: &mut Vec<ById<X>>, at: usize) -> Result<(), AllocError>
     requires { at < length rest.old.items }
-    ensures same { (n : ℕ) × (rest.new.items ≡ slice_set rest.old.items at ((slice_index_or rest.old.items at ([], 0)).0, n)) }
+    ensures same { (n : ℕ) × (rest.new.items
+        ≡ slice_set rest.old.items at ((slice_index_or rest.old.items at ([], 0)).0, n)) }
     ensures room { OnOk result (HasSpareRoom (slice_index_or rest.new.items at ([], 0))) }
 {
     let block = &mut rest[at];
@@ -442,7 +455,8 @@ fn split_at<X: Drop>(rest: &mut Vec<ById<X>>, at: usize, place: usize) -> Result
     requires known { at < length rest.old.items }
     requires inside { place < length (slice_index_or rest.old.items at ([], 0)).0 }
     ensures ok { OnOk result ((n : ℕ) × (place < n) × (m : ℕ) × (rest.new.items
-        ≡ insert (slice_set rest.old.items at (take place (slice_index_or rest.old.items at ([], 0)).0, n)) (at + 1) (drop place (slice_index_or rest.old.items at ([], 0)).0, m))) }
+        ≡ insert (slice_set rest.old.items at (take place (slice_index_or rest.old.items at ([], 0)).0, n)) (at + 1)
+            (drop place (slice_index_or rest.old.items at ([], 0)).0, m))) }
     ensures err { OnErr result (rest.new.items ≡ rest.old.items) }
 {
     rest.reserve(1)?;

@@ -1,4 +1,4 @@
-//! What stands at the ids of operations at a place: the roles in which they make it present, their scalars, their numbers.
+//! Values by the ids of operations at a place: the roles in which they make it present, their scalars, their numbers.
 #![tactic(auto)]
 
 ghost use Rattle.std.specs.Prelude.{◌≡◌, ◌+◌, ◌<◌, ◌≤◌, ◌↔◌, [], length, take, drop, not, IsTrue, IfOk, OnOk, OnErr};
@@ -18,7 +18,7 @@ use std::alloc::{AllocError, Global};
 use std::marker::Model;
 
 /// At most one value for each id, in id order. Clauses see a pair: the ids with their values, and how many of them the
-/// memory at hand can hold.
+/// reserved memory can hold.
 pub struct ById<X> {
     entries: Vec<(Id, X)>,
 }
@@ -54,7 +54,7 @@ impl<X: Drop> ById<X> {
         }
     }
 
-    /// Makes room for one more id. Where memory is wanting, what stands there stays.
+    /// Makes room for one more id. Out of memory, the entries stay as they are.
     pub fn reserve_one(&mut self) -> Result<(), AllocError>
         ensures same { self.new.0 ≡ self.old.0 }
         ensures grows { self.old.1 ≤ self.new.1 }
@@ -83,7 +83,7 @@ impl<X: Drop> ById<X> {
         }
     }
 
-    /// Takes the pairs from a place on out, into a set of their own. Where memory is wanting, they stay.
+    /// Moves the entries from a place on into a set of their own. Out of memory, they stay.
     fn split_off(&mut self, at: usize) -> Result<ById<X>, AllocError>
         requires { at ≤ length self.old.0 }
         ensures low { OnOk result (self.new.0 ≡ take at self.old.0) }
@@ -128,7 +128,7 @@ impl<X: Drop> ById<X> {
         self.entries.as_slice()
     }
 
-    /// Whether something stands at the id. It is found by bisection.
+    /// Whether some entry has this id. It is found by bisection.
     pub fn contains(&self, id: Id) -> bool
         ensures { result ≡ contains self.now.0 id }
     {

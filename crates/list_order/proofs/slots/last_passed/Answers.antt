@@ -1,4 +1,4 @@
-use Rattle.std.proofs.Common.{false, true, ◌≡◌, ◌<◌, ◌∙◌, sym, ap, subst, length, Some}
+use Rattle.std.proofs.Common.{rules, false, true, ◌≡◌, ◌<◌, ◌∙◌, sym, ap, subst, length, Some}
 use Rattle.std.specs.Ordering.{is_lt}
 use Rattle.lamport_id.specs.Order.{id_cmp}
 use Rattle.list_order.specs.Slots.{LinksEnd, slots_from, passed}
@@ -20,20 +20,22 @@ loop-at-preserved c =
     let slots = c.args.slots.now in
     let id = c.args.id.now in
     let s = step slots c.loop-at.at c.in-Some.n c.in-Some.is c.loop-at.invariant.walk in
+    let over : is_lt (id_cmp c.slot_at-slot.result.now.id id) ≡ false = search (rules, c.if-lt.false) in
     record {
       walk = subst (λ s. LinksEnd slots s.next) (sym c.slot_at-slot.ensures) s.walk;
       same =
           ap (λ s. passed slots id (Some c.in-Some.n) (slots_from slots s.next)) c.slot_at-slot.ensures
-          ∙ passed_on slots id c.loop-at.previous c.loop-at.at c.in-Some.n s (subst (λ s. is_lt (id_cmp s.id id) ≡ false) c.slot_at-slot.ensures (sym c.is_less.ensures ∙ c.if-is_less.false))
+          ∙ passed_on slots id c.loop-at.previous c.loop-at.at c.in-Some.n s (subst (λ s. is_lt (id_cmp s.id id) ≡ false) c.slot_at-slot.ensures over)
           ∙ c.loop-at.invariant.same;
     }
 
-pub returns-then-is_less : goal.returns-then-is_less
-returns-then-is_less c =
+pub returns-then-lt : goal.returns-then-lt
+returns-then-lt c =
     let slots = c.args.slots.now in
     let id = c.args.id.now in
+    let less : is_lt (id_cmp c.slot_at-slot.result.now.id id) ≡ true = search (rules, c.if-lt.true) in
     passed_stop slots id c.loop-at.previous c.loop-at.at c.in-Some.n (step slots c.loop-at.at c.in-Some.n c.in-Some.is c.loop-at.invariant.walk)
-    (subst (λ s. is_lt (id_cmp s.id id) ≡ true) c.slot_at-slot.ensures (sym c.is_less.ensures ∙ c.if-is_less.true))
+    (subst (λ s. is_lt (id_cmp s.id id) ≡ true) c.slot_at-slot.ensures less)
     ∙ c.loop-at.invariant.same
 
 pub returns-in_default : goal.returns-in_default
