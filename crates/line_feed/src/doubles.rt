@@ -69,8 +69,8 @@ impl<W: Sink> Sink for FailAfter<W> {
         Ok(n)
     }
 
-    fn hand_on(&mut self) -> Result<(), DeviceFault> {
-        self.device.hand_on()
+    fn flush(&mut self) -> Result<(), DeviceFault> {
+        self.device.flush()
     }
 
     fn failed(&self) -> bool {
@@ -139,8 +139,8 @@ impl<W: Sink> Sink for InPieces<W> {
         self.device.write_some(&bytes[..room])
     }
 
-    fn hand_on(&mut self) -> Result<(), DeviceFault> {
-        self.device.hand_on()
+    fn flush(&mut self) -> Result<(), DeviceFault> {
+        self.device.flush()
     }
 
     fn failed(&self) -> bool {

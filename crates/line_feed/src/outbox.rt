@@ -101,7 +101,7 @@ impl<W: Unbuffered> Sink for Outbox<W> {
         self.sink.write_some(bytes)
     }
 
-    fn hand_on(&mut self) -> Result<(), DeviceFault> {
+    fn flush(&mut self) -> Result<(), DeviceFault> {
         match self.send_kept() {
             Ok(()) => Ok(()),
             Err(fault) => {

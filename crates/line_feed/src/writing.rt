@@ -30,7 +30,7 @@ pub trait Sink {
 
     /// Hands on to the device what it keeps back. `DeviceFault` where the device fails before it has taken all of that; then the
     /// last byte at least counts as not taken, and the sink has failed.
-    fn hand_on(&mut self) -> Result<(), DeviceFault>
+    fn flush(&mut self) -> Result<(), DeviceFault>
         requires works { has_failed self.old ≡ false }
         ensures bytes { OnOk result (Keeps (contents self.old) (contents self.new)) }
         ensures lost { OnErr result (LosesLast (contents self.old) (contents self.new)) }
@@ -91,7 +91,7 @@ impl<W: Write> Sink for Writer<W> {
         }
     }
 
-    fn hand_on(&mut self) -> Result<(), DeviceFault> {
+    fn flush(&mut self) -> Result<(), DeviceFault> {
         Ok(())
     }
 

@@ -139,7 +139,7 @@ fn three_lines<W: Unbuffered + Drop>(alloc: Global, sink: W) -> Result<(), Devic
     write_line(&mut outbox, b"ab")?;
     write_line(&mut outbox, b"cd")?;
     write_line(&mut outbox, b"ef")?;
-    outbox.hand_on()
+    outbox.flush()
 }
 
 /// Bytes through an outbox.

@@ -31,7 +31,7 @@ impl<R: Wait> Sink for Kept<'_, R> {
         Ok(bytes.len())
     }
 
-    fn hand_on(&mut self) -> Result<(), DeviceFault> {
+    fn flush(&mut self) -> Result<(), DeviceFault> {
         Ok(())
     }
 

@@ -141,8 +141,8 @@ impl<M: Marker, D: Sink> Sink for Looking<'_, M, D> {
         self.device.write_some(bytes)
     }
 
-    fn hand_on(&mut self) -> Result<(), DeviceFault> {
-        self.device.hand_on()
+    fn flush(&mut self) -> Result<(), DeviceFault> {
+        self.device.flush()
     }
 
     fn failed(&self) -> bool {

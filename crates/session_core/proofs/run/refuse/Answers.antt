@@ -7,6 +7,6 @@ use Rattle.session_core.proofs.run.refuse.Goals as goal
 
 pub returns-in-Ok-clause-cut : goal.returns-in-Ok-clause-cut
 returns-in-Ok-clause-cut g c =
-    on_err_weaker c.hand_on.result
+    on_err_weaker c.flush.result
     (λ loses. cut_by_loss (g.W.Sink.contents c.args.sink.now) (g.W.Sink.contents c.tell_refusal.new.sink) _ (line_told (refused c.args.cause)) c.in-Ok.ensures.ok loses (told_some (refused c.args.cause)))
-    c.hand_on.ensures.lost
+    c.flush.ensures.lost

@@ -7,5 +7,5 @@ use Rattle.session_core.proofs.run.tell_on.Goals as goal
 pub returns-then-waits-clause-cut : goal.returns-then-waits-clause-cut
 returns-then-waits-clause-cut g c =
     let (out, may, appended) = c.in-Ok.ensures.ok in
-    on_err_weaker c.hand_on.result
-    (λ loses. (out, may, cut_by_loss (g.W.Sink.contents c.args.sink.now) (g.W.Sink.contents c.tell.new.sink) _ (line_told out) appended loses (told_some out))) c.hand_on.ensures.lost
+    on_err_weaker c.flush.result
+    (λ loses. (out, may, cut_by_loss (g.W.Sink.contents c.args.sink.now) (g.W.Sink.contents c.tell.new.sink) _ (line_told out) appended loses (told_some out))) c.flush.ensures.lost

@@ -1,6 +1,6 @@
 use Rattle.std.proofs.Common.{length, arith, sym, ap, ◌∙◌}
 use Rattle.line_feed.proofs.Sending.{lost_last}
-use Rattle.line_feed.proofs.outbox.OutboxSink.hand_on.Goals as goal
+use Rattle.line_feed.proofs.outbox.OutboxSink.flush.Goals as goal
 
 pub returns-in-Err-clause-lost : goal.returns-in-Err-clause-lost
 returns-in-Err-clause-lost g c =
