@@ -1,11 +1,11 @@
-//! Devices for tests.
+//! Devices for tests: some fail after a number of bytes, some give or take few bytes at once.
 ghost use Rattle.std.specs.Prelude.{◌≡◌, ◌<◌, ◌||◌, ◌+◌, ℕ, true, false};
 
 use crate::DeviceFault;
-use crate::reading::Source;
-use crate::writing::{Sink, Unbuffered};
+use crate::sink::{Sink, Unbuffered};
+use crate::source::Source;
 
-/// A source or a sink over another one that fails once so many bytes have passed, for tests.
+/// A source or a sink over another one that fails once so many bytes have passed.
 #[derive(Debug, Drop)]
 pub struct FailAfter<D> {
     /// What the bytes are read from or written to.
@@ -82,13 +82,12 @@ impl<W: Unbuffered> Unbuffered for FailAfter<W> {
     ghost keeps_none = { λ s. W.keeps_none s.device };
 }
 
-/// A source or a sink over another one that gives or takes at most so many bytes at once, and counts how often it was
-/// read, for tests.
+/// A source or a sink over another one that gives or takes at most so many bytes at once, and counts its reads.
 #[derive(Debug, Drop)]
 pub struct InPieces<D> {
     /// What the bytes are read from or written to.
     pub device: D,
-    /// How often it was read; it stays at the greatest number.
+    /// How often it was read, at most `u64::MAX`.
     pub reads: u64,
     most: usize,
     ghost some: { 0 < most },

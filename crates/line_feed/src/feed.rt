@@ -1,4 +1,4 @@
-//! Lines of a source.
+//! The lines of a source, one at a time.
 ghost use Rattle.std.specs.Prelude.{◌≡◌, ◌-◌, ℕ, Bool, true, false, List, [], ◌++◌, ◌+◌, ◌<◌, ◌≤◌, ◌↔◌, length, take, IsTrue, IfOk, MatchResult, is_err, position, slice_range, vec_len};
 ghost use Rattle.std.specs.List.{list_any};
 ghost use Rattle.std.specs.Io.KnownBytes.{Consumes, IsAtEnd, Keeps};
@@ -7,7 +7,7 @@ ghost use Rattle.line_feed.specs.Feed.{Advances, Gives, Stops};
 ghost use Rattle.line_feed.specs.Limits.{line_room, longest_line};
 
 use crate::DeviceFault;
-use crate::reading::Source;
+use crate::source::Source;
 use memchr::memchr;
 use std::alloc::{AllocError, Global};
 use std::marker::Model;
@@ -15,7 +15,7 @@ use std::marker::Model;
 /// The most bytes of a line, without its newline.
 pub const MAX_LINE_BYTES: usize = 65_536;
 
-/// Room for a line of the most bytes and its newline; so many reads at most fill it.
+/// Room for the longest line and its newline. At most so many reads fill it.
 pub const LINE_ROOM: usize = 65_537;
 
 /// The law that these limits are those of the definitions.
@@ -37,41 +37,41 @@ pub enum Outcome {
     Fault,
 }
 
-/// Why reading stopped.
+// Why reading stopped.
 enum Stop {
-    /// A newline stands at this place.
+    // A newline is at this index.
     Newline(usize),
     Full,
     End,
     Fault,
 }
 
-/// What reading filled.
+// How much of the buffer is filled, and why no more.
 struct Filled {
     len: usize,
     stop: Stop,
 }
 
-/// The place of the first newline byte.
+// The index of the first newline byte.
 fn newline_at(bytes: &[u8]) -> Option<usize>
     ensures { result ≡ position is_newline bytes.now }
 {
     memchr(b'\n', bytes)
 }
 
-/// Moves the bytes from `start` up to `end` to the front. Where there are none it does nothing.
-fn to_front(buffer: &mut Vec<u8>, start: usize, end: usize)
+// Moves the bytes from `start` up to `end` to the start of the buffer.
+fn move_to_start(buffer: &mut Vec<u8>, start: usize, end: usize)
     requires ordered { start ≤ end }
     requires within { end ≤ length buffer.old.items }
     ensures len { vec_len buffer.new ≡ vec_len buffer.old }
-    ensures front { take (end - start) buffer.new.items ≡ slice_range buffer.old.items start end }
+    ensures prefix { take (end - start) buffer.new.items ≡ slice_range buffer.old.items start end }
 {
     if start < end {
         buffer.rotate_left(start);
     }
 }
 
-// One read behind the first `len` bytes.
+// One read into the buffer after its first `len` bytes.
 fn read_behind<R: Source>(
     source: &mut R,
     buffer: &mut [u8],
@@ -80,7 +80,7 @@ fn read_behind<R: Source>(
     requires works { R.has_failed source.old ≡ false }
     requires room { len < length buffer.old }
     ensures bound { IfOk result (λ n. len + n ≤ length buffer.new) }
-    ensures front { take len buffer.new ≡ take len buffer.old }
+    ensures prefix { take len buffer.new ≡ take len buffer.old }
     ensures bytes { MatchResult result
         (λ n. Consumes (R.remaining source.old) (R.remaining source.new) (slice_range buffer.new len (len + n)))
         (λ _. Keeps (R.remaining source.old) (R.remaining source.new)) }
@@ -91,7 +91,7 @@ fn read_behind<R: Source>(
     source.read_some(&mut buffer[len..])
 }
 
-/// Reads behind the first `held` bytes until a newline comes, the buffer is full, or nothing more comes.
+// Reads after the first `held` bytes until a newline comes, the buffer is full, or nothing more comes.
 fn fill<R: Source>(source: &mut R, buffer: &mut [u8], held: usize) -> Filled
     requires works { R.has_failed source.old ≡ false }
     requires within { held ≤ length buffer.old }
@@ -138,14 +138,14 @@ fn fill<R: Source>(source: &mut R, buffer: &mut [u8], held: usize) -> Filled
     }
 }
 
-/// Gives the lines of one source.
+/// Cuts the bytes of one source into lines.
 #[derive(Drop)]
 pub struct LineFeed {
     buffer: Vec<u8>,
-    // where the line that was given last lies
+    // the line that was returned last
     line_start: usize,
     line_end: usize,
-    // where what was read behind it lies
+    // what was read after it
     start: usize,
     end: usize,
     ended: bool,
@@ -169,7 +169,7 @@ impl Model for LineFeed {
 }
 
 impl LineFeed {
-    /// Takes its buffer of 65,537 bytes, and no more memory from then on. `AllocError` where that is wanting.
+    /// Allocates its buffer of 65,537 bytes; no later call allocates. `AllocError` if there is no memory for it.
     pub fn new(alloc: Global) -> Result<Self, AllocError>
         ensures { IfOk result (λ feed. (feed.held ≡ []) × (feed.ended ≡ false)) }
     {
@@ -183,15 +183,15 @@ impl LineFeed {
         })
     }
 
-    /// The line that was given last, without its newline: at most 65,536 bytes. It is empty before the first, and says
-    /// nothing after an outcome other than `Line`.
+    /// The line that `next` found last, without its newline: at most 65,536 bytes. It is empty before the first, and
+    /// unspecified after an outcome other than `Line`.
     pub fn line(&self) -> &[u8]
         ensures { result.now ≡ self.now.line }
     {
         &self.buffer[self.line_start..self.line_end]
     }
 
-    /// Whether a whole line is held already, so that the next one isn't read for.
+    /// Whether a whole line is buffered already, so that `next` won't read.
     pub fn has_line(&self) -> bool
         ensures { result ≡ list_any is_newline self.now.held }
     {
@@ -199,11 +199,12 @@ impl LineFeed {
     }
 
     /// Looks for the next line, with at most 65,537 reads, each of as much as the source gives. Once the source has
-    /// come to its end, it isn't read again. A last piece that no newline ends is a line too, if it isn't empty.
+    /// come to its end, it isn't read again. A last piece without a newline is a line too, if it isn't empty.
     ///
-    /// `Line` where there is one, which `line` gives; `End` where the source came to its end with nothing behind the
-    /// last line; `TooLong` where the line has more than 65,536 bytes, which stay held; `Fault` where the source failed
-    /// before the line's end, with what it gave before held.
+    /// - `Line`: there is one, and `line` returns it.
+    /// - `End`: the source came to its end with nothing after the last line.
+    /// - `TooLong`: the line has more than 65,536 bytes. They stay buffered.
+    /// - `Fault`: the source failed before the line's end. What it gave before stays buffered.
     pub fn next<R: Source>(&mut self, source: &mut R) -> Outcome
         requires works { R.has_failed source.old ≡ false }
         ensures gives { (read : List ℕ) × Consumes (R.remaining source.old) (R.remaining source.new) read
@@ -222,7 +223,7 @@ impl LineFeed {
         self.give(stop)
     }
 
-    // Where the first line ends among what is held; it reads behind that if no newline is there.
+    // Where the first buffered line ends. It reads on if no newline is buffered.
     fn find_end<R: Source>(&mut self, source: &mut R) -> Stop
         requires works { R.has_failed source.old ≡ false }
         requires open { self.old.ended ≡ false }
@@ -237,14 +238,14 @@ impl LineFeed {
         if let Some(at) = newline_at(&self.buffer[self.start..self.end]) {
             return Stop::Newline(at);
         }
-        to_front(&mut self.buffer, self.start, self.end);
+        move_to_start(&mut self.buffer, self.start, self.end);
         let Filled { len, stop } = fill(source, &mut self.buffer, self.end - self.start);
         self.start = 0;
         self.end = len;
         stop
     }
 
-    // What is given of what is held, where reading stopped for this cause.
+    // Takes the line out of what is held, and returns the outcome, given why reading stopped.
     fn give(&mut self, stop: Stop) -> Outcome
         requires open { self.old.ended ≡ false }
         requires stops { Stops self.old.held line_room stop }

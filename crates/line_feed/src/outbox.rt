@@ -4,25 +4,25 @@ ghost use Rattle.std.specs.Io.KnownBytes.{Appends};
 ghost use Rattle.std.specs.Option.{option_map};
 
 use crate::DeviceFault;
-use crate::writing::{Sink, Unbuffered};
+use crate::sink::{Sink, Unbuffered};
 use std::alloc::Global;
 
 /// Bytes for which an outbox has room.
 const OUTBOX_ROOM: usize = 16_384;
 
-/// A sink over another one that keeps back what it takes, as far as it has room, until it is told to hand it on. What has no room is
-/// handed on behind what was kept.
+/// A buffered sink over another one: it keeps what it takes, as far as it has room, until it is flushed. Bytes for
+/// which it has no room are written at once, after those that it kept.
 #[derive(Drop)]
 pub struct Outbox<W> {
     sink: W,
     kept: Vec<u8>,
-    // how many of the kept bytes the other sink has taken
+    // how many of the kept bytes the inner sink has taken
     sent: usize,
     ghost within: { sent ≤ length kept.items },
 }
 
 impl<W: Sink> Outbox<W> {
-    /// An outbox over the sink that keeps nothing yet. Where its 16 kilobytes can't be had, it hands on at once what it takes.
+    /// An empty outbox over the sink. If there is no memory for its 16 KB, it writes at once what it takes.
     pub fn new(alloc: Global, sink: W) -> Self
         ensures sink { result.sink ≡ sink }
         ensures empty { drop result.sent result.kept.items ≡ [] }
@@ -39,7 +39,7 @@ impl<W: Sink> Outbox<W> {
     }
 }
 
-/// Writes what stands behind the first `sent` bytes, and counts there what the sink takes.
+// Writes the bytes after the first `sent`, and adds to `sent` what the sink takes.
 fn send<W: Sink>(sink: &mut W, bytes: &[u8], sent: &mut usize) -> Result<(), DeviceFault>
     requires works { W.has_failed sink.old ≡ false }
     requires within { sent.old ≤ length bytes.now }
@@ -57,11 +57,12 @@ fn send<W: Sink>(sink: &mut W, bytes: &[u8], sent: &mut usize) -> Result<(), Dev
 }
 
 impl<W: Sink> Outbox<W> {
-    // Keeps the bytes where there is room for them all, and says whether there is.
+    // Keeps the bytes if there is room for them all, and returns whether there was.
     fn keep(&mut self, bytes: &[u8]) -> bool
         ensures sink { self.new.sink ≡ self.old.sink }
         ensures sent { self.new.sent ≡ self.old.sent }
-        ensures kept { self.new.kept.items ≡ (if result then self.old.kept.items ++ bytes.now else self.old.kept.items) }
+        ensures kept { self.new.kept.items
+            ≡ (if result then self.old.kept.items ++ bytes.now else self.old.kept.items) }
     {
         if bytes.len() > self.kept.capacity() - self.kept.len() {
             return false;
@@ -70,13 +71,15 @@ impl<W: Sink> Outbox<W> {
         true
     }
 
-    // Has the other sink take all that is kept, so that nothing is kept then.
+    // Has the inner sink take all that is kept.
     fn send_kept(&mut self) -> Result<(), DeviceFault>
         requires works { W.has_failed self.old.sink ≡ false }
         ensures ok { OnOk result ((self.new.kept.items ≡ []) × (self.new.sent ≡ 0)
             × Appends (W.contents self.old.sink) (W.contents self.new.sink) (drop self.old.sent self.old.kept.items)) }
-        ensures err { OnErr result ((self.new.kept.items ≡ self.old.kept.items) × (self.old.sent ≤ self.new.sent) × (self.new.sent < length self.old.kept.items)
-            × Appends (W.contents self.old.sink) (W.contents self.new.sink) (slice_range self.old.kept.items self.old.sent self.new.sent)) }
+        ensures err { OnErr result ((self.new.kept.items ≡ self.old.kept.items)
+            × (self.old.sent ≤ self.new.sent) × (self.new.sent < length self.old.kept.items)
+            × Appends (W.contents self.old.sink) (W.contents self.new.sink)
+            (slice_range self.old.kept.items self.old.sent self.new.sent)) }
         ensures failed { W.has_failed self.new.sink ≡ is_err result }
     {
         send(&mut self.sink, self.kept.as_slice(), &mut self.sent)?;
@@ -105,6 +108,7 @@ impl<W: Unbuffered> Sink for Outbox<W> {
         match self.send_kept() {
             Ok(()) => Ok(()),
             Err(fault) => {
+                // At least the last byte counts as not taken.
                 let _lost = self.kept.pop();
                 Err(fault)
             }

@@ -1,11 +1,10 @@
-//! Lines from a source in pieces, devices that fail, and what an outbox hands on. What is done with a device stands over any device and
-//! promises nothing, so that the proof of a test carries none of a device's clauses.
+//! Tests of lines from a source in pieces, of devices that fail, and of what an outbox flushes. The helpers are generic
+//! over the device and ensure nothing, so that the proof of a test carries none of a device's clauses.
 ghost use Rattle.std.specs.Prelude.{◌≡◌, false};
 
 use line_feed::doubles::{FailAfter, InPieces};
 use line_feed::{
     DeviceFault, LineFeed, Outbox, Outcome, Reader, Sink, Source, Unbuffered, Writer, write_all,
-    write_line,
 };
 use std::alloc::{AllocError, Global};
 use std::io;
@@ -14,14 +13,14 @@ use std::test::Fail;
 
 // ---- sources
 
-/// Whether a read of the source fails, and it says so.
+// Whether a read of the source fails, and `failed` says so.
 fn fails_to_read<R: Source>(source: &mut R) -> bool
     requires { R.has_failed source.old ≡ false }
 {
     source.read_some(&mut [0; 4]).is_err() && source.failed()
 }
 
-/// The first lines of a source, a bar behind each, and what came behind them.
+// The first lines of a source, a bar after each, and the outcome after them.
 fn lines_of<R: Source>(alloc: Global, source: &mut R) -> Result<(Vec<u8>, Outcome), AllocError>
     requires { R.has_failed source.old ≡ false }
 {
@@ -41,17 +40,17 @@ fn lines_of<R: Source>(alloc: Global, source: &mut R) -> Result<(Vec<u8>, Outcom
     Ok((lines, Outcome::Line))
 }
 
-/// Whether these are the lines of the source, and this comes behind them.
+// Whether these are the lines of the source, and this is the outcome after them.
 fn gives<R: Source>(
     alloc: Global,
     source: &mut R,
-    due: &[u8],
+    expected: &[u8],
     end: Outcome,
 ) -> Result<bool, AllocError>
     requires { R.has_failed source.old ≡ false }
 {
     let (lines, outcome) = lines_of(alloc, source)?;
-    Ok(*lines.as_slice() == *due && outcome == end)
+    Ok(*lines.as_slice() == *expected && outcome == end)
 }
 
 #[test]
@@ -72,21 +71,21 @@ fn a_source_that_fails_within_a_line_gives_a_fault(rt: HostRuntime) -> Result<()
 
 // ---- sinks
 
-/// Whether a line that is written to the sink fails, and it says so.
-fn fails_at_line<W: Sink>(sink: &mut W, line: &[u8]) -> bool
+// Whether writing the bytes to the sink fails, and `failed` says so.
+fn fails_to_write<W: Sink>(sink: &mut W, bytes: &[u8]) -> bool
     requires { W.has_failed sink.old ≡ false }
 {
-    write_line(sink, line).is_err() && sink.failed()
+    write_all(sink, bytes).is_err() && sink.failed()
 }
 
 #[test]
-fn a_sink_that_fails_within_a_line_has_its_front(rt: HostRuntime) {
+fn a_sink_that_fails_within_the_bytes_has_their_prefix(rt: HostRuntime) {
     let mut out = Vec::<u8>::new(rt.alloc());
-    assert!(rt; fails_at_line(&mut FailAfter::new(Writer::new(&mut out), 3), b"abcd"));
+    assert!(rt; fails_to_write(&mut FailAfter::new(Writer::new(&mut out), 3), b"abcd"));
     assert!(rt; out.as_slice() == b"abc".as_slice());
 }
 
-/// A reader and writer that a signal interrupts at the first call.
+// A reader and writer that a signal interrupts at the first call.
 #[derive(Drop)]
 struct Interrupted {
     calls: u8,
@@ -121,29 +120,29 @@ impl Write for Interrupted {
 #[test]
 fn an_interrupted_call_is_a_failure(rt: HostRuntime) {
     assert!(rt; fails_to_read(&mut Reader::new(Interrupted { calls: 0 })));
-    assert!(rt; fails_at_line(&mut Writer::new(Interrupted { calls: 0 }), b"a"));
+    assert!(rt; fails_to_write(&mut Writer::new(Interrupted { calls: 0 }), b"a"));
 }
 
 #[test]
 fn a_write_of_no_bytes_is_a_failure(rt: HostRuntime) {
-    assert!(rt; fails_at_line(&mut Writer::new(Interrupted { calls: 1 }), b"a"));
+    assert!(rt; fails_to_write(&mut Writer::new(Interrupted { calls: 1 }), b"a"));
 }
 
 // ---- an outbox
 
-/// Three short lines through an outbox, which are handed on then.
+// Three short lines through an outbox, which is flushed then.
 fn three_lines<W: Unbuffered + Drop>(alloc: Global, sink: W) -> Result<(), DeviceFault>
     requires { W.has_failed sink ≡ false }
 {
     let mut outbox = Outbox::new(alloc, sink);
-    write_line(&mut outbox, b"ab")?;
-    write_line(&mut outbox, b"cd")?;
-    write_line(&mut outbox, b"ef")?;
+    write_all(&mut outbox, b"ab\n")?;
+    write_all(&mut outbox, b"cd\n")?;
+    write_all(&mut outbox, b"ef\n")?;
     outbox.flush()
 }
 
-/// Bytes through an outbox.
-fn all_through<W: Unbuffered + Drop>(
+// Writes the bytes to an outbox.
+fn write_through<W: Unbuffered + Drop>(
     alloc: Global,
     sink: W,
     bytes: &[u8],
@@ -153,7 +152,7 @@ fn all_through<W: Unbuffered + Drop>(
     write_all(&mut Outbox::new(alloc, sink), bytes)
 }
 
-/// A writer that counts how often it was called.
+// A writer that counts its calls.
 #[derive(Drop)]
 struct Counted {
     calls: u8,
@@ -172,28 +171,28 @@ impl Write for Counted {
 }
 
 #[test]
-fn an_outbox_writes_at_once_what_it_kept(rt: HostRuntime) {
+fn an_outbox_flushes_with_one_write(rt: HostRuntime) {
     let mut device = Counted {
         calls: 0,
         bytes: Vec::new(rt.alloc()),
     };
-    let told = three_lines(rt.alloc(), Writer::new(&mut device));
-    assert!(rt; told.is_ok() && device.calls == 1);
+    let flushed = three_lines(rt.alloc(), Writer::new(&mut device));
+    assert!(rt; flushed.is_ok() && device.calls == 1);
     assert!(rt; device.bytes.as_slice() == b"ab\ncd\nef\n".as_slice());
 }
 
 #[test]
-fn an_outbox_over_a_sink_that_fails_has_handed_a_front_on(rt: HostRuntime) {
+fn an_outbox_over_a_sink_that_fails_has_written_a_prefix(rt: HostRuntime) {
     let mut out = Vec::<u8>::new(rt.alloc());
-    let told = three_lines(rt.alloc(), FailAfter::new(Writer::new(&mut out), 4));
-    assert!(rt; told.is_err() && out.as_slice() == b"ab\nc".as_slice());
+    let flushed = three_lines(rt.alloc(), FailAfter::new(Writer::new(&mut out), 4));
+    assert!(rt; flushed.is_err() && out.as_slice() == b"ab\nc".as_slice());
 }
 
 #[test]
-fn an_outbox_hands_on_what_it_has_no_room_for(rt: HostRuntime) -> Result<(), Fail> {
+fn an_outbox_writes_at_once_what_it_has_no_room_for(rt: HostRuntime) -> Result<(), Fail> {
     let long = vec![in rt.alloc(); b'x'; 20_000]?;
     let mut out = Vec::<u8>::new(rt.alloc());
-    let told = all_through(rt.alloc(), Writer::new(&mut out), long.as_slice());
-    assert!(rt; told.is_ok() && *out.as_slice() == *long.as_slice());
+    let written = write_through(rt.alloc(), Writer::new(&mut out), long.as_slice());
+    assert!(rt; written.is_ok() && *out.as_slice() == *long.as_slice());
     Ok(())
 }

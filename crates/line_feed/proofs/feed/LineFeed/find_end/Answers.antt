@@ -18,5 +18,5 @@ pub fill-len-requires-clause-unended : goal.fill-len-requires-clause-unended
 fill-len-requires-clause-unended g c =
     let a = c.self.inside in
     let none : position is_newline (slice_range c.deref.result.now a.start a.end) ≡ None = sym c.in_default.ensures in
-    rw (c.deref_mut.ensures.value, c.to_front.ensures.front)
+    rw (c.deref_mut.ensures.value, c.move_to_start.ensures.prefix)
     (HasNoNewline-position (slice_range a.buffer.items a.start a.end) (rw c.deref.ensures.value at none))

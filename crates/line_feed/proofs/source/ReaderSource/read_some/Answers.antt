@@ -1,5 +1,5 @@
 use Rattle.std.proofs.Common.{refl}
-use Rattle.line_feed.proofs.reading.ReaderSource.read_some.Goals as goal
+use Rattle.line_feed.proofs.source.ReaderSource.read_some.Goals as goal
 
 pub returns-in-Err-clause-bytes : goal.returns-in-Err-clause-bytes
 returns-in-Err-clause-bytes g c = c.in-Err.ensures.bytes

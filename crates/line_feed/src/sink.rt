@@ -1,25 +1,25 @@
-//! Where bytes go.
+//! Sinks: devices that take bytes.
 ghost use Rattle.std.specs.Prelude.{◌≡◌, ℕ, Bool, false, List, [], Option, ◌<◌, length, is_err, IfOk, OnOk, OnErr, refl};
 ghost use Rattle.std.specs.Io.{WritesAtMost};
 ghost use Rattle.std.specs.Io.KnownBytes.{Appends, Keeps, WriteAppends};
-ghost use Rattle.line_feed.specs.Cut.{AppendsCut, LosesLast, line_of};
+ghost use Rattle.line_feed.specs.Cut.{AppendsCut, LosesLast};
 
 use crate::DeviceFault;
 use std::io::Write;
 
 /// A device that takes bytes.
 pub trait Sink {
-    /// The bytes that it has taken, where it tells them.
+    /// The bytes that it has taken, where they are known.
     ghost contents: { Self → Option (List ℕ) };
 
     /// Whether it has failed. It isn't written to from then on.
     ghost has_failed: { Self → Bool };
 
-    /// What it has taken and its device hasn't. None, where it hands on at once what it takes.
+    /// What it has taken and its device hasn't yet. Empty for a sink without a buffer.
     ghost kept: { Self → List ℕ } = { λ _. [] };
 
-    /// Takes bytes from the front of `bytes`, at least one, and says how many. One call of the device, which isn't
-    /// made again. `DeviceFault` where that call fails; then the device has taken none, and the sink has failed.
+    /// Takes a prefix of `bytes`, of at least one byte, and returns its length. It calls the device once, and doesn't
+    /// try again. `DeviceFault` if that call fails; then the device has taken none, and the sink has failed.
     fn write_some(&mut self, bytes: &[u8]) -> Result<usize, DeviceFault>
         requires works { has_failed self.old ≡ false }
         requires some { 0 < length bytes.now }
@@ -28,8 +28,8 @@ pub trait Sink {
         ensures bytes { WriteAppends (contents self.old) (contents self.new) result bytes.now }
         ensures failed { has_failed self.new ≡ is_err result };
 
-    /// Hands on to the device what it keeps back. `DeviceFault` where the device fails before it has taken all of that; then the
-    /// last byte at least counts as not taken, and the sink has failed.
+    /// Writes to the device what the sink still keeps. `DeviceFault` if the device fails before it has taken all
+    /// of that; then at least the last byte counts as not taken, and the sink has failed.
     fn flush(&mut self) -> Result<(), DeviceFault>
         requires works { has_failed self.old ≡ false }
         ensures bytes { OnOk result (Keeps (contents self.old) (contents self.new)) }
@@ -104,8 +104,8 @@ impl<W: Write> Unbuffered for Writer<W> {
     ghost keeps_none = { λ _. refl };
 }
 
-/// Writes all the bytes, in as many calls of the device as it wants. `DeviceFault` where the sink fails before it has
-/// taken them all; then it has taken a part that is less than all, from their beginning on.
+/// Writes all the bytes, in as many calls of the device as it needs. `DeviceFault` if the sink fails before it has
+/// taken them all; then it has taken a proper prefix of them.
 pub fn write_all<W: Sink>(sink: &mut W, bytes: &[u8]) -> Result<(), DeviceFault>
     requires { W.has_failed sink.old ≡ false }
     ensures ok { OnOk result (Appends (W.contents sink.old) (W.contents sink.new) bytes.now) }
@@ -118,16 +118,4 @@ pub fn write_all<W: Sink>(sink: &mut W, bytes: &[u8]) -> Result<(), DeviceFault>
         rest = &rest[taken..];
     }
     Ok(())
-}
-
-/// Writes the bytes and a newline. `DeviceFault` where the sink fails before it has taken the newline; then it has
-/// taken a part that is less than the line, from its beginning on.
-pub fn write_line<W: Sink>(sink: &mut W, bytes: &[u8]) -> Result<(), DeviceFault>
-    requires { W.has_failed sink.old ≡ false }
-    ensures ok { OnOk result (Appends (W.contents sink.old) (W.contents sink.new) (line_of bytes.now)) }
-    ensures cut { OnErr result (AppendsCut (W.contents sink.old) (W.contents sink.new) (line_of bytes.now)) }
-    ensures failed { W.has_failed sink.new ≡ is_err result }
-{
-    write_all(sink, bytes)?;
-    write_all(sink, b"\n")
 }

@@ -1,4 +1,4 @@
-//! Where bytes come from.
+//! Sources: devices that give bytes.
 ghost use Rattle.std.specs.Prelude.{◌≡◌, ℕ, Bool, false, List, Option, ◌+◌, ◌<◌, ◌≤◌, length, is_err};
 ghost use Rattle.std.specs.Io.{ReadsAtMost};
 ghost use Rattle.std.specs.Io.KnownBytes.{ReadConsumes};
@@ -8,7 +8,7 @@ use std::io::Read;
 
 /// A device that gives bytes.
 pub trait Source {
-    /// The bytes that it has left, where it tells them.
+    /// The bytes that it has left, where they are known.
     ghost remaining: { Self → Option (List ℕ) };
 
     /// Whether it has failed. It isn't read from then on.
@@ -17,8 +17,8 @@ pub trait Source {
     /// How often it was read, for a source that counts.
     ghost reads: { Self → ℕ } = { λ _. 0 };
 
-    /// Puts some bytes at the front of `buf`, and says how many: 0 only at the end. One call of the device, which
-    /// isn't made again. `DeviceFault` where that call fails; then no byte is taken from the device, and the source
+    /// Puts some bytes at the start of `buf`, and returns how many: 0 only at the end. It calls the device once, and
+    /// doesn't try again. `DeviceFault` if that call fails; then no byte is taken from the device, and the source
     /// has failed.
     fn read_some(&mut self, buf: &mut [u8]) -> Result<usize, DeviceFault>
         requires works { has_failed self.old ≡ false }
