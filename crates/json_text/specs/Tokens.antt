@@ -11,11 +11,11 @@ use Rattle.json_scalar.specs.declared.refusal.Refusal.TheVariants.{NoMemory}
 abbrev pub data_tokens : Data → List Token
 data_tokens d = json_tokens (outline d)
 
--- the tokens of values, one behind another
+-- the tokens of values, one after another
 abbrev pub all_tokens : List Data → List Token
 all_tokens [] = []
 all_tokens (d ∷ ds) = data_tokens d ++ all_tokens ds
 
--- these tokens stand behind the old ones, or memory is wanting
+-- these tokens come after the old ones, or there is no memory
 abbrev pub Puts : List Token → List Token → List Token → Result ⊤ Refusal → Type 0
 Puts tokens old new r = MatchResult r (λ _. new ≡ old ++ tokens) (λ e. e ≡ NoMemory)

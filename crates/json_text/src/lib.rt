@@ -1,9 +1,9 @@
-//! JSON text, written part by part, with no tree of values between.
+//! JSON text, written part by part, without a tree of values in between.
 #![tactic(auto)]
 
-mod parts;
+mod as_json;
 mod text;
 mod wires;
 
-pub use parts::AsJson;
+pub use as_json::AsJson;
 pub use text::JsonText;

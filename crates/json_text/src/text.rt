@@ -1,4 +1,4 @@
-//! Text that is under way.
+//! A writer of JSON text.
 ghost use Rattle.std.specs.Prelude.{◌≡◌, [], ◌∷◌, map, string_bytes, MatchResult};
 ghost use Rattle.json_scalar.specs.declared.refusal.Refusal.TheVariants.{NoMemory};
 ghost use Rattle.json.specs.Token.{begin_array, end_array, string};
@@ -8,14 +8,14 @@ ghost use Rattle.serde_json.specs.Find.{of_integer};
 ghost use Rattle.serde_json.specs.Written.{compact_text};
 ghost use Rattle.json_text.specs.Tokens.{all_tokens, data_tokens, Puts};
 
-use crate::parts::AsJson;
+use crate::as_json::AsJson;
 use json::Writer;
 use json_scalar::Refusal;
 use std::alloc::Global;
 use std::marker::Model;
 
-/// JSON text that is written part by part; commas are put where they are due. A contract sees its tokens. Each part is
-/// refused for want of memory alone.
+/// JSON text that is written part by part. Commas are put in by themselves. A contract sees its tokens. Each call
+/// that adds a part can fail with `NoMemory`, and with no other refusal.
 #[derive(Drop)]
 pub struct JsonText {
     writer: Writer,
@@ -35,7 +35,7 @@ impl Model for JsonText {
 }
 
 impl JsonText {
-    /// No text yet. It takes no memory.
+    /// Empty text. Allocates nothing.
     pub fn new(alloc: Global) -> JsonText
         ensures { result ≡ [] }
     {
@@ -44,7 +44,7 @@ impl JsonText {
         }
     }
 
-    /// No text yet, with room for so many bytes. `NoMemory` where memory is wanting, and no other refusal.
+    /// Empty text, with room for so many bytes. `NoMemory` if there is no memory for it, and no other refusal.
     pub fn with_room(alloc: Global, bytes: usize) -> Result<JsonText, Refusal>
         ensures { MatchResult result (λ text. text ≡ []) (λ e. e ≡ NoMemory) }
     {
@@ -139,7 +139,7 @@ impl JsonText {
         self.end_list()
     }
 
-    /// The parts, one behind another.
+    /// The parts, one after another.
     pub fn parts<X: AsJson>(&mut self, parts: &[X]) -> Result<(), Refusal>
         ensures { Puts (all_tokens (map X.json parts.now)) self.old self.new result }
     {
@@ -149,7 +149,7 @@ impl JsonText {
         Ok(())
     }
 
-    /// The text. Where its tokens are those of a value it is the value's compact text.
+    /// The text. If its tokens are those of one value, it is the value's compact text.
     pub fn into_bytes(self) -> Vec<u8>
         ensures { (d : Data) → self ≡ data_tokens d → result.items ≡ compact_text d }
     {

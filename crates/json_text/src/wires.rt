@@ -5,7 +5,7 @@ ghost use Rattle.serde_json.specs.Data.{string};
 ghost use Rattle.std.specs.Prelude.{◌++◌, codes, map};
 ghost use Rattle.json_text.specs.Tokens.{all_tokens, data_tokens, Puts};
 
-use crate::parts::AsJson;
+use crate::as_json::AsJson;
 use crate::text::JsonText;
 use json_scalar::{Refusal, Scalar};
 use lamport_id::ReplicaName;
@@ -112,7 +112,8 @@ impl AsJson for Operation {
 }
 
 fn put_stamp(text: &mut JsonText, op: &Operation) -> Result<(), Refusal>
-    ensures { Puts (data_tokens (string (codes "op")) ++ data_tokens (id_data op.now.id) ++ data_tokens (front_data op.now.front)) text.old text.new result }
+    ensures { Puts (data_tokens (string (codes "op")) ++ data_tokens (id_data op.now.id)
+        ++ data_tokens (front_data op.now.front)) text.old text.new result }
 {
     text.text("op")?;
     op.id().put_in(text)?;
@@ -120,7 +121,8 @@ fn put_stamp(text: &mut JsonText, op: &Operation) -> Result<(), Refusal>
 }
 
 fn put_change(text: &mut JsonText, op: &Operation) -> Result<(), Refusal>
-    ensures { Puts (data_tokens (cursor_data op.now.cursor) ++ data_tokens (mutation_data op.now.mutation)) text.old text.new result }
+    ensures { Puts (data_tokens (cursor_data op.now.cursor) ++ data_tokens (mutation_data op.now.mutation))
+        text.old text.new result }
 {
     op.cursor().put_in(text)?;
     op.mutation().put_in(text)

@@ -1,4 +1,4 @@
-//! What is told as one value of JSON.
+//! Values that have a form as JSON.
 ghost use Rattle.std.specs.Prelude.{[], ◌∷◌, map};
 ghost use Rattle.std.specs.Fmt.{signed_decimal};
 ghost use Rattle.serde_json.specs.Data.{Data, string};
@@ -13,12 +13,12 @@ use json_scalar::{Refusal, Scalar, Val};
 use lamport_id::Id;
 use op_core::KeyText;
 
-/// What is told as one value of JSON.
+/// A value that is written as one JSON value.
 pub trait AsJson {
-    /// The value.
+    /// Its form.
     ghost json: { Self → Data };
 
-    /// Puts the value behind a text. It is refused for want of memory alone.
+    /// Appends the value to a text. `NoMemory` if there is no memory for it, and no other refusal.
     fn put_in(&self, text: &mut JsonText) -> Result<(), Refusal>
         ensures { Puts (data_tokens (json self.now)) text.old text.new result };
 }
@@ -31,7 +31,7 @@ impl AsJson for KeyText {
     }
 }
 
-/// A total, in quotes, since it may be longer than numbers of JSON are read.
+/// A total, in quotes, since JSON readers don't read integers of that many digits.
 impl AsJson for i128 {
     ghost json = { λ total. string (signed_decimal total) };
 
@@ -58,7 +58,7 @@ impl AsJson for Scalar {
     fn put_in(&self, text: &mut JsonText) -> Result<(), Refusal> {
         match self {
             Scalar::Int(n) => text.integer(*n),
-            Scalar::Text(words) => text.text(words.as_str()),
+            Scalar::Text(chars) => text.text(chars.as_str()),
             Scalar::Bool(truth) => text.truth(*truth),
             Scalar::Null => text.null(),
         }
@@ -85,7 +85,7 @@ impl<X: AsJson> AsJson for Listed<X> {
     }
 }
 
-/// An id and what belongs to it.
+/// An id, and a value that belongs to it.
 impl<X: AsJson> AsJson for (Id, X) {
     ghost json = { λ e. list_data (id_data e.0 ∷ X.json e.1 ∷ []) };
 
