@@ -27,8 +27,8 @@ use Rattle.line_proto.specs.Written.{start_data, step_data, expr_data, asks, loo
 use Rattle.line_proto.specs.declared.request.Start.{Start}
 use Rattle.line_proto.specs.declared.request.Start.TheVariants.{Document, Variable}
 use Rattle.line_proto.specs.declared.request.CursorExpr.{CursorExpr}
-use Rattle.line_proto.specs.declared.request.Ask.{Ask}
-use Rattle.line_proto.specs.declared.request.Ask.TheVariants as ask
+use Rattle.line_proto.specs.declared.request.DocRequest.{DocRequest}
+use Rattle.line_proto.specs.declared.request.DocRequest.TheVariants as ask
 use Rattle.line_proto.specs.declared.request.Request.{Request}
 use Rattle.line_proto.specs.declared.request.Request.TheVariants.{Quit, Version, Of}
 
@@ -153,22 +153,22 @@ amount_of-val (object ms) n h = cc
 -- ---- what is asked
 
 -- what is asked is written with this word and these further items, and is within the limits
-abbrev Writes : List ℕ → List ℕ → List Data → Ask → Type 0
+abbrev Writes : List ℕ → List ℕ → List Data → DocRequest → Type 0
 Writes verb document ds asked = (ask_data document asked ≡ asks verb document ds) × (is_ask asked ≡ true)
 
-abbrev OkWrites : List ℕ → List ℕ → List Data → Result Ask Refusal → Type 0
-OkWrites verb document ds r = (asked : Ask) → r ≡ Ok asked → Writes verb document ds asked
+abbrev OkWrites : List ℕ → List ℕ → List Data → Result DocRequest Refusal → Type 0
+OkWrites verb document ds r = (asked : DocRequest) → r ≡ Ok asked → Writes verb document ds asked
 
-abbrev SomeWrites : List ℕ → List ℕ → List Data → Option Ask → Type 0
-SomeWrites verb document ds o = (asked : Ask) → o ≡ Some asked → Writes verb document ds asked
+abbrev SomeWrites : List ℕ → List ℕ → List Data → Option DocRequest → Type 0
+SomeWrites verb document ds o = (asked : DocRequest) → o ≡ Some asked → Writes verb document ds asked
 
 -- with one further item, and with two
-writes_one : (verb word document : List ℕ) (a d : Data) (asked found : Ask) → verb ≡ word → d ≡ a → asked ≡ found
+writes_one : (verb word document : List ℕ) (a d : Data) (asked found : DocRequest) → verb ≡ word → d ≡ a → asked ≡ found
     → ask_data document found ≡ asks word document (d ∷ []) → is_ask found ≡ true → Writes verb document (a ∷ []) asked
 writes_one verb word document a d asked found is at_a same form within =
     (ap (ask_data document) same ∙ form ∙ (λ i. asks (sym is i) document (at_a i ∷ [])), ap is_ask same ∙ within)
 
-writes_two : (verb word document : List ℕ) (a b d e : Data) (asked found : Ask) → verb ≡ word → d ≡ a → e ≡ b → asked ≡ found
+writes_two : (verb word document : List ℕ) (a b d e : Data) (asked found : DocRequest) → verb ≡ word → d ≡ a → e ≡ b → asked ≡ found
     → ask_data document found ≡ asks word document (d ∷ e ∷ []) → is_ask found ≡ true → Writes verb document (a ∷ b ∷ []) asked
 writes_two verb word document a b d e asked found is at_a at_b same form within =
     (ap (ask_data document) same ∙ form ∙ (λ i. asks (sym is i) document (at_a i ∷ at_b i ∷ [])), ap is_ask same ∙ within)
@@ -297,7 +297,7 @@ long_ask-Ok verb document a b =
     (by_word (OkWrites verb document (a ∷ b ∷ [])) verb (codes "insert") _ _ (insertion-Ok verb document a b)
     (by_word (OkWrites verb document (a ∷ b ∷ [])) verb (codes "add") _ _ (addition-Ok verb document a b) (none_asked verb document (a ∷ b ∷ []))))))
 
-plain_is : (verb word document : List ℕ) (one : Ask) → verb ≡ word → ask_data document one ≡ asks word document [] → is_ask one ≡ true → SomeWrites verb document [] (Some one)
+plain_is : (verb word document : List ℕ) (one : DocRequest) → verb ≡ word → ask_data document one ≡ asks word document [] → is_ask one ≡ true → SomeWrites verb document [] (Some one)
 plain_is verb word document one is form within asked h =
     let same : asked ≡ one = cc in
     (ap (ask_data document) same ∙ form ∙ ap (λ w. asks w document []) (sym is), ap is_ask same ∙ within)
@@ -319,7 +319,7 @@ abbrev IsOf : Data → Request → Type 0
 IsOf d r = (request_data r ≡ d) × (is_request r ≡ true)
 
 -- the word and the document's name, and what is asked
-is_of : (verb document : Data) (v n : List ℕ) (ds : List Data) (asked : Ask) (r : Request) → as_str verb ≡ Some v → as_str document ≡ Some n
+is_of : (verb document : Data) (v n : List ℕ) (ds : List Data) (asked : DocRequest) (r : Request) → as_str verb ≡ Some v → as_str document ≡ Some n
     → Writes v n ds asked → Of n asked ≡ r → IsOf (list_data (verb ∷ document ∷ ds)) r
 is_of verb document v n ds asked r at_verb at_document writes same =
     (ap request_data (sym same) ∙ writes.0 ∙ (λ i. list_data (sym (as_str-Some verb v at_verb) i ∷ sym (as_str-Some document n at_document) i ∷ ds)), ap is_request (sym same) ∙ writes.1)

@@ -20,8 +20,8 @@ use Rattle.line_proto.specs.Reading.{variable_from, expr_from, bare_request, pla
 use Rattle.line_proto.specs.Written.{asks, expr_data, is_start}
 use Rattle.line_proto.specs.Refused.{Putting, assigns, inserts, adds, putting_word, AsksToPut, AsksToDeliver, AsksForOperations, IsNoRequest, IsDue, IsDueAt}
 use Rattle.line_proto.specs.declared.request.CursorExpr.{CursorExpr}
-use Rattle.line_proto.specs.declared.request.Ask.{Ask}
-use Rattle.line_proto.specs.declared.request.Ask.TheVariants as ask
+use Rattle.line_proto.specs.declared.request.DocRequest.{DocRequest}
+use Rattle.line_proto.specs.declared.request.DocRequest.TheVariants as ask
 use Rattle.line_proto.specs.declared.request.Request.{Request}
 use Rattle.line_proto.specs.declared.request.Request.TheVariants.{Of}
 use Rattle.line_proto.proofs.Found.{by_word, expr_from-Some, limit_from-Some}
@@ -233,7 +233,7 @@ no_request d e is r within same =
     cc
 
 -- what is put is refused for its value alone
-value_only : {A : Type 0} (document : List ℕ) (r : Result A Refusal) (f : A → Ask) → ((e : Refusal) → r ≡ Err e → e ≡ BadValue)
+value_only : {A : Type 0} (document : List ℕ) (r : Result A Refusal) (f : A → DocRequest) → ((e : Refusal) → r ≡ Err e → e ≡ BadValue)
     → (c : Refusal) → and_then (and_then r (λ x. Ok (f x))) (λ asked. Ok (Of document asked)) ≡ Err c → c ≡ BadValue
 value_only document (Ok x) f only c is = cc
 value_only document (Err e) f only c is = let same : e ≡ c = cc in sym same ∙ only e refl

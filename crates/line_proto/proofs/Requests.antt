@@ -22,8 +22,8 @@ use Rattle.doc_words.specs.declared.ask.Look.TheVariants.{Keys, Values, Items, C
 use Rattle.line_proto.specs.declared.request.Start.{Start}
 use Rattle.line_proto.specs.declared.request.Start.TheVariants.{Document, Variable}
 use Rattle.line_proto.specs.declared.request.CursorExpr.{CursorExpr}
-use Rattle.line_proto.specs.declared.request.Ask.{Ask}
-use Rattle.line_proto.specs.declared.request.Ask.TheVariants as ask
+use Rattle.line_proto.specs.declared.request.DocRequest.{DocRequest}
+use Rattle.line_proto.specs.declared.request.DocRequest.TheVariants as ask
 use Rattle.line_proto.specs.declared.request.Request.{Request}
 use Rattle.line_proto.specs.declared.request.Request.TheVariants.{Quit, Version, Of}
 
@@ -68,7 +68,7 @@ reads_look document expr Conflicts h = rw (expr_from-expr_data expr h) refl
 reads_look document expr Show h = rw (expr_from-expr_data expr h) refl
 reads_look document expr Sum h = rw (expr_from-expr_data expr h) refl
 
-reads_ask : (document : List ℕ) (asked : Ask) → is_ask asked ≡ true → request_from (request_data (Of document asked)) ≡ Ok (Of document asked)
+reads_ask : (document : List ℕ) (asked : DocRequest) → is_ask asked ≡ true → request_from (request_data (Of document asked)) ≡ Ok (Of document asked)
 reads_ask document ask.Open h = refl
 reads_ask document ask.Front h = refl
 reads_ask document ask.Held h = refl

@@ -17,8 +17,8 @@ use Rattle.doc_words.specs.declared.ask.Look.TheVariants.{Keys, Values, Items as
 use Rattle.line_proto.specs.declared.request.Start.{Start}
 use Rattle.line_proto.specs.declared.request.Start.TheVariants.{Document, Variable}
 use Rattle.line_proto.specs.declared.request.CursorExpr.{CursorExpr}
-use Rattle.line_proto.specs.declared.request.Ask.{Ask}
-use Rattle.line_proto.specs.declared.request.Ask.TheVariants as ask
+use Rattle.line_proto.specs.declared.request.DocRequest.{DocRequest}
+use Rattle.line_proto.specs.declared.request.DocRequest.TheVariants as ask
 use Rattle.line_proto.specs.declared.request.Request.{Request}
 use Rattle.line_proto.specs.declared.request.Request.TheVariants.{Quit, Version, Of}
 use Rattle.line_proto.specs.Limits.{longest_variable}
@@ -82,7 +82,7 @@ expr_from d = as_array d >>= expr_items
 abbrev pub bare_request : List ℕ → Option Request
 bare_request verb = if bytes_eq verb (codes "quit") then Some Quit else some_if (bytes_eq verb (codes "version")) Version
 
-abbrev pub plain_ask : List ℕ → Option Ask
+abbrev pub plain_ask : List ℕ → Option DocRequest
 plain_ask verb =
     if bytes_eq verb (codes "open") then Some ask.Open
     else (if bytes_eq verb (codes "front") then Some ask.Front
@@ -98,27 +98,27 @@ look_of verb =
     else (if bytes_eq verb (codes "show") then Some Show
     else some_if (bytes_eq verb (codes "sum")) Sum))))
 
-abbrev pub look_from : List ℕ → Data → Result Ask Refusal
+abbrev pub look_from : List ℕ → Data → Result DocRequest Refusal
 look_from verb d =
     and_then (ok_or (look_of verb) BadRequest) (λ look. and_then (ok_or (expr_from d) BadRequest) (λ expr. Ok (ask.Look expr look)))
 
-abbrev pub deletion_ask : Data → Result Ask Refusal
+abbrev pub deletion_ask : Data → Result DocRequest Refusal
 deletion_ask d = and_then (ok_or (expr_from d) BadRequest) (λ expr. Ok (ask.Change expr Delete))
 
-abbrev pub delivery_from : Data → Result Ask Refusal
+abbrev pub delivery_from : Data → Result DocRequest Refusal
 delivery_from d = and_then (op_from d) (λ op. Ok (ask.Deliver op))
 
-abbrev pub forgetting_from : Data → Result Ask Refusal
+abbrev pub forgetting_from : Data → Result DocRequest Refusal
 forgetting_from d = ok_or (option_map ask.Forget (id_from d)) BadRequest
 
-abbrev pub short_ask : List ℕ → Data → Result Ask Refusal
+abbrev pub short_ask : List ℕ → Data → Result DocRequest Refusal
 short_ask verb d =
     if bytes_eq verb (codes "delete") then deletion_ask d
     else (if bytes_eq verb (codes "deliver") then delivery_from d
     else (if bytes_eq verb (codes "forget") then forgetting_from d
     else look_from verb d))
 
-abbrev pub naming_from : Data → Data → Result Ask Refusal
+abbrev pub naming_from : Data → Data → Result DocRequest Refusal
 naming_from n d =
     and_then (ok_or (variable_from n) BadRequest) (λ name. and_then (ok_or (expr_from d) BadRequest) (λ expr. Ok (ask.Let name expr)))
 
@@ -133,15 +133,15 @@ limit_from d = u64_of d >>= limit_of
 abbrev pub in_order : List (List ℕ × ℕ) → Result (List (List ℕ × ℕ)) Refusal
 in_order front = if is_ascending front then Ok front else Err BadFront
 
-abbrev pub ops_from : Data → Data → Result Ask Refusal
+abbrev pub ops_from : Data → Data → Result DocRequest Refusal
 ops_from f n =
     and_then (ok_or (limit_from n) BadRequest) (λ limit. and_then (and_then (ok_or (front_of_json f) BadRequest) in_order) (λ front. Ok (ask.Operations front limit)))
 
-abbrev pub assignment_from : Data → Data → Result Ask Refusal
+abbrev pub assignment_from : Data → Data → Result DocRequest Refusal
 assignment_from c d =
     and_then (ok_or (expr_from c) BadRequest) (λ expr. and_then (val_of d) (λ val. Ok (ask.Change expr (Assign val))))
 
-abbrev pub insertion_from : Data → Data → Result Ask Refusal
+abbrev pub insertion_from : Data → Data → Result DocRequest Refusal
 insertion_from c d =
     and_then (ok_or (expr_from c) BadRequest) (λ expr. and_then (val_of d) (λ val. Ok (ask.Change expr (Insert val))))
 
@@ -149,18 +149,18 @@ insertion_from c d =
 abbrev pub amount_of : Data → Option ℤ
 amount_of d = as_number d >>= int_of
 
-abbrev pub addition_from : Data → Data → Result Ask Refusal
+abbrev pub addition_from : Data → Data → Result DocRequest Refusal
 addition_from c d =
     and_then (ok_or (expr_from c) BadRequest) (λ expr. and_then (ok_or (amount_of d) BadValue) (λ n. Ok (ask.Change expr (Add n))))
 
-abbrev pub change_ask : List ℕ → Data → Data → Result Ask Refusal
+abbrev pub change_ask : List ℕ → Data → Data → Result DocRequest Refusal
 change_ask verb c d =
     if bytes_eq verb (codes "assign") then assignment_from c d
     else (if bytes_eq verb (codes "insert") then insertion_from c d
     else (if bytes_eq verb (codes "add") then addition_from c d
     else Err BadRequest))
 
-abbrev pub long_ask : List ℕ → Data → Data → Result Ask Refusal
+abbrev pub long_ask : List ℕ → Data → Data → Result DocRequest Refusal
 long_ask verb a b =
     if bytes_eq verb (codes "let") then naming_from a b
     else (if bytes_eq verb (codes "ops") then ops_from a b
@@ -177,12 +177,12 @@ asked_mutation verb d =
     else (if bytes_eq verb (codes "add") then addition_of d
     else Err BadRequest))
 
-abbrev pub asked_change : List ℕ → Data → Data → Result Ask Refusal
+abbrev pub asked_change : List ℕ → Data → Data → Result DocRequest Refusal
 asked_change verb c d =
     and_then (ok_or (expr_from c) BadRequest) (λ expr. and_then (asked_mutation verb d) (λ change. Ok (ask.Change expr change)))
 
 -- what is asked with a word, by the items behind the document
-abbrev pub ask_items : List ℕ → Items → Result Ask Refusal
+abbrev pub ask_items : List ℕ → Items → Result DocRequest Refusal
 ask_items verb no_items = ok_or (plain_ask verb) BadRequest
 ask_items verb (item a no_items) = short_ask verb a
 ask_items verb (item a (item b no_items)) = long_ask verb a b

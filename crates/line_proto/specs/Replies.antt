@@ -60,12 +60,12 @@ reply_data (Waiting held) = worded (codes "waiting") (list_data (map waiting_dat
 reply_data (Account n) = worded (codes "account") (count_data n ∷ [])
 reply_data (Refused r) = worded (codes "no") (refusal_items r)
 
-abbrev pub told_data : LineReply → Data
-told_data (Opened seat) = worded (codes "opened") (count_data seat ∷ [])
-told_data Bound = worded (codes "bound") []
-told_data Version = worded (codes "version") (count_data 2 ∷ [])
-told_data Bye = worded (codes "bye") []
-told_data (Answered reply) = reply_data reply
+abbrev pub line_reply_data : LineReply → Data
+line_reply_data (Opened seat) = worded (codes "opened") (count_data seat ∷ [])
+line_reply_data Bound = worded (codes "bound") []
+line_reply_data Version = worded (codes "version") (count_data 2 ∷ [])
+line_reply_data Bye = worded (codes "bye") []
+line_reply_data (Answered reply) = reply_data reply
 
 -- an array of a word and a value, for what stands before the value and for the value's text
 abbrev pub around : List ℕ → List ℕ → List ℕ
@@ -79,14 +79,14 @@ reply_text (Operations text) = around (codes "[\"ops\",") text
 reply_text reply = compact_text (reply_data reply)
 
 -- the compact text of what is told
-abbrev pub told_text : LineReply → List ℕ
-told_text (Answered reply) = reply_text reply
-told_text told = compact_text (told_data told)
+abbrev pub line_reply_text : LineReply → List ℕ
+line_reply_text (Answered reply) = reply_text reply
+line_reply_text told = compact_text (line_reply_data told)
 
 -- the line of JSON: its compact text, and a newline
 abbrev pub line_text : Data → List ℕ
 line_text d = line_of (compact_text d)
 
 -- the line that is told
-abbrev pub line_told : LineReply → List ℕ
-line_told told = line_of (told_text told)
+abbrev pub reply_line : LineReply → List ℕ
+reply_line told = line_of (line_reply_text told)

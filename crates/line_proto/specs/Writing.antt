@@ -9,15 +9,15 @@ use Rattle.line_proto.specs.declared.write.WriteFault.{WriteFault}
 use Rattle.line_proto.specs.declared.write.WriteFault.TheVariants.{NoMemory, Device}
 
 -- whether the reply's line is made whole before it is written, and may lack memory
-abbrev pub is_lengthy : Reply → Bool
-is_lengthy (Applied count dropped id) = false
-is_lengthy Known = false
-is_lengthy (Held missing) = false
-is_lengthy (Waiting held) = false
-is_lengthy Forgotten = false
-is_lengthy (Account n) = false
-is_lengthy (Refused r) = false
-is_lengthy _ = true
+abbrev pub needs_heap : Reply → Bool
+needs_heap (Applied count dropped id) = false
+needs_heap Known = false
+needs_heap (Held missing) = false
+needs_heap (Waiting held) = false
+needs_heap Forgotten = false
+needs_heap (Account n) = false
+needs_heap (Refused r) = false
+needs_heap _ = true
 
 -- whether the reply's line is written in pieces
 abbrev pub is_in_pieces : Reply → Bool
@@ -25,9 +25,9 @@ is_in_pieces (Held missing) = true
 is_in_pieces (Waiting held) = true
 is_in_pieces _ = false
 
-abbrev pub may_lack : LineReply → Bool
-may_lack (Answered reply) = is_lengthy reply
-may_lack _ = false
+abbrev pub line_needs_heap : LineReply → Bool
+line_needs_heap (Answered reply) = needs_heap reply
+line_needs_heap _ = false
 
 -- whether the sink failed
 abbrev pub is_device : Result ⊤ WriteFault → Bool

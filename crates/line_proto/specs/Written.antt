@@ -17,8 +17,8 @@ use Rattle.doc_words.specs.declared.ask.Look.TheVariants.{Keys, Values, Items, C
 use Rattle.line_proto.specs.declared.request.Start.{Start}
 use Rattle.line_proto.specs.declared.request.Start.TheVariants.{Document, Variable}
 use Rattle.line_proto.specs.declared.request.CursorExpr.{CursorExpr}
-use Rattle.line_proto.specs.declared.request.Ask.{Ask}
-use Rattle.line_proto.specs.declared.request.Ask.TheVariants as ask
+use Rattle.line_proto.specs.declared.request.DocRequest.{DocRequest}
+use Rattle.line_proto.specs.declared.request.DocRequest.TheVariants as ask
 use Rattle.line_proto.specs.declared.request.Request.{Request}
 use Rattle.line_proto.specs.declared.request.Request.TheVariants.{Quit, Version, Of}
 use Rattle.line_proto.specs.Limits.{longest_variable}
@@ -53,7 +53,7 @@ change_data document expr (Insert val) = asks (codes "insert") document (expr �
 change_data document expr Delete = asks (codes "delete") document (expr ∷ [])
 change_data document expr (Add n) = asks (codes "add") document (expr ∷ number (of_integer n) ∷ [])
 
-abbrev pub ask_data : List ℕ → Ask → Data
+abbrev pub ask_data : List ℕ → DocRequest → Data
 ask_data document ask.Open = asks (codes "open") document []
 ask_data document ask.Front = asks (codes "front") document []
 ask_data document ask.Held = asks (codes "held") document []
@@ -100,7 +100,7 @@ is_change (Add n) = is_amount n
 abbrev pub is_limit : ℕ → Bool
 is_limit limit = nat_le 1 limit && nat_le limit greatest_limit
 
-abbrev pub is_ask : Ask → Bool
+abbrev pub is_ask : DocRequest → Bool
 is_ask ask.Open = true
 is_ask ask.Front = true
 is_ask ask.Held = true

@@ -2,7 +2,7 @@
 ghost use Rattle.std.specs.Prelude.{◌≡◌, [], ◌∷◌, true, IfOk};
 ghost use Rattle.line_feed.specs.Cut.{line_of};
 ghost use Rattle.line_proto.specs.Replies.{line_text, worded, around, reply_text};
-ghost use Rattle.line_proto.specs.Writing.{is_lengthy};
+ghost use Rattle.line_proto.specs.Writing.{needs_heap};
 
 use doc_words::{CompactText, Reply};
 use json_scalar::Refusal;
@@ -17,7 +17,7 @@ const AROUND: usize = 11;
 
 /// The line of a reply of many parts, written straight from these. The refusal says that memory is wanting.
 pub(crate) fn lengthy_line(alloc: Global, reply: &Reply) -> Result<Vec<u8>, Refusal>
-    requires { is_lengthy reply.now ≡ true }
+    requires { needs_heap reply.now ≡ true }
     ensures { IfOk result (λ line. line.items ≡ line_of (reply_text reply.now)) }
 {
     match reply {

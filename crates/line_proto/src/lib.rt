@@ -13,5 +13,5 @@ mod write;
 
 pub use line_reply::{LineReply, VERSION};
 pub use name::Name;
-pub use request::{Ask, CursorExpr, Request, Start};
+pub use request::{DocRequest, CursorExpr, Request, Start};
 pub use write::WriteFault;

@@ -10,7 +10,7 @@ ghost use Rattle.line_proto.specs.Loading.{Loads};
 
 use crate::cursor::{read_expr, read_variable};
 use crate::name::Name;
-use crate::request::{Ask, Request};
+use crate::request::{DocRequest, Request};
 use doc_words::Look;
 use json_scalar::{Refusal, Val, val_from_json};
 use op_core::{Front, Mutation, read_front, read_id, read_wire};
@@ -142,7 +142,7 @@ fn read_named(
     Ok(Request::Of(name, ask))
 }
 
-fn read_ask(alloc: Global, verb: &str, items: &[Value]) -> Result<Ask, Refusal>
+fn read_ask(alloc: Global, verb: &str, items: &[Value]) -> Result<DocRequest, Refusal>
     ensures { UnlessMemory result (ask_items verb.now (items_view items.now)) }
 {
     match items {
@@ -153,19 +153,19 @@ fn read_ask(alloc: Global, verb: &str, items: &[Value]) -> Result<Ask, Refusal>
     }
 }
 
-fn plain_ask(verb: &str) -> Option<Ask>
+fn plain_ask(verb: &str) -> Option<DocRequest>
     ensures { result ≡ plain_ask verb.now }
 {
     match verb {
-        "open" => Some(Ask::Open),
-        "front" => Some(Ask::Front),
-        "held" => Some(Ask::Held),
-        "account" => Some(Ask::Account),
+        "open" => Some(DocRequest::Open),
+        "front" => Some(DocRequest::Front),
+        "held" => Some(DocRequest::Held),
+        "account" => Some(DocRequest::Account),
         _ => None,
     }
 }
 
-fn short_ask(alloc: Global, verb: &str, third: &Value) -> Result<Ask, Refusal>
+fn short_ask(alloc: Global, verb: &str, third: &Value) -> Result<DocRequest, Refusal>
     ensures { UnlessMemory result (short_ask verb.now (view third.now)) }
 {
     match verb {
@@ -176,34 +176,34 @@ fn short_ask(alloc: Global, verb: &str, third: &Value) -> Result<Ask, Refusal>
     }
 }
 
-fn read_deletion(alloc: Global, cursor: &Value) -> Result<Ask, Refusal>
+fn read_deletion(alloc: Global, cursor: &Value) -> Result<DocRequest, Refusal>
     ensures { UnlessMemory result (deletion_ask (view cursor.now)) }
 {
-    Ok(Ask::Change(read_expr(alloc, cursor)?, Mutation::Delete))
+    Ok(DocRequest::Change(read_expr(alloc, cursor)?, Mutation::Delete))
 }
 
-fn read_delivery(alloc: Global, op: &Value) -> Result<Ask, Refusal>
+fn read_delivery(alloc: Global, op: &Value) -> Result<DocRequest, Refusal>
     ensures { UnlessMemory result (delivery_from (view op.now)) }
 {
-    Ok(Ask::Deliver(read_wire(alloc, op)?))
+    Ok(DocRequest::Deliver(read_wire(alloc, op)?))
 }
 
-fn read_forgetting(id: &Value) -> Result<Ask, Refusal>
+fn read_forgetting(id: &Value) -> Result<DocRequest, Refusal>
     ensures { result ≡ forgetting_from (view id.now) }
 {
     match read_id(id) {
-        Some(id) => Ok(Ask::Forget(id)),
+        Some(id) => Ok(DocRequest::Forget(id)),
         None => Err(Refusal::BadRequest),
     }
 }
 
-fn read_look(alloc: Global, verb: &str, cursor: &Value) -> Result<Ask, Refusal>
+fn read_look(alloc: Global, verb: &str, cursor: &Value) -> Result<DocRequest, Refusal>
     ensures { UnlessMemory result (look_from verb.now (view cursor.now)) }
 {
     let Some(look) = look_of(verb) else {
         return Err(Refusal::BadRequest);
     };
-    Ok(Ask::Look(read_expr(alloc, cursor)?, look))
+    Ok(DocRequest::Look(read_expr(alloc, cursor)?, look))
 }
 
 fn look_of(verb: &str) -> Option<Look>
@@ -220,7 +220,7 @@ fn look_of(verb: &str) -> Option<Look>
     }
 }
 
-fn long_ask(alloc: Global, verb: &str, third: &Value, fourth: &Value) -> Result<Ask, Refusal>
+fn long_ask(alloc: Global, verb: &str, third: &Value, fourth: &Value) -> Result<DocRequest, Refusal>
     ensures { UnlessMemory result (long_ask verb.now (view third.now) (view fourth.now)) }
 {
     match verb {
@@ -230,20 +230,20 @@ fn long_ask(alloc: Global, verb: &str, third: &Value, fourth: &Value) -> Result<
     }
 }
 
-fn read_naming(alloc: Global, name: &Value, cursor: &Value) -> Result<Ask, Refusal>
+fn read_naming(alloc: Global, name: &Value, cursor: &Value) -> Result<DocRequest, Refusal>
     ensures { UnlessMemory result (naming_from (view name.now) (view cursor.now)) }
 {
     let name = read_variable(alloc, name)?;
-    Ok(Ask::Let(name, read_expr(alloc, cursor)?))
+    Ok(DocRequest::Let(name, read_expr(alloc, cursor)?))
 }
 
-fn read_ops(alloc: Global, front: &Value, limit: &Value) -> Result<Ask, Refusal>
+fn read_ops(alloc: Global, front: &Value, limit: &Value) -> Result<DocRequest, Refusal>
     ensures { UnlessMemory result (ops_from (view front.now) (view limit.now)) }
 {
     let Some(limit) = read_limit(limit) else {
         return Err(Refusal::BadRequest);
     };
-    Ok(Ask::Operations(read_ascending(alloc, front)?, limit))
+    Ok(DocRequest::Operations(read_ascending(alloc, front)?, limit))
 }
 
 fn read_limit(limit: &Value) -> Option<u64>
@@ -288,11 +288,11 @@ fn read_any_front(alloc: Global, value: &Value) -> Result<Front, Refusal>
     }
 }
 
-fn read_change(alloc: Global, verb: &str, cursor: &Value, value: &Value) -> Result<Ask, Refusal>
+fn read_change(alloc: Global, verb: &str, cursor: &Value, value: &Value) -> Result<DocRequest, Refusal>
     ensures { UnlessMemory result (change_ask verb.now (view cursor.now) (view value.now)) }
 {
     let cursor = read_expr(alloc, cursor)?;
-    Ok(Ask::Change(cursor, read_mutation(alloc, verb, value)?))
+    Ok(DocRequest::Change(cursor, read_mutation(alloc, verb, value)?))
 }
 
 fn read_mutation(alloc: Global, verb: &str, value: &Value) -> Result<Mutation, Refusal>

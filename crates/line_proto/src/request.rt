@@ -24,7 +24,7 @@ pub struct CursorExpr {
 
 /// What is asked of a document.
 #[derive(Drop)]
-pub enum Ask {
+pub enum DocRequest {
     /// A seat at the document.
     Open,
     /// The front of the whole log.
@@ -55,5 +55,5 @@ pub enum Request {
     /// The number of the forms of requests and replies.
     Version,
     /// Something of the document of this name.
-    Of(Name, Ask),
+    Of(Name, DocRequest),
 }

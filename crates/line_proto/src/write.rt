@@ -6,8 +6,8 @@ ghost use Rattle.serde_json.specs.Written.{comma_if, compact_text};
 ghost use Rattle.op_core.specs.Wire.{id_data};
 ghost use Rattle.doc_words.specs.declared.reply.Reply.TheVariants.{Held, Items, Keys, Operations, Show};
 ghost use Rattle.line_feed.specs.Cut.{AppendsCut, line_of};
-ghost use Rattle.line_proto.specs.Replies.{line_text, reply_data, reply_text, told_text, line_told, worded};
-ghost use Rattle.line_proto.specs.Writing.{is_lengthy, is_in_pieces, may_lack, is_device};
+ghost use Rattle.line_proto.specs.Replies.{line_text, reply_data, reply_text, line_reply_text, reply_line, worded};
+ghost use Rattle.line_proto.specs.Writing.{needs_heap, is_in_pieces, line_needs_heap, is_device};
 ghost use Rattle.line_proto.specs.declared.line_reply.LineReply.TheVariants.{Answered};
 
 use crate::lengthy::lengthy_line;
@@ -48,9 +48,9 @@ impl LineReply {
     /// is written without taking memory.
     pub fn write<W: Sink>(&self, alloc: Global, sink: &mut W) -> Result<(), WriteFault>
         requires works { W.has_failed sink.old ≡ false }
-        ensures ok { OnOk result (Appends (W.contents sink.old) (W.contents sink.new) (line_told self.now)) }
-        ensures device { result ≡ Err WriteFault.Device → AppendsCut (W.contents sink.old) (W.contents sink.new) (line_told self.now) }
-        ensures memory { result ≡ Err WriteFault.NoMemory → (sink.new ≡ sink.old) × (may_lack self.now ≡ true) }
+        ensures ok { OnOk result (Appends (W.contents sink.old) (W.contents sink.new) (reply_line self.now)) }
+        ensures device { result ≡ Err WriteFault.Device → AppendsCut (W.contents sink.old) (W.contents sink.new) (reply_line self.now) }
+        ensures memory { result ≡ Err WriteFault.NoMemory → (sink.new ≡ sink.old) × (line_needs_heap self.now ≡ true) }
         ensures failed { W.has_failed sink.new ≡ is_device result }
     {
         match self {
@@ -61,15 +61,15 @@ impl LineReply {
 
     /// The law that a shown element is told as JSON: for the compact text of an element, `["show",ELEMENT]`.
     pub fn shown_as_json()
-        ensures { (d : Data) → told_text (Answered (Show (compact_text d))) ≡ compact_text (worded (codes "show") (d ∷ [])) }
+        ensures { (d : Data) → line_reply_text (Answered (Show (compact_text d))) ≡ compact_text (worded (codes "show") (d ∷ [])) }
     {}
 
     /// The law that keys, the elements of a list and operations are told as JSON: for the compact text of their array, an array of
     /// the word and that.
     pub fn listed_as_json()
-        ensures keys { (d : Data) → told_text (Answered (Keys (compact_text d))) ≡ compact_text (worded (codes "keys") (d ∷ [])) }
-        ensures items { (d : Data) → told_text (Answered (Items (compact_text d))) ≡ compact_text (worded (codes "items") (d ∷ [])) }
-        ensures ops { (d : Data) → told_text (Answered (Operations (compact_text d))) ≡ compact_text (worded (codes "ops") (d ∷ [])) }
+        ensures keys { (d : Data) → line_reply_text (Answered (Keys (compact_text d))) ≡ compact_text (worded (codes "keys") (d ∷ [])) }
+        ensures items { (d : Data) → line_reply_text (Answered (Items (compact_text d))) ≡ compact_text (worded (codes "items") (d ∷ [])) }
+        ensures ops { (d : Data) → line_reply_text (Answered (Operations (compact_text d))) ≡ compact_text (worded (codes "ops") (d ∷ [])) }
     {}
 }
 
@@ -77,7 +77,7 @@ impl LineReply {
 #[tactic(auto, unfolding(json::specs::Print::escape_byte))]
 fn own_line(told: &LineReply) -> Line
     requires { (reply : Reply) → told.now ≢ Answered reply }
-    ensures { result.bytes ≡ line_told told.now }
+    ensures { result.bytes ≡ reply_line told.now }
 {
     match told {
         LineReply::Opened(seat) => numbered("[\"opened\",", *seat),
@@ -92,7 +92,7 @@ fn write_reply<W: Sink>(alloc: Global, reply: &Reply, sink: &mut W) -> Result<()
     requires works { W.has_failed sink.old ≡ false }
     ensures ok { OnOk result (Appends (W.contents sink.old) (W.contents sink.new) (line_of (reply_text reply.now))) }
     ensures device { result ≡ Err WriteFault.Device → AppendsCut (W.contents sink.old) (W.contents sink.new) (line_of (reply_text reply.now)) }
-    ensures memory { result ≡ Err WriteFault.NoMemory → (sink.new ≡ sink.old) × (is_lengthy reply.now ≡ true) }
+    ensures memory { result ≡ Err WriteFault.NoMemory → (sink.new ≡ sink.old) × (needs_heap reply.now ≡ true) }
     ensures failed { W.has_failed sink.new ≡ is_device result }
 {
     match reply {
@@ -108,7 +108,7 @@ fn write_whole<W: Sink>(alloc: Global, reply: &Reply, sink: &mut W) -> Result<()
     requires whole { is_in_pieces reply.now ≡ false }
     ensures ok { OnOk result (Appends (W.contents sink.old) (W.contents sink.new) (line_of (reply_text reply.now))) }
     ensures device { result ≡ Err WriteFault.Device → AppendsCut (W.contents sink.old) (W.contents sink.new) (line_of (reply_text reply.now)) }
-    ensures memory { result ≡ Err WriteFault.NoMemory → (sink.new ≡ sink.old) × (is_lengthy reply.now ≡ true) }
+    ensures memory { result ≡ Err WriteFault.NoMemory → (sink.new ≡ sink.old) × (needs_heap reply.now ≡ true) }
     ensures failed { W.has_failed sink.new ≡ is_device result }
 {
     match short_line(reply) {
@@ -120,7 +120,7 @@ fn write_whole<W: Sink>(alloc: Global, reply: &Reply, sink: &mut W) -> Result<()
 // The line of a reply of a fixed number of parts.
 #[tactic(auto, unfolding(json::specs::Print::escape_byte))]
 fn short_line(reply: &Reply) -> Option<Line>
-    ensures { MatchOption result (is_in_pieces reply.now ≡ false → is_lengthy reply.now ≡ true) (λ line. line.bytes ≡ line_of (reply_text reply.now)) }
+    ensures { MatchOption result (is_in_pieces reply.now ≡ false → needs_heap reply.now ≡ true) (λ line. line.bytes ≡ line_of (reply_text reply.now)) }
 {
     match reply {
         Reply::Applied { count, dropped, id } => Some(applied(*count, *dropped, id)),
@@ -145,7 +145,7 @@ fn write_short<W: Sink>(sink: &mut W, line: &Line) -> Result<(), WriteFault>
 /// Makes the whole line, and then writes it.
 fn write_lengthy<W: Sink>(alloc: Global, reply: &Reply, sink: &mut W) -> Result<(), WriteFault>
     requires works { W.has_failed sink.old ≡ false }
-    requires lengthy { is_lengthy reply.now ≡ true }
+    requires lengthy { needs_heap reply.now ≡ true }
     ensures ok { OnOk result (Appends (W.contents sink.old) (W.contents sink.new) (line_of (reply_text reply.now))) }
     ensures device { result ≡ Err WriteFault.Device → AppendsCut (W.contents sink.old) (W.contents sink.new) (line_of (reply_text reply.now)) }
     ensures memory { result ≡ Err WriteFault.NoMemory → sink.new ≡ sink.old }

@@ -3,7 +3,7 @@ use json_scalar::{Refusal, Scalar, Val};
 use lamport_id::{Id, ReplicaName};
 use line_feed::Writer;
 use line_feed::doubles::FailAfter;
-use line_proto::{Ask, LineReply, Request, WriteFault};
+use line_proto::{DocRequest, LineReply, Request, WriteFault};
 use op_core::{Front, Mutation};
 use std::alloc::Global;
 use std::test::Fail;
@@ -17,18 +17,18 @@ fn kind(request: &Request) -> &'static str {
     }
 }
 
-fn asked(ask: &Ask) -> &'static str {
+fn asked(ask: &DocRequest) -> &'static str {
     match ask {
-        Ask::Open => "open",
-        Ask::Front => "front",
-        Ask::Held => "held",
-        Ask::Account => "account",
-        Ask::Change(_, mutation) => changed(mutation),
-        Ask::Look(_, look) => looked(*look),
-        Ask::Let(_, _) => "let",
-        Ask::Deliver(_) => "deliver",
-        Ask::Operations(_, _) => "operations",
-        Ask::Forget(_) => "forget",
+        DocRequest::Open => "open",
+        DocRequest::Front => "front",
+        DocRequest::Held => "held",
+        DocRequest::Account => "account",
+        DocRequest::Change(_, mutation) => changed(mutation),
+        DocRequest::Look(_, look) => looked(*look),
+        DocRequest::Let(_, _) => "let",
+        DocRequest::Deliver(_) => "deliver",
+        DocRequest::Operations(_, _) => "operations",
+        DocRequest::Forget(_) => "forget",
     }
 }
 

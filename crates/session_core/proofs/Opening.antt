@@ -2,8 +2,8 @@
 use Rattle.std.proofs.Common.{◌≡◌, ◌≢◌, ◌⊎◌, inl, inr, ℕ, List, [], ◌∷◌, ◌++◌, map, get_or, Option, Some, None, refl, sym, ap, ap₂, ◌∙◌, subst}
 use Rattle.std.specs.Prelude.{slice_get}
 use Rattle.doc_words.specs.Words.{NoMemory, Cursor}
-use Rattle.line_proto.specs.declared.request.Ask.{Ask}
-use Rattle.line_proto.specs.declared.request.Ask.TheVariants as asked
+use Rattle.line_proto.specs.declared.request.DocRequest.{DocRequest}
+use Rattle.line_proto.specs.declared.request.DocRequest.TheVariants as asked
 use Rattle.line_proto.specs.declared.line_reply.LineReply.{LineReply}
 use Rattle.line_proto.specs.declared.line_reply.LineReply.TheVariants as tell
 use Rattle.session_rules.specs.Session.{Access, KnownSeat, Session, OpenDocument, new_seat, opened_at, Asks, AsksOf, Opens, Refuses}
@@ -42,11 +42,11 @@ opened_more known documents os mid new o n e f seat variables =
 -- ---- the document of a name
 
 module _ {D : Type 0} (a : Access D) (s t : Session D) (told : LineReply) where
-  asks_of : (number : ℕ) (ask : Ask) → ask ≢ asked.Open → Asks a s ask (opened_at number s.opened) told t → AsksOf a s number ask told t
+  asks_of : (number : ℕ) (ask : DocRequest) → ask ≢ asked.Open → Asks a s ask (opened_at number s.opened) told t → AsksOf a s number ask told t
   asks_of number asked.Open other asks = absurd (other refl)
   asks_of number ask other asks = asks
 
-  pub asks_on : (found : Option ℕ) (number : ℕ) (ask : Ask) → found ≡ Some number → ask ≢ asked.Open → AsksOr a s ask (opened_at number s.opened) told t
+  pub asks_on : (found : Option ℕ) (number : ℕ) (ask : DocRequest) → found ≡ Some number → ask ≢ asked.Open → AsksOr a s ask (opened_at number s.opened) told t
       → OnDocumentOr a s found ask told t
   asks_on found number ask is other (inl asks) = subst (λ (n : Option ℕ). OnDocumentOr a s n ask told t) (sym is) (inl (asks_of number ask other asks))
   asks_on found number ask is other (inr lacks) = subst (λ (n : Option ℕ). OnDocumentOr a s n ask told t) (sym is) (inr lacks)
@@ -55,8 +55,8 @@ module _ {D : Type 0} (a : Access D) (s t : Session D) (told : LineReply) where
   opens_or number (inl opens) = inl opens
   opens_or number (inr (is, same)) = inr (is, inl same)
 
-  pub opens_on : (found : Option ℕ) (number : ℕ) (ask : Ask) → found ≡ Some number → ask ≡ asked.Open
+  pub opens_on : (found : Option ℕ) (number : ℕ) (ask : DocRequest) → found ≡ Some number → ask ≡ asked.Open
       → Opens a s number (opened_at number s.opened) told t ⊎ Refuses a s NoMemory told t → OnDocumentOr a s found ask told t
   opens_on found number ask is opens done =
       subst (λ (n : Option ℕ). OnDocumentOr a s n ask told t) (sym is)
-      (subst (λ (q : Ask). OnDocumentOr a s (Some number) q told t) (sym opens) (opens_or number done))
+      (subst (λ (q : DocRequest). OnDocumentOr a s (Some number) q told t) (sym opens) (opens_or number done))

@@ -3,7 +3,7 @@ use Rattle.std.proofs.Common.{◌≡◌, ◌≢◌, Result, Ok, Err, sym, subst}
 use Rattle.json_scalar.specs.Refusal.{and_then}
 use Rattle.doc_words.specs.Words.{Refusal, NoMemory}
 use Rattle.doc_words.specs.declared.place.Place.{Place}
-use Rattle.line_proto.specs.declared.request.Ask.{Ask}
+use Rattle.line_proto.specs.declared.request.DocRequest.{DocRequest}
 use Rattle.line_proto.specs.declared.line_reply.LineReply.{LineReply}
 use Rattle.session_rules.specs.Session.{Deed, deed_of}
 use Rattle.session_core.specs.declared.access.DocAccess as reached
@@ -14,9 +14,9 @@ use Rattle.session_core.specs.Serving.{IsServed}
 
 module _ {A S R D : Type 0} (g : reached.Ghosts A S R D) (x y : A) (o p : kept.OpenDocument S) (told : LineReply) where
   -- the request is this one
-  pub served_as : (ask made : Ask) → ask ≡ made → IsServed g x o (deed_of (opened_of (known_by g.seat_view) o) made) told y p
+  pub served_as : (ask made : DocRequest) → ask ≡ made → IsServed g x o (deed_of (opened_of (known_by g.seat_view) o) made) told y p
       → IsServed g x o (deed_of (opened_of (known_by g.seat_view) o) ask) told y p
-  served_as ask made is served = subst (λ (a : Ask). IsServed g x o (deed_of (opened_of (known_by g.seat_view) o) a) told y p) (sym is) served
+  served_as ask made is served = subst (λ (a : DocRequest). IsServed g x o (deed_of (opened_of (known_by g.seat_view) o) a) told y p) (sym is) served
 
   -- its place was found
   pub served_at : (deed : Place → Deed) (due : Result Place Refusal) (place : Place) → (Ok place ≢ Err NoMemory → Ok place ≡ due)

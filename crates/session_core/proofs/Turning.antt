@@ -5,7 +5,7 @@ use Rattle.json_scalar.specs.declared.refusal.Refusal.TheVariants.{LineTooLong}
 use Rattle.line_feed.specs.Cut.{AppendsCut}
 use Rattle.line_feed.specs.declared.feed.Outcome.{Outcome}
 use Rattle.line_feed.specs.declared.feed.Outcome.TheVariants as outcome
-use Rattle.line_proto.specs.Replies.{line_told}
+use Rattle.line_proto.specs.Replies.{reply_line}
 use Rattle.line_proto.specs.declared.line_reply.LineReply.{LineReply}
 use Rattle.session_rules.specs.Session.{Access, Session, MayAnswerLine, is_bye, refused}
 use Rattle.session_rules.specs.declared.Ending.{Ending}
@@ -14,14 +14,14 @@ use Rattle.session_core.specs.Ended.{KeepsBack, Turns, WritesLine}
 
 module _ {D : Type 0} (a : Access D) (given : Outcome) (line : List ℕ) (s : Session D) (held : Option (List ℕ)) where
   pub line_turns : (t : Session D) (holds : Option (List ℕ)) (bye last : Bool) → given ≡ outcome.Line → bye ≡ last
-      → (out : LineReply) × (bye ≡ is_bye out) × MayAnswerLine a s line out t × Appends held holds (line_told out)
+      → (out : LineReply) × (bye ≡ is_bye out) × MayAnswerLine a s line out t × Appends held holds (reply_line out)
       → Turns a given line s held (if last then Some Quit else None) t holds
   line_turns t holds bye last is tells (out, ends, may, appended) =
       subst (λ (o : Outcome). Turns a o line s held (if◌then◌else◌ {A = Option Ending} last (Some Quit) None) t holds) (sym is)
       (out, may, inl (appended, ap (λ (b : Bool). if◌then◌else◌ {A = Option Ending} b (Some Quit) None) (sym tells ∙ ends)))
 
   pub cut_turns : (t : Session D) (holds : Option (List ℕ)) → given ≡ outcome.Line
-      → (out : LineReply) × MayAnswerLine a s line out t × AppendsCut held holds (line_told out)
+      → (out : LineReply) × MayAnswerLine a s line out t × AppendsCut held holds (reply_line out)
       → Turns a given line s held (Some WriteFault) t holds
   cut_turns t holds is (out, may, cut) = subst (λ (o : Outcome). Turns a o line s held (Some WriteFault) t holds) (sym is) (out, may, inr (cut, refl))
 

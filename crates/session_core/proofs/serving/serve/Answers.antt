@@ -1,4 +1,4 @@
-use Rattle.line_proto.specs.declared.request.Ask.TheVariants as ask
+use Rattle.line_proto.specs.declared.request.DocRequest.TheVariants as ask
 use Rattle.session_core.proofs.Served.{served_as}
 use Rattle.session_core.proofs.serving.serve.Goals as goal
 
