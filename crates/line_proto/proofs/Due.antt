@@ -15,7 +15,7 @@ use Rattle.op_core.specs.Written.{ReadsOp, is_long_in}
 use Rattle.op_core.proofs.Wires.{front_of_json-front_data, id_from-id_data}
 use Rattle.op_core.proofs.Operations.{ReadsOp-from_answer}
 use Rattle.line_proto.specs.Reading.{request_from, line_data, request_of}
-use Rattle.line_proto.specs.Refused.{AsksToDeliver, IsDue, IsDueAt}
+use Rattle.line_proto.specs.Refused.{AsksToDeliver, IsRefusedFor, IsLineRefusedFor}
 use Rattle.line_proto.specs.declared.request.Request.{Request}
 use Rattle.line_proto.proofs.Found.{request_from-Ok}
 use Rattle.line_proto.proofs.Refusing.{delivered, is_due, op_from-wants_none, pulled, put-refused, request_from-tells}
@@ -86,7 +86,7 @@ delivery_due : (d op : Data) (e : Refusal) → AsksToDeliver d op → ReadsOp op
 delivery_due d op e p due other = delivered d op p (Err e) (op_due op e due other)
 
 -- where there is no form, no other cause is due
-only_form : (d : Data) → IsDue d BadRequest → (c : Refusal) → request_from d ≡ Err c → IsDue d c → c ≡ BadRequest
+only_form : (d : Data) → IsRefusedFor d BadRequest → (c : Refusal) → request_from d ≡ Err c → IsRefusedFor d c → c ≡ BadRequest
 only_form d due BadRequest is h = refl
 only_form d due BadValue is h = absurd (due.1 h.0)
 only_form d due TooDeep is (op, p, reads) = absurd (due.2 op p)
@@ -96,7 +96,7 @@ only_form d due BadFront is (inr (front, p, order)) = absurd (due.3 front p)
 only_form d due NoMemory is h = absurd (request_from-tells d NoMemory is)
 only_form d due e is h = absurd h
 
-due_answer : (d : Data) (e : Refusal) → IsDue d e → e ≢ NoMemory → request_from d ≡ Err e
+due_answer : (d : Data) (e : Refusal) → IsRefusedFor d e → e ≢ NoMemory → request_from d ≡ Err e
 due_answer d BadRequest due other = by (request_from d) refl
   where
     by : (r : Result Request Refusal) → request_from d ≡ r → r ≡ Err BadRequest
@@ -116,12 +116,12 @@ due_answer d e due other = absurd due
 
 -- ---- lines
 
-due_at : (found : Option Data) (e : Refusal) → e ≢ NoMemory → IsDueAt found e → and_then (ok_or found NotJson) request_from ≡ Err e
+due_at : (found : Option Data) (e : Refusal) → e ≢ NoMemory → IsLineRefusedFor found e → and_then (ok_or found NotJson) request_from ≡ Err e
 due_at None NotJson other due = refl
 due_at None NoMemory other due = absurd (other refl)
 due_at None e other due = absurd due
 due_at (Some d) e other due = due_answer d e due other
 
 -- a line for which a refusal is due has that answer
-pub due_line : (line : List ℕ) (e : Refusal) → e ≢ NoMemory → IsDueAt (line_data line) e → request_of line ≡ Err e
+pub due_line : (line : List ℕ) (e : Refusal) → e ≢ NoMemory → IsLineRefusedFor (line_data line) e → request_of line ≡ Err e
 due_line line e other due = due_at (line_data line) e other due

@@ -22,8 +22,8 @@ use Rattle.doc_words.specs.declared.place.Step.{Step}
 use Rattle.doc_words.specs.declared.place.Step.TheVariants.{Get, Index}
 use Rattle.doc_words.specs.declared.ask.Look.{Look}
 use Rattle.doc_words.specs.declared.ask.Look.TheVariants.{Keys, Values, Items as Elements, Conflicts, Show, Sum}
-use Rattle.line_proto.specs.Reading.{step_from, steps_from, variable_of, variable_from, start_of_number, start_from, expr_items, expr_from, bare_request, plain_ask, look_of, look_from, deletion_ask, delivery_from, forgetting_from, short_ask, naming_from, limit_of, limit_from, in_order, ops_from, assignment_from, insertion_from, amount_of, addition_from, long_ask, bare_from, plain_from, short_from, long_from, request_items, request_from, line_data, request_of}
-use Rattle.line_proto.specs.Written.{start_data, step_data, expr_data, asks, look_word, ask_data, request_data, is_variable, is_start, is_amount, is_put, is_ask, is_request}
+use Rattle.line_proto.specs.Reading.{step_from, steps_from, variable_of, variable_from, start_of_number, start_from, expr_items, expr_from, bare_request, plain_request, look_of, look_from, deletion_request, delivery_from, forgetting_from, short_request, naming_from, limit_of, limit_from, in_order, ops_from, assignment_from, insertion_from, amount_of, addition_from, long_request, bare_from, plain_from, short_from, long_from, request_items, request_from, line_data, request_of}
+use Rattle.line_proto.specs.Written.{start_data, step_data, expr_data, asks, look_word, doc_request_data, request_data, is_variable, is_start, is_amount, is_put, is_doc_request, is_request}
 use Rattle.line_proto.specs.declared.request.Start.{Start}
 use Rattle.line_proto.specs.declared.request.Start.TheVariants.{Document, Variable}
 use Rattle.line_proto.specs.declared.request.CursorExpr.{CursorExpr}
@@ -154,7 +154,7 @@ amount_of-val (object ms) n h = cc
 
 -- what is asked is written with this word and these further items, and is within the limits
 abbrev Writes : List ℕ → List ℕ → List Data → DocRequest → Type 0
-Writes verb document ds asked = (ask_data document asked ≡ asks verb document ds) × (is_ask asked ≡ true)
+Writes verb document ds asked = (doc_request_data document asked ≡ asks verb document ds) × (is_doc_request asked ≡ true)
 
 abbrev OkWrites : List ℕ → List ℕ → List Data → Result DocRequest Refusal → Type 0
 OkWrites verb document ds r = (asked : DocRequest) → r ≡ Ok asked → Writes verb document ds asked
@@ -164,19 +164,19 @@ SomeWrites verb document ds o = (asked : DocRequest) → o ≡ Some asked → Wr
 
 -- with one further item, and with two
 writes_one : (verb word document : List ℕ) (a d : Data) (asked found : DocRequest) → verb ≡ word → d ≡ a → asked ≡ found
-    → ask_data document found ≡ asks word document (d ∷ []) → is_ask found ≡ true → Writes verb document (a ∷ []) asked
+    → doc_request_data document found ≡ asks word document (d ∷ []) → is_doc_request found ≡ true → Writes verb document (a ∷ []) asked
 writes_one verb word document a d asked found is at_a same form within =
-    (ap (ask_data document) same ∙ form ∙ (λ i. asks (sym is i) document (at_a i ∷ [])), ap is_ask same ∙ within)
+    (ap (doc_request_data document) same ∙ form ∙ (λ i. asks (sym is i) document (at_a i ∷ [])), ap is_doc_request same ∙ within)
 
 writes_two : (verb word document : List ℕ) (a b d e : Data) (asked found : DocRequest) → verb ≡ word → d ≡ a → e ≡ b → asked ≡ found
-    → ask_data document found ≡ asks word document (d ∷ e ∷ []) → is_ask found ≡ true → Writes verb document (a ∷ b ∷ []) asked
+    → doc_request_data document found ≡ asks word document (d ∷ e ∷ []) → is_doc_request found ≡ true → Writes verb document (a ∷ b ∷ []) asked
 writes_two verb word document a b d e asked found is at_a at_b same form within =
-    (ap (ask_data document) same ∙ form ∙ (λ i. asks (sym is i) document (at_a i ∷ at_b i ∷ [])), ap is_ask same ∙ within)
+    (ap (doc_request_data document) same ∙ form ∙ (λ i. asks (sym is i) document (at_a i ∷ at_b i ∷ [])), ap is_doc_request same ∙ within)
 
 both_hold : (a b : Bool) → a ≡ true → b ≡ true → (a && b) ≡ true
 both_hold a b h k = rw (h, k) refl
 
-deletion-Ok : (verb document : List ℕ) (a : Data) → verb ≡ codes "delete" → OkWrites verb document (a ∷ []) (deletion_ask a)
+deletion-Ok : (verb document : List ℕ) (a : Data) → verb ≡ codes "delete" → OkWrites verb document (a ∷ []) (deletion_request a)
 deletion-Ok verb document a is asked h =
     let expr = found_step (expr_from a) BadRequest _ asked h in
     let same : asked ≡ ask.Change expr.0 Delete = cc in
@@ -223,8 +223,8 @@ look-Ok verb document a asked h =
     let made = expr_from-Some a expr.0 expr.1 in
     writes_one verb _ document a _ asked _ (look_of-Some verb look.0 look.1) made.0 same refl made.1
 
-short_ask-Ok : (verb document : List ℕ) (a : Data) → OkWrites verb document (a ∷ []) (short_ask verb a)
-short_ask-Ok verb document a =
+short_request-Ok : (verb document : List ℕ) (a : Data) → OkWrites verb document (a ∷ []) (short_request verb a)
+short_request-Ok verb document a =
     by_word (OkWrites verb document (a ∷ [])) verb (codes "delete") _ _ (deletion-Ok verb document a)
     (by_word (OkWrites verb document (a ∷ [])) verb (codes "deliver") _ _ (delivery-Ok verb document a)
     (by_word (OkWrites verb document (a ∷ [])) verb (codes "forget") _ _ (forgetting-Ok verb document a) (look-Ok verb document a)))
@@ -289,26 +289,26 @@ addition-Ok verb document a b is asked h =
 none_asked : (verb document : List ℕ) (ds : List Data) → OkWrites verb document ds (Err BadRequest)
 none_asked verb document ds asked h = cc
 
-long_ask-Ok : (verb document : List ℕ) (a b : Data) → OkWrites verb document (a ∷ b ∷ []) (long_ask verb a b)
-long_ask-Ok verb document a b =
+long_request-Ok : (verb document : List ℕ) (a b : Data) → OkWrites verb document (a ∷ b ∷ []) (long_request verb a b)
+long_request-Ok verb document a b =
     by_word (OkWrites verb document (a ∷ b ∷ [])) verb (codes "let") _ _ (naming-Ok verb document a b)
     (by_word (OkWrites verb document (a ∷ b ∷ [])) verb (codes "ops") _ _ (ops-Ok verb document a b)
     (by_word (OkWrites verb document (a ∷ b ∷ [])) verb (codes "assign") _ _ (assignment-Ok verb document a b)
     (by_word (OkWrites verb document (a ∷ b ∷ [])) verb (codes "insert") _ _ (insertion-Ok verb document a b)
     (by_word (OkWrites verb document (a ∷ b ∷ [])) verb (codes "add") _ _ (addition-Ok verb document a b) (none_asked verb document (a ∷ b ∷ []))))))
 
-plain_is : (verb word document : List ℕ) (one : DocRequest) → verb ≡ word → ask_data document one ≡ asks word document [] → is_ask one ≡ true → SomeWrites verb document [] (Some one)
+plain_is : (verb word document : List ℕ) (one : DocRequest) → verb ≡ word → doc_request_data document one ≡ asks word document [] → is_doc_request one ≡ true → SomeWrites verb document [] (Some one)
 plain_is verb word document one is form within asked h =
     let same : asked ≡ one = cc in
-    (ap (ask_data document) same ∙ form ∙ ap (λ w. asks w document []) (sym is), ap is_ask same ∙ within)
+    (ap (doc_request_data document) same ∙ form ∙ ap (λ w. asks w document []) (sym is), ap is_doc_request same ∙ within)
 
 account_is : (verb document : List ℕ) → SomeWrites verb document [] (some_if (bytes_eq verb (codes "account")) ask.Account)
 account_is verb document asked h =
     let made = some_if-Some (bytes_eq verb (codes "account")) ask.Account asked h in
     plain_is verb (codes "account") document ask.Account ((bytes_eq-Decides verb (codes "account")).0 made.0) refl refl asked (ap Some made.1)
 
-plain_ask-Some : (verb document : List ℕ) → SomeWrites verb document [] (plain_ask verb)
-plain_ask-Some verb document =
+plain_request-Some : (verb document : List ℕ) → SomeWrites verb document [] (plain_request verb)
+plain_request-Some verb document =
     by_word (SomeWrites verb document []) verb (codes "open") _ _ (λ is. plain_is verb _ document ask.Open is refl refl)
     (by_word (SomeWrites verb document []) verb (codes "front") _ _ (λ is. plain_is verb _ document ask.Front is refl refl)
     (by_word (SomeWrites verb document []) verb (codes "held") _ _ (λ is. plain_is verb _ document ask.Held is refl refl) (account_is verb document)))
@@ -353,22 +353,22 @@ plain_from-Ok : (verb document : Data) (r : Request) → plain_from verb documen
 plain_from-Ok verb document r h =
     let v = found_step (as_str verb) BadRequest _ r h in
     let n = found_step (as_str document) BadRequest _ r v.2 in
-    let asked = found_step (plain_ask v.0) BadRequest _ r n.2 in
-    is_of verb document v.0 n.0 [] asked.0 r v.1 n.1 (plain_ask-Some v.0 n.0 asked.0 asked.1) cc
+    let asked = found_step (plain_request v.0) BadRequest _ r n.2 in
+    is_of verb document v.0 n.0 [] asked.0 r v.1 n.1 (plain_request-Some v.0 n.0 asked.0 asked.1) cc
 
 short_from-Ok : (verb document a : Data) (r : Request) → short_from verb document a ≡ Ok r → IsOf (list_data (verb ∷ document ∷ a ∷ [])) r
 short_from-Ok verb document a r h =
     let v = found_step (as_str verb) BadRequest _ r h in
     let n = found_step (as_str document) BadRequest _ r v.2 in
-    let asked = ok_step (short_ask v.0 a) _ r n.2 in
-    is_of verb document v.0 n.0 (a ∷ []) asked.0 r v.1 n.1 (short_ask-Ok v.0 n.0 a asked.0 asked.1) cc
+    let asked = ok_step (short_request v.0 a) _ r n.2 in
+    is_of verb document v.0 n.0 (a ∷ []) asked.0 r v.1 n.1 (short_request-Ok v.0 n.0 a asked.0 asked.1) cc
 
 long_from-Ok : (verb document a b : Data) (r : Request) → long_from verb document a b ≡ Ok r → IsOf (list_data (verb ∷ document ∷ a ∷ b ∷ [])) r
 long_from-Ok verb document a b r h =
     let v = found_step (as_str verb) BadRequest _ r h in
     let n = found_step (as_str document) BadRequest _ r v.2 in
-    let asked = ok_step (long_ask v.0 a b) _ r n.2 in
-    is_of verb document v.0 n.0 (a ∷ b ∷ []) asked.0 r v.1 n.1 (long_ask-Ok v.0 n.0 a b asked.0 asked.1) cc
+    let asked = ok_step (long_request v.0 a b) _ r n.2 in
+    is_of verb document v.0 n.0 (a ∷ b ∷ []) asked.0 r v.1 n.1 (long_request-Ok v.0 n.0 a b asked.0 asked.1) cc
 
 request_items-Ok : (ds : Items) (r : Request) → request_items ds ≡ Ok r → IsOf (array ds) r
 request_items-Ok no_items r h = cc

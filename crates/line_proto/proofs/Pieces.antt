@@ -1,4 +1,4 @@
--- Lines in pieces: what is at hand, what was written, and what is left.
+-- Lines in pieces: what was written, and what is left in the piece.
 use Rattle.std.proofs.Common.{◌≡◌, ℕ, ◌+◌, ◌<◌, ◌≤◌, nat_lt, true, false, codes, List, [], ◌∷◌, ◌++◌, length, map, drop, get_or, Option, sym, ap, ◌∙◌, subst, append_assoc, append-nil, arith, length-append}
 use Rattle.std.specs.Io.KnownBytes.{Appends}
 use Rattle.std.proofs.KnownBytes.{Appends-nil, Appends-trans}
@@ -13,59 +13,59 @@ use Rattle.lamport_id.specs.declared.id.Id.{Id}
 use Rattle.op_core.specs.Wire.{id_data}
 use Rattle.doc_words.specs.declared.reply.Reply.TheVariants.{Held, Waiting}
 use Rattle.line_proto.specs.Replies.{line_text, reply_data, waiting_data}
-use Rattle.line_proto.specs.Writing.{PutsText}
+use Rattle.line_proto.specs.Writing.{WritesText}
 
-pub puts-nil : (a : Option (List ℕ)) (p : List ℕ) → PutsText a a p p []
+pub puts-nil : (a : Option (List ℕ)) (p : List ℕ) → WritesText a a p p []
 puts-nil a p = ([], Appends-nil a, append-nil p)
 
 -- one text, and then another
-pub puts-then : (a b c : Option (List ℕ)) (p q r t u : List ℕ) → PutsText a b p q t → PutsText b c q r u → PutsText a c p r (t ++ u)
-puts-then a b c p q r t u (front, before, e) (more, after, f) = (
-  front ++ more,
-  Appends-trans a b c front more before after,
-  sym (append_assoc p t u) ∙ ap (λ s. s ++ u) e ∙ append_assoc front q u ∙ ap (λ s. front ++ s) f ∙ sym (append_assoc front more r),
+pub puts-then : (a b c : Option (List ℕ)) (p q r t u : List ℕ) → WritesText a b p q t → WritesText b c q r u → WritesText a c p r (t ++ u)
+puts-then a b c p q r t u (written, before, e) (more, after, f) = (
+  written ++ more,
+  Appends-trans a b c written more before after,
+  sym (append_assoc p t u) ∙ ap (λ s. s ++ u) e ∙ append_assoc written q u ∙ ap (λ s. written ++ s) f ∙ sym (append_assoc written more r),
 )
 
 -- a text that is cut short is cut short in a longer one
 pub cut-longer : (a b : Option (List ℕ)) (s t : List ℕ) → AppendsCut a b s → AppendsCut a b (s ++ t)
-cut-longer a b s t (front, appended, (rest, some, whole)) =
-    (front, appended, (rest ++ t, omega (arith, some, length-append rest t), sym (append_assoc front rest t) ∙ ap (λ w. w ++ t) whole))
+cut-longer a b s t (written, appended, (rest, some, whole)) =
+    (written, appended, (rest ++ t, omega (arith, some, length-append rest t), sym (append_assoc written rest t) ∙ ap (λ w. w ++ t) whole))
 
-pub puts-cut : (a b c : Option (List ℕ)) (p q t u : List ℕ) → PutsText a b p q t → AppendsCut b c (q ++ u) → AppendsCut a c (p ++ (t ++ u))
-puts-cut a b c p q t u (front, before, e) (more, after, (rest, some, whole)) = (
-  front ++ more,
-  Appends-trans a b c front more before after,
+pub puts-cut : (a b c : Option (List ℕ)) (p q t u : List ℕ) → WritesText a b p q t → AppendsCut b c (q ++ u) → AppendsCut a c (p ++ (t ++ u))
+puts-cut a b c p q t u (written, before, e) (more, after, (rest, some, whole)) = (
+  written ++ more,
+  Appends-trans a b c written more before after,
   (
     rest,
     some,
-    append_assoc front more rest ∙ ap (λ s. front ++ s) whole ∙ sym (append_assoc front q u) ∙ ap (λ s. s ++ u) (sym e) ∙ append_assoc p t u,
+    append_assoc written more rest ∙ ap (λ s. written ++ s) whole ∙ sym (append_assoc written q u) ∙ ap (λ s. s ++ u) (sym e) ∙ append_assoc p t u,
   ),
 )
 
 -- what was put so far, cut short in the next text
-pub cut-between : (a b c : Option (List ℕ)) (p q t u tail whole : List ℕ) → PutsText a b p q t → AppendsCut b c (q ++ u) → whole ≡ t ++ (u ++ tail) → AppendsCut a c (p ++ whole)
+pub cut-between : (a b c : Option (List ℕ)) (p q t u tail whole : List ℕ) → WritesText a b p q t → AppendsCut b c (q ++ u) → whole ≡ t ++ (u ++ tail) → AppendsCut a c (p ++ whole)
 cut-between a b c p q t u tail whole puts cut is =
     subst (AppendsCut a c) (append_assoc p (t ++ u) tail ∙ ap (λ s. p ++ s) (append_assoc t u tail ∙ sym is)) (cut-longer a c (p ++ (t ++ u)) tail (puts-cut a b c p q t u puts cut))
 
 -- all is written
-pub puts-written : (a b c : Option (List ℕ)) (p q t : List ℕ) → PutsText a b p q t → Appends b c q → Appends a c (p ++ t)
-puts-written a b c p q t (front, before, e) after = subst (Appends a c) (sym e) (Appends-trans a b c front q before after)
+pub puts-written : (a b c : Option (List ℕ)) (p q t : List ℕ) → WritesText a b p q t → Appends b c q → Appends a c (p ++ t)
+puts-written a b c p q t (written, before, e) after = subst (Appends a c) (sym e) (Appends-trans a b c written q before after)
 
 -- or cut short
-pub puts-lost : (a b c : Option (List ℕ)) (p q t : List ℕ) → PutsText a b p q t → AppendsCut b c q → AppendsCut a c (p ++ t)
-puts-lost a b c p q t (front, before, e) (more, after, (rest, some, whole)) =
-    (front ++ more, Appends-trans a b c front more before after, (rest, some, append_assoc front more rest ∙ ap (λ s. front ++ s) whole ∙ sym e))
+pub puts-lost : (a b c : Option (List ℕ)) (p q t : List ℕ) → WritesText a b p q t → AppendsCut b c q → AppendsCut a c (p ++ t)
+puts-lost a b c p q t (written, before, e) (more, after, (rest, some, whole)) =
+    (written ++ more, Appends-trans a b c written more before after, (rest, some, append_assoc written more rest ∙ ap (λ s. written ++ s) whole ∙ sym e))
 
--- all is written, and an end behind it
-pub puts-ended : (a b c : Option (List ℕ)) (q t end : List ℕ) → PutsText a b [] q t → Appends b c (q ++ end) → Appends a c (t ++ end)
-puts-ended a b c q t end (front, before, e) after =
-    subst (Appends a c) (sym (append_assoc front q end) ∙ ap (λ s. s ++ end) (sym e)) (Appends-trans a b c front (q ++ end) before after)
+-- all is written, and an end after it
+pub puts-ended : (a b c : Option (List ℕ)) (q t end : List ℕ) → WritesText a b [] q t → Appends b c (q ++ end) → Appends a c (t ++ end)
+puts-ended a b c q t end (written, before, e) after =
+    subst (Appends a c) (sym (append_assoc written q end) ∙ ap (λ s. s ++ end) (sym e)) (Appends-trans a b c written (q ++ end) before after)
 
 pub positive : (i : ℕ) → nat_lt 0 (i + 1) ≡ true
 positive i = grind (arith, nat_tests)
 
 module _ {X : Type 0} (f : X → Data) where
-  -- the items from a place on, to the end of their array
+  -- the items from an index on, to the end of their array
   abbrev pub rest_from : List X → ℕ → List ℕ
   rest_from xs i = items_text (nat_lt 0 i) (items_of (map f (drop i xs)))
 
@@ -87,13 +87,13 @@ module _ {X : Type 0} (f : X → Data) where
       e ∙ ap (λ s. done ++ s)
       (rest-more xs i x h ∙ ap (λ y. (comma_if (nat_lt 0 i) ++ compact_text (f y)) ++ rest_from xs (i + 1)) (sym at) ∙ ap (λ p. p ++ rest_from xs (i + 1)) (sym is))
 
--- a text behind the first bytes of a line
-pub puts-start : (a b : Option (List ℕ)) (p q h t : List ℕ) → p ≡ h → PutsText a b p q t → PutsText a b [] q (h ++ t)
-puts-start a b p q h t e (front, appended, is) = (front, appended, ap (λ s. s ++ t) (sym e) ∙ is)
+-- a text after the first bytes of a line
+pub puts-start : (a b : Option (List ℕ)) (p q h t : List ℕ) → p ≡ h → WritesText a b p q t → WritesText a b [] q (h ++ t)
+puts-start a b p q h t e (written, appended, is) = (written, appended, ap (λ s. s ++ t) (sym e) ∙ is)
 
--- an operation that waits: its id, the ids, the end
-pub wait_regroup : (comma id ids : List ℕ) → comma ++ (91 ∷ (id ++ (44 ∷ 91 ∷ (ids ++ 93 ∷ [])))) ≡ (comma ++ (91 ∷ (id ++ 44 ∷ 91 ∷ []))) ++ (ids ++ 93 ∷ [])
-wait_regroup comma id ids =
+-- a held operation: its id, the ids that it waits for, the end
+pub waiting_regroup : (comma id ids : List ℕ) → comma ++ (91 ∷ (id ++ (44 ∷ 91 ∷ (ids ++ 93 ∷ [])))) ≡ (comma ++ (91 ∷ (id ++ 44 ∷ 91 ∷ []))) ++ (ids ++ 93 ∷ [])
+waiting_regroup comma id ids =
     ap (λ s. comma ++ (91 ∷ s)) (sym (append_assoc id (44 ∷ 91 ∷ []) (ids ++ 93 ∷ [])))
     ∙ sym (append_assoc comma (91 ∷ (id ++ 44 ∷ 91 ∷ [])) (ids ++ 93 ∷ []))
 

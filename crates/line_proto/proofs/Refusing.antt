@@ -16,9 +16,9 @@ use Rattle.op_core.specs.Wire.{list_data}
 use Rattle.op_core.specs.Written.{ReadsOp}
 use Rattle.op_core.proofs.Wires.{as_array-Some, as_str-Some, front_of_json-front_data, ReadsFront-from_answer}
 use Rattle.op_core.proofs.Operations.{ReadsOp-from_answer}
-use Rattle.line_proto.specs.Reading.{variable_from, expr_from, bare_request, plain_ask, look_of, look_from, deletion_ask, delivery_from, short_ask, naming_from, limit_from, in_order, ops_from, assignment_from, insertion_from, amount_of, addition_from, long_ask, short_from, long_from, request_items, request_from, line_data, request_of}
+use Rattle.line_proto.specs.Reading.{variable_from, expr_from, bare_request, plain_request, look_of, look_from, deletion_request, delivery_from, short_request, naming_from, limit_from, in_order, ops_from, assignment_from, insertion_from, amount_of, addition_from, long_request, short_from, long_from, request_items, request_from, line_data, request_of}
 use Rattle.line_proto.specs.Written.{asks, expr_data, is_start}
-use Rattle.line_proto.specs.Refused.{Putting, assigns, inserts, adds, putting_word, AsksToPut, AsksToDeliver, AsksForOperations, IsNoRequest, IsDue, IsDueAt}
+use Rattle.line_proto.specs.Refused.{Putting, assigns, inserts, adds, putting_word, AsksToPut, AsksToDeliver, AsksForOperations, IsNoRequest, IsRefusedFor, IsLineRefusedFor}
 use Rattle.line_proto.specs.declared.request.CursorExpr.{CursorExpr}
 use Rattle.line_proto.specs.declared.request.DocRequest.{DocRequest}
 use Rattle.line_proto.specs.declared.request.DocRequest.TheVariants as ask
@@ -34,7 +34,7 @@ abbrev CauseOf : Data → Refusal → Type 0
 CauseOf d BadRequest = ⊤
 CauseOf d BadValue = AsksToPut d
 CauseOf d NoMemory = ⊥
-CauseOf d e = IsDue d e
+CauseOf d e = IsRefusedFor d e
 
 abbrev Tells : {A : Type 0} → Data → Result A Refusal → Type 0
 Tells d r = (e : Refusal) → r ≡ Err e → CauseOf d e
@@ -166,7 +166,7 @@ ops-tells verb document a b is =
 
 -- ---- what else is asked: only the form is refused
 
-deletion-tells : (d a : Data) → Tells d (deletion_ask a)
+deletion-tells : (d a : Data) → Tells d (deletion_request a)
 deletion-tells d a = step d (expr_from a) _ (λ expr found. read d (ask.Change expr Delete))
 
 look-tells : (d : Data) (verb : List ℕ) (a : Data) → Tells d (look_from verb a)
@@ -175,15 +175,15 @@ look-tells d verb a = step d (look_of verb) _ (λ look is. step d (expr_from a) 
 naming-tells : (d a b : Data) → Tells d (naming_from a b)
 naming-tells d a b = step d (variable_from a) _ (λ name is. step d (expr_from b) _ (λ expr found. read d (ask.Let name expr)))
 
-short_ask-tells : (verb document : List ℕ) (a : Data) → Tells (asks verb document (a ∷ [])) (short_ask verb a)
-short_ask-tells verb document a =
+short_request-tells : (verb document : List ℕ) (a : Data) → Tells (asks verb document (a ∷ [])) (short_request verb a)
+short_request-tells verb document a =
     let d = asks verb document (a ∷ []) in
     by_word (Tells d) verb (codes "delete") _ _ (λ is. deletion-tells d a)
     (by_word (Tells d) verb (codes "deliver") _ _ (delivery-tells verb document a)
     (by_word (Tells d) verb (codes "forget") _ _ (λ is. ok_or-tells d _) (look-tells d verb a)))
 
-long_ask-tells : (verb document : List ℕ) (a b : Data) → Tells (asks verb document (a ∷ b ∷ [])) (long_ask verb a b)
-long_ask-tells verb document a b =
+long_request-tells : (verb document : List ℕ) (a b : Data) → Tells (asks verb document (a ∷ b ∷ [])) (long_request verb a b)
+long_request-tells verb document a b =
     let d = asks verb document (a ∷ b ∷ []) in
     by_word (Tells d) verb (codes "let") _ _ (λ is. naming-tells d a b)
     (by_word (Tells d) verb (codes "ops") _ _ (ops-tells verb document a b)
@@ -200,15 +200,15 @@ short_from-tells : (verb document a : Data) → Tells (list_data (verb ∷ docum
 short_from-tells verb document a =
     let d = list_data (verb ∷ document ∷ a ∷ []) in
     step d (as_str verb) _ (λ v is. step d (as_str document) _ (λ n named.
-    made_of d (short_ask v a) (λ asked. Of n asked)
-    (subst (λ (d : Data). Tells d (short_ask v a)) (same_words verb document v n (a ∷ []) is named) (short_ask-tells v n a))))
+    made_of d (short_request v a) (λ asked. Of n asked)
+    (subst (λ (d : Data). Tells d (short_request v a)) (same_words verb document v n (a ∷ []) is named) (short_request-tells v n a))))
 
 long_from-tells : (verb document a b : Data) → Tells (list_data (verb ∷ document ∷ a ∷ b ∷ [])) (long_from verb document a b)
 long_from-tells verb document a b =
     let d = list_data (verb ∷ document ∷ a ∷ b ∷ []) in
     step d (as_str verb) _ (λ v is. step d (as_str document) _ (λ n named.
-    made_of d (long_ask v a b) (λ asked. Of n asked)
-    (subst (λ (d : Data). Tells d (long_ask v a b)) (same_words verb document v n (a ∷ b ∷ []) is named) (long_ask-tells v n a b))))
+    made_of d (long_request v a b) (λ asked. Of n asked)
+    (subst (λ (d : Data). Tells d (long_request v a b)) (same_words verb document v n (a ∷ b ∷ []) is named) (long_request-tells v n a b))))
 
 request_items-tells : (ds : Items) → Tells (array ds) (request_items ds)
 request_items-tells no_items = unformed (array no_items)
@@ -217,7 +217,7 @@ request_items-tells (item verb no_items) =
     step d (as_str verb) _ (λ v is. ok_or-tells d (bare_request v))
 request_items-tells (item verb (item document no_items)) =
     let d = array (item verb (item document no_items)) in
-    step d (as_str verb) _ (λ v is. step d (as_str document) _ (λ n named. step d (plain_ask v) _ (λ asked found. read d (Of n asked))))
+    step d (as_str verb) _ (λ v is. step d (as_str document) _ (λ n named. step d (plain_request v) _ (λ asked found. read d (Of n asked))))
 request_items-tells (item verb (item document (item a no_items))) = short_from-tells verb document a
 request_items-tells (item verb (item document (item a (item b no_items)))) = long_from-tells verb document a b
 request_items-tells (item verb (item document (item a (item b (item c ds))))) = unformed (array (item verb (item document (item a (item b (item c ds))))))
@@ -288,7 +288,7 @@ pulled-formed d front p is = by (is_ascending front) refl
     by true q = let same : Ok (Of p.document (ask.Operations front p.limit)) ≡ Err BadRequest = sym (pulled d front p true q) ∙ is in cc
     by false q = let same : ◌≡◌ {A = Result Request Refusal} (Err BadFront) (Err BadRequest) = sym (pulled d front p false q) ∙ is in cc
 
-pub is_due : (d : Data) (e : Refusal) → request_from d ≡ Err e → IsDue d e
+pub is_due : (d : Data) (e : Refusal) → request_from d ≡ Err e → IsRefusedFor d e
 is_due d BadRequest is =
     (no_request d BadRequest is, (λ p. let clash : BadRequest ≡ BadValue = put-refused d p BadRequest is in cc), (λ op p. delivered-formed d op p is), (λ front p. pulled-formed d front p is))
 is_due d BadValue is = (request_from-tells d BadValue is, no_request d BadValue is)
@@ -297,16 +297,16 @@ is_due d e is = request_from-tells d e is
 
 -- ---- lines
 
-is_due_at : (found : Option Data) (e : Refusal) → and_then (ok_or found NotJson) request_from ≡ Err e → IsDueAt found e
-is_due_at None e is = let same : NotJson ≡ e = cc in subst (IsDueAt None) same tt
+is_due_at : (found : Option Data) (e : Refusal) → and_then (ok_or found NotJson) request_from ≡ Err e → IsLineRefusedFor found e
+is_due_at None e is = let same : NotJson ≡ e = cc in subst (IsLineRefusedFor None) same tt
 is_due_at (Some d) e is = is_due d e is
 
-memory_may_want : (found : Option Data) → IsDueAt found NoMemory
+memory_may_want : (found : Option Data) → IsLineRefusedFor found NoMemory
 memory_may_want None = tt
 memory_may_want (Some d) = tt
 
 -- a line that is refused is refused for the cause that is due
-pub refuses_line : (line : List ℕ) (answer : Result Request Refusal) → UnlessMemory answer (request_of line) → IfErr answer (IsDueAt (line_data line))
+pub refuses_line : (line : List ℕ) (answer : Result Request Refusal) → UnlessMemory answer (request_of line) → IfErr answer (IsLineRefusedFor (line_data line))
 refuses_line line (Ok r) h = tt
 refuses_line line (Err NoMemory) h = memory_may_want (line_data line)
 refuses_line line (Err e) h = is_due_at (line_data line) e (sym (h (λ k. cc)))

@@ -14,7 +14,7 @@ use Rattle.op_core.proofs.Operations.{op_from-wire}
 use Rattle.std.specs.List.{list_all}
 use Rattle.std.proofs.lemmas.Bool.{and_parts}
 use Rattle.line_proto.specs.Reading.{steps_from, expr_from, request_from}
-use Rattle.line_proto.specs.Written.{step_data, expr_data, is_start, is_variable, is_put, is_amount, is_change, is_ask, is_request, request_data}
+use Rattle.line_proto.specs.Written.{step_data, expr_data, is_start, is_variable, is_put, is_amount, is_change, is_doc_request, is_request, request_data}
 use Rattle.doc_words.specs.declared.place.Step.{Step}
 use Rattle.doc_words.specs.declared.place.Step.TheVariants.{Get, Index}
 use Rattle.doc_words.specs.declared.ask.Look.{Look}
@@ -68,27 +68,27 @@ reads_look document expr Conflicts h = rw (expr_from-expr_data expr h) refl
 reads_look document expr Show h = rw (expr_from-expr_data expr h) refl
 reads_look document expr Sum h = rw (expr_from-expr_data expr h) refl
 
-reads_ask : (document : List ℕ) (asked : DocRequest) → is_ask asked ≡ true → request_from (request_data (Of document asked)) ≡ Ok (Of document asked)
-reads_ask document ask.Open h = refl
-reads_ask document ask.Front h = refl
-reads_ask document ask.Held h = refl
-reads_ask document ask.Account h = refl
-reads_ask document (ask.Change expr change) h = let parts = and_parts (is_start expr.start) (is_change change) h in reads_change document expr change parts.0 parts.1
-reads_ask document (ask.Look expr look) h = reads_look document expr look h
-reads_ask document (ask.Let name expr) h =
+reads_doc_request : (document : List ℕ) (asked : DocRequest) → is_doc_request asked ≡ true → request_from (request_data (Of document asked)) ≡ Ok (Of document asked)
+reads_doc_request document ask.Open h = refl
+reads_doc_request document ask.Front h = refl
+reads_doc_request document ask.Held h = refl
+reads_doc_request document ask.Account h = refl
+reads_doc_request document (ask.Change expr change) h = let parts = and_parts (is_start expr.start) (is_change change) h in reads_change document expr change parts.0 parts.1
+reads_doc_request document (ask.Look expr look) h = reads_look document expr look h
+reads_doc_request document (ask.Let name expr) h =
     let parts = and_parts (is_variable name) (is_start expr.start) h in
     rw (parts.0, expr_from-expr_data expr parts.1) refl
-reads_ask document (ask.Deliver op) h = rw (op_from-wire op h) refl
-reads_ask document (ask.Operations front limit) h =
+reads_doc_request document (ask.Deliver op) h = rw (op_from-wire op h) refl
+reads_doc_request document (ask.Operations front limit) h =
     let parts = and_parts (list_all is_entry front && is_ascending front) (nat_le 1 limit && nat_le limit 64) h in
     let order = and_parts (list_all is_entry front) (is_ascending front) parts.0 in
     rw (parts.1, front_of_json-front_data front order.0, order.1) refl
-reads_ask document (ask.Forget id) h = rw (id_from-id_data id h) refl
+reads_doc_request document (ask.Forget id) h = rw (id_from-id_data id h) refl
 
 pub request_from-request_data : (r : Request) → is_request r ≡ true → request_from (request_data r) ≡ Ok r
 request_from-request_data Quit h = refl
 request_from-request_data Version h = refl
-request_from-request_data (Of document asked) h = reads_ask document asked h
+request_from-request_data (Of document asked) h = reads_doc_request document asked h
 
 -- no two requests have the same written form
 pub request_data_injective : (r other : Request) → is_request r ≡ true → is_request other ≡ true → request_data r ≡ request_data other → r ≡ other

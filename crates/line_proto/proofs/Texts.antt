@@ -85,7 +85,7 @@ name_of-is_name CopyRefused = refl
 pub ruleset causes = (name_of-is_name)
 
 -- the pieces of a line around a text
-pub around_pieces : (front text : List ℕ) → (front ++ text) ++ 93 ∷ 10 ∷ [] ≡ (front ++ (text ++ 93 ∷ [])) ++ 10 ∷ []
-around_pieces front text = simp append_assoc
+pub around_pieces : (prefix text : List ℕ) → (prefix ++ text) ++ 93 ∷ 10 ∷ [] ≡ (prefix ++ (text ++ 93 ∷ [])) ++ 10 ∷ []
+around_pieces prefix text = simp append_assoc
 
 pub ruleset around = (around_pieces)

@@ -1,4 +1,4 @@
--- How requests are read from JSON: each the one that has this JSON, or the first cause against it.
+-- How requests are read from JSON: the request that has this JSON, or the first cause against it.
 use Rattle.std.specs.Prelude.{ℕ, ℤ, zero, suc, ◌&&◌, nat_le, List, [], ◌∷◌, codes, length, Option, Some, None, option_map, Result, Ok, Err, ok_or, if◌then◌else◌}
 use Rattle.std.specs.Str.{bytes_eq, is_utf8}
 use Rattle.serde_json.specs.Data.{Data, null, boolean, number, string, array, object, Items, no_items, item}
@@ -72,7 +72,8 @@ expr_items (item d ds) = do
 abbrev pub expr_read : Items → Result CursorExpr Refusal
 expr_read no_items = Err BadRequest
 expr_read (item d ds) =
-    and_then (ok_or (start_from d) BadRequest) (λ start. and_then (ok_or (steps_from ds) BadRequest) (λ steps. Ok (record { start = start; steps = steps })))
+    and_then (ok_or (start_from d) BadRequest) (λ start.
+    and_then (ok_or (steps_from ds) BadRequest) (λ steps. Ok (record { start = start; steps = steps })))
 
 abbrev pub expr_from : Data → Option CursorExpr
 expr_from d = as_array d >>= expr_items
@@ -80,10 +81,11 @@ expr_from d = as_array d >>= expr_items
 -- ---- requests, by how many items they have
 
 abbrev pub bare_request : List ℕ → Option Request
-bare_request verb = if bytes_eq verb (codes "quit") then Some Quit else some_if (bytes_eq verb (codes "version")) Version
+bare_request verb =
+    if bytes_eq verb (codes "quit") then Some Quit else some_if (bytes_eq verb (codes "version")) Version
 
-abbrev pub plain_ask : List ℕ → Option DocRequest
-plain_ask verb =
+abbrev pub plain_request : List ℕ → Option DocRequest
+plain_request verb =
     if bytes_eq verb (codes "open") then Some ask.Open
     else (if bytes_eq verb (codes "front") then Some ask.Front
     else (if bytes_eq verb (codes "held") then Some ask.Held
@@ -100,10 +102,11 @@ look_of verb =
 
 abbrev pub look_from : List ℕ → Data → Result DocRequest Refusal
 look_from verb d =
-    and_then (ok_or (look_of verb) BadRequest) (λ look. and_then (ok_or (expr_from d) BadRequest) (λ expr. Ok (ask.Look expr look)))
+    and_then (ok_or (look_of verb) BadRequest) (λ look.
+    and_then (ok_or (expr_from d) BadRequest) (λ expr. Ok (ask.Look expr look)))
 
-abbrev pub deletion_ask : Data → Result DocRequest Refusal
-deletion_ask d = and_then (ok_or (expr_from d) BadRequest) (λ expr. Ok (ask.Change expr Delete))
+abbrev pub deletion_request : Data → Result DocRequest Refusal
+deletion_request d = and_then (ok_or (expr_from d) BadRequest) (λ expr. Ok (ask.Change expr Delete))
 
 abbrev pub delivery_from : Data → Result DocRequest Refusal
 delivery_from d = and_then (op_from d) (λ op. Ok (ask.Deliver op))
@@ -111,16 +114,17 @@ delivery_from d = and_then (op_from d) (λ op. Ok (ask.Deliver op))
 abbrev pub forgetting_from : Data → Result DocRequest Refusal
 forgetting_from d = ok_or (option_map ask.Forget (id_from d)) BadRequest
 
-abbrev pub short_ask : List ℕ → Data → Result DocRequest Refusal
-short_ask verb d =
-    if bytes_eq verb (codes "delete") then deletion_ask d
+abbrev pub short_request : List ℕ → Data → Result DocRequest Refusal
+short_request verb d =
+    if bytes_eq verb (codes "delete") then deletion_request d
     else (if bytes_eq verb (codes "deliver") then delivery_from d
     else (if bytes_eq verb (codes "forget") then forgetting_from d
     else look_from verb d))
 
 abbrev pub naming_from : Data → Data → Result DocRequest Refusal
 naming_from n d =
-    and_then (ok_or (variable_from n) BadRequest) (λ name. and_then (ok_or (expr_from d) BadRequest) (λ expr. Ok (ask.Let name expr)))
+    and_then (ok_or (variable_from n) BadRequest) (λ name.
+    and_then (ok_or (expr_from d) BadRequest) (λ expr. Ok (ask.Let name expr)))
 
 -- 1 to 64
 abbrev pub limit_of : ℕ → Option ℕ
@@ -135,15 +139,18 @@ in_order front = if is_ascending front then Ok front else Err BadFront
 
 abbrev pub ops_from : Data → Data → Result DocRequest Refusal
 ops_from f n =
-    and_then (ok_or (limit_from n) BadRequest) (λ limit. and_then (and_then (ok_or (front_of_json f) BadRequest) in_order) (λ front. Ok (ask.Operations front limit)))
+    and_then (ok_or (limit_from n) BadRequest) (λ limit.
+    and_then (and_then (ok_or (front_of_json f) BadRequest) in_order) (λ front. Ok (ask.Operations front limit)))
 
 abbrev pub assignment_from : Data → Data → Result DocRequest Refusal
 assignment_from c d =
-    and_then (ok_or (expr_from c) BadRequest) (λ expr. and_then (val_of d) (λ val. Ok (ask.Change expr (Assign val))))
+    and_then (ok_or (expr_from c) BadRequest) (λ expr.
+    and_then (val_of d) (λ val. Ok (ask.Change expr (Assign val))))
 
 abbrev pub insertion_from : Data → Data → Result DocRequest Refusal
 insertion_from c d =
-    and_then (ok_or (expr_from c) BadRequest) (λ expr. and_then (val_of d) (λ val. Ok (ask.Change expr (Insert val))))
+    and_then (ok_or (expr_from c) BadRequest) (λ expr.
+    and_then (val_of d) (λ val. Ok (ask.Change expr (Insert val))))
 
 -- an integer of 64 bits
 abbrev pub amount_of : Data → Option ℤ
@@ -151,62 +158,67 @@ amount_of d = as_number d >>= int_of
 
 abbrev pub addition_from : Data → Data → Result DocRequest Refusal
 addition_from c d =
-    and_then (ok_or (expr_from c) BadRequest) (λ expr. and_then (ok_or (amount_of d) BadValue) (λ n. Ok (ask.Change expr (Add n))))
+    and_then (ok_or (expr_from c) BadRequest) (λ expr.
+    and_then (ok_or (amount_of d) BadValue) (λ n. Ok (ask.Change expr (Add n))))
 
-abbrev pub change_ask : List ℕ → Data → Data → Result DocRequest Refusal
-change_ask verb c d =
+abbrev pub change_request : List ℕ → Data → Data → Result DocRequest Refusal
+change_request verb c d =
     if bytes_eq verb (codes "assign") then assignment_from c d
     else (if bytes_eq verb (codes "insert") then insertion_from c d
     else (if bytes_eq verb (codes "add") then addition_from c d
     else Err BadRequest))
 
-abbrev pub long_ask : List ℕ → Data → Data → Result DocRequest Refusal
-long_ask verb a b =
+abbrev pub long_request : List ℕ → Data → Data → Result DocRequest Refusal
+long_request verb a b =
     if bytes_eq verb (codes "let") then naming_from a b
     else (if bytes_eq verb (codes "ops") then ops_from a b
-    else change_ask verb a b)
+    else change_request verb a b)
 
 -- the same for all three words: the cursor, and then the change
 abbrev pub addition_of : Data → Result Mutation Refusal
 addition_of d = and_then (ok_or (amount_of d) BadValue) (λ n. Ok (Add n))
 
-abbrev pub asked_mutation : List ℕ → Data → Result Mutation Refusal
-asked_mutation verb d =
+abbrev pub mutation_from : List ℕ → Data → Result Mutation Refusal
+mutation_from verb d =
     if bytes_eq verb (codes "assign") then and_then (val_of d) (λ val. Ok (Assign val))
     else (if bytes_eq verb (codes "insert") then and_then (val_of d) (λ val. Ok (Insert val))
     else (if bytes_eq verb (codes "add") then addition_of d
     else Err BadRequest))
 
-abbrev pub asked_change : List ℕ → Data → Data → Result DocRequest Refusal
-asked_change verb c d =
-    and_then (ok_or (expr_from c) BadRequest) (λ expr. and_then (asked_mutation verb d) (λ change. Ok (ask.Change expr change)))
-
--- what is asked with a word, by the items behind the document
-abbrev pub ask_items : List ℕ → Items → Result DocRequest Refusal
-ask_items verb no_items = ok_or (plain_ask verb) BadRequest
-ask_items verb (item a no_items) = short_ask verb a
-ask_items verb (item a (item b no_items)) = long_ask verb a b
-ask_items verb (item a (item b (item c ds))) = Err BadRequest
+-- a request on a document, by its word and the items after the document's name
+abbrev pub doc_request_items : List ℕ → Items → Result DocRequest Refusal
+doc_request_items verb no_items = ok_or (plain_request verb) BadRequest
+doc_request_items verb (item a no_items) = short_request verb a
+doc_request_items verb (item a (item b no_items)) = long_request verb a b
+doc_request_items verb (item a (item b (item c ds))) = Err BadRequest
 
 abbrev pub bare_from : Data → Result Request Refusal
 bare_from verb = and_then (ok_or (as_str verb) BadRequest) (λ verb. ok_or (bare_request verb) BadRequest)
 
 abbrev pub plain_from : Data → Data → Result Request Refusal
 plain_from verb document =
-    and_then (ok_or (as_str verb) BadRequest) (λ verb. and_then (ok_or (as_str document) BadRequest) (λ name. and_then (ok_or (plain_ask verb) BadRequest) (λ asked. Ok (Of name asked))))
+    and_then (ok_or (as_str verb) BadRequest) (λ verb.
+    and_then (ok_or (as_str document) BadRequest) (λ name.
+    and_then (ok_or (plain_request verb) BadRequest) (λ asked. Ok (Of name asked))))
 
 abbrev pub short_from : Data → Data → Data → Result Request Refusal
 short_from verb document a =
-    and_then (ok_or (as_str verb) BadRequest) (λ verb. and_then (ok_or (as_str document) BadRequest) (λ name. and_then (short_ask verb a) (λ asked. Ok (Of name asked))))
+    and_then (ok_or (as_str verb) BadRequest) (λ verb.
+    and_then (ok_or (as_str document) BadRequest) (λ name.
+    and_then (short_request verb a) (λ asked. Ok (Of name asked))))
 
 abbrev pub long_from : Data → Data → Data → Data → Result Request Refusal
 long_from verb document a b =
-    and_then (ok_or (as_str verb) BadRequest) (λ verb. and_then (ok_or (as_str document) BadRequest) (λ name. and_then (long_ask verb a b) (λ asked. Ok (Of name asked))))
+    and_then (ok_or (as_str verb) BadRequest) (λ verb.
+    and_then (ok_or (as_str document) BadRequest) (λ name.
+    and_then (long_request verb a b) (λ asked. Ok (Of name asked))))
 
--- the same for any number of items behind the document
+-- the same for any number of items after the document's name
 abbrev pub named_from : Data → Data → Items → Result Request Refusal
 named_from verb document ds =
-    and_then (ok_or (as_str verb) BadRequest) (λ verb. and_then (ok_or (as_str document) BadRequest) (λ name. and_then (ask_items verb ds) (λ asked. Ok (Of name asked))))
+    and_then (ok_or (as_str verb) BadRequest) (λ verb.
+    and_then (ok_or (as_str document) BadRequest) (λ name.
+    and_then (doc_request_items verb ds) (λ asked. Ok (Of name asked))))
 
 abbrev pub request_items : Items → Result Request Refusal
 request_items no_items = Err BadRequest

@@ -1,4 +1,4 @@
--- Which refusal is due for a line that is no request, told by the written forms alone.
+-- For which causes a line that is no request is refused, stated by the written forms alone.
 use Rattle.std.specs.Prelude.{◌≡◌, ◌≢◌, ◌⊎◌, ℕ, false, List, [], ◌∷◌, codes, Option, Some, None, Err, IsTrue, ⊤}
 use Rattle.std.specs.List.{list_all}
 use Rattle.serde_json.specs.Data.{Data, number, unsigned}
@@ -49,21 +49,24 @@ pub record AsksForOperations (d : Data) (front : List (List ℕ × ℕ)) : Type 
 abbrev pub IsNoRequest : Data → Type 0
 IsNoRequest d = (r : Request) → IsTrue (is_request r) → request_data r ≢ d
 
--- What JSON that is no request is refused for: it has no form of a request; or it has one, and what is put is no value, what is delivered
--- is refused so, or the front doesn't ascend. Or memory is wanting.
-abbrev pub IsDue : Data → Refusal → Type 0
-IsDue d BadRequest = IsNoRequest d × ¬ AsksToPut d × ((op : Data) → ¬ AsksToDeliver d op) × ((front : List (List ℕ × ℕ)) → ¬ AsksForOperations d front)
-IsDue d BadValue = AsksToPut d × IsNoRequest d
-IsDue d TooDeep = (op : Data) × AsksToDeliver d op × ReadsOp op (Err TooDeep)
-IsDue d BadOperation = (op : Data) × AsksToDeliver d op × ReadsOp op (Err BadOperation)
-IsDue d BadFront =
-    ((op : Data) × AsksToDeliver d op × ReadsOp op (Err BadFront)) ⊎ ((front : List (List ℕ × ℕ)) × AsksForOperations d front × (is_ascending front ≡ false))
-IsDue d NoMemory = ⊤
-IsDue d _ = ⊥
+-- The causes for which JSON that is no request may be refused: it has no form of a request; or it has one, and
+-- what is put is no value, what is delivered is refused so, or the front doesn't ascend. Or there is no memory.
+abbrev pub IsRefusedFor : Data → Refusal → Type 0
+IsRefusedFor d BadRequest =
+    IsNoRequest d × ¬ AsksToPut d × ((op : Data) → ¬ AsksToDeliver d op)
+    × ((front : List (List ℕ × ℕ)) → ¬ AsksForOperations d front)
+IsRefusedFor d BadValue = AsksToPut d × IsNoRequest d
+IsRefusedFor d TooDeep = (op : Data) × AsksToDeliver d op × ReadsOp op (Err TooDeep)
+IsRefusedFor d BadOperation = (op : Data) × AsksToDeliver d op × ReadsOp op (Err BadOperation)
+IsRefusedFor d BadFront =
+    ((op : Data) × AsksToDeliver d op × ReadsOp op (Err BadFront))
+    ⊎ ((front : List (List ℕ × ℕ)) × AsksForOperations d front × (is_ascending front ≡ false))
+IsRefusedFor d NoMemory = ⊤
+IsRefusedFor d _ = ⊥
 
--- what a line is refused for, by the JSON that it is
-abbrev pub IsDueAt : Option Data → Refusal → Type 0
-IsDueAt None NotJson = ⊤
-IsDueAt None NoMemory = ⊤
-IsDueAt None _ = ⊥
-IsDueAt (Some d) cause = IsDue d cause
+-- for which causes a line is refused, by the JSON that it is
+abbrev pub IsLineRefusedFor : Option Data → Refusal → Type 0
+IsLineRefusedFor None NotJson = ⊤
+IsLineRefusedFor None NoMemory = ⊤
+IsLineRefusedFor None _ = ⊥
+IsLineRefusedFor (Some d) cause = IsRefusedFor d cause

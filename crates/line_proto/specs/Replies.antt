@@ -1,4 +1,4 @@
--- What is told, as JSON and as lines.
+-- Replies as JSON, as text and as lines.
 use Rattle.std.specs.Prelude.{ℕ, List, [], ◌∷◌, ◌++◌, map, codes}
 use Rattle.std.specs.Fmt.{signed_decimal}
 use Rattle.serde_json.specs.Data.{Data, null, number, unsigned, string}
@@ -41,9 +41,10 @@ abbrev pub refusal_items : Refusal → List Data
 refusal_items (refusal.Forked last) = count_data 14 ∷ string (codes "forked") ∷ count_data last ∷ []
 refusal_items r = count_data (number_of r) ∷ string (name_of r) ∷ []
 
--- A document's reply. What is told as text is kept so: `reply_text` tells it, and it has no JSON here.
+-- A document's reply. One whose value is kept as text has no JSON here: see `reply_text`.
 abbrev pub reply_data : Reply → Data
-reply_data (Applied count dropped id) = worded (codes "applied") (count_data count ∷ count_data dropped ∷ id_data id ∷ [])
+reply_data (Applied count dropped id) =
+    worded (codes "applied") (count_data count ∷ count_data dropped ∷ id_data id ∷ [])
 reply_data Known = worded (codes "known") []
 reply_data (Held missing) = worded (codes "held") (ids_data missing ∷ [])
 reply_data Forgotten = worded (codes "forgotten") []
@@ -67,9 +68,9 @@ line_reply_data Version = worded (codes "version") (count_data 2 ∷ [])
 line_reply_data Bye = worded (codes "bye") []
 line_reply_data (Answered reply) = reply_data reply
 
--- an array of a word and a value, for what stands before the value and for the value's text
+-- the text of an array of a word and a value, of the bytes before the value's text and of that text
 abbrev pub around : List ℕ → List ℕ → List ℕ
-around front text = front ++ (text ++ 93 ∷ [])
+around prefix text = prefix ++ (text ++ 93 ∷ [])
 
 abbrev pub reply_text : Reply → List ℕ
 reply_text (Keys text) = around (codes "[\"keys\",") text
@@ -78,15 +79,15 @@ reply_text (Show text) = around (codes "[\"show\",") text
 reply_text (Operations text) = around (codes "[\"ops\",") text
 reply_text reply = compact_text (reply_data reply)
 
--- the compact text of what is told
+-- the compact text of a reply
 abbrev pub line_reply_text : LineReply → List ℕ
 line_reply_text (Answered reply) = reply_text reply
-line_reply_text told = compact_text (line_reply_data told)
+line_reply_text reply = compact_text (line_reply_data reply)
 
 -- the line of JSON: its compact text, and a newline
 abbrev pub line_text : Data → List ℕ
 line_text d = line_of (compact_text d)
 
--- the line that is told
+-- a reply's line
 abbrev pub reply_line : LineReply → List ℕ
-reply_line told = line_of (line_reply_text told)
+reply_line reply = line_of (line_reply_text reply)

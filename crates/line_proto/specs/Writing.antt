@@ -1,4 +1,4 @@
--- What writing answers.
+-- How replies are written, and what writing returns.
 use Rattle.std.specs.Prelude.{◌≡◌, ℕ, List, ◌++◌, Option, Bool, true, false, Result, Ok, Err, ⊤}
 use Rattle.std.specs.Io.KnownBytes.{Appends}
 use Rattle.doc_words.specs.declared.reply.Reply.{Reply}
@@ -8,7 +8,7 @@ use Rattle.line_proto.specs.declared.line_reply.LineReply.TheVariants.{Answered}
 use Rattle.line_proto.specs.declared.write.WriteFault.{WriteFault}
 use Rattle.line_proto.specs.declared.write.WriteFault.TheVariants.{NoMemory, Device}
 
--- whether the reply's line is made whole before it is written, and may lack memory
+-- whether the reply's line is built on the heap before it is written, so that memory may lack for it
 abbrev pub needs_heap : Reply → Bool
 needs_heap (Applied count dropped id) = false
 needs_heap Known = false
@@ -35,6 +35,6 @@ is_device (Ok _) = false
 is_device (Err NoMemory) = false
 is_device (Err Device) = true
 
--- behind the bytes at hand comes the text: what is no more at hand was written
-abbrev pub PutsText : Option (List ℕ) → Option (List ℕ) → List ℕ → List ℕ → List ℕ → Type 0
-PutsText old new at_hand left text = (front : List ℕ) × Appends old new front × (at_hand ++ text ≡ front ++ left)
+-- the text comes after the piece: a prefix of both is written, and the rest is left in the piece
+abbrev pub WritesText : Option (List ℕ) → Option (List ℕ) → List ℕ → List ℕ → List ℕ → Type 0
+WritesText old new piece left text = (written : List ℕ) × Appends old new written × (piece ++ text ≡ written ++ left)

@@ -53,23 +53,24 @@ change_data document expr (Insert val) = asks (codes "insert") document (expr �
 change_data document expr Delete = asks (codes "delete") document (expr ∷ [])
 change_data document expr (Add n) = asks (codes "add") document (expr ∷ number (of_integer n) ∷ [])
 
-abbrev pub ask_data : List ℕ → DocRequest → Data
-ask_data document ask.Open = asks (codes "open") document []
-ask_data document ask.Front = asks (codes "front") document []
-ask_data document ask.Held = asks (codes "held") document []
-ask_data document ask.Account = asks (codes "account") document []
-ask_data document (ask.Change expr change) = change_data document (expr_data expr) change
-ask_data document (ask.Look expr look) = asks (look_word look) document (expr_data expr ∷ [])
-ask_data document (ask.Let name expr) = asks (codes "let") document (string name ∷ expr_data expr ∷ [])
-ask_data document (ask.Deliver op) = asks (codes "deliver") document (wire op ∷ [])
-ask_data document (ask.Operations front limit) = asks (codes "ops") document (front_data front ∷ number (unsigned limit) ∷ [])
-ask_data document (ask.Forget id) = asks (codes "forget") document (id_data id ∷ [])
+abbrev pub doc_request_data : List ℕ → DocRequest → Data
+doc_request_data document ask.Open = asks (codes "open") document []
+doc_request_data document ask.Front = asks (codes "front") document []
+doc_request_data document ask.Held = asks (codes "held") document []
+doc_request_data document ask.Account = asks (codes "account") document []
+doc_request_data document (ask.Change expr change) = change_data document (expr_data expr) change
+doc_request_data document (ask.Look expr look) = asks (look_word look) document (expr_data expr ∷ [])
+doc_request_data document (ask.Let name expr) = asks (codes "let") document (string name ∷ expr_data expr ∷ [])
+doc_request_data document (ask.Deliver op) = asks (codes "deliver") document (wire op ∷ [])
+doc_request_data document (ask.Operations front limit) =
+    asks (codes "ops") document (front_data front ∷ number (unsigned limit) ∷ [])
+doc_request_data document (ask.Forget id) = asks (codes "forget") document (id_data id ∷ [])
 
 -- a request's JSON
 abbrev pub request_data : Request → Data
 request_data Quit = list_data (string (codes "quit") ∷ [])
 request_data Version = list_data (string (codes "version") ∷ [])
-request_data (Of document ask) = ask_data document ask
+request_data (Of document ask) = doc_request_data document ask
 
 -- ---- within the limits
 
@@ -100,19 +101,19 @@ is_change (Add n) = is_amount n
 abbrev pub is_limit : ℕ → Bool
 is_limit limit = nat_le 1 limit && nat_le limit greatest_limit
 
-abbrev pub is_ask : DocRequest → Bool
-is_ask ask.Open = true
-is_ask ask.Front = true
-is_ask ask.Held = true
-is_ask ask.Account = true
-is_ask (ask.Change expr change) = is_start expr.start && is_change change
-is_ask (ask.Look expr look) = is_start expr.start
-is_ask (ask.Let name expr) = is_variable name && is_start expr.start
-is_ask (ask.Deliver op) = is_shaped op
-is_ask (ask.Operations front limit) = (list_all is_entry front && is_ascending front) && is_limit limit
-is_ask (ask.Forget id) = is_id id
+abbrev pub is_doc_request : DocRequest → Bool
+is_doc_request ask.Open = true
+is_doc_request ask.Front = true
+is_doc_request ask.Held = true
+is_doc_request ask.Account = true
+is_doc_request (ask.Change expr change) = is_start expr.start && is_change change
+is_doc_request (ask.Look expr look) = is_start expr.start
+is_doc_request (ask.Let name expr) = is_variable name && is_start expr.start
+is_doc_request (ask.Deliver op) = is_shaped op
+is_doc_request (ask.Operations front limit) = (list_all is_entry front && is_ascending front) && is_limit limit
+is_doc_request (ask.Forget id) = is_id id
 
 abbrev pub is_request : Request → Bool
 is_request Quit = true
 is_request Version = true
-is_request (Of document ask) = is_ask ask
+is_request (Of document ask) = is_doc_request ask

@@ -1,17 +1,17 @@
-//! The lines of a session: what a client asks, and what the server tells, as JSON.
+//! The lines of a session as JSON: a client's requests, and the server's replies.
 #![tactic(auto)]
 
 mod cursor;
-mod lengthy;
+mod heap_line;
 mod line_reply;
 mod name;
-mod read;
+mod parse;
+mod pending;
 mod request;
-mod text;
-mod waiting;
+mod stack_line;
 mod write;
 
 pub use line_reply::{LineReply, VERSION};
 pub use name::Name;
-pub use request::{DocRequest, CursorExpr, Request, Start};
+pub use request::{CursorExpr, DocRequest, Request, Start};
 pub use write::WriteFault;

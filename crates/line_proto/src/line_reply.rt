@@ -1,14 +1,14 @@
-//! What the server tells.
+//! The replies of a session.
 use doc_words::Reply;
 
 /// The number of the forms of requests and replies.
 pub const VERSION: u64 = 2;
 
-/// What is told in answer to a line.
+/// The reply to a line.
 pub enum LineReply {
     /// The session has this seat at the document.
     Opened(u64),
-    /// The name is bound.
+    /// The name is bound to the cursor.
     Bound,
     /// The number of the forms, `VERSION`.
     Version,
@@ -18,7 +18,7 @@ pub enum LineReply {
     Answered(Reply),
 }
 
-// One function for all the places where this is let go: a derived `drop` is written out at each.
+// By hand: a derived `drop` is written out at each place where a value is dropped.
 impl Drop for LineReply {
     fn drop(self) {
         match self {

@@ -1,4 +1,4 @@
-//! What a client asks.
+//! The requests of a client.
 use crate::name::Name;
 use doc_words::{Look, Steps};
 use lamport_id::Id;
@@ -9,7 +9,7 @@ use op_core::{Front, Mutation, Operation};
 pub enum Start {
     /// The document itself.
     Document,
-    /// The cursor to which this name is bound; a name that was read has at most 128 bytes.
+    /// The cursor to which this name is bound. A name that was read has at most 128 bytes.
     Variable(Name),
 }
 
@@ -22,38 +22,38 @@ pub struct CursorExpr {
     pub steps: Steps,
 }
 
-/// What is asked of a document.
+/// A request on a document.
 #[derive(Drop)]
 pub enum DocRequest {
     /// A seat at the document.
     Open,
-    /// The front of the whole log.
+    /// The front (a version vector) of the whole log.
     Front,
     /// The held operations, and what each waits for.
     Held,
     /// How many logged operations are the session's own.
     Account,
-    /// A change of one's own at a cursor.
+    /// A local change at a cursor.
     Change(CursorExpr, Mutation),
-    /// What stands at a cursor.
+    /// A query at a cursor.
     Look(CursorExpr, Look),
-    /// A name for a cursor; one that was read has at most 128 bytes.
+    /// Bind a name to a cursor. A name that was read has at most 128 bytes.
     Let(Name, CursorExpr),
-    /// An operation that was made elsewhere is handed in.
+    /// Deliver an operation of another replica.
     Deliver(Operation),
-    /// The first so many of the logged operations that the front does not cover: 1 to 64 where it was read.
+    /// The first so many of the logged operations that the front doesn't cover: 1 to 64 in a request that was read.
     Operations(Front, u64),
-    /// A held operation is given up.
+    /// Drop a held operation.
     Forget(Id),
 }
 
-/// What a client asks.
+/// A request.
 #[derive(Drop)]
 pub enum Request {
     /// The session's end.
     Quit,
     /// The number of the forms of requests and replies.
     Version,
-    /// Something of the document of this name.
+    /// A request on the document of this name.
     Of(Name, DocRequest),
 }
