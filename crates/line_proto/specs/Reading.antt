@@ -178,8 +178,8 @@ long_request verb a b =
 abbrev pub addition_of : Data → Result Mutation Refusal
 addition_of d = and_then (ok_or (amount_of d) BadValue) (λ n. Ok (Add n))
 
-abbrev pub mutation_from : List ℕ → Data → Result Mutation Refusal
-mutation_from verb d =
+abbrev pub mutation_of_verb : List ℕ → Data → Result Mutation Refusal
+mutation_of_verb verb d =
     if bytes_eq verb (codes "assign") then and_then (val_of d) (λ val. Ok (Assign val))
     else (if bytes_eq verb (codes "insert") then and_then (val_of d) (λ val. Ok (Insert val))
     else (if bytes_eq verb (codes "add") then addition_of d
