@@ -1,4 +1,4 @@
--- What stands at a place, read by the number of its node.
+-- What is at a place, read by the number of its node.
 use Rattle.std.proofs.Common.{◌≡◌, ℕ, ℤ, ◌+◌, ◌<◌, List, [], ◌∷◌, ◌++◌, length, get_or, take, map, true, true≢false, inl, inr, Option, Some, None, is_some, Result, Ok, Err, refl, sym, ap, ◌∙◌, subst, Contains}
 use Rattle.std.specs.Prelude.{option_and_then}
 use Rattle.std.proofs.lemmas.List.{map-append}
@@ -15,7 +15,7 @@ use Rattle.doc_nodes.specs.declared.node.Node.{Node}
 use Rattle.doc_nodes.specs.declared.node.NodeNumber.{NodeNumber}
 use Rattle.doc_nodes.specs.Children.{number_at}
 use Rattle.doc_nodes.specs.KeyOrder.{IsInKeyOrder}
-use Rattle.doc_nodes.specs.Nodes.{node_of, node_at, child_of}
+use Rattle.doc_nodes.specs.Nodes.{node_of, child_of}
 use Rattle.doc_nodes.proofs.ChildrenLaws.{number_at-own, number_at-Contains}
 use Rattle.crdt_rules.proofs.Tests.{same_found}
 use Rattle.doc_tree.specs.Nodes.{tree_facts, tree_number}
@@ -54,7 +54,7 @@ pub no_items : (tree : List Node × Option Scalar) (p : List Tagged) (k : Key) �
 no_items tree p k e = ([], no_elements tree p k e, tt)
 
 module _ (tree : List Node × Option Scalar) (p : List Tagged) (k : Key) (n : NodeNumber) (at : tree_number tree p k ≡ Some n) where
-  -- what stands in a node stands at its place
+  -- what a node has is at its place
   pub roles_by_number : (roles : List (Id × Role)) → roles ≡ (node_of tree.0 n).presence.0 → IsAscending roles → AreRoles tree p k roles
   roles_by_number roles is ascending = record { value = λ i. ap (λ l. get l i) is ∙ role_read tree.0 p k n at i; ascending = ascending }
 

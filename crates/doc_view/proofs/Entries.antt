@@ -1,4 +1,4 @@
--- What stands at ids, read as a list.
+-- What is at ids, read as a list.
 use Rattle.std.proofs.Common.{◌≡◌, List, Option, Some, sym, ◌∙◌}
 use Rattle.doc_words.specs.Words.{Id, id_cmp}
 use Rattle.sorted_lists.proofs.Bisection.{get-own, get-Contains}
@@ -7,7 +7,7 @@ use Rattle.presence_set.proofs.Ascending.{ids_ordered}
 use Rattle.doc_rules.specs.Sorted.{AreAll}
 
 module _ {X : Type 0} where
-  -- an ascending list of all that stands at ids
+  -- an ascending list of all that is at ids
   pub are_all : (es : List (Id × X)) (at : Id → Option X) → IsAscending es → ((i : Id) → get es i ≡ at i)
       → AreAll id_cmp (λ e. e.0) (λ e. at e.0 ≡ Some e.1) es
   are_all es at ascending gets = record {

@@ -2,12 +2,12 @@ pub mod Entries
 pub mod Presence
 pub mod Lists
 pub mod Indexed
-pub mod TellingRoles
+pub mod RoleValues
 pub mod Leading
 pub mod MapLaws
 pub mod ShowLaws
 pub mod ByNumber
 pub mod Growing
-pub mod Telling
-pub mod TellingAll
+pub mod Writing
+pub mod WritingAll
 mod Reading

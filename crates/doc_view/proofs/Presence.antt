@@ -1,5 +1,5 @@
--- Which ids make a place present, read from what stands there.
-use Rattle.std.proofs.Common.{◌≡◌, List, [], ◌∷◌, length, true, false, true≢false, not, Bool, Decides, ◌⊎◌, inl, inr, Option, Some, None, refl, sym, ap, ◌∙◌, Contains, is_some}
+-- Which ids make a place present, read from what is there.
+use Rattle.std.proofs.Common.{◌≡◌, List, [], ◌∷◌, true, false, true≢false, not, Bool, Decides, ◌⊎◌, inl, inr, Option, Some, None, refl, sym, ap, ◌∙◌, Contains, is_some}
 use Rattle.std.specs.Prelude.{◌↔◌, IsTrue}
 use Rattle.list_laws.proofs.Members.{Contains-nil, Contains-here}
 use Rattle.doc_words.specs.Words.{Id, Scalar, Key, Tagged}
@@ -40,7 +40,7 @@ module _ {tree : List Node × Option Scalar} {p : List Tagged} {k : Key} {roles 
       go None is some = absurd (cc)
       go (Some role) is some = (role, get-Contains ids_ordered roles i role is)
 
--- a place is present just if some id stands there
+-- a place is present just if some id makes it so
 pub present_decides : (tree : List Node × Option Scalar) (p : List Tagged) (k : Key) (roles : List (Id × Role)) (none : Bool)
     → AreRoles tree p k roles → (IsTrue none ↔ (roles ≡ [])) → Decides (not none) (IsPresent (tree_facts tree) p k)
 present_decides tree p k [] true are is = (λ h. absurd (true≢false (sym h)), λ w. absurd (Contains-nil (entry_from are w.0 w.1).1))
@@ -48,7 +48,7 @@ present_decides tree p k [] false are is = absurd (true≢false (sym (is.1 refl)
 present_decides tree p k (e ∷ roles) true are is = let none = is.0 refl in absurd (cc)
 present_decides tree p k (e ∷ roles) false are is = (λ h. (e.0, present_from are e (Contains-here roles refl)), λ w. refl)
 
--- some ids and roles stand at each place
+-- some ids and roles are at each place
 roles_there : (tree : List Node × Option Scalar) (p : List Tagged) (k : Key) → (roles : List (Id × Role)) × ((i : Id) → get roles i ≡ tree_role tree p k i)
 roles_there tree p k = go (node_at tree.0 p k) refl
   where
@@ -64,7 +64,7 @@ present_or_not tree p k = let there = roles_there tree p k in go there.0 there.1
     go [] is = inr (λ w. true≢false (sym w.1 ∙ present_role tree p k w.0 ∙ ap is_some (sym (is w.0))))
     go (e ∷ roles) is = inl (e.0, present_role tree p k e.0 ∙ ap is_some (sym (is e.0)) ∙ (rw (id_decides.itself e.0) refl))
 
--- what the tree tells of a place decides it
+-- the roles at a place decide it
 pub tree_decides : (tree : List Node × Option Scalar) (p : List Tagged) (k : Key) → Decides (tree_present tree p k) (IsPresent (tree_facts tree) p k)
 tree_decides tree p k = go (node_at tree.0 p k) refl
   where

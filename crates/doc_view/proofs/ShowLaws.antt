@@ -22,54 +22,55 @@ use Rattle.doc_rules.specs.Shown.{Shown, Fields, Elements, shown, no_map, a_map,
 use Rattle.doc_rules.specs.Sorted.{AreThose}
 use Rattle.doc_rules.proofs.Resolved.{those_from}
 use Rattle.doc_view.specs.Members.{texts_at, texts_in}
-use Rattle.doc_view.specs.Showing.{is_map, is_list_role, branch_of, field_data, IsShown, IsMapShown, IsListShown, EachField, AreFields, EachElement, AreShown}
+use Rattle.doc_view.specs.Showing.{is_map, is_list_role, field_data, IsShown, IsMapShown, IsListShown, EachField, AreFields, EachElement, AreShown}
 use Rattle.doc_view.specs.TreeValues.{tree_values}
 use Rattle.doc_view.proofs.Presence.{AreRoles, role_of, present_from, entry_from}
 use Rattle.list_laws.proofs.Reading.{take_read}
 use Rattle.doc_view.proofs.MapLaws.{those_append, those_hold, are_keys, texts_in-push}
+use Rattle.doc_view.proofs.Writing.{branch_of}
 
 -- ---- which values are put
 
-map_told : (r : Role) (s : Option Scalar) → value_in r s ≡ Some EmptyMap → is_map r ≡ true
-map_told role.Through s e = cc
-map_told role.Map s e = refl
-map_told role.List s e = cc
-map_told role.Scalar None e = cc
-map_told role.Scalar (Some s) e = cc
-map_told role.Counter s e = cc
+put_is_map : (r : Role) (s : Option Scalar) → value_in r s ≡ Some EmptyMap → is_map r ≡ true
+put_is_map role.Through s e = cc
+put_is_map role.Map s e = refl
+put_is_map role.List s e = cc
+put_is_map role.Scalar None e = cc
+put_is_map role.Scalar (Some s) e = cc
+put_is_map role.Counter s e = cc
 
-map_tells : (r : Role) (s : Option Scalar) → is_map r ≡ true → value_in r s ≡ Some EmptyMap
-map_tells role.Through s e = absurd (true≢false (sym e))
-map_tells role.Map s e = refl
-map_tells role.List s e = absurd (true≢false (sym e))
-map_tells role.Scalar s e = absurd (true≢false (sym e))
-map_tells role.Counter s e = absurd (true≢false (sym e))
+map_is_put : (r : Role) (s : Option Scalar) → is_map r ≡ true → value_in r s ≡ Some EmptyMap
+map_is_put role.Through s e = absurd (true≢false (sym e))
+map_is_put role.Map s e = refl
+map_is_put role.List s e = absurd (true≢false (sym e))
+map_is_put role.Scalar s e = absurd (true≢false (sym e))
+map_is_put role.Counter s e = absurd (true≢false (sym e))
 
-list_told : (r : Role) (s : Option Scalar) → value_in r s ≡ Some EmptyList → is_list_role r ≡ true
-list_told role.Through s e = cc
-list_told role.Map s e = cc
-list_told role.List s e = refl
-list_told role.Scalar None e = cc
-list_told role.Scalar (Some s) e = cc
-list_told role.Counter s e = cc
+put_is_list : (r : Role) (s : Option Scalar) → value_in r s ≡ Some EmptyList → is_list_role r ≡ true
+put_is_list role.Through s e = cc
+put_is_list role.Map s e = cc
+put_is_list role.List s e = refl
+put_is_list role.Scalar None e = cc
+put_is_list role.Scalar (Some s) e = cc
+put_is_list role.Counter s e = cc
 
-list_tells : (r : Role) (s : Option Scalar) → is_list_role r ≡ true → value_in r s ≡ Some EmptyList
-list_tells role.Through s e = absurd (true≢false (sym e))
-list_tells role.Map s e = absurd (true≢false (sym e))
-list_tells role.List s e = refl
-list_tells role.Scalar s e = absurd (true≢false (sym e))
-list_tells role.Counter s e = absurd (true≢false (sym e))
+list_is_put : (r : Role) (s : Option Scalar) → is_list_role r ≡ true → value_in r s ≡ Some EmptyList
+list_is_put role.Through s e = absurd (true≢false (sym e))
+list_is_put role.Map s e = absurd (true≢false (sym e))
+list_is_put role.List s e = refl
+list_is_put role.Scalar s e = absurd (true≢false (sym e))
+list_is_put role.Counter s e = absurd (true≢false (sym e))
 
 puts_decides : (tree : List Node × Option Scalar) (p : List Tagged) (k : Key) (roles : List (Id × Role)) → AreRoles tree p k roles
     → (test : Role → Bool) (v : Val) → ((r : Role) (s : Option Scalar) → test r ≡ true → value_in r s ≡ Some v)
     → ((r : Role) (s : Option Scalar) → value_in r s ≡ Some v → test r ≡ true)
     → Decides (list_any (λ (e : Id × Role). test e.1) roles) (IsPut (tree_facts tree) (tree_values tree) p k v)
-puts_decides tree p k roles are test v tells told = (
+puts_decides tree p k roles are test v puts is_put = (
   λ h. let e = any_from (λ (e : Id × Role). test e.1) roles h in
-      (e.0.0, present_from are e.0 e.1, ap (seen e.0.0) (role_of are e.0 e.1) ∙ tells e.0.1 (entry e.0.0) e.2),
+      (e.0.0, present_from are e.0 e.1, ap (seen e.0.0) (role_of are e.0 e.1) ∙ puts e.0.1 (entry e.0.0) e.2),
   λ put. let e = entry_from are put.0 put.1 in
       any_at (λ (e : Id × Role). test e.1) roles e.1
-      (told e.0 (entry put.0) (sym (ap (seen put.0) (role_of are (put.0, e.0) e.1)) ∙ put.2)),
+      (is_put e.0 (entry put.0) (sym (ap (seen put.0) (role_of are (put.0, e.0) e.1)) ∙ put.2)),
 )
   where
     entry : Id → Option Scalar
@@ -80,11 +81,11 @@ puts_decides tree p k roles are test v tells told = (
 
 pub puts_map_decides : (tree : List Node × Option Scalar) (p : List Tagged) (k : Key) (roles : List (Id × Role)) → AreRoles tree p k roles
     → Decides (list_any (λ (e : Id × Role). is_map e.1) roles) (IsPut (tree_facts tree) (tree_values tree) p k EmptyMap)
-puts_map_decides tree p k roles are = puts_decides tree p k roles are is_map EmptyMap map_tells map_told
+puts_map_decides tree p k roles are = puts_decides tree p k roles are is_map EmptyMap map_is_put put_is_map
 
 pub puts_list_decides : (tree : List Node × Option Scalar) (p : List Tagged) (k : Key) (roles : List (Id × Role)) → AreRoles tree p k roles
     → Decides (list_any (λ (e : Id × Role). is_list_role e.1) roles) (IsPut (tree_facts tree) (tree_values tree) p k EmptyList)
-puts_list_decides tree p k roles are = puts_decides tree p k roles are is_list_role EmptyList list_tells list_told
+puts_list_decides tree p k roles are = puts_decides tree p k roles are is_list_role EmptyList list_is_put put_is_list
 
 -- ---- fields
 

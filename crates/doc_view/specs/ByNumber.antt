@@ -19,19 +19,23 @@ AtNode tree n holds = (p : List Tagged) (k : Key) → tree_number tree p k ≡ S
 abbrev pub IsTextAt : List Node × Option Scalar → List Tagged → Key → NodeNumber → Type 0
 IsTextAt tree map k n = (text : List ℕ) → k ≡ Text text → tree_number tree map (Text text) ≡ Some n
 
--- so it is with each of these children
+-- each of these children that is a text has its node in the map
 abbrev pub AreIn : List Node × Option Scalar → List Tagged → List (Key × NodeNumber) → Type 0
-AreIn tree map children = (text : List ℕ) (n : NodeNumber) → Contains children (Text text, n) → tree_number tree map (Text text) ≡ Some n
+AreIn tree map children =
+    (text : List ℕ) (n : NodeNumber) → Contains children (Text text, n) → tree_number tree map (Text text) ≡ Some n
 
 -- the present ones of these elements of a list, each with its scalars
 abbrev pub HasItems : Facts → List Tagged → List Id → List (Id × List Scalar) → Type 0
-HasItems f list ids items = (kept : List Id) × AreThose (λ i. IsPresent f list (Element i)) ids kept × HaveValues f list kept items
+HasItems f list ids items =
+    (kept : List Id) × AreThose (λ i. IsPresent f list (Element i)) ids kept × HaveValues f list kept items
 
 -- the node of an element of the list to which the path leads, if it is present
 abbrev pub IsElementAt : List Node × Option Scalar → List Tagged → Id → Option NodeNumber → Type 0
 IsElementAt tree list i None = ¬ (IsPresent (tree_facts tree) list (Element i))
-IsElementAt tree list i (Some n) = (tree_number tree list (Element i) ≡ Some n) × IsPresent (tree_facts tree) list (Element i)
+IsElementAt tree list i (Some n) =
+    (tree_number tree list (Element i) ≡ Some n) × IsPresent (tree_facts tree) list (Element i)
 
 -- what is shown at the present ones of these elements of a list
 abbrev pub ShowsThose : List Node × Option Scalar → List Tagged → List Id → List Data → Type 0
-ShowsThose tree list ids ds = (kept : List Id) × AreThose (λ i. IsPresent (tree_facts tree) list (Element i)) ids kept × AreShown tree list kept ds
+ShowsThose tree list ids ds =
+    (kept : List Id) × AreThose (λ i. IsPresent (tree_facts tree) list (Element i)) ids kept × AreShown tree list kept ds

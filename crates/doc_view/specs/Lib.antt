@@ -3,4 +3,4 @@ pub mod TreeValues
 pub mod Members
 pub mod Showing
 pub mod ByNumber
-pub mod Telling
+pub mod Writing

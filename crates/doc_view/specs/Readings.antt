@@ -4,7 +4,7 @@ use Rattle.doc_words.specs.Words.{Refusal, NoMemory, Cursor, Key, Tagged}
 use Rattle.json_scalar.specs.declared.refusal.Refusal.TheVariants.{AtHead}
 use Rattle.op_core.specs.Shape.{is_head}
 
--- something of which this holds, or memory is wanting
+-- something of which this holds, or it is out of memory
 abbrev pub GivesUnlessMemory : {X : Type 0} → (X → Type 0) → Result X Refusal → Type 0
 GivesUnlessMemory holds r = MatchResult r holds (λ e. e ≡ NoMemory)
 

@@ -1,4 +1,4 @@
--- What the parts of a shown element stand for, and their JSON.
+-- What the parts of a shown element mean, and their JSON.
 use Rattle.std.specs.Prelude.{◌≡◌, ℕ, List, [], ◌∷◌, map, Bool, true, false, Option}
 use Rattle.serde_json.specs.Data.{Data, string}
 use Rattle.doc_words.specs.Words.{Id, Scalar, Key, Tagged}
@@ -20,12 +20,6 @@ is_map _ = false
 abbrev pub is_list_role : Role → Bool
 is_list_role role.List = true
 is_list_role _ = false
-
--- a branch stands there if it has a part, or is put there
-abbrev pub branch_of : List ℕ → Bool → List Data → List Data
-branch_of tag false [] = []
-branch_of tag true [] = list_data (string tag ∷ list_data [] ∷ []) ∷ []
-branch_of tag put (d ∷ ds) = list_data (string tag ∷ list_data (d ∷ ds) ∷ []) ∷ []
 
 -- a text and what is shown under it
 abbrev pub field_data : List ℕ × Shown → Data

@@ -1,4 +1,4 @@
--- The values that the roles and registers of a tree tell.
+-- The values that the roles and registers of a tree give.
 use Rattle.std.specs.Prelude.{List, [], ◌∷◌, Option, Some, None, option_and_then}
 use Rattle.doc_words.specs.Words.{Id, Scalar, Val}
 use Rattle.doc_words.specs.declared.role.Role.{Role}
@@ -10,7 +10,8 @@ use Rattle.doc_rules.specs.Role.{value_in}
 
 -- what the operation of each id put at each place
 abbrev pub tree_values : List Node × Option Scalar → Values
-tree_values tree p k i = option_and_then (λ role. value_in role ((tree_facts tree).register p k i)) (tree_role tree p k i)
+tree_values tree p k i =
+    option_and_then (λ role. value_in role ((tree_facts tree).register p k i)) (tree_role tree p k i)
 
 -- the pair of an id and its value, if it has one
 abbrev pub with_value : Id → Option Val → List (Id × Val) → List (Id × Val)
@@ -18,6 +19,6 @@ with_value i None values = values
 with_value i (Some value) values = (i, value) ∷ values
 
 -- the ids of these roles that put a value, each with that value
-abbrev pub values_told : List (Id × Scalar) → List (Id × Role) → List (Id × Val)
-values_told scalars [] = []
-values_told scalars (e ∷ roles) = with_value e.0 (value_in e.1 (get scalars e.0)) (values_told scalars roles)
+abbrev pub values_of_roles : List (Id × Scalar) → List (Id × Role) → List (Id × Val)
+values_of_roles scalars [] = []
+values_of_roles scalars (e ∷ roles) = with_value e.0 (value_in e.1 (get scalars e.0)) (values_of_roles scalars roles)

@@ -16,8 +16,8 @@ use lamport_id::Id;
 use op_core::{Cursor, Key};
 use std::alloc::Global;
 
-/// The present elements of the list at a cursor in list order, each with the scalars of its register in the order of
-/// their ids. `AtHead` where the cursor stands at a head.
+/// The present elements of the list at a cursor in list order, each with the scalars of its
+/// register in the order of their ids. `AtHead` where the cursor is at a head.
 pub fn items(alloc: Global, tree: &Tree, cursor: &Cursor) -> Result<Items, Refusal>
     ensures { ReadsUnlessMemory (AreItems (tree_facts tree.now)) cursor.now result }
 {
@@ -31,14 +31,16 @@ pub fn items(alloc: Global, tree: &Tree, cursor: &Cursor) -> Result<Items, Refus
 }
 
 fn items_below(alloc: Global, tree: &Tree, at: NodeNumber) -> Result<Items, Refusal>
-    ensures { GivesUnlessMemory (λ items. AtNode tree.now at (λ p k. AreItems (tree_facts tree.now) p k items)) result }
+    ensures { GivesUnlessMemory (λ items. AtNode tree.now at
+        (λ p k. AreItems (tree_facts tree.now) p k items)) result }
 {
     let ids = tree.elements_of(alloc, at)?;
     items_of(alloc, tree, at, ids.as_slice())
 }
 
 fn items_of(alloc: Global, tree: &Tree, list: NodeNumber, ids: &[Id]) -> Result<Items, Refusal>
-    ensures { GivesUnlessMemory (λ items. AtNode tree.now list (λ p k. HasItems (tree_facts tree.now) (reads.into_list p k) ids.now items)) result }
+    ensures { GivesUnlessMemory (λ items. AtNode tree.now list
+        (λ p k. HasItems (tree_facts tree.now) (reads.into_list p k) ids.now items)) result }
 {
     let mut items = Vec::new(alloc);
     let mut spot = Spot::first();
@@ -57,7 +59,9 @@ fn push_item(
     id: &Id,
     spot: &mut Spot,
 ) -> Result<(), Refusal>
-    ensures { GivesUnlessMemory (λ _. Adds (λ added. AtNode tree.now list (λ p k. HasItems (tree_facts tree.now) (reads.into_list p k) (id.now ∷ []) added)) items.old.items items.new.items) result }
+    ensures { GivesUnlessMemory (λ _. Adds (λ added. AtNode tree.now list
+        (λ p k. HasItems (tree_facts tree.now) (reads.into_list p k) (id.now ∷ []) added))
+        items.old.items items.new.items) result }
 {
     if let Some(at) = present_element(tree, list, id, spot) {
         let scalars = values_below(alloc, tree, at)?;
@@ -66,8 +70,8 @@ fn push_item(
     Ok(())
 }
 
-/// The number of the node of an element of the list at a node, if the element is present. The spot is that of the element
-/// that was asked for before.
+/// The node of an element of the list at a node, if the element is present. The spot is that of the
+/// element that was asked for before.
 pub fn present_element(
     tree: &Tree,
     list: NodeNumber,
@@ -79,12 +83,12 @@ pub fn present_element(
 {
     match tree.child_by(list, &Key::Element(*id), spot) {
         None => None,
-        Some(at) => { if is_here(tree, at) { Some(at) } else { None } }
+        Some(at) => { if is_present(tree, at) { Some(at) } else { None } }
     }
 }
 
 /// Some id makes the place of a node present.
-pub fn is_here(tree: &Tree, at: NodeNumber) -> bool
+pub fn is_present(tree: &Tree, at: NodeNumber) -> bool
     ensures { AtNode tree.now at (λ p k. Decides result (IsPresent (tree_facts tree.now) p k)) }
 {
     !tree.presence_of(at).is_empty()

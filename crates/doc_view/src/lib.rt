@@ -1,19 +1,19 @@
-//! Reads of a document's tree: where cursors lead, and what stands there.
+//! Reads of a document's tree: where cursors lead, and what is there.
 #![tactic(auto)]
 
+mod arrays;
+mod branches;
+mod cursors;
 mod elements;
+mod json_parts;
 mod maps;
 mod registers;
-mod resolving;
 mod roles;
-mod shown;
-mod told;
-mod written;
 
+pub use arrays::{items_text, keys_text};
+pub use branches::show;
+pub use cursors::resolve;
 pub use elements::items;
 pub use maps::keys;
 pub use registers::{sum, values};
-pub use resolving::resolve;
 pub use roles::conflicts;
-pub use shown::show;
-pub use told::{items_text, keys_text};

@@ -9,14 +9,15 @@ ghost use Rattle.doc_view.specs.ByNumber.{AreIn, IsTextAt};
 ghost use Rattle.doc_view.specs.Members.{Adds, listed, texts_at, texts_in};
 ghost use Rattle.doc_view.specs.Readings.{GivesUnlessMemory, ReadsUnlessMemory};
 
-use crate::elements::is_here;
+use crate::elements::is_present;
 use doc_tree::{EachChild, NodeNumber, Tree};
 use doc_words::Texts;
 use json_scalar::Refusal;
 use op_core::{Cursor, Key, KeyText};
 use std::alloc::Global;
 
-/// The texts of the present members of the map at a cursor, in byte order. `AtHead` where the cursor stands at a head.
+/// The texts of the present members of the map at a cursor, in byte order. `AtHead` where the
+/// cursor is at a head.
 pub fn keys(alloc: Global, tree: &Tree, cursor: &Cursor) -> Result<Texts, Refusal>
     ensures { ReadsUnlessMemory (AreKeys (tree_facts tree.now)) cursor.now result }
 {
@@ -41,11 +42,18 @@ fn present_texts(alloc: Global, tree: &Tree, children: EachChild<'_>) -> Result<
 /// The text of a child of a map, if it is a text and present.
 pub fn present_text<'a>(tree: &Tree, key: &'a Key, at: NodeNumber) -> Option<&'a KeyText>
     ensures { (map : List Tagged) → IsTextAt tree.now map key.now at
-        → AreThose (λ t. IsPresent (tree_facts tree.now) map (Text t)) (texts_at key.now) (listed (option_map (λ text. text.now) result)) }
+        → AreThose (λ t. IsPresent (tree_facts tree.now) map (Text t)) (texts_at key.now)
+        (listed (option_map (λ text. text.now) result)) }
 {
     match key {
         Key::Doc => None,
-        Key::Text(text) => { if is_here(tree, at) { Some(text) } else { None } }
+        Key::Text(text) => {
+            if is_present(tree, at) {
+                Some(text)
+            } else {
+                None
+            }
+        }
         Key::Element(_) => None,
         Key::Head => None,
     }
@@ -59,7 +67,8 @@ fn push_text(
     at: NodeNumber,
 ) -> Result<(), Refusal>
     ensures { GivesUnlessMemory (λ _. Adds (λ added. (map : List Tagged) → IsTextAt tree.now map key.now at
-        → AreThose (λ t. IsPresent (tree_facts tree.now) map (Text t)) (texts_at key.now) added) texts.old.items texts.new.items) result }
+        → AreThose (λ t. IsPresent (tree_facts tree.now) map (Text t)) (texts_at key.now) added)
+        texts.old.items texts.new.items) result }
 {
     if let Some(text) = present_text(tree, key, at) {
         texts.push(text.try_clone()?)?;

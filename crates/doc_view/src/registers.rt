@@ -1,4 +1,4 @@
-//! What stands in a register and in a counter.
+//! The values of a register and of a counter.
 ghost use Rattle.std.specs.Prelude.{◌≡◌, ◌≢◌, map, Err};
 ghost use Rattle.json_scalar.specs.declared.refusal.Refusal.TheVariants.{NoMemory};
 ghost use Rattle.doc_tree.specs.Nodes.{tree_facts};
@@ -13,7 +13,8 @@ use lamport_id::Id;
 use op_core::{Cursor, Key, Path};
 use std::alloc::Global;
 
-/// The scalars of the register at a cursor, in the order of their ids. `AtHead` where the cursor stands at a head.
+/// The scalars of the register at a cursor, in the order of their ids. `AtHead` where the cursor is
+/// at a head.
 pub fn values(alloc: Global, tree: &Tree, cursor: &Cursor) -> Result<Scalars, Refusal>
     ensures { ReadsUnlessMemory (AreValues (tree_facts tree.now)) cursor.now result }
 {
@@ -25,7 +26,8 @@ pub fn values(alloc: Global, tree: &Tree, cursor: &Cursor) -> Result<Scalars, Re
 
 /// The scalars of the register of a node.
 pub fn values_below(alloc: Global, tree: &Tree, at: NodeNumber) -> Result<Scalars, Refusal>
-    ensures { GivesUnlessMemory (λ scalars. AtNode tree.now at (λ p k. AreValues (tree_facts tree.now) p k scalars)) result }
+    ensures { GivesUnlessMemory (λ scalars. AtNode tree.now at
+        (λ p k. AreValues (tree_facts tree.now) p k scalars)) result }
 {
     scalars_of(alloc, tree.register_of(at))
 }
@@ -41,8 +43,8 @@ fn scalars_of(alloc: Global, entries: &[(Id, Scalar)]) -> Result<Scalars, Refusa
     Ok(Scalars::from(scalars))
 }
 
-/// The total of the numbers of the counter at a cursor. `AtHead` where the cursor stands at a head; it takes no memory, and
-/// never tells that memory is wanting.
+/// The total of the numbers of the counter at a cursor. `AtHead` where the cursor is at a head. It
+/// takes no memory, and is never `NoMemory`.
 pub fn sum(tree: &Tree, cursor: &Cursor) -> Result<i128, Refusal>
     ensures reading { ReadsUnlessMemory (IsSum (tree_facts tree.now)) cursor.now result }
     ensures memory { result ≢ Err NoMemory }

@@ -8,7 +8,7 @@ ghost use Rattle.doc_rules.specs.Role.{value_in};
 ghost use Rattle.doc_view.specs.Readings.{GivesUnlessMemory, ReadsUnlessMemory};
 ghost use Rattle.std.specs.List.{list_any};
 ghost use Rattle.doc_view.specs.Showing as showing;
-ghost use Rattle.doc_view.specs.TreeValues.{tree_values, values_told, with_value};
+ghost use Rattle.doc_view.specs.TreeValues.{tree_values, values_of_roles, with_value};
 
 use doc_tree::{Entries, Tree};
 use doc_words::{Conflicts, Role};
@@ -17,8 +17,8 @@ use lamport_id::Id;
 use op_core::Cursor;
 use std::alloc::Global;
 
-/// The ids whose operations put a value at the very place of a cursor and are not covered since, in id order, each with
-/// that value. `AtHead` where the cursor stands at a head.
+/// The ids whose operations put a value at the very place of a cursor and are not covered since, in
+/// id order, each with that value. `AtHead` where the cursor is at a head.
 pub fn conflicts(alloc: Global, tree: &Tree, cursor: &Cursor) -> Result<Conflicts, Refusal>
     ensures { ReadsUnlessMemory (AreConflicts (tree_facts tree.now) (tree_values tree.now)) cursor.now result }
 {
@@ -26,15 +26,15 @@ pub fn conflicts(alloc: Global, tree: &Tree, cursor: &Cursor) -> Result<Conflict
         return Err(Refusal::AtHead);
     }
     let roles = tree.present(&cursor.path, &cursor.key);
-    values_told(alloc, roles, tree.register(&cursor.path, &cursor.key))
+    values_of_roles(alloc, roles, tree.register(&cursor.path, &cursor.key))
 }
 
-fn values_told(
+fn values_of_roles(
     alloc: Global,
     roles: Entries<'_, Role>,
     scalars: &[(Id, Scalar)],
 ) -> Result<Conflicts, Refusal>
-    ensures { GivesUnlessMemory (λ values. values ≡ values_told scalars.now roles.entry) result }
+    ensures { GivesUnlessMemory (λ values. values ≡ values_of_roles scalars.now roles.entry) result }
 {
     let mut values = Vec::new(alloc);
     for entry in roles {
@@ -48,28 +48,29 @@ fn push_value(
     entry: &(Id, Role),
     scalars: &[(Id, Scalar)],
 ) -> Result<(), Refusal>
-    ensures { GivesUnlessMemory (λ _. values.new.items ≡ values.old.items ++ with_value entry.now.0 (value_in entry.now.1 (get scalars.now entry.now.0)) []) result }
+    ensures { GivesUnlessMemory (λ _. values.new.items ≡ values.old.items
+        ++ with_value entry.now.0 (value_in entry.now.1 (get scalars.now entry.now.0)) []) result }
 {
-    if let Some(value) = value_told(&entry.1, &entry.0, scalars)? {
+    if let Some(value) = value_of_role(&entry.1, &entry.0, scalars)? {
         values.push((entry.0, value))?;
     }
     Ok(())
 }
 
 /// The value that the operation of an id put where it has this role.
-fn value_told(role: &Role, id: &Id, scalars: &[(Id, Scalar)]) -> Result<Option<Val>, Refusal>
+fn value_of_role(role: &Role, id: &Id, scalars: &[(Id, Scalar)]) -> Result<Option<Val>, Refusal>
     ensures { GivesUnlessMemory (λ value. value ≡ value_in role.now (get scalars.now id.now)) result }
 {
     match role {
         Role::Through => Ok(None),
         Role::Map => Ok(Some(Val::EmptyMap)),
         Role::List => Ok(Some(Val::EmptyList)),
-        Role::Scalar => scalar_told(id, scalars),
+        Role::Scalar => scalar_of_id(id, scalars),
         Role::Counter => Ok(None),
     }
 }
 
-fn scalar_told(id: &Id, scalars: &[(Id, Scalar)]) -> Result<Option<Val>, Refusal>
+fn scalar_of_id(id: &Id, scalars: &[(Id, Scalar)]) -> Result<Option<Val>, Refusal>
     ensures { GivesUnlessMemory (λ value. value ≡ option_map Plain (get scalars.now id.now)) result }
 {
     for entry in scalars {

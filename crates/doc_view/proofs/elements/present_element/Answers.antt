@@ -9,12 +9,12 @@ returns-in-None-clause-value c = λ p k at.
     absent_place c.args.tree.now (into_list p k) (Element c.args.id.now)
     (element_number c.args.tree.now p k c.args.list at c.args.id.now ∙ sym c.child_by.ensures.value ∙ c.in-None.is)
 
-pub returns-then-is_here-clause-value : goal.returns-then-is_here-clause-value
-returns-then-is_here-clause-value c = λ p k at.
+pub returns-then-is_present-clause-value : goal.returns-then-is_present-clause-value
+returns-then-is_present-clause-value c = λ p k at.
     let place = element_number c.args.tree.now p k c.args.list at c.args.id.now ∙ sym c.child_by.ensures.value ∙ c.in-Some.is in
-    (place, (c.is_here.ensures (into_list p k) (Element c.args.id.now) place).0 c.if-is_here.true)
+    (place, (c.is_present.ensures (into_list p k) (Element c.args.id.now) place).0 c.if-is_present.true)
 
 pub returns-clause-value : goal.returns-clause-value
 returns-clause-value c = λ p k at.
     let place = element_number c.args.tree.now p k c.args.list at c.args.id.now ∙ sym c.child_by.ensures.value ∙ c.in-Some.is in
-    λ here. true≢false (sym ((c.is_here.ensures (into_list p k) (Element c.args.id.now) place).1 here) ∙ c.if-is_here.false)
+    λ here. true≢false (sym ((c.is_present.ensures (into_list p k) (Element c.args.id.now) place).1 here) ∙ c.if-is_present.false)

@@ -1,8 +1,0 @@
-use Rattle.std.proofs.Common.{◌≡◌, take, drop, []}
-use Rattle.doc_tree.specs.Nodes.{tree_facts}
-use Rattle.doc_rules.specs.Resolve.{path_exists}
-use Rattle.doc_view.proofs.resolving.all_stand.Given as goal
-
-abbrev pub invariant-loop-depth : goal.invariant-loop-depth
-invariant-loop-depth l =
-    path_exists (tree_facts l.tree) [] l.path l.key ≡ path_exists (tree_facts l.tree) (take l.depth l.path) (drop l.depth l.path) l.key

@@ -1,4 +1,0 @@
-use Rattle.doc_view.proofs.resolving.stands_in.Goals as goal
-
-pub returns-in-Element : goal.returns-in-Element
-returns-in-Element c = rw c.in-Element.is c.has_element.ensures

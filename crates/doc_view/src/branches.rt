@@ -1,0 +1,221 @@
+//! All that is at a place and below it, as JSON branches.
+ghost use Rattle.std.specs.Prelude.{◌≡◌, ◌<◌, ◌∷◌, [], List, length, Contains, codes};
+ghost use Rattle.serde_json.specs.Data.{Data, string};
+ghost use Rattle.doc_words.specs.Words.{Key, Tagged};
+ghost use Rattle.op_core.specs.Wire.{list_data};
+ghost use Rattle.doc_nodes.specs.declared.node.NodeNumber.{NodeNumber};
+ghost use Rattle.doc_nodes.specs.KeyOrder.{IsInKeyOrder};
+ghost use Rattle.doc_nodes.specs.Nodes.{node_of};
+ghost use Rattle.doc_tree.specs.Nodes.{tree_facts};
+ghost use Rattle.doc_rules.specs.Views.{into_list, into_map};
+ghost use Rattle.doc_rules.specs.Shown.{ShowsText};
+ghost use Rattle.doc_view.specs.ByNumber.{AtNode, IsTextAt, ShowsThose};
+ghost use Rattle.doc_view.specs.Members.{texts_at, texts_in};
+ghost use Rattle.doc_view.specs.Readings.{GivesUnlessMemory, ReadsUnlessMemory};
+ghost use Rattle.doc_view.specs.Showing.{AreFields, IsListShown, IsMapShown, IsShown};
+ghost use Rattle.doc_view.specs.Writing.{WritesEach, WritesOne, WritesParts};
+ghost use Rattle.doc_view.specs.TreeValues.{tree_values};
+ghost use Rattle.json_text.specs.Tokens.{data_tokens};
+
+use crate::elements::present_element;
+use crate::json_parts::{begin_branch, end_branch, write_values};
+use crate::maps::present_text;
+use crate::roles::{puts_list, puts_map};
+use doc_tree::{EachChild, NodeNumber, Spot, Tree};
+use doc_words::CompactText;
+use json_scalar::Refusal;
+use json_text::JsonText;
+use lamport_id::Id;
+use op_core::{Cursor, Key, KeyText, Path};
+use std::alloc::Global;
+
+/// The compact JSON text of all that is at a cursor and below it: an array of its branches.
+/// `AtHead` where the cursor is at a head.
+pub fn show(alloc: Global, tree: &Tree, cursor: &Cursor) -> Result<CompactText, Refusal>
+    ensures { ReadsUnlessMemory (ShowsText (tree_facts tree.now) (tree_values tree.now)) cursor.now result }
+{
+    if cursor.key.is_head() {
+        return Err(Refusal::AtHead);
+    }
+    let mut text = JsonText::new(alloc);
+    write_place(alloc, &mut text, tree, &cursor.path, &cursor.key)?;
+    Ok(CompactText::from(text.into_string()))
+}
+
+fn write_place(
+    alloc: Global,
+    text: &mut JsonText,
+    tree: &Tree,
+    path: &Path,
+    key: &Key,
+) -> Result<(), Refusal>
+    ensures { GivesUnlessMemory (λ _. WritesOne (IsShown tree.now path.now key.now) text.old text.new) result }
+{
+    match tree.node_at(path, key) {
+        None => text.empty_list(),
+        Some(at) => write_node(alloc, text, tree, at),
+    }
+}
+
+// The numbers of the nodes rise on the way down, so it ends.
+#[cycle(node)]
+fn write_node(
+    alloc: Global,
+    text: &mut JsonText,
+    tree: &Tree,
+    at: NodeNumber,
+) -> Result<(), Refusal>
+    ensures { GivesUnlessMemory (λ _. WritesOne (λ d. AtNode tree.now at
+        (λ p k. IsShown tree.now p k d)) text.old text.new) result }
+{
+    text.begin_list()?;
+    write_map(alloc, text, tree, at)?;
+    write_list(alloc, text, tree, at)?;
+    write_values(text, tree.register_of(at), tree.counter_of(at))?;
+    text.end_list()
+}
+
+/// The branch of the map at a node.
+#[cycle(node)]
+fn write_map(alloc: Global, text: &mut JsonText, tree: &Tree, at: NodeNumber) -> Result<(), Refusal>
+    ensures { GivesUnlessMemory (λ _. WritesEach (λ ds. AtNode tree.now at
+        (λ p k. IsMapShown tree.now p k ds)) text.old text.new) result }
+{
+    let is_put = puts_map(tree.presence_of(at));
+    begin_branch(text, "map", is_put)?;
+    let is_begun = write_fields(alloc, text, tree, at, tree.children_of(at), is_put)?;
+    end_branch(text, is_begun)
+}
+
+/// The fields of a map's branch, and whether it is begun then.
+#[cycle(node)]
+fn write_fields(
+    alloc: Global,
+    text: &mut JsonText,
+    tree: &Tree,
+    at: NodeNumber,
+    children: EachChild<'_>,
+    was_begun: bool,
+) -> Result<bool, Refusal>
+    requires these { children ≡ (node_of tree.now.0 at).children }
+    requires rising { IsInKeyOrder children }
+    requires deeper { (k : Key) (n : NodeNumber) → Contains children (k, n)
+        → (at.0 < n.0) × (n.0 < length tree.now.0) }
+    ensures { GivesUnlessMemory (λ is_begun. WritesParts (codes "map") was_begun
+        (λ ds. AtNode tree.now at (λ p k. AreFields tree.now (into_map p k) (texts_in children.entry) ds))
+        text.old text.new is_begun) result }
+{
+    let mut is_begun = was_begun;
+    for child in children {
+        is_begun = write_field(alloc, text, tree, &child.0, child.1, is_begun)?;
+    }
+    Ok(is_begun)
+}
+
+/// A text and what is shown under it, if the key is a text and present.
+#[cycle(node)]
+fn write_field(
+    alloc: Global,
+    text: &mut JsonText,
+    tree: &Tree,
+    key: &Key,
+    at: NodeNumber,
+    was_begun: bool,
+) -> Result<bool, Refusal>
+    ensures { GivesUnlessMemory (λ is_begun. WritesParts (codes "map") was_begun
+        (λ ds. (map : List Tagged) → IsTextAt tree.now map key.now at → AreFields tree.now map (texts_at key.now) ds)
+        text.old text.new is_begun) result }
+{
+    match present_text(tree, key, at) {
+        None => Ok(was_begun),
+        Some(name) => {
+            begin_branch(text, "map", !was_begun)?;
+            write_named_node(alloc, text, tree, name, at)?;
+            Ok(true)
+        }
+    }
+}
+
+/// A name and what is shown at a node.
+#[cycle(node)]
+fn write_named_node(
+    alloc: Global,
+    text: &mut JsonText,
+    tree: &Tree,
+    name: &KeyText,
+    at: NodeNumber,
+) -> Result<(), Refusal>
+    ensures { GivesUnlessMemory (λ _. WritesOne (λ field. (d : Data)
+        × AtNode tree.now at (λ p k. IsShown tree.now p k d)
+        × (field ≡ list_data (string name.now ∷ d ∷ []))) text.old text.new) result }
+{
+    text.begin_list()?;
+    text.text(name.as_str())?;
+    write_node(alloc, text, tree, at)?;
+    text.end_list()
+}
+
+/// The branch of the list at a node.
+#[cycle(node)]
+fn write_list(
+    alloc: Global,
+    text: &mut JsonText,
+    tree: &Tree,
+    at: NodeNumber,
+) -> Result<(), Refusal>
+    ensures { GivesUnlessMemory (λ _. WritesEach (λ ds. AtNode tree.now at
+        (λ p k. IsListShown tree.now p k ds)) text.old text.new) result }
+{
+    let is_put = puts_list(tree.presence_of(at));
+    begin_branch(text, "list", is_put)?;
+    let ids = tree.elements_of(alloc, at)?;
+    let is_begun = write_elements(alloc, text, tree, at, ids.as_slice(), is_put)?;
+    end_branch(text, is_begun)
+}
+
+/// The elements of a list's branch, and whether it is begun then.
+#[cycle(node)]
+fn write_elements(
+    alloc: Global,
+    text: &mut JsonText,
+    tree: &Tree,
+    list: NodeNumber,
+    ids: &[Id],
+    was_begun: bool,
+) -> Result<bool, Refusal>
+    ensures { GivesUnlessMemory (λ is_begun. WritesParts (codes "list") was_begun
+        (λ ds. AtNode tree.now list (λ p k. ShowsThose tree.now (into_list p k) ids.now ds))
+        text.old text.new is_begun) result }
+{
+    let mut is_begun = was_begun;
+    let mut spot = Spot::first();
+    for id in ids {
+        is_begun = write_element(alloc, text, tree, list, id, &mut spot, is_begun)?;
+    }
+    Ok(is_begun)
+}
+
+/// What is shown at an element of the list at a node, if it is present.
+#[cycle(node)]
+fn write_element(
+    alloc: Global,
+    text: &mut JsonText,
+    tree: &Tree,
+    list: NodeNumber,
+    id: &Id,
+    spot: &mut Spot,
+    was_begun: bool,
+) -> Result<bool, Refusal>
+    ensures { GivesUnlessMemory (λ is_begun. WritesParts (codes "list") was_begun
+        (λ ds. AtNode tree.now list (λ p k. ShowsThose tree.now (into_list p k) (id.now ∷ []) ds))
+        text.old text.new is_begun) result }
+{
+    match present_element(tree, list, id, spot) {
+        None => Ok(was_begun),
+        Some(at) => {
+            begin_branch(text, "list", !was_begun)?;
+            write_node(alloc, text, tree, at)?;
+            Ok(true)
+        }
+    }
+}
