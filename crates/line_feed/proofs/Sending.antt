@@ -17,7 +17,8 @@ slice_grows bytes from at n p q =
     let whole : (at - from) + n ≡ (at + n) - from = omega arith in
     ap (λ l. slice_range bytes from at ++ l) more ∙ sym (take-add (at - from) n (drop from bytes)) ∙ ap (λ k. take k (drop from bytes)) whole
 
--- Where a sink took a part of what was kept, and the last byte of that is dropped, all that was taken has lost its last.
+-- Where a sink took a part of what was kept, and the last byte of that is dropped, all that was taken has
+-- lost its last.
 pub lost_last : (a b : Option (List ℕ)) (kept left : List ℕ) (last : Option ℕ) (from to : ℕ) → Appends a b (slice_range kept from to)
     → from ≤ to → to < length kept → kept ≡ left ++ option_to_list last → IsSome last
     → LosesLast (option_map (λ taken. taken ++ drop from kept) a) (option_map (λ taken. taken ++ drop to left) b)

@@ -7,7 +7,7 @@ use crate::DeviceFault;
 use crate::sink::{Sink, Unbuffered};
 use std::alloc::Global;
 
-/// Bytes for which an outbox has room.
+// Bytes for which an outbox has room.
 const OUTBOX_ROOM: usize = 16_384;
 
 /// A buffered sink over another one: it keeps what it takes, as far as it has room, until it is flushed. Bytes for

@@ -8,7 +8,7 @@ ghost use Rattle.list_order.specs.Marks as Spec;
 use crate::slots::{Slot, SlotNumber, slot_at};
 use lamport_id::Id;
 
-/// How many slots a block has at least when it is closed.
+// How many slots a block has at least when it is closed.
 const LEAST_BLOCK: usize = 64;
 
 /// Whether the id of a slot is present, and the block that the slot is in.
@@ -42,7 +42,7 @@ pub fn set_mark(marks: &mut Vec<Mark>, n: SlotNumber, is_present: bool)
     marks[n.0].is_present = is_present;
 }
 
-/// The block that a slot is in, or the first.
+// The block that a slot is in, or the first.
 fn block_behind(marks: &[Mark], previous: Option<SlotNumber>) -> usize
     requires { ForSome previous (λ p. p.0 < length marks.now) }
     ensures { result ≡ Spec.block_behind marks.now previous }
@@ -74,7 +74,7 @@ pub fn add_mark(marks: &mut Vec<Mark>, previous: Option<SlotNumber>)
     }
 }
 
-/// 1 for what is so.
+// 1 for what is so.
 fn bit(is: bool) -> usize
     ensures { result ≡ bit is }
 {
@@ -102,14 +102,14 @@ pub fn move_count(blocks: &mut Vec<MarkBlock>, k: usize, was: bool, is: bool)
     }
 }
 
-/// Whether the wanted id is reached.
+// Whether the wanted id is reached.
 fn is_due(is_present: bool, left: usize) -> bool
     ensures { result ≡ (is_present && nat_eq left 0) }
 {
     is_present && left == 0
 }
 
-/// The i-th present id from a slot on.
+// The i-th present id from a slot on.
 fn nth_from(slots: &[Slot], marks: &[Mark], start: Option<SlotNumber>, i: usize) -> Option<Id>
     requires walk { LinksEnd slots.now start }
     requires marked { length marks.now ≡ length slots.now }
@@ -154,14 +154,14 @@ pub fn nth_along(
     nth_from(slots, marks, at, left)
 }
 
-/// The slots behind the blocks that are cut so far.
+// The slots behind the blocks that are cut so far.
 #[derive(Clone, Copy)]
 struct Open {
     len: usize,
     present: usize,
 }
 
-/// Puts a slot into a block. The answer is whether its id is present.
+// Puts a slot into a block. The answer is whether its id is present.
 fn set_block(marks: &mut Vec<Mark>, n: SlotNumber, block: usize) -> bool
     requires { n.0 < length marks.old.items }
     ensures items { marks.new.items ≡ set_block marks.old.items n block }
@@ -172,7 +172,7 @@ fn set_block(marks: &mut Vec<Mark>, n: SlotNumber, block: usize) -> bool
     marks[n.0].is_present
 }
 
-/// Closes a block that has so many slots, where there is room for one.
+// Closes a block that has so many slots, where there is room for one.
 fn closed(
     blocks: &mut Vec<MarkBlock>,
     rest: Open,
@@ -199,7 +199,7 @@ fn closed(
     }
 }
 
-/// The first slot behind all blocks.
+// The first slot behind all blocks.
 fn behind_blocks(blocks: &[MarkBlock], first: Option<SlotNumber>) -> Option<SlotNumber>
     ensures none { length blocks.now ≡ 0 → result ≡ first }
     ensures last { 0 < length blocks.now → result ≡ (block_at blocks.now (length blocks.now - 1)).end }
@@ -211,7 +211,7 @@ fn behind_blocks(blocks: &[MarkBlock], first: Option<SlotNumber>) -> Option<Slot
     }
 }
 
-/// Cuts the slots behind the blocks into blocks of this length, too.
+// Cuts the slots behind the blocks into blocks of this length, too.
 fn cut_on(
     slots: &[Slot],
     first: Option<SlotNumber>,
@@ -247,7 +247,7 @@ pub struct NextCuts {
     pub tail: usize,
 }
 
-/// How long a list is that is cut for the first time.
+// How long a list is that is cut for the first time.
 const FIRST_CUT: usize = 128;
 
 /// When a new list is cut.
@@ -258,13 +258,13 @@ pub fn first_cuts() -> NextCuts {
     }
 }
 
-/// How many slots a block has when a list of this length is cut. A longer list has longer blocks, so that there
-/// are fewer to go through.
+// How many slots a block has when a list of this length is cut. A longer list has longer blocks, so that there
+// are fewer to go through.
 fn block_len(len: usize) -> usize {
     LEAST_BLOCK.saturating_add(len / 256)
 }
 
-/// When a list of this length that was just cut is cut again.
+// When a list of this length that was just cut is cut again.
 fn cuts_behind(len: usize) -> NextCuts {
     NextCuts {
         whole: len.saturating_add(64 + len / 64),
@@ -272,8 +272,8 @@ fn cuts_behind(len: usize) -> NextCuts {
     }
 }
 
-/// When a list of this length of which so many slots were put into new blocks at its end is cut again. Those don't make
-/// other blocks longer.
+// When a list of this length of which so many slots were put into new blocks at its end is cut again. Those don't make
+// other blocks longer.
 fn cuts_behind_tail(whole: usize, len: usize, cut: usize) -> NextCuts {
     NextCuts {
         whole: whole.saturating_add(cut),

@@ -116,7 +116,7 @@ pub fn ids_from(
     Ok(ids)
 }
 
-/// How many entries have a lesser id. The last entry is looked at first: what is typed is asked for next.
+// How many entries have a lesser id. The last entry is looked at first: what is typed is asked for next.
 fn rank_near_end(index: &[(Id, SlotNumber)], id: &Id) -> usize
     requires { IsAscending index.now }
     ensures value { result ≡ rank index.now id.now }

@@ -184,7 +184,7 @@ impl<'a, X: Drop> Iterator for Entries<'a, X> {
     }
 }
 
-/// How many blocks, at the front, start with an id that isn't greater: found by bisection.
+// How many blocks, at the front, start with an id that isn't greater: found by bisection.
 fn blocks_by<X: Drop>(blocks: &[ById<X>], id: &Id) -> usize
     requires filled { AreNonEmpty blocks.now }
     requires rising { IsAscending (pairs_in blocks.now) }
@@ -203,7 +203,7 @@ fn blocks_by<X: Drop>(blocks: &[ById<X>], id: &Id) -> usize
     )
 }
 
-/// Whether the first id isn't greater.
+// Whether the first id isn't greater.
 fn starts_by<X>(entries: &[(Id, X)], id: &Id) -> bool
     ensures { result ≡ starts_by id.now entries.now }
 {
@@ -213,7 +213,7 @@ fn starts_by<X>(entries: &[(Id, X)], id: &Id) -> bool
     }
 }
 
-/// Whether no block may lack room.
+// Whether no block may lack room.
 fn is_nowhere(lack: Lack) -> bool
     ensures { result ≡ Spec.is_nowhere lack }
 {
@@ -223,7 +223,7 @@ fn is_nowhere(lack: Lack) -> bool
     }
 }
 
-/// What is known of the blocks that may lack room, when some have gone.
+// What is known of the blocks that may lack room, when some have gone.
 fn settled(lack: Lack) -> Lack
     ensures { result ≡ Spec.settled lack }
 {
@@ -233,7 +233,7 @@ fn settled(lack: Lack) -> Lack
     }
 }
 
-/// Puts a value into the block where its id belongs, and returns that this block may lack room then.
+// Puts a value into the block where its id belongs, and returns that this block may lack room then.
 fn put_into<X: Drop>(first: &mut ById<X>, rest: &mut Vec<ById<X>>, id: Id, value: X) -> Lack
     requires rising { IsAscending (first.old.0 ++ pairs_in rest.old.items) }
     requires filled { AreNonEmpty rest.old.items }
@@ -258,7 +258,7 @@ fn put_into<X: Drop>(first: &mut ById<X>, rest: &mut Vec<ById<X>>, id: Id, value
     }
 }
 
-/// Drops the ids that the front covers from each block.
+// Drops the ids that the front covers from each block.
 fn retain_each<X: Drop>(blocks: &mut Vec<ById<X>>, front: &Front)
     ensures { blocks.new.items ≡ map (λ b. (uncovered front.now b.0, b.1)) blocks.old.items }
 {
@@ -268,7 +268,7 @@ fn retain_each<X: Drop>(blocks: &mut Vec<ById<X>>, front: &Front)
     }
 }
 
-/// Drops the blocks that are empty.
+// Drops the blocks that are empty.
 fn drop_empty<X: Drop>(blocks: &mut Vec<ById<X>>)
     ensures { blocks.new.items ≡ filter (λ b. has_pair b.0) blocks.old.items }
 {
@@ -279,7 +279,7 @@ fn drop_empty<X: Drop>(blocks: &mut Vec<ById<X>>)
     );
 }
 
-/// Makes room for one more id in each block that may lack it.
+// Makes room for one more id in each block that may lack it.
 fn make_room<X: Drop>(
     first: &mut ById<X>,
     rest: &mut Vec<ById<X>>,
@@ -299,7 +299,7 @@ fn make_room<X: Drop>(
     }
 }
 
-/// Makes room for one more id in the first block, and in the one that is cut from it.
+// Makes room for one more id in the first block, and in the one that is cut from it.
 fn make_room_in_front<X: Drop>(
     first: &mut ById<X>,
     rest: &mut Vec<ById<X>>,
@@ -317,7 +317,7 @@ fn make_room_in_front<X: Drop>(
     make_room_at(rest, 0)
 }
 
-/// Makes room for one more id in each block.
+// Makes room for one more id in each block.
 fn make_room_in_each<X: Drop>(
     first: &mut ById<X>,
     rest: &mut Vec<ById<X>>,
@@ -331,7 +331,7 @@ fn make_room_in_each<X: Drop>(
     make_room_in_rest(rest)
 }
 
-/// Makes room for one more id in the first block: it grows, or is cut in two.
+// Makes room for one more id in the first block: it grows, or is cut in two.
 fn make_room_in_first<X: Drop>(
     first: &mut ById<X>,
     rest: &mut Vec<ById<X>>,
@@ -351,7 +351,7 @@ fn make_room_in_first<X: Drop>(
     }
 }
 
-/// Where a block that is full is cut: in its midst, or, where ids come behind all others, before its last.
+// Where a block that is full is cut: in its midst, or, where ids come behind all others, before its last.
 fn cut_place(len: usize, is_last: bool) -> Option<usize>
     ensures { IfSome result (λ place. (0 < place) × (place < len)) }
 {
@@ -365,7 +365,7 @@ fn cut_place(len: usize, is_last: bool) -> Option<usize>
     }
 }
 
-/// Cuts the first block in two.
+// Cuts the first block in two.
 fn cut_first<X: Drop>(
     first: &mut ById<X>,
     rest: &mut Vec<ById<X>>,
@@ -387,7 +387,7 @@ fn cut_first<X: Drop>(
     }
 }
 
-/// Makes room for one more id in each of the other blocks, from the last on.
+// Makes room for one more id in each of the other blocks, from the last on.
 fn make_room_in_rest<X: Drop>(rest: &mut Vec<ById<X>>) -> Result<(), AllocError>
     requires { AreNonEmpty rest.old.items }
     ensures same { pairs_in rest.new.items ≡ pairs_in rest.old.items }
@@ -402,7 +402,7 @@ fn make_room_in_rest<X: Drop>(rest: &mut Vec<ById<X>>) -> Result<(), AllocError>
     Ok(())
 }
 
-/// Makes room for one more id in a block: it grows, or is cut in two.
+// Makes room for one more id in a block: it grows, or is cut in two.
 fn make_room_at<X: Drop>(rest: &mut Vec<ById<X>>, at: usize) -> Result<(), AllocError>
     requires known { at < length rest.old.items }
     requires filled { AreNonEmpty rest.old.items }
@@ -422,7 +422,7 @@ fn make_room_at<X: Drop>(rest: &mut Vec<ById<X>>, at: usize) -> Result<(), Alloc
     }
 }
 
-/// Makes a block grow.
+// Makes a block grow.
 fn grow_at<X: Drop>(rest: &mut Vec<ById<X>>, at: usize) -> Result<(), AllocError>
     requires { at < length rest.old.items }
     ensures same { (n : ℕ) × (rest.new.items
@@ -433,7 +433,7 @@ fn grow_at<X: Drop>(rest: &mut Vec<ById<X>>, at: usize) -> Result<(), AllocError
     block.reserve_one()
 }
 
-/// Cuts a block in two, each with room for one more id.
+// Cuts a block in two, each with room for one more id.
 fn cut_at<X: Drop>(rest: &mut Vec<ById<X>>, at: usize, place: usize) -> Result<(), AllocError>
     requires known { at < length rest.old.items }
     requires filled { AreNonEmpty rest.old.items }
@@ -450,7 +450,7 @@ fn cut_at<X: Drop>(rest: &mut Vec<ById<X>>, at: usize, place: usize) -> Result<(
     grow_at(rest, at + 1)
 }
 
-/// Cuts a block in two.
+// Cuts a block in two.
 fn split_at<X: Drop>(rest: &mut Vec<ById<X>>, at: usize, place: usize) -> Result<(), AllocError>
     requires known { at < length rest.old.items }
     requires inside { place < length (slice_index_or rest.old.items at ([], 0)).0 }

@@ -83,7 +83,7 @@ impl<X: Drop> ById<X> {
         }
     }
 
-    /// Moves the entries from a place on into a set of their own. Out of memory, they stay.
+    // Moves the entries from a place on into a set of their own. Out of memory, they stay.
     fn split_off(&mut self, at: usize) -> Result<ById<X>, AllocError>
         requires { at ≤ length self.old.0 }
         ensures low { OnOk result (self.new.0 ≡ take at self.old.0) }
@@ -113,7 +113,7 @@ impl<X: Drop> ById<X> {
         self.entries.is_empty()
     }
 
-    /// Whether there is room for one more id.
+    // Whether there is room for one more id.
     fn has_room(&self) -> bool
         ensures { IsTrue result ↔ (length self.now.0 < self.now.1) }
     {
