@@ -28,7 +28,7 @@ pub fn read_docs<S: Alter>(
     ensures ok { HasCleanDisk (state S.Store conn.new)
         → IfOk result (λ docs. (state S.Store conn.old).now.schema ≡ copy_schema
         → IsPermutation (map entry_columns ((state S.Store conn.old).now.trees entry_tree)) (rows_of docs.items)
-            × IsUnchanged (state S.Store conn.old) (state S.Store conn.new)) }
+        × IsUnchanged (state S.Store conn.old) (state S.Store conn.new)) }
     ensures accepts { HasCleanDisk (state S.Store conn.new)
         → IfErr result (λ e. (was : Content) → IsSoundContent was → was.format ≡ format
         → (state S.Store conn.old).now.schema ≡ copy_schema

@@ -42,7 +42,7 @@ LooksHere f values look.Sum = ReadsHere (IsSum f) reply.Sum
 abbrev pub ReadsAt : Replica → Place → (Cursor → Reply → Type 0) → Reply → Type 0
 ReadsAt r place reads answer =
     (c : Result Cursor Refusal) × Resolves (replica_facts r) place.start place.steps c
-        × MatchResult c (λ c. reads c answer) (λ e. answer ≡ reply.Refused e)
+    × MatchResult c (λ c. reads c answer) (λ e. answer ≡ reply.Refused e)
 
 -- the operations that a front does not cover, in log order
 abbrev pub since : List (List ℕ × ℕ) → List Op → List Op

@@ -120,7 +120,7 @@ Forgets r i None reply s = (reply ≡ Refused NotHeld) × (s ≡ r)
 abbrev pub Does : Replica → Command → Reply → Replica → Type 0
 Does r (Change place m) reply s =
     (c : Result Cursor Refusal) × Resolves (replica_facts r) place.start place.steps c
-        × Settles r (expected_at_place r c m) reply s
+    × Settles r (expected_at_place r c m) reply s
 Does r (Deliver op) reply s = Settles r (expected_of_delivery r op) reply s
 Does r (Forget i) reply s = Forgets r i (find_id r.held i) reply s
 

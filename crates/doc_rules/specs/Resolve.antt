@@ -34,7 +34,7 @@ path_exists f p (t ∷ path) k = is_short (key_of t) && exists_in f p (key_of t)
 abbrev pub checked_start : Facts → Cursor → Result Cursor Refusal
 checked_start f c =
     if is_shallow c.path then (if is_placed c.path c.key
-        && path_exists f [] c.path c.key then Ok c else Err BadCursor) else Err TooDeep
+    && path_exists f [] c.path c.key then Ok c else Err BadCursor) else Err TooDeep
 
 -- ---- one step
 

@@ -61,4 +61,4 @@ values_in f roles p k i = option_and_then (λ role. value_in role (f.register p 
 abbrev pub step_roles : (List Tagged → Key → Id → Option Role) → Op → (Id → Bool) → List Tagged → Key → Id → Option Role
 step_roles roles op deps p k i =
     if marks op p k && id_eq op.id i then Some (role_here op p k) else
-        (if clears op p k && deps i then None else roles p k i)
+    (if clears op p k && deps i then None else roles p k i)

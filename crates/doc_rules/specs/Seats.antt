@@ -86,5 +86,9 @@ pub record Totals : Type 0 where
 -- the totals that the ends of all opened seats give
 abbrev pub totals_of : Document → List Seat → Totals
 totals_of d ends =
-    record { accepted = sum (told_counts ends); by_seat = told_counts ends; logged = length d.replica.log;
-        copied = d.copied }
+    record {
+      accepted = sum (told_counts ends);
+      by_seat = told_counts ends;
+      logged = length d.replica.log;
+      copied = d.copied;
+    }

@@ -80,7 +80,7 @@ pub fn roles_give_values()
         → value_put_at log p k i ≡ value_in (logged_role log p k i) ((facts (replay log)).register p k i) }
     ensures told { (log : List Op) → IsGood log
         → AgreeOnPresent (facts (replay log)) (values_in (facts (replay log)) (roles_of (facts (replay log)) log))
-            (value_put_at log) }
+        (value_put_at log) }
     ensures looks { (f : Facts) (v w : Values) → AgreeOnPresent f v w → (look : Look) (c : Cursor) (answer : Reply)
         → LooksHere f v look c answer → LooksHere f w look c answer }
 {}
@@ -142,7 +142,7 @@ pub fn documents_stay_sound()
         → Acts d seat command reply e → GivesTo d seat reply e }
     ensures shares { (d e : Document) (seat : ℕ) (reply : Reply) → IsSound d → IsSound e → GivesTo d seat reply e
         → (count_of seat e.seats_of ≡ count_of seat d.seats_of + count_in reply)
-            × ((t : ℕ) → seat ≢ t → count_of t e.seats_of ≡ count_of t d.seats_of) }
+        × ((t : ℕ) → seat ≢ t → count_of t e.seats_of ≡ count_of t d.seats_of) }
     ensures opens { (d : Document) → IsSound d → IsSound (opens d).1 }
     ensures copied { (n : ℕ) (d : Document) → IsSound d → IsSound (copied_to n d) }
 {}

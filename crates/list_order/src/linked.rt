@@ -43,8 +43,8 @@ impl Model for LinkedOrder {
     ghost Value = { List (Id × Bool) × ℕ };
 
     ghost view = { λ o. (
-        entries_along o.slots.items o.marks.items (slots_from o.slots.items o.first),
-        min (vec_capacity o.slots) (min (vec_capacity o.index) (vec_capacity o.marks))
+      entries_along o.slots.items o.marks.items (slots_from o.slots.items o.first),
+      min (vec_capacity o.slots) (min (vec_capacity o.index) (vec_capacity o.marks)),
     ) };
 
     ghost invariant = { λ o. IsMarkedOrder o.slots.items o.first o.index.items o.marks.items o.blocks.items o.present };

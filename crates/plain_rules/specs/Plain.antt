@@ -76,4 +76,4 @@ place_of_child children t = prefix_len (λ c. not (tagged_eq c.0 t)) children
 abbrev pub passed_key : Id → Key → Mutation → Context → Context
 passed_key id key m ctx =
     node (child ctx) (register ctx) (counter ctx) (λ k i. present ctx k i
-        || (not (is_delete m) && key_eq key k && id_eq id i)) (order ctx)
+    || (not (is_delete m) && key_eq key k && id_eq id i)) (order ctx)

@@ -456,7 +456,7 @@ fn split_at<X: Drop>(rest: &mut Vec<ById<X>>, at: usize, place: usize) -> Result
     requires inside { place < length (slice_index_or rest.old.items at ([], 0)).0 }
     ensures ok { OnOk result ((n : ℕ) × (place < n) × (m : ℕ) × (rest.new.items
         ≡ insert (slice_set rest.old.items at (take place (slice_index_or rest.old.items at ([], 0)).0, n)) (at + 1)
-            (drop place (slice_index_or rest.old.items at ([], 0)).0, m))) }
+        (drop place (slice_index_or rest.old.items at ([], 0)).0, m))) }
     ensures err { OnErr result (rest.new.items ≡ rest.old.items) }
 {
     rest.reserve(1)?;
