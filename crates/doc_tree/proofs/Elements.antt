@@ -13,7 +13,7 @@ use Rattle.doc_nodes.specs.declared.node.NodeNumber.{NodeNumber}
 use Rattle.doc_nodes.specs.declared.node.Node.{Node}
 use Rattle.doc_nodes.specs.Walk.{trail, trail_below, list_trail, list_trail_below, walk, root}
 use Rattle.doc_nodes.specs.Nodes.{node_of, child_of, node_at, list_node_at, facts_of}
-use Rattle.doc_nodes.specs.Flags.{node_stands, AreFlagged}
+use Rattle.doc_nodes.specs.ListPresence.{is_node_present, ListsShowPresence}
 use Rattle.doc_nodes.proofs.Walks.{parts_of, walk-append}
 use Rattle.doc_tree.proofs.Reading.{ids_read}
 use Rattle.doc_tree.proofs.Below.{one_step}
@@ -54,9 +54,9 @@ element_child nodes p n i e =
     ∙ one_step (child_of nodes n (Element i))
 
 -- and its list tells whether it is present
-pub present_listed : (nodes : List Node) → AreFlagged nodes → (p : List Tagged) (n : NodeNumber) → list_node_at nodes p ≡ Some n
-    → present_of (node_of nodes n).order.0 ≡ filter (λ i. node_stands nodes (node_at nodes p (Element i))) ((facts_of nodes).order p)
+pub present_listed : (nodes : List Node) → ListsShowPresence nodes → (p : List Tagged) (n : NodeNumber) → list_node_at nodes p ≡ Some n
+    → present_of (node_of nodes n).order.0 ≡ filter (λ i. is_node_present nodes (node_at nodes p (Element i))) ((facts_of nodes).order p)
 present_listed nodes right p n e =
-    present_of-told (λ i. node_stands nodes (node_at nodes p (Element i))) (node_of nodes n).order.0
-    (λ i is c. right n i is c ∙ ap (node_stands nodes) (sym (element_child nodes p n i e)))
-    ∙ ap (filter (λ i. node_stands nodes (node_at nodes p (Element i)))) (ids_read nodes p n e)
+    present_of-told (λ i. is_node_present nodes (node_at nodes p (Element i))) (node_of nodes n).order.0
+    (λ i is c. right n i is c ∙ ap (is_node_present nodes) (sym (element_child nodes p n i e)))
+    ∙ ap (filter (λ i. is_node_present nodes (node_at nodes p (Element i)))) (ids_read nodes p n e)

@@ -14,17 +14,17 @@ use Rattle.doc_nodes.specs.declared.node.NodeNumber.{NodeNumber}
 use Rattle.doc_nodes.specs.declared.node.Node.{Node}
 use Rattle.doc_nodes.specs.Walk.{walk, root, trail, trail_below}
 use Rattle.doc_nodes.specs.Nodes.{node_of, child_of, node_at, AreTree, ClearsUnder, facts_of, role_at, clear_facts_at}
-use Rattle.doc_nodes.specs.Marks.{keys_below, keys_to, HasRoomAlong, IsReady, MarksAlong, mark_facts}
+use Rattle.doc_nodes.specs.PresenceAlong.{keys_below, keys_to, HasRoomAlong, IsReady, AddsPresenceAlong, presence_facts}
 use Rattle.doc_nodes.proofs.Clearing.{IsPartCleared, same_children, tree-cleared}
 use Rattle.doc_nodes.specs.Writes.{put_facts, put_role, enter_facts, with_scalar, with_number, add_facts, add_role, count_facts}
 use Rattle.crdt_rules.specs.Within.{is_within}
 use Rattle.doc_words.specs.declared.role.Role.TheVariants.{Through}
 use Rattle.doc_nodes.proofs.Places.{way_to, node_within}
 use Rattle.doc_tree.proofs.ClearFacts.{facts-cleared, role-cleared}
-use Rattle.doc_tree.proofs.MarkFacts.{facts-marked, role-marked}
+use Rattle.doc_tree.proofs.PresenceFacts.{facts-made_present, role-made_present}
 use Rattle.doc_nodes.proofs.WriteFacts.{facts-entered, facts-counted, role-set}
-use Rattle.doc_nodes.proofs.Marking.{tree-set}
-use Rattle.doc_nodes.specs.Flags.{plain, IsFlagged, IsFlaggedBut, AreFlaggedBut}
+use Rattle.doc_nodes.proofs.AddingPresence.{tree-set}
+use Rattle.doc_nodes.specs.ListPresence.{plain, ShowsPresence, ShowsPresenceBut, ListsShowPresenceBut}
 use Rattle.doc_nodes.proofs.Plain.{child_of-plain, node_of-plain, node_at-plain, tree-plain, facts-plain, role-plain, shape_of-plain, tree_same}
 
 -- the keys of a trail
@@ -105,8 +105,8 @@ module _ (front : List (List ℕ × ℕ)) (old new : List Node) (tree : AreTree 
       ∙ ap (λ o. if is_within q j p k && covers front i then None else o) (role-plain old q j i)
 
   -- what its list tells of the place may be wrong then
-  pub flagged_cleared : ((n : NodeNumber) (i : Id) → IsFlagged old n i → IsFlaggedBut new m n i) → AreFlaggedBut old m → AreFlaggedBut new m
-  flagged_cleared kept but n i = ⊎_elim
+  pub shows_presence_cleared : ((n : NodeNumber) (i : Id) → ShowsPresence old n i → ShowsPresenceBut new m n i) → ListsShowPresenceBut old m → ListsShowPresenceBut new m
+  shows_presence_cleared kept but n i = ⊎_elim
       (λ there. inl (ap (λ f. f n (Element i)) (shape_of-plain old new (same_children front (plain old) (plain new) clears.each)) ∙ there))
       (λ right. kept n i right)
       (but n i)
@@ -114,7 +114,7 @@ module _ (front : List (List ℕ × ℕ)) (old new : List Node) (tree : AreTree 
 -- An assignment step by step: the place is cleared, then the way is marked.
 module _ (front : List (List ℕ × ℕ)) (id : Id) (role : Role) (old between new : List Node) (tree : AreTree old) (p : List Tagged) (k : Key) (m : NodeNumber)
     (at : node_at old p k ≡ Some m) (clears : ClearsUnder front (plain old) (plain between) m) (same : length between ≡ length old)
-    (marks : MarksAlong id role (plain between) (plain new) root (keys_to p k)) (also : length new ≡ length between) where
+    (added : AddsPresenceAlong id role (plain between) (plain new) root (keys_to p k)) (also : length new ≡ length between) where
   between_shape : child_of between ≡ child_of old
   between_shape = shape_of-plain old between (same_children front (plain old) (plain between) clears.each)
 
@@ -124,23 +124,23 @@ module _ (front : List (List ℕ × ℕ)) (id : Id) (role : Role) (old between n
   between_way : walk (child_of (plain between)) root (keys_to p k) ≡ Some m
   between_way = ap (λ f. walk f root (keys_to p k)) (child_of-plain between ∙ between_shape) ∙ (known_way old p k m at).1
 
-  pub facts-put : facts_of new ≡ mark_facts (clear_facts_at (facts_of old) p k (covers front)) p k id
+  pub facts-put : facts_of new ≡ presence_facts (clear_facts_at (facts_of old) p k (covers front)) p k id
   facts-put =
       sym (facts-plain new)
-      ∙ facts-marked id role (plain between) (plain new) (tree-plain between between_tree) p k (keys_to p k) m (known_way old p k m at).0 between_way marks
-      ∙ ap (λ f. mark_facts f p k id) (facts_cleared front old between tree p k m at clears)
+      ∙ facts-made_present id role (plain between) (plain new) (tree-plain between between_tree) p k (keys_to p k) m (known_way old p k m at).0 between_way added
+      ∙ ap (λ f. presence_facts f p k id) (facts_cleared front old between tree p k m at clears)
 
   pub role-put : (q : List Tagged) (j : Key) (i : Id) → role_at new q j i ≡ put_role (role_at old) p k (covers front) id role q j i
   role-put q j i =
       sym (role-plain new q j i)
-      ∙ role-marked id role (plain between) (plain new) (tree-plain between between_tree) p k (keys_to p k) m (known_way old p k m at).0 between_way marks q j i
+      ∙ role-made_present id role (plain between) (plain new) (tree-plain between between_tree) p k (keys_to p k) m (known_way old p k m at).0 between_way added q j i
       ∙ ap (λ o. if is_within p k q j && id_eq id i then Some (if path_eq p q && key_eq k j then role else Through) else o) (role_cleared front old between tree p k m at clears q j i)
 
   pub tree-put : AreTree new
-  tree-put = tree_same between new also (shape_of-plain between new marks.shape) between_tree
+  tree-put = tree_same between new also (shape_of-plain between new added.shape) between_tree
 
   pub node_at-put : node_at new p k ≡ Some m
-  node_at-put = ap (λ f. option_and_then (walk f root) (trail p k)) (shape_of-plain between new marks.shape ∙ between_shape) ∙ at
+  node_at-put = ap (λ f. option_and_then (walk f root) (trail p k)) (shape_of-plain between new added.shape ∙ between_shape) ∙ at
 
   pub within-put : m.0 < length new
   within-put = node_within new tree-put p k m node_at-put
@@ -148,7 +148,7 @@ module _ (front : List (List ℕ × ℕ)) (id : Id) (role : Role) (old between n
   pub register_room-put : length (node_of old m).register.0 < (node_of old m).register.1 → length (node_of new m).register.0 < (node_of new m).register.1
   register_room-put room =
       subst (λ z. length z.register.0 < z.register.1) (node_of-plain new m)
-      (subst (λ r. length r.0 < r.1) (sym (marks.kept m).0)
+      (subst (λ r. length r.0 < r.1) (sym (added.kept m).0)
       (register_room front (plain old) (plain between) clears.each m (subst (λ z. length z.register.0 < z.register.1) (sym (node_of-plain old m)) room)))
 
   -- and its scalar is entered
@@ -176,42 +176,42 @@ ready-way nodes tree p k m at room = record {
 
 -- An add step by step: the way is marked, then the number is entered.
 module _ (id : Id) (role : Role) (old new : List Node) (tree : AreTree old) (p : List Tagged) (k : Key) (m : NodeNumber)
-    (at : node_at old p k ≡ Some m) (marks : MarksAlong id role (plain old) (plain new) root (keys_to p k)) (also : length new ≡ length old) where
-  marked_shape : child_of new ≡ child_of old
-  marked_shape = shape_of-plain old new marks.shape
+    (at : node_at old p k ≡ Some m) (added : AddsPresenceAlong id role (plain old) (plain new) root (keys_to p k)) (also : length new ≡ length old) where
+  present_shape : child_of new ≡ child_of old
+  present_shape = shape_of-plain old new added.shape
 
-  marked_way : walk (child_of (plain old)) root (keys_to p k) ≡ Some m
-  marked_way = ap (λ f. walk f root (keys_to p k)) (child_of-plain old) ∙ (known_way old p k m at).1
+  present_way : walk (child_of (plain old)) root (keys_to p k) ≡ Some m
+  present_way = ap (λ f. walk f root (keys_to p k)) (child_of-plain old) ∙ (known_way old p k m at).1
 
-  tree-marked : AreTree new
-  tree-marked = tree_same old new also marked_shape tree
+  tree-made_present : AreTree new
+  tree-made_present = tree_same old new also present_shape tree
 
-  node_at-marked : node_at new p k ≡ Some m
-  node_at-marked = ap (λ f. option_and_then (walk f root) (trail p k)) marked_shape ∙ at
+  node_at-made_present : node_at new p k ≡ Some m
+  node_at-made_present = ap (λ f. option_and_then (walk f root) (trail p k)) present_shape ∙ at
 
-  pub within-marked : m.0 < length new
-  within-marked = node_within new tree-marked p k m node_at-marked
+  pub within-made_present : m.0 < length new
+  within-made_present = node_within new tree-made_present p k m node_at-made_present
 
-  pub counter_room-marked : length (node_of old m).counter.0 < (node_of old m).counter.1 → length (node_of new m).counter.0 < (node_of new m).counter.1
-  counter_room-marked room =
+  pub counter_room-made_present : length (node_of old m).counter.0 < (node_of old m).counter.1 → length (node_of new m).counter.0 < (node_of new m).counter.1
+  counter_room-made_present room =
       subst (λ z. length z.counter.0 < z.counter.1) (node_of-plain new m)
-      (subst (λ r. length r.0 < r.1) (sym (marks.kept m).1) (subst (λ z. length z.counter.0 < z.counter.1) (sym (node_of-plain old m)) room))
+      (subst (λ r. length r.0 < r.1) (sym (added.kept m).1) (subst (λ z. length z.counter.0 < z.counter.1) (sym (node_of-plain old m)) room))
 
   module _ (a : ℤ) (last : List Node) (is : last ≡ set new m.0 (with_number id a (node_of new m))) where
     pub facts-added : facts_of last ≡ add_facts (facts_of old) p k id a
     facts-added =
-        ap facts_of is ∙ facts-counted new tree-marked m within-marked p k id a node_at-marked
+        ap facts_of is ∙ facts-counted new tree-made_present m within-made_present p k id a node_at-made_present
         ∙ ap (λ f. count_facts f p k id a)
         (sym (facts-plain new)
-        ∙ facts-marked id role (plain old) (plain new) (tree-plain old tree) p k (keys_to p k) m (known_way old p k m at).0 marked_way marks
-        ∙ ap (λ f. mark_facts f p k id) (facts-plain old))
+        ∙ facts-made_present id role (plain old) (plain new) (tree-plain old tree) p k (keys_to p k) m (known_way old p k m at).0 present_way added
+        ∙ ap (λ f. presence_facts f p k id) (facts-plain old))
 
     pub role-added : (q : List Tagged) (j : Key) (i : Id) → role_at last q j i ≡ add_role (role_at old) p k id role q j i
     role-added q j i =
-        ap (λ l. role_at l q j i) is ∙ role-set new m within-marked (with_number id a (node_of new m)) refl refl q j i
+        ap (λ l. role_at l q j i) is ∙ role-set new m within-made_present (with_number id a (node_of new m)) refl refl q j i
         ∙ sym (role-plain new q j i)
-        ∙ role-marked id role (plain old) (plain new) (tree-plain old tree) p k (keys_to p k) m (known_way old p k m at).0 marked_way marks q j i
+        ∙ role-made_present id role (plain old) (plain new) (tree-plain old tree) p k (keys_to p k) m (known_way old p k m at).0 present_way added q j i
         ∙ ap (λ o. if is_within p k q j && id_eq id i then Some (if path_eq p q && key_eq k j then role else Through) else o) (role-plain old q j i)
 
     pub tree-added : AreTree last
-    tree-added = subst AreTree (sym is) (tree-set new m (with_number id a (node_of new m)) within-marked refl tree-marked)
+    tree-added = subst AreTree (sym is) (tree-set new m (with_number id a (node_of new m)) within-made_present refl tree-made_present)

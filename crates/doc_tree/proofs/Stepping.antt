@@ -19,7 +19,7 @@ use Rattle.doc_nodes.specs.Walk.{root, walk, trail}
 use Rattle.doc_nodes.specs.Nodes.{node_of, child_of, node_at, list_node_at, ids_in, facts_of, clear_facts_at}
 use Rattle.doc_nodes.specs.Writes.{put_facts, put_role, add_facts, add_role, order_facts, with_entry, IsReadyFor}
 use Rattle.doc_rules.specs.Role.{step_roles, role_of}
-use Rattle.doc_nodes.proofs.Marking.{shape-set}
+use Rattle.doc_nodes.proofs.AddingPresence.{shape-set}
 use Rattle.doc_nodes.proofs.WriteFacts.{unwritten}
 
 -- an operation with a known mutation
@@ -29,7 +29,7 @@ with_mutation op m = record { id = op.id; front = op.front; cursor = op.cursor; 
 pub known_mutation : (op : Op) (m : Mutation) → op.mutation ≡ m → op ≡ with_mutation op m
 known_mutation op m e = λ i. record { id = op.id; front = op.front; cursor = op.cursor; mutation = e i }
 
-put_told : (f : Facts) (p : List Tagged) (k : Key) (deps : Id → Bool) (id : Id) (s : Option Scalar)
+put_is : (f : Facts) (p : List Tagged) (k : Key) (deps : Id → Bool) (id : Id) (s : Option Scalar)
     → put_facts f p k deps id s
     ≡ record {
       present = λ q j i. (f.present q j i && not (is_within q j p k && deps i)) || (is_within p k q j && id_eq id i);
@@ -37,25 +37,25 @@ put_told : (f : Facts) (p : List Tagged) (k : Key) (deps : Id → Bool) (id : Id
       counter = λ q j i. if is_within q j p k && deps i then None else f.counter q j i;
       order = f.order;
     }
-put_told f p k deps id None = refl
-put_told f p k deps id (Some s) = refl
+put_is f p k deps id None = refl
+put_is f p k deps id (Some s) = refl
 
 pub assign_step : (f : Facts) (op : Op) (v : Val) (deps : Id → Bool) → op.mutation ≡ Assign v
     → put_facts f (path_of op) op.cursor.key deps op.id (scalar_in v) ≡ step_facts f op deps
 assign_step f op v deps e =
-    put_told f (path_of op) op.cursor.key deps op.id (scalar_in v) ∙ ap (λ o. step_facts f o deps) (sym (known_mutation op (Assign v) e))
+    put_is f (path_of op) op.cursor.key deps op.id (scalar_in v) ∙ ap (λ o. step_facts f o deps) (sym (known_mutation op (Assign v) e))
 
 pub insert_step : (f : Facts) (op : Op) (v : Val) (deps : Id → Bool) → op.mutation ≡ Insert v
     → put_facts (order_facts f (path_of op) (λ ids. insert_after id_cmp ids (reference op.cursor.key) op.id)) (path_of op) (Element op.id) deps op.id (scalar_in v) ≡ step_facts f op deps
 insert_step f op v deps e =
-    put_told (order_facts f (path_of op) (λ ids. insert_after id_cmp ids (reference op.cursor.key) op.id)) (path_of op) (Element op.id) deps op.id (scalar_in v)
+    put_is (order_facts f (path_of op) (λ ids. insert_after id_cmp ids (reference op.cursor.key) op.id)) (path_of op) (Element op.id) deps op.id (scalar_in v)
     ∙ ap (λ o. step_facts f o deps) (sym (known_mutation op (Insert v) e))
 
 pub delete_step : (f : Facts) (op : Op) (deps : Id → Bool) → op.mutation ≡ Delete → clear_facts_at f (path_of op) op.cursor.key deps ≡ step_facts f op deps
-delete_step f op deps e = told ∙ ap (λ o. step_facts f o deps) (sym (known_mutation op Delete e))
+delete_step f op deps e = same ∙ ap (λ o. step_facts f o deps) (sym (known_mutation op Delete e))
   where
-    told : clear_facts_at f (path_of op) op.cursor.key deps ≡ step_facts f (with_mutation op Delete) deps
-    told = λ x. record {
+    same : clear_facts_at f (path_of op) op.cursor.key deps ≡ step_facts f (with_mutation op Delete) deps
+    same = λ x. record {
       present = λ q j i. sym (or-false (f.present q j i && not (is_within q j (path_of op) op.cursor.key && deps i))) x;
       register = λ q j i. if is_within q j (path_of op) op.cursor.key && deps i then None else f.register q j i;
       counter = λ q j i. if is_within q j (path_of op) op.cursor.key && deps i then None else f.counter q j i;
@@ -63,10 +63,10 @@ delete_step f op deps e = told ∙ ap (λ o. step_facts f o deps) (sym (known_mu
     }
 
 pub add_step : (f : Facts) (op : Op) (n : ℤ) (deps : Id → Bool) → op.mutation ≡ Add n → add_facts f (path_of op) op.cursor.key op.id n ≡ step_facts f op deps
-add_step f op n deps e = told ∙ ap (λ o. step_facts f o deps) (sym (known_mutation op (Add n) e))
+add_step f op n deps e = same ∙ ap (λ o. step_facts f o deps) (sym (known_mutation op (Add n) e))
   where
-    told : add_facts f (path_of op) op.cursor.key op.id n ≡ step_facts f (with_mutation op (Add n)) deps
-    told = λ x. record {
+    same : add_facts f (path_of op) op.cursor.key op.id n ≡ step_facts f (with_mutation op (Add n)) deps
+    same = λ x. record {
       present = λ q j i. sym (and-true (f.present q j i)) x || (is_within (path_of op) op.cursor.key q j && id_eq op.id i);
       register = f.register;
       counter = λ q j i. if path_eq (path_of op) q && key_eq op.cursor.key j && id_eq op.id i then Some n else f.counter q j i;

@@ -1,24 +1,29 @@
--- What the tree of a document says.
+-- What clauses see of the tree of a document.
 use Rattle.std.specs.Prelude.{List, Option, Bool}
-use Rattle.doc_words.specs.Words.{Id, Scalar, Key, Tagged}
+use Rattle.doc_words.specs.Words.{Id, Key, Tagged}
 use Rattle.crdt_rules.specs.Facts.{Facts}
 use Rattle.doc_words.specs.declared.role.Role.{Role}
 use Rattle.doc_nodes.specs.declared.node.Node.{Node}
 use Rattle.doc_nodes.specs.declared.node.NodeNumber.{NodeNumber}
 use Rattle.doc_nodes.specs.Nodes.{facts_of, role_at, node_at}
-use Rattle.doc_nodes.specs.Flags.{node_stands}
+use Rattle.doc_nodes.specs.ListPresence.{is_node_present}
+use Rattle.doc_tree.specs.declared.tree.Prepared.{Prepared}
+
+-- the nodes of a tree, and what it keeps for the operation that it is prepared for
+abbrev pub TreeValue : Type 0
+TreeValue = List Node × Prepared
 
 -- the facts of a tree
-abbrev pub tree_facts : List Node × Option Scalar → Facts
+abbrev pub tree_facts : TreeValue → Facts
 tree_facts tree = facts_of tree.0
 
-abbrev pub tree_role : List Node × Option Scalar → List Tagged → Key → Id → Option Role
+abbrev pub tree_role : TreeValue → List Tagged → Key → Id → Option Role
 tree_role tree = role_at tree.0
 
 -- the number of the node of a place
-abbrev pub tree_number : List Node × Option Scalar → List Tagged → Key → Option NodeNumber
+abbrev pub tree_number : TreeValue → List Tagged → Key → Option NodeNumber
 tree_number tree = node_at tree.0
 
--- something makes a place present
-abbrev pub tree_present : List Node × Option Scalar → List Tagged → Key → Bool
-tree_present tree p k = node_stands tree.0 (node_at tree.0 p k)
+-- whether a place is present
+abbrev pub tree_present : TreeValue → List Tagged → Key → Bool
+tree_present tree p k = is_node_present tree.0 (node_at tree.0 p k)

@@ -1,34 +1,41 @@
 -- When the tree has all that an operation needs.
-use Rattle.std.specs.Prelude.{◌≡◌, ◌<◌, List, length, true, false, Option, Some, IsSome, Contains}
+use Rattle.std.specs.Prelude.{◌≡◌, ◌<◌, List, length, true, false, Some, IsSome, Contains}
 use Rattle.std.specs.Option.{ForSome}
-use Rattle.doc_words.specs.Words.{Scalar, Tagged, Op}
+use Rattle.doc_words.specs.Words.{Tagged, Op}
 use Rattle.crdt_rules.specs.Effect.{is_add, is_delete, is_insertion, scalar_put, path_of, end_key}
 use Rattle.crdt_rules.specs.Context.{reference}
 use Rattle.crdt_rules.specs.Facts.{Facts}
 use Rattle.doc_nodes.specs.declared.node.NodeNumber.{NodeNumber}
 use Rattle.doc_nodes.specs.declared.node.Node.{Node}
+use Rattle.doc_nodes.specs.declared.node.PlaceNodes.{PlaceNodes}
 use Rattle.doc_nodes.specs.Walk.{trail, list_trail}
-use Rattle.doc_nodes.specs.Nodes.{node_of, list_node_at}
+use Rattle.doc_nodes.specs.Nodes.{node_of, node_at, list_node_at}
 use Rattle.doc_nodes.specs.Writes.{IsReadyFor}
+use Rattle.doc_tree.specs.Nodes.{TreeValue}
 
 -- a list has a node, with room for one more id
 pub record IsReadyList (nodes : List Node) (p : List Tagged) : Type 0 where
   pub found : IsSome (list_node_at nodes p)
-  pub room : (n : NodeNumber) → list_node_at nodes p ≡ Some n → length (node_of nodes n).order.0 < (node_of nodes n).order.1
+  pub room : (n : NodeNumber) → list_node_at nodes p ≡ Some n
+      → length (node_of nodes n).order.0 < (node_of nodes n).order.1
 
--- the nodes have what an operation needs; a delete needs nothing
-pub record AreReady (nodes : List Node) (op : Op) : Type 0 where
-  pub place : is_delete op.mutation ≡ false → IsReadyFor nodes (path_of op) (end_key op) (is_add op.mutation)
-  pub list : is_insertion op.mutation ≡ true → IsReadyList nodes (path_of op)
+-- the nodes have what an operation needs, and these are the node where it ends and, for an insertion, that of its list;
+-- a delete needs nothing
+pub record AreReady (nodes : List Node) (place : PlaceNodes) (op : Op) : Type 0 where
+  pub room : is_delete op.mutation ≡ false → IsReadyFor nodes (path_of op) (end_key op) (is_add op.mutation)
+  pub list_room : is_insertion op.mutation ≡ true → IsReadyList nodes (path_of op)
+  pub node : is_delete op.mutation ≡ false → node_at nodes (path_of op) (end_key op) ≡ Some place.node
+  pub list : is_insertion op.mutation ≡ true → list_node_at nodes (path_of op) ≡ Some place.above
 
--- so does the tree, which has set a copy of its scalar aside
-pub record IsPrepared (tree : List Node × Option Scalar) (op : Op) : Type 0 where
-  pub nodes : AreReady tree.0 op
-  pub aside : tree.1 ≡ scalar_put op.mutation
+-- so does the tree, which keeps these nodes and a clone of the operation's scalar
+pub record IsPrepared (tree : TreeValue) (op : Op) : Type 0 where
+  pub nodes : AreReady tree.0 tree.1.place op
+  pub scalar : tree.1.scalar ≡ scalar_put op.mutation
 
 -- an insertion comes after the head or an element of its list
 abbrev pub KnowsReference : Facts → Op → Type 0
-KnowsReference f op = is_insertion op.mutation ≡ true → ForSome (reference op.cursor.key) (Contains (f.order (path_of op)))
+KnowsReference f op =
+    is_insertion op.mutation ≡ true → ForSome (reference op.cursor.key) (Contains (f.order (path_of op)))
 
 -- the id of an insertion is new in its list
 abbrev pub IsNewElement : Facts → Op → Type 0

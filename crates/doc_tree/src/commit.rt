@@ -11,36 +11,36 @@ ghost use Rattle.crdt_rules.specs.Context.{reference};
 ghost use Rattle.crdt_rules.specs.Facts.{step_facts};
 ghost use Rattle.doc_words.specs.declared.role.Role.TheVariants.{Counter};
 ghost use Rattle.doc_nodes.specs.declared.node.NodeNumber.{NodeNumber};
-ghost use Rattle.doc_nodes.specs.Nodes.{AreTree, node_of, node_at, facts_of, role_at, clear_facts_at};
-ghost use Rattle.doc_nodes.specs.Flags.{AreFlagged, AreFlaggedBut};
-ghost use Rattle.doc_nodes.specs.Backing.{AreBacked};
+ghost use Rattle.doc_nodes.specs.Nodes.{AreTree, node_of, node_at, list_node_at, facts_of, role_at, clear_facts_at};
+ghost use Rattle.doc_nodes.specs.ListPresence.{ListsShowPresence, ListsShowPresenceBut};
+ghost use Rattle.doc_nodes.specs.HasPresence.{HavePresence};
 ghost use Rattle.doc_nodes.specs.Writes.{with_scalar, with_number, add_facts, add_role, put_facts, put_role, order_facts, IsReadyFor};
 ghost use Rattle.doc_rules.specs.Role.{role_of, step_roles};
 ghost use Rattle.doc_tree.specs.Prepared.{AreReady, IsNewElement, IsReadyList, KnowsReference};
 
 use doc_nodes::{
-    Node, clear_under, clear_way, count, element_in, enter, find, keys, known_list, known_node,
-    link, mark_way,
+    Node, NodeNumber, PlaceNodes, add_presence_along, clear_under, clear_way, count, element_in,
+    enter, find, keys, link,
 };
 use json_scalar::{Scalar, Val};
 use lamport_id::Id;
 use op_core::{Front, Key, Mutation, Operation, Tagged};
 use presence_set::Role;
 
-/// Applies an operation for which the nodes are ready.
-pub fn apply(nodes: &mut [Node], aside: Option<Scalar>, op: &Operation)
+/// Applies an operation for which the nodes are ready, with a clone of its scalar and the nodes where it ends.
+pub fn apply(nodes: &mut [Node], scalar: Option<Scalar>, place: PlaceNodes, op: &Operation)
     requires tree { AreTree nodes.old }
-    requires flags { AreFlagged nodes.old }
-    requires backed { AreBacked nodes.old }
-    requires ready { AreReady nodes.old op.now }
-    requires scalar { aside ≡ scalar_put op.now.mutation }
+    requires list_presence { ListsShowPresence nodes.old }
+    requires has_presence { HavePresence nodes.old }
+    requires ready { AreReady nodes.old place op.now }
+    requires scalar { scalar ≡ scalar_put op.now.mutation }
     requires reference { KnowsReference (facts_of nodes.old) op.now }
     requires new { IsNewElement (facts_of nodes.old) op.now }
     ensures facts { facts_of nodes.new ≡ step_facts (facts_of nodes.old) op.now (covers op.now.front) }
     ensures roles { (q : List Tagged) (j : Key) (i : Id) → role_at nodes.new q j i ≡ step_roles (role_at nodes.old) op.now (covers op.now.front) q j i }
     ensures tree { AreTree nodes.new }
-    ensures flags { AreFlagged nodes.new }
-    ensures backed { AreBacked nodes.new }
+    ensures list_presence { ListsShowPresence nodes.new }
+    ensures has_presence { HavePresence nodes.new }
 {
     let cursor = op.cursor();
     let path = keys(&cursor.path);
@@ -48,10 +48,14 @@ pub fn apply(nodes: &mut [Node], aside: Option<Scalar>, op: &Operation)
     let front = op.front();
     let id = op.id();
     match op.mutation() {
-        Mutation::Assign(val) => put_at(nodes, path, key, front, &id, role_for(val), aside),
-        Mutation::Insert(val) => insert_at(nodes, path, key, front, &id, role_for(val), aside),
+        Mutation::Assign(val) => {
+            put_at(nodes, path, key, place.node, front, &id, role_for(val), scalar)
+        }
+        Mutation::Insert(val) => {
+            insert_at(nodes, path, key, place, front, &id, role_for(val), scalar)
+        }
         Mutation::Delete => clear_at(nodes, path, key, front),
-        Mutation::Add(n) => add_at(nodes, path, key, &id, *n),
+        Mutation::Add(n) => add_at(nodes, path, key, place.node, &id, *n),
     }
 }
 
@@ -69,13 +73,13 @@ pub fn role_for(val: &Val) -> Role
 /// Clears a place and what is below it, if it has a node.
 pub fn clear_at(nodes: &mut [Node], path: &[Tagged], key: &Key, front: &Front)
     requires tree { AreTree nodes.old }
-    requires flags { AreFlagged nodes.old }
-    requires backed { AreBacked nodes.old }
+    requires list_presence { ListsShowPresence nodes.old }
+    requires has_presence { HavePresence nodes.old }
     ensures facts { facts_of nodes.new ≡ clear_facts_at (facts_of nodes.old) path.now key.now (covers front.now) }
     ensures roles { (q : List Tagged) (j : Key) (i : Id) → role_at nodes.new q j i ≡ (if is_within q j path.now key.now && covers front.now i then None else role_at nodes.old q j i) }
     ensures tree { AreTree nodes.new }
-    ensures flags { AreFlagged nodes.new }
-    ensures backed { AreBacked nodes.new }
+    ensures list_presence { ListsShowPresence nodes.new }
+    ensures has_presence { HavePresence nodes.new }
 {
     if let Some(_) = find(nodes, path, key) {
         clear_way(nodes, path, key, front);
@@ -87,71 +91,81 @@ pub fn insert_at(
     nodes: &mut [Node],
     path: &[Tagged],
     after: &Key,
+    place: PlaceNodes,
     front: &Front,
     id: &Id,
     role: Role,
     scalar: Option<Scalar>,
 )
     requires tree { AreTree nodes.old }
-    requires flags { AreFlagged nodes.old }
-    requires backed { AreBacked nodes.old }
-    requires list { IsReadyList nodes.old path.now }
+    requires list_presence { ListsShowPresence nodes.old }
+    requires has_presence { HavePresence nodes.old }
+    requires list { list_node_at nodes.old path.now ≡ Some place.above }
+    requires list_room { IsReadyList nodes.old path.now }
+    requires node { node_at nodes.old path.now (Element id.now) ≡ Some place.node }
     requires reference { ForSome (reference after.now) (Contains ((facts_of nodes.old).order path.now)) }
     requires new { ¬ (Contains ((facts_of nodes.old).order path.now) id.now) }
     requires ready { IsReadyFor nodes.old path.now (Element id.now) false }
     ensures facts { facts_of nodes.new ≡ put_facts (order_facts (facts_of nodes.old) path.now (λ ids. insert_after id_cmp ids (reference after.now) id.now)) path.now (Element id.now) (covers front.now) id.now scalar }
     ensures roles { (q : List Tagged) (j : Key) (i : Id) → role_at nodes.new q j i ≡ put_role (role_at nodes.old) path.now (Element id.now) (covers front.now) id.now role q j i }
     ensures tree { AreTree nodes.new }
-    ensures flags { AreFlagged nodes.new }
-    ensures backed { AreBacked nodes.new }
+    ensures list_presence { ListsShowPresence nodes.new }
+    ensures has_presence { HavePresence nodes.new }
 {
-    let at = known_list(nodes, path);
-    link(nodes, at, element_in(after), id);
+    link(nodes, place.above, element_in(after), id);
     let key = Key::Element(*id);
-    put_at(nodes, path, &key, front, id, role, scalar);
+    put_at(nodes, path, &key, place.node, front, id, role, scalar);
 }
 
-/// Assigns at a place: clears there, makes it and those above it present, and enters a scalar.
+/// Assigns at a place, whose node is `end`: clears there, makes it and those above it present, and enters a scalar.
 pub fn put_at(
     nodes: &mut [Node],
     path: &[Tagged],
     key: &Key,
+    end: NodeNumber,
     front: &Front,
     id: &Id,
     role: Role,
     scalar: Option<Scalar>,
 )
     requires tree { AreTree nodes.old }
-    requires flags { (m : NodeNumber) → node_at nodes.old path.now key.now ≡ Some m → AreFlaggedBut nodes.old m }
-    requires backed { AreBacked nodes.old }
+    requires end { node_at nodes.old path.now key.now ≡ Some end }
+    requires list_presence { ListsShowPresenceBut nodes.old end }
+    requires has_presence { HavePresence nodes.old }
     requires ready { IsReadyFor nodes.old path.now key.now false }
     ensures facts { facts_of nodes.new ≡ put_facts (facts_of nodes.old) path.now key.now (covers front.now) id.now scalar }
     ensures roles { (q : List Tagged) (j : Key) (i : Id) → role_at nodes.new q j i ≡ put_role (role_at nodes.old) path.now key.now (covers front.now) id.now role q j i }
     ensures tree { AreTree nodes.new }
-    ensures flags { AreFlagged nodes.new }
-    ensures backed { AreBacked nodes.new }
+    ensures list_presence { ListsShowPresence nodes.new }
+    ensures has_presence { HavePresence nodes.new }
 {
-    let end = known_node(nodes, path, key);
     clear_under(nodes, end, front);
-    mark_way(nodes, path, key, id, role);
+    add_presence_along(nodes, path, key, id, role);
     if let Some(scalar) = scalar {
         enter(nodes, end, id, scalar);
     }
 }
 
-/// Adds at a place: makes it and those above it present, and enters a number.
-pub fn add_at(nodes: &mut [Node], path: &[Tagged], key: &Key, id: &Id, n: i64)
+/// Adds at a place, whose node is `end`: makes it and those above it present, and enters a number.
+pub fn add_at(
+    nodes: &mut [Node],
+    path: &[Tagged],
+    key: &Key,
+    end: NodeNumber,
+    id: &Id,
+    n: i64,
+)
     requires tree { AreTree nodes.old }
-    requires flags { AreFlagged nodes.old }
-    requires backed { AreBacked nodes.old }
+    requires list_presence { ListsShowPresence nodes.old }
+    requires has_presence { HavePresence nodes.old }
+    requires end { node_at nodes.old path.now key.now ≡ Some end }
     requires ready { IsReadyFor nodes.old path.now key.now true }
     ensures facts { facts_of nodes.new ≡ add_facts (facts_of nodes.old) path.now key.now id.now n }
     ensures roles { (q : List Tagged) (j : Key) (i : Id) → role_at nodes.new q j i ≡ add_role (role_at nodes.old) path.now key.now id.now Counter q j i }
     ensures tree { AreTree nodes.new }
-    ensures flags { AreFlagged nodes.new }
-    ensures backed { AreBacked nodes.new }
+    ensures list_presence { ListsShowPresence nodes.new }
+    ensures has_presence { HavePresence nodes.new }
 {
-    let end = known_node(nodes, path, key);
-    mark_way(nodes, path, key, id, Role::Counter);
+    add_presence_along(nodes, path, key, id, Role::Counter);
     count(nodes, end, id, n);
 }

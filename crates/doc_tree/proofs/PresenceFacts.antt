@@ -14,14 +14,14 @@ use Rattle.doc_nodes.specs.declared.node.NodeNumber.{NodeNumber}
 use Rattle.doc_nodes.specs.declared.node.Node.{Node}
 use Rattle.doc_nodes.specs.Walk.{walk, root, trail}
 use Rattle.doc_nodes.specs.Nodes.{node_of, child_of, node_at, role_in, part_in, role_at, facts_of, AreTree}
-use Rattle.doc_nodes.specs.Marks.{marked, role_before, MarksAlong, mark_facts}
+use Rattle.doc_nodes.specs.PresenceAlong.{made_present, role_before, AddsPresenceAlong, presence_facts}
 use Rattle.doc_nodes.proofs.Walks.{one_way}
 use Rattle.doc_nodes.proofs.Trails.{above, within, one_place}
 use Rattle.doc_nodes.proofs.Places.{way_to, node_above}
 use Rattle.doc_tree.proofs.SameShape.{same_node_at, same_ids}
 
 module _ (id : Id) (role : Role) (old new : List Node) (tree : AreTree old) (p : List Tagged) (k : Key) (keys : List Key) (m : NodeNumber)
-    (way : trail p k ≡ Some keys) (at : walk (child_of old) root keys ≡ Some m) (marks : MarksAlong id role old new root keys) where
+    (way : trail p k ≡ Some keys) (at : walk (child_of old) root keys ≡ Some m) (added : AddsPresenceAlong id role old new root keys) where
   -- the role at a place on the way
   role_of : (q : List Tagged) (j : Key) (front rest : List Key) → trail q j ≡ Some front → keys ≡ front ++ rest
       → role_before rest role ≡ (if path_eq p q && key_eq k j then role else Through)
@@ -46,25 +46,25 @@ module _ (id : Id) (role : Role) (old new : List Node) (tree : AreTree old) (p :
           absurd (omega (arith, ap length (same ∙ f), length-append front (x ∷ rest)))
 
   on_way : (q : List Tagged) (j : Key) (c : NodeNumber) → node_at old q j ≡ Some c → is_within p k q j ≡ true
-      → node_of new c ≡ marked id (if path_eq p q && key_eq k j then role else Through) (node_of old c)
+      → node_of new c ≡ made_present id (if path_eq p q && key_eq k j then role else Through) (node_of old c)
   on_way q j c e w =
       let up = above p k q j keys way w in
       let to = way_to old q j c e in
       let alike : ◌≡◌ {A = Option (List Key)} (Some up.0) (Some to.0) = sym up.2 ∙ to.1 in
       let same : up.0 ≡ to.0 = cc in
-      marks.along up.0 up.1 c up.3 (ap (walk (child_of old) root) same ∙ to.2)
-      ∙ ap (λ r. marked id r (node_of old c)) (role_of q j up.0 up.1 up.2 up.3)
+      added.along up.0 up.1 c up.3 (ap (walk (child_of old) root) same ∙ to.2)
+      ∙ ap (λ r. made_present id r (node_of old c)) (role_of q j up.0 up.1 up.2 up.3)
 
   off_way : (q : List Tagged) (j : Key) (c : NodeNumber) → node_at old q j ≡ Some c → is_within p k q j ≡ false → node_of new c ≡ node_of old c
-  off_way q j c e w = marks.outside c (λ front rest f g.
+  off_way q j c e w = added.outside c (λ front rest f g.
       let to = way_to old q j c e in
       let same = one_way (child_of old) tree c front to.0 g to.2 in
       true≢false (sym (within p k q j to.0 rest (way ∙ ap Some (f ∙ ap (λ l. l ++ rest) same)) to.1) ∙ w))
 
-  pub role-marked : (q : List Tagged) (j : Key) (i : Id)
+  pub role-made_present : (q : List Tagged) (j : Key) (i : Id)
       → role_at new q j i ≡ (if is_within p k q j && id_eq id i then Some (if path_eq p q && key_eq k j then role else Through) else role_at old q j i)
   unfolding role_at
-  role-marked q j i = ap (λ o. role_in new o i) (same_node_at old new marks.shape q j) ∙ go (node_at old q j) refl (is_within p k q j) refl
+  role-made_present q j i = ap (λ o. role_in new o i) (same_node_at old new added.shape q j) ∙ go (node_at old q j) refl (is_within p k q j) refl
     where
       go : (o : Option NodeNumber) → node_at old q j ≡ o → (w : Bool) → is_within p k q j ≡ w
           → role_in new o i ≡ (if w && id_eq id i then Some (if path_eq p q && key_eq k j then role else Through) else role_in old o i)
@@ -84,21 +84,21 @@ module _ (id : Id) (role : Role) (old new : List Node) (tree : AreTree old) (p :
   is_some-if false r None = refl
   is_some-if false r (Some s) = refl
 
-  value-marked : {X : Type 0} (part : Node → List (Id × X)) → ((c : NodeNumber) → part (node_of new c) ≡ part (node_of old c)) → (q : List Tagged) (j : Key) (i : Id)
+  value-made_present : {X : Type 0} (part : Node → List (Id × X)) → ((c : NodeNumber) → part (node_of new c) ≡ part (node_of old c)) → (q : List Tagged) (j : Key) (i : Id)
       → part_in part new (node_at new q j) i ≡ part_in part old (node_at old q j) i
-  value-marked {X} part same q j i = ap (λ o. part_in part new o i) (same_node_at old new marks.shape q j) ∙ go (node_at old q j)
+  value-made_present {X} part same q j i = ap (λ o. part_in part new o i) (same_node_at old new added.shape q j) ∙ go (node_at old q j)
     where
       go : (o : Option NodeNumber) → part_in part new o i ≡ part_in part old o i
       go None = refl
       go (Some c) = ap (λ l. get l i) (same c)
 
   -- the place, and those above it, are present by the id
-  pub facts-marked : facts_of new ≡ mark_facts (facts_of old) p k id
+  pub facts-made_present : facts_of new ≡ presence_facts (facts_of old) p k id
   unfolding facts_of
-  facts-marked =
+  facts-made_present =
       λ x. record {
-        present = λ q j i. (ap is_some (role-marked q j i) ∙ is_some-if (is_within p k q j && id_eq id i) (if path_eq p q && key_eq k j then role else Through) (role_at old q j i)) x;
-        register = λ q j i. value-marked (λ z. z.register.0) (λ c. ap (λ r. r.0) (marks.kept c).0) q j i x;
-        counter = λ q j i. value-marked (λ z. z.counter.0) (λ c. ap (λ r. r.0) (marks.kept c).1) q j i x;
-        order = λ q. same_ids old new marks.shape (λ c. (marks.kept c).2) q x;
+        present = λ q j i. (ap is_some (role-made_present q j i) ∙ is_some-if (is_within p k q j && id_eq id i) (if path_eq p q && key_eq k j then role else Through) (role_at old q j i)) x;
+        register = λ q j i. value-made_present (λ z. z.register.0) (λ c. ap (λ r. r.0) (added.kept c).0) q j i x;
+        counter = λ q j i. value-made_present (λ z. z.counter.0) (λ c. ap (λ r. r.0) (added.kept c).1) q j i x;
+        order = λ q. same_ids old new added.shape (λ c. (added.kept c).2) q x;
       }
