@@ -11,7 +11,7 @@ use Rattle.crdt_rules.specs.Facts.{Facts}
 use Rattle.doc_words.specs.declared.role.Role.{Role}
 use Rattle.presence_set.specs.ById.{get, IsAscending}
 use Rattle.list_order.specs.Entries.{ids_of}
-use Rattle.doc_nodes.specs.declared.node.Node.{Node}
+use Rattle.doc_tree.specs.Nodes.{TreeValue}
 use Rattle.doc_nodes.specs.declared.node.NodeNumber.{NodeNumber}
 use Rattle.doc_nodes.specs.Children.{number_at}
 use Rattle.doc_nodes.specs.KeyOrder.{IsInKeyOrder}
@@ -35,25 +35,25 @@ use Rattle.doc_view.proofs.Presence.{AreRoles, present_role}
 use Rattle.doc_view.proofs.ShowLaws.{shown_from}
 
 -- where a place has no node it isn't present
-pub absent_place : (tree : List Node × Option Scalar) (p : List Tagged) (k : Key) → tree_number tree p k ≡ None → ¬ (IsPresent (tree_facts tree) p k)
+pub absent_place : (tree : TreeValue) (p : List Tagged) (k : Key) → tree_number tree p k ≡ None → ¬ (IsPresent (tree_facts tree) p k)
 absent_place tree p k e = λ here. true≢false (sym here.1 ∙ present_role tree p k here.0 ∙ ap is_some (sym (role_absent tree.0 p k e here.0)))
 
 -- nor is any below it
-pub absent_below : (tree : List Node × Option Scalar) (p : List Tagged) (k : Key) → tree_number tree p k ≡ None → (text : List ℕ) → ¬ (IsPresent (tree_facts tree) (into_map p k) (Text text))
+pub absent_below : (tree : TreeValue) (p : List Tagged) (k : Key) → tree_number tree p k ≡ None → (text : List ℕ) → ¬ (IsPresent (tree_facts tree) (into_map p k) (Text text))
 absent_below tree p k e text =
     absent_place tree (into_map p k) (Text text)
     (number-into tree.0 p (tagged.Map k) (Text text) refl ∙ ap (option_and_then (λ n. child_of tree.0 n (Text text))) e)
 
 -- and its list has no elements
-pub no_elements : (tree : List Node × Option Scalar) (p : List Tagged) (k : Key) → tree_number tree p k ≡ None → AreElements (tree_facts tree) p k []
+pub no_elements : (tree : TreeValue) (p : List Tagged) (k : Key) → tree_number tree p k ≡ None → AreElements (tree_facts tree) p k []
 no_elements tree p k e =
     subst (λ (ids : List Id). AreThose (λ i. IsPresent (tree_facts tree) (into_list p k) (Element i)) ids [])
     (ids_absent tree.0 (into_list p k) (list-into tree.0 p k ∙ e)) none
 
-pub no_items : (tree : List Node × Option Scalar) (p : List Tagged) (k : Key) → tree_number tree p k ≡ None → AreItems (tree_facts tree) p k []
+pub no_items : (tree : TreeValue) (p : List Tagged) (k : Key) → tree_number tree p k ≡ None → AreItems (tree_facts tree) p k []
 no_items tree p k e = ([], no_elements tree p k e, tt)
 
-module _ (tree : List Node × Option Scalar) (p : List Tagged) (k : Key) (n : NodeNumber) (at : tree_number tree p k ≡ Some n) where
+module _ (tree : TreeValue) (p : List Tagged) (k : Key) (n : NodeNumber) (at : tree_number tree p k ≡ Some n) where
   -- what a node has is at its place
   pub roles_by_number : (roles : List (Id × Role)) → roles ≡ (node_of tree.0 n).presence.0 → IsAscending roles → AreRoles tree p k roles
   roles_by_number roles is ascending = record { value = λ i. ap (λ l. get l i) is ∙ role_read tree.0 p k n at i; ascending = ascending }
@@ -92,7 +92,7 @@ module _ (tree : List Node × Option Scalar) (p : List Tagged) (k : Key) (n : No
         )
 
 -- what is given at a node is given at its place
-pub gives_at : {X : Type 0} (tree : List Node × Option Scalar) (n : NodeNumber) (reads : List Tagged → Key → X → Type 0) (r : Result X Refusal) (p : List Tagged) (k : Key)
+pub gives_at : {X : Type 0} (tree : TreeValue) (n : NodeNumber) (reads : List Tagged → Key → X → Type 0) (r : Result X Refusal) (p : List Tagged) (k : Key)
     → tree_number tree p k ≡ Some n → GivesUnlessMemory (λ x. AtNode tree n (λ q j. reads q j x)) r → GivesUnlessMemory (reads p k) r
 gives_at tree n reads (Ok x) p k at h = h p k at
 gives_at tree n reads (Err e) p k at h = h
@@ -113,14 +113,14 @@ items_step f list ids i id items more new within is h g e =
     (subst (λ (l : List Id). HasItems f list l (items ++ more)) (sym (take_read ids i id within is))
     (h.0 ++ g.0, those_append h.1 g.1, items_join f list h.0 g.0 items more h.2 g.2))
 
-each_join : (tree : List Node × Option Scalar) (list : List Tagged) (ids more : List Id) (es others : List Shown)
+each_join : (tree : TreeValue) (list : List Tagged) (ids more : List Id) (es others : List Shown)
     → EachElement tree list ids es → EachElement tree list more others → EachElement tree list (ids ++ more) (es ++ others)
 each_join tree list [] more [] others h g = g
 each_join tree list (i ∷ ids) more (e ∷ es) others h g = (h.0, each_join tree list ids more es others h.1 g)
 each_join tree list [] more (e ∷ es) others h g = absurd h
 each_join tree list (i ∷ ids) more [] others h g = absurd h
 
-pub shows_step : (tree : List Node × Option Scalar) (list : List Tagged) (ids : List Id) (i : ℕ) (id : Id) (ds more new : List Data) → i < length ids → id ≡ get_or ids i id
+pub shows_step : (tree : TreeValue) (list : List Tagged) (ids : List Id) (i : ℕ) (id : Id) (ds more new : List Data) → i < length ids → id ≡ get_or ids i id
     → ShowsThose tree list (take i ids) ds → ShowsThose tree list (id ∷ []) more → new ≡ ds ++ more → ShowsThose tree list (take (i + 1) ids) new
 shows_step tree list ids i id ds more new within is h g e =
     subst (λ (l : List Data). ShowsThose tree list (take (i + 1) ids) l) (sym e)
@@ -136,14 +136,14 @@ shows_step tree list ids i id ds more new within is h g e =
 
 -- ---- whole elements
 
-pub shown_by_number : (tree : List Node × Option Scalar) (n : NodeNumber) (ms ls : List Data) (entries : List (Id × Scalar)) (terms : List (Id × ℤ))
+pub shown_by_number : (tree : TreeValue) (n : NodeNumber) (ms ls : List Data) (entries : List (Id × Scalar)) (terms : List (Id × ℤ))
     → AtNode tree n (λ p k. IsMapShown tree p k ms) → AtNode tree n (λ p k. IsListShown tree p k ls)
     → AtNode tree n (λ p k. AreEntries (tree_facts tree) p k entries) → AtNode tree n (λ p k. AreTerms (tree_facts tree) p k terms)
     → AtNode tree n (λ p k. IsShown tree p k (list_data (ms ++ ls ++ map value_entry_data entries ++ count_branch (total_shown terms))))
 shown_by_number tree n ms ls entries terms m l e t = λ p k at. shown_from tree p k ms ls entries terms (m p k at) (l p k at) (e p k at) (t p k at)
 
 -- nothing is shown where there is no node
-pub nothing_shown : (tree : List Node × Option Scalar) (p : List Tagged) (k : Key) → tree_number tree p k ≡ None → IsShown tree p k (list_data [])
+pub nothing_shown : (tree : TreeValue) (p : List Tagged) (k : Key) → tree_number tree p k ≡ None → IsShown tree p k (list_data [])
 nothing_shown tree p k e = shown_from tree p k [] [] [] [] map_part list_part
     (are_all [] ((tree_facts tree).register p k) tt (scalar_absent tree.0 p k e))
     (are_all [] ((tree_facts tree).counter p k) tt (number_absent tree.0 p k e))

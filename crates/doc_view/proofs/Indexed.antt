@@ -6,7 +6,7 @@ use Rattle.doc_words.specs.Words.{Id, Scalar, Tagged, Refusal, Cursor}
 use Rattle.doc_words.specs.declared.place.Step.{Step}
 use Rattle.doc_words.specs.declared.place.Step.TheVariants.{Get, Index}
 use Rattle.op_core.specs.declared.cursor.Key.TheVariants.{Element}
-use Rattle.doc_nodes.specs.declared.node.Node.{Node}
+use Rattle.doc_tree.specs.Nodes.{TreeValue}
 use Rattle.doc_tree.specs.Nodes.{tree_facts}
 use Rattle.doc_rules.specs.Views.{into_list, IsPresent}
 use Rattle.doc_rules.specs.Resolve.{at_index, at_text, may_go_on, Goes}
@@ -35,12 +35,12 @@ module _ {X : Type 0} {holds : X → Type 0} where
       go false d rest = skip (λ h. true≢false (sym (d.1 h))) rest
 
 -- a list has its present elements, whether they are read or not
-pub elements_in : (tree : List Node × Option Scalar) (list : List Tagged)
+pub elements_in : (tree : TreeValue) (list : List Tagged)
     → (ids : List Id) × AreThose (λ i. IsPresent (tree_facts tree) list (Element i)) ((tree_facts tree).order list) ids
 elements_in tree list = those_exist (λ i. present_or_not tree list (Element i)) ((tree_facts tree).order list)
 
 -- no step leads from where none may go on
-pub goes_nowhere : (tree : List Node × Option Scalar) (from : Cursor) (step : Step) (e : Refusal) → Err e ≡ may_go_on from → Goes (tree_facts tree) from step (Err e)
+pub goes_nowhere : (tree : TreeValue) (from : Cursor) (step : Step) (e : Refusal) → Err e ≡ may_go_on from → Goes (tree_facts tree) from step (Err e)
 goes_nowhere tree from (Get text) e stops = ap (λ (may : Result ⊤ Refusal). and_then may (λ _. at_text from text)) stops
 goes_nowhere tree from (Index n) e stops =
     let elements = elements_in tree (into_list from.path from.key) in

@@ -5,7 +5,7 @@ use Rattle.list_laws.proofs.Members.{Contains-nil, Contains-here, Contains-there
 use Rattle.crdt_rules.proofs.Tests.{some_same}
 use Rattle.doc_words.specs.declared.role.Role.{Role}
 use Rattle.presence_set.specs.ById.{get}
-use Rattle.doc_nodes.specs.declared.node.Node.{Node}
+use Rattle.doc_tree.specs.Nodes.{TreeValue}
 use Rattle.doc_tree.specs.Nodes.{tree_facts, tree_role}
 use Rattle.doc_rules.specs.Views.{AreConflicts}
 use Rattle.doc_rules.specs.Role.{value_in}
@@ -68,7 +68,7 @@ module _ (scalars : List (Id × Scalar)) where
       go (Some v) ih = (λ y c. h.0 (y.0, (role_of_value roles y c).role) ((role_of_value roles y c).has), ih)
 
 -- roles and register of a place give its values
-pub are_conflicts : (tree : List Node × Option Scalar) (p : List Tagged) (k : Key) (roles : List (Id × Role)) (scalars : List (Id × Scalar))
+pub are_conflicts : (tree : TreeValue) (p : List Tagged) (k : Key) (roles : List (Id × Role)) (scalars : List (Id × Scalar))
     → AreRoles tree p k roles → ((i : Id) → get scalars i ≡ (tree_facts tree).register p k i)
     → AreConflicts (tree_facts tree) (tree_values tree) p k (values_of_roles scalars roles)
 are_conflicts tree p k roles scalars are register = record {

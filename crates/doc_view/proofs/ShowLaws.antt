@@ -12,7 +12,7 @@ use Rattle.list_laws.proofs.Members.{Contains-nil, Contains-here, Contains-cases
 use Rattle.crdt_rules.proofs.Tests.{any_at, any_from}
 use Rattle.doc_words.specs.declared.role.Role.{Role}
 use Rattle.doc_words.specs.declared.role.Role.TheVariants as role
-use Rattle.doc_nodes.specs.declared.node.Node.{Node}
+use Rattle.doc_tree.specs.Nodes.{TreeValue}
 use Rattle.doc_nodes.specs.declared.node.NodeNumber.{NodeNumber}
 use Rattle.doc_nodes.specs.KeyOrder as key_order
 use Rattle.doc_tree.specs.Nodes.{tree_facts}
@@ -61,7 +61,7 @@ list_is_put role.List s e = refl
 list_is_put role.Scalar s e = absurd (true≢false (sym e))
 list_is_put role.Counter s e = absurd (true≢false (sym e))
 
-puts_decides : (tree : List Node × Option Scalar) (p : List Tagged) (k : Key) (roles : List (Id × Role)) → AreRoles tree p k roles
+puts_decides : (tree : TreeValue) (p : List Tagged) (k : Key) (roles : List (Id × Role)) → AreRoles tree p k roles
     → (test : Role → Bool) (v : Val) → ((r : Role) (s : Option Scalar) → test r ≡ true → value_in r s ≡ Some v)
     → ((r : Role) (s : Option Scalar) → value_in r s ≡ Some v → test r ≡ true)
     → Decides (list_any (λ (e : Id × Role). test e.1) roles) (IsPut (tree_facts tree) (tree_values tree) p k v)
@@ -79,11 +79,11 @@ puts_decides tree p k roles are test v puts is_put = (
     seen : Id → Option Role → Option Val
     seen i o = option_and_then (λ r. value_in r ((tree_facts tree).register p k i)) o
 
-pub puts_map_decides : (tree : List Node × Option Scalar) (p : List Tagged) (k : Key) (roles : List (Id × Role)) → AreRoles tree p k roles
+pub puts_map_decides : (tree : TreeValue) (p : List Tagged) (k : Key) (roles : List (Id × Role)) → AreRoles tree p k roles
     → Decides (list_any (λ (e : Id × Role). is_map e.1) roles) (IsPut (tree_facts tree) (tree_values tree) p k EmptyMap)
 puts_map_decides tree p k roles are = puts_decides tree p k roles are is_map EmptyMap map_is_put put_is_map
 
-pub puts_list_decides : (tree : List Node × Option Scalar) (p : List Tagged) (k : Key) (roles : List (Id × Role)) → AreRoles tree p k roles
+pub puts_list_decides : (tree : TreeValue) (p : List Tagged) (k : Key) (roles : List (Id × Role)) → AreRoles tree p k roles
     → Decides (list_any (λ (e : Id × Role). is_list_role e.1) roles) (IsPut (tree_facts tree) (tree_values tree) p k EmptyList)
 puts_list_decides tree p k roles are = puts_decides tree p k roles are is_list_role EmptyList list_is_put put_is_list
 
@@ -101,16 +101,16 @@ data-fields_of : (xs : List (List ℕ × Shown)) → items_of (map field_data xs
 data-fields_of [] = refl
 data-fields_of (x ∷ xs) = rw (data-fields_of xs) refl
 
-each_append : (tree : List Node × Option Scalar) (p : List Tagged) (xs ys : List (List ℕ × Shown)) → EachField tree p xs → EachField tree p ys
+each_append : (tree : TreeValue) (p : List Tagged) (xs ys : List (List ℕ × Shown)) → EachField tree p xs → EachField tree p ys
     → EachField tree p (xs ++ ys)
 each_append tree p [] ys h g = g
 each_append tree p (x ∷ xs) ys h g = (h.0, each_append tree p xs ys h.1 g)
 
-pub no_field : (tree : List Node × Option Scalar) (p : List Tagged) (texts : List (List ℕ)) → AreThose (λ t. IsPresent (tree_facts tree) p (Text t)) texts []
+pub no_field : (tree : TreeValue) (p : List Tagged) (texts : List (List ℕ)) → AreThose (λ t. IsPresent (tree_facts tree) p (Text t)) texts []
     → AreFields tree p texts []
 no_field tree p texts those = record { fields = []; kept = those; each = tt; is = refl }
 
-pub one_field : (tree : List Node × Option Scalar) (p : List Tagged) (texts : List (List ℕ)) (t : List ℕ) (k : Key) (d e : Data)
+pub one_field : (tree : TreeValue) (p : List Tagged) (texts : List (List ℕ)) (t : List ℕ) (k : Key) (d e : Data)
     → AreThose (λ t. IsPresent (tree_facts tree) p (Text t)) texts (t ∷ []) → k ≡ Text t → IsShown tree p k e
     → d ≡ list_data (string t ∷ e ∷ []) → AreFields tree p texts (d ∷ [])
 one_field tree p texts t k d e those same seen is = record {
@@ -120,7 +120,7 @@ one_field tree p texts t k d e those same seen is = record {
   is = ap (λ x. x ∷ []) (is ∙ ap (λ y. list_data (string t ∷ y ∷ [])) seen.is);
 }
 
-fields_append : (tree : List Node × Option Scalar) (p : List Tagged) (texts more : List (List ℕ)) (ds es : List Data)
+fields_append : (tree : TreeValue) (p : List Tagged) (texts more : List (List ℕ)) (ds es : List Data)
     → AreFields tree p texts ds → AreFields tree p more es → AreFields tree p (texts ++ more) (ds ++ es)
 fields_append tree p texts more ds es a b = record {
   fields = a.fields ++ b.fields;
@@ -130,7 +130,7 @@ fields_append tree p texts more ds es a b = record {
   is = (λ j. a.is j ++ b.is j) ∙ sym (map-append field_data a.fields b.fields);
 }
 
-pub fields_step : (tree : List Node × Option Scalar) (p : List Tagged) (children : List (Key × NodeNumber)) (i : ℕ) (child : Key × NodeNumber) (ds es new : List Data)
+pub fields_step : (tree : TreeValue) (p : List Tagged) (children : List (Key × NodeNumber)) (i : ℕ) (child : Key × NodeNumber) (ds es new : List Data)
     → i < length children → child ≡ get_or children i child → AreFields tree p (texts_in (take i children)) ds → AreFields tree p (texts_at child.0) es
     → new ≡ ds ++ es → AreFields tree p (texts_in (take (i + 1) children)) new
 fields_step tree p children i child ds es new within is a b e =
@@ -148,12 +148,12 @@ one_text k t those = (same k (those_from those t (Contains-here [] refl)), those
     same (Element i) c = absurd (Contains-nil c)
     same Head c = absurd (Contains-nil c)
 
-fields_shown : (tree : List Node × Option Scalar) (p : List Tagged) (xs : List (List ℕ × Shown)) → EachField tree p xs
+fields_shown : (tree : TreeValue) (p : List Tagged) (xs : List (List ℕ × Shown)) → EachField tree p xs
     → ShowsFields (tree_facts tree) (tree_values tree) p (fields_of xs)
 fields_shown tree p [] h = tt
 fields_shown tree p (x ∷ xs) h = (h.0, fields_shown tree p xs h.1)
 
-module _ (tree : List Node × Option Scalar) (p : List Tagged) (k : Key) (children : List (Key × NodeNumber)) (rising : key_order.IsInKeyOrder children)
+module _ (tree : TreeValue) (p : List Tagged) (k : Key) (children : List (Key × NodeNumber)) (rising : key_order.IsInKeyOrder children)
     (has : (t : List ℕ) (i : Id) → (tree_facts tree).present (into_map p k) (Text t) i ≡ true → (n : NodeNumber) × Contains children (Text t, n)) where
   keys_shown : (fields : List (List ℕ × Shown))
       → AreThose (λ t. IsPresent (tree_facts tree) (into_map p k) (Text t)) (texts_in children) (map (λ (x : List ℕ × Shown). x.0) fields)
@@ -201,21 +201,21 @@ data-elements_of : (es : List Shown) → items_of (map shown_data es) ≡ elemen
 data-elements_of [] = refl
 data-elements_of (e ∷ es) = rw (data-elements_of es) refl
 
-elements_shown : (tree : List Node × Option Scalar) (p : List Tagged) (ids : List Id) (es : List Shown) → EachElement tree p ids es
+elements_shown : (tree : TreeValue) (p : List Tagged) (ids : List Id) (es : List Shown) → EachElement tree p ids es
     → ShowsElements (tree_facts tree) (tree_values tree) p ids (elements_of es)
 elements_shown tree p [] [] h = refl
 elements_shown tree p (i ∷ ids) (e ∷ es) h = (i, ids, refl, h.0, elements_shown tree p ids es h.1)
 elements_shown tree p [] (e ∷ es) h = absurd h
 elements_shown tree p (i ∷ ids) [] h = absurd h
 
-each_push : (tree : List Node × Option Scalar) (p : List Tagged) (ids : List Id) (es : List Shown) (i : Id) (e : Shown) → EachElement tree p ids es
+each_push : (tree : TreeValue) (p : List Tagged) (ids : List Id) (es : List Shown) (i : Id) (e : Shown) → EachElement tree p ids es
     → Shows (tree_facts tree) (tree_values tree) p (Element i) e → EachElement tree p (ids ++ i ∷ []) (es ++ e ∷ [])
 each_push tree p [] [] i e h here = (here, tt)
 each_push tree p (j ∷ ids) (d ∷ es) i e h here = (h.0, each_push tree p ids es i e h.1 here)
 each_push tree p [] (d ∷ es) i e h here = absurd h
 each_push tree p (j ∷ ids) [] i e h here = absurd h
 
-pub elements_step : (tree : List Node × Option Scalar) (p : List Tagged) (ids : List Id) (i : ℕ) (id : Id) (ds new : List Data) (d : Data) → i < length ids
+pub elements_step : (tree : TreeValue) (p : List Tagged) (ids : List Id) (i : ℕ) (id : Id) (ds new : List Data) (d : Data) → i < length ids
     → id ≡ get_or ids i id → AreShown tree p (take i ids) ds → IsShown tree p (Element id) d → new ≡ ds ++ d ∷ [] → AreShown tree p (take (i + 1) ids) new
 elements_step tree p ids i id ds new d within is a one e =
     subst (λ (xs : List Id). AreShown tree p xs new) (sym (take_read ids i id within is))
@@ -225,7 +225,7 @@ elements_step tree p ids i id ds new d within is a one e =
       is = e ∙ (λ j. a.is j ++ one.is j ∷ []) ∙ sym (map-append shown_data a.elements (one.shown ∷ []));
     })
 
-module _ (tree : List Node × Option Scalar) (p : List Tagged) (k : Key) where
+module _ (tree : TreeValue) (p : List Tagged) (k : Key) where
   a_list_shown : (ids : List Id) (es : List Shown) → AreElements (tree_facts tree) p k ids → EachElement tree (into_list p k) ids es
       → HasList (tree_facts tree) (tree_values tree) p k ids
       → IsListShown tree p k (list_data (string (codes "list") ∷ list_data (map shown_data es) ∷ []) ∷ [])

@@ -7,7 +7,7 @@ use Rattle.op_core.specs.Wire.{list_data}
 use Rattle.json_text.specs.Tokens.{data_tokens, all_tokens, Puts}
 use Rattle.json_text.proofs.Texts.{all_tokens-append, data_tokens-list, put_list, put_pair}
 use Rattle.doc_words.specs.Words.{Refusal, Scalar, Key, Tagged}
-use Rattle.doc_nodes.specs.declared.node.Node.{Node}
+use Rattle.doc_tree.specs.Nodes.{TreeValue}
 use Rattle.doc_nodes.specs.declared.node.NodeNumber.{NodeNumber}
 use Rattle.doc_tree.specs.Nodes.{tree_number}
 use Rattle.doc_view.specs.ByNumber.{AtNode}
@@ -81,7 +81,7 @@ one_put holds d old new (Ok x) h w = (d, h, w)
 one_put holds d old new (Err e) h w = w
 
 -- what is written at a node is written at its place
-pub one_at : (tree : List Node × Option Scalar) (n : NodeNumber) (holds : List Tagged → Key → Data → Type 0) (p : List Tagged) (k : Key) (old new : List Token) (r : Result ⊤ Refusal)
+pub one_at : (tree : TreeValue) (n : NodeNumber) (holds : List Tagged → Key → Data → Type 0) (p : List Tagged) (k : Key) (old new : List Token) (r : Result ⊤ Refusal)
     → tree_number tree p k ≡ Some n → GivesUnlessMemory (λ _. WritesOne (λ d. AtNode tree n (λ q j. holds q j d)) old new) r → GivesUnlessMemory (λ _. WritesOne (holds p k) old new) r
 one_at tree n holds p k old new (Ok x) at h = (h.0, h.1 p k at, h.2)
 one_at tree n holds p k old new (Err e) at h = h

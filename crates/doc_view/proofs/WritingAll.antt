@@ -8,7 +8,7 @@ use Rattle.json_scalar.specs.Scalar.{scalar_data}
 use Rattle.json_text.specs.Tokens.{data_tokens, all_tokens, Puts}
 use Rattle.json_text.proofs.Texts.{put_list}
 use Rattle.doc_words.specs.Words.{Id, Refusal, Scalar, Key, Tagged}
-use Rattle.doc_nodes.specs.declared.node.Node.{Node}
+use Rattle.doc_tree.specs.Nodes.{TreeValue}
 use Rattle.doc_nodes.specs.declared.node.NodeNumber.{NodeNumber}
 use Rattle.doc_tree.specs.Nodes.{tree_number}
 use Rattle.doc_view.specs.ByNumber.{AtNode}
@@ -33,7 +33,7 @@ module _ {X : Type 0} (json : X → Data) where
     empty_written (Err e) h w = w
 
   -- what is written at a node is written at its place
-  pub written_at : (tree : List Node × Option Scalar) (n : NodeNumber) (reads : List Tagged → Key → List X → Type 0) (p : List Tagged) (k : Key) (old new : List Token)
+  pub written_at : (tree : TreeValue) (n : NodeNumber) (reads : List Tagged → Key → List X → Type 0) (p : List Tagged) (k : Key) (old new : List Token)
       (r : Result ⊤ Refusal) → tree_number tree p k ≡ Some n → GivesUnlessMemory (λ _. WritesArray json (λ xs. AtNode tree n (λ q j. reads q j xs)) old new) r
       → GivesUnlessMemory (λ _. WritesArray json (reads p k) old new) r
   written_at tree n reads p k old new (Ok done) at h = (h.0, h.1 p k at, h.2)

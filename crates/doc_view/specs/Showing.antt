@@ -6,7 +6,7 @@ use Rattle.op_core.specs.declared.cursor.Key.TheVariants.{Text, Element}
 use Rattle.op_core.specs.Wire.{list_data}
 use Rattle.doc_words.specs.declared.role.Role.{Role}
 use Rattle.doc_words.specs.declared.role.Role.TheVariants as role
-use Rattle.doc_nodes.specs.declared.node.Node.{Node}
+use Rattle.doc_tree.specs.Nodes.{TreeValue}
 use Rattle.doc_tree.specs.Nodes.{tree_facts}
 use Rattle.doc_rules.specs.Views.{IsPresent}
 use Rattle.doc_rules.specs.Shown.{Shown, MapShown, ListShown, Shows, ShowsMap, ShowsList, shown_data, map_branch, list_branch}
@@ -25,7 +25,7 @@ is_list_role _ = false
 abbrev pub field_data : List ℕ × Shown → Data
 field_data field = list_data (string field.0 ∷ shown_data field.1 ∷ [])
 
-module _ (tree : List Node × Option Scalar) (p : List Tagged) where
+module _ (tree : TreeValue) (p : List Tagged) where
   -- this JSON is what is shown at a place
   pub record IsShown (k : Key) (d : Data) : Type 0 where
     pub shown : Shown

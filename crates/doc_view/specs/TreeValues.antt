@@ -3,13 +3,13 @@ use Rattle.std.specs.Prelude.{List, [], ◌∷◌, Option, Some, None, option_an
 use Rattle.doc_words.specs.Words.{Id, Scalar, Val}
 use Rattle.doc_words.specs.declared.role.Role.{Role}
 use Rattle.presence_set.specs.ById.{get}
-use Rattle.doc_nodes.specs.declared.node.Node.{Node}
+use Rattle.doc_tree.specs.Nodes.{TreeValue}
 use Rattle.doc_tree.specs.Nodes.{tree_facts, tree_role}
 use Rattle.doc_rules.specs.Views.{Values}
 use Rattle.doc_rules.specs.Role.{value_in}
 
 -- what the operation of each id put at each place
-abbrev pub tree_values : List Node × Option Scalar → Values
+abbrev pub tree_values : TreeValue → Values
 tree_values tree p k i =
     option_and_then (λ role. value_in role ((tree_facts tree).register p k i)) (tree_role tree p k i)
 

@@ -16,7 +16,7 @@ ghost use Rattle.doc_view.specs.Writing.{WritesAll, WritesArray};
 use crate::elements::present_element;
 use crate::json_parts::write_item;
 use crate::maps::present_text;
-use doc_tree::{EachChild, NodeNumber, Spot, Tree};
+use doc_tree::{EachChild, NodeNumber, SearchHint, Tree};
 use doc_words::CompactText;
 use json_scalar::Refusal;
 use json_text::JsonText;
@@ -132,9 +132,9 @@ fn write_present_items(
     ensures { GivesUnlessMemory (λ _. WritesAll item_data (λ items. AtNode tree.now list
         (λ p k. HasItems (tree_facts tree.now) (reads.into_list p k) ids.now items)) text.old text.new) result }
 {
-    let mut spot = Spot::first();
+    let mut hint = SearchHint::first();
     for id in ids {
-        write_present_item(text, tree, list, id, &mut spot)?;
+        write_present_item(text, tree, list, id, &mut hint)?;
     }
     Ok(())
 }
@@ -145,12 +145,12 @@ fn write_present_item(
     tree: &Tree,
     list: NodeNumber,
     id: &Id,
-    spot: &mut Spot,
+    hint: &mut SearchHint,
 ) -> Result<(), Refusal>
     ensures { GivesUnlessMemory (λ _. WritesAll item_data (λ items. AtNode tree.now list
         (λ p k. HasItems (tree_facts tree.now) (reads.into_list p k) (id.now ∷ []) items)) text.old text.new) result }
 {
-    match present_element(tree, list, id, spot) {
+    match present_element(tree, list, id, hint) {
         None => Ok(()),
         Some(at) => write_item(text, id, tree.register_of(at)),
     }

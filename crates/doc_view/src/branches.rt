@@ -21,7 +21,7 @@ use crate::elements::present_element;
 use crate::json_parts::{begin_branch, end_branch, write_values};
 use crate::maps::present_text;
 use crate::roles::{puts_list, puts_map};
-use doc_tree::{EachChild, NodeNumber, Spot, Tree};
+use doc_tree::{EachChild, NodeNumber, SearchHint, Tree};
 use doc_words::CompactText;
 use json_scalar::Refusal;
 use json_text::JsonText;
@@ -188,9 +188,9 @@ fn write_elements(
         text.old text.new is_begun) result }
 {
     let mut is_begun = was_begun;
-    let mut spot = Spot::first();
+    let mut hint = SearchHint::first();
     for id in ids {
-        is_begun = write_element(alloc, text, tree, list, id, &mut spot, is_begun)?;
+        is_begun = write_element(alloc, text, tree, list, id, &mut hint, is_begun)?;
     }
     Ok(is_begun)
 }
@@ -203,14 +203,14 @@ fn write_element(
     tree: &Tree,
     list: NodeNumber,
     id: &Id,
-    spot: &mut Spot,
+    hint: &mut SearchHint,
     was_begun: bool,
 ) -> Result<bool, Refusal>
     ensures { GivesUnlessMemory (λ is_begun. WritesParts (codes "list") was_begun
         (λ ds. AtNode tree.now list (λ p k. ShowsThose tree.now (into_list p k) (id.now ∷ []) ds))
         text.old text.new is_begun) result }
 {
-    match present_element(tree, list, id, spot) {
+    match present_element(tree, list, id, hint) {
         None => Ok(was_begun),
         Some(at) => {
             begin_branch(text, "list", !was_begun)?;

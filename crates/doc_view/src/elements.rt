@@ -9,7 +9,7 @@ ghost use Rattle.doc_view.specs.Members.{Adds};
 ghost use Rattle.doc_view.specs.Readings.{GivesUnlessMemory, ReadsUnlessMemory};
 
 use crate::registers::values_below;
-use doc_tree::{NodeNumber, Spot, Tree};
+use doc_tree::{NodeNumber, SearchHint, Tree};
 use doc_words::{Items, Scalars};
 use json_scalar::Refusal;
 use lamport_id::Id;
@@ -43,9 +43,9 @@ fn items_of(alloc: Global, tree: &Tree, list: NodeNumber, ids: &[Id]) -> Result<
         (λ p k. HasItems (tree_facts tree.now) (reads.into_list p k) ids.now items)) result }
 {
     let mut items = Vec::new(alloc);
-    let mut spot = Spot::first();
+    let mut hint = SearchHint::first();
     for id in ids {
-        push_item(alloc, &mut items, tree, list, id, &mut spot)?;
+        push_item(alloc, &mut items, tree, list, id, &mut hint)?;
     }
     Ok(Items::from(items))
 }
@@ -57,31 +57,31 @@ fn push_item(
     tree: &Tree,
     list: NodeNumber,
     id: &Id,
-    spot: &mut Spot,
+    hint: &mut SearchHint,
 ) -> Result<(), Refusal>
     ensures { GivesUnlessMemory (λ _. Adds (λ added. AtNode tree.now list
         (λ p k. HasItems (tree_facts tree.now) (reads.into_list p k) (id.now ∷ []) added))
         items.old.items items.new.items) result }
 {
-    if let Some(at) = present_element(tree, list, id, spot) {
+    if let Some(at) = present_element(tree, list, id, hint) {
         let scalars = values_below(alloc, tree, at)?;
         items.push((*id, scalars))?;
     }
     Ok(())
 }
 
-/// The node of an element of the list at a node, if the element is present. The spot is that of the
+/// The node of an element of the list at a node, if the element is present. The hint is that of the
 /// element that was asked for before.
 pub fn present_element(
     tree: &Tree,
     list: NodeNumber,
     id: &Id,
-    spot: &mut Spot,
+    hint: &mut SearchHint,
 ) -> Option<NodeNumber>
     ensures value { AtNode tree.now list (λ p k. IsElementAt tree.now (reads.into_list p k) id.now result) }
     ensures deeper { ForSome result (λ n. (list.0 < n.0) × (n.0 < length tree.now.0)) }
 {
-    match tree.child_by(list, &Key::Element(*id), spot) {
+    match tree.child_by(list, &Key::Element(*id), hint) {
         None => None,
         Some(at) => { if is_present(tree, at) { Some(at) } else { None } }
     }

@@ -5,7 +5,7 @@ use Rattle.doc_words.specs.Words.{Scalar, Op}
 use Rattle.list_laws.proofs.Members.{Contains-nil}
 use Rattle.doc_words.specs.declared.ask.Command.{Command}
 use Rattle.doc_words.specs.declared.reply.Reply.{Reply}
-use Rattle.doc_nodes.specs.declared.node.Node.{Node}
+use Rattle.doc_tree.specs.Nodes.{TreeValue}
 use Rattle.doc_rules.specs.Events.{Event, IsWellMade}
 use Rattle.doc_rules.specs.Replica.{IsKept}
 use Rattle.doc_rules.proofs.Kept.{event_keeps}
@@ -15,7 +15,7 @@ use Rattle.replica_core.specs.AgreesWith.{AgreesWith}
 use Rattle.replica_core.specs.Whole.{IsWhole, replica_of}
 
 -- with a good log, and nothing held
-pub whole_log : (name : List ℕ) (tree : List Node × Option Scalar) (log : List Op) (buffer : Buffer) → is_name name ≡ true → AgreesWith tree log → IsCurrent buffer log
+pub whole_log : (name : List ℕ) (tree : TreeValue) (log : List Op) (buffer : Buffer) → is_name name ≡ true → AgreesWith tree log → IsCurrent buffer log
     → IsGood log → buffer.held ≡ [] → IsWhole name tree log buffer
 whole_log name tree log buffer named tells current good none = record {
   named = named;
@@ -33,7 +33,7 @@ whole_log name tree log buffer named tells current good none = record {
 }
 
 -- and after an event
-pub whole_next : (name : List ℕ) (tree tree' : List Node × Option Scalar) (log log' : List Op) (buffer buffer' : Buffer) (command : Command) (answer : Reply)
+pub whole_next : (name : List ℕ) (tree tree' : TreeValue) (log log' : List Op) (buffer buffer' : Buffer) (command : Command) (answer : Reply)
     → IsWhole name tree log buffer → AgreesWith tree' log' → IsCurrent buffer' log' → IsWellMade command
     → Event (replica_of name log buffer.held) command answer (replica_of name log' buffer'.held) → IsWhole name tree' log' buffer'
 whole_next name tree tree' log log' buffer buffer' command answer whole tells current made event = record {
@@ -43,7 +43,7 @@ whole_next name tree tree' log log' buffer buffer' command answer whole tells cu
   kept = event_keeps (replica_of name log buffer.held) (replica_of name log' buffer'.held) command answer whole.named made whole.kept event;
 }
 
-pub whole_empty : (name : List ℕ) (tree : List Node × Option Scalar) (log : List Op) (buffer : Buffer) → is_name name ≡ true → AgreesWith tree [] → log ≡ []
+pub whole_empty : (name : List ℕ) (tree : TreeValue) (log : List Op) (buffer : Buffer) → is_name name ≡ true → AgreesWith tree [] → log ≡ []
     → IsCurrent buffer [] → buffer.held ≡ [] → IsWhole name tree log buffer
 whole_empty name tree log buffer named tells empty current none =
     subst (λ l. IsWhole name tree l buffer) (sym empty) (whole_log name tree [] buffer named tells current tt none)

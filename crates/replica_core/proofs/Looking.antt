@@ -9,7 +9,7 @@ use Rattle.doc_words.specs.declared.ask.Query.TheVariants as query
 use Rattle.doc_words.specs.declared.place.Place.{Place}
 use Rattle.doc_words.specs.declared.reply.Reply.{Reply}
 use Rattle.doc_words.specs.declared.reply.Reply.TheVariants as reply
-use Rattle.doc_nodes.specs.declared.node.Node.{Node}
+use Rattle.doc_tree.specs.Nodes.{TreeValue}
 use Rattle.doc_tree.specs.Nodes.{tree_facts, tree_role}
 use Rattle.crdt_rules.specs.Log.{IsGood}
 use Rattle.doc_view.specs.Readings as view
@@ -32,7 +32,7 @@ told_here {X} reads tell c r h = by (is_head c.key) refl r h
     by false e (Err cause) h = inl (ap reply.Refused h)
 
 -- a look where the steps lead
-pub look_told : (name : List ℕ) (log held : List Op) (mine : ℕ) (tree : List Node × Option Scalar) → AgreesWith tree log → IsGood log → (look : Look) (place : Place) (c : Cursor)
+pub look_told : (name : List ℕ) (log held : List Op) (mine : ℕ) (tree : TreeValue) → AgreesWith tree log → IsGood log → (look : Look) (place : Place) (c : Cursor)
     (answer : Reply) → Resolves (tree_facts tree) place.start place.steps (Ok c)
     → (answer ≡ reply.Refused NoMemory) ⊎ LooksHere (tree_facts tree) (tree_values tree) look c answer
     → MayAnswer (replica_of name log held) mine (query.Look look place) answer
@@ -41,7 +41,7 @@ look_told name log held mine tree tells good look place c answer leads (inr here
     inl (look_answers (replica_of name log held) mine (tree_facts tree) (tree_role tree) good tells look place (Ok c) answer leads here)
 
 -- where the steps lead
-pub resolve_told : (name : List ℕ) (log held : List Op) (mine : ℕ) (tree : List Node × Option Scalar) → AgreesWith tree log → (place : Place) (c : Cursor)
+pub resolve_told : (name : List ℕ) (log held : List Op) (mine : ℕ) (tree : TreeValue) → AgreesWith tree log → (place : Place) (c : Cursor)
     → Resolves (tree_facts tree) place.start place.steps (Ok c) → MayAnswer (replica_of name log held) mine (query.Resolve place) (reply.Resolved c)
 resolve_told name log held mine tree tells place c leads =
     inl (Ok c, subst (λ f. Resolves f place.start place.steps (Ok c)) tells.facts_are leads, refl)

@@ -4,15 +4,15 @@ use Rattle.doc_words.specs.Words.{Scalar, Op}
 use Rattle.crdt_rules.specs.Fits.{Fits}
 use Rattle.crdt_rules.specs.Log.{IsGood}
 use Rattle.crdt_rules.proofs.NextStep.{reference_stands, id_is_new}
-use Rattle.doc_nodes.specs.declared.node.Node.{Node}
+use Rattle.doc_tree.specs.Nodes.{TreeValue}
 use Rattle.doc_tree.specs.Nodes.{tree_facts}
 use Rattle.doc_tree.specs.Prepared.{KnowsReference, IsNewElement}
 use Rattle.replica_core.specs.AgreesWith.{AgreesWith}
 
-pub knows_reference : (tree : List Node × Option Scalar) {log : List Op} → AgreesWith tree log → (op : Op) → IsGood log → Fits op log → KnowsReference (tree_facts tree) op
+pub knows_reference : (tree : TreeValue) {log : List Op} → AgreesWith tree log → (op : Op) → IsGood log → Fits op log → KnowsReference (tree_facts tree) op
 knows_reference tree {log} tells op good fits =
     subst (λ f. KnowsReference f op) (sym tells.facts_are) (λ insertion. reference_stands log good op fits insertion)
 
-pub is_new_element : (tree : List Node × Option Scalar) {log : List Op} → AgreesWith tree log → (op : Op) → IsGood log → Fits op log → IsNewElement (tree_facts tree) op
+pub is_new_element : (tree : TreeValue) {log : List Op} → AgreesWith tree log → (op : Op) → IsGood log → Fits op log → IsNewElement (tree_facts tree) op
 is_new_element tree {log} tells op good fits =
     subst (λ f. IsNewElement f op) (sym tells.facts_are) (λ insertion. id_is_new log good op fits insertion)

@@ -2,7 +2,7 @@
 use Rattle.std.specs.Prelude.{◌≡◌, ℕ, List, Option, true}
 use Rattle.lamport_id.specs.Name.{is_name}
 use Rattle.doc_words.specs.Words.{Scalar, Op}
-use Rattle.doc_nodes.specs.declared.node.Node.{Node}
+use Rattle.doc_tree.specs.Nodes.{TreeValue}
 use Rattle.doc_rules.specs.Replica.{Replica, IsKept}
 use Rattle.hold_buffer.specs.Held.{Buffer, IsCurrent}
 use Rattle.replica_core.specs.AgreesWith.{AgreesWith}
@@ -11,7 +11,7 @@ abbrev pub replica_of : List ℕ → List Op → List Op → Replica
 replica_of name log held = record { name = name; log = log; held = held }
 
 -- the log is good, its tree says what it makes, and what is held waits
-pub record IsWhole (name : List ℕ) (tree : List Node × Option Scalar) (log : List Op) (buffer : Buffer) : Type 0 where
+pub record IsWhole (name : List ℕ) (tree : TreeValue) (log : List Op) (buffer : Buffer) : Type 0 where
   pub named : is_name name ≡ true
   pub tells : AgreesWith tree log
   pub current : IsCurrent buffer log
