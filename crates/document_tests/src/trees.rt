@@ -22,8 +22,6 @@ fn is_insertion(mutation: &Mutation) -> bool
 
 // Prepares and commits an operation, if it is no insertion.
 fn apply(tree: &mut Tree, op: &Operation) -> Result<(), Refusal> {
-    // what is told with its id: that its shape is right
-    let _id = op.id();
     if is_insertion(op.mutation()) {
         return Err(Refusal::BadOperation);
     }

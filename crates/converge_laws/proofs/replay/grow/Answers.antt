@@ -4,11 +4,7 @@ use Rattle.crdt_rules.specs.Context.{reference}
 use Rattle.crdt_rules.specs.Effect.{path_of}
 use Rattle.crdt_rules.proofs.NextStep.{reference_stands, id_is_new}
 use Rattle.doc_rules.proofs.Roles.{are_of_same, are_of_next}
-use Rattle.doc_tree.proofs.ShapeLaws.{shaped_has_place}
 use Rattle.converge_laws.proofs.replay.grow.Goals as goal
-
-pub prepare-requires : goal.prepare-requires
-prepare-requires c = shaped_has_place c.args.op.now c.requires.fits.shape
 
 pub commit-requires-clause-reference : goal.commit-requires-clause-reference
 commit-requires-clause-reference c =

@@ -3,14 +3,10 @@ use Rattle.op_core.specs.Op.{Op}
 use Rattle.crdt_rules.specs.Fits.{Fits}
 use Rattle.op_log.specs.Log.{Log}
 use Rattle.doc_rules.proofs.Roles.{are_of_same, are_of_next}
-use Rattle.doc_tree.proofs.ShapeLaws.{shaped_has_place}
 use Rattle.replica_core.specs.AgreesWith.{AgreesWith}
 use Rattle.replica_core.proofs.Telling.{knows_reference, is_new_element}
 use Rattle.replica_core.proofs.log_op.log_op.Goals as goal
 use Rattle.replica_core.proofs.log_op.log_op.Goals.{then-is_err-via-then-is_err, then-is_err-via-else-is_err+then-is_err-2}
-
-pub prepare-requires : goal.prepare-requires
-prepare-requires c = shaped_has_place c.args.op c.requires.fits.shape
 
 kept : (c : goal.After-drop) → c.then-is_err.log.operations ≡ c.args.log.now.operations
 kept c =
