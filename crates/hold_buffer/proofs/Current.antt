@@ -16,44 +16,44 @@ use Rattle.list_laws.proofs.Filters.{filter-Contains, Contains-filter}
 use Rattle.doc_rules.proofs.Held.{put_among_from}
 use Rattle.hold_buffer.specs.Held.{IsCurrent, Wait}
 use Rattle.hold_buffer.specs.Order.{operations_of, IsOrdered, waits_of, waits_for, wait_of}
-use Rattle.hold_buffer.specs.declared.ticket.Ticket.{Ticket}
-use Rattle.hold_buffer.proofs.Waits.{waits-at, waits-from, same_ticket}
-use Rattle.hold_buffer.proofs.Waiting.{operations-at, ticket_id}
+use Rattle.hold_buffer.specs.declared.entry.Entry.{Entry}
+use Rattle.hold_buffer.proofs.Waits.{waits-at, waits-from, same_entry}
+use Rattle.hold_buffer.proofs.Waiting.{operations-at, entry_id}
 
 -- ---- readiness is that nothing is lacked
 
-ready_lacks_none : (op : Op) (log : List Op) → is_ready op log ≡ true → (i : Id) → ¬ (Contains (missing op log) i)
-ready_lacks_none op log ready i c =
+ready_none_missing : (op : Op) (log : List Op) → is_ready op log ≡ true → (i : Id) → ¬ (Contains (missing op log) i)
+ready_none_missing op log ready i c =
     let r = filter-Contains (λ j. not (is_logged log j)) (map id_of op.front) c in
     let e = map-from id_of op.front r.0 in
     let logged = all_at (λ e. is_logged log (id_of e)) op.front ready e.1 in
     both_ways (is_logged log i) (not-true (is_logged log i) r.1) (subst (λ j. is_logged log j ≡ true) e.2 logged)
 
-lacks_none_ready : (op : Op) (log : List Op) → ((i : Id) → ¬ (Contains (missing op log) i)) → is_ready op log ≡ true
-lacks_none_ready op log none = all_from (λ e. is_logged log (id_of e)) op.front (λ e c. by (id_of e) (Contains-map id_of op.front c) (is_logged log (id_of e)) refl)
+none_missing_ready : (op : Op) (log : List Op) → ((i : Id) → ¬ (Contains (missing op log) i)) → is_ready op log ≡ true
+none_missing_ready op log none = all_from (λ e. is_logged log (id_of e)) op.front (λ e c. by (id_of e) (Contains-map id_of op.front c) (is_logged log (id_of e)) refl)
   where
     by : (i : Id) → Contains (map id_of op.front) i → (b : Bool) → is_logged log i ≡ b → b ≡ true
     by i c true e = refl
     by i c false e = absurd (none i (Contains-filter (λ j. not (is_logged log j)) (map id_of op.front) c (ap not e)))
 
--- ---- what the tickets lack
+-- ---- what the entries lack
 
--- a ticket lacks what its operation is missing
-pub lacking : {slots : Slab Op} {order : List Ticket} → IsOrdered slots order → (log : List Op) → IsCurrent (record { held = operations_of slots order; waits = waits_of order }) log
-    → (t : Ticket) → Contains order t → (o : Op) → get slots t.key ≡ Some o → (i : Id) → Contains t.lacks i ↔ Contains (missing o log) i
+-- an entry lacks what its operation is missing
+pub lacking : {slots : Slab Op} {order : List Entry} → IsOrdered slots order → (log : List Op) → IsCurrent (record { held = operations_of slots order; waits = waits_of order }) log
+    → (t : Entry) → Contains order t → (o : Op) → get slots t.key ≡ Some o → (i : Id) → Contains t.missing i ↔ Contains (missing o log) i
 unfolding IsCurrent
 lacking {slots} {order} ordered log current t c o at i = (
   (λ lacked. (current o held i).0 (subst (λ (w : Id). Contains (waits_of order) (wait_of i w)) (sym name) (waits-at order c i lacked))),
   (λ missed.
       let u = waits-from order ((current o held i).1 missed) in
-      subst (λ (v : Ticket). Contains v.lacks i) (same_ticket order ordered.rising u.1 c (u.3 ∙ name)) u.2),
+      subst (λ (v : Entry). Contains v.missing i) (same_entry order ordered.rising u.1 c (u.3 ∙ name)) u.2),
 )
   where
     held : Contains (operations_of slots order) o
     held = operations-at slots order ordered.right t o c at
 
     name : o.id ≡ t.id
-    name = ticket_id slots order ordered.right t o c at
+    name = entry_id slots order ordered.right t o c at
 
 empty_test : (ids : List Id) → (length ids == 0) ≡ true → (i : Id) → ¬ (Contains ids i)
 empty_test [] h i c = Contains-nil c
@@ -64,18 +64,18 @@ none_test [] none = refl
 none_test (j ∷ ids) none = absurd (none j (Contains-here ids refl))
 
 -- it lacks nothing exactly if its operation is ready
-pub ready_test : {slots : Slab Op} {order : List Ticket} → IsOrdered slots order → (log : List Op)
+pub ready_test : {slots : Slab Op} {order : List Entry} → IsOrdered slots order → (log : List Op)
     → IsCurrent (record { held = operations_of slots order; waits = waits_of order }) log
-    → (t : Ticket) → Contains order t → (o : Op) × (get slots t.key ≡ Some o) × (o.id ≡ t.id) × (is_ready o log ≡ (length t.lacks == 0))
+    → (t : Entry) → Contains order t → (o : Op) × (get slots t.key ≡ Some o) × (o.id ≡ t.id) × (is_ready o log ≡ (length t.missing == 0))
 ready_test {slots} {order} ordered log current t c =
     let r = ordered.right t c in
     let same = lacking ordered log current t c r.0 r.1 in (
       r.0,
       r.1,
       r.2,
-      bool_ext (is_ready r.0 log) (length t.lacks == 0)
-          (λ ready. none_test t.lacks (λ i lacked. ready_lacks_none r.0 log ready i ((same i).0 lacked)))
-          (λ free. lacks_none_ready r.0 log (λ i missed. empty_test t.lacks free i ((same i).1 missed))),
+      bool_ext (is_ready r.0 log) (length t.missing == 0)
+          (λ ready. none_test t.missing (λ i lacked. ready_none_missing r.0 log ready i ((same i).0 lacked)))
+          (λ free. none_missing_ready r.0 log (λ i missed. empty_test t.missing free i ((same i).1 missed))),
     )
 
 -- ---- one more is logged

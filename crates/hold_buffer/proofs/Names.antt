@@ -13,7 +13,7 @@ use Rattle.doc_rules.proofs.WholeFront.{rising_from_ascending}
 use Rattle.sorted_lists.specs.Sorted.{IsGap}
 use Rattle.sorted_lists.proofs.Keys.{less≢equal}
 use Rattle.sorted_lists.proofs.Rising.{gap_none, IsRising-split}
-use Rattle.hold_buffer.specs.Lacked.{AreFrom}
+use Rattle.hold_buffer.specs.Missing.{AreFrom}
 use Rattle.hold_buffer.proofs.Waiting.{others_kept}
 
 -- the ids of a front that ascends
@@ -71,8 +71,8 @@ other_counter ids id at x rising within here name other c =
       ]
     ]
 
-pub gap_lacks : (ids : List Id) (id : Id) (at : ℕ) → IsGap name_cmp (λ i. i.replica) ids id.replica at → ¬ (Contains ids id)
-gap_lacks ids id at gap c = gap_none name_order (λ (i : Id). i.replica) ids id.replica at gap id c refl
+pub gap_absent : (ids : List Id) (id : Id) (at : ℕ) → IsGap name_cmp (λ i. i.replica) ids id.replica at → ¬ (Contains ids id)
+gap_absent ids id at gap c = gap_none name_order (λ (i : Id). i.replica) ids id.replica at gap id c refl
 
 -- what is left of ids has no lesser counter
 pub AreFrom-left : (floor : ℕ) (ids left : List Id) (id : Id) → left ≡ filter (λ i. not (id_eq i id)) ids → AreFrom floor ids → AreFrom floor left

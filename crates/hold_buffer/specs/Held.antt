@@ -16,11 +16,12 @@ pub record Buffer : Type 0 where
   -- which of them waits for which id
   pub waits : List Wait
 
--- What the buffer keeps of the log is right: a held operation waits for the ids of its front that are not logged, and for
--- no others.
+-- What the buffer keeps of the log is right: a held operation waits for the ids of its front that are not logged, and
+-- for no others.
 unfoldable pub IsCurrent : Buffer → List Op → Type 0
 IsCurrent buffer log =
-    (op : Op) → Contains buffer.held op → (i : Id) → Contains buffer.waits (record { awaited = i; waiter = op.id }) ↔ Contains (missing op log) i
+    (op : Op) → Contains buffer.held op → (i : Id)
+    → Contains buffer.waits (record { awaited = i; waiter = op.id }) ↔ Contains (missing op log) i
 
 -- the first cause against holding an operation: another one is held under its id, or there is no room
 abbrev pub first_hold_cause : Bool → Bool → Result ⊤ Refusal

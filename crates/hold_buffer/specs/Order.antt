@@ -6,16 +6,16 @@ use Rattle.op_core.specs.Front.{is_ascending}
 use Rattle.crdt_rules.specs.Same.{id_eq}
 use Rattle.doc_rules.specs.Sorted.{IsRising}
 use Rattle.hold_buffer.specs.Held.{Wait}
-use Rattle.hold_buffer.specs.declared.ticket.Ticket.{Ticket}
+use Rattle.hold_buffer.specs.declared.entry.Entry.{Entry}
 
--- the operations of the tickets
-abbrev pub operations_of : Slab Op → List Ticket → List Op
+-- the operations of the entries
+abbrev pub operations_of : Slab Op → List Entry → List Op
 operations_of slots order = filter_map (λ t. get slots t.key) order
 
--- the tickets rise by id, and each leads to the operation of its id
-pub record IsOrdered (slots : Slab Op) (order : List Ticket) : Type 0 where
+-- the entries rise by id, and each leads to the operation of its id
+pub record IsOrdered (slots : Slab Op) (order : List Entry) : Type 0 where
   pub rising : IsRising id_cmp (λ t. t.id) order
-  pub right : (t : Ticket) → Contains order t → (op : Op) × (get slots t.key ≡ Some op) × (op.id ≡ t.id)
+  pub right : (t : Entry) → Contains order t → (op : Op) × (get slots t.key ≡ Some op) × (op.id ≡ t.id)
 
 -- an operation waits for an id
 abbrev pub wait_of : Id → Id → Wait
@@ -25,21 +25,21 @@ wait_of i waiter = record { awaited = i; waiter = waiter }
 abbrev pub waits_for : List Id → Id → List Wait
 waits_for ids waiter = map (λ i. wait_of i waiter) ids
 
--- all waits of the tickets
-abbrev pub waits_of : List Ticket → List Wait
+-- all waits of the entries
+abbrev pub waits_of : List Entry → List Wait
 waits_of [] = []
-waits_of (t ∷ order) = waits_for t.lacks t.id ++ waits_of order
+waits_of (t ∷ order) = waits_for t.missing t.id ++ waits_of order
 
--- the ids that a ticket lacks are of different replicas, by rising name
-abbrev pub AreNamed : List Ticket → Type 0
-AreNamed order = (t : Ticket) → Contains order t → IsRising name_cmp (λ i. i.replica) t.lacks
+-- the ids that an entry waits for are of different replicas, by rising name
+abbrev pub AreNamed : List Entry → Type 0
+AreNamed order = (t : Entry) → Contains order t → IsRising name_cmp (λ i. i.replica) t.missing
 
--- the ticket lacks the id no more
-abbrev pub lacks_no_more : Id → Ticket → Ticket
-lacks_no_more id t = record t { lacks = filter (λ i. not (id_eq i id)) t.lacks }
+-- the entry waits for the id no more
+abbrev pub without_id : Id → Entry → Entry
+without_id id t = record t { missing = filter (λ i. not (id_eq i id)) t.missing }
 
 -- all of a buffer
-pub record IsIntact (slots : Slab Op) (order : List Ticket) : Type 0 where
+pub record IsIntact (slots : Slab Op) (order : List Entry) : Type 0 where
   pub ordered : IsOrdered slots order
   pub named : AreNamed order
   -- each front is in the order of the names

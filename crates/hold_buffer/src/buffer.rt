@@ -10,8 +10,8 @@ ghost use Rattle.crdt_rules.specs.Dependencies.{is_logged, is_ready, missing};
 ghost use Rattle.hold_buffer.specs.Held.{IsCurrent, hold_cause};
 ghost use Rattle.doc_rules.specs.Replica.{put_among};
 
-use crate::order::{admit, first_ready, forget_awaited, ids_of, search, store, take, waiting_of};
-use crate::ticket::Ticket;
+use crate::entry::Entry;
+use crate::order::{admit, first_ready, ids_of, mark_arrived, search, store, take, waiting_of};
 use doc_words::{Ids, Waiting};
 use json_scalar::Refusal;
 use lamport_id::Id;
@@ -21,13 +21,14 @@ use slab::Slab;
 use std::alloc::Global;
 use std::marker::Model;
 
-/// Operations that wait for others to be logged. A contract sees the held operations, by rising id (`held`), and which of
-/// them waits for which id (`waits`): `IsCurrent` says that they wait for exactly the ids of their fronts that a log lacks.
+/// Operations that wait for others to be logged (a causal buffer). A contract sees the held operations,
+/// by rising id (`held`), and which of them waits for which id (`waits`): `IsCurrent` says that they
+/// wait for exactly the ids of their fronts that are not in a log.
 #[derive(Debug)]
 pub struct HoldBuffer {
     slots: Slab<Operation>,
     // by rising id
-    order: Vec<Ticket>,
+    order: Vec<Entry>,
 }
 
 impl Model for HoldBuffer {
@@ -68,15 +69,15 @@ impl HoldBuffer {
         self.len() == 0
     }
 
-    /// The ids of the held operations, in their order. It is refused for want of memory alone.
+    /// The ids of the held operations, in their order. The only error is out of memory.
     pub fn ids(&self) -> Result<Ids, Refusal>
         ensures { UnlessMemory result (Ok (map (λ o. o.id) self.now.held)) }
     {
         Ok(Ids::from(ids_of(*self.order.allocator(), &self.order)?))
     }
 
-    /// The ids of the held operations, in their order, each with those that it waits for, in the order of its front. It is
-    /// refused for want of memory alone.
+    /// The ids of the held operations, in their order, each with those that it waits for, in the order of
+    /// its front. The only error is out of memory.
     pub fn waiting(&self, log: &OpLog) -> Result<Waiting, Refusal>
         requires { IsCurrent self.now log.now.operations }
         ensures { UnlessMemory result (Ok (map (λ o. (o.id, missing o log.now.operations)) self.now.held)) }
@@ -103,7 +104,7 @@ impl HoldBuffer {
         self.get(id).is_some()
     }
 
-    /// Whether an equal operation is held.
+    /// Whether an equal operation is held. The program itself doesn't call it.
     pub fn same(&self, op: &Operation) -> bool
         ensures { IsTrue result ↔ Contains self.now.held op.now }
     {
@@ -113,7 +114,9 @@ impl HoldBuffer {
         }
     }
 
-    /// Holds an operation that is not ready, unless another one is held under its id, or too many are held.
+    /// Holds an operation that is not ready, unless another one is held under its id (id-conflict), or
+    /// 256 are held (held-full), or out of memory. An error leaves the buffer as it was. The program itself calls
+    /// `hold_with_missing`.
     pub fn hold(&mut self, log: &OpLog, op: Operation) -> Result<(), Refusal>
         requires waits { is_ready op log.now.operations ≡ false }
         requires new_id { is_logged log.now.operations op.id ≡ false }
@@ -125,60 +128,63 @@ impl HoldBuffer {
         ensures current { IsCurrent self.new log.now.operations }
     {
         match log.missing(&op) {
-            Ok(missing) => self.hold_lacking(op, &missing),
-            Err(_) => {
-                drop(op);
-                Err(Refusal::NoMemory)
-            }
+            Ok(missing) => self.hold_with_missing(op, &missing),
+            Err(_) => Err(Refusal::NoMemory),
         }
     }
 
-    /// The same, of an operation that lacks these ids.
-    pub fn hold_lacking(&mut self, op: Operation, missing: &Ids) -> Result<(), Refusal>
+    /// The same, of an operation that waits for these ids.
+    pub fn hold_with_missing(&mut self, op: Operation, missing: &Ids) -> Result<(), Refusal>
         requires missed { (log : List Op) × (missing.now ≡ deps.missing op log) }
         ensures cause { UnlessMemory result (hold_cause op.id self.old.held) }
         ensures ok { OnOk result (self.new.held ≡ put_among op self.old.held) }
         ensures err { OnErr result (self.new ≡ self.old) }
-        ensures current { (log : List Op) → missing.now ≡ deps.missing op log → IsCurrent self.old log → IsCurrent self.new log }
+        ensures current { (log : List Op) → missing.now ≡ deps.missing op log
+            → IsCurrent self.old log → IsCurrent self.new log }
     {
         match admit(&op, missing, &mut self.slots, &mut self.order) {
-            Ok((at, lacks)) => {
-                store(&mut self.slots, &mut self.order, at, op, lacks);
+            Ok((at, awaited)) => {
+                store(&mut self.slots, &mut self.order, at, op, awaited);
                 Ok(())
             }
             Err(refusal) => {
+                // in this arm, for a shorter proof
                 drop(op);
                 Err(refusal)
             }
         }
     }
 
-    /// Takes notice that an operation was logged.
+    /// Notes that the operation of this id was logged: no held one waits for it any longer.
     pub fn logged(&mut self, id: Id)
         ensures held { self.new.held ≡ self.old.held }
-        ensures current { (log : List Op) (op : Op) → op.id ≡ id → IsCurrent self.old log → IsCurrent self.new (log ++ op ∷ []) }
+        ensures current { (log : List Op) (op : Op) → op.id ≡ id
+            → IsCurrent self.old log → IsCurrent self.new (log ++ op ∷ []) }
     {
-        forget_awaited(&mut self.order, &id);
+        mark_arrived(&mut self.order, &id);
     }
 
     /// The least id of the ready operations.
     pub fn next_ready(&self, log: &OpLog) -> Option<Id>
         requires { IsCurrent self.now log.now.operations }
         ensures least { result ≡ option_map (λ o. o.id) (find (λ o. is_ready o log.now.operations) self.now.held) }
-        ensures operation { IfSome result (λ id. find_id self.now.held id ≡ find (λ o. is_ready o log.now.operations) self.now.held) }
+        ensures operation { IfSome result (λ id.
+            find_id self.now.held id ≡ find (λ o. is_ready o log.now.operations) self.now.held) }
     {
         first_ready(&self.order)
     }
 
-    /// The ids that a held operation waits for, in the order of its front. It is refused for want of memory alone.
+    /// The ids that a held operation waits for, in the order of its front. The only error is out of
+    /// memory.
     pub fn missing(&self, log: &OpLog, id: Id) -> Result<Ids, Refusal>
         requires held { is_logged self.now.held id ≡ true }
         requires current { IsCurrent self.now log.now.operations }
-        ensures { (op : Op) → find_id self.now.held id ≡ Some op → UnlessMemory result (Ok (missing op log.now.operations)) }
+        ensures { (op : Op) → find_id self.now.held id ≡ Some op
+            → UnlessMemory result (Ok (missing op log.now.operations)) }
     {
         let alloc = *self.order.allocator();
         match search(&self.order, id) {
-            Ok(at) => self.order[at].lacks.ids(alloc),
+            Ok(at) => self.order[at].missing.ids(alloc),
             Err(_) => unreachable!(),
         }
     }
@@ -194,7 +200,7 @@ impl HoldBuffer {
     }
 }
 
-// By hand, so that it is called and not written out where a buffer is let go.
+// By hand, so that it is called and not written out where a buffer is dropped.
 impl Drop for HoldBuffer {
     fn drop(self) {
         let HoldBuffer { slots: _, order: _ } = self;

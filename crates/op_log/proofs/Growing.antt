@@ -15,7 +15,7 @@ use Rattle.doc_rules.specs.Replica.{find_id}
 use Rattle.crdt_rules.proofs.Logs.{good_push}
 use Rattle.crdt_rules.proofs.Tests.{some_same, some≢none}
 use Rattle.op_log.specs.Front.{PutsEntry}
-use Rattle.op_log.specs.Index.{StandsAt, IsLink, AreLinks, IsLast, AreLasts, IsFirstFrom, IsIndexed}
+use Rattle.op_log.specs.Index.{HasOpAt, IsLink, AreLinks, IsLast, AreLasts, IsFirstFrom, IsIndexed}
 use Rattle.op_log.specs.declared.index.Link.{Link}
 use Rattle.doc_rules.proofs.WholeFront.{rising_from_ascending}
 use Rattle.op_log.proofs.Ids.{find_id-none}
@@ -23,13 +23,13 @@ use Rattle.op_log.proofs.Indexes.{slice_get-push_old, slice_get-push_new, slice_
 use Rattle.op_log.proofs.LastCounters.{IsFrontOf-push}
 
 module _ (log : List Op) (op : Op) where
-  stands-old : {name : List ℕ} {k : ℕ} → StandsAt log name k → StandsAt (log ++ op ∷ []) name k
+  stands-old : {name : List ℕ} {k : ℕ} → HasOpAt log name k → HasOpAt (log ++ op ∷ []) name k
   stands-old {k = k} at = record { op = at.op; there = slice_get-push_old log op k at.there; made = at.made }
 
-  stands-new : StandsAt (log ++ op ∷ []) op.id.replica (length log)
+  stands-new : HasOpAt (log ++ op ∷ []) op.id.replica (length log)
   stands-new = record { op = op; there = slice_get-push_new log op; made = refl }
 
-  stands-cases : {name : List ℕ} {k : ℕ} → StandsAt (log ++ op ∷ []) name k → StandsAt log name k ⊎ ((k ≡ length log) × (op.id.replica ≡ name))
+  stands-cases : {name : List ℕ} {k : ℕ} → HasOpAt (log ++ op ∷ []) name k → HasOpAt log name k ⊎ ((k ≡ length log) × (op.id.replica ≡ name))
   stands-cases {k = k} at =
       elim (slice_get-push_cases log op k at.there) [
         | inl old ↦ inl (record { op = at.op; there = old; made = at.made })
@@ -37,10 +37,10 @@ module _ (log : List Op) (op : Op) where
       ]
 
   -- before an old place stand old operations alone
-  stands-before : {name : List ℕ} {j k : ℕ} → StandsAt (log ++ op ∷ []) name j → j < k → k ≤ length log → StandsAt log name j
+  stands-before : {name : List ℕ} {j k : ℕ} → HasOpAt (log ++ op ∷ []) name j → j < k → k ≤ length log → HasOpAt log name j
   stands-before {name = name} {j = j} {k = k} at below within = by (stands-cases at)
     where
-      by : StandsAt log name j ⊎ ((j ≡ length log) × (op.id.replica ≡ name)) → StandsAt log name j
+      by : HasOpAt log name j ⊎ ((j ≡ length log) × (op.id.replica ≡ name)) → HasOpAt log name j
       by (inl old) = old
       by (inr new) = let end : j ≡ length log = new.0 in absurd (omega arith)
 
@@ -54,14 +54,14 @@ module _ (log : List Op) (op : Op) where
 -- the link of one more operation
 record IsNextLink (log : List Op) (name : List ℕ) (last : Option ℕ) (link : Link) : Type 0 where
   before : MatchOption last (link.before ≡ length log) (λ k. link.before ≡ k)
-  far : MatchOption last (link.far ≡ length log) (λ k. (name : List ℕ) → StandsAt log name k → StandsAt log name link.far)
+  far : MatchOption last (link.far ≡ length log) (λ k. (name : List ℕ) → HasOpAt log name k → HasOpAt log name link.far)
 
 module _ (log : List Op) (op : Op) (lasts : List (List ℕ × ℕ)) (are : AreLasts log lasts) where
   link-new : (last : Option ℕ) → last ≡ entry_of lasts op.id.replica → (link : Link) → IsNextLink log op.id.replica last link
       → IsLink (log ++ op ∷ []) op.id.replica (length log) link
   link-new None none link is = record {
-    before = subst (StandsAt (log ++ op ∷ []) op.id.replica) (sym is.before) (stands-new log op);
-    far = subst (StandsAt (log ++ op ∷ []) op.id.replica) (sym is.far) (stands-new log op);
+    before = subst (HasOpAt (log ++ op ∷ []) op.id.replica) (sym is.before) (stands-new log op);
+    far = subst (HasOpAt (log ++ op ∷ []) op.id.replica) (sym is.far) (stands-new log op);
     next = λ j at below. absurd (are.none op.id.replica (sym none) j (stands-before log op at below (omega arith)));
   }
   link-new (Some k) some link is =
@@ -69,7 +69,7 @@ module _ (log : List Op) (op : Op) (lasts : List (List ℕ × ℕ)) (are : AreLa
       let within : k < length log = stands-within here.here in
       let before : link.before ≡ k = is.before in
       record {
-        before = subst (StandsAt (log ++ op ∷ []) op.id.replica) (sym before) (stands-old log op here.here);
+        before = subst (HasOpAt (log ++ op ∷ []) op.id.replica) (sym before) (stands-old log op here.here);
         far = stands-old log op (is.far op.id.replica here.here);
         next = λ j at below.
             let last : j ≤ k = here.last j (stands-before log op at below (omega arith)) in
@@ -93,10 +93,10 @@ AreLinks-push {log} {links} are op link is = record {
       ];
 }
   where
-    made : (name : List ℕ) (k : ℕ) → StandsAt (log ++ op ∷ []) name k → k ≡ length log → op.id.replica ≡ name
+    made : (name : List ℕ) (k : ℕ) → HasOpAt (log ++ op ∷ []) name k → k ≡ length log → op.id.replica ≡ name
     made name k at end = by (stands-cases log op at)
       where
-        by : StandsAt log name k ⊎ ((k ≡ length log) × (op.id.replica ≡ name)) → op.id.replica ≡ name
+        by : HasOpAt log name k ⊎ ((k ≡ length log) × (op.id.replica ≡ name)) → op.id.replica ≡ name
         by (inl old) = let within : k < length log = stands-within old in absurd (omega arith)
         by (inr new) = new.1
 
@@ -113,8 +113,8 @@ AreLasts-push {log} {lasts} are op lasts' ascending puts = record {
     each name k true same is =
         let end : length log ≡ k = some_same is in
         record {
-          here = subst (λ (n : ℕ). StandsAt (log ++ op ∷ []) name n) end
-              (subst (λ (m : List ℕ). StandsAt (log ++ op ∷ []) m (length log)) ((bytes_decides op.id.replica name).0 same) (stands-new log op));
+          here = subst (λ (n : ℕ). HasOpAt (log ++ op ∷ []) name n) end
+              (subst (λ (m : List ℕ). HasOpAt (log ++ op ∷ []) m (length log)) ((bytes_decides op.id.replica name).0 same) (stands-new log op));
           last = λ j at. let within : j < length (log ++ op ∷ []) = stands-within at in omega (arith, length-append log (op ∷ []));
         }
     each name k false other is =
@@ -129,7 +129,7 @@ AreLasts-push {log} {lasts} are op lasts' ascending puts = record {
         }
 
     none : (name : List ℕ) (b : Bool) → bytes_eq op.id.replica name ≡ b → ◌≡◌ {A = Option ℕ} (if b then Some (length log) else entry_of lasts name) None
-        → (j : ℕ) → StandsAt log name j ⊎ ((j ≡ length log) × (op.id.replica ≡ name)) → ⊥
+        → (j : ℕ) → HasOpAt log name j ⊎ ((j ≡ length log) × (op.id.replica ≡ name)) → ⊥
     none name true same is j at = some≢none is
     none name false other is j (inl old) = are.none name is j old
     none name false other is j (inr new) = both_ways (bytes_eq op.id.replica name) other ((bytes_decides op.id.replica name).1 new.1)
@@ -137,7 +137,7 @@ AreLasts-push {log} {lasts} are op lasts' ascending puts = record {
 pub IsIndexed-append : {log : List Op} {links : List Link} {lasts front : List (List ℕ × ℕ)} → IsIndexed log links lasts front → (op : Op) (last : Option ℕ) (link : Link)
     (lasts' front' : List (List ℕ × ℕ)) → Fits op log → last ≡ entry_of lasts op.id.replica
     → MatchOption last (link.before ≡ length log) (λ k. link.before ≡ k)
-    → MatchOption last (link.far ≡ length log) (λ k. (name : List ℕ) → StandsAt log name k → StandsAt log name link.far)
+    → MatchOption last (link.far ≡ length log) (λ k. (name : List ℕ) → HasOpAt log name k → HasOpAt log name link.far)
     → is_ascending lasts' ≡ true → PutsEntry lasts lasts' op.id.replica (length log)
     → is_ascending front' ≡ true → PutsEntry front front' op.id.replica op.id.counter
     → IsIndexed (log ++ op ∷ []) (links ++ link ∷ []) lasts' front'
@@ -150,7 +150,7 @@ IsIndexed-append {log} {links} {lasts} {front} is op last link lasts' front' fit
 
 -- what next_link is asked for
 pub last_stands : {log : List Op} {lasts : List (List ℕ × ℕ)} → AreLasts log lasts → (name : List ℕ) (last : Option ℕ) → last ≡ entry_of lasts name
-    → IfSome last (λ k. (n : List ℕ) × StandsAt log n k)
+    → IfSome last (λ k. (n : List ℕ) × HasOpAt log n k)
 last_stands are name None is = tt
 last_stands are name (Some k) is = (name, (are.each name k (sym is)).here)
 
@@ -160,26 +160,26 @@ last_within are name None is = tt
 last_within are name (Some k) is = stands-within (are.each name k (sym is)).here
 
 -- the link of a place
-link_at : {log : List Op} {links : List Link} → AreLinks log links → (name : List ℕ) (k : ℕ) (d : Link) → StandsAt log name k → IsLink log name k (get_or links k d)
+link_at : {log : List Op} {links : List Link} → AreLinks log links → (name : List ℕ) (k : ℕ) (d : Link) → HasOpAt log name k → IsLink log name k (get_or links k d)
 link_at {log} {links} are name k d at =
     let within : k < length links = omega (arith, stands-within at, are.as_many) in
     are.right name k (get_or links k d) at (slice_get-get_or links k d within)
 
 -- where the links of a place lead
-pub far_stands : {log : List Op} {links : List Link} → AreLinks log links → (name : List ℕ) (k : ℕ) (d : Link) → StandsAt log name k
-    → StandsAt log name (get_or links k d).far
+pub far_stands : {log : List Op} {links : List Link} → AreLinks log links → (name : List ℕ) (k : ℕ) (d : Link) → HasOpAt log name k
+    → HasOpAt log name (get_or links k d).far
 far_stands {log} {links} are name k d at = (link_at are name k d at).far
 
-pub far_within : {log : List Op} {links : List Link} → AreLinks log links → (name : List ℕ) (k : ℕ) (d : Link) → StandsAt log name k
+pub far_within : {log : List Op} {links : List Link} → AreLinks log links → (name : List ℕ) (k : ℕ) (d : Link) → HasOpAt log name k
     → (get_or links k d).far < length links
 far_within are name k d at = omega (arith, stands-within (far_stands are name k d at), are.as_many)
 
-pub before_stands : {log : List Op} {links : List Link} → AreLinks log links → (name : List ℕ) (k : ℕ) (d : Link) → StandsAt log name k
-    → StandsAt log name (get_or links k d).before
+pub before_stands : {log : List Op} {links : List Link} → AreLinks log links → (name : List ℕ) (k : ℕ) (d : Link) → HasOpAt log name k
+    → HasOpAt log name (get_or links k d).before
 before_stands {log} {links} are name k d at = (link_at are name k d at).before
 
 -- where the link of a place leads to no operation with the counter, its own is the first
-pub first_at : {log : List Op} {links : List Link} → AreLinks log links → IsGood log → (name : List ℕ) (counter k : ℕ) (d : Link) → (here : StandsAt log name k)
+pub first_at : {log : List Op} {links : List Link} → AreLinks log links → IsGood log → (name : List ℕ) (counter k : ℕ) (d : Link) → (here : HasOpAt log name k)
     → counter ≤ here.op.id.counter
     → ((get_or links k d).before < k → (op : Op) → slice_get log (get_or links k d).before ≡ Some op → op.id.counter < counter) → IsFirstFrom log name counter k
 first_at {log} {links} are good name counter k d here reaches short =

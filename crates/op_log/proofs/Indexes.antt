@@ -16,7 +16,7 @@ use Rattle.crdt_rules.proofs.Tests.{some_same, some≢none}
 use Rattle.doc_rules.specs.Replica.{find_id}
 use Rattle.crdt_rules.proofs.GoodLogs.{ids_once}
 use Rattle.op_log.proofs.Ids.{find_id-Contains, find_id-none, is_logged-find_id}
-use Rattle.op_log.specs.Index.{StandsAt, IsLink, IsLast, IsFirstFrom}
+use Rattle.op_log.specs.Index.{HasOpAt, IsLink, IsLast, IsFirstFrom}
 use Rattle.op_log.specs.declared.index.Link.{Link}
 
 module _ {X : Type 0} where
@@ -44,20 +44,20 @@ module _ {X : Type 0} where
 pub read_at : (log : List Op) (k : ℕ) (op x : Op) → slice_get log k ≡ Some op → x ≡ get_or log k x → x ≡ op
 read_at log k op x there read = read ∙ get_or_from_slice_get log k op x there
 
-pub stands-within : {log : List Op} {name : List ℕ} {k : ℕ} → StandsAt log name k → k < length log
+pub stands-within : {log : List Op} {name : List ℕ} {k : ℕ} → HasOpAt log name k → k < length log
 stands-within {log} {k = k} at = slice_get_within log k at.op at.there
 
 -- ---- the counters of a replica's operations rise
 
-pub chain_rises : (log : List Op) → IsGood log → (name : List ℕ) (j k : ℕ) (a : StandsAt log name j) (b : StandsAt log name k) → j < k → a.op.id.counter < b.op.id.counter
+pub chain_rises : (log : List Op) → IsGood log → (name : List ℕ) (j k : ℕ) (a : HasOpAt log name j) (b : HasOpAt log name k) → j < k → a.op.id.counter < b.op.id.counter
 chain_rises =
-    by_fits (λ log. (name : List ℕ) (j k : ℕ) (a : StandsAt log name j) (b : StandsAt log name k) → j < k → a.op.id.counter < b.op.id.counter)
+    by_fits (λ log. (name : List ℕ) (j k : ℕ) (a : HasOpAt log name j) (b : HasOpAt log name k) → j < k → a.op.id.counter < b.op.id.counter)
     (λ name j k a b below. absurd (some≢none (sym a.there)))
     push
   where
     push : (log : List Op) (op : Op) → IsGood log → Fits op log
-        → ((name : List ℕ) (j k : ℕ) (a : StandsAt log name j) (b : StandsAt log name k) → j < k → a.op.id.counter < b.op.id.counter)
-        → (name : List ℕ) (j k : ℕ) (a : StandsAt (log ++ op ∷ []) name j) (b : StandsAt (log ++ op ∷ []) name k) → j < k → a.op.id.counter < b.op.id.counter
+        → ((name : List ℕ) (j k : ℕ) (a : HasOpAt log name j) (b : HasOpAt log name k) → j < k → a.op.id.counter < b.op.id.counter)
+        → (name : List ℕ) (j k : ℕ) (a : HasOpAt (log ++ op ∷ []) name j) (b : HasOpAt (log ++ op ∷ []) name k) → j < k → a.op.id.counter < b.op.id.counter
     push log op good fits ih name j k a b below =
         elim (slice_get-push_cases log op j a.there) [
           | inl old ↦ elim (slice_get-push_cases log op k b.there) [
@@ -74,7 +74,7 @@ chain_rises =
         beyond (inl old) end = let within : k < length log = slice_get_within log k b.op old in omega arith
         beyond (inr new) end = let e : k ≡ length log = new.0 in omega arith
 
-pub rises_up_to : (log : List Op) → IsGood log → (name : List ℕ) (j k : ℕ) (a : StandsAt log name j) (b : StandsAt log name k) → j ≤ k → a.op.id.counter ≤ b.op.id.counter
+pub rises_up_to : (log : List Op) → IsGood log → (name : List ℕ) (j k : ℕ) (a : HasOpAt log name j) (b : HasOpAt log name k) → j ≤ k → a.op.id.counter ≤ b.op.id.counter
 rises_up_to log good name j k a b up_to =
     elim (cases_lt j k) [
       | inl before ↦ let rises : a.op.id.counter < b.op.id.counter = chain_rises log good name j k a b before in omega arith
@@ -88,7 +88,7 @@ rises_up_to log good name j k a b up_to =
 -- ---- what a search finds
 
 -- an operation has its place
-pub placed : (log : List Op) (i : Id) {o : Op} → Contains log o → o.id ≡ i → (k : ℕ) × (at : StandsAt log i.replica k) × (at.op.id.counter ≡ i.counter)
+pub placed : (log : List Op) (i : Id) {o : Op} → Contains log o → o.id ≡ i → (k : ℕ) × (at : HasOpAt log i.replica k) × (at.op.id.counter ≡ i.counter)
 placed log i {o} c is =
     let at = slice_get-Contains log c in
     (at.0, record { op = o; there = at.1; made = ap (λ (x : Id). x.replica) is }, ap (λ (x : Id). x.counter) is)
@@ -130,7 +130,7 @@ module _ (log : List Op) (good : IsGood log) (i : Id) where
       ])
 
 -- where the one before it does not reach the counter, an operation is the first that does
-pub first_here : (log : List Op) → IsGood log → (name : List ℕ) (counter k : ℕ) (link : Link) → IsLink log name k link → (here : StandsAt log name k) → counter ≤ here.op.id.counter
+pub first_here : (log : List Op) → IsGood log → (name : List ℕ) (counter k : ℕ) (link : Link) → IsLink log name k link → (here : HasOpAt log name k) → counter ≤ here.op.id.counter
     → (link.before < k → (op : Op) → slice_get log link.before ≡ Some op → op.id.counter < counter) → IsFirstFrom log name counter k
 first_here log good name counter k link is here reaches short = record {
   here = here;

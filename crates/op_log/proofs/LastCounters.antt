@@ -10,7 +10,7 @@ use Rattle.crdt_rules.specs.Dependencies.{entry_of}
 use Rattle.op_log.specs.Front.{PutsEntry, IsFrontOf}
 use Rattle.crdt_rules.specs.Fits.{last_counter}
 use Rattle.crdt_rules.specs.Fits.{Fits, replicas}
-use Rattle.list_laws.proofs.Members.{Contains-here, Contains-there, Contains-map, map-from}
+use Rattle.list_laws.proofs.Members.{Contains-map, map-from}
 use Rattle.crdt_rules.proofs.Tests.{any_at, any_none}
 use Rattle.crdt_rules.proofs.Fronts.{entry-max_counter, shaped_counter, entry_of-Contains}
 use Rattle.crdt_rules.proofs.LastCounter.{below_last, last_from}

@@ -8,14 +8,14 @@ use Rattle.crdt_rules.specs.Dependencies.{entry_of}
 use Rattle.crdt_rules.specs.Log.{IsGood}
 use Rattle.crdt_rules.proofs.Fronts.{covers_at, entry_of-Contains}
 use Rattle.doc_rules.specs.Answers.{since}
-use Rattle.op_log.specs.Index.{StandsAt, AreLasts, IsLast, IsFirstFrom, CoversChain, CoversBefore}
+use Rattle.op_log.specs.Index.{HasOpAt, AreLasts, IsLast, IsFirstFrom, CoversChain, CoversBefore}
 use Rattle.list_laws.proofs.Reading.{take_at}
 use Rattle.doc_rules.proofs.WholeFront.{entry_of-at, rising_from_ascending}
 use Rattle.op_log.proofs.Indexes.{rises_up_to}
 
 -- up to a counter that the front has for the replica, its operations are covered
 pub chain_up_to : (front : List (List ℕ × ℕ)) (log : List Op) (name : List ℕ) (counter n : ℕ) → entry_of front name ≡ Some counter
-    → ((k : ℕ) (at : StandsAt log name k) → k < n → at.op.id.counter ≤ counter) → CoversChain front log name n
+    → ((k : ℕ) (at : HasOpAt log name k) → k < n → at.op.id.counter ≤ counter) → CoversChain front log name n
 chain_up_to front log name counter n is up_to k at below =
     covers_at front (name, counter) at.op.id (entry_of-Contains front name counter is) (sym at.made) (up_to k at below)
 
@@ -25,7 +25,7 @@ chain_none front log name n first k at below = let less : at.op.id.counter < 0 =
 
 -- all up to the last
 pub up_to_last : (log : List Op) → IsGood log → (name : List ℕ) (last counter : ℕ) → IsLast log name last
-    → ((op : Op) → slice_get log last ≡ Some op → op.id.counter ≤ counter) → (k : ℕ) (at : StandsAt log name k) → at.op.id.counter ≤ counter
+    → ((op : Op) → slice_get log last ≡ Some op → op.id.counter ≤ counter) → (k : ℕ) (at : HasOpAt log name k) → at.op.id.counter ≤ counter
 up_to_last log good name last counter is enough k at =
     let rises : at.op.id.counter ≤ (is.here).op.id.counter = rises_up_to log good name k last at is.here (is.last k at) in
     let least : (is.here).op.id.counter ≤ counter = enough (is.here).op (is.here).there in
@@ -51,7 +51,7 @@ pub chains_all : (front : List (List ℕ × ℕ)) (log : List Op) (lasts : List 
     → ((f : List ℕ × ℕ) → Contains lasts f → CoversChain front log f.0 n) → CoversBefore front log n
 chains_all front log lasts n are each k op there below = by (entry_of lasts op.id.replica) refl
   where
-    here : StandsAt log op.id.replica k
+    here : HasOpAt log op.id.replica k
     here = record { op = op; there = there; made = refl }
 
     by : (o : Option ℕ) → entry_of lasts op.id.replica ≡ o → covers front op.id ≡ true

@@ -5,7 +5,7 @@ use Rattle.op_core.specs.Op.{Op}
 use Rattle.crdt_rules.specs.Dependencies.{entry_of}
 use Rattle.crdt_rules.specs.Fits.{last_counter}
 
--- the front says this of the replica, and of each other what the old one said
+-- the front has this counter for the replica, and for each other the counter of the old one
 abbrev pub PutsEntry : List (List ℕ × ℕ) → List (List ℕ × ℕ) → List ℕ → ℕ → Type 0
 PutsEntry old new name c = (n : List ℕ) → entry_of new n ≡ (if bytes_eq name n then Some c else entry_of old n)
 

@@ -1,4 +1,4 @@
--- The index of a log: where each operation finds those of its replica before it, and where the last of each replica stands.
+-- The index of a log: where each operation finds those of its replica before it, and where the last of each replica is.
 use Rattle.std.specs.Prelude.{◌≡◌, ℕ, ◌<◌, ◌≤◌, List, true, length, Some, None, slice_get}
 use Rattle.op_core.specs.Front.{covers, is_ascending}
 use Rattle.op_core.specs.Op.{Op}
@@ -7,34 +7,35 @@ use Rattle.crdt_rules.specs.Dependencies.{entry_of}
 use Rattle.crdt_rules.specs.Log.{IsGood}
 use Rattle.op_log.specs.declared.index.Link.{Link}
 
--- at place k stands an operation of this replica
-pub record StandsAt (log : List Op) (name : List ℕ) (k : ℕ) : Type 0 where
+-- at place k is an operation of this replica
+pub record HasOpAt (log : List Op) (name : List ℕ) (k : ℕ) : Type 0 where
   pub op : Op
   pub there : slice_get log k ≡ Some op
   pub made : op.id.replica ≡ name
 
--- from the operation at place k the link leads to the one of its replica before it, and to one that stands anywhere
+-- from the operation at place k the link leads to the one of its replica before it, and to another of them
 pub record IsLink (log : List Op) (name : List ℕ) (k : ℕ) (link : Link) : Type 0 where
-  pub before : StandsAt log name link.before
-  pub far : StandsAt log name link.far
-  -- none of the replica stands between, and the first one leads to itself
-  pub next : (j : ℕ) → StandsAt log name j → j < k → (j ≤ link.before) × (link.before < k)
+  pub before : HasOpAt log name link.before
+  pub far : HasOpAt log name link.far
+  -- none of the replica is between, and the first one leads to itself
+  pub next : (j : ℕ) → HasOpAt log name j → j < k → (j ≤ link.before) × (link.before < k)
 
 -- each operation has a link
 pub record AreLinks (log : List Op) (links : List Link) : Type 0 where
   pub as_many : length links ≡ length log
-  pub right : (name : List ℕ) (k : ℕ) (link : Link) → StandsAt log name k → slice_get links k ≡ Some link → IsLink log name k link
+  pub right : (name : List ℕ) (k : ℕ) (link : Link)
+      → HasOpAt log name k → slice_get links k ≡ Some link → IsLink log name k link
 
--- the last operation of the replica stands at place k
+-- the last operation of the replica is at place k
 pub record IsLast (log : List Op) (name : List ℕ) (k : ℕ) : Type 0 where
-  pub here : StandsAt log name k
-  pub last : (j : ℕ) → StandsAt log name j → j ≤ k
+  pub here : HasOpAt log name k
+  pub last : (j : ℕ) → HasOpAt log name j → j ≤ k
 
 -- each replica of the log with the place of its last operation, in the order of the names
 pub record AreLasts (log : List Op) (lasts : List (List ℕ × ℕ)) : Type 0 where
   pub ascending : is_ascending lasts ≡ true
   pub each : (name : List ℕ) (k : ℕ) → entry_of lasts name ≡ Some k → IsLast log name k
-  pub none : (name : List ℕ) → entry_of lasts name ≡ None → (j : ℕ) → ¬ (StandsAt log name j)
+  pub none : (name : List ℕ) → entry_of lasts name ≡ None → (j : ℕ) → ¬ (HasOpAt log name j)
 
 -- a good log with its index and its front
 pub record IsIndexed (log : List Op) (index : List Link) (places counters : List (List ℕ × ℕ)) : Type 0 where
@@ -45,15 +46,15 @@ pub record IsIndexed (log : List Op) (index : List Link) (places counters : List
 
 -- ---- what a search finds
 
--- the first operation of the replica with this counter or a greater one stands at place k
+-- the first operation of the replica with this counter or a greater one is at place k
 pub record IsFirstFrom (log : List Op) (name : List ℕ) (counter : ℕ) (k : ℕ) : Type 0 where
-  pub here : StandsAt log name k
+  pub here : HasOpAt log name k
   pub reaches : counter ≤ here.op.id.counter
-  pub first : (j : ℕ) (below : StandsAt log name j) → j < k → below.op.id.counter < counter
+  pub first : (j : ℕ) (below : HasOpAt log name j) → j < k → below.op.id.counter < counter
 
 -- the front covers the operations of the replica before place n
 abbrev pub CoversChain : List (List ℕ × ℕ) → List Op → List ℕ → ℕ → Type 0
-CoversChain front log name n = (k : ℕ) (at : StandsAt log name k) → k < n → covers front at.op.id ≡ true
+CoversChain front log name n = (k : ℕ) (at : HasOpAt log name k) → k < n → covers front at.op.id ≡ true
 
 -- and those of all replicas
 abbrev pub CoversBefore : List (List ℕ × ℕ) → List Op → ℕ → Type 0

@@ -10,7 +10,7 @@ ghost use Rattle.crdt_rules.specs.Facts.{inserts};
 ghost use Rattle.crdt_rules.specs.Log.{IsGood};
 ghost use Rattle.crdt_rules.specs.Fits.{Fits, is_element, knows_key, knows_cursor, knows_front, last_counter, replicas};
 ghost use Rattle.crdt_rules.specs.Same.{id_eq};
-ghost use Rattle.doc_rules.specs.Cause.{cause_of, room_cause};
+ghost use Rattle.doc_rules.specs.Cause.{cause_of, misfit_of, room_cause};
 
 use crate::front::{self, Entry};
 use crate::log::{OpLog, keeps_good};
@@ -25,9 +25,9 @@ pub const MAX_OPERATIONS: usize = 100_000;
 pub const MAX_REPLICAS: usize = 256;
 
 impl OpLog {
-    /// The first cause against an operation: bad-front, forked (with the last counter of its replica), bad-cursor, log-full,
-    /// too-many-replicas. It is `Ok` if the operation fits. Of an operation that is not ready it says that its front is
-    /// bad. It takes no memory.
+    /// The first cause against an operation: bad-front, forked (with the last counter of its replica),
+    /// bad-cursor, log-full, too-many-replicas. It is `Ok` if the operation fits. For an operation that
+    /// is not ready it is bad-front. Allocates nothing.
     pub fn check(&self, op: &Operation) -> Result<(), Refusal>
         ensures cause { result ≡ cause_of op.now self.now.operations }
         ensures fits { IsOk result ↔ Fits op.now self.now.operations }
@@ -35,8 +35,20 @@ impl OpLog {
         self.first_fit_cause(op)
     }
 
-    /// Whether the log takes one more operation of this replica: log-full from 100,000 operations on, too-many-replicas for
-    /// the 257th replica. It takes no memory.
+    /// The first cause against an operation as the next of the log: id-conflict where
+    /// its id is logged, otherwise that of `check`. Allocates nothing.
+    pub fn check_next(&self, op: &Operation) -> Result<(), Refusal>
+        ensures cause { result ≡ misfit_of op.now self.now.operations }
+        ensures fits { IsOk result → Fits op.now self.now.operations }
+    {
+        if self.contains(op.id()) {
+            return Err(Refusal::IdConflict);
+        }
+        self.check(op)
+    }
+
+    /// Whether the log takes one more operation of this replica: log-full from 100,000 operations on,
+    /// too-many-replicas for the 257th replica. Allocates nothing.
     pub fn check_room(&self, name: ReplicaName) -> Result<(), Refusal>
         ensures { (op : Op) → op.id.replica ≡ name → result ≡ room_cause op self.now.operations }
     {
@@ -45,7 +57,8 @@ impl OpLog {
 
     // The same of a replica whose last counter is this one, if it has one.
     fn room_for(&self, last: Option<u64>) -> Result<(), Refusal>
-        ensures { (op : Op) → last_counter self.now.operations op.id.replica ≡ last → result ≡ room_cause op self.now.operations }
+        ensures { (op : Op) → last_counter self.now.operations op.id.replica ≡ last
+            → result ≡ room_cause op self.now.operations }
     {
         if self.len() >= MAX_OPERATIONS {
             return Err(Refusal::LogFull);
@@ -78,13 +91,15 @@ impl OpLog {
 
     // Whether the replicas are few enough with the one whose last counter is this one, if it has one.
     fn admits(&self, last: Option<u64>) -> bool
-        ensures { (op : Op) → last_counter self.now.operations op.id.replica ≡ last → result ≡ nat_le (length (replicas (op ∷ self.now.operations))) most_replicas }
+        ensures { (op : Op) → last_counter self.now.operations op.id.replica ≡ last
+            → result ≡ nat_le (length (replicas (op ∷ self.now.operations))) most_replicas }
     {
         let count = self.replica_count();
         last.is_some() || count < MAX_REPLICAS
     }
 
-    // What the front of a logged operation says is known already: where that is at most this front, its pairs need no look.
+    // The pairs of a logged operation's front are known already: where that front is at most this one,
+    // they need no look.
     fn knows_front(&self, front: &Front) -> bool
         requires { is_ascending front.now ≡ true }
         ensures { result ≡ knows_front front.now self.now.operations }
@@ -101,7 +116,8 @@ impl OpLog {
     // The last operation, if its front is at most this one.
     fn last_below(&self, front: &Front) -> Option<&Operation>
         requires { is_ascending front.now ≡ true }
-        ensures below { IfSome (option_copied result) (λ op. Contains self.now.operations op × (is_le op.front front.now ≡ true)) }
+        ensures below { IfSome (option_copied result) (λ op.
+            Contains self.now.operations op × (is_le op.front front.now ≡ true)) }
         ensures good { IsGood self.now.operations }
     {
         keeps_good(self);
@@ -113,12 +129,15 @@ impl OpLog {
         }
     }
 
-    // Whether the pair at a place is a logged operation, whose own front is at most this one. Those of an operation below are.
+    // Whether the pair at a place is a logged operation, whose own front is at most this one. The pairs
+    // of an operation below are.
     fn knows_pair(&self, front: &Front, below: Option<&Operation>, at: usize) -> bool
         requires ascending { is_ascending front.now ≡ true }
         requires within { at < length front.now }
-        requires below { IfSome (option_copied below) (λ op. Contains self.now.operations op × (is_le op.front front.now ≡ true)) }
-        ensures { result ≡ list_any (λ o. id_eq o.id (id_of (get_or front.now at ([], 0))) && is_le o.front front.now) self.now.operations }
+        requires below { IfSome (option_copied below) (λ op.
+            Contains self.now.operations op × (is_le op.front front.now ≡ true)) }
+        ensures { result ≡ list_any
+            (λ o. id_eq o.id (id_of (get_or front.now at ([], 0))) && is_le o.front front.now) self.now.operations }
     {
         if front::has_pair(below, front, at) {
             keeps_good(self);

@@ -20,10 +20,11 @@ use std::cmp::Ordering;
 /// A replica, and the counter of its last operation.
 pub type Entry = (ReplicaName, u64);
 
-// Where the replica stands in the front, or where it would go.
+// The place of the replica in the front, or where it would go.
 fn search(front: &[Entry], name: ReplicaName) -> Result<usize, usize>
     requires { is_ascending front.now ≡ true }
-    ensures { MatchResult result (IsPlace name_cmp (λ e. e.0) front.now name) (IsGap name_cmp (λ e. e.0) front.now name) }
+    ensures { MatchResult result
+        (IsPlace name_cmp (λ e. e.0) front.now name) (IsGap name_cmp (λ e. e.0) front.now name) }
 {
     front.binary_search_by_key(&name, |entry| entry.0)
 }
@@ -39,7 +40,8 @@ pub fn last_of(front: &[Entry], name: ReplicaName) -> Option<u64>
     }
 }
 
-/// Makes the counter the last of the replica, in room that was reserved, and gives the one that it had, if it had one.
+/// Makes the counter the last of the replica, in room that was reserved, and returns the one that it
+/// had, if it had one.
 pub fn put_last(front: &mut Vec<Entry>, name: ReplicaName, counter: u64) -> Option<u64>
     requires ascending { is_ascending front.old.items ≡ true }
     requires room { vec_len front.old < vec_capacity front.old }
@@ -62,7 +64,7 @@ pub fn put_last(front: &mut Vec<Entry>, name: ReplicaName, counter: u64) -> Opti
     }
 }
 
-/// The counter that a front says of the replica, if it names it.
+/// The counter of the replica in a front, if it names it.
 pub fn counter_in(front: &Front, name: ReplicaName) -> Option<u64>
     requires { is_ascending front.now ≡ true }
     ensures { result ≡ entry_of front.now name }
@@ -120,8 +122,8 @@ fn are_at_most(
     first >= names.len()
 }
 
-/// The front of these pairs, which shares its names with that of the last operation where they have the same. It is refused
-/// for want of memory alone.
+/// The front of these pairs, which shares its names with that of the last operation where they have
+/// the same. The only error is out of memory.
 pub fn beside_last(alloc: Global, pairs: &[Entry], entries: &[Operation]) -> Result<Front, Refusal>
     ensures { UnlessMemory result (Ok pairs.now) }
 {
@@ -131,8 +133,8 @@ pub fn beside_last(alloc: Global, pairs: &[Entry], entries: &[Operation]) -> Res
     }
 }
 
-/// The same operation, which shares the names of its front with the operation of its replica before it, which stands at a
-/// place, or with the last one, where they have the same.
+/// The same operation. It shares the names of its front with the operation at a place, the one of its
+/// replica before it, or with the last one, where they have the same.
 pub fn sharing(op: Operation, entries: &[Operation], at: usize) -> Operation
     ensures { result ≡ op }
 {
@@ -142,8 +144,8 @@ pub fn sharing(op: Operation, entries: &[Operation], at: usize) -> Operation
     }
 }
 
-// The operation whose names a front may have. The fronts of a replica lose no name, so as many as before it are the same; else
-// they may be those that the last operation has.
+// The operation whose names a front may share. The fronts of a replica lose no name, so as many as
+// before it are the same. Otherwise they may be those of the last operation.
 fn alike<'a>(front: &Front, entries: &'a [Operation], at: usize) -> Option<&'a Operation> {
     match entries.get(at) {
         Some(before) if before.front().len() == front.len() => Some(before),
@@ -151,10 +153,11 @@ fn alike<'a>(front: &Front, entries: &'a [Operation], at: usize) -> Option<&'a O
     }
 }
 
-/// Whether the operation's front has the pair that stands at this place of a front, at the same place.
+/// Whether the operation's front has the pair at this place of a front, at the same place.
 pub fn has_pair(op: Option<&Operation>, front: &Front, at: usize) -> bool
     requires { at < length front.now }
-    ensures { IsTrue result → (o : Op) × (option_copied op.entry ≡ Some o) × Contains o.front (get_or front.now at ([], 0)) }
+    ensures { IsTrue result
+        → (o : Op) × (option_copied op.entry ≡ Some o) × Contains o.front (get_or front.now at ([], 0)) }
 {
     match op {
         Some(op) => has_pair_at(op.front(), at, front.pair_at(at)),

@@ -2,11 +2,12 @@
 #![tactic(auto)]
 
 mod check;
-mod copies;
+mod clones;
+mod encode;
 mod front;
 mod index;
 mod log;
-mod told;
 
 pub use check::{MAX_OPERATIONS, MAX_REPLICAS};
+pub use clones::clone_all;
 pub use log::{OpLog, keeps_good};

@@ -13,10 +13,10 @@ ghost use Rattle.doc_rules.specs.Answers.{since};
 ghost use Rattle.doc_rules.specs.Encoded.{operations_text};
 ghost use Rattle.doc_rules.specs.Replica.{find_id};
 
-use crate::copies::{copies, first_uncovered};
+use crate::clones::{clone_all, first_uncovered};
+use crate::encode::text_of_uncovered;
 use crate::front::{self, Entry};
 use crate::index::{self, Link};
-use crate::told::text_of_uncovered;
 use doc_words::{CompactText, Ids, Operations};
 use json_scalar::Refusal;
 use lamport_id::{Id, ReplicaName};
@@ -111,8 +111,8 @@ impl OpLog {
         self.front.len()
     }
 
-    /// Makes room for n more operations, whatever their replicas. It is refused for want of memory alone, and the
-    /// operations are then as they were.
+    /// Makes room for n more operations, whatever their replicas. The only error is out of memory,
+    /// which leaves the operations as they were.
     pub fn reserve(&mut self, n: usize) -> Result<(), Refusal>
         ensures operations { self.new.operations ≡ self.old.operations }
         ensures kept { self.old.room ≤ self.new.room }
@@ -126,8 +126,9 @@ impl OpLog {
         Ok(())
     }
 
-    /// Adds an operation that fits, in room that was reserved. It takes no memory, and where the names of its front are those
-    /// of its replica's operation before it or of the last one, it gives its own back.
+    /// Adds an operation that fits, in room that was reserved. Allocates nothing. Where the names of
+    /// its front are those of its replica's operation before it or of the last one, it shares them and
+    /// frees its own.
     pub fn append(&mut self, op: Operation)
         requires fits { Fits op self.old.operations }
         requires room { 1 ≤ self.old.room }
@@ -143,8 +144,9 @@ impl OpLog {
         self.entries.push(op).unwrap();
     }
 
-    /// The front of the log: each replica with the counter of its last operation. It shares its names with that of the last
-    /// operation where they have the same. It is refused for want of memory alone.
+    /// The front of the log (a version vector): each replica with the counter of its last operation.
+    /// It shares its names with that of the last operation where they have the same. The only error is
+    /// out of memory.
     pub fn front(&self) -> Result<Front, Refusal>
         ensures { UnlessMemory result (Ok (front_of self.now.operations)) }
     {
@@ -152,8 +154,9 @@ impl OpLog {
         front::beside_last(alloc, &self.front, &self.entries)
     }
 
-    /// The first operations that the front does not cover, at most `limit` of them, in their order. The search starts at the
-    /// first of them where the front's pairs ascend. It is refused for want of memory alone.
+    /// The first operations that the front does not cover, at most `limit` of them, in their order.
+    /// Where the front's pairs ascend, the search starts at the first of them. The only error is out of
+    /// memory. The program itself calls `since_text`.
     pub fn since(&self, front: &Front, limit: usize) -> Result<Operations, Refusal>
         ensures { UnlessMemory result (Ok (take limit (since front.now self.now.operations))) }
     {
@@ -162,7 +165,7 @@ impl OpLog {
         Ok(Operations::from(first_uncovered(alloc, operations, front, limit)?))
     }
 
-    /// What `since` gives, as the compact JSON text of an array. It is refused for want of memory alone.
+    /// What `since` returns, as the compact JSON text of an array. The only error is out of memory.
     pub fn since_text(&self, front: &Front, limit: usize) -> Result<CompactText, Refusal>
         ensures { UnlessMemory result (Ok (operations_text (take limit (since front.now self.now.operations)))) }
     {
@@ -179,14 +182,14 @@ impl OpLog {
         &self.entries[start..]
     }
 
-    /// The operations after the first `from`, at most `max` of them. It is refused for want of memory alone.
+    /// The operations after the first `from`, at most `max` of them. The only error is out of memory.
     pub fn tail(&self, from: usize, max: usize) -> Result<Operations, Refusal>
         ensures { UnlessMemory result (Ok (take max (drop from self.now.operations))) }
     {
         let start = from.min(self.entries.len());
         let len = max.min(self.entries.len() - start);
         let alloc = *self.entries.allocator();
-        Ok(Operations::from(copies(alloc, &self.entries[start..start + len])?))
+        Ok(Operations::from(clone_all(alloc, &self.entries[start..start + len])?))
     }
 
     /// Whether each id of the front of an operation is logged.
@@ -196,8 +199,8 @@ impl OpLog {
         self.logs_front(op.front())
     }
 
-    /// The ids of the front of an operation that are not logged, in the order of the front. It is refused for want of
-    /// memory alone.
+    /// The ids of the front of an operation that are not logged, in the order of the front. The only
+    /// error is out of memory.
     pub fn missing(&self, op: &Operation) -> Result<Ids, Refusal>
         ensures { UnlessMemory result (Ok (missing op.now self.now.operations)) }
     {
@@ -205,7 +208,7 @@ impl OpLog {
         Ok(Ids::from(self.unlogged(alloc, op.front())?))
     }
 
-    // Whether the id of each pair is logged. Those that the front of the last operation says too are.
+    // Whether the id of each pair is logged. Those in the front of the last operation are.
     fn logs_front(&self, front: &Front) -> bool
         ensures { result ≡ list_all (λ e. is_logged self.now.operations (id_of e)) front.now }
     {
@@ -233,7 +236,8 @@ impl OpLog {
 
     // The ids of a front that are not logged.
     fn unlogged(&self, alloc: Global, front: &Front) -> Result<Vec<Id>, Refusal>
-        ensures ok { IfOk result (λ ids. ids.items ≡ filter (λ i. not (is_logged self.now.operations i)) (map id_of front.now)) }
+        ensures ok { IfOk result (λ ids.
+            ids.items ≡ filter (λ i. not (is_logged self.now.operations i)) (map id_of front.now)) }
         ensures err { IfErr result (λ e. e ≡ Refusal.NoMemory) }
     {
         let mut ids = Vec::new(alloc);
@@ -254,14 +258,14 @@ fn id_at(front: &Front, at: usize) -> Id
     id_of(name, counter)
 }
 
-/// Each log is good. It does nothing: by a call a caller's proof knows of a value what its type says.
+/// Each log is good. It does nothing: its call gives a caller's proof what the type says of the value.
 pub fn keeps_good(log: &OpLog)
     ensures { IsGood log.now.operations }
 {
     let _length = log.len();
 }
 
-// By hand, so that it is called and not written out where a log is let go.
+// By hand, so that it is called and not written out where a log is dropped.
 impl Drop for OpLog {
     fn drop(self) {
         let OpLog {

@@ -1,5 +1,5 @@
 use Rattle.std.proofs.Common.{◌≡◌, ◌==◌, drop, find, length}
 use Rattle.hold_buffer.proofs.order.first_ready.Given as goal
 
-abbrev pub invariant-loop-ticket : goal.invariant-loop-ticket
-invariant-loop-ticket l = find (λ t. length t.lacks == 0) l.order ≡ find (λ t. length t.lacks == 0) (drop l.ticket-index l.order)
+abbrev pub invariant-loop-entry : goal.invariant-loop-entry
+invariant-loop-entry l = find (λ t. length t.missing == 0) l.order ≡ find (λ t. length t.missing == 0) (drop l.entry-index l.order)

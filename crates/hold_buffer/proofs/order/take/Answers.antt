@@ -3,34 +3,34 @@ use Rattle.std.specs.Option.{OnSome}
 use Rattle.op_core.specs.Op.{Op}
 use Rattle.crdt_rules.specs.Same.{id_eq}
 use Rattle.list_laws.proofs.Members.{split_at}
-use Rattle.hold_buffer.specs.declared.ticket.Ticket.{Ticket}
+use Rattle.hold_buffer.specs.declared.entry.Entry.{Entry}
 use Rattle.hold_buffer.specs.Order.{operations_of, IsOrdered}
-use Rattle.hold_buffer.proofs.Waiting.{found_at, not_found, operations-remove, tickets-remove, IsOrdered-remove, none_removed, no_ticket_removed, length-operations}
+use Rattle.hold_buffer.proofs.Waiting.{found_at, not_found, operations-remove, entries-remove, IsOrdered-remove, none_removed, no_entry_removed, length-operations}
 use Rattle.hold_buffer.proofs.order.take.Goals as goal
 
--- the tickets before and behind the one that goes
-split : (c : goal.After-drop-ticket) → take c.in-Ok.at c.args.order.now.items ++ c.remove-ticket.result ∷ drop (suc c.in-Ok.at) c.args.order.now.items ≡ c.args.order.now.items
+-- the entries before and behind the one that goes
+split : (c : goal.After-drop-entry) → take c.in-Ok.at c.args.order.now.items ++ c.remove-entry.result ∷ drop (suc c.in-Ok.at) c.args.order.now.items ≡ c.args.order.now.items
 split c =
     let place = rw c.deref.ensures.value at c.in-Ok.ensures in
-    split_at c.args.order.now.items c.in-Ok.at c.remove-ticket.result place.within c.remove-ticket.ensures.value
+    split_at c.args.order.now.items c.in-Ok.at c.remove-entry.result place.within c.remove-entry.ensures.value
 
 pub returns-in-Ok-clause-ordered : goal.returns-in-Ok-clause-ordered
 returns-in-Ok-clause-ordered c =
-    rw c.remove-ticket.ensures.items
-    (IsOrdered-remove (take c.in-Ok.at c.args.order.now.items) (drop (suc c.in-Ok.at) c.args.order.now.items) c.remove-ticket.result
+    rw c.remove-entry.ensures.items
+    (IsOrdered-remove (take c.in-Ok.at c.args.order.now.items) (drop (suc c.in-Ok.at) c.args.order.now.items) c.remove-entry.result
     (subst (IsOrdered c.args.slots.now) (sym (split c)) c.requires) c.try_remove.ensures.updates)
 
 pub returns-in-Ok-clause-value : goal.returns-in-Ok-clause-value
 returns-in-Ok-clause-value c =
     let place = rw c.deref.ensures.value at c.in-Ok.ensures in
-    c.try_remove.ensures.value ∙ found_at c.requires c.args.id c.in-Ok.at c.remove-ticket.result place c.remove-ticket.ensures.value
+    c.try_remove.ensures.value ∙ found_at c.requires c.args.id c.in-Ok.at c.remove-entry.result place c.remove-entry.ensures.value
 
 pub returns-in-Ok-clause-operations : goal.returns-in-Ok-clause-operations
 returns-in-Ok-clause-operations c =
     let place = rw c.deref.ensures.value at c.in-Ok.ensures in
-    let name : c.remove-ticket.result.id ≡ c.args.id = ap (λ (t : Ticket). t.id) c.remove-ticket.ensures.value ∙ place.has_key c.remove-ticket.result in
-    rw c.remove-ticket.ensures.items
-    (operations-remove (take c.in-Ok.at c.args.order.now.items) (drop (suc c.in-Ok.at) c.args.order.now.items) c.remove-ticket.result
+    let name : c.remove-entry.result.id ≡ c.args.id = ap (λ (t : Entry). t.id) c.remove-entry.ensures.value ∙ place.has_key c.remove-entry.result in
+    rw c.remove-entry.ensures.items
+    (operations-remove (take c.in-Ok.at c.args.order.now.items) (drop (suc c.in-Ok.at) c.args.order.now.items) c.remove-entry.result
     (subst (IsOrdered c.args.slots.now) (sym (split c)) c.requires) c.try_remove.ensures.updates
     ∙ (λ i. filter (λ (o : Op). not (id_eq o.id (name i))) (operations_of c.args.slots.now (split c i))))
 
@@ -52,21 +52,21 @@ pub returns-in-Ok-clause-len : goal.returns-in-Ok-clause-len
 returns-in-Ok-clause-len c =
     let ordered = returns-in-Ok-clause-ordered c in
     let old = length-operations c.args.slots.now c.args.order.now.items c.requires.right in
-    let new = length-operations c.try_remove.new.self c.remove-ticket.new.self.items ordered.right in
-    let fewer : length (operations_of c.try_remove.new.self c.remove-ticket.new.self.items) + 1 ≡ length (operations_of c.args.slots.now c.args.order.now.items) =
-    omega (arith, c.remove-ticket.ensures.len, c.args.order.now.ok.0, c.remove-ticket.new.self.ok.0) in
+    let new = length-operations c.try_remove.new.self c.remove-entry.new.self.items ordered.right in
+    let fewer : length (operations_of c.try_remove.new.self c.remove-entry.new.self.items) + 1 ≡ length (operations_of c.args.slots.now c.args.order.now.items) =
+    omega (arith, c.remove-entry.ensures.len, c.args.order.now.ok.0, c.remove-entry.new.self.ok.0) in
     on_some c.try_remove.result fewer
 
-pub returns-in-Ok-clause-tickets : goal.returns-in-Ok-clause-tickets
-returns-in-Ok-clause-tickets c =
+pub returns-in-Ok-clause-entries : goal.returns-in-Ok-clause-entries
+returns-in-Ok-clause-entries c =
     let place = rw c.deref.ensures.value at c.in-Ok.ensures in
-    let name : c.remove-ticket.result.id ≡ c.args.id = ap (λ (t : Ticket). t.id) c.remove-ticket.ensures.value ∙ place.has_key c.remove-ticket.result in
-    rw c.remove-ticket.ensures.items
-    (tickets-remove (take c.in-Ok.at c.args.order.now.items) (drop (suc c.in-Ok.at) c.args.order.now.items) c.remove-ticket.result
+    let name : c.remove-entry.result.id ≡ c.args.id = ap (λ (t : Entry). t.id) c.remove-entry.ensures.value ∙ place.has_key c.remove-entry.result in
+    rw c.remove-entry.ensures.items
+    (entries-remove (take c.in-Ok.at c.args.order.now.items) (drop (suc c.in-Ok.at) c.args.order.now.items) c.remove-entry.result
     (subst (IsOrdered c.args.slots.now) (sym (split c)) c.requires) c.try_remove.ensures.updates
-    ∙ (λ i. filter (λ (t : Ticket). not (id_eq t.id (name i))) (split c i)))
+    ∙ (λ i. filter (λ (t : Entry). not (id_eq t.id (name i))) (split c i)))
 
-pub returns-in-Err-clause-tickets : goal.returns-in-Err-clause-tickets
-returns-in-Err-clause-tickets c =
+pub returns-in-Err-clause-entries : goal.returns-in-Err-clause-entries
+returns-in-Err-clause-entries c =
     let gap = rw c.deref.ensures.value at c.in-Err.ensures in
-    no_ticket_removed c.args.order.now.items c.args.id c.in-Err.field-0 gap
+    no_entry_removed c.args.order.now.items c.args.id c.in-Err.field-0 gap

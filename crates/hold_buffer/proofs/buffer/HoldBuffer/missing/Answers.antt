@@ -3,7 +3,7 @@ use Rattle.std.proofs.lemmas.List.Elements.{Contains-get_or}
 use Rattle.doc_rules.specs.Replica.{find_id}
 use Rattle.crdt_rules.specs.Dependencies.{is_logged}
 use Rattle.hold_buffer.specs.Held.{Buffer, IsCurrent}
-use Rattle.hold_buffer.proofs.Intact.{lacks_missing}
+use Rattle.hold_buffer.proofs.Intact.{missing_is}
 use Rattle.hold_buffer.proofs.Waiting.{not_held, found_at}
 use Rattle.hold_buffer.proofs.buffer.HoldBuffer.missing.Goals as goal
 use Rattle.std.specs.Prelude.{Contains}
@@ -24,4 +24,4 @@ returns c op found other =
     let among : Contains order t = subst (Contains order) (sym c.index.ensures) (Contains-get_or order c.in-Ok.at t place.within) in
     let at = found_at c.self.invariant.ordered c.args.id c.in-Ok.at t place c.index.ensures in
     let here = subst (λ (b : Buffer). find_id b.held c.args.id ≡ Some op) (sym c.self.view_is) found in
-    c.ids.ensures other ∙ ap Ok (lacks_missing c.self.invariant log current t among op (at ∙ here))
+    c.ids.ensures other ∙ ap Ok (missing_is c.self.invariant log current t among op (at ∙ here))

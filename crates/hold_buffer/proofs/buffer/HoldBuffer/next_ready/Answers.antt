@@ -3,9 +3,9 @@ use Rattle.doc_words.specs.Words.{id_cmp, Op}
 use Rattle.crdt_rules.specs.Dependencies.{is_ready}
 use Rattle.doc_rules.specs.Sorted.{IsRising}
 use Rattle.hold_buffer.specs.Held.{Buffer, IsCurrent}
-use Rattle.hold_buffer.specs.declared.ticket.Ticket.{Ticket}
+use Rattle.hold_buffer.specs.declared.entry.Entry.{Entry}
 use Rattle.hold_buffer.proofs.Current.{ready_test}
-use Rattle.hold_buffer.proofs.Intact.{find_tickets}
+use Rattle.hold_buffer.proofs.Intact.{find_entries}
 use Rattle.hold_buffer.proofs.Waiting.{rising-operations, first_named}
 use Rattle.hold_buffer.proofs.buffer.HoldBuffer.next_ready.Goals as goal
 
@@ -16,7 +16,7 @@ returns-clause-least c =
     let order = c.self.inside.order.items in
     let current = subst (λ (b : Buffer). IsCurrent b log) (sym c.self.view_is) c.requires in
     let read = rw c.deref.ensures.value at c.first_ready.ensures in
-    rw (← c.self.view_is) (read ∙ find_tickets slots order (λ (o : Op). is_ready o log) (λ (t : Ticket). length t.lacks == 0) (ready_test c.self.invariant.ordered log current))
+    rw (← c.self.view_is) (read ∙ find_entries slots order (λ (o : Op). is_ready o log) (λ (t : Entry). length t.missing == 0) (ready_test c.self.invariant.ordered log current))
 
 pub returns-clause-operation : goal.returns-clause-operation
 returns-clause-operation c =

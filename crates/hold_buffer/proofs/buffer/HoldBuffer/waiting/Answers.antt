@@ -1,6 +1,6 @@
 use Rattle.std.proofs.Common.{Ok, sym, ap, subst, ◌∙◌}
 use Rattle.hold_buffer.specs.Held.{Buffer, IsCurrent}
-use Rattle.hold_buffer.proofs.Intact.{told_lacks}
+use Rattle.hold_buffer.proofs.Intact.{entries_missing}
 use Rattle.hold_buffer.proofs.buffer.HoldBuffer.waiting.Goals as goal
 
 pub returns : goal.returns
@@ -8,4 +8,4 @@ returns c other =
     let log = c.args.log.now.operations in
     let current = subst (λ (b : Buffer). IsCurrent b log) (sym c.self.view_is) c.requires in
     let told = rw c.deref.ensures.value at c.waiting_of.ensures in
-    rw (← c.self.view_is) (told other ∙ ap Ok (told_lacks c.self.invariant log current))
+    rw (← c.self.view_is) (told other ∙ ap Ok (entries_missing c.self.invariant log current))

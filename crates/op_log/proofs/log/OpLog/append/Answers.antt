@@ -4,7 +4,7 @@ use Rattle.op_core.specs.Op.{Op}
 use Rattle.crdt_rules.specs.Dependencies.{entry_of}
 use Rattle.crdt_rules.specs.Fits.{Fits}
 use Rattle.op_log.specs.Front.{PutsEntry}
-use Rattle.op_log.specs.Index.{StandsAt}
+use Rattle.op_log.specs.Index.{HasOpAt}
 use Rattle.crdt_rules.proofs.Room.{good_room}
 use Rattle.op_log.proofs.Growing.{last_stands, last_within, IsIndexed-append}
 use Rattle.op_log.proofs.log.OpLog.append.Goals as goal
@@ -12,7 +12,7 @@ use Rattle.op_log.proofs.log.OpLog.append.Goals as goal
 pub next_link-link-requires-clause-last : goal.next_link-link-requires-clause-last
 next_link-link-requires-clause-last c =
     let name = c.id-counter.result.replica in
-    subst (λ (l : List Op). IfSome c.put_last-last.result (λ k. (n : List ℕ) × StandsAt l n k)) (sym c.deref.ensures.value)
+    subst (λ (l : List Op). IfSome c.put_last-last.result (λ k. (n : List ℕ) × HasOpAt l n k)) (sym c.deref.ensures.value)
     (last_stands c.self.invariant.lasts name c.put_last-last.result c.put_last-last.ensures.before)
 
 pub next_link-link-requires-clause-few : goal.next_link-link-requires-clause-few

@@ -9,7 +9,7 @@ returns c other =
     let start = c.min-start.result in
     let len = c.min-len.result in
     ap (λ (os : List Op). Ok os)
-    (c.from.ensures ∙ c.in_ok-copies.ensures.ok
+    (c.from.ensures ∙ c.in_ok-clone_all.ensures.ok
     ∙ ap (λ (l : List Op). take (start + len - start) (drop start l)) c.deref.ensures.value
     ∙ part_behind log c.args.from c.args.max start len
     (c.min-start.ensures ∙ ap (λ (n : ℕ). min c.args.from n) (c.len.ensures ∙ c.self.inside.entries.ok.0))

@@ -1,7 +1,0 @@
--- What one held operation lacks.
-use Rattle.std.specs.Prelude.{ℕ, ◌≤◌, List, Contains}
-use Rattle.doc_words.specs.Words.{Id}
-
--- no id has a counter below this one
-abbrev pub AreFrom : ℕ → List Id → Type 0
-AreFrom floor ids = (i : Id) → Contains ids i → floor ≤ i.counter

@@ -1,0 +1,64 @@
+//! Operations as JSON text, written while the log is read.
+ghost use Rattle.std.specs.Prelude.{◌≡◌, Ok, map, take};
+ghost use Rattle.json_scalar.specs.Refusal.{UnlessMemory};
+ghost use Rattle.op_core.specs.Wire.{list_data, wire};
+ghost use Rattle.doc_rules.specs.Answers.{since};
+ghost use Rattle.doc_rules.specs.Encoded.{operations_text};
+ghost use Rattle.json_text.specs.Tokens.{all_tokens, data_tokens, Puts};
+
+use doc_words::CompactText;
+use json_scalar::Refusal;
+use json_text::{AsJson, JsonText};
+use op_core::{Front, Operation};
+use std::alloc::Global;
+
+/// The first of these operations that the front does not cover, at most `limit` of them, in their
+/// order, as the compact JSON text of an array. The only error is out of memory.
+pub fn text_of_uncovered(
+    alloc: Global,
+    operations: &[Operation],
+    front: &Front,
+    limit: usize,
+) -> Result<CompactText, Refusal>
+    ensures { UnlessMemory result (Ok (operations_text (take limit (since front.now operations.now)))) }
+{
+    let mut text = JsonText::new(alloc);
+    put_list(&mut text, operations, front, limit)?;
+    Ok(CompactText::from(text.into_string()))
+}
+
+#[tactic(auto, using(json_text::proofs::Texts::lists))]
+fn put_list(
+    text: &mut JsonText,
+    operations: &[Operation],
+    front: &Front,
+    limit: usize,
+) -> Result<(), Refusal>
+    ensures { Puts (data_tokens (list_data (map wire (take limit (since front.now operations.now)))))
+        text.old text.new result }
+{
+    text.begin_list()?;
+    put_uncovered(text, operations, front, limit)?;
+    text.end_list()
+}
+
+fn put_uncovered(
+    text: &mut JsonText,
+    operations: &[Operation],
+    front: &Front,
+    limit: usize,
+) -> Result<(), Refusal>
+    ensures { Puts (all_tokens (map wire (take limit (since front.now operations.now)))) text.old text.new result }
+{
+    let mut left = limit;
+    for op in operations {
+        if left == 0 {
+            break;
+        }
+        if !front.covers(op.id()) {
+            op.put_in(text)?;
+            left -= 1;
+        }
+    }
+    Ok(())
+}
