@@ -31,7 +31,7 @@ fn run_asked<M: Maker, R: Source, W: Sink>(
     ensures served { result ≡ 0
         → ServesAll (asked_of matches.now) (R.remaining source.old) (R.remaining source.new) (W.contents sink.old) (W.contents sink.new) }
     ensures no_fault { result ≡ 0 → (R.has_failed source.new ≡ false) × (W.has_failed sink.new ≡ false) }
-    ensures handed_on { W.kept sink.old ≡ [] → result ≡ 0 → W.kept sink.new ≡ [] }
+    ensures flushed { W.kept sink.old ≡ [] → result ≡ 0 → W.kept sink.new ≡ [] }
     ensures failed { result ≡ 1
         → ServesUntilFault (asked_of matches.now) (R.has_failed source.new) (W.has_failed sink.new) (R.remaining source.old) (R.remaining source.new) (W.contents sink.old) (W.contents sink.new)
         ⊎ ((source.new ≡ source.old) × (sink.new ≡ sink.old)) }
@@ -62,7 +62,7 @@ pub fn run_words<M: Maker, R: Source, W: Sink>(
     ensures served { result ≡ 0 → (wanted : Wanted) × AsksToRun (map (λ s. s.now) words.now) wanted
         × ServesAll wanted (R.remaining source.old) (R.remaining source.new) (W.contents sink.old) (W.contents sink.new) }
     ensures no_fault { result ≡ 0 → (R.has_failed source.new ≡ false) × (W.has_failed sink.new ≡ false) }
-    ensures handed_on { W.kept sink.old ≡ [] → result ≡ 0 → W.kept sink.new ≡ [] }
+    ensures flushed { W.kept sink.old ≡ [] → result ≡ 0 → W.kept sink.new ≡ [] }
 
     // What was written is a transcript up to a device's fault, or memory was wanting before it began.
     ensures failed { result ≡ 1 → ((wanted : Wanted) × AsksToRun (map (λ s. s.now) words.now) wanted

@@ -12,10 +12,10 @@ use Rattle.doc_rules.specs.Seats.{Seat, Answer, ActsFor, AnswersFor, AreEndsOf, 
 use Rattle.doc_rules.proofs.Shared.{acts_gives}
 use Rattle.doc_words.specs.declared.ask.Query.{Query}
 use Rattle.locked_doc.specs.Locked.{seat_opened}
-use Rattle.session_core.specs.Seats.{seat_told}
+use Rattle.session_core.specs.Seats.{new_seat_number}
 use Rattle.run_core.specs.HasTold.{HasTold}
 
-pub told_is : (n : ℕ) (r : Result ℕ Refusal) → seat_told (λ (s : Seat). s) (seat_opened n r) ≡ r
+pub told_is : (n : ℕ) (r : Result ℕ Refusal) → new_seat_number (λ (s : Seat). s) (seat_opened n r) ≡ r
 told_is n (Ok seat) = refl
 told_is n (Err cause) = refl
 

@@ -94,7 +94,7 @@ fn serve<M: Maker, R: Source, W: Sink>(
     ensures served { (wanted : Wanted) → replica.now ≡ first_replica wanted.name → map (λ s. s.now) names.now ≡ wanted.documents
         → result ≡ 0 → ServesAll wanted (R.remaining source.old) (R.remaining source.new) (W.contents sink.old) (W.contents sink.new) }
     ensures no_fault { result ≡ 0 → (R.has_failed source.new ≡ false) × (W.has_failed sink.new ≡ false) }
-    ensures handed_on { W.kept sink.old ≡ [] → result ≡ 0 → W.kept sink.new ≡ [] }
+    ensures flushed { W.kept sink.old ≡ [] → result ≡ 0 → W.kept sink.new ≡ [] }
     ensures failed { (wanted : Wanted) → replica.now ≡ first_replica wanted.name → map (λ s. s.now) names.now ≡ wanted.documents
         → result ≡ 1 → ServesUntilFault wanted (R.has_failed source.new) (W.has_failed sink.new) (R.remaining source.old) (R.remaining source.new) (W.contents sink.old) (W.contents sink.new)
         ⊎ ((source.new ≡ source.old) × (sink.new ≡ sink.old)) }
@@ -128,7 +128,7 @@ pub fn run_over<M: Maker, R: Source, W: Sink>(
     ensures served { result ≡ 0
         → ServesAll (wanted_by name.now (map (λ s. s.now) documents.now)) (R.remaining source.old) (R.remaining source.new) (W.contents sink.old) (W.contents sink.new) }
     ensures no_fault { result ≡ 0 → (R.has_failed source.new ≡ false) × (W.has_failed sink.new ≡ false) }
-    ensures handed_on { W.kept sink.old ≡ [] → result ≡ 0 → W.kept sink.new ≡ [] }
+    ensures flushed { W.kept sink.old ≡ [] → result ≡ 0 → W.kept sink.new ≡ [] }
     ensures failed { result ≡ 1
         → ServesUntilFault (wanted_by name.now (map (λ s. s.now) documents.now)) (R.has_failed source.new) (W.has_failed sink.new) (R.remaining source.old) (R.remaining source.new) (W.contents sink.old) (W.contents sink.new)
         ⊎ ((source.new ≡ source.old) × (sink.new ≡ sink.old)) }

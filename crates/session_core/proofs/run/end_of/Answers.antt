@@ -55,24 +55,24 @@ returns-in-Fault-clause-turns g c = λ names same.
     (session_of (known_by g.A.DocAccess.seat_view) (g.A.DocAccess.documents c.args.access.now) c.args.session.now.opened.items)
     (g.W.Sink.contents c.args.sink.now) c.in-Fault.is
 
-pub returns-in-Ok-true-clause-handed_on : goal.returns-in-Ok-true-clause-handed_on
-returns-in-Ok-true-clause-handed_on g c =
+pub returns-in-Ok-true-clause-flushed : goal.returns-in-Ok-true-clause-flushed
+returns-in-Ok-true-clause-flushed g c =
     quit_keeps c.args.outcome c.args.waits (g.W.Sink.kept c.args.sink.now) (g.W.Sink.kept c.answer_line.new.sink)
-    c.in-Ok-true.field-0 c.in-Line.is c.in-Ok-true.field-0-test c.in-Ok-true.ensures.handed_on
+    c.in-Ok-true.field-0 c.in-Line.is c.in-Ok-true.field-0-test c.in-Ok-true.ensures.flushed
 
-pub returns-in-Ok-false-clause-handed_on : goal.returns-in-Ok-false-clause-handed_on
-returns-in-Ok-false-clause-handed_on g c =
+pub returns-in-Ok-false-clause-flushed : goal.returns-in-Ok-false-clause-flushed
+returns-in-Ok-false-clause-flushed g c =
     goes_on_keeps c.args.outcome c.args.waits (g.W.Sink.kept c.args.sink.now) (g.W.Sink.kept c.answer_line.new.sink)
-    c.in-Ok-false.field-0 c.in-Line.is c.in-Ok-false.ensures.handed_on
+    c.in-Ok-false.field-0 c.in-Line.is c.in-Ok-false.ensures.flushed
 
-pub returns-in-Err-clause-handed_on : goal.returns-in-Err-clause-handed_on
-returns-in-Err-clause-handed_on g c =
+pub returns-in-Err-clause-flushed : goal.returns-in-Err-clause-flushed
+returns-in-Err-clause-flushed g c =
     cut_keeps c.args.outcome c.args.waits (g.W.Sink.kept c.args.sink.now) (g.W.Sink.kept c.answer_line.new.sink) c.in-Line.is
 
-pub returns-in-Ok-clause-handed_on : goal.returns-in-Ok-clause-handed_on
-returns-in-Ok-clause-handed_on g c =
-    long_keeps c.args.outcome c.args.waits (g.W.Sink.kept c.args.sink.now) (g.W.Sink.kept c.refuse.new.sink) c.in-TooLong.is c.in-Ok.ensures.handed_on
+pub returns-in-Ok-clause-flushed : goal.returns-in-Ok-clause-flushed
+returns-in-Ok-clause-flushed g c =
+    long_keeps c.args.outcome c.args.waits (g.W.Sink.kept c.args.sink.now) (g.W.Sink.kept c.refuse.new.sink) c.in-TooLong.is c.in-Ok.ensures.flushed
 
-pub returns-in-Err-refuse-clause-handed_on : goal.returns-in-Err-refuse-clause-handed_on
-returns-in-Err-refuse-clause-handed_on g c =
+pub returns-in-Err-refuse-clause-flushed : goal.returns-in-Err-refuse-clause-flushed
+returns-in-Err-refuse-clause-flushed g c =
     long_cut_keeps c.args.outcome c.args.waits (g.W.Sink.kept c.args.sink.now) (g.W.Sink.kept c.refuse.new.sink) c.in-TooLong.is
