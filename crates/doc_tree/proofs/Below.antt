@@ -66,7 +66,7 @@ number-into nodes p t x fits = ap (option_and_then (walk (child_of nodes) root))
     at None = refl
     at (Some keys) = walk-append (child_of nodes) root keys (x ∷ []) ∙ from (walk (child_of nodes) root keys)
 
--- the list at a place stands in the place's node
+-- the list at a place is in the place's node
 list_trail_below-into : (s : Tagged) (p : List Tagged) (k : Key) → list_trail_below s (p ++ ListAt k ∷ []) ≡ trail_below s p k
 list_trail_below-into s [] k = refl
 list_trail_below-into s (r ∷ p) k = ap (λ o. if◌then◌else◌ {A = Option (List Key)} (may_follow s (key_of r)) (option_map (λ keys. key_of r ∷ keys) o) None) (list_trail_below-into r p k)

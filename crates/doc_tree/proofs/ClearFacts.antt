@@ -70,7 +70,7 @@ module _ (front : List (List ℕ × ℕ)) (old new : List Node) (tree : AreTree 
         order = λ q. same_ids old new shape same_order q x;
       }
 
--- where a place has no node, nothing stands there or below
+-- where a place has no node, there is nothing there or below
 pub facts-unchanged : (front : List (List ℕ × ℕ)) (nodes : List Node) (p : List Tagged) (k : Key) → node_at nodes p k ≡ None
     → facts_of nodes ≡ clear_facts_at (facts_of nodes) p k (covers front)
 unfolding facts_of role_at

@@ -53,7 +53,7 @@ element_child nodes p n i e =
     ∙ ap (option_and_then (λ m. walk (child_of nodes) m (Element i ∷ []))) way.2
     ∙ one_step (child_of nodes n (Element i))
 
--- and its list tells whether it is present
+-- and its list shows whether it is present
 pub present_listed : (nodes : List Node) → ListsShowPresence nodes → (p : List Tagged) (n : NodeNumber) → list_node_at nodes p ≡ Some n
     → present_of (node_of nodes n).order.0 ≡ filter (λ i. is_node_present nodes (node_at nodes p (Element i))) ((facts_of nodes).order p)
 present_listed nodes right p n e =

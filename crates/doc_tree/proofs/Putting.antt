@@ -1,5 +1,5 @@
 -- What an assignment needs, step by step.
-use Rattle.std.proofs.Common.{◌≡◌, ℕ, ℤ, ◌<◌, ◌≤◌, List, [], ◌∷◌, length, set, Option, Some, None, Bool, true, false, if◌then◌else◌, not, ◌&&◌, inl, ⊎_elim, refl, sym, ap, ◌∙◌, subst, arith}
+use Rattle.std.proofs.Common.{◌≡◌, ℕ, ℤ, ◌<◌, List, [], ◌∷◌, length, set, Option, Some, None, Bool, true, false, if◌then◌else◌, ◌&&◌, inl, ⊎_elim, refl, sym, ap, ◌∙◌, subst, arith}
 use Rattle.std.specs.Prelude.{IsSome, option_and_then}
 use Rattle.std.specs.Option.{option_map}
 use Rattle.doc_words.specs.Words.{Id, Key, Tagged, Scalar}
@@ -8,7 +8,6 @@ use Rattle.op_core.specs.Front.{covers}
 use Rattle.op_core.specs.Shape.{key_of, may_follow}
 use Rattle.crdt_rules.specs.Same.{key_eq, id_eq, path_eq}
 use Rattle.doc_words.specs.declared.role.Role.{Role}
-use Rattle.presence_set.specs.ById.{uncovered}
 use Rattle.presence_set.proofs.ByIdLaws.{length-uncovered}
 use Rattle.doc_nodes.specs.declared.node.NodeNumber.{NodeNumber}
 use Rattle.doc_nodes.specs.declared.node.Node.{Node}
@@ -79,7 +78,7 @@ module _ (front : List (List ℕ × ℕ)) (old new : List Node) (each : IsPartCl
       (λ e. let less = length-uncovered front (node_of old j).register.0 in subst (λ z. length z.register.0 < z.register.1) (sym e) (omega (arith, less, room)))
       (each j)
 
-  -- so the way can still be marked
+  -- so the way can still be made present
   pub ready-cleared : (p : List Tagged) (k : Key) (m : NodeNumber) → AreTree old → length new ≡ length old → node_at old p k ≡ Some m
       → HasRoomAlong old root (keys_to p k) → IsReady new root (keys_to p k)
   ready-cleared p k m tree same at room =
@@ -91,7 +90,7 @@ module _ (front : List (List ℕ × ℕ)) (old new : List Node) (each : IsPartCl
         room = λ begin rest j e w. presence_room j (room begin rest j e (ap (λ f. walk f root begin) (sym shape) ∙ w));
       }
 
--- What clearing does to the facts, whatever the lists tell.
+-- What clearing does to the facts, whatever the lists show.
 module _ (front : List (List ℕ × ℕ)) (old new : List Node) (tree : AreTree old) (p : List Tagged) (k : Key) (m : NodeNumber)
     (at : node_at old p k ≡ Some m) (clears : ClearsUnder front (plain old) (plain new) m) where
   pub facts_cleared : facts_of (plain new) ≡ clear_facts_at (facts_of old) p k (covers front)
@@ -104,14 +103,14 @@ module _ (front : List (List ℕ × ℕ)) (old new : List Node) (tree : AreTree 
       role-cleared front (plain old) (plain new) (tree-plain old tree) p k m (node_at-plain old p k ∙ at) clears q j i
       ∙ ap (λ o. if is_within q j p k && covers front i then None else o) (role-plain old q j i)
 
-  -- what its list tells of the place may be wrong then
+  -- what its list shows of the place may be wrong then
   pub shows_presence_cleared : ((n : NodeNumber) (i : Id) → ShowsPresence old n i → ShowsPresenceBut new m n i) → ListsShowPresenceBut old m → ListsShowPresenceBut new m
   shows_presence_cleared kept but n i = ⊎_elim
       (λ there. inl (ap (λ f. f n (Element i)) (shape_of-plain old new (same_children front (plain old) (plain new) clears.each)) ∙ there))
       (λ right. kept n i right)
       (but n i)
 
--- An assignment step by step: the place is cleared, then the way is marked.
+-- An assignment step by step: the place is cleared, then the way is made present.
 module _ (front : List (List ℕ × ℕ)) (id : Id) (role : Role) (old between new : List Node) (tree : AreTree old) (p : List Tagged) (k : Key) (m : NodeNumber)
     (at : node_at old p k ≡ Some m) (clears : ClearsUnder front (plain old) (plain between) m) (same : length between ≡ length old)
     (added : AddsPresenceAlong id role (plain between) (plain new) root (keys_to p k)) (also : length new ≡ length between) where
@@ -164,7 +163,7 @@ module _ (front : List (List ℕ × ℕ)) (id : Id) (role : Role) (old between n
     pub tree-put_scalar : AreTree last
     tree-put_scalar = subst AreTree (sym is) (tree-set new m (with_scalar id s (node_of new m)) within-put refl tree-put)
 
--- a place that has a node, with room on the way, is ready for marks
+-- a place that has a node, with room on the way, is ready to be made present
 pub ready-way : (nodes : List Node) → AreTree nodes → (p : List Tagged) (k : Key) (m : NodeNumber) → node_at nodes p k ≡ Some m
     → HasRoomAlong nodes root (keys_to p k) → IsReady nodes root (keys_to p k)
 ready-way nodes tree p k m at room = record {
@@ -174,7 +173,7 @@ ready-way nodes tree p k m at room = record {
   room = room;
 }
 
--- An add step by step: the way is marked, then the number is entered.
+-- An add step by step: the way is made present, then the number is entered.
 module _ (id : Id) (role : Role) (old new : List Node) (tree : AreTree old) (p : List Tagged) (k : Key) (m : NodeNumber)
     (at : node_at old p k ≡ Some m) (added : AddsPresenceAlong id role (plain old) (plain new) root (keys_to p k)) (also : length new ≡ length old) where
   present_shape : child_of new ≡ child_of old

@@ -1,4 +1,4 @@
--- The clearing of the rules, told by the facts.
+-- The clearing of the rules, in facts.
 use Rattle.std.proofs.Common.{◌≡◌, List, [], ◌∷◌, Bool, if◌then◌else◌, refl, sym, ap, ◌∙◌}
 use Rattle.std.proofs.Math.Bool.{or-false}
 use Rattle.doc_words.specs.Words.{Id, Key, Tagged, Delete, Op}

@@ -12,11 +12,10 @@ use Rattle.crdt_rules.specs.Context.{reference, entered}
 use Rattle.crdt_rules.specs.Facts.{Facts, step_facts}
 use Rattle.doc_words.specs.declared.role.Role.{Role}
 use Rattle.doc_words.specs.declared.role.Role.TheVariants.{Counter}
-use Rattle.list_order.specs.Entries.{ids_of}
 use Rattle.doc_nodes.specs.declared.node.NodeNumber.{NodeNumber}
 use Rattle.doc_nodes.specs.declared.node.Node.{Node}
 use Rattle.doc_nodes.specs.Walk.{root, walk, trail}
-use Rattle.doc_nodes.specs.Nodes.{node_of, child_of, node_at, list_node_at, ids_in, facts_of, clear_facts_at}
+use Rattle.doc_nodes.specs.Nodes.{node_of, child_of, node_at, clear_facts_at}
 use Rattle.doc_nodes.specs.Writes.{put_facts, put_role, add_facts, add_role, order_facts, with_entry, IsReadyFor}
 use Rattle.doc_rules.specs.Role.{step_roles, role_of}
 use Rattle.doc_nodes.proofs.AddingPresence.{shape-set}

@@ -4,7 +4,7 @@ use Rattle.doc_words.specs.Words.{Id, Key, Tagged}
 use Rattle.crdt_rules.specs.Same.{tagged_eq}
 use Rattle.crdt_rules.specs.Context.{Context, node, child, register, counter, present, order, clear_elem}
 
--- the context at the end of a path is cleared at a key, and all beside it stays
+-- the context at the end of a path is cleared at a key, and all else stays
 abbrev pub clear_at : (Id → Bool) → List Tagged → Key → Context → Context
 clear_at deps [] k ctx = clear_elem deps k ctx
 clear_at deps (t ∷ path) k ctx =

@@ -1,5 +1,5 @@
 //! What an operation does to the nodes.
-ghost use Rattle.std.specs.Prelude.{◌≡◌, ◌<◌, length, List, true, false, ◌&&◌, Some, None, slice_set, Contains, if◌then◌else◌};
+ghost use Rattle.std.specs.Prelude.{◌≡◌, List, true, false, ◌&&◌, Some, None, Contains, if◌then◌else◌};
 ghost use Rattle.std.specs.Option.{ForSome};
 ghost use Rattle.doc_words.specs.Words.{Id, Key, Tagged, id_cmp};
 ghost use Rattle.op_core.specs.Front.{covers};
@@ -11,10 +11,10 @@ ghost use Rattle.crdt_rules.specs.Context.{reference};
 ghost use Rattle.crdt_rules.specs.Facts.{step_facts};
 ghost use Rattle.doc_words.specs.declared.role.Role.TheVariants.{Counter};
 ghost use Rattle.doc_nodes.specs.declared.node.NodeNumber.{NodeNumber};
-ghost use Rattle.doc_nodes.specs.Nodes.{AreTree, node_of, node_at, list_node_at, facts_of, role_at, clear_facts_at};
+ghost use Rattle.doc_nodes.specs.Nodes.{AreTree, node_at, list_node_at, facts_of, role_at, clear_facts_at};
 ghost use Rattle.doc_nodes.specs.ListPresence.{ListsShowPresence, ListsShowPresenceBut};
 ghost use Rattle.doc_nodes.specs.HasPresence.{HavePresence};
-ghost use Rattle.doc_nodes.specs.Writes.{with_scalar, with_number, add_facts, add_role, put_facts, put_role, order_facts, IsReadyFor};
+ghost use Rattle.doc_nodes.specs.Writes.{add_facts, add_role, put_facts, put_role, order_facts, IsReadyFor};
 ghost use Rattle.doc_rules.specs.Role.{role_of, step_roles};
 ghost use Rattle.doc_tree.specs.Prepared.{AreReady, IsNewElement, IsReadyList, KnowsReference};
 
@@ -37,7 +37,8 @@ pub fn apply(nodes: &mut [Node], scalar: Option<Scalar>, place: PlaceNodes, op: 
     requires reference { KnowsReference (facts_of nodes.old) op.now }
     requires new { IsNewElement (facts_of nodes.old) op.now }
     ensures facts { facts_of nodes.new ≡ step_facts (facts_of nodes.old) op.now (covers op.now.front) }
-    ensures roles { (q : List Tagged) (j : Key) (i : Id) → role_at nodes.new q j i ≡ step_roles (role_at nodes.old) op.now (covers op.now.front) q j i }
+    ensures roles { (q : List Tagged) (j : Key) (i : Id) → role_at nodes.new q j i
+        ≡ step_roles (role_at nodes.old) op.now (covers op.now.front) q j i }
     ensures tree { AreTree nodes.new }
     ensures list_presence { ListsShowPresence nodes.new }
     ensures has_presence { HavePresence nodes.new }
@@ -49,7 +50,16 @@ pub fn apply(nodes: &mut [Node], scalar: Option<Scalar>, place: PlaceNodes, op: 
     let id = op.id();
     match op.mutation() {
         Mutation::Assign(val) => {
-            put_at(nodes, path, key, place.node, front, &id, role_for(val), scalar)
+            put_at(
+                nodes,
+                path,
+                key,
+                place.node,
+                front,
+                &id,
+                role_for(val),
+                scalar,
+            )
         }
         Mutation::Insert(val) => {
             insert_at(nodes, path, key, place, front, &id, role_for(val), scalar)
@@ -76,7 +86,8 @@ pub fn clear_at(nodes: &mut [Node], path: &[Tagged], key: &Key, front: &Front)
     requires list_presence { ListsShowPresence nodes.old }
     requires has_presence { HavePresence nodes.old }
     ensures facts { facts_of nodes.new ≡ clear_facts_at (facts_of nodes.old) path.now key.now (covers front.now) }
-    ensures roles { (q : List Tagged) (j : Key) (i : Id) → role_at nodes.new q j i ≡ (if is_within q j path.now key.now && covers front.now i then None else role_at nodes.old q j i) }
+    ensures roles { (q : List Tagged) (j : Key) (i : Id) → role_at nodes.new q j i
+        ≡ (if is_within q j path.now key.now && covers front.now i then None else role_at nodes.old q j i) }
     ensures tree { AreTree nodes.new }
     ensures list_presence { ListsShowPresence nodes.new }
     ensures has_presence { HavePresence nodes.new }
@@ -106,8 +117,12 @@ pub fn insert_at(
     requires reference { ForSome (reference after.now) (Contains ((facts_of nodes.old).order path.now)) }
     requires new { ¬ (Contains ((facts_of nodes.old).order path.now) id.now) }
     requires ready { IsReadyFor nodes.old path.now (Element id.now) false }
-    ensures facts { facts_of nodes.new ≡ put_facts (order_facts (facts_of nodes.old) path.now (λ ids. insert_after id_cmp ids (reference after.now) id.now)) path.now (Element id.now) (covers front.now) id.now scalar }
-    ensures roles { (q : List Tagged) (j : Key) (i : Id) → role_at nodes.new q j i ≡ put_role (role_at nodes.old) path.now (Element id.now) (covers front.now) id.now role q j i }
+    ensures facts { facts_of nodes.new
+        ≡ put_facts (order_facts (facts_of nodes.old) path.now
+        (λ ids. insert_after id_cmp ids (reference after.now) id.now))
+        path.now (Element id.now) (covers front.now) id.now scalar }
+    ensures roles { (q : List Tagged) (j : Key) (i : Id) → role_at nodes.new q j i
+        ≡ put_role (role_at nodes.old) path.now (Element id.now) (covers front.now) id.now role q j i }
     ensures tree { AreTree nodes.new }
     ensures list_presence { ListsShowPresence nodes.new }
     ensures has_presence { HavePresence nodes.new }
@@ -133,8 +148,10 @@ pub fn put_at(
     requires list_presence { ListsShowPresenceBut nodes.old end }
     requires has_presence { HavePresence nodes.old }
     requires ready { IsReadyFor nodes.old path.now key.now false }
-    ensures facts { facts_of nodes.new ≡ put_facts (facts_of nodes.old) path.now key.now (covers front.now) id.now scalar }
-    ensures roles { (q : List Tagged) (j : Key) (i : Id) → role_at nodes.new q j i ≡ put_role (role_at nodes.old) path.now key.now (covers front.now) id.now role q j i }
+    ensures facts { facts_of nodes.new
+        ≡ put_facts (facts_of nodes.old) path.now key.now (covers front.now) id.now scalar }
+    ensures roles { (q : List Tagged) (j : Key) (i : Id) → role_at nodes.new q j i
+        ≡ put_role (role_at nodes.old) path.now key.now (covers front.now) id.now role q j i }
     ensures tree { AreTree nodes.new }
     ensures list_presence { ListsShowPresence nodes.new }
     ensures has_presence { HavePresence nodes.new }
@@ -147,21 +164,15 @@ pub fn put_at(
 }
 
 /// Adds at a place, whose node is `end`: makes it and those above it present, and enters a number.
-pub fn add_at(
-    nodes: &mut [Node],
-    path: &[Tagged],
-    key: &Key,
-    end: NodeNumber,
-    id: &Id,
-    n: i64,
-)
+pub fn add_at(nodes: &mut [Node], path: &[Tagged], key: &Key, end: NodeNumber, id: &Id, n: i64)
     requires tree { AreTree nodes.old }
     requires list_presence { ListsShowPresence nodes.old }
     requires has_presence { HavePresence nodes.old }
     requires end { node_at nodes.old path.now key.now ≡ Some end }
     requires ready { IsReadyFor nodes.old path.now key.now true }
     ensures facts { facts_of nodes.new ≡ add_facts (facts_of nodes.old) path.now key.now id.now n }
-    ensures roles { (q : List Tagged) (j : Key) (i : Id) → role_at nodes.new q j i ≡ add_role (role_at nodes.old) path.now key.now id.now Counter q j i }
+    ensures roles { (q : List Tagged) (j : Key) (i : Id) → role_at nodes.new q j i
+        ≡ add_role (role_at nodes.old) path.now key.now id.now Counter q j i }
     ensures tree { AreTree nodes.new }
     ensures list_presence { ListsShowPresence nodes.new }
     ensures has_presence { HavePresence nodes.new }
