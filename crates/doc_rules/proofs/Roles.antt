@@ -99,17 +99,17 @@ absent_new log op p k good fits =
     (λ o c. ap (λ b. b && marks o p k) (false_from_ne_true (id_eq o.id op.id) (λ e. fits_new fits o c (id_decides.same o.id op.id e)))))
 
 -- of an operation that marks the place
-role_new : (kept : Bool) (r h : Role) → r ≡ h → ◌≡◌ {A = Option Role} (if kept || true then Some r else None) (Some h)
-role_new true r h e = ap Some e
-role_new false r h e = ap Some e
+marked_role : (kept : Bool) (r h : Role) → r ≡ h → ◌≡◌ {A = Option Role} (if kept || true then Some r else None) (Some h)
+marked_role true r h e = ap Some e
+marked_role false r h e = ap Some e
 
 -- and of the others
-role_old : (here cleared : Bool) (r s : Role) → (here ≡ true → r ≡ s)
+kept_role : (here cleared : Bool) (r s : Role) → (here ≡ true → r ≡ s)
     → ◌≡◌ {A = Option Role} (if (here && not cleared) || false then Some r else None) (if cleared then None else (if here then Some s else None))
-role_old true true r s e = refl
-role_old true false r s e = ap Some (e refl)
-role_old false true r s e = refl
-role_old false false r s e = refl
+kept_role true true r s e = refl
+kept_role true false r s e = ap Some (e refl)
+kept_role false true r s e = refl
+kept_role false false r s e = refl
 
 pub roles_after : (log : List Op) (op : Op) (p : List Tagged) (k : Key) (i : Id) → IsGood log → Fits op log
     → roles_of (step_facts (facts (replay log)) op (covers op.front)) (log ++ op ∷ []) p k i
@@ -120,11 +120,11 @@ roles_after log op p k i good fits = by (marks op p k) refl (id_eq op.id i) refl
         → ◌≡◌ {A = Option Role} (if ((facts (replay log)).present p k i && not (clears op p k && covers op.front i)) || (a && b) then Some (logged_role (log ++ op ∷ []) p k i) else None)
         (if a && b then Some (role_here op p k) else (if clears op p k && covers op.front i then None else (if (facts (replay log)).present p k i then Some (logged_role log p k i) else None)))
     by true m true e =
-        role_new ((facts (replay log)).present p k i && not (clears op p k && covers op.front i)) (logged_role (log ++ op ∷ []) p k i) (role_here op p k)
+        marked_role ((facts (replay log)).present p k i && not (clears op p k && covers op.front i)) (logged_role (log ++ op ∷ []) p k i) (role_here op p k)
         (ap (logged_role (log ++ op ∷ []) p k) (sym (id_decides.same op.id i e)) ∙ role_new log op p k fits)
-    by true m false e = role_old ((facts (replay log)).present p k i) (clears op p k && covers op.front i) (logged_role (log ++ op ∷ []) p k i) (logged_role log p k i) (λ h. role_old log op p k i (λ same. both_ways (id_eq op.id i) e (eq_from id_decides op.id i same)))
+    by true m false e = kept_role ((facts (replay log)).present p k i) (clears op p k && covers op.front i) (logged_role (log ++ op ∷ []) p k i) (logged_role log p k i) (λ h. role_old log op p k i (λ same. both_ways (id_eq op.id i) e (eq_from id_decides op.id i same)))
     by false m b e =
-        role_old ((facts (replay log)).present p k i) (clears op p k && covers op.front i) (logged_role (log ++ op ∷ []) p k i) (logged_role log p k i)
+        kept_role ((facts (replay log)).present p k i) (clears op p k && covers op.front i) (logged_role (log ++ op ∷ []) p k i) (logged_role log p k i)
         (λ h. role_old log op p k i (λ same. both_ways ((facts (replay log)).present p k i) (ap ((facts (replay log)).present p k) (sym same) ∙ absent_new log op p k good fits) h))
 
 -- ---- facts and roles of a log
