@@ -5,7 +5,7 @@ use Rattle.doc_words.specs.Words.{NoMemory, Cursor}
 use Rattle.line_proto.specs.declared.request.DocRequest.{DocRequest}
 use Rattle.line_proto.specs.declared.request.DocRequest.TheVariants as asked
 use Rattle.line_proto.specs.declared.line_reply.LineReply.{LineReply}
-use Rattle.line_proto.specs.declared.line_reply.LineReply.TheVariants as tell
+use Rattle.line_proto.specs.declared.line_reply.LineReply.TheVariants as line_reply
 use Rattle.session_rules.specs.Session.{Access, KnownSeat, Session, OpenDocument, new_seat, opened_at, Asks, AsksOf, Opens, Refuses}
 use Rattle.session_core.specs.declared.open_document.OpenDocument as kept
 use Rattle.session_core.specs.Asked.{AsksOr, OnDocumentOr}
@@ -14,20 +14,20 @@ use Rattle.session_core.proofs.Lists.{got_or, map-push}
 
 module _ {D S : Type 0} (a : Access D) (known : S → KnownSeat) (os slice : List (kept.OpenDocument S)) (same : slice ≡ os) (number : ℕ) where
   -- it is opened
-  pub opens_again : (documents : D) (i : ℕ) (d : kept.OpenDocument S) (told : ℕ) → IsKeptAt known slice number i → d ≡ get_or os i d → told ≡ (known d.seat).number
-      → Opens a (session_of known documents os) number (opened_at number (map (opened_of known) os)) (tell.Opened told) (session_of known documents os)
-  opens_again documents i d told k is number_is =
+  pub opens_again : (documents : D) (i : ℕ) (d : kept.OpenDocument S) (response : ℕ) → IsKeptAt known slice number i → d ≡ get_or os i d → response ≡ (known d.seat).number
+      → Opens a (session_of known documents os) number (opened_at number (map (opened_of known) os)) (line_reply.Opened response) (session_of known documents os)
+  opens_again documents i d response k is number_is =
       let here : d ≡ k.here = is ∙ got_or os i k.here d (ap (λ (l : List (kept.OpenDocument S)). slice_get l i) (sym same) ∙ k.at) in
-      subst (λ (o : Option OpenDocument). Opens a (session_of known documents os) number o (tell.Opened told) (session_of known documents os))
+      subst (λ (o : Option OpenDocument). Opens a (session_of known documents os) number o (line_reply.Opened response) (session_of known documents os))
       (sym (ap (λ (l : List (kept.OpenDocument S)). opened_at number (map (opened_of known) l)) (sym same) ∙ k.found))
-      (ap tell.Opened (number_is ∙ ap (λ (x : kept.OpenDocument S). (known x.seat).number) here), refl)
+      (ap line_reply.Opened (number_is ∙ ap (λ (x : kept.OpenDocument S). (known x.seat).number) here), refl)
 
   -- it isn't
-  pub opens_anew : (s t : Session D) (told : LineReply) → opened_at number (map (opened_of known) slice) ≡ None
-      → Opens a s number None told t ⊎ Refuses a s NoMemory told t
-      → Opens a s number (opened_at number (map (opened_of known) os)) told t ⊎ Refuses a s NoMemory told t
-  opens_anew s t told none opens =
-      subst (λ (o : Option OpenDocument). Opens a s number o told t ⊎ Refuses a s NoMemory told t)
+  pub opens_anew : (s t : Session D) (response : LineReply) → opened_at number (map (opened_of known) slice) ≡ None
+      → Opens a s number None response t ⊎ Refuses a s NoMemory response t
+      → Opens a s number (opened_at number (map (opened_of known) os)) response t ⊎ Refuses a s NoMemory response t
+  opens_anew s t response none opens =
+      subst (λ (o : Option OpenDocument). Opens a s number o response t ⊎ Refuses a s NoMemory response t)
       (sym (ap (λ (l : List (kept.OpenDocument S)). opened_at number (map (opened_of known) l)) (sym same) ∙ none)) opens
 
 -- a document more
@@ -41,22 +41,22 @@ opened_more known documents os mid new o n e f seat variables =
 
 -- ---- the document of a name
 
-module _ {D : Type 0} (a : Access D) (s t : Session D) (told : LineReply) where
-  asks_of : (number : ℕ) (ask : DocRequest) → ask ≢ asked.Open → Asks a s ask (opened_at number s.opened) told t → AsksOf a s number ask told t
+module _ {D : Type 0} (a : Access D) (s t : Session D) (response : LineReply) where
+  asks_of : (number : ℕ) (ask : DocRequest) → ask ≢ asked.Open → Asks a s ask (opened_at number s.opened) response t → AsksOf a s number ask response t
   asks_of number asked.Open other asks = absurd (other refl)
   asks_of number ask other asks = asks
 
-  pub asks_on : (found : Option ℕ) (number : ℕ) (ask : DocRequest) → found ≡ Some number → ask ≢ asked.Open → AsksOr a s ask (opened_at number s.opened) told t
-      → OnDocumentOr a s found ask told t
-  asks_on found number ask is other (inl asks) = subst (λ (n : Option ℕ). OnDocumentOr a s n ask told t) (sym is) (inl (asks_of number ask other asks))
-  asks_on found number ask is other (inr lacks) = subst (λ (n : Option ℕ). OnDocumentOr a s n ask told t) (sym is) (inr lacks)
+  pub asks_on : (found : Option ℕ) (number : ℕ) (ask : DocRequest) → found ≡ Some number → ask ≢ asked.Open → AsksOr a s ask (opened_at number s.opened) response t
+      → OnDocumentOr a s found ask response t
+  asks_on found number ask is other (inl asks) = subst (λ (n : Option ℕ). OnDocumentOr a s n ask response t) (sym is) (inl (asks_of number ask other asks))
+  asks_on found number ask is other (inr lacks) = subst (λ (n : Option ℕ). OnDocumentOr a s n ask response t) (sym is) (inr lacks)
 
-  opens_or : (number : ℕ) → Opens a s number (opened_at number s.opened) told t ⊎ Refuses a s NoMemory told t → OnDocumentOr a s (Some number) asked.Open told t
+  opens_or : (number : ℕ) → Opens a s number (opened_at number s.opened) response t ⊎ Refuses a s NoMemory response t → OnDocumentOr a s (Some number) asked.Open response t
   opens_or number (inl opens) = inl opens
   opens_or number (inr (is, same)) = inr (is, inl same)
 
   pub opens_on : (found : Option ℕ) (number : ℕ) (ask : DocRequest) → found ≡ Some number → ask ≡ asked.Open
-      → Opens a s number (opened_at number s.opened) told t ⊎ Refuses a s NoMemory told t → OnDocumentOr a s found ask told t
+      → Opens a s number (opened_at number s.opened) response t ⊎ Refuses a s NoMemory response t → OnDocumentOr a s found ask response t
   opens_on found number ask is opens done =
-      subst (λ (n : Option ℕ). OnDocumentOr a s n ask told t) (sym is)
-      (subst (λ (q : DocRequest). OnDocumentOr a s (Some number) q told t) (sym opens) (opens_or number done))
+      subst (λ (n : Option ℕ). OnDocumentOr a s n ask response t) (sym is)
+      (subst (λ (q : DocRequest). OnDocumentOr a s (Some number) q response t) (sym opens) (opens_or number done))

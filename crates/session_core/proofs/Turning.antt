@@ -16,9 +16,9 @@ module _ {D : Type 0} (a : Access D) (given : Outcome) (line : List ℕ) (s : Se
   pub line_turns : (t : Session D) (holds : Option (List ℕ)) (bye last : Bool) → given ≡ outcome.Line → bye ≡ last
       → (out : LineReply) × (bye ≡ is_bye out) × MayAnswerLine a s line out t × Appends held holds (reply_line out)
       → Turns a given line s held (if last then Some Quit else None) t holds
-  line_turns t holds bye last is tells (out, ends, may, appended) =
+  line_turns t holds bye last is last_is (out, ends, may, appended) =
       subst (λ (o : Outcome). Turns a o line s held (if◌then◌else◌ {A = Option Ending} last (Some Quit) None) t holds) (sym is)
-      (out, may, inl (appended, ap (λ (b : Bool). if◌then◌else◌ {A = Option Ending} b (Some Quit) None) (sym tells ∙ ends)))
+      (out, may, inl (appended, ap (λ (b : Bool). if◌then◌else◌ {A = Option Ending} b (Some Quit) None) (sym last_is ∙ ends)))
 
   pub cut_turns : (t : Session D) (holds : Option (List ℕ)) → given ≡ outcome.Line
       → (out : LineReply) × MayAnswerLine a s line out t × AppendsCut held holds (reply_line out)

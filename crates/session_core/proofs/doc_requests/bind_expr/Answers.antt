@@ -4,7 +4,7 @@ use Rattle.session_rules.specs.Session.{bind_to, place_at}
 use Rattle.session_core.specs.OpenDocuments.{opened_of}
 use Rattle.session_core.specs.Seats.{known_by}
 use Rattle.session_core.proofs.Served.{served_at}
-use Rattle.session_core.proofs.serving.bind_expr.Goals as goal
+use Rattle.session_core.proofs.doc_requests.bind_expr.Goals as goal
 
 pub returns-in-Ok : goal.returns-in-Ok
 returns-in-Ok g c =

@@ -5,7 +5,7 @@ use Rattle.session_rules.specs.Session.{act, place_at}
 use Rattle.session_core.specs.OpenDocuments.{opened_of}
 use Rattle.session_core.specs.Seats.{known_by}
 use Rattle.session_core.proofs.Served.{served_at}
-use Rattle.session_core.proofs.serving.change.Goals as goal
+use Rattle.session_core.proofs.doc_requests.change.Goals as goal
 
 pub returns-in-Ok : goal.returns-in-Ok
 returns-in-Ok g c =

@@ -5,7 +5,7 @@ use Rattle.session_rules.specs.Session.{read, place_at}
 use Rattle.session_core.specs.OpenDocuments.{opened_of}
 use Rattle.session_core.specs.Seats.{known_by}
 use Rattle.session_core.proofs.Served.{served_at}
-use Rattle.session_core.proofs.serving.look_at.Goals as goal
+use Rattle.session_core.proofs.doc_requests.look_at.Goals as goal
 
 pub returns-in-Ok : goal.returns-in-Ok
 returns-in-Ok g c =
