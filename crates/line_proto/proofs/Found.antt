@@ -6,7 +6,7 @@ use Rattle.std.proofs.lemmas.Option.{cond_some}
 use Rattle.serde_json.specs.Data.{Num, unsigned, negative, float, Data, null, boolean, number, string, array, object, Items, no_items, item, no_members, member}
 use Rattle.serde_json.specs.Find.{as_u64, as_str, as_array}
 use Rattle.serde_json.specs.View.{items_of}
-use Rattle.doc_words.specs.Words.{UnlessMemory, Refusal, Val, Assign, Insert, Delete, Add}
+use Rattle.doc_words.specs.Words.{UnlessMemory, Refusal, Val, Mutation, Assign, Insert, Delete, Add}
 use Rattle.json_scalar.specs.Refusal.{and_then}
 use Rattle.json_scalar.specs.Scalar.{val_of, text_of, int_of}
 use Rattle.json_scalar.specs.declared.refusal.Refusal.TheVariants.{NotJson, BadRequest, BadOperation, BadValue, BadFront}
@@ -22,8 +22,8 @@ use Rattle.doc_words.specs.declared.place.Step.{Step}
 use Rattle.doc_words.specs.declared.place.Step.TheVariants.{Get, Index}
 use Rattle.doc_words.specs.declared.ask.Look.{Look}
 use Rattle.doc_words.specs.declared.ask.Look.TheVariants.{Keys, Values, Items as Elements, Conflicts, Show, Sum}
-use Rattle.line_proto.specs.Reading.{step_from, steps_from, variable_of, variable_from, start_of_number, start_from, expr_items, expr_from, bare_request, plain_request, look_of, look_from, deletion_request, delivery_from, forgetting_from, short_request, naming_from, limit_of, limit_from, in_order, ops_from, assignment_from, insertion_from, amount_of, addition_from, long_request, bare_from, plain_from, short_from, long_from, request_items, request_from, line_data, request_of}
-use Rattle.line_proto.specs.Written.{start_data, step_data, expr_data, asks, look_word, doc_request_data, request_data, is_variable, is_start, is_amount, is_put, is_doc_request, is_request}
+use Rattle.line_proto.specs.Reading.{step_from, steps_from, variable_of, variable_from, start_of_number, start_from, expr_items, expr_from, bare_request, plain_request, look_of, look_from, deletion_request, delivery_from, forgetting_from, short_request, naming_from, limit_of, limit_from, in_order, ops_from, amount_of, addition_of, mutation_of_verb, change_request, long_request, doc_request_items, bare_from, named_from, request_items, request_from, line_data, request_of}
+use Rattle.line_proto.specs.Written.{start_data, step_data, expr_data, asks, look_word, change_data, doc_request_data, request_data, is_variable, is_start, is_amount, is_put, is_change, is_doc_request, is_request}
 use Rattle.line_proto.specs.declared.request.Start.{Start}
 use Rattle.line_proto.specs.declared.request.Start.TheVariants.{Document, Variable}
 use Rattle.line_proto.specs.declared.request.CursorExpr.{CursorExpr}
@@ -261,41 +261,60 @@ ops-Ok verb document a b is asked h =
     let within = both_hold _ _ (both_hold _ _ read.1 order.0) bound.1 in
     writes_two verb _ document a b _ _ asked (ask.Operations entries.0 limit.0) is read.0 bound.0 (same ∙ ap (λ f. ask.Operations f limit.0) (sym order.1)) refl within
 
-assignment-Ok : (verb document : List ℕ) (a b : Data) → verb ≡ codes "assign" → OkWrites verb document (a ∷ b ∷ []) (assignment_from a b)
-assignment-Ok verb document a b is asked h =
-    let expr = found_step (expr_from a) BadRequest _ asked h in
-    let val = ok_step (val_of b) _ asked expr.2 in
-    let same : asked ≡ ask.Change expr.0 (Assign val.0) = cc in
-    let made = expr_from-Some a expr.0 expr.1 in
-    writes_two verb _ document a b _ _ asked _ is made.0 (val_of-Ok b val.0 val.1) same refl (both_hold _ _ made.1 (val_of-within b val.0 val.1))
+-- a change is written with this word and this value, and is within the limits
+abbrev OkPuts : List ℕ → Data → Result Mutation Refusal → Type 0
+OkPuts verb b r = (m : Mutation) → r ≡ Ok m → (document : List ℕ) (expr : Data)
+    → (change_data document expr m ≡ asks verb document (expr ∷ b ∷ [])) × (is_change m ≡ true)
 
-insertion-Ok : (verb document : List ℕ) (a b : Data) → verb ≡ codes "insert" → OkWrites verb document (a ∷ b ∷ []) (insertion_from a b)
-insertion-Ok verb document a b is asked h =
-    let expr = found_step (expr_from a) BadRequest _ asked h in
-    let val = ok_step (val_of b) _ asked expr.2 in
-    let same : asked ≡ ask.Change expr.0 (Insert val.0) = cc in
-    let made = expr_from-Some a expr.0 expr.1 in
-    writes_two verb _ document a b _ _ asked _ is made.0 (val_of-Ok b val.0 val.1) same refl (both_hold _ _ made.1 (val_of-within b val.0 val.1))
+assignment-Ok : (verb : List ℕ) (b : Data) → verb ≡ codes "assign" → OkPuts verb b (and_then (val_of b) (λ val. Ok (Assign val)))
+assignment-Ok verb b is m h document expr =
+    let val = ok_step (val_of b) _ m h in
+    let same : m ≡ Assign val.0 = cc in (
+      ap (change_data document expr) same ∙ (λ i. asks (sym is i) document (expr ∷ val_of-Ok b val.0 val.1 i ∷ [])),
+      ap is_change same ∙ val_of-within b val.0 val.1,
+    )
 
-addition-Ok : (verb document : List ℕ) (a b : Data) → verb ≡ codes "add" → OkWrites verb document (a ∷ b ∷ []) (addition_from a b)
-addition-Ok verb document a b is asked h =
-    let expr = found_step (expr_from a) BadRequest _ asked h in
-    let n = found_step (amount_of b) BadValue _ asked expr.2 in
-    let same : asked ≡ ask.Change expr.0 (Add n.0) = cc in
-    let made = expr_from-Some a expr.0 expr.1 in
-    let val = amount_of-val b n.0 n.1 in
-    writes_two verb _ document a b _ _ asked _ is made.0 (val_of-Ok b _ val) same refl (both_hold _ _ made.1 (val_of-within b _ val))
+insertion-Ok : (verb : List ℕ) (b : Data) → verb ≡ codes "insert" → OkPuts verb b (and_then (val_of b) (λ val. Ok (Insert val)))
+insertion-Ok verb b is m h document expr =
+    let val = ok_step (val_of b) _ m h in
+    let same : m ≡ Insert val.0 = cc in (
+      ap (change_data document expr) same ∙ (λ i. asks (sym is i) document (expr ∷ val_of-Ok b val.0 val.1 i ∷ [])),
+      ap is_change same ∙ val_of-within b val.0 val.1,
+    )
 
-none_asked : (verb document : List ℕ) (ds : List Data) → OkWrites verb document ds (Err BadRequest)
-none_asked verb document ds asked h = cc
+addition-Ok : (verb : List ℕ) (b : Data) → verb ≡ codes "add" → OkPuts verb b (addition_of b)
+addition-Ok verb b is m h document expr =
+    let n = found_step (amount_of b) BadValue _ m h in
+    let same : m ≡ Add n.0 = cc in
+    let val = amount_of-val b n.0 n.1 in (
+      ap (change_data document expr) same ∙ (λ i. asks (sym is i) document (expr ∷ val_of-Ok b _ val i ∷ [])),
+      ap is_change same ∙ val_of-within b _ val,
+    )
+
+nothing_put : (verb : List ℕ) (b : Data) → OkPuts verb b (Err BadRequest)
+nothing_put verb b m h document expr = cc
+
+mutation_of_verb-Ok : (verb : List ℕ) (b : Data) → OkPuts verb b (mutation_of_verb verb b)
+mutation_of_verb-Ok verb b =
+    by_word (OkPuts verb b) verb (codes "assign") _ _ (assignment-Ok verb b)
+    (by_word (OkPuts verb b) verb (codes "insert") _ _ (insertion-Ok verb b)
+    (by_word (OkPuts verb b) verb (codes "add") _ _ (addition-Ok verb b) (nothing_put verb b)))
+
+change-Ok : (verb document : List ℕ) (a b : Data) → OkWrites verb document (a ∷ b ∷ []) (change_request verb a b)
+change-Ok verb document a b asked h =
+    let expr = found_step (expr_from a) BadRequest _ asked h in
+    let change = ok_step (mutation_of_verb verb b) _ asked expr.2 in
+    let same : asked ≡ ask.Change expr.0 change.0 = cc in
+    let made = expr_from-Some a expr.0 expr.1 in
+    let puts = mutation_of_verb-Ok verb b change.0 change.1 document (expr_data expr.0) in (
+      ap (doc_request_data document) same ∙ puts.0 ∙ (λ i. asks verb document (made.0 i ∷ b ∷ [])),
+      ap is_doc_request same ∙ both_hold _ _ made.1 puts.1,
+    )
 
 long_request-Ok : (verb document : List ℕ) (a b : Data) → OkWrites verb document (a ∷ b ∷ []) (long_request verb a b)
 long_request-Ok verb document a b =
     by_word (OkWrites verb document (a ∷ b ∷ [])) verb (codes "let") _ _ (naming-Ok verb document a b)
-    (by_word (OkWrites verb document (a ∷ b ∷ [])) verb (codes "ops") _ _ (ops-Ok verb document a b)
-    (by_word (OkWrites verb document (a ∷ b ∷ [])) verb (codes "assign") _ _ (assignment-Ok verb document a b)
-    (by_word (OkWrites verb document (a ∷ b ∷ [])) verb (codes "insert") _ _ (insertion-Ok verb document a b)
-    (by_word (OkWrites verb document (a ∷ b ∷ [])) verb (codes "add") _ _ (addition-Ok verb document a b) (none_asked verb document (a ∷ b ∷ []))))))
+    (by_word (OkWrites verb document (a ∷ b ∷ [])) verb (codes "ops") _ _ (ops-Ok verb document a b) (change-Ok verb document a b))
 
 plain_is : (verb word document : List ℕ) (one : DocRequest) → verb ≡ word → doc_request_data document one ≡ asks word document [] → is_doc_request one ≡ true → SomeWrites verb document [] (Some one)
 plain_is verb word document one is form within asked h =
@@ -349,34 +368,32 @@ bare_from-Ok verb r h =
     let made = bare_request-Some v.0 r (ok_or-Ok _ BadRequest r v.2) in
     (made.0 ∙ ap (λ w. list_data (w ∷ [])) (sym (as_str-Some verb v.0 v.1)), made.1)
 
-plain_from-Ok : (verb document : Data) (r : Request) → plain_from verb document ≡ Ok r → IsOf (list_data (verb ∷ document ∷ [])) r
-plain_from-Ok verb document r h =
-    let v = found_step (as_str verb) BadRequest _ r h in
-    let n = found_step (as_str document) BadRequest _ r v.2 in
-    let asked = found_step (plain_request v.0) BadRequest _ r n.2 in
-    is_of verb document v.0 n.0 [] asked.0 r v.1 n.1 (plain_request-Some v.0 n.0 asked.0 asked.1) cc
+abbrev items_list : Items → List Data
+items_list no_items = []
+items_list (item d ds) = d ∷ items_list ds
 
-short_from-Ok : (verb document a : Data) (r : Request) → short_from verb document a ≡ Ok r → IsOf (list_data (verb ∷ document ∷ a ∷ [])) r
-short_from-Ok verb document a r h =
-    let v = found_step (as_str verb) BadRequest _ r h in
-    let n = found_step (as_str document) BadRequest _ r v.2 in
-    let asked = ok_step (short_request v.0 a) _ r n.2 in
-    is_of verb document v.0 n.0 (a ∷ []) asked.0 r v.1 n.1 (short_request-Ok v.0 n.0 a asked.0 asked.1) cc
+doc_request_items-Ok : (verb document : List ℕ) (ds : Items) → OkWrites verb document (items_list ds) (doc_request_items verb ds)
+doc_request_items-Ok verb document no_items asked h = plain_request-Some verb document asked (ok_or-Ok _ BadRequest asked h)
+doc_request_items-Ok verb document (item a no_items) asked h = short_request-Ok verb document a asked h
+doc_request_items-Ok verb document (item a (item b no_items)) asked h = long_request-Ok verb document a b asked h
+doc_request_items-Ok verb document (item a (item b (item c ds))) asked h = cc
 
-long_from-Ok : (verb document a b : Data) (r : Request) → long_from verb document a b ≡ Ok r → IsOf (list_data (verb ∷ document ∷ a ∷ b ∷ [])) r
-long_from-Ok verb document a b r h =
+items_of_list : (ds : Items) → items_of (items_list ds) ≡ ds
+items_of_list no_items = refl
+items_of_list (item d ds) = ap (item d) (items_of_list ds)
+
+named_from-Ok : (verb document : Data) (ds : Items) (r : Request) → named_from verb document ds ≡ Ok r → IsOf (array (item verb (item document ds))) r
+named_from-Ok verb document ds r h =
     let v = found_step (as_str verb) BadRequest _ r h in
     let n = found_step (as_str document) BadRequest _ r v.2 in
-    let asked = ok_step (long_request v.0 a b) _ r n.2 in
-    is_of verb document v.0 n.0 (a ∷ b ∷ []) asked.0 r v.1 n.1 (long_request-Ok v.0 n.0 a b asked.0 asked.1) cc
+    let asked = ok_step (doc_request_items v.0 ds) _ r n.2 in
+    let made = is_of verb document v.0 n.0 (items_list ds) asked.0 r v.1 n.1 (doc_request_items-Ok v.0 n.0 ds asked.0 asked.1) cc in
+    (made.0 ∙ ap (λ (l : Items). array (item verb (item document l))) (items_of_list ds), made.1)
 
 request_items-Ok : (ds : Items) (r : Request) → request_items ds ≡ Ok r → IsOf (array ds) r
 request_items-Ok no_items r h = cc
 request_items-Ok (item verb no_items) r h = bare_from-Ok verb r h
-request_items-Ok (item verb (item document no_items)) r h = plain_from-Ok verb document r h
-request_items-Ok (item verb (item document (item a no_items))) r h = short_from-Ok verb document a r h
-request_items-Ok (item verb (item document (item a (item b no_items)))) r h = long_from-Ok verb document a b r h
-request_items-Ok (item verb (item document (item a (item b (item c ds))))) r h = cc
+request_items-Ok (item verb (item document ds)) r h = named_from-Ok verb document ds r h
 
 pub request_from-Ok : (d : Data) (r : Request) → request_from d ≡ Ok r → IsOf d r
 request_from-Ok d r h =

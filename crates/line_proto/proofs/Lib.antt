@@ -2,6 +2,6 @@ pub mod Lines
 pub mod Requests
 pub mod Found
 pub mod Refusing
-pub mod Due
+pub mod Stated
 pub mod Texts
 pub mod Pieces

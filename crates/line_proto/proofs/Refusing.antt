@@ -1,9 +1,9 @@
 -- Which refusal is answered for JSON that is no request.
 use Rattle.std.proofs.Common.{◌≡◌, ◌≢◌, inl, inr, ℕ, Bool, true, false, cond, List, [], ◌∷◌, codes, Option, Some, None, Result, Ok, Err, ok_or, IfErr, refl, sym, ap, ◌∙◌, subst}
 use Rattle.std.specs.Prelude.{⊤}
-use Rattle.serde_json.specs.Data.{Data, array, Items, no_items, item}
+use Rattle.serde_json.specs.Data.{Data, string, array, Items, no_items, item}
 use Rattle.serde_json.specs.Find.{as_str, as_array}
-use Rattle.doc_words.specs.Words.{UnlessMemory, Refusal, NoMemory, Assign, Insert, Delete, Add}
+use Rattle.doc_words.specs.Words.{UnlessMemory, Refusal, NoMemory, Mutation, Assign, Insert, Delete, Add}
 use Rattle.json_scalar.specs.Refusal.{and_then}
 use Rattle.json_scalar.specs.Scalar.{val_of}
 use Rattle.json_scalar.specs.declared.refusal.Refusal.TheVariants.{NotJson, BadRequest, BadValue, BadOperation, BadFront, TooDeep}
@@ -16,7 +16,7 @@ use Rattle.op_core.specs.Wire.{list_data}
 use Rattle.op_core.specs.Written.{ReadsOp}
 use Rattle.op_core.proofs.Wires.{as_array-Some, as_str-Some, front_of_json-front_data, ReadsFront-from_answer}
 use Rattle.op_core.proofs.Operations.{ReadsOp-from_answer}
-use Rattle.line_proto.specs.Reading.{variable_from, expr_from, bare_request, plain_request, look_of, look_from, deletion_request, delivery_from, short_request, naming_from, limit_from, in_order, ops_from, assignment_from, insertion_from, amount_of, addition_from, long_request, short_from, long_from, request_items, request_from, line_data, request_of}
+use Rattle.line_proto.specs.Reading.{variable_from, expr_from, bare_request, plain_request, look_of, look_from, deletion_request, delivery_from, short_request, naming_from, limit_from, in_order, ops_from, amount_of, mutation_of_verb, change_request, long_request, doc_request_items, request_items, request_from, line_data, request_of}
 use Rattle.line_proto.specs.Written.{asks, expr_data, is_start}
 use Rattle.line_proto.specs.Refused.{Putting, assigns, inserts, adds, putting_word, AsksToPut, AsksToDeliver, AsksForOperations, IsNoRequest, IsRefusedFor, IsLineRefusedFor}
 use Rattle.line_proto.specs.declared.request.CursorExpr.{CursorExpr}
@@ -29,31 +29,32 @@ use Rattle.line_proto.proofs.Requests.{expr_from-expr_data, request_from-request
 
 -- ---- where a form is found: what of it is refused
 
--- what a refusal gives of the JSON, but for one of the form
+-- what is true of JSON that is refused for this cause, but for one of its form
 abbrev CauseOf : Data → Refusal → Type 0
 CauseOf d BadRequest = ⊤
 CauseOf d BadValue = AsksToPut d
 CauseOf d NoMemory = ⊥
 CauseOf d e = IsRefusedFor d e
 
-abbrev Tells : {A : Type 0} → Data → Result A Refusal → Type 0
-Tells d r = (e : Refusal) → r ≡ Err e → CauseOf d e
+-- each refusal in the result is caused by the JSON
+abbrev IsCaused : {A : Type 0} → Data → Result A Refusal → Type 0
+IsCaused d r = (e : Refusal) → r ≡ Err e → CauseOf d e
 
-read : {A : Type 0} (d : Data) (x : A) → Tells d (Ok x)
+read : {A : Type 0} (d : Data) (x : A) → IsCaused d (Ok x)
 read d x e is = cc
 
-unformed : {A : Type 0} (d : Data) → Tells {A = A} d (Err BadRequest)
+unformed : {A : Type 0} (d : Data) → IsCaused {A = A} d (Err BadRequest)
 unformed d e is = let same : BadRequest ≡ e = cc in subst (CauseOf d) same tt
 
-ok_or-tells : {A : Type 0} (d : Data) (o : Option A) → Tells d (ok_or o BadRequest)
-ok_or-tells d (Some x) = read d x
-ok_or-tells d None = unformed d
+ok_or-caused : {A : Type 0} (d : Data) (o : Option A) → IsCaused d (ok_or o BadRequest)
+ok_or-caused d (Some x) = read d x
+ok_or-caused d None = unformed d
 
-step : {A B : Type 0} (d : Data) (o : Option A) (f : A → Result B Refusal) → ((x : A) → o ≡ Some x → Tells d (f x)) → Tells d (and_then (ok_or o BadRequest) f)
+step : {A B : Type 0} (d : Data) (o : Option A) (f : A → Result B Refusal) → ((x : A) → o ≡ Some x → IsCaused d (f x)) → IsCaused d (and_then (ok_or o BadRequest) f)
 step d (Some x) f h = h x refl
 step d None f h = unformed d
 
-made_of : {A B : Type 0} (d : Data) (r : Result A Refusal) (f : A → B) → Tells d r → Tells d (and_then r (λ x. Ok (f x)))
+made_of : {A B : Type 0} (d : Data) (r : Result A Refusal) (f : A → B) → IsCaused d r → IsCaused d (and_then r (λ x. Ok (f x)))
 made_of d (Ok x) f h e is = cc
 made_of d (Err c) f h e is = let same : c ≡ e = cc in h e (ap Err same)
 
@@ -63,9 +64,9 @@ only_BadValue : {A : Type 0} (o : Option A) (e : Refusal) → ok_or o BadValue �
 only_BadValue (Some x) e is = cc
 only_BadValue None e is = cc
 
-put-tells : {A B : Type 0} (d : Data) (r : Result A Refusal) (f : A → B) → AsksToPut d → ((e : Refusal) → r ≡ Err e → e ≡ BadValue) → Tells d (and_then r (λ x. Ok (f x)))
-put-tells d (Ok x) f put only e is = cc
-put-tells d (Err c) f put only e is =
+put-caused : {A B : Type 0} (d : Data) (r : Result A Refusal) (f : A → B) → AsksToPut d → ((e : Refusal) → r ≡ Err e → e ≡ BadValue) → IsCaused d (and_then r (λ x. Ok (f x)))
+put-caused d (Ok x) f put only e is = cc
+put-caused d (Err c) f put only e is =
     let same : c ≡ e = cc in
     subst (CauseOf d) (sym (only c refl) ∙ same) put
 
@@ -83,62 +84,59 @@ asks_to_put one verb document a b expr is found =
       form = λ i. asks (sym is i) document (at_a i ∷ b ∷ []);
     }
 
-assignment-tells : (verb document : List ℕ) (a b : Data) → verb ≡ codes "assign" → Tells (asks verb document (a ∷ b ∷ [])) (assignment_from a b)
-assignment-tells verb document a b is =
+mutation-caused : (verb document : List ℕ) (a b : Data) (expr : CursorExpr) → expr_from a ≡ Some expr
+    → IsCaused (asks verb document (a ∷ b ∷ [])) (and_then (mutation_of_verb verb b) (λ change. Ok (ask.Change expr change)))
+mutation-caused verb document a b expr found =
     let d = asks verb document (a ∷ b ∷ []) in
-    step d (expr_from a) _ (λ expr found. put-tells d (val_of b) (λ val. ask.Change expr (Assign val)) (asks_to_put assigns verb document a b expr is found) (val_of-Err b))
+    made_of d (mutation_of_verb verb b) (ask.Change expr)
+    (by_word (IsCaused d) verb (codes "assign") _ _ (λ is. put-caused d (val_of b) Assign (asks_to_put assigns verb document a b expr is found) (val_of-Err b))
+    (by_word (IsCaused d) verb (codes "insert") _ _ (λ is. put-caused d (val_of b) Insert (asks_to_put inserts verb document a b expr is found) (val_of-Err b))
+    (by_word (IsCaused d) verb (codes "add") _ _ (λ is. put-caused d (ok_or (amount_of b) BadValue) Add (asks_to_put adds verb document a b expr is found) (only_BadValue (amount_of b)))
+    (unformed d))))
 
-insertion-tells : (verb document : List ℕ) (a b : Data) → verb ≡ codes "insert" → Tells (asks verb document (a ∷ b ∷ [])) (insertion_from a b)
-insertion-tells verb document a b is =
-    let d = asks verb document (a ∷ b ∷ []) in
-    step d (expr_from a) _ (λ expr found. put-tells d (val_of b) (λ val. ask.Change expr (Insert val)) (asks_to_put inserts verb document a b expr is found) (val_of-Err b))
-
-addition-tells : (verb document : List ℕ) (a b : Data) → verb ≡ codes "add" → Tells (asks verb document (a ∷ b ∷ [])) (addition_from a b)
-addition-tells verb document a b is =
-    let d = asks verb document (a ∷ b ∷ []) in
-    step d (expr_from a) _ (λ expr found.
-    put-tells d (ok_or (amount_of b) BadValue) (λ n. ask.Change expr (Add n)) (asks_to_put adds verb document a b expr is found) (only_BadValue (amount_of b)))
+change-caused : (verb document : List ℕ) (a b : Data) → IsCaused (asks verb document (a ∷ b ∷ [])) (change_request verb a b)
+change-caused verb document a b = step (asks verb document (a ∷ b ∷ [])) (expr_from a) _ (mutation-caused verb document a b)
 
 -- ---- what is delivered
 
--- reading JSON that is at hand wants no memory
-shaped_wants_none : (op : Op) (shallow form front : Bool) → and_then (first_cause shallow form front) (λ _. Ok op) ≢ Err NoMemory
-shaped_wants_none op false form front is = cc
-shaped_wants_none op true false front is = cc
-shaped_wants_none op true true false is = cc
-shaped_wants_none op true true true is = cc
+-- by its definition, reading never lacks memory
+shaped-never_memory : (op : Op) (shallow form front : Bool) → and_then (first_cause shallow form front) (λ _. Ok op) ≢ Err NoMemory
+shaped-never_memory op false form front is = cc
+shaped-never_memory op true false front is = cc
+shaped-never_memory op true true false is = cc
+shaped-never_memory op true true true is = cc
 
-op_wants_none : (long : Bool) (o : Option Op) → cond long (Err TooDeep) (and_then (ok_or o BadOperation) shaped) ≢ Err NoMemory
-op_wants_none true o is = cc
-op_wants_none false None is = cc
-op_wants_none false (Some op) is = shaped_wants_none op (is_shallow op.cursor.path) (has_form op) (has_front op) is
+op-never_memory : (long : Bool) (o : Option Op) → cond long (Err TooDeep) (and_then (ok_or o BadOperation) shaped) ≢ Err NoMemory
+op-never_memory true o is = cc
+op-never_memory false None is = cc
+op-never_memory false (Some op) is = shaped-never_memory op (is_shallow op.cursor.path) (has_form op) (has_front op) is
 
-wants_none : (o : Option Parts) → and_then (ok_or o BadOperation) op_from_parts ≢ Err NoMemory
-wants_none None is = cc
-wants_none (Some parts) is = op_wants_none (is_long (path_len parts.cursor)) (op_of parts) is
+parts-never_memory : (o : Option Parts) → and_then (ok_or o BadOperation) op_from_parts ≢ Err NoMemory
+parts-never_memory None is = cc
+parts-never_memory (Some parts) is = op-never_memory (is_long (path_len parts.cursor)) (op_of parts) is
 
-pub op_from-wants_none : (op : Data) → op_from op ≢ Err NoMemory
-op_from-wants_none op = wants_none (parts_of op)
+pub op_from-never_memory : (op : Data) → op_from op ≢ Err NoMemory
+op_from-never_memory op = parts-never_memory (parts_of op)
 
 op-cause : (d op : Data) → AsksToDeliver d op → (e : Refusal) → op_from op ≡ Err e → ReadsOp op (Err e) → CauseOf d e
 op-cause d op delivers TooDeep refused h = (op, delivers, h)
 op-cause d op delivers BadOperation refused h = (op, delivers, h)
 op-cause d op delivers BadFront refused h = inl (op, delivers, h)
-op-cause d op delivers NoMemory refused h = op_from-wants_none op refused
+op-cause d op delivers NoMemory refused h = op_from-never_memory op refused
 op-cause d op delivers e refused h = absurd h
 
-delivery-tells : (verb document : List ℕ) (a : Data) → verb ≡ codes "deliver" → Tells (asks verb document (a ∷ [])) (delivery_from a)
-delivery-tells verb document a is =
+delivery-caused : (verb document : List ℕ) (a : Data) → verb ≡ codes "deliver" → IsCaused (asks verb document (a ∷ [])) (delivery_from a)
+delivery-caused verb document a is =
     let d = asks verb document (a ∷ []) in
     let delivers : AsksToDeliver d a = record { document = document; form = λ i. asks (sym is i) document (a ∷ []) } in
     made_of d (op_from a) ask.Deliver (λ e refused. op-cause d a delivers e refused (ReadsOp-from_answer a (Err e) (λ _. sym refused)))
 
 -- ---- the front
 
-in_order-tells : (d : Data) (front : List (List ℕ × ℕ)) → AsksForOperations d front → Tells d (in_order front)
-in_order-tells d front pulls = by (is_ascending front) refl
+in_order-caused : (d : Data) (front : List (List ℕ × ℕ)) → AsksForOperations d front → IsCaused d (in_order front)
+in_order-caused d front pulls = by (is_ascending front) refl
   where
-    by : (b : Bool) → is_ascending front ≡ b → Tells d (cond b (Ok front) (Err BadFront))
+    by : (b : Bool) → is_ascending front ≡ b → IsCaused d (cond b (Ok front) (Err BadFront))
     by true p e is = cc
     by false p e is = let same : BadFront ≡ e = cc in subst (CauseOf d) same (inr (front, pulls, p))
 
@@ -157,73 +155,60 @@ asks_for_operations verb document a b front limit is found bound =
       form = λ i. asks (sym is i) document (at_a i ∷ at_b i ∷ []);
     }
 
-ops-tells : (verb document : List ℕ) (a b : Data) → verb ≡ codes "ops" → Tells (asks verb document (a ∷ b ∷ [])) (ops_from a b)
-ops-tells verb document a b is =
+ops-caused : (verb document : List ℕ) (a b : Data) → verb ≡ codes "ops" → IsCaused (asks verb document (a ∷ b ∷ [])) (ops_from a b)
+ops-caused verb document a b is =
     let d = asks verb document (a ∷ b ∷ []) in
     step d (limit_from b) _ (λ limit bound.
     made_of d (and_then (ok_or (front_of_json a) BadRequest) in_order) (λ front. ask.Operations front limit)
-    (step d (front_of_json a) in_order (λ front found. in_order-tells d front (asks_for_operations verb document a b front limit is found bound))))
+    (step d (front_of_json a) in_order (λ front found. in_order-caused d front (asks_for_operations verb document a b front limit is found bound))))
 
 -- ---- what else is asked: only the form is refused
 
-deletion-tells : (d a : Data) → Tells d (deletion_request a)
-deletion-tells d a = step d (expr_from a) _ (λ expr found. read d (ask.Change expr Delete))
+deletion-caused : (d a : Data) → IsCaused d (deletion_request a)
+deletion-caused d a = step d (expr_from a) _ (λ expr found. read d (ask.Change expr Delete))
 
-look-tells : (d : Data) (verb : List ℕ) (a : Data) → Tells d (look_from verb a)
-look-tells d verb a = step d (look_of verb) _ (λ look is. step d (expr_from a) _ (λ expr found. read d (ask.Look expr look)))
+look-caused : (d : Data) (verb : List ℕ) (a : Data) → IsCaused d (look_from verb a)
+look-caused d verb a = step d (look_of verb) _ (λ look is. step d (expr_from a) _ (λ expr found. read d (ask.Look expr look)))
 
-naming-tells : (d a b : Data) → Tells d (naming_from a b)
-naming-tells d a b = step d (variable_from a) _ (λ name is. step d (expr_from b) _ (λ expr found. read d (ask.Let name expr)))
+naming-caused : (d a b : Data) → IsCaused d (naming_from a b)
+naming-caused d a b = step d (variable_from a) _ (λ name is. step d (expr_from b) _ (λ expr found. read d (ask.Let name expr)))
 
-short_request-tells : (verb document : List ℕ) (a : Data) → Tells (asks verb document (a ∷ [])) (short_request verb a)
-short_request-tells verb document a =
+short_request-caused : (verb document : List ℕ) (a : Data) → IsCaused (asks verb document (a ∷ [])) (short_request verb a)
+short_request-caused verb document a =
     let d = asks verb document (a ∷ []) in
-    by_word (Tells d) verb (codes "delete") _ _ (λ is. deletion-tells d a)
-    (by_word (Tells d) verb (codes "deliver") _ _ (delivery-tells verb document a)
-    (by_word (Tells d) verb (codes "forget") _ _ (λ is. ok_or-tells d _) (look-tells d verb a)))
+    by_word (IsCaused d) verb (codes "delete") _ _ (λ is. deletion-caused d a)
+    (by_word (IsCaused d) verb (codes "deliver") _ _ (delivery-caused verb document a)
+    (by_word (IsCaused d) verb (codes "forget") _ _ (λ is. ok_or-caused d _) (look-caused d verb a)))
 
-long_request-tells : (verb document : List ℕ) (a b : Data) → Tells (asks verb document (a ∷ b ∷ [])) (long_request verb a b)
-long_request-tells verb document a b =
+long_request-caused : (verb document : List ℕ) (a b : Data) → IsCaused (asks verb document (a ∷ b ∷ [])) (long_request verb a b)
+long_request-caused verb document a b =
     let d = asks verb document (a ∷ b ∷ []) in
-    by_word (Tells d) verb (codes "let") _ _ (λ is. naming-tells d a b)
-    (by_word (Tells d) verb (codes "ops") _ _ (ops-tells verb document a b)
-    (by_word (Tells d) verb (codes "assign") _ _ (assignment-tells verb document a b)
-    (by_word (Tells d) verb (codes "insert") _ _ (insertion-tells verb document a b)
-    (by_word (Tells d) verb (codes "add") _ _ (addition-tells verb document a b) (unformed d)))))
+    by_word (IsCaused d) verb (codes "let") _ _ (λ is. naming-caused d a b)
+    (by_word (IsCaused d) verb (codes "ops") _ _ (ops-caused verb document a b) (change-caused verb document a b))
 
 -- ---- requests
 
-same_words : (verb document : Data) (v n : List ℕ) (ds : List Data) → as_str verb ≡ Some v → as_str document ≡ Some n → asks v n ds ≡ list_data (verb ∷ document ∷ ds)
-same_words verb document v n ds at_verb at_document = λ i. list_data (sym (as_str-Some verb v at_verb) i ∷ sym (as_str-Some document n at_document) i ∷ ds)
+doc_request_items-caused : (verb document : List ℕ) (ds : Items) → IsCaused (array (item (string verb) (item (string document) ds))) (doc_request_items verb ds)
+doc_request_items-caused verb document no_items = ok_or-caused (asks verb document []) (plain_request verb)
+doc_request_items-caused verb document (item a no_items) = short_request-caused verb document a
+doc_request_items-caused verb document (item a (item b no_items)) = long_request-caused verb document a b
+doc_request_items-caused verb document (item a (item b (item c ds))) = unformed (array (item (string verb) (item (string document) (item a (item b (item c ds))))))
 
-short_from-tells : (verb document a : Data) → Tells (list_data (verb ∷ document ∷ a ∷ [])) (short_from verb document a)
-short_from-tells verb document a =
-    let d = list_data (verb ∷ document ∷ a ∷ []) in
-    step d (as_str verb) _ (λ v is. step d (as_str document) _ (λ n named.
-    made_of d (short_request v a) (λ asked. Of n asked)
-    (subst (λ (d : Data). Tells d (short_request v a)) (same_words verb document v n (a ∷ []) is named) (short_request-tells v n a))))
-
-long_from-tells : (verb document a b : Data) → Tells (list_data (verb ∷ document ∷ a ∷ b ∷ [])) (long_from verb document a b)
-long_from-tells verb document a b =
-    let d = list_data (verb ∷ document ∷ a ∷ b ∷ []) in
-    step d (as_str verb) _ (λ v is. step d (as_str document) _ (λ n named.
-    made_of d (long_request v a b) (λ asked. Of n asked)
-    (subst (λ (d : Data). Tells d (long_request v a b)) (same_words verb document v n (a ∷ b ∷ []) is named) (long_request-tells v n a b))))
-
-request_items-tells : (ds : Items) → Tells (array ds) (request_items ds)
-request_items-tells no_items = unformed (array no_items)
-request_items-tells (item verb no_items) =
+request_items-caused : (ds : Items) → IsCaused (array ds) (request_items ds)
+request_items-caused no_items = unformed (array no_items)
+request_items-caused (item verb no_items) =
     let d = array (item verb no_items) in
-    step d (as_str verb) _ (λ v is. ok_or-tells d (bare_request v))
-request_items-tells (item verb (item document no_items)) =
-    let d = array (item verb (item document no_items)) in
-    step d (as_str verb) _ (λ v is. step d (as_str document) _ (λ n named. step d (plain_request v) _ (λ asked found. read d (Of n asked))))
-request_items-tells (item verb (item document (item a no_items))) = short_from-tells verb document a
-request_items-tells (item verb (item document (item a (item b no_items)))) = long_from-tells verb document a b
-request_items-tells (item verb (item document (item a (item b (item c ds))))) = unformed (array (item verb (item document (item a (item b (item c ds))))))
+    step d (as_str verb) _ (λ v is. ok_or-caused d (bare_request v))
+request_items-caused (item verb (item document ds)) =
+    let d = array (item verb (item document ds)) in
+    step d (as_str verb) _ (λ v is. step d (as_str document) _ (λ n named.
+    made_of d (doc_request_items v ds) (λ asked. Of n asked)
+    (subst (λ (d : Data). IsCaused d (doc_request_items v ds))
+    (λ i. array (item (sym (as_str-Some verb v is) i) (item (sym (as_str-Some document n named) i) ds)))
+    (doc_request_items-caused v n ds))))
 
-pub request_from-tells : (d : Data) → Tells d (request_from d)
-request_from-tells d = step d (as_array d) request_items (λ items found. subst (λ (d : Data). Tells d (request_items items)) (sym (as_array-Some d items found)) (request_items-tells items))
+pub request_from-caused : (d : Data) → IsCaused d (request_from d)
+request_from-caused d = step d (as_array d) request_items (λ items found. subst (λ (d : Data). IsCaused d (request_items items)) (sym (as_array-Some d items found)) (request_items-caused items))
 
 -- ---- where the form is refused: there is none
 
@@ -233,28 +218,28 @@ no_request d e is r within same =
     cc
 
 -- what is put is refused for its value alone
-value_only : {A : Type 0} (document : List ℕ) (r : Result A Refusal) (f : A → DocRequest) → ((e : Refusal) → r ≡ Err e → e ≡ BadValue)
-    → (c : Refusal) → and_then (and_then r (λ x. Ok (f x))) (λ asked. Ok (Of document asked)) ≡ Err c → c ≡ BadValue
-value_only document (Ok x) f only c is = cc
-value_only document (Err e) f only c is = let same : e ≡ c = cc in sym same ∙ only e refl
+value_only : {A : Type 0} (document : List ℕ) (expr : CursorExpr) (r : Result A Refusal) (f : A → Mutation) → ((e : Refusal) → r ≡ Err e → e ≡ BadValue)
+    → (c : Refusal) → and_then (and_then (and_then r (λ x. Ok (f x))) (λ change. Ok (ask.Change expr change))) (λ asked. Ok (Of document asked)) ≡ Err c → c ≡ BadValue
+value_only document expr (Ok x) f only c is = cc
+value_only document expr (Err e) f only c is = let same : e ≡ c = cc in sym same ∙ only e refl
 
 put_only : (one : Putting) (document : List ℕ) (expr : CursorExpr) (value : Data) → is_start expr.start ≡ true
     → (c : Refusal) → request_from (asks (putting_word one) document (expr_data expr ∷ value ∷ [])) ≡ Err c → c ≡ BadValue
 put_only assigns document expr value h c is =
     let answer : request_from (asks (codes "assign") document (expr_data expr ∷ value ∷ []))
-    ≡ and_then (and_then (val_of value) (λ val. Ok (ask.Change expr (Assign val)))) (λ asked. Ok (Of document asked))
+    ≡ and_then (and_then (and_then (val_of value) (λ val. Ok (Assign val))) (λ change. Ok (ask.Change expr change))) (λ asked. Ok (Of document asked))
     = rw (expr_from-expr_data expr h) refl in
-    value_only document (val_of value) (λ val. ask.Change expr (Assign val)) (val_of-Err value) c (sym answer ∙ is)
+    value_only document expr (val_of value) Assign (val_of-Err value) c (sym answer ∙ is)
 put_only inserts document expr value h c is =
     let answer : request_from (asks (codes "insert") document (expr_data expr ∷ value ∷ []))
-    ≡ and_then (and_then (val_of value) (λ val. Ok (ask.Change expr (Insert val)))) (λ asked. Ok (Of document asked))
+    ≡ and_then (and_then (and_then (val_of value) (λ val. Ok (Insert val))) (λ change. Ok (ask.Change expr change))) (λ asked. Ok (Of document asked))
     = rw (expr_from-expr_data expr h) refl in
-    value_only document (val_of value) (λ val. ask.Change expr (Insert val)) (val_of-Err value) c (sym answer ∙ is)
+    value_only document expr (val_of value) Insert (val_of-Err value) c (sym answer ∙ is)
 put_only adds document expr value h c is =
     let answer : request_from (asks (codes "add") document (expr_data expr ∷ value ∷ []))
-    ≡ and_then (and_then (ok_or (amount_of value) BadValue) (λ n. Ok (ask.Change expr (Add n)))) (λ asked. Ok (Of document asked))
+    ≡ and_then (and_then (and_then (ok_or (amount_of value) BadValue) (λ n. Ok (Add n))) (λ change. Ok (ask.Change expr change))) (λ asked. Ok (Of document asked))
     = rw (expr_from-expr_data expr h) refl in
-    value_only document (ok_or (amount_of value) BadValue) (λ n. ask.Change expr (Add n)) (only_BadValue (amount_of value)) c (sym answer ∙ is)
+    value_only document expr (ok_or (amount_of value) BadValue) Add (only_BadValue (amount_of value)) c (sym answer ∙ is)
 
 pub put-refused : (d : Data) → AsksToPut d → (c : Refusal) → request_from d ≡ Err c → c ≡ BadValue
 put-refused d p c is = put_only p.putting p.document p.expr p.value p.started c (ap request_from p.form ∙ is)
@@ -288,25 +273,25 @@ pulled-formed d front p is = by (is_ascending front) refl
     by true q = let same : Ok (Of p.document (ask.Operations front p.limit)) ≡ Err BadRequest = sym (pulled d front p true q) ∙ is in cc
     by false q = let same : ◌≡◌ {A = Result Request Refusal} (Err BadFront) (Err BadRequest) = sym (pulled d front p false q) ∙ is in cc
 
-pub is_due : (d : Data) (e : Refusal) → request_from d ≡ Err e → IsRefusedFor d e
-is_due d BadRequest is =
+pub is_refused_for : (d : Data) (e : Refusal) → request_from d ≡ Err e → IsRefusedFor d e
+is_refused_for d BadRequest is =
     (no_request d BadRequest is, (λ p. let clash : BadRequest ≡ BadValue = put-refused d p BadRequest is in cc), (λ op p. delivered-formed d op p is), (λ front p. pulled-formed d front p is))
-is_due d BadValue is = (request_from-tells d BadValue is, no_request d BadValue is)
-is_due d NoMemory is = tt
-is_due d e is = request_from-tells d e is
+is_refused_for d BadValue is = (request_from-caused d BadValue is, no_request d BadValue is)
+is_refused_for d NoMemory is = tt
+is_refused_for d e is = request_from-caused d e is
 
 -- ---- lines
 
-is_due_at : (found : Option Data) (e : Refusal) → and_then (ok_or found NotJson) request_from ≡ Err e → IsLineRefusedFor found e
-is_due_at None e is = let same : NotJson ≡ e = cc in subst (IsLineRefusedFor None) same tt
-is_due_at (Some d) e is = is_due d e is
+is_line_refused_for : (found : Option Data) (e : Refusal) → and_then (ok_or found NotJson) request_from ≡ Err e → IsLineRefusedFor found e
+is_line_refused_for None e is = let same : NotJson ≡ e = cc in subst (IsLineRefusedFor None) same tt
+is_line_refused_for (Some d) e is = is_refused_for d e is
 
-memory_may_want : (found : Option Data) → IsLineRefusedFor found NoMemory
-memory_may_want None = tt
-memory_may_want (Some d) = tt
+memory_may_lack : (found : Option Data) → IsLineRefusedFor found NoMemory
+memory_may_lack None = tt
+memory_may_lack (Some d) = tt
 
--- a line that is refused is refused for the cause that is due
+-- a line that is refused is refused for a cause that the rules name
 pub refuses_line : (line : List ℕ) (answer : Result Request Refusal) → UnlessMemory answer (request_of line) → IfErr answer (IsLineRefusedFor (line_data line))
 refuses_line line (Ok r) h = tt
-refuses_line line (Err NoMemory) h = memory_may_want (line_data line)
-refuses_line line (Err e) h = is_due_at (line_data line) e (sym (h (λ k. cc)))
+refuses_line line (Err NoMemory) h = memory_may_lack (line_data line)
+refuses_line line (Err e) h = is_line_refused_for (line_data line) e (sym (h (λ k. cc)))

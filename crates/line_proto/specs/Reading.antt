@@ -68,13 +68,6 @@ expr_items (item d ds) = do
   steps ← steps_from ds
   Some (record { start = start; steps = steps })
 
--- the same, with the refusal at each part
-abbrev pub expr_read : Items → Result CursorExpr Refusal
-expr_read no_items = Err BadRequest
-expr_read (item d ds) =
-    and_then (ok_or (start_from d) BadRequest) (λ start.
-    and_then (ok_or (steps_from ds) BadRequest) (λ steps. Ok (record { start = start; steps = steps })))
-
 abbrev pub expr_from : Data → Option CursorExpr
 expr_from d = as_array d >>= expr_items
 
@@ -142,39 +135,10 @@ ops_from f n =
     and_then (ok_or (limit_from n) BadRequest) (λ limit.
     and_then (and_then (ok_or (front_of_json f) BadRequest) in_order) (λ front. Ok (ask.Operations front limit)))
 
-abbrev pub assignment_from : Data → Data → Result DocRequest Refusal
-assignment_from c d =
-    and_then (ok_or (expr_from c) BadRequest) (λ expr.
-    and_then (val_of d) (λ val. Ok (ask.Change expr (Assign val))))
-
-abbrev pub insertion_from : Data → Data → Result DocRequest Refusal
-insertion_from c d =
-    and_then (ok_or (expr_from c) BadRequest) (λ expr.
-    and_then (val_of d) (λ val. Ok (ask.Change expr (Insert val))))
-
 -- an integer of 64 bits
 abbrev pub amount_of : Data → Option ℤ
 amount_of d = as_number d >>= int_of
 
-abbrev pub addition_from : Data → Data → Result DocRequest Refusal
-addition_from c d =
-    and_then (ok_or (expr_from c) BadRequest) (λ expr.
-    and_then (ok_or (amount_of d) BadValue) (λ n. Ok (ask.Change expr (Add n))))
-
-abbrev pub change_request : List ℕ → Data → Data → Result DocRequest Refusal
-change_request verb c d =
-    if bytes_eq verb (codes "assign") then assignment_from c d
-    else (if bytes_eq verb (codes "insert") then insertion_from c d
-    else (if bytes_eq verb (codes "add") then addition_from c d
-    else Err BadRequest))
-
-abbrev pub long_request : List ℕ → Data → Data → Result DocRequest Refusal
-long_request verb a b =
-    if bytes_eq verb (codes "let") then naming_from a b
-    else (if bytes_eq verb (codes "ops") then ops_from a b
-    else change_request verb a b)
-
--- the same for all three words: the cursor, and then the change
 abbrev pub addition_of : Data → Result Mutation Refusal
 addition_of d = and_then (ok_or (amount_of d) BadValue) (λ n. Ok (Add n))
 
@@ -184,6 +148,18 @@ mutation_of_verb verb d =
     else (if bytes_eq verb (codes "insert") then and_then (val_of d) (λ val. Ok (Insert val))
     else (if bytes_eq verb (codes "add") then addition_of d
     else Err BadRequest))
+
+-- a change is its cursor, and then what is changed
+abbrev pub change_request : List ℕ → Data → Data → Result DocRequest Refusal
+change_request verb c d =
+    and_then (ok_or (expr_from c) BadRequest) (λ expr.
+    and_then (mutation_of_verb verb d) (λ change. Ok (ask.Change expr change)))
+
+abbrev pub long_request : List ℕ → Data → Data → Result DocRequest Refusal
+long_request verb a b =
+    if bytes_eq verb (codes "let") then naming_from a b
+    else (if bytes_eq verb (codes "ops") then ops_from a b
+    else change_request verb a b)
 
 -- a request on a document, by its word and the items after the document's name
 abbrev pub doc_request_items : List ℕ → Items → Result DocRequest Refusal
@@ -195,25 +171,7 @@ doc_request_items verb (item a (item b (item c ds))) = Err BadRequest
 abbrev pub bare_from : Data → Result Request Refusal
 bare_from verb = and_then (ok_or (as_str verb) BadRequest) (λ verb. ok_or (bare_request verb) BadRequest)
 
-abbrev pub plain_from : Data → Data → Result Request Refusal
-plain_from verb document =
-    and_then (ok_or (as_str verb) BadRequest) (λ verb.
-    and_then (ok_or (as_str document) BadRequest) (λ name.
-    and_then (ok_or (plain_request verb) BadRequest) (λ asked. Ok (Of name asked))))
-
-abbrev pub short_from : Data → Data → Data → Result Request Refusal
-short_from verb document a =
-    and_then (ok_or (as_str verb) BadRequest) (λ verb.
-    and_then (ok_or (as_str document) BadRequest) (λ name.
-    and_then (short_request verb a) (λ asked. Ok (Of name asked))))
-
-abbrev pub long_from : Data → Data → Data → Data → Result Request Refusal
-long_from verb document a b =
-    and_then (ok_or (as_str verb) BadRequest) (λ verb.
-    and_then (ok_or (as_str document) BadRequest) (λ name.
-    and_then (long_request verb a b) (λ asked. Ok (Of name asked))))
-
--- the same for any number of items after the document's name
+-- a request on a document, with the items after the document's name
 abbrev pub named_from : Data → Data → Items → Result Request Refusal
 named_from verb document ds =
     and_then (ok_or (as_str verb) BadRequest) (λ verb.
@@ -223,10 +181,7 @@ named_from verb document ds =
 abbrev pub request_items : Items → Result Request Refusal
 request_items no_items = Err BadRequest
 request_items (item verb no_items) = bare_from verb
-request_items (item verb (item document no_items)) = plain_from verb document
-request_items (item verb (item document (item a no_items))) = short_from verb document a
-request_items (item verb (item document (item a (item b no_items)))) = long_from verb document a b
-request_items (item verb (item document (item a (item b (item c ds))))) = Err BadRequest
+request_items (item verb (item document ds)) = named_from verb document ds
 
 abbrev pub request_from : Data → Result Request Refusal
 request_from d = and_then (ok_or (as_array d) BadRequest) request_items

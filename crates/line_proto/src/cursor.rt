@@ -3,7 +3,7 @@ ghost use Rattle.std.specs.Prelude.{◌≡◌, option_map, ok_or};
 ghost use Rattle.serde_json.specs.View.{view, items_view};
 ghost use Rattle.json_scalar.specs.Refusal.{UnlessMemory};
 ghost use Rattle.json_scalar.specs.declared.refusal.Refusal.TheVariants.{BadRequest};
-ghost use Rattle.line_proto.specs.Reading.{step_from, steps_from, variable_of, variable_from, start_of_number, start_from, expr_read, expr_from};
+ghost use Rattle.line_proto.specs.Reading.{step_from, steps_from, variable_of, variable_from, start_of_number, start_from, expr_items, expr_from};
 
 use crate::name::Name;
 use crate::request::{CursorExpr, Start};
@@ -27,7 +27,7 @@ pub(crate) fn read_expr(alloc: Global, value: &Value) -> Result<CursorExpr, Refu
 }
 
 fn read_expr_items(alloc: Global, items: &[Value]) -> Result<CursorExpr, Refusal>
-    ensures { UnlessMemory result (expr_read (items_view items.now)) }
+    ensures { UnlessMemory result (ok_or (expr_items (items_view items.now)) BadRequest) }
 {
     match items {
         [] => Err(Refusal::BadRequest),

@@ -1,4 +1,4 @@
--- A refusal that is due is what is answered.
+-- A refusal that the rules state is what is answered.
 use Rattle.std.proofs.Common.{◌≡◌, ◌≢◌, ◌&&◌, inl, inr, ℕ, List, true, false, cond, Option, Some, None, Result, Ok, Err, ok_or, refl, sym, ap, ◌∙◌, ◌==◌, ◌+◌}
 use Rattle.std.proofs.lemmas.Bool.{and_parts}
 use Rattle.std.specs.List.{list_all}
@@ -18,7 +18,7 @@ use Rattle.line_proto.specs.Reading.{request_from, line_data, request_of}
 use Rattle.line_proto.specs.Refused.{AsksToDeliver, IsRefusedFor, IsLineRefusedFor}
 use Rattle.line_proto.specs.declared.request.Request.{Request}
 use Rattle.line_proto.proofs.Found.{request_from-Ok}
-use Rattle.line_proto.proofs.Refusing.{delivered, is_due, op_from-wants_none, pulled, put-refused, request_from-tells}
+use Rattle.line_proto.proofs.Refusing.{delivered, is_refused_for, op_from-never_memory, pulled, put-refused, request_from-caused}
 
 -- ---- operations
 
@@ -52,76 +52,76 @@ same_front x y same p q =
     let front : x.front ≡ y.front = cc in
     λ i. is_ascending (front i) && (id i).counter == max_counter (front i) + 1
 
--- of what nothing of the right form is written
+-- of JSON that no operation of the right form has
 unformed : (op : Data) (r : Result Op Refusal) → ReadsOp op r → ReadsOp op (Err BadOperation) → r ≢ Err NoMemory → r ≡ Err BadOperation
-unformed op (Ok x) h due other = absurd (due.1 x (shaped_parts x h.1).0 h.0)
-unformed op (Err TooDeep) h due other = let clash : true ≡ false = sym h ∙ due.0 in cc
-unformed op (Err BadOperation) h due other = refl
-unformed op (Err BadFront) (short, (x, same, formed, front)) due other = absurd (due.1 x formed same)
-unformed op (Err NoMemory) h due other = absurd (other refl)
-unformed op (Err e) h due other = absurd h
+unformed op (Ok x) h stated other = absurd (stated.1 x (shaped_parts x h.1).0 h.0)
+unformed op (Err TooDeep) h stated other = let clash : true ≡ false = sym h ∙ stated.0 in cc
+unformed op (Err BadOperation) h stated other = refl
+unformed op (Err BadFront) (short, (x, same, formed, front)) stated other = absurd (stated.1 x formed same)
+unformed op (Err NoMemory) h stated other = absurd (other refl)
+unformed op (Err e) h stated other = absurd h
 
--- of what has a wrong front
+-- of JSON with a wrong front
 unordered : (op : Data) (r : Result Op Refusal) → ReadsOp op r → ReadsOp op (Err BadFront) → r ≢ Err NoMemory → r ≡ Err BadFront
 unordered op (Ok x) h (short, (y, same, formed, front)) other =
     let parts = shaped_parts x h.1 in
     let clash : true ≡ false = sym parts.1 ∙ same_front x y (h.0 ∙ sym same) parts.0 formed ∙ front in
     cc
-unordered op (Err TooDeep) h due other = let clash : true ≡ false = sym h ∙ due.0 in cc
+unordered op (Err TooDeep) h stated other = let clash : true ≡ false = sym h ∙ stated.0 in cc
 unordered op (Err BadOperation) h (short, (y, same, formed, front)) other = absurd (h.1 y formed same)
-unordered op (Err BadFront) h due other = refl
-unordered op (Err NoMemory) h due other = absurd (other refl)
-unordered op (Err e) h due other = absurd h
+unordered op (Err BadFront) h stated other = refl
+unordered op (Err NoMemory) h stated other = absurd (other refl)
+unordered op (Err e) h stated other = absurd h
 
-op_due : (op : Data) (e : Refusal) → ReadsOp op (Err e) → e ≢ NoMemory → op_from op ≡ Err e
-op_due op TooDeep due other = too_deep (parts_of op) due
-op_due op BadOperation due other = unformed op (op_from op) (ReadsOp-from_answer op (op_from op) (λ _. refl)) due (op_from-wants_none op)
-op_due op BadFront due other = unordered op (op_from op) (ReadsOp-from_answer op (op_from op) (λ _. refl)) due (op_from-wants_none op)
-op_due op NoMemory due other = absurd (other refl)
-op_due op e due other = absurd due
+op_stated : (op : Data) (e : Refusal) → ReadsOp op (Err e) → e ≢ NoMemory → op_from op ≡ Err e
+op_stated op TooDeep stated other = too_deep (parts_of op) stated
+op_stated op BadOperation stated other = unformed op (op_from op) (ReadsOp-from_answer op (op_from op) (λ _. refl)) stated (op_from-never_memory op)
+op_stated op BadFront stated other = unordered op (op_from op) (ReadsOp-from_answer op (op_from op) (λ _. refl)) stated (op_from-never_memory op)
+op_stated op NoMemory stated other = absurd (other refl)
+op_stated op e stated other = absurd stated
 
 -- ---- requests
 
-delivery_due : (d op : Data) (e : Refusal) → AsksToDeliver d op → ReadsOp op (Err e) → e ≢ NoMemory → request_from d ≡ Err e
-delivery_due d op e p due other = delivered d op p (Err e) (op_due op e due other)
+delivery_stated : (d op : Data) (e : Refusal) → AsksToDeliver d op → ReadsOp op (Err e) → e ≢ NoMemory → request_from d ≡ Err e
+delivery_stated d op e p stated other = delivered d op p (Err e) (op_stated op e stated other)
 
--- where there is no form, no other cause is due
+-- where there is no form, no other cause is stated
 only_form : (d : Data) → IsRefusedFor d BadRequest → (c : Refusal) → request_from d ≡ Err c → IsRefusedFor d c → c ≡ BadRequest
-only_form d due BadRequest is h = refl
-only_form d due BadValue is h = absurd (due.1 h.0)
-only_form d due TooDeep is (op, p, reads) = absurd (due.2 op p)
-only_form d due BadOperation is (op, p, reads) = absurd (due.2 op p)
-only_form d due BadFront is (inl (op, p, reads)) = absurd (due.2 op p)
-only_form d due BadFront is (inr (front, p, order)) = absurd (due.3 front p)
-only_form d due NoMemory is h = absurd (request_from-tells d NoMemory is)
-only_form d due e is h = absurd h
+only_form d stated BadRequest is h = refl
+only_form d stated BadValue is h = absurd (stated.1 h.0)
+only_form d stated TooDeep is (op, p, reads) = absurd (stated.2 op p)
+only_form d stated BadOperation is (op, p, reads) = absurd (stated.2 op p)
+only_form d stated BadFront is (inl (op, p, reads)) = absurd (stated.2 op p)
+only_form d stated BadFront is (inr (front, p, order)) = absurd (stated.3 front p)
+only_form d stated NoMemory is h = absurd (request_from-caused d NoMemory is)
+only_form d stated e is h = absurd h
 
-due_answer : (d : Data) (e : Refusal) → IsRefusedFor d e → e ≢ NoMemory → request_from d ≡ Err e
-due_answer d BadRequest due other = by (request_from d) refl
+answer_stated : (d : Data) (e : Refusal) → IsRefusedFor d e → e ≢ NoMemory → request_from d ≡ Err e
+answer_stated d BadRequest stated other = by (request_from d) refl
   where
     by : (r : Result Request Refusal) → request_from d ≡ r → r ≡ Err BadRequest
-    by (Ok x) is = let made = request_from-Ok d x is in absurd (due.0 x made.1 made.0)
-    by (Err c) is = ap Err (only_form d due c is (is_due d c is))
-due_answer d BadValue due other = by (request_from d) refl
+    by (Ok x) is = let made = request_from-Ok d x is in absurd (stated.0 x made.1 made.0)
+    by (Err c) is = ap Err (only_form d stated c is (is_refused_for d c is))
+answer_stated d BadValue stated other = by (request_from d) refl
   where
     by : (r : Result Request Refusal) → request_from d ≡ r → r ≡ Err BadValue
-    by (Ok x) is = let made = request_from-Ok d x is in absurd (due.1 x made.1 made.0)
-    by (Err c) is = ap Err (put-refused d due.0 c is)
-due_answer d TooDeep (op, p, reads) other = delivery_due d op TooDeep p reads other
-due_answer d BadOperation (op, p, reads) other = delivery_due d op BadOperation p reads other
-due_answer d BadFront (inl (op, p, reads)) other = delivery_due d op BadFront p reads other
-due_answer d BadFront (inr (front, p, order)) other = pulled d front p false order
-due_answer d NoMemory due other = absurd (other refl)
-due_answer d e due other = absurd due
+    by (Ok x) is = let made = request_from-Ok d x is in absurd (stated.1 x made.1 made.0)
+    by (Err c) is = ap Err (put-refused d stated.0 c is)
+answer_stated d TooDeep (op, p, reads) other = delivery_stated d op TooDeep p reads other
+answer_stated d BadOperation (op, p, reads) other = delivery_stated d op BadOperation p reads other
+answer_stated d BadFront (inl (op, p, reads)) other = delivery_stated d op BadFront p reads other
+answer_stated d BadFront (inr (front, p, order)) other = pulled d front p false order
+answer_stated d NoMemory stated other = absurd (other refl)
+answer_stated d e stated other = absurd stated
 
 -- ---- lines
 
-due_at : (found : Option Data) (e : Refusal) → e ≢ NoMemory → IsLineRefusedFor found e → and_then (ok_or found NotJson) request_from ≡ Err e
-due_at None NotJson other due = refl
-due_at None NoMemory other due = absurd (other refl)
-due_at None e other due = absurd due
-due_at (Some d) e other due = due_answer d e due other
+stated_at : (found : Option Data) (e : Refusal) → e ≢ NoMemory → IsLineRefusedFor found e → and_then (ok_or found NotJson) request_from ≡ Err e
+stated_at None NotJson other stated = refl
+stated_at None NoMemory other stated = absurd (other refl)
+stated_at None e other stated = absurd stated
+stated_at (Some d) e other stated = answer_stated d e stated other
 
--- a line for which a refusal is due has that answer
-pub due_line : (line : List ℕ) (e : Refusal) → e ≢ NoMemory → IsLineRefusedFor (line_data line) e → request_of line ≡ Err e
-due_line line e other due = due_at (line_data line) e other due
+-- a line for which a refusal is stated has that answer
+pub line_stated : (line : List ℕ) (e : Refusal) → e ≢ NoMemory → IsLineRefusedFor (line_data line) e → request_of line ≡ Err e
+line_stated line e other stated = stated_at (line_data line) e other stated
