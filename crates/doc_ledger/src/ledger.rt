@@ -41,7 +41,7 @@ fn with_counters<M: Marker>(
     replica: Replica,
     ledgers: Ledgers<M>,
 ) -> Result<LockedDoc<M>, Refusal>
-    requires { replica.log ≡ M.begun ledgers.number }
+    requires { replica.log ≡ M.initial_log ledgers.number }
     ensures made { IfOk result (λ doc. (doc.number ≡ ledgers.number) × (doc.document ≡ document_of replica (replicate (length replica.log) 0) ledgers.seats 0 (length replica.log))) }
     ensures memory { IfErr result (λ cause. cause ≡ Refusal.NoMemory) }
 {
@@ -101,7 +101,7 @@ impl<M: Marker> Ledger<M> {
         seats: u16,
     ) -> Result<LockedDoc<M>, Refusal>
         requires number { 1 ≤ greatest_number - self.old }
-        requires begun { M.begun self.old ≡ [] }
+        requires begun { M.initial_log self.old ≡ [] }
         ensures made { IfOk result (λ doc. (doc.number ≡ self.old) × (doc.document ≡ new_document name.now [] seats)) }
         ensures memory { IfErr result (λ cause. cause ≡ Refusal.NoMemory) }
         ensures next { IfOk result (λ doc. self.new ≡ self.old + 1) }
@@ -122,7 +122,7 @@ impl<M: Marker> Ledger<M> {
         seats: u16,
     ) -> Result<LockedDoc<M>, Refusal>
         requires number { 1 ≤ greatest_number - self.old }
-        requires begun { operations.now ≡ M.begun self.old }
+        requires begun { operations.now ≡ M.initial_log self.old }
         ensures made { IfOk result (λ doc. (doc.number ≡ self.old) × (doc.document ≡ new_document name.now operations.now seats)) }
         ensures good { OnOk result (IsGood operations.now) }
         ensures err { IfErr result (λ cause. (cause ≡ Refusal.NoMemory) ⊎ ((place : ℕ) × IsFirstMisfit operations.now place cause)) }

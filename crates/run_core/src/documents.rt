@@ -102,14 +102,14 @@ impl<M: Marker> Model for NewDocuments<M> {
 
     ghost view = { λ d. d.ledger };
 
-    ghost invariant = { λ d. BeginEmpty M.begun };
+    ghost invariant = { λ d. BeginEmpty M.initial_log };
 }
 
 impl<M: Marker> NewDocuments<M> {
     /// One that has made no document yet. It takes no memory.
     pub fn new(blank: Blank) -> NewDocuments<M>
         requires blank { blank ≡ M.name }
-        requires begun { BeginEmpty M.begun }
+        requires begun { BeginEmpty M.initial_log }
         ensures { result ≡ 0 }
     {
         NewDocuments {

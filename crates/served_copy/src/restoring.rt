@@ -47,7 +47,7 @@ fn restored_doc<M: Marker, S: Alter>(
     seats: u16,
 ) -> Result<LockedDoc<M>, Fault>
     requires number { 1 ≤ greatest_number - ledger.old }
-    requires begun { log_of name.now copy.now.docs ≡ M.begun ledger.old }
+    requires begun { log_of name.now copy.now.docs ≡ M.initial_log ledger.old }
     ensures made { IfOk result (λ doc. doc.document ≡ new_document replica.now (log_of name.now copy.now.docs) seats) }
     ensures next { IfOk result (λ doc. ledger.new ≡ ledger.old + 1) }
     ensures never_refused { IfErr result (λ e. (e ≡ Fault.Store) ⊎ (e ≡ Fault.Memory)) }
@@ -83,7 +83,7 @@ fn restored_docs<M: Marker, S: Alter>(
 ) -> Result<Vec<LockedDoc<M>>, Fault>
     requires few { length names.now ≤ greatest_number }
     requires first { ledger.old ≡ 0 }
-    requires begun { M.begun ≡ entries_at copy.now.docs (map (λ s. s.now) names.now) }
+    requires begun { M.initial_log ≡ entries_at copy.now.docs (map (λ s. s.now) names.now) }
     ensures documents { IfOk result (λ docs. map (λ d. d.document) docs.items ≡ map (λ n. new_document replica.now (log_of n copy.now.docs) seats) (map (λ s. s.now) names.now)) }
     ensures each { IfOk result (λ docs. length docs.items ≡ length names.now) }
     ensures never_refused { IfErr result (λ e. (e ≡ Fault.Store) ⊎ (e ≡ Fault.Memory)) }
@@ -110,7 +110,7 @@ pub fn restored_stock<M: Marker, S: Alter>(
 ) -> Result<Stock<M>, Fault>
     requires few { length names.now ≤ greatest_number }
     requires first { ledger.old ≡ 0 }
-    requires begun { M.begun ≡ entries_at copy.now.docs (map (λ s. s.now) names.now) }
+    requires begun { M.initial_log ≡ entries_at copy.now.docs (map (λ s. s.now) names.now) }
     ensures names { IfOk result (λ stock. stock.names.items ≡ map (λ s. s.now) names.now) }
     ensures documents { IfOk result (λ stock. map (λ d. d.document) stock.docs.items ≡ restored replica.now copy.now.docs seats (map (λ s. s.now) names.now)) }
     ensures never_refused { IfErr result (λ e. (e ≡ Fault.Store) ⊎ (e ≡ Fault.Memory)) }

@@ -57,7 +57,7 @@ fn serve_beside<
     ran: &mut Result<Gathered, Failure>,
 ) -> Copier<'a, S, T>
     ensures sessions { IfOk ran.new (λ g. (given : List (List (Option seats.Seat)))
-        × AreAttended library.names.items (map C.bytes connections.items) g.endings.items given × AreTotalsFrom M.begun 0 given g.totals.items) }
+        × AreAttended library.names.items (map C.bytes connections.items) g.endings.items given × AreTotalsFrom M.initial_log 0 given g.totals.items) }
     ensures each { IfOk ran.new (λ g. vec_len g.totals ≡ length library.names.items) }
     ensures same_reference { result.copy.ghost_name ≡ copier.entry.copy.ghost_name }
     // The copier has run, or memory ran out before the first session.
@@ -91,7 +91,7 @@ fn serve_copied<
     copy: &mut LogCopy<S>,
 ) -> (Result<Gathered, Failure>, Option<Fault>)
     ensures sessions { IfOk result.0 (λ g. (given : List (List (Option seats.Seat)))
-        × AreAttended library.names.items (map C.bytes connections.items) g.endings.items given × AreTotalsFrom M.begun 0 given g.totals.items) }
+        × AreAttended library.names.items (map C.bytes connections.items) g.endings.items given × AreTotalsFrom M.initial_log 0 given g.totals.items) }
     ensures each { IfOk result.0 (λ g. vec_len g.totals ≡ length library.names.items) }
     ensures left { (OnOk result.0 ⊥ × (copy.new ≡ copy.old)) ⊎ HasCopied library.names.items copy.old copy.new result.1 }
 {
@@ -133,7 +133,7 @@ fn serve_library<
     out: &mut W,
 ) -> Result<(), Failure>
     requires names { library.names.items ≡ map (λ s. s.now) names.now }
-    requires begun { M.begun ≡ entries_at copy.old.docs (map (λ s. s.now) names.now) }
+    requires begun { M.initial_log ≡ entries_at copy.old.docs (map (λ s. s.now) names.now) }
     ensures served { OnOk result (ServesSessions copy.old.docs (map (λ s. s.now) names.now) (length connections.items) (W.contents out.old) (W.contents out.new)) }
     ensures unwritten { IfErr result (λ why. IsUnwritten why → out.new ≡ out.old) }
     ensures copied { OnOk result (AddsBatches (map (λ s. s.now) names.now) copy.old copy.new) }
@@ -167,7 +167,7 @@ fn serve_stock<
     out: &mut W,
 ) -> Result<(), Failure>
     requires names { stock.names.items ≡ map (λ s. s.now) names.now }
-    requires begun { M.begun ≡ entries_at copy.old.docs (map (λ s. s.now) names.now) }
+    requires begun { M.initial_log ≡ entries_at copy.old.docs (map (λ s. s.now) names.now) }
     ensures served { OnOk result (ServesSessions copy.old.docs (map (λ s. s.now) names.now) (length connections.items) (W.contents out.old) (W.contents out.new)) }
     ensures unwritten { IfErr result (λ why. IsUnwritten why → out.new ≡ out.old) }
     ensures copied { OnOk result (AddsBatches (map (λ s. s.now) names.now) copy.old copy.new) }
@@ -202,7 +202,7 @@ fn serve_restored<
 ) -> Result<(), Failure>
     requires blank { blank ≡ M.name }
     requires named { replica.now ≡ replica_name name.now copy.old.epoch }
-    requires begun { M.begun ≡ entries_at copy.old.docs (map (λ s. s.now) documents.now) }
+    requires begun { M.initial_log ≡ entries_at copy.old.docs (map (λ s. s.now) documents.now) }
     requires few { length documents.now ≤ greatest_number }
     ensures served { OnOk result (ServesSessions copy.old.docs (map (λ s. s.now) documents.now) (length connections.items) (W.contents out.old) (W.contents out.new)) }
     ensures unwritten { IfErr result (λ why. IsUnwritten why → out.new ≡ out.old) }

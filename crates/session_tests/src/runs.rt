@@ -54,7 +54,7 @@ fn run_of(input: &[u8]) -> Run<'_>
 /// The status of a run, and what it wrote.
 fn written_over<M: Marker>(alloc: Global, blank: Blank, run: Run<'_>) -> (u8, Vec<u8>)
     requires blank { blank ≡ M.name }
-    requires begun { BeginEmpty M.begun }
+    requires begun { BeginEmpty M.initial_log }
     requires some { 0 < run.piece }
 {
     let mut out = Vec::new(alloc);

@@ -10,14 +10,14 @@ use std::marker::{Brand, Model, PhantomData};
 pub trait Marker {
     ghost name: { ℕ };
 
-    /// With which operations the document of each number begins. No counter depends on it: the documents of the table do.
-    ghost begun: { ℕ → List Op };
+    /// The initial log of the document of each number. No counter depends on it: the documents of the table do.
+    ghost initial_log: { ℕ → List Op };
 }
 
 impl Marker for Brand {
     ghost name = { 0 };
 
-    ghost begun = { λ _. [] };
+    ghost initial_log = { λ _. [] };
 }
 
 /// A new table, which no marker names yet. Contracts see it as its name. It takes no bytes.

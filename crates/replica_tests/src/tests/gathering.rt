@@ -89,7 +89,7 @@ fn refuses_with<M: Marker, R: Abort>(
 // A list of the end of a seat of the document of number 1.
 fn elsewhere<M: Marker>(alloc: Global, table: &mut Table<M>) -> Result<Vec<SeatEnd<M>>, Refusal>
     requires place { table.old ≤ ledger_place 1 0 }
-    requires begun { BeginEmpty M.begun }
+    requires begun { BeginEmpty M.initial_log }
 {
     let mut ends = Vec::new(alloc);
     ends.reserve(1)?;
@@ -108,7 +108,7 @@ fn gather_totals(rt: HostRuntime) -> Result<(), Fail> {
 // A document with 3 seats: seat 1 assigns three times, seat 2 twice, seat 3 isn't opened.
 fn gathers<M: Marker, R: Abort>(rt: &R, alloc: Global, blank: Blank) -> Result<(), Refusal>
     requires blank { blank ≡ M.name }
-    requires begun { BeginEmpty M.begun }
+    requires begun { BeginEmpty M.initial_log }
 {
     let mut table = blank.named::<M>();
     let mut doc = document(alloc, &mut table, 0, 3)?;
@@ -227,7 +227,7 @@ fn release_counts_for_releaser(rt: HostRuntime) -> Result<(), Fail> {
 // What one seat handed in and another seat's call released is the second seat's.
 fn releases<M: Marker, R: Abort>(rt: &R, alloc: Global, blank: Blank) -> Result<(), Refusal>
     requires blank { blank ≡ M.name }
-    requires begun { BeginEmpty M.begun }
+    requires begun { BeginEmpty M.initial_log }
 {
     let mut table = blank.named::<M>();
     let mut doc = document(alloc, &mut table, 0, 2)?;

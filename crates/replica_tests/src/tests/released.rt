@@ -50,7 +50,7 @@ fn buffer_release(rt: HostRuntime) -> Result<(), Fail> {
 
 fn releases<M: Marker, R: Abort>(rt: &R, alloc: Global, blank: Blank) -> Result<(), Refusal>
     requires blank { blank ≡ M.name }
-    requires begun { BeginEmpty M.begun }
+    requires begun { BeginEmpty M.initial_log }
 {
     let mut table = blank.named::<M>();
     let mut doc = document(alloc, &mut table, 0, 1)?;

@@ -268,7 +268,7 @@ pub fn document<M: Marker>(
     seats: u16,
 ) -> Result<LockedDoc<M>, Refusal>
     requires place { table.old ≤ ledger_place number 0 }
-    requires begun { BeginEmpty M.begun }
+    requires begun { BeginEmpty M.initial_log }
     ensures ok { IfOk result (λ d. d.number ≡ number) }
     ensures table { OnOk result (table.new ≤ ledger_place number seats + 1) }
 {
@@ -282,7 +282,7 @@ pub fn holding<M: Marker>(
     replica: Replica,
     ledgers: Ledgers<M>,
 ) -> Result<LockedDoc<M>, Refusal>
-    requires { replica.log ≡ M.begun ledgers.number }
+    requires { replica.log ≡ M.initial_log ledgers.number }
     ensures { IfOk result (λ d. d.number ≡ ledgers.number) }
 {
     match LockedDoc::new(alloc, replica, ledgers) {

@@ -265,7 +265,7 @@ fn document_again<M: Marker, R: Abort>(
     replica: Replica,
     ledgers: Ledgers<M>,
 ) -> Result<LockedDoc<M>, Refusal>
-    requires { replica.log ≡ M.begun ledgers.number }
+    requires { replica.log ≡ M.initial_log ledgers.number }
 {
     match LockedDoc::new(alloc, replica, ledgers) {
         Ok(doc) => Ok(doc),
@@ -314,7 +314,7 @@ fn wants<M: Marker, R: Abort>(
     replica: Replica,
 ) -> Result<(), Refusal>
     requires blank { blank ≡ M.name }
-    requires begun { (number : ℕ) → M.begun number ≡ replica.log }
+    requires begun { (number : ℕ) → M.initial_log number ≡ replica.log }
 {
     let mut table = blank.named::<M>();
     let ledgers = ledgers_again(alloc, &mut table)?;
@@ -398,7 +398,7 @@ fn puts<M: Marker, R: Abort>(
     replica: Replica,
 ) -> Result<(), Refusal>
     requires blank { blank ≡ M.name }
-    requires begun { (number : ℕ) → M.begun number ≡ replica.log }
+    requires begun { (number : ℕ) → M.initial_log number ≡ replica.log }
 {
     let mut table = blank.named::<M>();
     let ledgers = ledgers_again(alloc, &mut table)?;

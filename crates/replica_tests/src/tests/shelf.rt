@@ -27,7 +27,7 @@ fn asks_through_the_lock(rt: HostRuntime) -> Result<(), Fail> {
 // A document with one seat, and one with two, of which one stays free.
 fn asks<M: Marker, R: Abort + Wait>(rt: &R, alloc: Global, blank: Blank) -> Result<(), Refusal>
     requires blank { blank ≡ M.name }
-    requires begun { BeginEmpty M.begun }
+    requires begun { BeginEmpty M.initial_log }
 {
     let mut table = blank.named::<M>();
     let shelf = shelf_of_two(alloc, &mut table)?;
@@ -44,7 +44,7 @@ fn asks<M: Marker, R: Abort + Wait>(rt: &R, alloc: Global, blank: Blank) -> Resu
 // The documents of number 0 with one seat and of number 1 with two, in this order.
 fn shelf_of_two<M: Marker>(alloc: Global, table: &mut Table<M>) -> Result<Shelf<M>, Refusal>
     requires place { table.old ≤ ledger_place 0 0 }
-    requires begun { BeginEmpty M.begun }
+    requires begun { BeginEmpty M.initial_log }
     ensures { IfOk result (λ shelf. shelf ≡ 2) }
 {
     let first = document(alloc, table, 0, 1)?;

@@ -31,7 +31,7 @@ fn words_of<'a>(alloc: Global, line: &'a str) -> Result<Vec<&'a str>, AllocError
 /// The status of a run of these words over these bytes, and what it wrote.
 fn written<M: Marker>(alloc: Global, blank: Blank, words: &[&str], input: &[u8]) -> (u8, Vec<u8>)
     requires blank { blank ≡ M.name }
-    requires begun { BeginEmpty M.begun }
+    requires begun { BeginEmpty M.initial_log }
 {
     let mut out = Vec::new(alloc);
     let mut documents = NewDocuments::<M>::new(blank);

@@ -65,7 +65,7 @@ fn library_of<M: Marker, S: Alter>(
     documents: &[&str],
 ) -> Result<Library<M>, AllocError>
     requires blank { blank ≡ M.name }
-    requires begun { M.begun ≡ entries_at copy.now.docs (map (λ s. s.now) documents.now) }
+    requires begun { M.initial_log ≡ entries_at copy.now.docs (map (λ s. s.now) documents.now) }
     requires few { length documents.now ≤ greatest_number }
 {
     let Some(replica) = ReplicaName::read(b"srv-2") else {
@@ -107,7 +107,7 @@ fn told_beside<M: Marker, R: Wait, F: Alter, S: Alter>(
     copy: &mut LogCopy<S>,
 ) -> Result<u32, AllocError>
     requires blank { blank ≡ M.name }
-    requires begun { M.begun ≡ entries_at full.now.docs (map (λ s. s.now) documents.now) }
+    requires begun { M.initial_log ≡ entries_at full.now.docs (map (λ s. s.now) documents.now) }
     requires few { length documents.now ≤ greatest_number }
 {
     let library = library_of::<M, F>(alloc, blank, full, documents)?;

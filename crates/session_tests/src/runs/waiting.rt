@@ -71,7 +71,7 @@ fn waits<M: Marker>(
     writes: &AtomicU64,
 ) -> u8
     requires blank { blank ≡ M.name }
-    requires begun { BeginEmpty M.begun }
+    requires begun { BeginEmpty M.initial_log }
 {
     let client = Client {
         left: 5,

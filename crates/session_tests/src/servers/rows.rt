@@ -157,7 +157,7 @@ fn looks<M: Marker, R: Wait>(
     blank: Blank,
 ) -> Result<(Ending, bool, bool), Refusal>
     requires blank { blank ≡ M.name }
-    requires begun { BeginEmpty M.begun }
+    requires begun { BeginEmpty M.initial_log }
 {
     let library = library_of::<M>(alloc, blank, &["a", "b"], 1)?;
     let mut source = Looking {

@@ -53,7 +53,7 @@ fn shelf_of<M: Marker>(
     seats: u16,
 ) -> Result<Shelf<M>, Refusal>
     requires blank { blank ≡ M.name }
-    requires begun { BeginEmpty M.begun }
+    requires begun { BeginEmpty M.initial_log }
     requires few { documents ≤ greatest_number }
     ensures { IfOk result (λ shelf. shelf ≡ documents) }
 {
@@ -76,7 +76,7 @@ pub fn library_of<M: Marker>(
     seats: u16,
 ) -> Result<Library<M>, Refusal>
     requires blank { blank ≡ M.name }
-    requires begun { BeginEmpty M.begun }
+    requires begun { BeginEmpty M.initial_log }
     requires few { length documents.now ≤ greatest_number }
 {
     let names = names_of(alloc, documents)?;
@@ -100,7 +100,7 @@ pub fn serve_beside<M: Marker + Send + Sync, R: Threads + Wait + Sync, G: Gate +
     side: S,
 ) -> Result<(Gathered, S), Refusal>
     requires blank { blank ≡ M.name }
-    requires begun { BeginEmpty M.begun }
+    requires begun { BeginEmpty M.initial_log }
     requires few { length documents.now ≤ greatest_number }
 {
     let library = library_of::<M>(alloc, blank, documents, seats)?;
@@ -122,7 +122,7 @@ fn serve<M: Marker + Send + Sync, R: Threads + Wait + Sync, G: Gate + Sync>(
     gate: &G,
 ) -> Result<Gathered, Refusal>
     requires blank { blank ≡ M.name }
-    requires begun { BeginEmpty M.begun }
+    requires begun { BeginEmpty M.initial_log }
     requires few { length documents.now ≤ greatest_number }
 {
     let ran = serve_beside::<M, _, _, _>(rt, alloc, blank, documents, seats, scripts, gate, Idle)?;

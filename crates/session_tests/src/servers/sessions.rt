@@ -152,7 +152,7 @@ fn watched<M: Marker + Send + Sync, R: Threads + Wait + Sync>(
     blank: Blank,
 ) -> Result<(Gathered, Watching), Refusal>
     requires blank { blank ≡ M.name }
-    requires begun { BeginEmpty M.begun }
+    requires begun { BeginEmpty M.initial_log }
 {
     let begins = Watching {
         sessions: 0,

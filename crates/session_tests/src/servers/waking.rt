@@ -67,7 +67,7 @@ fn did_beside<M: Marker + Send + Sync, R: Threads + Wait + Sync>(
     side: Woken<'_>,
 ) -> Result<Gathered, Refusal>
     requires blank { blank ≡ M.name }
-    requires begun { BeginEmpty M.begun }
+    requires begun { BeginEmpty M.initial_log }
 {
     let documents = &["a", "b"];
     let replies = Mutex::new(Vec::new(alloc));

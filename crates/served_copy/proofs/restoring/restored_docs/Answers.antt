@@ -7,7 +7,7 @@ use Rattle.served_copy.proofs.restoring.restored_docs.Goals as goal
 pub restored_doc-requires-clause-begun : goal.restored_doc-requires-clause-begun
 restored_doc-requires-clause-begun g c =
     let none : Bor (List ℕ) = record { ref_ptr = (0, 0); now = [] } in
-    begins_here g.M.Marker.begun c.args.copy.now.docs c.args.names.now c.loop-name.ledger c.loop-name.name-index none c.requires.begun c.loop-name.invariant.next c.loop-name-test.true
+    begins_here g.M.Marker.initial_log c.args.copy.now.docs c.args.names.now c.loop-name.ledger c.loop-name.name-index none c.requires.begun c.loop-name.invariant.next c.loop-name-test.true
 
 pub loop-name-preserved : goal.loop-name-preserved
 loop-name-preserved g c =
