@@ -14,7 +14,7 @@ use std::rt::HostRuntime;
 /// Tells what the file of the words holds, and gives the program's status: 1 where it is no copy, where it can't be opened, where the
 /// sink fails, or for want of memory, and standard error is told which; 2 where the words don't ask for a check, with nothing written. That it is the file of the words
 /// no clause can say.
-pub fn check_words<W: Sink>(rt: &HostRuntime, alloc: Global, words: &[&str], sink: &mut W) -> u8
+pub fn parse_and_check<W: Sink>(rt: &HostRuntime, alloc: Global, words: &[&str], sink: &mut W) -> u8
     requires { W.has_failed sink.old ≡ false }
 
     ensures status { result ≤ 2 }

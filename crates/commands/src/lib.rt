@@ -8,8 +8,8 @@ mod run;
 mod serve;
 mod usage;
 
-pub use check::check_words;
+pub use check::parse_and_check;
 pub use command_line::{is_check, is_run, is_serve};
 pub use run::run_words;
-pub use serve::serve_words;
+pub use serve::parse_and_serve;
 pub use usage::{NO_MEMORY, USAGE, VERSION, cause_of, run_failure, usage_of};

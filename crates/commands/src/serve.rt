@@ -267,7 +267,7 @@ fn serve_asked<
 
 /// Serves what the words ask for, and gives the program's status: 1 where the file can't be opened or is no copy, where the address
 /// can't be listened at, where the copy or the writer fails, or for want of memory, and standard error is told which; 2 where the words don't ask for a server, with nothing written.
-pub fn serve_words<
+pub fn parse_and_serve<
     R: Net<Listener = TcpListener, Stream = TcpStream>
         + Threads
         + Wait

@@ -11,12 +11,12 @@ ghost use Rattle.copy_docs.specs.Docs.{IsBatch, add_batch, log_of};
 ghost use Rattle.log_copy.specs.Kept.{content};
 ghost use Rattle.copier.specs.Batches.{AddsNext, AreAdded, AddsBatches};
 
-use crate::watch::Watch;
+use crate::watch::CopyObserver;
 use doc_words::Operations;
 use json_scalar::Refusal;
 use locked_doc::LockedDoc;
 use log_copy::{Fault, LogCopy, MAX_BATCH};
-use server_core::Library;
+use server_core::SharedDocuments;
 use share_ledger::Marker;
 use sqlite::Alter;
 use std::sync::Wait;
@@ -40,13 +40,13 @@ fn next_of<M: Marker>(doc: &LockedDoc<M>, from: usize) -> Result<Operations, Ref
 /// The same of the document at this index. Its lock is taken, and given back.
 fn next_at<M: Marker, R: Wait>(
     rt: &R,
-    library: &Library<M>,
+    shared: &SharedDocuments<M>,
     index: usize,
     from: usize,
 ) -> Result<Operations, Refusal>
-    requires { index < length library.now.names.items }
+    requires { index < length shared.now.names.items }
 {
-    let doc = library.shelf.doc(index).lock(rt);
+    let doc = shared.shelf.doc(index).lock(rt);
     next_of(&doc, from)
 }
 
@@ -67,21 +67,21 @@ fn note_rows<M: Marker, S: Alter>(
 /// The same of the document at this index. Its lock is taken, and given back.
 fn note_at<M: Marker, R: Wait, S: Alter>(
     rt: &R,
-    library: &Library<M>,
+    shared: &SharedDocuments<M>,
     index: usize,
     copy: &LogCopy<S>,
     name: &str,
 ) -> Result<(), Fault>
-    requires { index < length library.now.names.items }
+    requires { index < length shared.now.names.items }
     ensures failed { (result ≡ Err Fault.Store) ↔ (copy.now.has_failed ≡ true) }
     ensures never_else { IfErr result (λ e. e ≡ Fault.Store) }
 {
-    let mut doc = library.shelf.doc(index).lock(rt);
+    let mut doc = shared.shelf.doc(index).lock(rt);
     note_rows(&mut doc, copy, name)
 }
 
 /// Tells the watch of these entries, which were just added to the document of this name. Nothing is claimed of it.
-fn tell_added<S: Alter, T: Watch>(
+fn tell_added<S: Alter, T: CopyObserver>(
     watch: &T,
     copy: &LogCopy<S>,
     name: &str,
@@ -117,16 +117,16 @@ fn add_next<S: Alter>(
 
 /// Copies the next entries of the document of this name at this index, at most 256, and then notes how many of it the copy has, and
 /// tells the watch of them. The answer is whether there were any. Its lock isn't held while they are written. A fault notes nothing.
-pub fn copy_some<M: Marker, R: Wait, S: Alter, T: Watch>(
+pub fn copy_some<M: Marker, R: Wait, S: Alter, T: CopyObserver>(
     rt: &R,
-    library: &Library<M>,
+    shared: &SharedDocuments<M>,
     index: usize,
     name: &str,
     copy: &mut LogCopy<S>,
     watch: &T,
 ) -> Result<bool, Fault>
-    requires within { index < length library.now.names.items }
-    requires named { name.now ≡ get_or library.now.names.items index [] }
+    requires within { index < length shared.now.names.items }
+    requires named { name.now ≡ get_or shared.now.names.items index [] }
     ensures some { result ≡ Ok true → AddsNext name.now copy.old.docs copy.new.docs }
     ensures none { result ≡ Ok false → copy.new ≡ copy.old }
     ensures works { OnOk result ((copy.new.epoch ≡ copy.old.epoch) × (copy.new.has_failed ≡ false)) }
@@ -135,45 +135,45 @@ pub fn copy_some<M: Marker, R: Wait, S: Alter, T: Watch>(
     ensures alone { copy.new.is_alone ≡ copy.old.is_alone }
 {
     let from = rows_of(copy, name)?;
-    let Ok(next) = next_at(rt, library, index, from) else {
+    let Ok(next) = next_at(rt, shared, index, from) else {
         return Err(Fault::Memory);
     };
     if next.as_slice().is_empty() {
         return Ok(false);
     }
     add_next(copy, name, next.as_slice())?;
-    note_at(rt, library, index, copy, name)?;
+    note_at(rt, shared, index, copy, name)?;
     tell_added(watch, copy, name, next.as_slice());
     Ok(true)
 }
 
 /// The name of the document at this index.
-fn name_at<M: Marker>(library: &Library<M>, index: usize) -> &str
-    requires { index < length library.now.names.items }
-    ensures named { result.now ≡ get_or library.entry.now.names.items index [] }
-    ensures among { Contains library.entry.now.names.items result.now }
+fn name_at<M: Marker>(shared: &SharedDocuments<M>, index: usize) -> &str
+    requires { index < length shared.now.names.items }
+    ensures named { result.now ≡ get_or shared.entry.now.names.items index [] }
+    ensures among { Contains shared.entry.now.names.items result.now }
 {
-    library.names[index].as_str()
+    shared.names[index].as_str()
 }
 
 /// Copies the next entries of each document, and tells whether there were any.
-pub fn copy_each<M: Marker, R: Wait, S: Alter, T: Watch>(
+pub fn copy_each<M: Marker, R: Wait, S: Alter, T: CopyObserver>(
     rt: &R,
-    library: &Library<M>,
+    shared: &SharedDocuments<M>,
     copy: &mut LogCopy<S>,
     watch: &T,
 ) -> Result<bool, Fault>
-    ensures ok { IfOk result (λ any. AreAdded library.now.names.items copy.old.docs any copy.new.docs) }
+    ensures ok { IfOk result (λ any. AreAdded shared.now.names.items copy.old.docs any copy.new.docs) }
     ensures none { result ≡ Ok false → copy.new.docs ≡ copy.old.docs }
     ensures works { OnOk result ((copy.new.epoch ≡ copy.old.epoch) × (copy.old.has_failed ≡ false → copy.new.has_failed ≡ false)) }
-    ensures err { IfErr result (λ e. (e ≡ Fault.Store) ⊎ AddsBatches library.now.names.items copy.old copy.new) }
+    ensures err { IfErr result (λ e. (e ≡ Fault.Store) ⊎ AddsBatches shared.now.names.items copy.old copy.new) }
     ensures failed { result ≡ Err Fault.Store → copy.new.has_failed ≡ true }
     ensures alone { copy.new.is_alone ≡ copy.old.is_alone }
 {
     let mut any = false;
-    for index in 0..library.names.len() {
-        let name = name_at(library, index);
-        if copy_some(rt, library, index, name, copy, watch)? {
+    for index in 0..shared.names.len() {
+        let name = name_at(shared, index);
+        if copy_some(rt, shared, index, name, copy, watch)? {
             any = true;
         }
     }

@@ -3,41 +3,41 @@ ghost use Rattle.std.specs.Prelude.{◌≡◌, ◌⊎◌, OnOk, IfErr, Err, true
 ghost use Rattle.copier.specs.Batches.{AddsBatches, HasCopied};
 
 use crate::batch::copy_each;
-use crate::watch::Watch;
+use crate::watch::CopyObserver;
 use log_copy::{Fault, LogCopy};
-use server_core::{Library, Side, Signalled};
+use server_core::{SharedDocuments, Side, Signalled};
 use share_ledger::Marker;
 use sqlite::Alter;
 use std::sync::Wait;
 
 /// Copies what so many sessions log while they run, and what is left once they have ended. It sleeps while there is nothing to copy,
 /// and holds no lock while it writes. It tells the watch of each batch. A fault ends it.
-pub fn keep_up<M: Marker, R: Wait, S: Alter, T: Watch>(
+pub fn keep_up<M: Marker, R: Wait, S: Alter, T: CopyObserver>(
     rt: &R,
-    library: &Library<M>,
+    shared: &SharedDocuments<M>,
     sessions: u64,
     copy: &mut LogCopy<S>,
     watch: &T,
 ) -> Result<(), Fault>
-    ensures ok { OnOk result (AddsBatches library.now.names.items copy.old copy.new) }
-    ensures err { IfErr result (λ e. (e ≡ Fault.Store) ⊎ AddsBatches library.now.names.items copy.old copy.new) }
+    ensures ok { OnOk result (AddsBatches shared.now.names.items copy.old copy.new) }
+    ensures err { IfErr result (λ e. (e ≡ Fault.Store) ⊎ AddsBatches shared.now.names.items copy.old copy.new) }
     ensures works { OnOk result (copy.old.has_failed ≡ false → copy.new.has_failed ≡ false) }
     ensures failed { result ≡ Err Fault.Store → copy.new.has_failed ≡ true }
     ensures alone { copy.new.is_alone ≡ copy.old.is_alone }
 {
     let mut seen = Signalled {
-        raised: 0,
+        notified: 0,
         ended: 0,
     };
     for _ in rt.forever() {
-        match copy_each(rt, library, copy, watch) {
+        match copy_each(rt, shared, copy, watch) {
             Ok(true) => {}
             Ok(false) => {
                 // What was logged before all had ended was just copied.
                 if seen.ended >= sessions {
                     return Ok(());
                 }
-                seen = library.signal.wait(rt, seen);
+                seen = shared.signal.wait(rt, seen);
             }
             Err(fault) => return Err(fault),
         }
@@ -46,7 +46,7 @@ pub fn keep_up<M: Marker, R: Wait, S: Alter, T: Watch>(
 }
 
 /// Tells the watch why the copying ended, if by a fault.
-fn tell_stopped<T: Watch, S: Alter>(watch: &T, fault: &Option<Fault>, copy: &LogCopy<S>) {
+fn tell_stopped<T: CopyObserver, S: Alter>(watch: &T, fault: &Option<Fault>, copy: &LogCopy<S>) {
     if let Some(why) = fault {
         watch.stopped(why, copy.cause());
     }
@@ -54,7 +54,7 @@ fn tell_stopped<T: Watch, S: Alter>(watch: &T, fault: &Option<Fault>, copy: &Log
 
 /// Keeps a copy behind sessions, as `keep_up`. A fault ends the copying alone: the watch is told of it at once, and it is kept.
 #[derive(Drop)]
-pub struct Copier<'a, S: Alter, T: Watch> {
+pub struct Copier<'a, S: Alter, T: CopyObserver> {
     /// The copy.
     pub copy: &'a mut LogCopy<S>,
     /// What is told of each batch, and of a fault.
@@ -63,7 +63,7 @@ pub struct Copier<'a, S: Alter, T: Watch> {
     pub fault: Option<Fault>,
 }
 
-impl<'a, S: Alter, T: Watch> Copier<'a, S, T> {
+impl<'a, S: Alter, T: CopyObserver> Copier<'a, S, T> {
     /// One that has copied nothing yet.
     pub fn new(copy: &'a mut LogCopy<S>, watch: &'a T) -> Copier<'a, S, T>
         ensures same_reference { result.copy.ghost_name ≡ copy.entry.ghost_name }
@@ -91,11 +91,11 @@ impl<'a, S: Alter, T: Watch> Copier<'a, S, T> {
     }
 }
 
-impl<M: Marker, S: Alter, T: Watch> Side<M> for Copier<'_, S, T> {
+impl<M: Marker, S: Alter, T: CopyObserver> Side<M> for Copier<'_, S, T> {
     ghost becomes = { λ names old new. (new.copy.ghost_name ≡ old.copy.ghost_name) × HasCopied names old.copy.now new.copy.now new.fault };
 
-    fn run<R: Wait>(&mut self, rt: &R, library: &Library<M>, sessions: u64) {
-        self.fault = keep_up(rt, library, sessions, self.copy, self.watch).err();
+    fn run<R: Wait>(&mut self, rt: &R, shared: &SharedDocuments<M>, sessions: u64) {
+        self.fault = keep_up(rt, shared, sessions, self.copy, self.watch).err();
         tell_stopped(self.watch, &self.fault, self.copy);
     }
 }

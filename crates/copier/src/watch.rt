@@ -5,7 +5,7 @@ use op_core::Operation;
 use sqlite::ErrorCode;
 
 /// Is told what a copier does. Nothing is claimed of it. The copier waits for each call, and holds no lock.
-pub trait Watch {
+pub trait CopyObserver {
     /// Is called after each batch: the document as the file has it, and its entries that were just written.
     fn added(&self, document: &KeptDoc, entries: &[Operation]);
 

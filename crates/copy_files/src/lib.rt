@@ -13,7 +13,7 @@ ghost use Rattle.copy_report.specs.Report.{Reports, StopsShort};
 ghost use Rattle.copy_files.specs.Refusal.{IsRefusal};
 
 pub use causes::Cause;
-use copy_report::{Untold, check_opened};
+use copy_report::{CheckFailure, check_opened};
 use line_feed::Sink;
 use log_copy::{Fault, Foldable, LogCopy, words_of};
 use paths::{Before, look_at, why_no_database, why_not_opened};
@@ -109,12 +109,12 @@ pub fn open_copy(rt: &HostRuntime, path: &str) -> Result<LogCopy<FileStore<File>
 }
 
 /// Tells standard error why there is no report. Why a file can't be opened was told already. A fault of it changes nothing.
-fn tell_untold(rt: &HostRuntime, why: Untold) {
+fn tell_untold(rt: &HostRuntime, why: CheckFailure) {
     let _told = match why {
-        Untold::Unopened => Ok(()),
-        Untold::Memory => rt.eprintln("jcrdt: out of memory while the report was written"),
-        Untold::Output => rt.eprintln("jcrdt: standard output failed"),
-        Untold::Unclosed(code) => {
+        CheckFailure::Unopened => Ok(()),
+        CheckFailure::Memory => rt.eprintln("jcrdt: out of memory while the report was written"),
+        CheckFailure::Output => rt.eprintln("jcrdt: standard output failed"),
+        CheckFailure::Unclosed(code) => {
             let cause = words_of(code);
             rt.eprintln(format_args!("jcrdt: the file failed while it was closed: {cause}"))
         }

@@ -15,7 +15,7 @@ use Rattle.crdt_rules.specs.Log.{IsGood}
 use Rattle.crdt_rules.proofs.Logs.{good_split}
 use Rattle.doc_rules.proofs.OneAnswer.{name_order}
 use Rattle.copy_schema.specs.Content.{entry_row, rows_from}
-use Rattle.copy_docs.specs.Docs.{Doc, AreInOrder, AreGood, is_named, op_text, log_of, longer_by, extend, put_doc, add_log, UnlessWanting}
+use Rattle.copy_docs.specs.Docs.{Doc, AreInOrder, AreGood, is_named, op_text, log_of, longer_by, extend, put_doc, add_log, UnlessNoMemory}
 use Rattle.copy_docs.specs.declared.fault.Fault.{Fault}
 use Rattle.copy_docs.specs.declared.fault.Fault.TheVariants.{Refused, Store, Memory}
 use Rattle.copy_rows.proofs.RowLemmas.{few_rows}
@@ -144,12 +144,12 @@ next_place format old row name op h = omega (arith, few_rows (log_of name old ++
 
 -- ---- what is left of a refusal
 
-pub wanting : (fault : Fault) (op : Op) → UnlessWanting {A = Op} (Err fault) (Ok op) → fault ≡ Memory
+pub wanting : (fault : Fault) (op : Op) → UnlessNoMemory {A = Op} (Err fault) (Ok op) → fault ≡ Memory
 wanting Refused op h = absurd (let e = h (λ e. cc) in cc)
 wanting Store op h = absurd (let e = h (λ e. cc) in cc)
 wanting Memory op h = refl
 
-pub read_as : (op found : Op) → UnlessWanting {A = Op} (Ok found) (Ok op) → found ≡ op
+pub read_as : (op found : Op) → UnlessNoMemory {A = Op} (Ok found) (Ok op) → found ≡ op
 read_as op found h = let e = h (λ e. cc) in cc
 
 pub only_memory : (P : Type 0) (r : Result (Unit {0}) Fault) → IfErr r (λ e. P × (e ≢ Store)) → (r ≡ Err Refused → ⊥) → IfErr r (λ e. e ≡ Memory)

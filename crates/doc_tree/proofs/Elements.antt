@@ -8,7 +8,7 @@ use Rattle.op_core.specs.declared.cursor.Tagged.TheVariants.{Map as MapAt, List 
 use Rattle.op_core.specs.Shape.{key_of, is_list, may_follow}
 use Rattle.crdt_rules.specs.Same.{key_eq}
 use Rattle.list_order.specs.Entries.{present_of}
-use Rattle.list_order.proofs.Entries.{present_of-told}
+use Rattle.list_order.proofs.Entries.{present_of-holding}
 use Rattle.doc_nodes.specs.declared.node.NodeNumber.{NodeNumber}
 use Rattle.doc_nodes.specs.declared.node.Node.{Node}
 use Rattle.doc_nodes.specs.Walk.{trail, trail_below, list_trail, list_trail_below, walk, root}
@@ -57,6 +57,6 @@ element_child nodes p n i e =
 pub present_listed : (nodes : List Node) → ListsShowPresence nodes → (p : List Tagged) (n : NodeNumber) → list_node_at nodes p ≡ Some n
     → present_of (node_of nodes n).order.0 ≡ filter (λ i. is_node_present nodes (node_at nodes p (Element i))) ((facts_of nodes).order p)
 present_listed nodes right p n e =
-    present_of-told (λ i. is_node_present nodes (node_at nodes p (Element i))) (node_of nodes n).order.0
+    present_of-holding (λ i. is_node_present nodes (node_at nodes p (Element i))) (node_of nodes n).order.0
     (λ i is c. right n i is c ∙ ap (is_node_present nodes) (sym (element_child nodes p n i e)))
     ∙ ap (filter (λ i. is_node_present nodes (node_at nodes p (Element i)))) (ids_read nodes p n e)

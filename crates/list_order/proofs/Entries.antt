@@ -57,12 +57,12 @@ all_absent-with (e ∷ entries) id is = go (id_eq e.0 id) (all_absent-with entri
     go false ih = ap (λ l. absent e.0 ∷ l) ih
 
 -- where each entry tells whether its id is so, the present ids are those that are so
-pub present_of-told : (holds : Id → Bool) (entries : List (Id × Bool)) → ((id : Id) (is : Bool) → Contains entries (id, is) → is ≡ holds id)
+pub present_of-holding : (holds : Id → Bool) (entries : List (Id × Bool)) → ((id : Id) (is : Bool) → Contains entries (id, is) → is ≡ holds id)
     → present_of entries ≡ filter holds (ids_of entries)
-present_of-told holds [] told = refl
-present_of-told holds (e ∷ entries) told =
+present_of-holding holds [] told = refl
+present_of-holding holds (e ∷ entries) told =
     (λ i. ids_of (if told e.0 e.1 (Contains-here entries refl) i then e ∷ filter (λ x. x.1) entries else filter (λ x. x.1) entries))
-    ∙ go (holds e.0) (present_of-told holds entries (λ id is c. told id is (Contains-there e entries c)))
+    ∙ go (holds e.0) (present_of-holding holds entries (λ id is c. told id is (Contains-there e entries c)))
   where
     go : (b : Bool) → present_of entries ≡ filter holds (ids_of entries)
         → ids_of (if b then e ∷ filter (λ x. x.1) entries else filter (λ x. x.1) entries) ≡ (if b then e.0 ∷ filter holds (ids_of entries) else filter holds (ids_of entries))

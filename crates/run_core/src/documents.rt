@@ -70,14 +70,14 @@ impl<M: Marker> Seated<M> {
     ghost use Rattle.std.specs.Prelude.{◌≡◌, ◌∷◌, [], IfErr, IfOk};
     ghost use Rattle.doc_rules.specs.Seats as seats;
     ghost use Rattle.doc_rules.specs.Seats.{AreEndsOf, totals_of};
-    ghost use Rattle.locked_doc.specs.Sums.{totals_told};
+    ghost use Rattle.locked_doc.specs.Sums.{totals_view};
     ghost use Rattle.run_core.specs.HasTold.{HasTold};
 
     /// Adds up what was done at the document, given the end of its seat, if that was opened. The end that a session gave back
     /// was told just what is logged for it, so it is refused for want of memory alone, and so is no end where no seat was
     /// opened. Each refusal hands everything back.
     pub fn gather(self, alloc: Global, ends: Vec<SeatEnd<M>>) -> Result<Totals, Gathering<M>>
-        ensures ok { IfOk result (λ t. AreEndsOf self.locked.number self.locked.document ends.items × (totals_told t ≡ totals_of self.locked.document ends.items)) }
+        ensures ok { IfOk result (λ t. AreEndsOf self.locked.number self.locked.document ends.items × (totals_view t ≡ totals_of self.locked.document ends.items)) }
         ensures err { IfErr result (λ g. (g.doc ≡ self.locked) × (g.ends.items ≡ ends.items)) }
         ensures given_back { IfErr result (λ g. (end : seats.Seat) → ends.items ≡ end ∷ [] → HasTold self.locked.number self.locked.document end
             → g.refusal ≡ Refusal.NoMemory) }

@@ -11,7 +11,7 @@ mod telling;
 
 pub use failure::{Failure, Step};
 pub use naming::raise;
-pub use restoring::{Stock, restored_stock, shelve};
+pub use restoring::{RestoredDocuments, restore_documents, share_documents};
 pub use serving::{serve_from, serve_over};
 pub use stored::{Ended, serve_stored};
-pub use telling::{tell_fault, tell_totals};
+pub use telling::{tell_fault, write_totals};

@@ -1,6 +1,6 @@
 //! What standard error is told of the stored log.
 use crate::failure::words_of_stop;
-use copier::Watch;
+use copier::CopyObserver;
 use copy_docs::{KeptDoc, find};
 use lamport_id::Id;
 use log::Log;
@@ -84,7 +84,7 @@ pub(crate) struct Noting<'a, R> {
     pub(crate) rt: &'a R,
 }
 
-impl<R: Log + Clock> Watch for Noting<'_, R> {
+impl<R: Log + Clock> CopyObserver for Noting<'_, R> {
     fn added(&self, document: &KeptDoc, entries: &[Operation]) {
         let logged = operations(document.len());
         warn_if_crossed(

@@ -11,14 +11,14 @@ use lamport_id::ReplicaName;
 use line_proto::Name;
 use locked_doc::{LockedDoc, Shelf};
 use log_copy::{Fault, LogCopy};
-use server_core::{Library, Signal};
+use server_core::{SharedDocuments, Signal};
 use share_ledger::Marker;
 use sqlite::Alter;
 use std::alloc::Global;
 
 /// Documents with their names, before sessions share them. A contract knows each of them, as it can't once they are shared.
 #[derive(Drop)]
-pub struct Stock<M: Marker> {
+pub struct RestoredDocuments<M: Marker> {
     /// The names, in the order of the documents.
     pub names: Vec<Name>,
     /// The documents, as many as there are names.
@@ -100,19 +100,19 @@ fn restored_docs<M: Marker, S: Alter>(
 /// Documents of these names as the copy has them, with so many seats each, for the replica of this name: their entries are seat 0's,
 /// and noted as copied. They are the first of a ledger, whose documents begin so. A copy is never refused here: the error is `Memory`,
 /// or `Store` after a fault.
-pub fn restored_stock<M: Marker, S: Alter>(
+pub fn restore_documents<M: Marker, S: Alter>(
     alloc: Global,
     ledger: &mut Ledger<M>,
     copy: &LogCopy<S>,
     replica: &ReplicaName,
     names: &[&str],
     seats: u16,
-) -> Result<Stock<M>, Fault>
+) -> Result<RestoredDocuments<M>, Fault>
     requires few { length names.now ≤ greatest_number }
     requires first { ledger.old ≡ 0 }
     requires begun { M.initial_log ≡ entries_at copy.now.docs (map (λ s. s.now) names.now) }
-    ensures names { IfOk result (λ stock. stock.names.items ≡ map (λ s. s.now) names.now) }
-    ensures documents { IfOk result (λ stock. map (λ d. d.document) stock.docs.items ≡ restored replica.now copy.now.docs seats (map (λ s. s.now) names.now)) }
+    ensures names { IfOk result (λ restored. restored.names.items ≡ map (λ s. s.now) names.now) }
+    ensures documents { IfOk result (λ restored. map (λ d. d.document) restored.docs.items ≡ restored replica.now copy.now.docs seats (map (λ s. s.now) names.now)) }
     ensures never_refused { IfErr result (λ e. (e ≡ Fault.Store) ⊎ (e ≡ Fault.Memory)) }
     ensures failed { result ≡ Err Fault.Store → copy.now.has_failed ≡ true }
 {
@@ -120,22 +120,22 @@ pub fn restored_stock<M: Marker, S: Alter>(
         return Err(Fault::Memory);
     };
     let docs = restored_docs(alloc, ledger, copy, replica, names, seats)?;
-    Ok(Stock { names: made, docs })
+    Ok(RestoredDocuments { names: made, docs })
 }
 
 /// Puts the documents on a shelf, in their order. The one error is `NoMemory`.
-pub fn shelve<M: Marker>(alloc: Global, stock: Stock<M>) -> Result<Library<M>, Refusal>
-    ensures names { IfOk result (λ library. library.names.items ≡ stock.names.items) }
+pub fn share_documents<M: Marker>(alloc: Global, restored: RestoredDocuments<M>) -> Result<SharedDocuments<M>, Refusal>
+    ensures names { IfOk result (λ shared. shared.names.items ≡ restored.names.items) }
     ensures memory { IfErr result (λ cause. cause ≡ Refusal.NoMemory) }
 {
-    let Stock { names, docs } = stock;
+    let RestoredDocuments { names, docs } = restored;
     let mut shelf = Shelf::new(alloc);
     for doc in docs {
         if shelf.put(doc).is_err() {
             return Err(Refusal::NoMemory);
         }
     }
-    Ok(Library {
+    Ok(SharedDocuments {
         names,
         shelf,
         signal: Signal::new(),

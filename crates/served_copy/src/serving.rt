@@ -15,14 +15,14 @@ ghost use Rattle.served_copy.specs.Unwritten.{IsUnwritten};
 use crate::failure::{Failure, Step};
 use crate::naming::raise;
 use crate::noting::{Noting, note_documents};
-use crate::restoring::{Stock, restored_stock, shelve};
-use crate::telling::{tell_fault, tell_totals};
-use copier::{Copier, Watch};
+use crate::restoring::{RestoredDocuments, restore_documents, share_documents};
+use crate::telling::{tell_fault, write_totals};
+use copier::{Copier, CopyObserver};
 use doc_ledger::Ledger;
 use lamport_id::ReplicaName;
 use log::Log;
 use log_copy::{Fault, LogCopy};
-use server_core::{Connect, Gathered, Library, OpenGate, run_sessions};
+use server_core::{Connect, Gathered, SharedDocuments, OpenGate, run_sessions};
 use server_notes::{note_ended, note_serving};
 use share_ledger::{Blank, Marker};
 use sqlite::Alter;
@@ -47,23 +47,23 @@ fn serve_beside<
     R: Threads + Wait + Sync,
     C: Connect,
     S: Alter,
-    T: Watch,
+    T: CopyObserver,
 >(
     rt: &R,
     alloc: Global,
-    library: Library<M>,
+    shared: SharedDocuments<M>,
     connections: Vec<C>,
     copier: Copier<'a, S, T>,
     ran: &mut Result<Gathered, Failure>,
 ) -> Copier<'a, S, T>
     ensures sessions { IfOk ran.new (λ g. (given : List (List (Option seats.Seat)))
-        × AreAttended library.names.items (map C.bytes connections.items) g.endings.items given × AreTotalsFrom M.initial_log 0 given g.totals.items) }
-    ensures each { IfOk ran.new (λ g. vec_len g.totals ≡ length library.names.items) }
+        × AreAttended shared.names.items (map C.bytes connections.items) g.endings.items given × AreTotalsFrom M.initial_log 0 given g.totals.items) }
+    ensures each { IfOk ran.new (λ g. vec_len g.totals ≡ length shared.names.items) }
     ensures same_reference { result.copy.ghost_name ≡ copier.entry.copy.ghost_name }
     // The copier has run, or memory ran out before the first session.
-    ensures left { (OnOk ran.new ⊥ × (result.copy.now ≡ copier.entry.copy.now)) ⊎ HasCopied library.names.items copier.entry.copy.now result.copy.now result.fault }
+    ensures left { (OnOk ran.new ⊥ × (result.copy.now ≡ copier.entry.copy.now)) ⊎ HasCopied shared.names.items copier.entry.copy.now result.copy.now result.fault }
 {
-    let (gathered, copier) = run_sessions(rt, alloc, library, connections, &OpenGate, copier);
+    let (gathered, copier) = run_sessions(rt, alloc, shared, connections, &OpenGate, copier);
     match gathered {
         Ok(gathered) => {
             *ran = Ok(gathered);
@@ -86,19 +86,19 @@ fn serve_copied<
 >(
     rt: &R,
     alloc: Global,
-    library: Library<M>,
+    shared: SharedDocuments<M>,
     connections: Vec<C>,
     copy: &mut LogCopy<S>,
 ) -> (Result<Gathered, Failure>, Option<Fault>)
     ensures sessions { IfOk result.0 (λ g. (given : List (List (Option seats.Seat)))
-        × AreAttended library.names.items (map C.bytes connections.items) g.endings.items given × AreTotalsFrom M.initial_log 0 given g.totals.items) }
-    ensures each { IfOk result.0 (λ g. vec_len g.totals ≡ length library.names.items) }
-    ensures left { (OnOk result.0 ⊥ × (copy.new ≡ copy.old)) ⊎ HasCopied library.names.items copy.old copy.new result.1 }
+        × AreAttended shared.names.items (map C.bytes connections.items) g.endings.items given × AreTotalsFrom M.initial_log 0 given g.totals.items) }
+    ensures each { IfOk result.0 (λ g. vec_len g.totals ≡ length shared.names.items) }
+    ensures left { (OnOk result.0 ⊥ × (copy.new ≡ copy.old)) ⊎ HasCopied shared.names.items copy.old copy.new result.1 }
 {
     let noting = Noting { rt };
     let copier = Copier::new(copy, &noting);
     let mut ran = Err(Failure::Memory(Step::Begin));
-    let copier = serve_beside(rt, alloc, library, connections, copier, &mut ran);
+    let copier = serve_beside(rt, alloc, shared, connections, copier, &mut ran);
     let why = copier.end();
     note_ended(rt);
     (ran, why)
@@ -115,7 +115,7 @@ fn outcome_of<S: Alter>(fault: Option<Fault>, copy: &LogCopy<S>) -> Result<(), F
     }
 }
 
-/// Serves these connections over the documents of a library, which are copied meanwhile, and writes the totals at the end. It fails
+/// Serves these connections over the documents of a shared, which are copied meanwhile, and writes the totals at the end. It fails
 /// where memory runs out, where the writer fails, or where the copying ended before all was copied.
 fn serve_library<
     M: Marker + Send + Sync,
@@ -126,13 +126,13 @@ fn serve_library<
 >(
     rt: &R,
     alloc: Global,
-    library: Library<M>,
+    shared: SharedDocuments<M>,
     names: &[&str],
     connections: Vec<C>,
     copy: &mut LogCopy<S>,
     out: &mut W,
 ) -> Result<(), Failure>
-    requires names { library.names.items ≡ map (λ s. s.now) names.now }
+    requires names { shared.names.items ≡ map (λ s. s.now) names.now }
     requires begun { M.initial_log ≡ entries_at copy.old.docs (map (λ s. s.now) names.now) }
     ensures served { OnOk result (ServesSessions copy.old.docs (map (λ s. s.now) names.now) (length connections.items) (W.contents out.old) (W.contents out.new)) }
     ensures unwritten { IfErr result (λ why. IsUnwritten why → out.new ≡ out.old) }
@@ -141,9 +141,9 @@ fn serve_library<
     ensures grown { copy.new.has_failed ≡ false → AddsBatches (map (λ s. s.now) names.now) copy.old copy.new }
     ensures alone { copy.new.is_alone ≡ copy.old.is_alone }
 {
-    let (ran, fault) = serve_copied(rt, alloc, library, connections, copy);
+    let (ran, fault) = serve_copied(rt, alloc, shared, connections, copy);
     let gathered = ran?;
-    match tell_totals(alloc, names, gathered.totals.as_slice(), out) {
+    match write_totals(alloc, names, gathered.totals.as_slice(), out) {
         Ok(()) => outcome_of(fault, copy),
         Err(error) => Err(Failure::Output(error)),
     }
@@ -160,13 +160,13 @@ fn serve_stock<
 >(
     rt: &R,
     alloc: Global,
-    stock: Stock<M>,
+    restored: RestoredDocuments<M>,
     names: &[&str],
     connections: Vec<C>,
     copy: &mut LogCopy<S>,
     out: &mut W,
 ) -> Result<(), Failure>
-    requires names { stock.names.items ≡ map (λ s. s.now) names.now }
+    requires names { restored.names.items ≡ map (λ s. s.now) names.now }
     requires begun { M.initial_log ≡ entries_at copy.old.docs (map (λ s. s.now) names.now) }
     ensures served { OnOk result (ServesSessions copy.old.docs (map (λ s. s.now) names.now) (length connections.items) (W.contents out.old) (W.contents out.new)) }
     ensures unwritten { IfErr result (λ why. IsUnwritten why → out.new ≡ out.old) }
@@ -175,10 +175,10 @@ fn serve_stock<
     ensures grown { copy.new.has_failed ≡ false → AddsBatches (map (λ s. s.now) names.now) copy.old copy.new }
     ensures alone { copy.new.is_alone ≡ copy.old.is_alone }
 {
-    let Ok(library) = shelve(alloc, stock) else {
+    let Ok(shared) = share_documents(alloc, restored) else {
         return Err(Failure::Memory(Step::Restore));
     };
-    serve_library(rt, alloc, library, names, connections, copy, out)
+    serve_library(rt, alloc, shared, names, connections, copy, out)
 }
 
 /// Serves these connections, one session each, on documents of these names that it restores from the copy, for this replica, copies
@@ -214,10 +214,10 @@ fn serve_restored<
     note_serving(rt, replica.as_str());
     let mut ledger = Ledger::<M>::new(blank);
     let seats = seats_for(connections.len());
-    match restored_stock(alloc, &mut ledger, copy, replica, documents, seats) {
-        Ok(stock) => {
+    match restore_documents(alloc, &mut ledger, copy, replica, documents, seats) {
+        Ok(restored) => {
             note_documents(rt, copy, documents);
-            serve_stock(rt, alloc, stock, documents, connections, copy, out)
+            serve_stock(rt, alloc, restored, documents, connections, copy, out)
         }
         Err(fault) => Err(Failure::of_restoring(fault, copy)),
     }

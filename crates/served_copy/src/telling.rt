@@ -37,7 +37,7 @@ fn tell_total<W: io::Write>(
 }
 
 /// Writes the totals of all documents, in their order.
-pub fn tell_totals<W: io::Write>(
+pub fn write_totals<W: io::Write>(
     alloc: Global,
     names: &[&str],
     totals: &[Totals],

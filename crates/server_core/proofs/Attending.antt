@@ -46,24 +46,24 @@ pub all_begun : {A B : Type 0} (R : A → B → Type 0) (all rest given : List A
 all_begun R all rest given ys so_far none same =
     subst (λ xs. AllZip R xs ys) (sym (so_far.parts ∙ ap (λ xs. so_far.done ++ xs) none ∙ append-nil so_far.done) ∙ same) so_far.each
 
--- So many were joined, and the others are still due.
+-- So many were joined, and the others are still promised.
 pub record IsJoined {C B : Type 0} (bytes_of : C → Bytes) (R : C → B → Type 0) (names : List (List ℕ)) (all : List C) (rest : List B)
     (endings : List (Option Ending)) (sessions : List (List (Option seats.Seat))) : Type 0 where
   pub done : List C
   pub left : List C
   pub parts : all ≡ done ++ left
-  pub due : AllZip R left rest
+  pub promised : AllZip R left rest
   pub attended : AreAttended names (map bytes_of done) endings sessions
 
 pub none_joined : {C B : Type 0} (bytes_of : C → Bytes) (R : C → B → Type 0) (names : List (List ℕ)) (all : List C) (rest given : List B)
     (endings : List (Option Ending)) (sessions : List (List (Option seats.Seat))) → AllZip R all given → rest ≡ given → endings ≡ [] → sessions ≡ []
     → IsJoined bytes_of R names all rest endings sessions
-none_joined bytes_of R names all rest given endings sessions due same no_endings no_sessions =
+none_joined bytes_of R names all rest given endings sessions promised same no_endings no_sessions =
     record {
       done = [];
       left = all;
       parts = refl;
-      due = subst (AllZip R all) (sym same) due;
+      promised = subst (AllZip R all) (sym same) promised;
       attended = subst (λ xs. AreAttended names [] xs sessions) (sym no_endings) (subst (AreAttended names [] []) (sym no_sessions) tt);
     }
 
@@ -72,10 +72,10 @@ pub is_kept : {T V C : Type 0} (running : Option T) (names_of : T → V) (connec
     (why : Option Ending) (ends : List (Option seats.Seat))
     → MatchOption running ((why ≡ None) × (ends ≡ [])) (λ t. IsAttended (items (names_of t)) (bytes_of (connection_of t)) why ends)
     → (c : C) → IfSome running (λ t. (names_of t ≡ names) × (connection_of t ≡ c)) → IsAttended (items names) (bytes_of c) why ends
-is_kept None names_of connection_of items bytes_of names why ends kept c due =
+is_kept None names_of connection_of items bytes_of names why ends kept c promised =
     subst (λ w. IsAttended (items names) (bytes_of c) w ends) (sym kept.0) kept.1
-is_kept (Some t) names_of connection_of items bytes_of names why ends kept c due =
-    subst (λ v. IsAttended (items v) (bytes_of c) why ends) due.0 (subst (λ x. IsAttended (items (names_of t)) (bytes_of x) why ends) due.1 kept)
+is_kept (Some t) names_of connection_of items bytes_of names why ends kept c promised =
+    subst (λ v. IsAttended (items v) (bytes_of c) why ends) promised.0 (subst (λ x. IsAttended (items (names_of t)) (bytes_of x) why ends) promised.1 kept)
 
 pub mapped_push : {X Y : Type 0} (f : X → Y) (xs new : List X) (x : X) → new ≡ xs ++ x ∷ [] → map f new ≡ map f xs ++ f x ∷ []
 mapped_push f xs new x more = ap (map f) more ∙ map-append f xs (x ∷ [])
@@ -85,18 +85,18 @@ pub more_joined : {C B : Type 0} (bytes_of : C → Bytes) (R : C → B → Type 
     → IsJoined bytes_of R names all rest endings sessions → rest ≡ y ∷ later → ended ≡ endings ++ why ∷ [] → given ≡ sessions ++ ends ∷ []
     → ((c : C) → R c y → IsAttended names (bytes_of c) why ends) → IsJoined bytes_of R names all later ended given
 more_joined {C} {B} bytes_of R names all rest later endings ended sessions given y why ends so_far is one_ended one_given kept =
-    by so_far.left so_far.parts (subst (AllZip R so_far.left) is so_far.due)
+    by so_far.left so_far.parts (subst (AllZip R so_far.left) is so_far.promised)
   where
     by : (left : List C) → all ≡ so_far.done ++ left → AllZip R left (y ∷ later) → IsJoined bytes_of R names all later ended given
-    by [] parts due = absurd due
-    by (c ∷ left) parts due =
-        let one = one_attended names (map bytes_of so_far.done) endings sessions (bytes_of c) why ends so_far.attended (kept c due.0) in
+    by [] parts promised = absurd promised
+    by (c ∷ left) parts promised =
+        let one = one_attended names (map bytes_of so_far.done) endings sessions (bytes_of c) why ends so_far.attended (kept c promised.0) in
         let over = subst (λ xs. AreAttended names xs (endings ++ why ∷ []) (sessions ++ ends ∷ [])) (sym (map-append bytes_of so_far.done (c ∷ []))) one in
         record {
           done = so_far.done ++ c ∷ [];
           left = left;
           parts = parts ∙ sym (append_assoc so_far.done (c ∷ []) left);
-          due = due.1;
+          promised = promised.1;
           attended =
               subst (λ xs. AreAttended names (map bytes_of (so_far.done ++ c ∷ [])) xs given) (sym one_ended)
               (subst (AreAttended names (map bytes_of (so_far.done ++ c ∷ [])) (endings ++ why ∷ [])) (sym one_given) over);
@@ -105,8 +105,8 @@ more_joined {C} {B} bytes_of R names all rest later endings ended sessions given
 pub all_joined : {C B : Type 0} (bytes_of : C → Bytes) (R : C → B → Type 0) (names : List (List ℕ)) (all : List C) (rest : List B)
     (endings : List (Option Ending)) (sessions : List (List (Option seats.Seat))) → IsJoined bytes_of R names all rest endings sessions → rest ≡ []
     → AreAttended names (map bytes_of all) endings sessions
-all_joined {C} {B} bytes_of R names all rest endings sessions so_far none = by so_far.left so_far.parts (subst (AllZip R so_far.left) none so_far.due)
+all_joined {C} {B} bytes_of R names all rest endings sessions so_far none = by so_far.left so_far.parts (subst (AllZip R so_far.left) none so_far.promised)
   where
     by : (left : List C) → all ≡ so_far.done ++ left → AllZip R left [] → AreAttended names (map bytes_of all) endings sessions
-    by [] parts due = subst (λ xs. AreAttended names (map bytes_of xs) endings sessions) (sym (parts ∙ append-nil so_far.done)) so_far.attended
-    by (c ∷ left) parts due = absurd due
+    by [] parts promised = subst (λ xs. AreAttended names (map bytes_of xs) endings sessions) (sym (parts ∙ append-nil so_far.done)) so_far.attended
+    by (c ∷ left) parts promised = absurd promised

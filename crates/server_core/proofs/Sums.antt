@@ -12,14 +12,14 @@ behind-next zero sessions = refl
 behind-next (suc k) sessions = behind-next k (map later_ends sessions)
 
 -- one more behind them
-pub one_more : (begun : ℕ → List Op) (n : ℕ) (sessions : List (List (Option Seat))) (totals : List Totals) (t : Totals) → AreTotalsFrom begun n sessions totals
-    → AreTotals begun (n + length totals) (flat_map first_end (ends_behind (length totals) sessions)) t → AreTotalsFrom begun n sessions (totals ++ t ∷ [])
-one_more begun n sessions [] t are next = let here : n + 0 ≡ n = omega arith in (subst (λ k. AreTotals begun k (flat_map first_end sessions) t) here next, tt)
-one_more begun n sessions (x ∷ totals) t are next =
+pub one_more : (initial_log : ℕ → List Op) (n : ℕ) (sessions : List (List (Option Seat))) (totals : List Totals) (t : Totals) → AreTotalsFrom initial_log n sessions totals
+    → AreTotals initial_log (n + length totals) (flat_map first_end (ends_behind (length totals) sessions)) t → AreTotalsFrom initial_log n sessions (totals ++ t ∷ [])
+one_more initial_log n sessions [] t are next = let here : n + 0 ≡ n = omega arith in (subst (λ k. AreTotals initial_log k (flat_map first_end sessions) t) here next, tt)
+one_more initial_log n sessions (x ∷ totals) t are next =
     let there : n + length (x ∷ totals) ≡ suc n + length totals = omega arith in (
       are.0,
-      one_more begun (suc n) (map later_ends sessions) totals t are.1
-          (subst (λ k. AreTotals begun k (flat_map first_end (ends_behind (length totals) (map later_ends sessions))) t) there next),
+      one_more initial_log (suc n) (map later_ends sessions) totals t are.1
+          (subst (λ k. AreTotals initial_log k (flat_map first_end (ends_behind (length totals) (map later_ends sessions))) t) there next),
     )
 
 -- a document that differs, in the place behind those that were gathered

@@ -16,13 +16,15 @@ pub record Bytes : Type 0 where
 abbrev pub unknown : Bytes
 unknown = record { source = None; sink = None }
 
--- A session over shared documents of these names that ended for this cause. It read from the connection's source and wrote to its
--- sink, and these are the ends of the seats that it had then.
-pub record IsEndedSession (names : List (List ℕ)) (connection : Bytes) (why : Ending) (ends : List (Option seats.Seat)) : Type 0 where
+-- A session over shared documents of these names that ended for this cause. It read from the
+-- connection's source and wrote to its sink, and these are the ends of the seats that it had then.
+pub record IsEndedSession (names : List (List ℕ)) (connection : Bytes) (why : Ending)
+    (ends : List (Option seats.Seat)) : Type 0 where
   pub has : Option (List ℕ)
   pub holds : Option (List ℕ)
   pub opened : List OpenDocument
-  pub session : Ends (shared names) begins_at_shelf connection.source has connection.sink holds why (record { documents = tt; opened = opened })
+  pub session : Ends (shared names) begins_at_shelf connection.source has connection.sink holds why
+      (record { documents = tt; opened = opened })
   pub given_back : AreSeatEnds names opened ends
 
 -- a session, or none, which gave back nothing
@@ -32,7 +34,8 @@ IsAttended names connection None ends = ends ≡ []
 
 -- of each connection, in their order
 abbrev pub AreAttended : List (List ℕ) → List Bytes → List (Option Ending) → List (List (Option seats.Seat)) → Type 0
-AreAttended names (connection ∷ all) (why ∷ endings) (ends ∷ sessions) = IsAttended names connection why ends × AreAttended names all endings sessions
+AreAttended names (connection ∷ all) (why ∷ endings) (ends ∷ sessions) =
+    IsAttended names connection why ends × AreAttended names all endings sessions
 AreAttended names [] [] [] = Unit {0}
 AreAttended names [] [] (ends ∷ sessions) = ⊥
 AreAttended names [] (why ∷ endings) sessions = ⊥

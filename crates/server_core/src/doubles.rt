@@ -7,7 +7,7 @@ use line_feed::doubles::FailAfter;
 use line_feed::{DeviceFault, Reader, Sink};
 use std::sync::{Mutex, Wait};
 
-/// A sink that keeps what it takes behind a lock, to be looked at after the session, for tests.
+/// A sink that keeps its bytes behind a lock, for tests to read after the session.
 #[derive(Drop)]
 pub struct Kept<'a, R: Wait> {
     rt: &'a R,
@@ -23,6 +23,7 @@ impl<R: Wait> Sink for Kept<'_, R> {
     fn write_some(&mut self, bytes: &[u8]) -> Result<usize, DeviceFault> {
         let mut kept = self.bytes.lock(self.rt);
         let grown = kept.extend_from_slice(bytes);
+        // `self` is changed next.
         drop(kept);
         if grown.is_err() {
             self.failed = true;
@@ -43,22 +44,22 @@ impl<R: Wait> Sink for Kept<'_, R> {
 /// A connection over bytes in memory, for tests.
 #[derive(Drop)]
 pub struct Script<'a, R: Wait> {
-    /// What it waits by.
+    /// Waits for locks.
     pub rt: &'a R,
     /// The lines of the session.
     pub input: &'a [u8],
     /// Where its replies go.
     pub replies: &'a Mutex<Vec<u8>>,
-    /// The source fails once so many bytes were read.
+    /// After so many bytes the source fails.
     pub read_after: usize,
-    /// The sink fails once so many bytes were written.
+    /// After so many bytes the sink fails.
     pub write_after: usize,
     /// Whether it can be opened.
     pub opens: bool,
 }
 
 impl<'a, R: Wait> Script<'a, R> {
-    /// A connection that can be opened, and never fails.
+    /// A connection that opens and never fails.
     pub fn new(rt: &'a R, input: &'a [u8], replies: &'a Mutex<Vec<u8>>) -> Script<'a, R> {
         Script {
             rt,

@@ -40,7 +40,7 @@ fn assigns<M: Marker>(
 
 // Whether a seat's end was told of these operations of its document.
 fn was_told<M: Marker>(end: &SeatEnd<M>, seat: u16, ids: &[(u64, &str)]) -> bool {
-    end.number() == 0 && end.seat() == seat && are_ids(end.told(), ids)
+    end.number() == 0 && end.seat() == seat && are_ids(end.acknowledged(), ids)
 }
 
 // Gathers ends that don't fit the document, and answers what is handed back.

@@ -6,7 +6,7 @@ ghost use Rattle.share_ledger.specs.Begun.{BeginEmpty};
 mod loopback;
 
 use super::told::holds;
-use commands::{USAGE, VERSION, check_words, run_words, serve_words, usage_of};
+use commands::{USAGE, VERSION, parse_and_check, run_words, parse_and_serve, usage_of};
 use line_feed::{Reader, Writer};
 use log::Log;
 use run_core::NewDocuments;
@@ -127,7 +127,7 @@ fn runs(rt: HostRuntime) {
 fn tells(rt: &HostRuntime, line: &str, status: u8, text: &str) -> Result<bool, AllocError> {
     let words = words_of(rt.alloc(), line)?;
     let mut out = Vec::<u8>::new(rt.alloc());
-    let found = check_words(rt, rt.alloc(), &words, &mut Writer::new(&mut out));
+    let found = parse_and_check(rt, rt.alloc(), &words, &mut Writer::new(&mut out));
     Ok(found == status && *out.as_slice() == *text.as_bytes())
 }
 
@@ -209,7 +209,7 @@ fn is_refused<
 >(host: &HostRuntime, rt: &R, line: &str) -> Result<bool, AllocError> {
     let words = words_of(host.alloc(), line)?;
     let mut out = Vec::<u8>::new(host.alloc());
-    let status = serve_words(host, rt, host.alloc(), &words, &mut out);
+    let status = parse_and_serve(host, rt, host.alloc(), &words, &mut out);
     Ok(status == 2 && out.is_empty())
 }
 

@@ -5,14 +5,14 @@ ghost use Rattle.served_copy.specs.Restored.{entries_at};
 
 use super::deeds::{Case, Deed, adopted, all_in_memory};
 use super::serving::{Start, THREE_WHOLE, started};
-use copier::{Copier, Watch};
+use copier::{Copier, CopyObserver};
 use doc_ledger::Ledger;
 use lamport_id::ReplicaName;
 use log::Log;
 use log_copy::{Fault, KeptDoc, LogCopy};
 use op_core::Operation;
-use served_copy::{restored_stock, shelve};
-use server_core::{Library, Side};
+use served_copy::{restore_documents, share_documents};
+use server_core::{SharedDocuments, Side};
 use share_ledger::{Blank, Marker};
 use sqlite::{Alter, Connection, ErrorCode, MemStore};
 use std::alloc::{AllocError, Global};
@@ -29,7 +29,7 @@ struct Counting<'a, R: Wait> {
     times: &'a Mutex<u32>,
 }
 
-impl<R: Wait> Watch for Counting<'_, R> {
+impl<R: Wait> CopyObserver for Counting<'_, R> {
     fn added(&self, _document: &KeptDoc, _entries: &[Operation]) {}
 
     fn stopped(&self, _why: &Fault, _code: Option<ErrorCode>) {
@@ -58,12 +58,12 @@ fn with_three<R: Threads + Wait + Abort + Sync + Log + Clock>(
 }
 
 /// The documents of these names of a copy behind locks. Where they can't be had memory is said to be wanting.
-fn library_of<M: Marker, S: Alter>(
+fn shared_documents<M: Marker, S: Alter>(
     alloc: Global,
     blank: Blank,
     copy: &LogCopy<S>,
     documents: &[&str],
-) -> Result<Library<M>, AllocError>
+) -> Result<SharedDocuments<M>, AllocError>
     requires blank { blank ≡ M.name }
     requires begun { M.initial_log ≡ entries_at copy.now.docs (map (λ s. s.now) documents.now) }
     requires few { length documents.now ≤ greatest_number }
@@ -72,11 +72,11 @@ fn library_of<M: Marker, S: Alter>(
         return Err(AllocError);
     };
     let mut ledger = Ledger::<M>::new(blank);
-    let Ok(stock) = restored_stock(alloc, &mut ledger, copy, &replica, documents, 1) else {
+    let Ok(restored) = restore_documents(alloc, &mut ledger, copy, &replica, documents, 1) else {
         return Err(AllocError);
     };
-    match shelve(alloc, stock) {
-        Ok(library) => Ok(library),
+    match share_documents(alloc, restored) {
+        Ok(shared) => Ok(shared),
         Err(_) => Err(AllocError),
     }
 }
@@ -84,19 +84,19 @@ fn library_of<M: Marker, S: Alter>(
 /// Copies the library's documents beside so many sessions, none of which ends, and gives how often the watch was told of a fault.
 fn told<M: Marker, R: Wait, S: Alter>(
     rt: &R,
-    library: &Library<M>,
+    shared: &SharedDocuments<M>,
     sessions: u64,
     copy: &mut LogCopy<S>,
 ) -> u32 {
     let times = Mutex::new(0);
     let counting = Counting { rt, times: &times };
     let mut copier = Copier::new(copy, &counting);
-    copier.run(rt, library, sessions);
+    copier.run(rt, shared, sessions);
     let _why = copier.end();
     times.into_inner()
 }
 
-/// The same where the library is that of a full copy, and has a table of its own.
+/// The same where the shared is that of a full copy, and has a table of its own.
 fn told_beside<M: Marker, R: Wait, F: Alter, S: Alter>(
     rt: &R,
     alloc: Global,
@@ -110,8 +110,8 @@ fn told_beside<M: Marker, R: Wait, F: Alter, S: Alter>(
     requires begun { M.initial_log ≡ entries_at full.now.docs (map (λ s. s.now) documents.now) }
     requires few { length documents.now ≤ greatest_number }
 {
-    let library = library_of::<M, F>(alloc, blank, full, documents)?;
-    Ok(told::<M, R, S>(rt, &library, sessions, copy))
+    let shared = shared_documents::<M, F>(alloc, blank, full, documents)?;
+    Ok(told::<M, R, S>(rt, &shared, sessions, copy))
 }
 
 /// Copies a document with three operations to the copy beside so many sessions, none of which ends, and gives how often the watch was

@@ -3,11 +3,11 @@
 ghost use Rattle.std.specs.Prelude.{◌≡◌};
 ghost use Rattle.share_ledger.specs.Begun.{BeginEmpty};
 
-use super::samples::{library_of, told_alone};
+use super::samples::{shared_documents, told_alone};
 use crate::told::{holds, is_told};
 use json_scalar::Refusal;
 use line_feed::{DeviceFault, Reader, Sink, Source, Writer};
-use server_core::{Library, OpenGate, serve_session};
+use server_core::{SharedDocuments, OpenGate, serve_session};
 use session_rules::Ending;
 use share_ledger::{Blank, Marker};
 use std::alloc::Global;
@@ -93,15 +93,15 @@ pub fn told_over_two_documents<R: Threads + Wait + Abort + Sync>(
 /// A device that looks, at each call, whether a document is locked.
 #[derive(Drop)]
 struct Looking<'a, M: Marker, D> {
-    library: &'a Library<M>,
+    shared: &'a SharedDocuments<M>,
     device: D,
     found: bool,
 }
 
 /// Whether the lock of a document is taken.
-fn is_locked<M: Marker>(library: &Library<M>) -> bool {
-    for place in 0..library.shelf.len() {
-        if library.shelf.doc(place).try_lock().is_none() {
+fn is_locked<M: Marker>(shared: &SharedDocuments<M>) -> bool {
+    for place in 0..shared.shelf.len() {
+        if shared.shelf.doc(place).try_lock().is_none() {
             return true;
         }
     }
@@ -116,7 +116,7 @@ impl<M: Marker, D: Source> Source for Looking<'_, M, D> {
     ghost reads = { λ s. D.reads s.device };
 
     fn read_some(&mut self, buf: &mut [u8]) -> Result<usize, DeviceFault> {
-        if is_locked(self.library) {
+        if is_locked(self.shared) {
             self.found = true;
         }
         self.device.read_some(buf)
@@ -135,7 +135,7 @@ impl<M: Marker, D: Sink> Sink for Looking<'_, M, D> {
     ghost kept = { λ s. D.kept s.device };
 
     fn write_some(&mut self, bytes: &[u8]) -> Result<usize, DeviceFault> {
-        if is_locked(self.library) {
+        if is_locked(self.shared) {
             self.found = true;
         }
         self.device.write_some(bytes)
@@ -159,18 +159,18 @@ fn looks<M: Marker, R: Wait>(
     requires blank { blank ≡ M.name }
     requires begun { BeginEmpty M.initial_log }
 {
-    let library = library_of::<M>(alloc, blank, &["a", "b"], 1)?;
+    let shared = shared_documents::<M>(alloc, blank, &["a", "b"], 1)?;
     let mut source = Looking {
-        library: &library,
+        shared: &shared,
         device: Reader::new(SHOPPING),
         found: false,
     };
     let mut sink = Looking {
-        library: &library,
+        shared: &shared,
         device: Writer::new(Vec::new(alloc)),
         found: false,
     };
-    let served = serve_session(rt, alloc, &library, &OpenGate, 1, &mut source, &mut sink)?;
+    let served = serve_session(rt, alloc, &shared, &OpenGate, 1, &mut source, &mut sink)?;
     Ok((served.why, source.found, sink.found))
 }
 

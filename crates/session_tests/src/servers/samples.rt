@@ -10,7 +10,7 @@ use lamport_id::ReplicaName;
 use line_proto::Name;
 use locked_doc::{Shelf, Totals};
 use server_core::doubles::Script;
-use server_core::{Gate, Gathered, Idle, Library, OpenGate, Side, Signal, run_sessions};
+use server_core::{Gate, Gathered, Idle, SharedDocuments, OpenGate, Side, Signal, run_sessions};
 use share_ledger::{Blank, Marker};
 use std::alloc::Global;
 use std::marker::Brand;
@@ -69,19 +69,19 @@ fn shelf_of<M: Marker>(
 }
 
 /// New documents of these names, with so many seats each.
-pub fn library_of<M: Marker>(
+pub fn shared_documents<M: Marker>(
     alloc: Global,
     blank: Blank,
     documents: &[&str],
     seats: u16,
-) -> Result<Library<M>, Refusal>
+) -> Result<SharedDocuments<M>, Refusal>
     requires blank { blank ≡ M.name }
     requires begun { BeginEmpty M.initial_log }
     requires few { length documents.now ≤ greatest_number }
 {
     let names = names_of(alloc, documents)?;
     let shelf = shelf_of::<M>(alloc, blank, documents.len(), seats)?;
-    Ok(Library {
+    Ok(SharedDocuments {
         names,
         shelf,
         signal: Signal::new(),
@@ -103,8 +103,8 @@ pub fn serve_beside<M: Marker + Send + Sync, R: Threads + Wait + Sync, G: Gate +
     requires begun { BeginEmpty M.initial_log }
     requires few { length documents.now ≤ greatest_number }
 {
-    let library = library_of::<M>(alloc, blank, documents, seats)?;
-    let (gathered, side) = run_sessions(rt, alloc, library, scripts, gate, side);
+    let shared = shared_documents::<M>(alloc, blank, documents, seats)?;
+    let (gathered, side) = run_sessions(rt, alloc, shared, scripts, gate, side);
     match gathered {
         Ok(gathered) => Ok((gathered, side)),
         Err(ungathered) => Err(ungathered.refusal),

@@ -6,7 +6,7 @@ use super::samples::{NO_FAULT, THREE, TWO, first_did, run_two, serve_all, serve_
 use crate::told::holds;
 use json_scalar::Refusal;
 use server_core::doubles::Script;
-use server_core::{Gathered, Library, OpenGate, Side, Signalled};
+use server_core::{Gathered, SharedDocuments, OpenGate, Side, Signalled};
 use share_ledger::{Blank, Marker};
 use std::alloc::{AllocError, Global};
 use std::marker::Brand;
@@ -119,29 +119,29 @@ struct Watching {
 }
 
 impl<M: Marker> Side<M> for Watching {
-    fn run<R: Wait>(&mut self, rt: &R, library: &Library<M>, sessions: u64) {
+    fn run<R: Wait>(&mut self, rt: &R, shared: &SharedDocuments<M>, sessions: u64) {
         let mut seen = Signalled {
-            raised: 0,
+            notified: 0,
             ended: 0,
         };
         for _ in rt.forever() {
             if seen.ended == sessions {
                 break;
             }
-            seen = library.signal.wait(rt, seen);
+            seen = shared.signal.wait(rt, seen);
         }
         self.sessions = sessions;
         self.ended = seen.ended;
-        self.logged = logged_first(rt, library);
+        self.logged = logged_first(rt, shared);
     }
 }
 
 /// How much is logged at the first document, of which at most 1,000 operations are looked at.
-pub fn logged_first<M: Marker, R: Wait>(rt: &R, library: &Library<M>) -> Option<usize> {
-    if library.shelf.len() == 0 {
+pub fn logged_first<M: Marker, R: Wait>(rt: &R, shared: &SharedDocuments<M>) -> Option<usize> {
+    if shared.shelf.len() == 0 {
         return None;
     }
-    let doc = library.shelf.doc(0).lock(rt);
+    let doc = shared.shelf.doc(0).lock(rt);
     doc.tail(0, 1000).ok().map(|ops| ops.as_slice().len())
 }
 

@@ -7,7 +7,7 @@ use super::sessions::logged_first;
 use crate::told::holds;
 use json_scalar::Refusal;
 use server_core::doubles::Script;
-use server_core::{Gate, Gathered, Library, Side, Signalled};
+use server_core::{Gate, Gathered, SharedDocuments, Side, Signalled};
 use share_ledger::{Blank, Marker};
 use std::alloc::Global;
 use std::marker::Brand;
@@ -23,19 +23,19 @@ struct Woken<'a> {
 }
 
 impl<M: Marker> Side<M> for Woken<'_> {
-    fn run<R: Wait>(&mut self, rt: &R, library: &Library<M>, sessions: u64) {
+    fn run<R: Wait>(&mut self, rt: &R, shared: &SharedDocuments<M>, sessions: u64) {
         let mut seen = Signalled {
-            raised: 0,
+            notified: 0,
             ended: 0,
         };
         for _ in rt.forever() {
-            if let Some(logged) = logged_first(rt, library) {
+            if let Some(logged) = logged_first(rt, shared) {
                 self.logged.store(logged as u64, Ordering::SeqCst);
             }
             if seen.ended >= sessions {
                 break;
             }
-            seen = library.signal.wait(rt, seen);
+            seen = shared.signal.wait(rt, seen);
         }
     }
 }

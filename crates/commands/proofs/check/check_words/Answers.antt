@@ -1,6 +1,6 @@
 use Rattle.std.proofs.Common.{◌≡◌, true, map, rules}
 use Rattle.commands.specs.CommandLine.{is_check}
-use Rattle.commands.proofs.check.check_words.Goals as goal
+use Rattle.commands.proofs.check.parse_and_check.Goals as goal
 
 pub returns-in-Ok-clause-told : goal.returns-in-Ok-clause-told
 returns-in-Ok-clause-told g c = λ zero.

@@ -1,6 +1,6 @@
 use Rattle.std.proofs.Common.{◌≡◌, true, inl, map, rules, arith, sym, subst}
 use Rattle.commands.specs.CommandLine.{NamesServer, is_serve}
-use Rattle.commands.proofs.serve.serve_words.Goals as goal
+use Rattle.commands.proofs.serve.parse_and_serve.Goals as goal
 
 pub returns-in-Ok-clause-served : goal.returns-in-Ok-clause-served
 returns-in-Ok-clause-served g c = λ zero.

@@ -10,7 +10,7 @@ loop-index-init g c = record { added = none; none = λ _. refl; epoch = refl; wo
 pub loop-index-preserved : goal.loop-index-preserved
 loop-index-preserved g c =
     let before = c.loop-index.invariant in
-    let here : Contains c.args.library.now.names.items c.name_at-name.result.now = c.name_at-name.ensures.among in
+    let here : Contains c.args.shared.now.names.items c.name_at-name.result.now = c.name_at-name.ensures.among in
     let works = c.in_ok-copy_some.ensures.works in
     elim c.if-branch.branch [
       | then-branch w ↦

@@ -4,7 +4,7 @@ use Rattle.copier.proofs.batch.copy_each.Given as goal
 
 abbrev pub invariant-loop-index : goal.invariant-loop-index
 invariant-loop-index g l = record {
-  added : AreAdded l.library.names.items l.fn.copy.docs l.any l.copy.docs;
+  added : AreAdded l.shared.names.items l.fn.copy.docs l.any l.copy.docs;
   none : l.any ≡ false → l.copy.docs ≡ l.fn.copy.docs;
   epoch : l.copy.epoch ≡ l.fn.copy.epoch;
   works : l.fn.copy.has_failed ≡ false → l.copy.has_failed ≡ false;

@@ -16,7 +16,7 @@ returns-in_err-gathered-clause-alone g c = alone_beside _ c.serve_copied-ran.ens
 pub returns-in-Ok-clause-served : goal.returns-in-Ok-clause-served
 returns-in-Ok-clause-served g c =
     let sessions = c.serve_copied-ran.ensures in
-    let told : Appends (g.W.Write.contents c.args.out.now) (g.W.Write.contents c.tell_totals.new.out) (total_lines (map (λ s. s.now) c.args.names.now) c.in_ok-gathered.gathered.totals.items) = search rules in
+    let told : Appends (g.W.Write.contents c.args.out.now) (g.W.Write.contents c.write_totals.new.out) (total_lines (map (λ s. s.now) c.args.names.now) c.in_ok-gathered.gathered.totals.items) = search rules in
     on_ok c.outcome_of.result (serves g.M.Marker.initial_log c.args.copy.now.docs _ _ _ _ c.in_ok-gathered.gathered _ _ c.in_ok-gathered.was sessions.sessions sessions.each c.requires.begun c.requires.names (length-map _ _) told)
 
 pub returns-in-Ok-clause-copied : goal.returns-in-Ok-clause-copied

@@ -4,7 +4,7 @@ use Rattle.std.proofs.KnownBytes.{Appends-nil, Appends-trans, Appends-kept}
 use Rattle.served_copy.specs.Totals.{total_line, total_lines}
 use Rattle.server_notes.proofs.Telling.{on_ok}
 use Rattle.served_copy.proofs.Lines.{lines_end, lines_step}
-use Rattle.served_copy.proofs.telling.tell_totals.Goals as goal
+use Rattle.served_copy.proofs.telling.write_totals.Goals as goal
 
 pub loop-i-init : goal.loop-i-init
 loop-i-init g c = ([], Appends-nil _, refl)

@@ -1,7 +1,7 @@
 use Rattle.std.proofs.Common.{◌≡◌, ℕ, List, ◌++◌, map, drop}
 use Rattle.std.specs.Io.KnownBytes.{Appends}
 use Rattle.served_copy.specs.Totals.{total_lines}
-use Rattle.served_copy.proofs.telling.tell_totals.Given as goal
+use Rattle.served_copy.proofs.telling.write_totals.Given as goal
 
 abbrev pub invariant-loop-i : goal.invariant-loop-i
 invariant-loop-i g l =

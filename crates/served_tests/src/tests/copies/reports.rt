@@ -1,6 +1,6 @@
 //! What is told of a copy that was opened, and of one that was not.
 use super::super::disks::{connected, new_files};
-use copy_report::{Untold, check_opened};
+use copy_report::{CheckFailure, check_opened};
 use line_feed::Writer;
 use line_feed::doubles::FailAfter;
 use log_copy::{Fault, Foldable, LogCopy};
@@ -9,7 +9,7 @@ use sqlite_disk::{Disk, Files};
 use std::alloc::{AllocError, Global};
 
 /// What a check answers.
-type Answer = Result<(), Untold>;
+type Answer = Result<(), CheckFailure>;
 
 /// What is answered, and what a sink has taken that fails after so many bytes.
 fn told<S: Foldable + Drop>(
@@ -74,15 +74,15 @@ static TOLD: [(&str, &str, usize, Answer, &[u8]); 4] = [
         "a_refused_copy",
         OTHER_TABLE,
         usize::MAX,
-        Err(Untold::Unopened),
+        Err(CheckFailure::Unopened),
         b"[\"no\",26,\"copy-refused\"]\n",
     ),
-    ("a_sink_that_fails", "", 5, Err(Untold::Output), b"[\"epo"),
+    ("a_sink_that_fails", "", 5, Err(CheckFailure::Output), b"[\"epo"),
     (
         "a_sink_that_fails_within_the_refusal",
         OTHER_TABLE,
         6,
-        Err(Untold::Unopened),
+        Err(CheckFailure::Unopened),
         b"[\"no\",",
     ),
 ];
@@ -110,11 +110,11 @@ fn a_fault_of_closing(rt: HostRuntime) {
     let mut faults = 0u64;
     for calls in 0u64..40 {
         match told_of_a_stop(rt.alloc(), calls) {
-            Some((Err(Untold::Unclosed(ErrorCode::SystemIoFailure)), 0)) => {
+            Some((Err(CheckFailure::Unclosed(ErrorCode::SystemIoFailure)), 0)) => {
                 faults = faults.wrapping_add(1);
             }
             Some((Ok(()), told)) => assert!(rt; told == 12 && faults > 2, "{calls}: {faults}"),
-            Some((Err(Untold::Unopened), _)) | None => assert!(rt; faults == 0, "{calls}"),
+            Some((Err(CheckFailure::Unopened), _)) | None => assert!(rt; faults == 0, "{calls}"),
             other => assert!(rt; false, "{calls}: {other:?}"),
         }
     }
@@ -125,7 +125,7 @@ fn is_silent<S: Foldable + Drop>(alloc: Global, conn: Connection<S>) -> bool {
     drop(conn);
     let none: Result<LogCopy<S>, Fault> = Err(Fault::Store);
     let (answer, out) = told(alloc, none, usize::MAX);
-    answer == Err(Untold::Unopened) && out.is_empty()
+    answer == Err(CheckFailure::Unopened) && out.is_empty()
 }
 
 fn is_silent_in<D: Disk + Drop>(alloc: Global, files: Files<D>) -> bool {

@@ -8,7 +8,7 @@ pub loop-one-init : goal.loop-one-init
 loop-one-init g c =
     let none : map (λ s. s.items) c.args.attended.now.sessions.items ≡ [] = ap (map (λ s. s.items)) c.requires.empty.1 in
     record {
-      joined = none_joined _ _ _ _ _ _ _ _ c.requires.due c.into_iter-one-iterator.ensures.into_iter_gives.0 c.requires.empty.0 none;
+      joined = none_joined _ _ _ _ _ _ _ _ c.requires.promised c.into_iter-one-iterator.ensures.into_iter_gives.0 c.requires.empty.0 none;
       left = search rules;
       endings = search rules;
       sessions = search rules;

@@ -18,8 +18,8 @@ loop-connection-preserved g c =
       room = search rules;
     }
 
-pub returns-clause-due : goal.returns-clause-due
-returns-clause-due g c =
+pub returns-clause-promised : goal.returns-clause-promised
+returns-clause-promised g c =
     let at = c.loop-connection in
     let none : into_iter_items at.connection-iterator ≡ [] = nil_from_length _ (sym at.invariant.left ∙ c.in-None.ensures.steps.0) in
     all_begun _ _ _ _ _ at.invariant.begun none c.into_iter-connection-iterator.ensures.into_iter_gives.0
