@@ -28,6 +28,6 @@ pub record HavePresenceFrom (nodes : List Node) (m : ℕ) : Type 0 where
   pub may_have_present_child : (n : NodeNumber) (k : Key) (c : NodeNumber) (i : Id) → m ≤ n.0
       → child_of nodes n k ≡ Some c → IsPresentBy (node_of nodes c) i → (node_of nodes n).may_have_present_child ≡ true
 
--- so it is with all nodes
+-- the same holds for all nodes
 abbrev pub HavePresence : List Node → Type 0
 HavePresence nodes = HavePresenceFrom nodes 0

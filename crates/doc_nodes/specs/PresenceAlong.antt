@@ -57,7 +57,8 @@ HasRoomAlong nodes n keys =
     → (node_of nodes j).presence.1 ≡ true
 
 -- the nodes on the way from n by the keys are made present, and no other
-pub record AddsPresenceAlong (id : Id) (role : Role) (old new : List Node) (n : NodeNumber) (keys : List Key) : Type 0 where
+pub record AddsPresenceAlong (id : Id) (role : Role) (old new : List Node) (n : NodeNumber)
+    (keys : List Key) : Type 0 where
   pub along : (front rest : List Key) (j : NodeNumber) → keys ≡ front ++ rest → walk (child_of old) n front ≡ Some j
       → node_of new j ≡ made_present id (role_before rest role) (node_of old j)
   pub outside : (j : NodeNumber)

@@ -278,7 +278,7 @@ impl<'a> Iterator for EachChild<'a> {
     }
 }
 
-/// Where a key is, or would be, found by bisection.
+// Where a key is, or would be, found by bisection.
 fn hint_for(blocks: &[Block], key: &Key) -> SearchHint
     requires { AreBlocks blocks.now }
     ensures block { result.block ≡ block_rank key.now blocks.now }
@@ -297,7 +297,7 @@ fn hint_for(blocks: &[Block], key: &Key) -> SearchHint
     }
 }
 
-/// The place behind a hint: in its block, or at the start of the next one.
+// The place behind a hint: in its block, or at the start of the next one.
 fn hint_behind(blocks: &[Block], hint: SearchHint) -> SearchHint {
     let Some(block) = blocks.get(hint.block) else {
         return hint;
@@ -319,7 +319,7 @@ fn hint_behind(blocks: &[Block], hint: SearchHint) -> SearchHint {
     }
 }
 
-/// The place before a hint: in its block, or at the end of the block before.
+// The place before a hint: in its block, or at the end of the block before.
 fn hint_before(blocks: &[Block], hint: SearchHint) -> SearchHint {
     if hint.place > 0 {
         return SearchHint {
@@ -339,8 +339,8 @@ fn hint_before(blocks: &[Block], hint: SearchHint) -> SearchHint {
     }
 }
 
-/// The number of the entry at a hint, if its key is this one. Where bisection ends, it is what all blocks have at the
-/// key.
+// The number of the entry at a hint, if its key is this one. Where bisection ends, it is what all blocks have at the
+// key.
 fn number_there(blocks: &[Block], hint: SearchHint, key: &Key) -> Option<NodeNumber>
     requires { AreBlocks blocks.now }
     ensures found { IfSome result (λ number. number_at (joined blocks.now) key.now ≡ Some number) }
@@ -354,8 +354,8 @@ fn number_there(blocks: &[Block], hint: SearchHint, key: &Key) -> Option<NodeNum
     }
 }
 
-/// The number of the entry at a place in one block, if its key is this one. Where bisection ends, it is what the block
-/// has at the key.
+// The number of the entry at a place in one block, if its key is this one. Where bisection ends, it is what the block
+// has at the key.
 fn number_here(entries: &[(Key, NodeNumber)], place: usize, key: &Key) -> Option<NodeNumber>
     requires { IsInKeyOrder entries.now }
     ensures found { IfSome result (λ number. Contains entries.now (key.now, number)) }
@@ -368,7 +368,7 @@ fn number_here(entries: &[(Key, NodeNumber)], place: usize, key: &Key) -> Option
     }
 }
 
-/// How many blocks end with a lesser key, once the block to which the key belongs is cut in two if it was full.
+// How many blocks end with a lesser key, once the block to which the key belongs is cut in two if it was full.
 fn block_for(blocks: &mut Vec<Block>, key: &Key) -> Result<usize, AllocError>
     requires { AreBlocks blocks.old.items }
     ensures blocks { AreBlocks blocks.new.items }
@@ -386,7 +386,7 @@ fn block_for(blocks: &mut Vec<Block>, key: &Key) -> Result<usize, AllocError>
     Ok(block_of(blocks.as_slice(), key))
 }
 
-/// Half of a block that takes no more.
+// Half of a block that takes no more.
 fn half_of(block: &Block) -> Option<usize>
     ensures { IfSome result (λ half. (0 < half) × (half < length block.now)) }
 {
@@ -397,7 +397,7 @@ fn half_of(block: &Block) -> Option<usize>
     Some(count / 2)
 }
 
-/// Cuts a block in two.
+// Cuts a block in two.
 fn cut(blocks: &mut Vec<Block>, at: usize, half: usize) -> Result<(), AllocError>
     requires blocks { AreBlocks blocks.old.items }
     requires known { at < length blocks.old.items }
@@ -415,7 +415,7 @@ fn cut(blocks: &mut Vec<Block>, at: usize, half: usize) -> Result<(), AllocError
     }
 }
 
-/// Adds an entry at a key that has none and belongs to the block at a place.
+// Adds an entry at a key that has none and belongs to the block at a place.
 fn add_entry(
     blocks: &mut Vec<Block>,
     at: usize,
@@ -436,7 +436,7 @@ fn add_entry(
     }
 }
 
-/// The block for a key that belongs to the block at a place: this one, or the last if the key is greater than all.
+// The block for a key that belongs to the block at a place: this one, or the last if the key is greater than all.
 fn open_block(blocks: &[Block], at: usize) -> Option<usize>
     requires { at ≤ length blocks.now }
     ensures open { IfSome result
@@ -452,7 +452,7 @@ fn open_block(blocks: &[Block], at: usize) -> Option<usize>
     None
 }
 
-/// Puts an entry into a block.
+// Puts an entry into a block.
 fn put_in(
     blocks: &mut Vec<Block>,
     at: usize,
@@ -472,7 +472,7 @@ fn put_in(
     Ok(SearchHint { block: at, place })
 }
 
-/// Puts an entry behind all others, in a block of its own.
+// Puts an entry behind all others, in a block of its own.
 fn put_behind(
     blocks: &mut Vec<Block>,
     key: Key,
@@ -493,7 +493,7 @@ fn put_behind(
     Ok(SearchHint { block, place: 0 })
 }
 
-/// The start of the first block.
+// The start of the first block.
 fn first_start() -> Start
     ensures { (blocks : List (List (Key × NodeNumber))) → IsStart blocks result.block result.before }
 {
@@ -503,7 +503,7 @@ fn first_start() -> Start
     }
 }
 
-/// The start of the block that holds a place, if that is the block of this start or the next one; else of another.
+// The start of the block that holds a place, if that is the block of this start or the next one; else of another.
 fn start_for(blocks: &[Block], start: Start, at: usize) -> Start
     requires { IsStart blocks.now start.block start.before }
     ensures { IsStart blocks.now result.block result.before }
@@ -524,7 +524,7 @@ fn start_for(blocks: &[Block], start: Start, at: usize) -> Start
     }
 }
 
-/// The entry at a place, looked for from a start on.
+// The entry at a place, looked for from a start on.
 fn entry_from(blocks: &[Block], start: Start, at: usize) -> &(Key, NodeNumber)
     requires start { IsStart blocks.now start.block start.before }
     requires within { at < length (joined blocks.now) }
@@ -537,7 +537,7 @@ fn entry_from(blocks: &[Block], start: Start, at: usize) -> &(Key, NodeNumber)
     }
 }
 
-/// The entry at a place, counted over all blocks.
+// The entry at a place, counted over all blocks.
 fn entry_at(blocks: &[Block], at: usize) -> &(Key, NodeNumber)
     requires { at < length (joined blocks.now) }
     ensures { (d : Key × NodeNumber) → result.now ≡ slice_index_or (joined blocks.now) at d }
@@ -555,7 +555,7 @@ fn entry_at(blocks: &[Block], at: usize) -> &(Key, NodeNumber)
     }
 }
 
-/// How many blocks end with a lesser key.
+// How many blocks end with a lesser key.
 fn block_of(blocks: &[Block], key: &Key) -> usize
     requires { AreBlocks blocks.now }
     ensures value { result ≡ block_rank key.now blocks.now }
@@ -568,7 +568,7 @@ fn block_of(blocks: &[Block], key: &Key) -> usize
     )
 }
 
-/// Whether the last key is less than a key.
+// Whether the last key is less than a key.
 fn ends_before(entries: &[(Key, NodeNumber)], key: &Key) -> bool
     ensures { result ≡ Blocks.ends_before key.now entries.now }
 {
@@ -579,7 +579,7 @@ fn ends_before(entries: &[(Key, NodeNumber)], key: &Key) -> bool
     is_lesser_key(&entries[count - 1].0, key)
 }
 
-/// How many children have a lesser key.
+// How many children have a lesser key.
 fn rank_of_key(entries: &[(Key, NodeNumber)], key: &Key) -> usize
     requires { IsInKeyOrder entries.now }
     ensures value { result ≡ KeyOrder.key_rank entries.now key.now }
@@ -592,7 +592,7 @@ fn rank_of_key(entries: &[(Key, NodeNumber)], key: &Key) -> usize
     )
 }
 
-/// Whether a key is less than another.
+// Whether a key is less than another.
 fn is_lesser_key(a: &Key, b: &Key) -> bool
     ensures { result ≡ is_lt (key_cmp a.now b.now) }
 {
@@ -609,14 +609,14 @@ fn is_lesser_key(a: &Key, b: &Key) -> bool
     }
 }
 
-/// Whether a text is less than another, in byte order.
+// Whether a text is less than another, in byte order.
 fn is_lesser_text(a: &str, b: &str) -> bool
     ensures { result ≡ is_lt (slice_cmp nat_cmp a.now b.now) }
 {
     a.cmp(b).is_lt()
 }
 
-/// Whether two keys are the same.
+// Whether two keys are the same.
 fn is_same_key(a: &Key, b: &Key) -> bool
     ensures { result ≡ key_eq a.now b.now }
 {

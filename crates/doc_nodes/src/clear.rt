@@ -42,7 +42,7 @@ pub fn clear_under(nodes: &mut [Node], at: NodeNumber, front: &Front)
     }
 }
 
-/// The child of a node at an index, and its element if its key is one. Fast right after the child before it.
+// The child of a node at an index, and its element if its key is one. Fast right after the child before it.
 fn child_at(nodes: &mut [Node], at: NodeNumber, place: usize) -> (NodeNumber, Option<Id>)
     requires known { at.0 < length nodes.old }
     requires within { place < length (node_of nodes.old at).children }
@@ -73,7 +73,7 @@ pub fn clear_way(nodes: &mut [Node], path: &[Tagged], key: &Key, front: &Front)
     }
 }
 
-/// Clears a place below a node and what is below the place.
+// Clears a place below a node and what is below the place.
 fn clear_below(nodes: &mut [Node], at: NodeNumber, way: &[Tagged], key: &Key, front: &Front)
     requires tree { AreTree nodes.old }
     requires known { at.0 < length nodes.old }

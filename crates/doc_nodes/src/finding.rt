@@ -60,7 +60,7 @@ pub fn find_list(nodes: &[Node], path: &[Tagged]) -> Option<NodeNumber>
     }
 }
 
-/// The node whose list a path below a tagged key leads to.
+// The node whose list a path below a tagged key leads to.
 fn find_list_below(
     nodes: &[Node],
     at: NodeNumber,

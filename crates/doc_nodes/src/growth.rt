@@ -36,7 +36,7 @@ pub fn prepare_way(nodes: &mut Vec<Node>, path: &[Tagged], key: &Key) -> Result<
     }
 }
 
-/// Makes the nodes on the way from a node that has room down to a place, with room for one more id in each.
+// Makes the nodes on the way from a node that has room down to a place, with room for one more id in each.
 fn prepare_below(
     nodes: &mut Vec<Node>,
     at: NodeNumber,
@@ -68,7 +68,7 @@ fn prepare_below(
     }
 }
 
-/// The child of a node at a key, made if there is none, with room for one more id.
+// The child of a node at a key, made if there is none, with room for one more id.
 fn ready_child(nodes: &mut Vec<Node>, at: NodeNumber, key: &Key) -> Result<NodeNumber, Refusal>
     requires tree { AreTree nodes.old.items }
     requires known { at.0 < length nodes.old.items }
@@ -152,7 +152,7 @@ pub fn grown_child(nodes: &mut Vec<Node>, at: NodeNumber, key: &Key) -> Result<N
     }
 }
 
-/// A new child of a node, at a key that has none.
+// A new child of a node, at a key that has none.
 fn new_child(nodes: &mut Vec<Node>, at: NodeNumber, key: &Key) -> Result<NodeNumber, Refusal>
     requires tree { AreTree nodes.old.items }
     requires known { at.0 < length nodes.old.items }
@@ -170,7 +170,7 @@ fn new_child(nodes: &mut Vec<Node>, at: NodeNumber, key: &Key) -> Result<NodeNum
     Ok(number)
 }
 
-/// The child of a node at a key, if there is one. Asking for it again is fast.
+// The child of a node at a key, if there is one. Asking for it again is fast.
 fn seek_child(nodes: &mut Vec<Node>, at: NodeNumber, key: &Key) -> Option<NodeNumber>
     requires known { at.0 < length nodes.old.items }
     ensures same { nodes.new.items ≡ nodes.old.items }
@@ -180,7 +180,7 @@ fn seek_child(nodes: &mut Vec<Node>, at: NodeNumber, key: &Key) -> Option<NodeNu
     children.seek(key)
 }
 
-/// Adds a node as the child of another.
+// Adds a node as the child of another.
 fn add_child(nodes: &mut Vec<Node>, at: NodeNumber, key: Key, fresh: Node) -> Result<(), Refusal>
     requires known { at.0 < length nodes.old.items }
     requires missing { child_of nodes.old.items at key ≡ None }

@@ -71,8 +71,8 @@ pub fn add_presence(nodes: &mut [Node], at: NodeNumber, id: &Id, role: Role)
     node.presence.put(*id, role);
 }
 
-/// Whether a child of a node may be present after an operation in a role. A node that isn't present has no present
-/// child.
+// Whether a child of a node may be present after an operation in a role. A node that isn't present has no present
+// child.
 fn may_have_present_child_after(node: &Node, role: Role) -> bool
     ensures { result ≡ Spec.may_have_present_child_after role node.now }
 {

@@ -38,4 +38,5 @@ IsElementAt tree list i (Some n) =
 -- what is shown at the present ones of these elements of a list
 abbrev pub ShowsThose : TreeValue → List Tagged → List Id → List Data → Type 0
 ShowsThose tree list ids ds =
-    (kept : List Id) × AreThose (λ i. IsPresent (tree_facts tree) list (Element i)) ids kept × AreShown tree list kept ds
+    (kept : List Id) × AreThose (λ i. IsPresent (tree_facts tree) list (Element i)) ids kept
+    × AreShown tree list kept ds

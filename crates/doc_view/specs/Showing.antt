@@ -50,7 +50,8 @@ module _ (tree : TreeValue) (p : List Tagged) where
   -- these are the fields of the present ones of the texts
   pub record AreFields (texts : List (List ℕ)) (ds : List Data) : Type 0 where
     pub fields : List (List ℕ × Shown)
-    pub kept : AreThose (λ t. IsPresent (tree_facts tree) p (Text t)) texts (map (λ (field : List ℕ × Shown). field.0) fields)
+    pub kept : AreThose (λ t. IsPresent (tree_facts tree) p (Text t)) texts
+        (map (λ (field : List ℕ × Shown). field.0) fields)
     pub each : EachField fields
     pub is : ds ≡ map field_data fields
 

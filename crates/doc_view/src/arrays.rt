@@ -45,7 +45,7 @@ fn write_keys(text: &mut JsonText, tree: &Tree, path: &Path, key: &Key) -> Resul
     text.end_list()
 }
 
-/// The texts of those of a map's children that are present, one behind another.
+// The texts of those of a map's children that are present, one behind another.
 fn write_present_texts(
     text: &mut JsonText,
     tree: &Tree,
@@ -61,7 +61,7 @@ fn write_present_texts(
     Ok(())
 }
 
-/// The text of a child of a map, if it is a text and present.
+// The text of a child of a map, if it is a text and present.
 fn write_present_text(
     text: &mut JsonText,
     tree: &Tree,
@@ -121,8 +121,8 @@ fn write_node_items(
     text.end_list()
 }
 
-/// The present ones of these elements of the list at a node, each with its scalars, one behind
-/// another.
+// The present ones of these elements of the list at a node, each with its scalars, one behind
+// another.
 fn write_present_items(
     text: &mut JsonText,
     tree: &Tree,
@@ -139,7 +139,7 @@ fn write_present_items(
     Ok(())
 }
 
-/// An element of the list at a node with its scalars, if it is present.
+// An element of the list at a node with its scalars, if it is present.
 fn write_present_item(
     text: &mut JsonText,
     tree: &Tree,

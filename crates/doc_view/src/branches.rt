@@ -75,7 +75,7 @@ fn write_node(
     text.end_list()
 }
 
-/// The branch of the map at a node.
+// The branch of the map at a node.
 #[cycle(node)]
 fn write_map(alloc: Global, text: &mut JsonText, tree: &Tree, at: NodeNumber) -> Result<(), Refusal>
     ensures { GivesUnlessMemory (λ _. WritesEach (λ ds. AtNode tree.now at
@@ -87,7 +87,7 @@ fn write_map(alloc: Global, text: &mut JsonText, tree: &Tree, at: NodeNumber) ->
     end_branch(text, is_begun)
 }
 
-/// The fields of a map's branch, and whether it is begun then.
+// The fields of a map's branch, and whether it is begun then.
 #[cycle(node)]
 fn write_fields(
     alloc: Global,
@@ -112,7 +112,7 @@ fn write_fields(
     Ok(is_begun)
 }
 
-/// A text and what is shown under it, if the key is a text and present.
+// A text and what is shown under it, if the key is a text and present.
 #[cycle(node)]
 fn write_field(
     alloc: Global,
@@ -136,7 +136,7 @@ fn write_field(
     }
 }
 
-/// A name and what is shown at a node.
+// A name and what is shown at a node.
 #[cycle(node)]
 fn write_named_node(
     alloc: Global,
@@ -155,7 +155,7 @@ fn write_named_node(
     text.end_list()
 }
 
-/// The branch of the list at a node.
+// The branch of the list at a node.
 #[cycle(node)]
 fn write_list(
     alloc: Global,
@@ -173,7 +173,7 @@ fn write_list(
     end_branch(text, is_begun)
 }
 
-/// The elements of a list's branch, and whether it is begun then.
+// The elements of a list's branch, and whether it is begun then.
 #[cycle(node)]
 fn write_elements(
     alloc: Global,
@@ -195,7 +195,7 @@ fn write_elements(
     Ok(is_begun)
 }
 
-/// What is shown at an element of the list at a node, if it is present.
+// What is shown at an element of the list at a node, if it is present.
 #[cycle(node)]
 fn write_element(
     alloc: Global,

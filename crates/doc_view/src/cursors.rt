@@ -96,7 +96,7 @@ fn to_index(tree: &Tree, from: Cursor, index: u64) -> Result<Cursor, Refusal>
     Ok(Cursor { path, key })
 }
 
-/// The key to which an index leads in a list. Index 0 is the head, for which no element is read.
+// The key to which an index leads in a list. Index 0 is the head, for which no element is read.
 fn key_at(tree: &Tree, list: &Path, index: u64) -> Option<Key>
     ensures { (ids : List Id)
         × AreThose (λ i. IsPresent (tree_facts tree.now) list.now (Element i))
@@ -110,7 +110,7 @@ fn key_at(tree: &Tree, list: &Path, index: u64) -> Option<Key>
         .map(Key::Element)
 }
 
-/// The start, or the cause against it.
+// The start, or the cause against it.
 fn checked(tree: &Tree, start: Cursor) -> Result<Cursor, Refusal>
     ensures { result ≡ rules.checked_start (tree_facts tree.now) start }
 {
@@ -129,7 +129,7 @@ fn exists(tree: &Tree, path: &[Tagged], key: &Key) -> bool
     is_placed(path, key) && all_exist(tree, path, key)
 }
 
-/// Each key is within its limit, and each element is in the list at its path.
+// Each key is within its limit, and each element is in the list at its path.
 fn all_exist(tree: &Tree, path: &[Tagged], key: &Key) -> bool
     ensures { result ≡ rules.path_exists (tree_facts tree.now) [] path.now key.now }
 {
@@ -141,8 +141,8 @@ fn all_exist(tree: &Tree, path: &[Tagged], key: &Key) -> bool
     exists_in(tree, path, key)
 }
 
-/// The key is within its limit, and an element is in the list at the path. Other keys need not
-/// exist.
+// The key is within its limit, and an element is in the list at the path. Other keys need not
+// exist.
 fn exists_in(tree: &Tree, path: &[Tagged], key: &Key) -> bool
     ensures { result ≡ (rules.is_short key.now && rules.exists_in (tree_facts tree.now) path.now key.now) }
 {

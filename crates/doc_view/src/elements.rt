@@ -50,7 +50,7 @@ fn items_of(alloc: Global, tree: &Tree, list: NodeNumber, ids: &[Id]) -> Result<
     Ok(Items::from(items))
 }
 
-/// Adds an element of the list at a node with its scalars, if it is present.
+// Adds an element of the list at a node with its scalars, if it is present.
 fn push_item(
     alloc: Global,
     items: &mut Vec<(Id, Scalars)>,

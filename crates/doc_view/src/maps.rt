@@ -27,7 +27,7 @@ pub fn keys(alloc: Global, tree: &Tree, cursor: &Cursor) -> Result<Texts, Refusa
     present_texts(alloc, tree, tree.children(&cursor.path, &cursor.key))
 }
 
-/// The texts of those of a map's children that are present.
+// The texts of those of a map's children that are present.
 fn present_texts(alloc: Global, tree: &Tree, children: EachChild<'_>) -> Result<Texts, Refusal>
     ensures { GivesUnlessMemory (λ texts. (map : List Tagged) → AreIn tree.now map children.entry
         → AreThose (λ t. IsPresent (tree_facts tree.now) map (Text t)) (texts_in children.entry) texts) result }
@@ -59,7 +59,7 @@ pub fn present_text<'a>(tree: &Tree, key: &'a Key, at: NodeNumber) -> Option<&'a
     }
 }
 
-/// Adds the text of a child of a map, if it is a text and present.
+// Adds the text of a child of a map, if it is a text and present.
 fn push_text(
     texts: &mut Vec<KeyText>,
     tree: &Tree,

@@ -57,7 +57,7 @@ fn push_value(
     Ok(())
 }
 
-/// The value that the operation of an id put where it has this role.
+// The value that the operation of an id put where it has this role.
 fn value_of_role(role: &Role, id: &Id, scalars: &[(Id, Scalar)]) -> Result<Option<Val>, Refusal>
     ensures { GivesUnlessMemory (λ value. value ≡ value_in role.now (get scalars.now id.now)) result }
 {

@@ -107,7 +107,7 @@ current-logged held waits log op current o c i = (
       (ap not (eq_comm id_decides i op.id ∙ none.1))),
 )
 
--- ---- one is let go
+-- ---- one is dropped
 
 pub current-removed : (held : List Op) (waits : List Wait) (log : List Op) (id : Id) → IsCurrent (record { held = held; waits = waits }) log
     → IsCurrent (record { held = filter (λ o. not (id_eq o.id id)) held; waits = filter (λ w. not (id_eq w.waiter id)) waits }) log

@@ -109,7 +109,7 @@ logged-current slots id order order' entries log op name current =
     subst (λ (b : Buffer). IsCurrent b (log ++ op ∷ [])) (sym (λ i. record { held = held i; waits = left i }))
     (current-logged (operations_of slots order) (waits_of order) log op current)
 
--- ---- one is let go
+-- ---- one is dropped
 
 module _ {old new : Slab Op} {order order' : List Entry} (is : IsIntact old order) (id : Id) (ordered : IsOrdered new order')
     (entries : order' ≡ filter (λ t. not (id_eq t.id id)) order) (held : operations_of new order' ≡ filter (λ o. not (id_eq o.id id)) (operations_of old order)) where

@@ -72,7 +72,7 @@ impl Missing {
     }
 }
 
-/// A counter below which no id has one: the least.
+// A counter below which no id has one: the least.
 fn floor_of(ids: &[Id]) -> u64
     ensures { AreFrom result ids.now }
 {
@@ -83,8 +83,8 @@ fn floor_of(ids: &[Id]) -> u64
     floor
 }
 
-/// Up to so many ids are compared one by one: most have another counter, which takes less time to
-/// compare than a name.
+// Up to so many ids are compared one by one: most have another counter, which takes less time to
+// compare than a name.
 const FEW: usize = 8;
 
 // The place of the id.

@@ -152,7 +152,7 @@ pub fn waiting_of(alloc: Global, order: &[Entry]) -> Result<Waiting, Refusal>
     Ok(Waiting::from(waiting))
 }
 
-/// One more of them. The only error is out of memory.
+// One more of them. The only error is out of memory.
 fn push_waiting(alloc: Global, waiting: &mut Vec<(Id, Ids)>, entry: &Entry) -> Result<(), Refusal>
     ensures ok { OnOk result (waiting.new.items ≡ waiting.old.items ++ (entry.now.id, entry.now.missing) ∷ []) }
     ensures err { IfErr result (λ e. e ≡ Refusal.NoMemory) }
