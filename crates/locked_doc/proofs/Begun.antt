@@ -35,7 +35,7 @@ begins_after first d seat command reply s seats_of seats opened copied each some
 pub share_of_first : (first : List Op) (d : Document) → IsSound d → Begins first d → count_of 0 d.seats_of ≡ length first
 share_of_first first d sound begun = sym (share_is d 0 sound) ∙ ap length begun.2
 
--- what the ends were told, and what the document began with, is all that is logged
-pub told_and_begun : (first : List Op) (number : ℕ) (d : Document) (ends : List Seat) → IsSound d × Begins first d → AreEndsOf number d ends
+-- what is acknowledged to the ends, and what the document began with, is all that is logged
+pub acknowledged_and_begun : (first : List Op) (number : ℕ) (d : Document) (ends : List Seat) → IsSound d × Begins first d → AreEndsOf number d ends
     → sum (told_counts ends) + length first ≡ length d.replica.log
-told_and_begun first number d ends kept are = omega (arith, ends_add_up number d ends kept.0 are, share_of_first first d kept.0 kept.1)
+acknowledged_and_begun first number d ends kept are = omega (arith, ends_add_up number d ends kept.0 are, share_of_first first d kept.0 kept.1)

@@ -1,4 +1,5 @@
--- What is read at a place of a document: it is read of the facts that the logged operations make, and of the values that they put.
+-- What is read at a place of a document: it follows from the facts that the logged operations make,
+-- and from the values that they put.
 use Rattle.std.specs.Prelude.{◌≡◌, ◌⊎◌, List, Result, MatchResult}
 use Rattle.doc_words.specs.Words.{Refusal, NoMemory, Cursor, Op}
 use Rattle.doc_words.specs.declared.ask.Query.{Query}
@@ -14,10 +15,11 @@ use Rattle.doc_rules.specs.Views.{Values}
 use Rattle.doc_rules.specs.Resolve.{Resolves}
 use Rattle.doc_rules.specs.Role.{value_put_at}
 
--- a reading where the steps lead in these facts, the cause against the steps, or that memory is wanting
+-- a reading where the steps lead in these facts, the cause against the steps, or out of memory
 abbrev pub IsReadWhere : Facts → Place → (Cursor → Reply → Type 0) → Reply → Type 0
 IsReadWhere f place reads answer =
-    ((c : Result Cursor Refusal) × Resolves f place.start place.steps c × MatchResult c (λ c. reads c answer) (λ e. answer ≡ Refused e))
+    ((c : Result Cursor Refusal) × Resolves f place.start place.steps c
+    × MatchResult c (λ c. reads c answer) (λ e. answer ≡ Refused e))
     ⊎ (answer ≡ Refused NoMemory)
 
 -- what is asked of a place is read of these facts and values; of a query for the log itself this says nothing

@@ -1,5 +1,6 @@
 -- For private clauses: what an attempt to add a batch does to a connection and to the documents.
-use Rattle.std.specs.Prelude.{◌≡◌, ◌≢◌, ◌⊎◌, ◌+◌, ◌≤◌, ℕ, Bool, true, false, List, [], ◌++◌, length, map, Result, Ok, Err}
+use Rattle.std.specs.Prelude.{◌≡◌, ◌≢◌, ◌⊎◌, ◌+◌, ◌≤◌, ℕ, Bool, true, false, List, [], ◌++◌, length, map, Result, Ok}
+use Rattle.std.specs.Prelude.{Err}
 use Rattle.std.specs.List.{AllByRecursion}
 use Rattle.sqlite.specs.Store.{Ghosts}
 use Rattle.sqlite.specs.Held.{Held, state}
@@ -35,12 +36,14 @@ module _ {S : Type 0} (g : Ghosts S) (name : List ℕ) (from : ℕ) (ops : List 
     pub good : IsGood (log_of name docs ++ ops)
     pub writable : AllByRecursion (IsWritable 2) ops
     pub added : now ≡ add_log name ops docs
-    pub survives : Survives (state g old) (state g new) (λ db. (was : Content) → IsOpenWith was (state g old) → Holds (with_rows (rows_from name (from + 1) (map op_text ops)) was) db)
+    pub survives : Survives (state g old) (state g new) (λ db. (was : Content) → IsOpenWith was (state g old)
+        → Holds (with_rows (rows_from name (from + 1) (map op_text ops)) was) db)
 
   -- The database answered them too.
   pub record Stores : Type 0 where
     pub sent : Sends
-    pub shows : HasCleanDisk (state g new) → (was : Content) → IsOpenWith was (state g old) → IsOpenWith (with_rows (rows_from name (from + 1) (map op_text ops)) was) (state g new)
+    pub shows : HasCleanDisk (state g new) → (was : Content) → IsOpenWith was (state g old)
+        → IsOpenWith (with_rows (rows_from name (from + 1) (map op_text ops)) was) (state g new)
     pub ran : HasCleanDisk (state g new) → RanAll g (batch_of (rows_from name (from + 1) (map op_text ops))) old new
 
   -- The database answered one of them by an error.

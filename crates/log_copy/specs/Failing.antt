@@ -6,7 +6,8 @@ use Rattle.sqlite.specs.Held.{Held, state}
 use Rattle.sqlite.specs.State.{IsUnchanged}
 use Rattle.sqlite.specs.declared.error.Error.{Error}
 use Rattle.copy_schema.specs.Tables.{copy_schema, HasNeither, HasBoth}
-use Rattle.copy_tables.specs.Statements.{Statement, FailsFor, RunsTo, ShowsFor, StopsBy, making_of_tables, select_meta, update_format}
+use Rattle.copy_tables.specs.Statements.{Statement, FailsFor, RunsTo, ShowsFor, StopsBy, making_of_tables, select_meta}
+use Rattle.copy_tables.specs.Statements.{update_format}
 use Rattle.copy_rows.specs.Parsed.{IsMeta}
 
 module _ {S : Type 0} (g : Ghosts S) where
@@ -22,7 +23,8 @@ module _ {S : Type 0} (g : Ghosts S) where
   abbrev pub FailsToMake : Held S → Type 0
   FailsToMake old = (left : Held S) × FailsAmong making_of_tables old left
 
-  -- It answered `meta`, whose rows name a format and an epoch. No clause says by which error it then answered `entry`.
+  -- It answered `meta`, whose rows name a format and an epoch. No clause says by which error it
+  -- then answered `entry`.
   pub record HasReadMeta (old : Held S) : Type 0 where
     pub read : Held S
     pub rows : List Row
@@ -35,13 +37,15 @@ module _ {S : Type 0} (g : Ghosts S) where
   abbrev pub FailsToRead : Held S → Held S → Type 0
   FailsToRead old new = ((error : Error) × FailsFor g select_meta old new error) ⊎ HasReadMeta old
 
-  -- it failed to raise the format of tables that were read
+  -- it failed to migrate the format of tables that were read
   pub record FailsToRaise (old new : Held S) : Type 0 where
     pub read : Held S
     pub unchanged : (state g old).now.schema ≡ copy_schema → IsUnchanged (state g old) (state g read)
     pub failed : FailsAt (update_format 2) read new
 
-  -- where it had neither table, it failed to make them; where it had both, to read them or to raise their format
+  -- where it had neither table, it failed to make them; where it had both, to read them or to
+  -- migrate their format
   abbrev pub FailsToOpen : Held S → Held S → Type 0
   FailsToOpen old new =
-      (HasNeither (state g old).now.schema × FailsToMake old) ⊎ (HasBoth (state g old).now.schema × (FailsToRead old new ⊎ FailsToRaise old new))
+      (HasNeither (state g old).now.schema × FailsToMake old)
+      ⊎ (HasBoth (state g old).now.schema × (FailsToRead old new ⊎ FailsToRaise old new))

@@ -30,10 +30,12 @@ module _ {S : Type 0} (g : Ghosts S) where
   -- A crash leaves of the store what it left of the connection, or what that last committed.
   pub record KeepsCommit (old : Held S) (last : S) : Type 0 where
     pub was_clean : IsClean (g.view last) → IsClean (g.view old.store)
-    pub left : IsClean (g.view last) → (db : Trees) → g.recovers last db → g.recovers old.store db ⊎ (db ≡ (g.view old.store).committed)
+    pub left : IsClean (g.view last) → (db : Trees) → g.recovers last db → g.recovers old.store db
+        ⊎ (db ≡ (g.view old.store).committed)
 
 module _ {S : Type 0} (g : Ghosts S) (holds_alone : S → Trees → Type 0) where
-  -- The last commit of the connection is in the database file alone, and what was not committed is undone.
+  -- The last commit of the connection is in the database file alone, and what was not committed is
+  -- undone.
   pub record HasFolded (old : Held S) (last : S) : Type 0 where
     pub quiet : Quiets g old.store last
     pub fresh : IsClean (g.view last) → IsFresh (g.view last)

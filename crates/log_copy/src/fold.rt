@@ -13,16 +13,20 @@ use sqlite_trees::error::StoreError;
 use sqlite_trees::store::Store;
 use std::alloc::Global;
 
-/// A store of two files, a database and the log of its commits, that can copy the log into the database file.
+/// A store of two files, a database and the log of its commits, that can copy the log into the
+/// database file.
 pub trait Foldable: Alter {
     // The database file without its log holds these trees, as it reads now and after a crash.
     ghost holds_alone: { Self → Trees → Type 0 };
 
-    /// Rolls back, and copies the log into the database file. What was committed is then in that file alone.
+    /// Rolls back, and copies the log into the database file. What was committed is then in that
+    /// file alone.
     fn fold(&mut self) -> Result<(), StoreError>
         ensures open { OnOk result (IsClean (Self.Store.view self.new) → IsTrue (Self.Store.view self.new).is_open) }
-        ensures undone { OnOk result (IsClean (Self.Store.view self.new) → IsRolledBack (Self.Store.view self.old) (Self.Store.view self.new)) }
-        ensures folded { OnOk result (IsClean (Self.Store.view self.new) → IsTrue (Self.Store.view self.old).is_numbered → AreDatabases (Self.Store.recovers self.old)
+        ensures undone { OnOk result (IsClean (Self.Store.view self.new)
+            → IsRolledBack (Self.Store.view self.old) (Self.Store.view self.new)) }
+        ensures folded { OnOk result (IsClean (Self.Store.view self.new) → IsTrue (Self.Store.view self.old).is_numbered
+            → AreDatabases (Self.Store.recovers self.old)
             → holds_alone self.new (Self.Store.view self.new).committed) }
         // A crash leaves nothing that it did not leave before, whether this is answered or not.
         ensures quiet { IsQuiet Self.Store.view Self.Store.faults Self.Store.recovers Self.Store.is_shielded self.old self.new };
@@ -86,7 +90,8 @@ fn is_as_before<S: Alter>(conn: &Connection<S>, is_alone: bool) -> bool
     !is_alone || is_copy(conn.schema())
 }
 
-/// A connection over the same store, with its log copied into its database file meanwhile. A fault hands the store back.
+/// A connection over the same store, with its log copied into its database file meanwhile. A fault
+/// hands the store back.
 pub(crate) fn refolded<S: Foldable + Drop>(
     alloc: Global,
     conn: Connection<S>,

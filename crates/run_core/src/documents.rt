@@ -39,7 +39,7 @@ impl<M: Marker> Document for Seated<M> {
 
     ghost seat_of = { λ e. e };
 
-    fn number_of(seat: &Seat<M>) -> u64 {
+    fn seat_number(seat: &Seat<M>) -> u64 {
         seat.seat() as u64
     }
 

@@ -1,7 +1,7 @@
--- The initial logs of the documents of a table.
+-- What the documents of a table begin with.
 use Rattle.std.specs.Prelude.{◌≡◌, ℕ, List, []}
 use Rattle.op_core.specs.Op.{Op}
 
--- each is empty
+-- each with nothing
 abbrev pub BeginEmpty : (ℕ → List Op) → Type 0
-BeginEmpty initial_log = (number : ℕ) → initial_log number ≡ []
+BeginEmpty begun = (number : ℕ) → begun number ≡ []

@@ -10,7 +10,7 @@ use std::marker::{Brand, Model, PhantomData};
 pub trait Marker {
     ghost name: { ℕ };
 
-    /// The initial log of the document of each number. No counter depends on it: the documents of the table do.
+    /// With which operations the document of each number begins. No counter depends on it: the documents of the table do.
     ghost initial_log: { ℕ → List Op };
 }
 

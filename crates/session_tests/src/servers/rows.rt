@@ -7,7 +7,7 @@ use super::samples::{shared_documents, told_alone};
 use crate::told::{holds, is_told};
 use json_scalar::Refusal;
 use line_feed::{DeviceFault, Reader, Sink, Source, Writer};
-use server_core::{SharedDocuments, OpenGate, serve_session};
+use server_core::{OpenGate, SharedDocuments, serve_session};
 use session_rules::Ending;
 use share_ledger::{Blank, Marker};
 use std::alloc::Global;

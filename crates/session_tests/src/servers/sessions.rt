@@ -6,7 +6,7 @@ use super::samples::{NO_FAULT, THREE, TWO, first_did, run_two, serve_all, serve_
 use crate::told::holds;
 use json_scalar::Refusal;
 use server_core::doubles::Script;
-use server_core::{Gathered, SharedDocuments, OpenGate, Side, Signalled};
+use server_core::{Gathered, OpenGate, SharedDocuments, Side, Signalled};
 use share_ledger::{Blank, Marker};
 use std::alloc::{AllocError, Global};
 use std::marker::Brand;

@@ -6,7 +6,7 @@ use Rattle.locked_doc.proofs.gather.counts_of.Goals as goal
 
 pub loop-end-preserved : goal.loop-end-preserved
 loop-end-preserved g c =
-    c.in_ok-push.ensures.items ∙ (λ i. c.loop-end.invariant i ++ length (c.told.ensures i) ∷ [])
+    c.in_ok-push.ensures.items ∙ (λ i. c.loop-end.invariant i ++ length (c.acknowledged.ensures i) ∷ [])
     ∙ noted_read (λ (s : Seat). length s.told) c.args.ends.now c.loop-end.end-index c.end-item.result c.loop-end-test.true c.end-item.is
 
 pub returns-clause-ok : goal.returns-clause-ok

@@ -15,7 +15,7 @@ returns-in-Some g c = record {
   does =
       inl (opens_again (access_of (g.A.DocAccess.names c.args.access.now) g.A.DocAccess.opens g.A.DocAccess.acts g.A.DocAccess.reads)
       (known_by g.A.DocAccess.seat_view) c.args.opened.now.items c.as_slice.result.now c.as_slice.ensures.value c.args.number
-      (g.A.DocAccess.documents c.args.access.now) c.in-Some.index c.index.result.now c.number_of.result c.in-Some.ensures c.index.ensures c.number_of.ensures);
+      (g.A.DocAccess.documents c.args.access.now) c.in-Some.index c.index.result.now c.seat_number.result c.in-Some.ensures c.index.ensures c.seat_number.ensures);
   seats = c.requires.seats;
   names = refl;
 }

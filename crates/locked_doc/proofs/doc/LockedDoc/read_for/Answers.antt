@@ -10,14 +10,14 @@ use Rattle.locked_doc.proofs.doc.LockedDoc.read_for.Goals as goal
 pub returns-clause-answers : goal.returns-clause-answers
 returns-clause-answers g c =
     let d = c.self.inside in
-    let s = c.seat-of.result in
+    let s = c.seat-seat_number.result in
     let mine = rw (← c.self.view_is, ← c.seat.view_is) at c.requires in
-    let some : 0 < s = omega (arith, mine.1, c.seat-of.ensures) in
-    let within : s ≤ d.opened = omega (arith, mine.2, c.seat-of.ensures) in
+    let some : 0 < s = omega (arith, mine.1, c.seat-seat_number.ensures) in
+    let within : s ≤ d.opened = omega (arith, mine.2, c.seat-seat_number.ensures) in
     let book : c.index.result.now ≡ seat_counter d.number s (count_of s d.seats_of.items) =
     book_at d.number (document_of d.replica d.seats_of.items (length d.books.items) d.opened d.copied) d.books.items d.kept.items s c.index.result.now c.self.invariant.0 some within c.index.ensures in
     let share : c.seat.inside.share.count ≡ count_of c.seat.inside.share.seat d.seats_of.items =
-    sym (ap (λ (b : Counter). b.count) c.agree.ensures) ∙ (ap (λ (b : Counter). b.count) book ∙ ap (λ k. count_of k d.seats_of.items) c.seat-of.ensures) in
+    sym (ap (λ (b : Counter). b.count) c.agree.ensures) ∙ (ap (λ (b : Counter). b.count) book ∙ ap (λ k. count_of k d.seats_of.items) c.seat-seat_number.ensures) in
     rw (← c.self.view_is, ← c.seat.view_is)
     (record {
       reads = subst (λ n. MayAnswer d.replica n c.args.query c.read-reply.result) (c.count.ensures ∙ share) c.read-reply.ensures.answer;
@@ -26,7 +26,7 @@ returns-clause-answers g c =
       answer = record {
         same = (refl, refl);
         calls = ap (λ x. x.calls) c.count-2.ensures.calls;
-        of = (c.number-number.ensures, c.seat-of.ensures, ap (λ x. x.calls) c.count-2.ensures.stamp);
+        of = (c.number-number.ensures, c.seat-seat_number.ensures, ap (λ x. x.calls) c.count-2.ensures.stamp);
       };
     })
 

@@ -1,8 +1,8 @@
-//! Errors of the database in words.
+//! Messages for errors of the database.
 use sqlite::ErrorCode;
 
-/// The error in words, for who runs a server.
-pub fn words_of(code: ErrorCode) -> &'static str {
+/// The error as a message for who runs a server.
+pub fn message_of(code: ErrorCode) -> &'static str {
     match code {
         ErrorCode::DiskFull => "the disk is full",
         ErrorCode::SystemIoFailure => "an I/O error",

@@ -4,11 +4,11 @@ use Rattle.lamport_id.specs.declared.id.Id.{Id}
 use Rattle.op_core.specs.Op.{Op}
 use Rattle.doc_rules.specs.Seats.{operation_ids}
 use Rattle.locked_doc.proofs.Ends.{noted_read}
-use Rattle.locked_doc.proofs.steps.add_ids.Goals as goal
+use Rattle.locked_doc.proofs.act.add_ids.Goals as goal
 
 pub loop-op-preserved : goal.loop-op-preserved
 loop-op-preserved c =
-    let old = c.args.told.now.items in
+    let old = c.args.ids.now.items in
     let so_far = operation_ids (take c.loop-op.op-index c.args.ops.now) in
     let next = noted_read (λ (op : Op). op.id) c.args.ops.now c.loop-op.op-index c.op-item.result c.loop-op-test.true c.op-item.is in
     record {
@@ -20,4 +20,4 @@ loop-op-preserved c =
 
 pub returns : goal.returns
 returns c =
-    c.loop-op.invariant.ids ∙ ap (λ (ops : List Op). c.args.told.now.items ++ operation_ids ops) (take_all c.loop-op.op-index c.args.ops.now c.loop-op-test.false)
+    c.loop-op.invariant.ids ∙ ap (λ (ops : List Op). c.args.ids.now.items ++ operation_ids ops) (take_all c.loop-op.op-index c.args.ops.now c.loop-op-test.false)

@@ -1,4 +1,4 @@
-use Rattle.locked_doc.proofs.steps.note.Goals as goal
+use Rattle.locked_doc.proofs.act.credit_logged.Goals as goal
 
 pub credit-requires-clause-place : goal.credit-requires-clause-place
 credit-requires-clause-place g c = c.requires.place
