@@ -16,8 +16,8 @@ use share_ledger::{Blank, Marker, Table};
 use std::alloc::Global;
 use std::marker::Model;
 
-/// A table of counters from which documents of rising numbers are made, the first of number 0. Contracts see it as the number of the
-/// next one.
+/// A table of counters from which documents of rising numbers are made, the first of number 0.
+/// Contracts see it as the number of the next one.
 #[derive(Drop)]
 pub struct Ledger<M: Marker> {
     table: Table<M>,
@@ -42,7 +42,9 @@ fn with_counters<M: Marker>(
     ledgers: Ledgers<M>,
 ) -> Result<LockedDoc<M>, Refusal>
     requires { replica.log ≡ M.initial_log ledgers.number }
-    ensures made { IfOk result (λ doc. (doc.number ≡ ledgers.number) × (doc.document ≡ document_of replica (replicate (length replica.log) 0) ledgers.seats 0 (length replica.log))) }
+    ensures made { IfOk result (λ doc. (doc.number ≡ ledgers.number)
+        × (doc.document
+            ≡ document_of replica (replicate (length replica.log) 0) ledgers.seats 0 (length replica.log))) }
     ensures memory { IfErr result (λ cause. cause ≡ Refusal.NoMemory) }
 {
     match LockedDoc::new(alloc, replica, ledgers) {
@@ -59,7 +61,8 @@ fn replica_of(
 ) -> Result<Replica, Refusal>
     ensures made { IfOk result (λ replica. replica ≡ replica_of name.now operations.now []) }
     ensures good { OnOk result (IsGood operations.now) }
-    ensures err { IfErr result (λ cause. (cause ≡ Refusal.NoMemory) ⊎ ((place : ℕ) × IsFirstMisfit operations.now place cause)) }
+    ensures err { IfErr result (λ cause. (cause ≡ Refusal.NoMemory)
+        ⊎ ((place : ℕ) × IsFirstMisfit operations.now place cause)) }
     ensures memory { IfErr result (λ cause. IsGood operations.now → cause ≡ Refusal.NoMemory) }
 {
     match Replica::restore(alloc, *name, operations) {
@@ -92,8 +95,8 @@ impl<M: Marker> Ledger<M> {
         Ok(ledgers)
     }
 
-    /// A new document with so many seats, for the replica of this name, where the document of the next number begins with nothing.
-    /// The one error is `NoMemory`.
+    /// A new document with so many seats, for the replica of this name, where the document of the
+    /// next number begins with nothing. The one error is `NoMemory`.
     pub fn locked(
         &mut self,
         alloc: Global,
@@ -111,9 +114,9 @@ impl<M: Marker> Ledger<M> {
         with_counters(alloc, Replica::new(alloc, *name)?, ledgers)
     }
 
-    /// A document of these operations with so many seats, for the replica of this name. They are what the document of the next number
-    /// begins with, of seat 0, and noted as copied. An error is `NoMemory`, or the cause against the first that does not fit those
-    /// before it.
+    /// A document of these operations with so many seats, for the replica of this name. They are
+    /// what the document of the next number begins with, of seat 0, and noted as copied. An error
+    /// is `NoMemory`, or the cause against the first that does not fit those before it.
     pub fn restored(
         &mut self,
         alloc: Global,
@@ -123,9 +126,11 @@ impl<M: Marker> Ledger<M> {
     ) -> Result<LockedDoc<M>, Refusal>
         requires number { 1 ≤ greatest_number - self.old }
         requires begun { operations.now ≡ M.initial_log self.old }
-        ensures made { IfOk result (λ doc. (doc.number ≡ self.old) × (doc.document ≡ new_document name.now operations.now seats)) }
+        ensures made { IfOk result (λ doc. (doc.number ≡ self.old)
+            × (doc.document ≡ new_document name.now operations.now seats)) }
         ensures good { OnOk result (IsGood operations.now) }
-        ensures err { IfErr result (λ cause. (cause ≡ Refusal.NoMemory) ⊎ ((place : ℕ) × IsFirstMisfit operations.now place cause)) }
+        ensures err { IfErr result (λ cause. (cause ≡ Refusal.NoMemory)
+            ⊎ ((place : ℕ) × IsFirstMisfit operations.now place cause)) }
         ensures memory { IfErr result (λ cause. IsGood operations.now → cause ≡ Refusal.NoMemory) }
         ensures next { IfOk result (λ doc. self.new ≡ self.old + 1) }
         ensures room { greatest_number - self.old ≤ (greatest_number - self.new) + 1 }

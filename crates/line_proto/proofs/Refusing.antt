@@ -12,7 +12,6 @@ use Rattle.op_core.specs.Front.{is_ascending}
 use Rattle.op_core.specs.Op.{Op}
 use Rattle.op_core.specs.Reading.{Parts, front_of_json, is_long, op_from, op_from_parts, op_of, parts_of, path_len, shaped}
 use Rattle.op_core.specs.Shape.{first_cause, has_form, has_front, is_shallow}
-use Rattle.op_core.specs.Wire.{list_data}
 use Rattle.op_core.specs.Written.{ReadsOp}
 use Rattle.op_core.proofs.Wires.{as_array-Some, as_str-Some, front_of_json-front_data, ReadsFront-from_answer}
 use Rattle.op_core.proofs.Operations.{ReadsOp-from_answer}
@@ -20,7 +19,6 @@ use Rattle.line_proto.specs.Reading.{variable_from, expr_from, bare_request, pla
 use Rattle.line_proto.specs.Written.{asks, expr_data, is_start}
 use Rattle.line_proto.specs.Refused.{Putting, assigns, inserts, adds, putting_word, AsksToPut, AsksToDeliver, AsksForOperations, IsNoRequest, IsRefusedFor, IsLineRefusedFor}
 use Rattle.line_proto.specs.declared.request.CursorExpr.{CursorExpr}
-use Rattle.line_proto.specs.declared.request.DocRequest.{DocRequest}
 use Rattle.line_proto.specs.declared.request.DocRequest.TheVariants as ask
 use Rattle.line_proto.specs.declared.request.Request.{Request}
 use Rattle.line_proto.specs.declared.request.Request.TheVariants.{Of}
