@@ -35,7 +35,7 @@ impl<M: Marker> Model for Ledger<M> {
     ghost invariant = { λ l. l.table ≤ ledger_place l.next 0 };
 }
 
-/// The document of the replica, which has the counters.
+// The document of the replica, which has the counters.
 fn with_counters<M: Marker>(
     alloc: Global,
     replica: Replica,
@@ -44,7 +44,7 @@ fn with_counters<M: Marker>(
     requires { replica.log ≡ M.initial_log ledgers.number }
     ensures made { IfOk result (λ doc. (doc.number ≡ ledgers.number)
         × (doc.document
-            ≡ document_of replica (replicate (length replica.log) 0) ledgers.seats 0 (length replica.log))) }
+        ≡ document_of replica (replicate (length replica.log) 0) ledgers.seats 0 (length replica.log))) }
     ensures memory { IfErr result (λ cause. cause ≡ Refusal.NoMemory) }
 {
     match LockedDoc::new(alloc, replica, ledgers) {
@@ -53,7 +53,7 @@ fn with_counters<M: Marker>(
     }
 }
 
-/// The replica of this name whose log is these operations.
+// The replica of this name whose log is these operations.
 fn replica_of(
     alloc: Global,
     name: &ReplicaName,
@@ -84,7 +84,7 @@ impl<M: Marker> Ledger<M> {
         }
     }
 
-    /// The counters of the next document, one for each of so many seats.
+    // The counters of the next document, one for each of so many seats.
     fn counters(&mut self, alloc: Global, seats: u16) -> Result<Ledgers<M>, Refusal>
         requires { 1 ≤ greatest_number - self.old }
         ensures made { IfOk result (λ l. (l.number ≡ self.old) × (l.seats ≡ seats) × (self.new ≡ self.old + 1)) }

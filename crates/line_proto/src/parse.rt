@@ -18,7 +18,7 @@ use serde_json::Value;
 use std::alloc::Global;
 use std::str;
 
-/// The most operations that one request asks for.
+// The most operations that one request asks for.
 const MAX_LIMIT: u64 = 64;
 
 impl Request {

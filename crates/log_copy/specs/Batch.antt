@@ -28,7 +28,8 @@ is_store (Err Refused) = false
 is_store (Err Store) = true
 is_store (Err Memory) = false
 
-module _ {S : Type 0} (g : Ghosts S) (name : List ℕ) (from : ℕ) (ops : List Op) (old new : Held S) (docs now : List Doc) where
+module _ {S : Type 0} (g : Ghosts S) (name : List ℕ) (from : ℕ) (ops : List Op) (old new : Held S)
+    (docs now : List Doc) where
   -- The documents hold the batch, whose rows were sent to the database.
   pub record Sends : Type 0 where
     pub may : MayAdd name from ops docs
@@ -49,7 +50,8 @@ module _ {S : Type 0} (g : Ghosts S) (name : List ℕ) (from : ℕ) (ops : List 
   -- The database answered one of them by an error.
   pub record FailsToStore : Type 0 where
     pub sent : Sends
-    pub failed : HasCleanDisk (state g new) → FailsAmong g (batch_of (rows_from name (from + 1) (map op_text ops))) old new
+    pub failed : HasCleanDisk (state g new) → FailsAmong g (batch_of
+        (rows_from name (from + 1) (map op_text ops))) old new
 
   -- All is as it was.
   pub record IsLeft : Type 0 where

@@ -59,7 +59,7 @@ pub(crate) fn cause_of<T>(answer: &Result<T, Error>) -> Option<ErrorCode> {
     }
 }
 
-/// The code of an error of a store.
+// The code of an error of a store.
 fn store_code(error: &StoreError) -> ErrorCode {
     match error {
         StoreError::OutOfMemory => ErrorCode::OutOfMemory,
@@ -83,7 +83,7 @@ pub(crate) fn folded<S: Foldable + Drop>(conn: Connection<S>) -> Result<S, (Erro
     }
 }
 
-/// Whether the database has the tables of a copy, and no further ones, if it should.
+// Whether the database has the tables of a copy, and no further ones, if it should.
 fn is_as_before<S: Alter>(conn: &Connection<S>, is_alone: bool) -> bool
     ensures { IsTrue result → is_alone ≡ true → (state S.Store conn.now).now.schema ≡ copy_schema }
 {

@@ -8,13 +8,13 @@ use log::{Level, Log, log};
 use std::fmt::Display;
 use std::time::Clock;
 
-/// The time of a clock in whole seconds, if it has one.
+// The time of a clock in whole seconds, if it has one.
 fn time_of<R: Clock>(rt: &R) -> Option<Timestamp> {
     let now = Timestamp::now(rt).ok()?;
     Timestamp::from_second(now.as_second()).ok()
 }
 
-/// Writes a note behind the time. A clock without a time loses it.
+// Writes a note behind the time. A clock without a time loses it.
 fn note<R: Log + Clock, W: Display>(rt: &R, level: Level, what: &W) {
     if let Some(at) = time_of(rt) {
         log!(rt; target: "jcrdt", level, "{at} {what}");

@@ -26,7 +26,7 @@ short response out is never takes = let wrong : true ≡ false = sym takes ∙ a
 module _ {D : Type 0} (a : Access D)
     (acts_short : (old new : D) (number : ℕ) (s t : KnownSeat) (command : Command) (reply : Reply) → a.acts old number s command reply new t → needs_heap reply ≡ false)
     (s t : Session D) (response : LineReply) (takes : line_needs_heap response ≡ true) where
-  -- a reply that takes memory is handed on
+  -- a reply that takes memory is flushed
   binds_nothing : (old new : List (List ℕ × Cursor)) (name : List ℕ) (reply : Reply) → Binds old name reply response new → new ≡ old
   binds_nothing old new name (Resolved c) binds = go (has_room name old) binds
     where

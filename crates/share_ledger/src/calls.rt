@@ -21,8 +21,8 @@ impl Model for Calls {
     ghost invariant = { λ c. 0 < c.rest.next };
 }
 
-/// Which call of a line it was, from 1. A 0 is of no call. It can't be copied, it takes no bytes, and only `Calls::count` makes
-/// one of a call.
+/// Which call of a line it was, from 1. A 0 is of no call. It can't be copied, it takes no bytes, and only
+/// `Calls::count` makes one of a call.
 #[derive(Drop)]
 pub struct Stamp {
     half: Half,

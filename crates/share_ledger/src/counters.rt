@@ -5,12 +5,14 @@ ghost use Rattle.share_ledger.specs.Counters.{seat_counter, ledger_place, IsSame
 use crate::halves::{Half, Rest};
 use std::marker::{Brand, Model, PhantomData};
 
-/// Which table a counter is of. A type that is a marker ties the books of a program to its shares: `Book<M>` and `Share<M>` are of
-/// the one table that `M` names. It has no member at run time, and a caller that makes a table picks the name by `Brand`.
+/// Which table a counter is of. A type that is a marker ties the books of a program to its shares: `Book<M>`
+/// and `Share<M>` are of the one table that `M` names. It has no member at run time, and a caller that makes
+/// a table picks the name by `Brand`.
 pub trait Marker {
     ghost name: { ℕ };
 
-    /// With which operations the document of each number begins. No counter depends on it: the documents of the table do.
+    /// With which operations the document of each number begins. No counter depends on it: the documents of
+    /// the table do.
     ghost initial_log: { ℕ → List Op };
 }
 
@@ -36,8 +38,8 @@ impl Model for Blank {
     ghost invariant = { λ b. b.rest.next ≡ 0 };
 }
 
-/// The places that are not opened yet, in the order of `ledger_place`: by document number, then by seat. Contracts see it as the first
-/// place of which that is known. It takes no bytes.
+/// The places that are not opened yet, in the order of `ledger_place`: by document number, then by seat.
+/// Contracts see it as the first place of which that is known. It takes no bytes.
 #[derive(Drop)]
 pub struct Table<M: Marker> {
     rest: Rest,
@@ -72,7 +74,8 @@ impl<M: Marker> Model for Book<M> {
 
     ghost view = { λ b. seat_counter b.number b.seat b.count };
 
-    ghost invariant = { λ b. (b.half.table ≡ M.name) × (b.half.place ≡ ledger_place b.number b.seat) × (b.half.count ≡ b.count) };
+    ghost invariant = { λ b. (b.half.table ≡ M.name) × (b.half.place ≡ ledger_place b.number b.seat)
+        × (b.half.count ≡ b.count) };
 }
 
 /// The half of a counter that a seat keeps. It can't be copied, and its count changes by `Book::credit` alone.
@@ -93,7 +96,8 @@ impl<M: Marker> Model for Share<M> {
 
     ghost view = { λ s. seat_counter s.number s.seat s.count };
 
-    ghost invariant = { λ s. (s.half.table ≡ M.name) × (s.half.place ≡ ledger_place s.number s.seat) × (s.half.count ≡ s.count) };
+    ghost invariant = { λ s. (s.half.table ≡ M.name) × (s.half.place ≡ ledger_place s.number s.seat)
+        × (s.half.count ≡ s.count) };
 }
 
 impl Blank {
@@ -116,8 +120,8 @@ impl Blank {
 }
 
 impl<M: Marker> Table<M> {
-    /// Two halves of one counter at 0, at the place of a document number and a seat, which comes after every opened place. So no
-    /// third half of a place is ever made. It takes no memory.
+    /// Two halves of one counter at 0, at the place of a document number and a seat, which comes after every
+    /// opened place. So no third half of a place is ever made. It takes no memory.
     pub fn open(&mut self, number: u16, seat: u16) -> (Book<M>, Share<M>)
         requires { self.old ≤ ledger_place number seat }
         ensures table { self.new ≡ ledger_place number seat + 1 }
@@ -166,7 +170,8 @@ impl<M: Marker> Book<M> {
         self.count
     }
 
-    /// Raises both halves of one counter by the amount; their sum stays below 2^64. It tells that they had one count before.
+    /// Raises both halves of one counter by the amount; their sum stays below 2^64. It tells that they had
+    /// one count before.
     pub fn credit(&mut self, share: &mut Share<M>, amount: u64)
         requires place { IsSamePlace self.old share.old }
         requires fits { self.old.count + amount < 2 ^ 64 }
