@@ -1,4 +1,4 @@
--- What a list of operations says, however it is replayed.
+-- The facts and roles of a list of operations, however it is replayed.
 use Rattle.std.specs.Prelude.{◌≡◌, List, Bool, false, Option, Some, None}
 use Rattle.doc_words.specs.Words.{Id, Key, Tagged, Op}
 use Rattle.op_core.specs.Equality.{operation_eq}
@@ -18,10 +18,11 @@ pub record AreFactsOfEach (ops : List Op) (f : Facts) : Type 0 where
   pub set : AreFactsOf ops f
   pub orders : (order : List Op) → IsCausalOrder ops order → f ≡ facts (replay order)
 
--- each present id has its role, whichever causal order of the operations it is told from
+-- each present id has its role, by whichever causal order of the operations
 abbrev pub AreRolesOfEach : List Op → (List Tagged → Key → Id → Option Role) → Type 0
 AreRolesOfEach ops roles =
-    (order : List Op) → IsCausalOrder ops order → (p : List Tagged) (k : Key) (i : Id) → roles p k i ≡ roles_of (facts (replay order)) order p k i
+    (order : List Op) → IsCausalOrder ops order
+    → (p : List Tagged) (k : Key) (i : Id) → roles p k i ≡ roles_of (facts (replay order)) order p k i
 
 -- two good lists of one set of operations
 pub record Agree (ops others : List Op) : Type 0 where
@@ -37,7 +38,7 @@ is_it op (Some found) = operation_eq found op
 abbrev pub holds : List Op → Op → Bool
 holds ops op = is_it op (find_id ops op.id)
 
--- two good logs, in which what the front of either covers of the other's operations stands in both, and which are together
+-- two good logs, in which what the front of either covers of the other's operations is in both, and which are together
 -- within the limits of a log
 pub record MayPull (log other : List Op) : Type 0 where
   pub good : IsGood log

@@ -12,8 +12,8 @@ use op_core::Operation;
 use op_log::OpLog;
 use std::alloc::Global;
 
-/// Whether each operation of both lists fits those before it, and both hold the same set of operations. Then both make the
-/// same facts. Refused for want of memory alone (22).
+/// Whether each operation of both lists fits those before it, and both hold the same set of operations.
+/// Then both make the same facts. The only error is out of memory (22).
 pub fn orders_agree(alloc: Global, ops: &[Operation], others: &[Operation]) -> Result<bool, Refusal>
     ensures agree { IfOk result (λ agree. IsTrue agree ↔ Agree ops.now others.now) }
     ensures facts { IfOk result (λ agree. IsTrue agree → facts (replay ops.now) ≡ facts (replay others.now)) }

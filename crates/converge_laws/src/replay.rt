@@ -14,19 +14,22 @@ use op_core::Operation;
 use op_log::OpLog;
 use std::alloc::Global;
 
-/// The tree of a list each of whose operations fits those before it. Its facts are those of every causal order of the
-/// operations, and those that the set of them has without any order; and each id that makes a place present has the role there
-/// that its operation gives it, in every causal order: so it tells `{}` from `[]`.
+/// The tree of a list each of whose operations fits those before it. Its facts are those of every causal
+/// order of the operations, and those that the set of them has without any order. Each id that makes a
+/// place present has the role there that its operation gives it, in every causal order: so `{}` differs
+/// from `[]`.
 ///
-/// Of another list it is refused for the cause against the first operation that doesn't fit: its id stands twice (15), a
-/// front id isn't logged before or that operation's front isn't at most this one (13), its replica's chain forks (14), its
-/// cursor names an element that it doesn't know (7), or the list has passed 100,000 operations (18) or 256 replicas (19).
-/// Whose name the operations bear isn't looked at. 22 for want of memory.
+/// For another list the error is the cause against the first operation that doesn't fit: its id is
+/// logged before (15), a front id isn't logged before or that operation's front isn't at most this one
+/// (13), its replica's chain forks (14), its cursor names an element that it doesn't know (7), or the
+/// list has passed 100,000 operations (18) or 256 replicas (19). Whose name the operations bear isn't
+/// looked at. 22 is out of memory.
 pub fn replay_all(alloc: Global, ops: &[Operation]) -> Result<Tree, Refusal>
     ensures replayed { IfOk result (λ tree. AreFactsOfEach ops.now (tree_facts tree)) }
     ensures roles { IfOk result (λ tree. AreRolesOfEach ops.now (tree_role tree)) }
     ensures misfit { IfErr result (λ cause. cause ≢ NoMemory → (place : ℕ) × IsFirstMisfit ops.now place cause) }
 {
+    // frees the log before the tree grows
     drop(log_of(alloc, ops)?);
     grown(alloc, ops)
 }
@@ -50,22 +53,11 @@ fn log_next(log: &mut OpLog, op: &Operation) -> Result<(), Refusal>
     ensures fits { IsOk result → Fits op.now log.old.operations }
     ensures misfit { IfErr result (λ cause. cause ≢ NoMemory → misfit_of op.now log.old.operations ≡ Err cause) }
 {
-    misfit(log, op)?;
-    let copy = op.try_clone()?;
+    log.check_next(op)?;
+    let clone = op.try_clone()?;
     log.reserve(1)?;
-    log.append(copy);
+    log.append(clone);
     Ok(())
-}
-
-/// The first cause against an operation as the next of a log.
-fn misfit(log: &OpLog, op: &Operation) -> Result<(), Refusal>
-    ensures cause { result ≡ misfit_of op.now log.now.operations }
-    ensures fits { IsOk result → Fits op.now log.now.operations }
-{
-    if log.contains(op.id()) {
-        return Err(Refusal::IdConflict);
-    }
-    log.check(op)
 }
 
 /// The tree that a good list makes.

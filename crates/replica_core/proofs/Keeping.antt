@@ -17,9 +17,9 @@ use Rattle.replica_core.specs.Whole.{IsWhole, replica_of}
 -- with a good log, and nothing held
 pub whole_log : (name : List ℕ) (tree : TreeValue) (log : List Op) (buffer : Buffer) → is_name name ≡ true → AgreesWith tree log → IsCurrent buffer log
     → IsGood log → buffer.held ≡ [] → IsWhole name tree log buffer
-whole_log name tree log buffer named tells current good none = record {
+whole_log name tree log buffer named agrees current good none = record {
   named = named;
-  tells = tells;
+  agrees = agrees;
   current = current;
   kept = subst (λ h. IsKept (replica_of name log h)) (sym none)
       (record {
@@ -36,14 +36,14 @@ whole_log name tree log buffer named tells current good none = record {
 pub whole_next : (name : List ℕ) (tree tree' : TreeValue) (log log' : List Op) (buffer buffer' : Buffer) (command : Command) (answer : Reply)
     → IsWhole name tree log buffer → AgreesWith tree' log' → IsCurrent buffer' log' → IsWellMade command
     → Event (replica_of name log buffer.held) command answer (replica_of name log' buffer'.held) → IsWhole name tree' log' buffer'
-whole_next name tree tree' log log' buffer buffer' command answer whole tells current made event = record {
+whole_next name tree tree' log log' buffer buffer' command answer whole agrees current made event = record {
   named = whole.named;
-  tells = tells;
+  agrees = agrees;
   current = current;
   kept = event_keeps (replica_of name log buffer.held) (replica_of name log' buffer'.held) command answer whole.named made whole.kept event;
 }
 
 pub whole_empty : (name : List ℕ) (tree : TreeValue) (log : List Op) (buffer : Buffer) → is_name name ≡ true → AgreesWith tree [] → log ≡ []
     → IsCurrent buffer [] → buffer.held ≡ [] → IsWhole name tree log buffer
-whole_empty name tree log buffer named tells empty current none =
-    subst (λ l. IsWhole name tree l buffer) (sym empty) (whole_log name tree [] buffer named tells current tt none)
+whole_empty name tree log buffer named agrees empty current none =
+    subst (λ l. IsWhole name tree l buffer) (sym empty) (whole_log name tree [] buffer named agrees current tt none)

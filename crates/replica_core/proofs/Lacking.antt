@@ -1,4 +1,4 @@
--- Where a replica tells want of memory.
+-- Where a replica is out of memory.
 use Rattle.std.proofs.Common.{◌≡◌, ◌≢◌, inl, inr, Bool, true, false, Ok, sym, ◌∙◌}
 use Rattle.doc_words.specs.Words.{UnlessMemory, NoMemory, Op}
 use Rattle.doc_words.specs.declared.ask.Command.TheVariants as command
@@ -12,7 +12,7 @@ use Rattle.doc_rules.proofs.Tables.{by_rows}
 use Rattle.replica_core.specs.Memory.{NeedsMemory, MayLack}
 use Rattle.replica_core.specs.Outcomes.{Meets}
 
--- what is answered was due
+-- what is answered was expected
 pub answered : {X : Type 0} {x y : X} → UnlessMemory {A = X} (Ok x) (Ok y) → x ≡ y
 answered h = ok_same (h (λ e. ok≢err (sym e)))
 
@@ -20,18 +20,18 @@ pub event_from : (r : Replica) (op : Op) (answer : Reply) (s : Replica) → Meet
 event_from r op answer s (inl does) = inl does
 event_from r op answer s (inr lacks) = inr lacks.1
 
--- no want of memory is due
-by_cause_told : (knows chain cursor operations replicas : Bool) (last : _) (op : Op)
+-- out of memory is never expected
+never_memory_by_cause : (knows chain cursor operations replicas : Bool) (last : _) (op : Op)
     → expected_by_cause (first_fit_cause knows chain cursor operations replicas last) op ≢ replied (reply.Refused NoMemory)
-by_cause_told false chain cursor operations replicas last op e = absurd (cc)
-by_cause_told true false cursor operations replicas last op e = absurd (cc)
-by_cause_told true true false operations replicas last op e = absurd (cc)
-by_cause_told true true true false replicas last op e = absurd (cc)
-by_cause_told true true true true false last op e = absurd (cc)
-by_cause_told true true true true true last op e = absurd (cc)
+never_memory_by_cause false chain cursor operations replicas last op e = absurd (cc)
+never_memory_by_cause true false cursor operations replicas last op e = absurd (cc)
+never_memory_by_cause true true false operations replicas last op e = absurd (cc)
+never_memory_by_cause true true true false replicas last op e = absurd (cc)
+never_memory_by_cause true true true true false last op e = absurd (cc)
+never_memory_by_cause true true true true true last op e = absurd (cc)
 
-delivered_told : (r : Replica) (op : Op) → expected_of_delivery r op ≢ replied (reply.Refused NoMemory)
-delivered_told r op =
+never_memory : (r : Replica) (op : Op) → expected_of_delivery r op ≢ replied (reply.Refused NoMemory)
+never_memory r op =
     by_rows (λ due. due ≢ replied (reply.Refused NoMemory)) (delivered_rows r op) (expected_by_cause (cause_of op r.log) op) (
       (λ is e. absurd (cc)),
       λ other. (
@@ -47,7 +47,7 @@ delivered_told r op =
                 λ other. (
                   (λ is e. absurd (cc)),
                   λ other.
-                      by_cause_told _ _ _ _ _ _ op,
+                      never_memory_by_cause _ _ _ _ _ _ op,
                 ),
               ),
             ),
@@ -56,7 +56,7 @@ delivered_told r op =
       ),
     )
 
--- so where it is told, something grows
+-- so where it is the answer, something grows
 meets_grows : (r : Replica) (due : Expected) (answer : Reply) (s : Replica) → due ≢ replied (reply.Refused NoMemory) → answer ≡ reply.Refused NoMemory → Meets r due answer s → NeedsMemory due
 meets_grows r due answer s other lacks (inr grows) = grows.0
 meets_grows r (replied x) answer s other lacks (inl does) = absurd (other (λ i. replied ((sym does.0 ∙ lacks) i)))
@@ -65,4 +65,4 @@ meets_grows r (logged op) answer s other lacks (inl does) = tt
 
 pub deliver_lacks : (r : Replica) (op : Op) (answer : Reply) (s : Replica) → answer ≡ reply.Refused NoMemory
     → Meets r (expected_of_delivery r op) answer s → MayLack r (command.Deliver op)
-deliver_lacks r op answer s lacks met = meets_grows r (expected_of_delivery r op) answer s (delivered_told r op) lacks met
+deliver_lacks r op answer s lacks met = meets_grows r (expected_of_delivery r op) answer s (never_memory r op) lacks met

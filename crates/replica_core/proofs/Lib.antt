@@ -1,4 +1,4 @@
-pub mod Telling
+pub mod Knowing
 pub mod Draining
 pub mod Meeting
 pub mod Lacking

@@ -20,10 +20,10 @@ use Rattle.doc_rules.proofs.Looks.{look_answers}
 use Rattle.replica_core.specs.AgreesWith.{AgreesWith}
 use Rattle.replica_core.specs.Whole.{replica_of}
 
--- a reader's answer is told as a look's, unless memory is wanting
-pub told_here : {X : Type 0} (reads : List Tagged → Key → X → Type 0) (tell : X → Reply) (c : Cursor) (r : Result X Refusal) → view.ReadsUnlessMemory reads c r
+-- the reply made of a reader's answer is a look's, unless out of memory
+pub reading_answered : {X : Type 0} (reads : List Tagged → Key → X → Type 0) (tell : X → Reply) (c : Cursor) (r : Result X Refusal) → view.ReadsUnlessMemory reads c r
     → (reply_with tell r ≡ reply.Refused NoMemory) ⊎ ReadsHere reads tell c (reply_with tell r)
-told_here {X} reads tell c r h = by (is_head c.key) refl r h
+reading_answered {X} reads tell c r h = by (is_head c.key) refl r h
   where
     by : (b : Bool) → is_head c.key ≡ b → (r : Result X Refusal) → MatchBool b (r ≡ Err AtHead) (view.GivesUnlessMemory (reads c.path c.key) r)
         → (reply_with tell r ≡ reply.Refused NoMemory) ⊎ ReadsHere reads tell c (reply_with tell r)
@@ -32,16 +32,16 @@ told_here {X} reads tell c r h = by (is_head c.key) refl r h
     by false e (Err cause) h = inl (ap reply.Refused h)
 
 -- a look where the steps lead
-pub look_told : (name : List ℕ) (log held : List Op) (mine : ℕ) (tree : TreeValue) → AgreesWith tree log → IsGood log → (look : Look) (place : Place) (c : Cursor)
+pub look_answered : (name : List ℕ) (log held : List Op) (mine : ℕ) (tree : TreeValue) → AgreesWith tree log → IsGood log → (look : Look) (place : Place) (c : Cursor)
     (answer : Reply) → Resolves (tree_facts tree) place.start place.steps (Ok c)
     → (answer ≡ reply.Refused NoMemory) ⊎ LooksHere (tree_facts tree) (tree_values tree) look c answer
     → MayAnswer (replica_of name log held) mine (query.Look look place) answer
-look_told name log held mine tree tells good look place c answer leads (inl memory) = inr memory
-look_told name log held mine tree tells good look place c answer leads (inr here) =
-    inl (look_answers (replica_of name log held) mine (tree_facts tree) (tree_role tree) good tells look place (Ok c) answer leads here)
+look_answered name log held mine tree agrees good look place c answer leads (inl memory) = inr memory
+look_answered name log held mine tree agrees good look place c answer leads (inr here) =
+    inl (look_answers (replica_of name log held) mine (tree_facts tree) (tree_role tree) good agrees look place (Ok c) answer leads here)
 
 -- where the steps lead
-pub resolve_told : (name : List ℕ) (log held : List Op) (mine : ℕ) (tree : TreeValue) → AgreesWith tree log → (place : Place) (c : Cursor)
+pub resolve_answered : (name : List ℕ) (log held : List Op) (mine : ℕ) (tree : TreeValue) → AgreesWith tree log → (place : Place) (c : Cursor)
     → Resolves (tree_facts tree) place.start place.steps (Ok c) → MayAnswer (replica_of name log held) mine (query.Resolve place) (reply.Resolved c)
-resolve_told name log held mine tree tells place c leads =
-    inl (Ok c, subst (λ f. Resolves f place.start place.steps (Ok c)) tells.facts_are leads, refl)
+resolve_answered name log held mine tree agrees place c leads =
+    inl (Ok c, subst (λ f. Resolves f place.start place.steps (Ok c)) agrees.facts_are leads, refl)

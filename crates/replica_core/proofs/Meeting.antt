@@ -1,4 +1,4 @@
--- How what is due comes about.
+-- How the expected outcome comes about.
 use Rattle.std.proofs.Common.{◌≡◌, ◌<◌, ◌≤◌, inl, inr, ℕ, suc, le-leb, leb-true, arith, List, [], ◌∷◌, length, nat_le, Bool, true, false, true≢false, not, ◌&&◌, bytes_eq, Option, Some, None, Result, Ok, Err, if◌then◌else◌, refl, sym, ap, subst, ◌∙◌}
 use Rattle.std.specs.Prelude.{⊤, IfOk, IfErr, OnErr, is_some}
 use Rattle.std.proofs.lemmas.Bool.{false_from_ne_true}
@@ -15,7 +15,7 @@ use Rattle.doc_rules.specs.Events.{Expected, replied, held, logged, Settles, no,
 use Rattle.doc_rules.specs.Replica.{Replica, Drains, append, find_id}
 use Rattle.replica_core.specs.declared.outcome.Applied.{Applied}
 use Rattle.replica_core.specs.Memory.{NeedsMemory}
-use Rattle.replica_core.specs.Outcomes.{Meets, told_applied}
+use Rattle.replica_core.specs.Outcomes.{Meets, reply_of_applied}
 use Rattle.replica_core.specs.Whole.{replica_of}
 
 pub same_replica : (name : List ℕ) {log log' waiting waiting' : List Op} → log' ≡ log → waiting' ≡ waiting → replica_of name log' waiting' ≡ replica_of name log waiting
@@ -118,7 +118,7 @@ module _ (r : Replica) (op : Op) (new : find_id r.log op.id ≡ None) (unheld : 
       by false true h e = absurd (true≢false (sym e))
       by false false h e = refl
 
--- what is due, under another name
+-- the expected outcome, under another name
 pub meets_as : (r : Replica) (due other : Expected) (answer : Reply) (s : Replica) → due ≡ other → Meets r due answer s → Meets r other answer s
 meets_as r due other answer s is h = subst (λ d. Meets r d answer s) is h
 
@@ -126,7 +126,7 @@ meets_as r due other answer s is h = subst (λ d. Meets r d answer s) is h
 pub meets_outcome : (name : List ℕ) (log log' waiting waiting' : List Op) (op : Op) (answer : Result Applied Refusal)
     → IfOk answer (λ a. (n : ℕ) × (a.count ≡ suc n) × (a.id ≡ op.id) × Drains (append op (replica_of name log waiting)) n a.dropped (replica_of name log' waiting'))
     → IfErr answer (λ e. e ≡ NoMemory) → OnErr answer (log' ≡ log) → OnErr answer (waiting' ≡ waiting)
-    → Meets (replica_of name log waiting) (logged op) (told_applied answer) (replica_of name log' waiting')
+    → Meets (replica_of name log waiting) (logged op) (reply_of_applied answer) (replica_of name log' waiting')
 meets_outcome name log log' waiting waiting' op (Ok a) ok err l h = inl (meets_logged (replica_of name log waiting) op a (replica_of name log' waiting') ok)
 meets_outcome name log log' waiting waiting' op (Err e) ok err l h =
     meets_lacking (replica_of name log waiting) (logged op) e (replica_of name log' waiting') tt err (same_replica name l h)

@@ -7,33 +7,28 @@ use Rattle.std.specs.Prelude.{⊤}
 use Rattle.json_scalar.specs.Refusal.{and_then}
 use Rattle.doc_words.specs.Words.{Refusal, NoMemory, Id, Cursor, Mutation, Op}
 use Rattle.json_scalar.specs.declared.refusal.Refusal.TheVariants.{NotHeld, NotInList, AtHead, LogFull, TooManyReplicas}
-use Rattle.op_core.specs.Shape.{is_shaped, shape_of}
-use Rattle.op_core.proofs.Shapes.{shape_of-shaped}
 use Rattle.doc_words.specs.declared.reply.Reply.{Reply}
 use Rattle.doc_words.specs.declared.ask.Command.TheVariants as command
 use Rattle.doc_words.specs.declared.place.Place.{Place}
 use Rattle.doc_rules.specs.Cause.{first_fit_cause}
 use Rattle.doc_rules.specs.Events.{logged, no, first_row, expected_by_cause, expected_at_place, Does, Event, Forgets}
 use Rattle.doc_rules.specs.Resolve.{Resolves}
-use Rattle.replica_core.specs.Outcomes.{Meets, place_told, told_forgotten}
+use Rattle.replica_core.specs.Outcomes.{Meets, first_place_cause, reply_of_forgotten}
 use Rattle.doc_rules.specs.Replica.{Replica, replica_facts, find_id}
 
 -- the first cause against a change, by the place and then by the room
 pub changed_by_causes : (listed at_head operations replicas : Bool) (op : Op)
     → first_row ((listed, no NotInList) ∷ (at_head, no AtHead) ∷ (not operations, no LogFull) ∷ (not replicas, no TooManyReplicas) ∷ []) (logged op)
-    ≡ expected_by_cause (and_then (place_told listed at_head) (λ _. first_fit_cause true true true operations replicas 0)) op
+    ≡ expected_by_cause (and_then (first_place_cause listed at_head) (λ _. first_fit_cause true true true operations replicas 0)) op
 changed_by_causes true at_head operations replicas op = refl
 changed_by_causes false true operations replicas op = refl
 changed_by_causes false false false replicas op = refl
 changed_by_causes false false true false op = refl
 changed_by_causes false false true true op = refl
 
-pub shaped_ok : (op : Op) → is_shaped op ≡ true → and_then (shape_of op) (λ _. Ok op) ≡ Ok op
-shaped_ok op h = ap (λ (r : Result ⊤ Refusal). and_then r (λ _. Ok op)) (shape_of-shaped op h)
+-- ---- held operations that are dropped
 
--- ---- held operations that are given up
-
--- nothing is let go of an id that is not held
+-- nothing is dropped for an id that is not held
 kept_all : (ops : List Op) (i : Id) → find_id ops i ≡ None → filter (λ o. not (id_eq o.id i)) ops ≡ ops
 kept_all [] i h = refl
 kept_all (o ∷ ops) i h = by (id_eq o.id i) h (λ h. kept_all ops i h)
@@ -43,21 +38,21 @@ kept_all (o ∷ ops) i h = by (id_eq o.id i) h (λ h. kept_all ops i h)
     by true h ih = absurd (some≢none h)
     by false h ih = ap (λ l. o ∷ l) (ih h)
 
--- the one of its id is let go
+-- the one of its id is dropped
 pub forgets_held : (name : List ℕ) (log waiting waiting' : List Op) (i : Id) (op : Op) (answer : Result ⊤ Refusal) → answer ≡ Ok tt → Some op ≡ find_id waiting i
     → waiting' ≡ filter (λ z. not (id_eq z.id i)) waiting
-    → Does (replica_of name log waiting) (command.Forget i) (told_forgotten answer) (replica_of name log waiting')
+    → Does (replica_of name log waiting) (command.Forget i) (reply_of_forgotten answer) (replica_of name log waiting')
 forgets_held name log waiting waiting' i op answer answered is same =
-    subst (λ (o : Option Op). Forgets (replica_of name log waiting) i o (told_forgotten answer) (replica_of name log waiting')) is
-    (ap told_forgotten answered, (λ j. replica_of name log (same j)))
+    subst (λ (o : Option Op). Forgets (replica_of name log waiting) i o (reply_of_forgotten answer) (replica_of name log waiting')) is
+    (ap reply_of_forgotten answered, (λ j. replica_of name log (same j)))
 
 -- and where there is none, nothing changes
 pub forgets_none : (name : List ℕ) (log waiting waiting' : List Op) (i : Id) (answer : Result ⊤ Refusal) → answer ≡ Err NotHeld → None ≡ find_id waiting i
     → waiting' ≡ filter (λ z. not (id_eq z.id i)) waiting
-    → Does (replica_of name log waiting) (command.Forget i) (told_forgotten answer) (replica_of name log waiting')
+    → Does (replica_of name log waiting) (command.Forget i) (reply_of_forgotten answer) (replica_of name log waiting')
 forgets_none name log waiting waiting' i answer answered is same =
-    subst (λ (o : Option Op). Forgets (replica_of name log waiting) i o (told_forgotten answer) (replica_of name log waiting')) is
-    (ap told_forgotten answered, (λ j. replica_of name log ((same ∙ kept_all waiting i (sym is)) j)))
+    subst (λ (o : Option Op). Forgets (replica_of name log waiting) i o (reply_of_forgotten answer) (replica_of name log waiting')) is
+    (ap reply_of_forgotten answered, (λ j. replica_of name log ((same ∙ kept_all waiting i (sym is)) j)))
 
 -- ---- a change at a place
 

@@ -1,4 +1,4 @@
--- Where out of memory may be answered.
+-- Where a replica may be out of memory.
 use Rattle.doc_words.specs.declared.ask.Command.{Command}
 use Rattle.doc_words.specs.declared.ask.Command.TheVariants.{Change, Deliver, Forget}
 use Rattle.doc_words.specs.declared.reply.Reply.TheVariants.{Held}
@@ -12,7 +12,7 @@ NeedsMemory (replied _) = ⊥
 NeedsMemory (held op) = Unit {0}
 NeedsMemory (logged op) = Unit {0}
 
--- A command may lack memory only where something grows. The way to a place is made before its change is looked at.
+-- A command may be out of memory only where something grows. The way to a place is made before its change is looked at.
 abbrev pub MayLack : Replica → Command → Type 0
 MayLack r (Change place m) = Unit {0}
 MayLack r (Deliver op) = NeedsMemory (expected_of_delivery r op)

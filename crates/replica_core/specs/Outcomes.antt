@@ -1,4 +1,4 @@
--- What a replica's answers are told as.
+-- The replies made of a replica's answers.
 use Rattle.std.specs.Prelude.{◌⊎◌, Bool, true, false, Result, Ok, Err, ⊤}
 use Rattle.json_scalar.specs.declared.refusal.Refusal.{Refusal}
 use Rattle.json_scalar.specs.declared.refusal.Refusal.TheVariants.{AtHead, NotInList}
@@ -11,26 +11,26 @@ use Rattle.replica_core.specs.declared.outcome.Applied.{Applied}
 use Rattle.replica_core.specs.declared.outcome.Delivered.{Delivered}
 use Rattle.replica_core.specs.declared.outcome.Delivered.TheVariants as delivered
 
-abbrev pub told_applied : Result Applied Refusal → Reply
-told_applied (Ok a) = reply.Applied a.count a.dropped a.id
-told_applied (Err cause) = reply.Refused cause
+abbrev pub reply_of_applied : Result Applied Refusal → Reply
+reply_of_applied (Ok a) = reply.Applied a.count a.dropped a.id
+reply_of_applied (Err cause) = reply.Refused cause
 
-abbrev pub told_delivered : Result Delivered Refusal → Reply
-told_delivered (Ok (delivered.Applied a)) = reply.Applied a.count a.dropped a.id
-told_delivered (Ok delivered.Known) = reply.Known
-told_delivered (Ok (delivered.Held ids)) = reply.Held ids
-told_delivered (Err cause) = reply.Refused cause
+abbrev pub reply_of_delivered : Result Delivered Refusal → Reply
+reply_of_delivered (Ok (delivered.Applied a)) = reply.Applied a.count a.dropped a.id
+reply_of_delivered (Ok delivered.Known) = reply.Known
+reply_of_delivered (Ok (delivered.Held ids)) = reply.Held ids
+reply_of_delivered (Err cause) = reply.Refused cause
 
-abbrev pub told_forgotten : Result ⊤ Refusal → Reply
-told_forgotten (Ok _) = reply.Forgotten
-told_forgotten (Err cause) = reply.Refused cause
+abbrev pub reply_of_forgotten : Result ⊤ Refusal → Reply
+reply_of_forgotten (Ok _) = reply.Forgotten
+reply_of_forgotten (Err cause) = reply.Refused cause
 
--- whether a change is refused at its cursor: an insertion outside a list, or anything else at a head
-abbrev pub place_told : Bool → Bool → Result ⊤ Refusal
-place_told true at_head = Err NotInList
-place_told false true = Err AtHead
-place_told false false = Ok tt
+-- the first cause against a change at its cursor: an insertion outside a list, or anything else at a head
+abbrev pub first_place_cause : Bool → Bool → Result ⊤ Refusal
+first_place_cause true at_head = Err NotInList
+first_place_cause false true = Err AtHead
+first_place_cause false false = Ok tt
 
--- what is due comes about, or, where something grows, memory is wanting and nothing has changed
+-- the expected outcome comes about, or, where something grows, memory is exhausted and nothing has changed
 abbrev pub Meets : Replica → Expected → Reply → Replica → Type 0
-Meets r due reply s = Settles r due reply s ⊎ (NeedsMemory due × IsOutOfMemory r reply s)
+Meets r expected reply s = Settles r expected reply s ⊎ (NeedsMemory expected × IsOutOfMemory r reply s)

@@ -6,6 +6,7 @@ use Rattle.crdt_rules.specs.Facts.{facts}
 use Rattle.crdt_rules.specs.Log.{replay}
 use Rattle.doc_rules.specs.Resolve.{Resolves}
 
--- unless memory was wanting, some steps in the document of the log lead there
+-- unless out of memory, some steps in the document of the log lead there
 abbrev pub IsPlaceOf : List Op → Result Cursor Refusal → Type 0
-IsPlaceOf log c = c ≢ Err NoMemory → (start : Cursor) × (steps : List Step) × Resolves (facts (replay log)) start steps c
+IsPlaceOf log c =
+    c ≢ Err NoMemory → (start : Cursor) × (steps : List Step) × Resolves (facts (replay log)) start steps c

@@ -10,9 +10,9 @@ use Rattle.replica_core.specs.AgreesWith.{AgreesWith}
 abbrev pub replica_of : List ℕ → List Op → List Op → Replica
 replica_of name log held = record { name = name; log = log; held = held }
 
--- the log is good, its tree says what it makes, and what is held waits
+-- the log is good, its tree has the facts of its replay, and what is held waits
 pub record IsWhole (name : List ℕ) (tree : TreeValue) (log : List Op) (buffer : Buffer) : Type 0 where
   pub named : is_name name ≡ true
-  pub tells : AgreesWith tree log
+  pub agrees : AgreesWith tree log
   pub current : IsCurrent buffer log
   pub kept : IsKept (replica_of name log buffer.held)

@@ -1,4 +1,4 @@
-//! Operations that were made elsewhere and are handed in.
+//! The delivery of operations that were made elsewhere.
 ghost use Rattle.std.specs.Prelude.{◌≡◌, ◌≤◌, ℕ, suc, List, [], ◌∷◌, ◌++◌, length, nat_le, bytes_eq, OnErr, IfOk, IfErr, None, true, false, ◌<◌, if◌then◌else◌};
 ghost use Rattle.op_core.specs.Limits.{most_held};
 ghost use Rattle.op_core.specs.Op.{Op};
@@ -8,12 +8,12 @@ ghost use Rattle.crdt_rules.specs.Dependencies as deps;
 ghost use Rattle.crdt_rules.specs.Dependencies.{missing};
 ghost use Rattle.crdt_rules.specs.Fits.{Fits};
 ghost use Rattle.doc_rules.specs.Cause.{cause_of};
-ghost use Rattle.doc_rules.specs.Events as due;
+ghost use Rattle.doc_rules.specs.Events as expected;
 ghost use Rattle.doc_rules.specs.Events.{expected_by_cause, expected_of_delivery};
 ghost use Rattle.doc_rules.specs.Replica.{Replica, Drains, find_id};
 ghost use Rattle.hold_buffer.specs.Held.{IsCurrent};
 ghost use Rattle.replica_core.specs.AgreesWith.{AgreesWith};
-ghost use Rattle.replica_core.specs.Outcomes.{Meets, told_delivered};
+ghost use Rattle.replica_core.specs.Outcomes.{Meets, reply_of_delivered};
 ghost use Rattle.replica_core.specs.Whole.{replica_of};
 
 use crate::drain::drain;
@@ -27,8 +27,8 @@ use lamport_id::ReplicaName;
 use op_core::Operation;
 use op_log::OpLog;
 
-/// Logs an operation that fits, and then all that it releases. It is refused for want of memory alone, and nothing has
-/// changed then.
+/// Logs an operation that fits, and then the held ones that it releases. The only error is out of
+/// memory, which changes nothing.
 pub fn log_and_drain(
     tree: &mut Tree,
     log: &mut OpLog,
@@ -36,15 +36,16 @@ pub fn log_and_drain(
     op: Operation,
 ) -> Result<Applied, Refusal>
     requires fits { Fits op log.old.operations }
-    requires tells { AgreesWith tree.old log.old.operations }
+    requires agrees { AgreesWith tree.old log.old.operations }
     requires current { IsCurrent held.old log.old.operations }
     requires few { length held.old.held ≤ most_held }
     ensures ok { (name : List ℕ) → IfOk result (λ a. (n : ℕ) × (a.count ≡ suc n) × (a.id ≡ op.id)
-        × Drains (replica_of name (log.old.operations ++ op ∷ []) held.old.held) n a.dropped (replica_of name log.new.operations held.new.held)) }
+        × Drains (replica_of name (log.old.operations ++ op ∷ []) held.old.held) n a.dropped
+        (replica_of name log.new.operations held.new.held)) }
     ensures err { IfErr result (λ e. e ≡ Refusal.NoMemory) }
     ensures log { OnErr result (log.new.operations ≡ log.old.operations) }
     ensures held { OnErr result (held.new ≡ held.old) }
-    ensures tells { AgreesWith tree.new log.new.operations }
+    ensures agrees { AgreesWith tree.new log.new.operations }
     ensures current { IsCurrent held.new log.new.operations }
 {
     let id = op.id();
@@ -59,9 +60,10 @@ pub fn log_and_drain(
     })
 }
 
-/// Hands in an operation that was made elsewhere. The answer is that it is known, or the first cause against it: id-conflict
-/// with one that is logged or held under its id, own-name, held-full, and those of `OpLog::check`. Else it is logged and
-/// the held ones drained, or it is held. For want of memory it is refused, and nothing has changed then.
+/// Delivers an operation that was made elsewhere. The answer is that it is known, or the first cause
+/// against it: id-conflict with one that is logged or held under its id, own-name, held-full, and those
+/// of `OpLog::check`. Otherwise it is logged and the held ones drained, or it is held. Out of memory, it
+/// is refused, and nothing changes.
 pub fn deliver(
     name: ReplicaName,
     tree: &mut Tree,
@@ -69,19 +71,16 @@ pub fn deliver(
     held: &mut HoldBuffer,
     op: Operation,
 ) -> Result<Delivered, Refusal>
-    requires tells { AgreesWith tree.old log.old.operations }
+    requires agrees { AgreesWith tree.old log.old.operations }
     requires current { IsCurrent held.old log.old.operations }
     requires few { length held.old.held ≤ most_held }
     ensures met { let r = replica_of name log.old.operations held.old.held in
-        Meets r (expected_of_delivery r op) (told_delivered result) (replica_of name log.new.operations held.new.held) }
-    ensures tells { AgreesWith tree.new log.new.operations }
+        Meets r (expected_of_delivery r op) (reply_of_delivered result) (replica_of name log.new.operations held.new.held) }
+    ensures agrees { AgreesWith tree.new log.new.operations }
     ensures current { IsCurrent held.new log.new.operations }
 {
     match is_same_logged(log, &op) {
-        Some(is_same) => {
-            drop(op);
-            known_or_not(is_same)
-        }
+        Some(is_same) => known_or_conflict(is_same),
         None => deliver_unlogged(name, tree, log, held, op),
     }
 }
@@ -96,8 +95,10 @@ fn is_same_logged(log: &OpLog, op: &Operation) -> Option<bool>
     }
 }
 
-fn known_or_not(is_same: bool) -> Result<Delivered, Refusal>
-    ensures { (r : Replica) → Meets r (if is_same then due.replied Reply.Known else due.no Refusal.IdConflict) (told_delivered result) r }
+fn known_or_conflict(is_same: bool) -> Result<Delivered, Refusal>
+    ensures { (r : Replica) →
+        Meets r (if is_same then expected.told Reply.Known else expected.no Refusal.IdConflict)
+        (reply_of_delivered result) r }
 {
     if is_same {
         Ok(Delivered::Known)
@@ -114,20 +115,16 @@ fn deliver_unlogged(
     op: Operation,
 ) -> Result<Delivered, Refusal>
     requires new { find_id log.old.operations op.id ≡ None }
-    requires tells { AgreesWith tree.old log.old.operations }
+    requires agrees { AgreesWith tree.old log.old.operations }
     requires current { IsCurrent held.old log.old.operations }
     requires few { length held.old.held ≤ most_held }
     ensures met { let r = replica_of name log.old.operations held.old.held in
-        Meets r (expected_of_delivery r op) (told_delivered result) (replica_of name log.new.operations held.new.held) }
-    ensures tells { AgreesWith tree.new log.new.operations }
+        Meets r (expected_of_delivery r op) (reply_of_delivered result) (replica_of name log.new.operations held.new.held) }
+    ensures agrees { AgreesWith tree.new log.new.operations }
     ensures current { IsCurrent held.new log.new.operations }
 {
     match is_same_held(held, &op) {
-        Some(is_same) => {
-            let reply = waits_or_not(log, &op, is_same);
-            drop(op);
-            reply
-        }
+        Some(is_same) => held_or_conflict(log, &op, is_same),
         None => deliver_new(name, tree, log, held, op),
     }
 }
@@ -142,9 +139,10 @@ fn is_same_held(held: &HoldBuffer, op: &Operation) -> Option<bool>
     }
 }
 
-fn waits_or_not(log: &OpLog, op: &Operation, is_same: bool) -> Result<Delivered, Refusal>
+fn held_or_conflict(log: &OpLog, op: &Operation, is_same: bool) -> Result<Delivered, Refusal>
     ensures { (r : Replica) →
-        Meets r (if is_same then due.replied (Reply.Held (missing op.now log.now.operations)) else due.no Refusal.IdConflict) (told_delivered result) r }
+        Meets r (if is_same then expected.told (Reply.Held (missing op.now log.now.operations))
+        else expected.no Refusal.IdConflict) (reply_of_delivered result) r }
 {
     if !is_same {
         return Err(Refusal::IdConflict);
@@ -164,16 +162,15 @@ fn deliver_new(
 ) -> Result<Delivered, Refusal>
     requires new { find_id log.old.operations op.id ≡ None }
     requires unheld { find_id held.old.held op.id ≡ None }
-    requires tells { AgreesWith tree.old log.old.operations }
+    requires agrees { AgreesWith tree.old log.old.operations }
     requires current { IsCurrent held.old log.old.operations }
     requires few { length held.old.held ≤ most_held }
     ensures met { let r = replica_of name log.old.operations held.old.held in
-        Meets r (expected_of_delivery r op) (told_delivered result) (replica_of name log.new.operations held.new.held) }
-    ensures tells { AgreesWith tree.new log.new.operations }
+        Meets r (expected_of_delivery r op) (reply_of_delivered result) (replica_of name log.new.operations held.new.held) }
+    ensures agrees { AgreesWith tree.new log.new.operations }
     ensures current { IsCurrent held.new log.new.operations }
 {
     if is_by(&op, &name) {
-        drop(op);
         return Err(Refusal::OwnName);
     }
     if log.is_ready(&op) {
@@ -196,12 +193,13 @@ fn deliver_ready(
     held: &mut HoldBuffer,
     op: Operation,
 ) -> Result<Delivered, Refusal>
-    requires tells { AgreesWith tree.old log.old.operations }
+    requires agrees { AgreesWith tree.old log.old.operations }
     requires current { IsCurrent held.old log.old.operations }
     requires few { length held.old.held ≤ most_held }
-    ensures met { (name : List ℕ) → Meets (replica_of name log.old.operations held.old.held) (expected_by_cause (cause_of op log.old.operations) op)
-        (told_delivered result) (replica_of name log.new.operations held.new.held) }
-    ensures tells { AgreesWith tree.new log.new.operations }
+    ensures met { (name : List ℕ) → Meets (replica_of name log.old.operations held.old.held)
+        (expected_by_cause (cause_of op log.old.operations) op)
+        (reply_of_delivered result) (replica_of name log.new.operations held.new.held) }
+    ensures agrees { AgreesWith tree.new log.new.operations }
     ensures current { IsCurrent held.new log.new.operations }
 {
     match log.check(&op) {
@@ -209,29 +207,23 @@ fn deliver_ready(
             Ok(applied) => Ok(Delivered::Applied(applied)),
             Err(refusal) => Err(refusal),
         },
-        Err(cause) => {
-            drop(op);
-            Err(cause)
-        }
+        Err(cause) => Err(cause),
     }
 }
 
 fn deliver_waiting(log: &OpLog, held: &mut HoldBuffer, op: Operation) -> Result<Delivered, Refusal>
     requires current { IsCurrent held.old log.now.operations }
     ensures met { (name : List ℕ) → Meets (replica_of name log.now.operations held.old.held)
-        (if nat_le most_held (length held.old.held) then due.no Refusal.HeldFull else due.held op) (told_delivered result) (replica_of name log.now.operations held.new.held) }
+        (if nat_le most_held (length held.old.held) then expected.no Refusal.HeldFull else expected.held op)
+        (reply_of_delivered result) (replica_of name log.now.operations held.new.held) }
     ensures current { IsCurrent held.new log.now.operations }
 {
     if held.len() >= MAX_HELD {
-        drop(op);
         return Err(Refusal::HeldFull);
     }
     match log.missing(&op) {
         Ok(missing) => hold(log, held, op, missing),
-        Err(_) => {
-            drop(op);
-            Err(Refusal::NoMemory)
-        }
+        Err(_) => Err(Refusal::NoMemory),
     }
 }
 
@@ -245,11 +237,11 @@ fn hold(
     requires room { length held.old.held < most_held }
     requires missed { missing ≡ deps.missing op log.now.operations }
     requires current { IsCurrent held.old log.now.operations }
-    ensures met { (name : List ℕ) → Meets (replica_of name log.now.operations held.old.held) (due.held op)
-        (told_delivered result) (replica_of name log.now.operations held.new.held) }
+    ensures met { (name : List ℕ) → Meets (replica_of name log.now.operations held.old.held) (expected.held op)
+        (reply_of_delivered result) (replica_of name log.now.operations held.new.held) }
     ensures current { IsCurrent held.new log.now.operations }
 {
-    match held.hold_lacking(op, &missing) {
+    match held.hold_with_missing(op, &missing) {
         Ok(()) => Ok(Delivered::Held(missing)),
         Err(_) => Err(Refusal::NoMemory),
     }

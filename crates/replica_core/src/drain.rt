@@ -18,15 +18,16 @@ pub struct Drained {
     pub dropped: usize,
 }
 
-/// Takes the ready operations out of the buffer, the least id first, until none is ready. Each is logged if it fits and
-/// there is memory, and else dropped.
+/// Takes the ready operations out of the buffer, the least id first, until none is ready. Each is
+/// logged if it fits and there is memory, and dropped otherwise.
 pub fn drain(tree: &mut Tree, log: &mut OpLog, held: &mut HoldBuffer) -> Drained
-    requires tells { AgreesWith tree.old log.old.operations }
+    requires agrees { AgreesWith tree.old log.old.operations }
     requires current { IsCurrent held.old log.old.operations }
-    ensures drained { (name : List ℕ) → Drains (record { name = name; log = log.old.operations; held = held.old.held }) result.logged result.dropped
+    ensures drained { (name : List ℕ) → Drains
+        (record { name = name; log = log.old.operations; held = held.old.held }) result.logged result.dropped
         (record { name = name; log = log.new.operations; held = held.new.held }) }
     ensures few { result.logged + result.dropped ≤ length held.old.held }
-    ensures tells { AgreesWith tree.new log.new.operations }
+    ensures agrees { AgreesWith tree.new log.new.operations }
     ensures current { IsCurrent held.new log.new.operations }
 {
     let mut logged = 0;
@@ -48,17 +49,16 @@ pub fn drain(tree: &mut Tree, log: &mut OpLog, held: &mut HoldBuffer) -> Drained
     Drained { logged, dropped }
 }
 
-// Logs an operation if it fits and there is memory, and says whether it did.
+// Logs an operation if it fits and there is memory, and returns whether it did.
 fn release(tree: &mut Tree, log: &mut OpLog, op: Operation) -> bool
     requires { AgreesWith tree.old log.old.operations }
-    ensures logs { MatchBool result (Fits op log.old.operations × (log.new.operations ≡ log.old.operations ++ op ∷ [])) (log.new.operations ≡ log.old.operations) }
-    ensures tells { AgreesWith tree.new log.new.operations }
+    ensures logs { MatchBool result
+        (Fits op log.old.operations × (log.new.operations ≡ log.old.operations ++ op ∷ []))
+        (log.new.operations ≡ log.old.operations) }
+    ensures agrees { AgreesWith tree.new log.new.operations }
 {
     match log.check(&op) {
         Ok(()) => log_op(tree, log, op).is_ok(),
-        Err(_) => {
-            drop(op);
-            false
-        }
+        Err(_) => false,
     }
 }

@@ -1,5 +1,5 @@
-//! The limits that the types of a mutation keep. These functions do nothing at run time: by a call a caller's proof knows of a value what
-//! its type says.
+//! The limits that the types of a mutation keep. These functions do nothing at run time: their call
+//! gives a caller's proof what the type says of the value.
 ghost use Rattle.std.specs.Prelude.{◌≡◌, true};
 ghost use Rattle.json_scalar.specs.Scalar.{is_val};
 ghost use Rattle.json_scalar.specs.declared.scalar.Scalar.TheVariants.{Int};

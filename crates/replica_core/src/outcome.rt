@@ -1,4 +1,4 @@
-//! What the changes of a replica answer.
+//! The answers of a replica's changes.
 use doc_words::Ids;
 use lamport_id::Id;
 
@@ -13,7 +13,7 @@ pub struct Applied {
     pub id: Id,
 }
 
-/// What became of an operation that was handed in.
+/// What became of an operation that was delivered.
 #[derive(Debug, Drop)]
 pub enum Delivered {
     /// It was logged.

@@ -1,14 +1,14 @@
-//! Answers, as replies.
+//! Replies made of answers.
 ghost use Rattle.std.specs.Prelude.{◌≡◌};
-ghost use Rattle.replica_core.specs.Outcomes.{told_applied, told_delivered, told_forgotten};
+ghost use Rattle.replica_core.specs.Outcomes.{reply_of_applied, reply_of_delivered, reply_of_forgotten};
 
 use crate::outcome::{Applied, Delivered};
 use doc_words::Reply;
 use json_scalar::Refusal;
 
-/// What a change of one's own is told as.
+/// The reply to a change of one's own.
 pub fn applied_reply(answer: Result<Applied, Refusal>) -> Reply
-    ensures { result ≡ told_applied answer }
+    ensures { result ≡ reply_of_applied answer }
 {
     match answer {
         Ok(Applied { count, dropped, id }) => Reply::Applied { count, dropped, id },
@@ -16,9 +16,9 @@ pub fn applied_reply(answer: Result<Applied, Refusal>) -> Reply
     }
 }
 
-/// What an operation that was handed in is told as.
+/// The reply to the delivery of an operation.
 pub fn delivered_reply(answer: Result<Delivered, Refusal>) -> Reply
-    ensures { result ≡ told_delivered answer }
+    ensures { result ≡ reply_of_delivered answer }
 {
     match answer {
         Ok(Delivered::Applied(Applied { count, dropped, id })) => {
@@ -30,9 +30,9 @@ pub fn delivered_reply(answer: Result<Delivered, Refusal>) -> Reply
     }
 }
 
-/// What the giving up of a held operation is told as.
+/// The reply to the dropping of a held operation.
 pub fn forgotten_reply(answer: Result<(), Refusal>) -> Reply
-    ensures { result ≡ told_forgotten answer }
+    ensures { result ≡ reply_of_forgotten answer }
 {
     match answer {
         Ok(()) => Reply::Forgotten,

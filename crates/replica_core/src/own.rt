@@ -8,13 +8,13 @@ ghost use Rattle.op_core.specs.Front.{max_counter};
 ghost use Rattle.op_core.specs.Shape as shape;
 ghost use Rattle.crdt_rules.specs.Effect.{is_insertion};
 ghost use Rattle.crdt_rules.specs.Fits.{Fits};
-ghost use Rattle.doc_rules.specs.Events as due;
+ghost use Rattle.doc_rules.specs.Events as expected;
 ghost use Rattle.doc_rules.specs.Events.{expected_by_cause, expected_of_change, expected_at_place};
 ghost use Rattle.doc_rules.specs.Replica.{own_op};
 ghost use Rattle.hold_buffer.specs.Held.{IsCurrent};
 ghost use Rattle.replica_core.specs.Resolved.{IsPlaceOf};
 ghost use Rattle.replica_core.specs.AgreesWith.{AgreesWith};
-ghost use Rattle.replica_core.specs.Outcomes.{Meets, place_told, told_applied};
+ghost use Rattle.replica_core.specs.Outcomes.{Meets, first_place_cause, reply_of_applied};
 ghost use Rattle.replica_core.specs.Whole.{replica_of};
 
 use crate::deliver::log_and_drain;
@@ -27,7 +27,8 @@ use lamport_id::{Id, ReplicaName};
 use op_core::{Cursor, Front, Key, Mutation, Operation};
 use op_log::{OpLog, keeps_good};
 
-/// Makes a change where the steps of its place led, or tells why they led nowhere, or the first cause against the change.
+/// Makes a change where the steps of its place led. The error is why they led nowhere, or the first
+/// cause against the change.
 pub fn change(
     name: ReplicaName,
     tree: &mut Tree,
@@ -38,27 +39,21 @@ pub fn change(
 ) -> Result<Applied, Refusal>
     requires named { is_name name ≡ true }
     requires place { IsPlaceOf log.old.operations resolved }
-    requires tells { AgreesWith tree.old log.old.operations }
+    requires agrees { AgreesWith tree.old log.old.operations }
     requires current { IsCurrent held.old log.old.operations }
     requires few { length held.old.held ≤ most_held }
     ensures met { let r = replica_of name log.old.operations held.old.held in
-        Meets r (expected_at_place r resolved mutation) (told_applied result) (replica_of name log.new.operations held.new.held) }
-    ensures tells { AgreesWith tree.new log.new.operations }
+        Meets r (expected_at_place r resolved mutation) (reply_of_applied result)
+        (replica_of name log.new.operations held.new.held) }
+    ensures agrees { AgreesWith tree.new log.new.operations }
     ensures current { IsCurrent held.new log.new.operations }
 {
     match resolved {
         Ok(cursor) => match own_cause(&name, log, &cursor, &mutation) {
             Ok(()) => log_own(name, tree, log, held, cursor, mutation),
-            Err(cause) => {
-                drop(cursor);
-                drop(mutation);
-                Err(cause)
-            }
+            Err(cause) => Err(cause),
         },
-        Err(cause) => {
-            drop(mutation);
-            Err(cause)
-        }
+        Err(cause) => Err(cause),
     }
 }
 
@@ -73,13 +68,15 @@ fn log_own(
 ) -> Result<Applied, Refusal>
     requires named { is_name name ≡ true }
     requires place { IsPlaceOf log.old.operations (Ok cursor) }
-    requires unopposed { let r = replica_of name log.old.operations held.old.held in expected_of_change r cursor mutation ≡ due.logged (own_op r cursor mutation) }
-    requires tells { AgreesWith tree.old log.old.operations }
+    requires unopposed { let r = replica_of name log.old.operations held.old.held in
+        expected_of_change r cursor mutation ≡ expected.logged (own_op r cursor mutation) }
+    requires agrees { AgreesWith tree.old log.old.operations }
     requires current { IsCurrent held.old log.old.operations }
     requires few { length held.old.held ≤ most_held }
     ensures met { let r = replica_of name log.old.operations held.old.held in
-        Meets r (due.logged (own_op r cursor mutation)) (told_applied result) (replica_of name log.new.operations held.new.held) }
-    ensures tells { AgreesWith tree.new log.new.operations }
+        Meets r (expected.logged (own_op r cursor mutation)) (reply_of_applied result)
+        (replica_of name log.new.operations held.new.held) }
+    ensures agrees { AgreesWith tree.new log.new.operations }
     ensures current { IsCurrent held.new log.new.operations }
 {
     keeps_limits(&mutation);
@@ -108,7 +105,8 @@ fn own_cause(
 
 // An insertion is in a list, and nothing else is at a head.
 fn place_cause(cursor: &Cursor, mutation: &Mutation) -> Result<(), Refusal>
-    ensures { result ≡ place_told (is_insertion mutation.now && not (shape.ends_in_list cursor.now.path))
+    ensures { result ≡ first_place_cause
+        (is_insertion mutation.now && not (shape.ends_in_list cursor.now.path))
         (not (is_insertion mutation.now) && shape.is_head cursor.now.key) }
 {
     match mutation {
@@ -132,7 +130,7 @@ fn no_head(key: &Key) -> Result<(), Refusal>
     Ok(())
 }
 
-// One's own next operation, which fits. It is refused for want of memory alone.
+// One's own next operation, which fits. The only error is out of memory, for the front.
 fn own_operation(
     name: ReplicaName,
     log: &OpLog,
@@ -145,10 +143,10 @@ fn own_operation(
     keeps_good(log);
     let front = log.front()?;
     let id = next_id(&front, &name);
-    Operation::shaped(id, front, cursor, mutation)
+    Ok(Operation::new(id, front, cursor, mutation))
 }
 
-// One's own next id: behind all that a front covers, of whatever replica.
+// One's own next id: greater than all that a front covers, of whatever replica.
 fn next_id(front: &Front, name: &ReplicaName) -> Id
     requires { max_counter front.now < greatest_counter }
     ensures { (result.counter ≡ max_counter front.now + 1) × (result.replica ≡ name.now) }

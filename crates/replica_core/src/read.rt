@@ -1,4 +1,4 @@
-//! What a replica answers where it is only read.
+//! A replica's answers to queries.
 ghost use Rattle.std.specs.Prelude.{◌≡◌, ◌⊎◌, ℕ, List};
 ghost use Rattle.op_core.specs.Op.{Op};
 ghost use Rattle.doc_tree.specs.Nodes.{tree_facts};
@@ -18,8 +18,8 @@ use op_core::{Cursor, Front};
 use op_log::{OpLog, keeps_good};
 use std::alloc::Global;
 
-/// What a replica answers to a query. `mine` is what it tells of an account. Of any other query it may tell that memory is
-/// wanting, and where a reading of a place is refused the cause.
+/// A replica's answer to a query. `mine` is the answer to a query of the account. Any other query may be
+/// refused with out of memory, and a reading of a place with the cause against the place.
 pub fn read(
     alloc: Global,
     tree: &Tree,
@@ -28,7 +28,7 @@ pub fn read(
     mine: u64,
     query: Query,
 ) -> Reply
-    requires tells { AgreesWith tree.now log.now.operations }
+    requires agrees { AgreesWith tree.now log.now.operations }
     requires current { IsCurrent held.now log.now.operations }
     ensures answer { (name : List ℕ) → MayAnswer (replica_of name log.now.operations held.now.held) mine query result }
     ensures account { query ≡ Query.Account → result ≡ Reply.Account mine }
@@ -43,10 +43,11 @@ pub fn read(
     }
 }
 
-// The answer of a look at a place, or what stood against its steps.
+// The answer of a look at a place, or the cause against its steps.
 fn look_at_place(alloc: Global, tree: &Tree, log: &OpLog, look: Look, place: Place) -> Reply
     requires { AgreesWith tree.now log.now.operations }
-    ensures { (name : List ℕ) (held : List Op) (mine : ℕ) → MayAnswer (replica_of name log.now.operations held) mine (query.Look look place) result }
+    ensures { (name : List ℕ) (held : List Op) (mine : ℕ)
+        → MayAnswer (replica_of name log.now.operations held) mine (query.Look look place) result }
 {
     keeps_good(log);
     let Place { start, steps } = place;
@@ -59,7 +60,8 @@ fn look_at_place(alloc: Global, tree: &Tree, log: &OpLog, look: Look, place: Pla
 // Where the steps of a place lead.
 fn resolve_place(tree: &Tree, log: &OpLog, place: Place) -> Reply
     requires { AgreesWith tree.now log.now.operations }
-    ensures { (name : List ℕ) (held : List Op) (mine : ℕ) → MayAnswer (replica_of name log.now.operations held) mine (query.Resolve place) result }
+    ensures { (name : List ℕ) (held : List Op) (mine : ℕ)
+        → MayAnswer (replica_of name log.now.operations held) mine (query.Resolve place) result }
 {
     let Place { start, steps } = place;
     match resolve(tree, start, steps.as_slice()) {
@@ -68,9 +70,10 @@ fn resolve_place(tree: &Tree, log: &OpLog, place: Place) -> Reply
     }
 }
 
-// What a look at a cursor tells, unless memory is wanting.
+// The answer of a look at a cursor, unless out of memory.
 fn look_at(alloc: Global, tree: &Tree, look: Look, cursor: &Cursor) -> Reply
-    ensures { (result ≡ Reply.Refused Refusal.NoMemory) ⊎ LooksHere (tree_facts tree.now) (tree_values tree.now) look cursor.now result }
+    ensures { (result ≡ Reply.Refused Refusal.NoMemory)
+        ⊎ LooksHere (tree_facts tree.now) (tree_values tree.now) look cursor.now result }
 {
     match look {
         Look::Keys => keys_reply(keys_text(alloc, tree, cursor)),
@@ -84,7 +87,8 @@ fn look_at(alloc: Global, tree: &Tree, look: Look, cursor: &Cursor) -> Reply
 
 // The logged operations that a front does not cover, at most so many.
 fn operations(log: &OpLog, front: &Front, limit: u64) -> Reply
-    ensures { (name : List ℕ) (held : List Op) (mine : ℕ) → MayAnswer (replica_of name log.now.operations held) mine (query.Operations front.now limit) result }
+    ensures { (name : List ℕ) (held : List Op) (mine : ℕ)
+        → MayAnswer (replica_of name log.now.operations held) mine (query.Operations front.now limit) result }
 {
     match log.since_text(front, limit as usize) {
         Ok(text) => Reply::Operations(text),
@@ -94,7 +98,8 @@ fn operations(log: &OpLog, front: &Front, limit: u64) -> Reply
 
 // The front of the log.
 fn whole_front(log: &OpLog) -> Reply
-    ensures { (name : List ℕ) (held : List Op) (mine : ℕ) → MayAnswer (replica_of name log.now.operations held) mine query.Front result }
+    ensures { (name : List ℕ) (held : List Op) (mine : ℕ)
+        → MayAnswer (replica_of name log.now.operations held) mine query.Front result }
 {
     match log.front() {
         Ok(front) => Reply::Front(front),
@@ -105,7 +110,8 @@ fn whole_front(log: &OpLog) -> Reply
 // The held operations, and what each waits for.
 fn waiting(log: &OpLog, held: &HoldBuffer) -> Reply
     requires { IsCurrent held.now log.now.operations }
-    ensures { (name : List ℕ) (mine : ℕ) → MayAnswer (replica_of name log.now.operations held.now.held) mine query.Held result }
+    ensures { (name : List ℕ) (mine : ℕ)
+        → MayAnswer (replica_of name log.now.operations held.now.held) mine query.Held result }
 {
     match held.waiting(log) {
         Ok(waiting) => Reply::Waiting(waiting),

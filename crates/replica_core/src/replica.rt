@@ -9,7 +9,7 @@ ghost use Rattle.doc_words.specs.declared.ask.Command.TheVariants as command;
 ghost use Rattle.replica_core.specs.Memory.{MayLack};
 ghost use Rattle.replica_core.specs.Misfits.{IsMisfitOf};
 ghost use Rattle.replica_core.specs.AgreesWith.{AgreesWith};
-ghost use Rattle.replica_core.specs.Outcomes.{told_applied, told_delivered, told_forgotten};
+ghost use Rattle.replica_core.specs.Outcomes.{reply_of_applied, reply_of_delivered, reply_of_forgotten};
 ghost use Rattle.replica_core.specs.Whole.{replica_of};
 
 use crate::deliver::deliver;
@@ -30,8 +30,9 @@ use op_log::OpLog;
 use std::alloc::Global;
 use std::marker::Model;
 
-/// A replica of a document. A contract sees its name, its log, and the held operations in the order of their ids. The log is
-/// good, its tree says what it makes, and each held operation is foreign and waits for one that is not logged.
+/// A replica of a document. A contract sees its name, its log, and the held operations in the order of
+/// their ids. The log is good (valid), its tree has the facts of its replay, and each held operation is
+/// foreign and waits for one that is not logged.
 pub struct Replica {
     name: ReplicaName,
     alloc: Global,
@@ -52,7 +53,8 @@ impl Model for Replica {
 }
 
 impl Replica {
-    /// The replica of this name whose log is empty. It keeps the allocator. It is refused for want of memory alone.
+    /// The replica of this name whose log is empty. It keeps the allocator. The only error is out of
+    /// memory.
     pub fn new(alloc: Global, name: ReplicaName) -> Result<Replica, Refusal>
         ensures ok { IfOk result (λ r. r ≡ replica_of name [] []) }
         ensures err { IfErr result (λ e. e ≡ Refusal.NoMemory) }
@@ -70,8 +72,9 @@ impl Replica {
         }
     }
 
-    /// The replica of this name whose log is these operations, and which holds none. It keeps the allocator. Where they are no
-    /// good log it tells the first that does not fit those before it, and the cause.
+    /// The replica of this name whose log is these operations, and which holds none. It keeps the
+    /// allocator. Where they are no good log, the error is the first that does not fit those before it,
+    /// and the cause.
     pub fn restore(
         alloc: Global,
         name: ReplicaName,
@@ -116,12 +119,12 @@ impl Replica {
         &self.tree
     }
 
-    /// Makes a change of one's own at a place, as the next operation of this replica, and then logs what that releases. The
-    /// answer is the first cause against the place (as `resolve` tells it), not-in-list for an insertion outside a list,
-    /// at-head for anything else at a head, log-full or too-many-replicas. For want of memory it is refused. After a refusal
-    /// all is as it was.
+    /// Makes a change of one's own at a place, as the next operation of this replica, and then logs what
+    /// that releases. The errors are the first cause against the place (as `resolve` returns it),
+    /// not-in-list for an insertion outside a list, at-head for anything else at a head, log-full,
+    /// too-many-replicas, and out of memory. An error leaves all as it was.
     pub fn local(&mut self, place: Place, mutation: Mutation) -> Result<Applied, Refusal>
-        ensures { Event self.old (command.Change place mutation) (told_applied result) self.new }
+        ensures { Event self.old (command.Change place mutation) (reply_of_applied result) self.new }
     {
         keeps_limits(&mutation);
         let Place { start, steps } = place;
@@ -136,25 +139,27 @@ impl Replica {
         )
     }
 
-    /// Hands in an operation that was made elsewhere. The answer is that it is known, or the first cause against it: id-conflict
-    /// with one that is logged or held under its id, own-name, held-full, and those of `OpLog::check`. Else it is logged and
-    /// the held ones drained, or it is held. Want of memory is told only where it would be logged or held, or is held already,
-    /// so that the ids it waits for are listed. After a refusal all is as it was.
+    /// Delivers an operation that was made elsewhere. The answer is that it is known, or the first cause
+    /// against it: id-conflict with one that is logged or held under its id, own-name, held-full, and
+    /// those of `OpLog::check`. Otherwise it is logged and the held ones drained, or it is held. Out of
+    /// memory is the error only where it would be logged or held, or is held already and the ids it waits
+    /// for are to be listed. An error leaves all as it was.
     pub fn deliver(&mut self, op: Operation) -> Result<Delivered, Refusal>
-        ensures event { Event self.old (command.Deliver op) (told_delivered result) self.new }
+        ensures event { Event self.old (command.Deliver op) (reply_of_delivered result) self.new }
         ensures memory { result ≡ Err NoMemory → MayLack self.old (command.Deliver op) }
     {
         keeps_shape(&op);
         deliver(self.name, &mut self.tree, &mut self.log, &mut self.held, op)
     }
 
-    /// Gives up a held operation. It is refused as not-held where none is held under the id, and nothing has changed then. It
-    /// takes no memory.
+    /// Drops a held operation. The only error is not-held, where none is held under the id, which changes
+    /// nothing. Allocates nothing.
     pub fn forget(&mut self, id: Id) -> Result<(), Refusal>
-        ensures { Does self.old (command.Forget id) (told_forgotten result) self.new }
+        ensures { Does self.old (command.Forget id) (reply_of_forgotten result) self.new }
     {
         match self.held.remove(id) {
             Some(op) => {
+                // what `forget` is for
                 drop(op);
                 Ok(())
             }
@@ -162,8 +167,9 @@ impl Replica {
         }
     }
 
-    /// Answers a query, with nothing changed. `mine` is told as the account. A reading of a place is refused by the first cause
-    /// against its steps, or as at-head; and any answer but an account for want of memory.
+    /// Answers a query, and changes nothing. `mine` is the answer to a query of the account. A reading of a
+    /// place is refused with the first cause against its steps, or as at-head; and any query but that of
+    /// the account may be refused with out of memory.
     pub fn read(&self, mine: u64, query: Query) -> Reply
         ensures answer { MayAnswer self.now mine query result }
         ensures account { query ≡ Query.Account → result ≡ Reply.Account mine }
@@ -171,8 +177,8 @@ impl Replica {
         read(self.alloc, &self.tree, &self.log, &self.held, mine, query)
     }
 
-    /// Obeys a command, and tells the answer of `local`, `deliver` or `forget`. Of an operation handed in it tells want of
-    /// memory only where something grows, and of one given up never.
+    /// Runs a command, and returns the answer of `local`, `deliver` or `forget` as a reply. A delivery is
+    /// refused with out of memory only where something grows, and a `forget` never.
     pub fn act(&mut self, command: Command) -> Reply
         ensures event { Event self.old command result self.new }
         ensures memory { result ≡ Reply.Refused NoMemory → MayLack self.old command }
@@ -185,7 +191,7 @@ impl Replica {
     }
 }
 
-// By hand, so that it is called and not written out where a replica is let go.
+// By hand, so that it is called and not written out where a replica is dropped.
 impl Drop for Replica {
     fn drop(self) {
         let Replica {

@@ -16,16 +16,16 @@ use std::alloc::Global;
 /// Why a list of operations makes no log.
 #[derive(Debug, Drop)]
 pub enum Misfit {
-    /// The first operation that does not fit those before it: its place, from 0 on, and the cause, which is id-conflict where
-    /// its id stands twice.
+    /// The first operation that does not fit those before it: its place, from 0 on, and the cause, which
+    /// is id-conflict where an operation before it has its id.
     At { place: usize, cause: Refusal },
-    /// Memory is wanting.
+    /// Out of memory.
     NoMemory,
 }
 
 /// The log of these operations, with its tree; or the first that does not fit.
 pub fn logged(alloc: Global, operations: &[Operation]) -> Result<(Tree, OpLog), Misfit>
-    ensures tells { IfOk result (λ parts. AgreesWith parts.0 operations.now) }
+    ensures agrees { IfOk result (λ parts. AgreesWith parts.0 operations.now) }
     ensures log { IfOk result (λ parts. parts.1.operations ≡ operations.now) }
     ensures good { OnOk result (IsGood operations.now) }
     ensures err { IfErr result (IsMisfitOf operations.now) }
@@ -43,14 +43,14 @@ pub fn logged(alloc: Global, operations: &[Operation]) -> Result<(Tree, OpLog), 
     }
 }
 
-// Logs these operations, one after another, in an empty log and its tree. The first that does not fit is told; what was
-// logged by then stays.
+// Logs these operations, one after another, in an empty log and its tree. The error is the first that
+// does not fit; what was logged by then stays.
 fn log_all(tree: &mut Tree, log: &mut OpLog, operations: &[Operation]) -> Result<(), Misfit>
     requires empty { log.old.operations ≡ [] }
-    requires tells { AgreesWith tree.old log.old.operations }
+    requires agrees { AgreesWith tree.old log.old.operations }
     ensures ok { OnOk result (log.new.operations ≡ operations.now) }
     ensures err { IfErr result (IsMisfitOf operations.now) }
-    ensures tells { AgreesWith tree.new log.new.operations }
+    ensures agrees { AgreesWith tree.new log.new.operations }
 {
     for place in 0..operations.len() {
         match log_next(tree, log, &operations[place]) {
@@ -62,36 +62,34 @@ fn log_all(tree: &mut Tree, log: &mut OpLog, operations: &[Operation]) -> Result
     Ok(())
 }
 
-// Logs a copy of an operation if it fits and its id is new, or tells the cause against it, or none for want of memory.
+// Logs a clone of an operation if it fits and its id is new. The error is the cause against it, or
+// `None` for out of memory.
 fn log_next(tree: &mut Tree, log: &mut OpLog, op: &Operation) -> Result<(), Option<Refusal>>
-    requires tells { AgreesWith tree.old log.old.operations }
+    requires agrees { AgreesWith tree.old log.old.operations }
     ensures good { IsGood log.old.operations }
     ensures ok { OnOk result (log.new.operations ≡ log.old.operations ++ op.now ∷ []) }
     ensures err { IfErr result (λ e. IfSome e (λ cause. misfit_of op.now log.old.operations ≡ Err cause)) }
-    ensures tells { AgreesWith tree.new log.new.operations }
+    ensures agrees { AgreesWith tree.new log.new.operations }
 {
     keeps_good(log);
-    if log.contains(op.id()) {
-        return Err(Some(Refusal::IdConflict));
-    }
-    match log.check(op) {
-        Ok(()) => log_copy(tree, log, op),
+    match log.check_next(op) {
+        Ok(()) => log_clone(tree, log, op),
         Err(cause) => Err(Some(cause)),
     }
 }
 
-// Logs a copy of an operation that fits; tells no cause for want of memory.
-fn log_copy(tree: &mut Tree, log: &mut OpLog, op: &Operation) -> Result<(), Option<Refusal>>
+// Logs a clone of an operation that fits. The error is `None`, for out of memory.
+fn log_clone(tree: &mut Tree, log: &mut OpLog, op: &Operation) -> Result<(), Option<Refusal>>
     requires fits { Fits op.now log.old.operations }
-    requires tells { AgreesWith tree.old log.old.operations }
+    requires agrees { AgreesWith tree.old log.old.operations }
     ensures ok { OnOk result (log.new.operations ≡ log.old.operations ++ op.now ∷ []) }
     ensures err { IfErr result (λ e. e ≡ None) }
-    ensures tells { AgreesWith tree.new log.new.operations }
+    ensures agrees { AgreesWith tree.new log.new.operations }
 {
-    let Ok(copy) = op.try_clone() else {
+    let Ok(clone) = op.try_clone() else {
         return Err(None);
     };
-    match log_op(tree, log, copy) {
+    match log_op(tree, log, clone) {
         Ok(()) => Ok(()),
         Err(_) => Err(None),
     }

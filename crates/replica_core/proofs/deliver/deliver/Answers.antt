@@ -9,4 +9,4 @@ deliver_unlogged-requires-clause-new c = none_found c.args.op (find_id c.args.lo
 pub returns-in-Some-clause-met : goal.returns-in-Some-clause-met
 returns-in-Some-clause-met c =
     let r = replica_of c.args.name c.args.log.now.operations c.args.held.now.held in
-    meets_as r _ _ _ r (delivered_logged r c.args.op c.in-Some.is_same c.in-Some.ensures) (c.known_or_not.ensures r)
+    meets_as r _ _ _ r (delivered_logged r c.args.op c.in-Some.is_same c.in-Some.ensures) (c.known_or_conflict.ensures r)

@@ -9,4 +9,4 @@ deliver_new-requires-clause-unheld c = none_found c.args.op (find_id c.args.held
 pub returns-in-Some-clause-met : goal.returns-in-Some-clause-met
 returns-in-Some-clause-met c =
     let r = replica_of c.args.name c.args.log.now.operations c.args.held.now.held in
-    meets_as r _ _ _ r (delivered_held r c.args.op c.in-Some.is_same c.requires.new c.in-Some.ensures) (c.waits_or_not-reply.ensures r)
+    meets_as r _ _ _ r (delivered_held r c.args.op c.in-Some.is_same c.requires.new c.in-Some.ensures) (c.held_or_conflict.ensures r)

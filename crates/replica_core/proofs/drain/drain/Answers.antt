@@ -7,7 +7,7 @@ use Rattle.replica_core.proofs.drain.drain.Goals as goal
 use Rattle.replica_core.proofs.drain.drain.Goals.{in-Some-remove+then-release, in-Some-remove+else-release, in_default-remove}
 
 pub loop-round-init : goal.loop-round-init
-loop-round-init c = (starts c.args.log.now.operations c.args.held.now.held, c.requires.current, c.requires.tells)
+loop-round-init c = (starts c.args.log.now.operations c.args.held.now.held, c.requires.current, c.requires.agrees)
 
 pub overflow_add-logged : goal.overflow_add-logged
 overflow_add-logged c =
@@ -58,7 +58,7 @@ loop-round-preserved c =
           let current = w.logged.ensures.current log op (sym w.id-id.ensures.value) (w.in-Some-remove.ensures.current log c.loop-round.invariant.1) in (
             rw (ops, w.logged-is, w.dropped-is) (logs_one c.loop-round.invariant.0 op c.match-remove.held.held found out.0 is fewer),
             rw (w.held-is, ops) current,
-            rw (w.tree-is, w.log-is) w.release.ensures.tells,
+            rw (w.tree-is, w.log-is) w.release.ensures.agrees,
           )
       | in-Some-remove+else-release w ↦
           let op = w.in-Some-remove.op in
@@ -71,7 +71,7 @@ loop-round-preserved c =
           let fewer : length c.match-remove.held.held + 1 ≡ length held = omega (arith, ap length later, w.in-Some-remove.ensures.len) in (
             rw (ops, w.logged-is, w.dropped-is) (drops_one c.loop-round.invariant.0 op c.match-remove.held.held found is fewer),
             rw (w.held-is, ops) (w.in-Some-remove.ensures.current log c.loop-round.invariant.1),
-            rw (w.tree-is, w.log-is) w.release.ensures.tells,
+            rw (w.tree-is, w.log-is) w.release.ensures.agrees,
           )
       | in_default-remove w ↦
           absurd

@@ -8,7 +8,7 @@ use Rattle.doc_rules.specs.Events.{logged}
 use Rattle.doc_rules.specs.Replica.{own_op}
 use Rattle.doc_rules.proofs.OwnFits.{own_fits}
 use Rattle.hold_buffer.specs.Held.{Buffer}
-use Rattle.replica_core.specs.Outcomes.{Meets, told_applied}
+use Rattle.replica_core.specs.Outcomes.{Meets, reply_of_applied}
 use Rattle.replica_core.specs.Whole.{replica_of}
 use Rattle.replica_core.proofs.Meeting.{meets_outcome}
 use Rattle.replica_core.proofs.Lacking.{answered}
@@ -38,7 +38,7 @@ returns-in-Ok-clause-met c =
     let r = replica_of c.args.name c.args.log.now.operations c.args.held.now.held in
     let s = replica_of c.args.name c.log_and_drain.new.log.operations c.log_and_drain.new.held.held in
     let same : c.in-Ok.op ≡ own_op r c.args.cursor c.args.mutation = answered c.in-Ok.ensures in
-    subst (λ (o : Op). Meets r (logged o) (told_applied c.log_and_drain.result) s) same
+    subst (λ (o : Op). Meets r (logged o) (reply_of_applied c.log_and_drain.result) s) same
     (meets_outcome c.args.name c.args.log.now.operations c.log_and_drain.new.log.operations c.args.held.now.held c.log_and_drain.new.held.held c.in-Ok.op c.log_and_drain.result
     (c.log_and_drain.ensures.ok c.args.name) c.log_and_drain.ensures.err c.log_and_drain.ensures.log (held_same c.log_and_drain.result c.args.held.now c.log_and_drain.new.held c.log_and_drain.ensures.held))
 

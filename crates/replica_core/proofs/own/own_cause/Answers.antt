@@ -9,16 +9,16 @@ use Rattle.op_core.specs.Limits.{most_operations, most_replicas}
 use Rattle.doc_rules.specs.Cause.{room_cause}
 use Rattle.doc_rules.specs.Events.{expected_by_cause, expected_of_change}
 use Rattle.doc_rules.specs.Replica.{Replica, own_op}
-use Rattle.replica_core.specs.Outcomes.{place_told}
+use Rattle.replica_core.specs.Outcomes.{first_place_cause}
 use Rattle.replica_core.specs.Whole.{replica_of}
 use Rattle.replica_core.proofs.Owning.{changed_by_causes}
 use Rattle.replica_core.proofs.own.own_cause.Goals as goal
 
--- what a change is due, by the causes against its place and its room
-due_by_both : (r : Replica) (c : Cursor) (m : Mutation) (place : Result ⊤ Refusal)
-    → place ≡ place_told (is_insertion m && not (ends_in_list c.path)) (not (is_insertion m) && is_head c.key)
+-- the expected outcome of a change, by the causes against its place and its room
+by_both_causes : (r : Replica) (c : Cursor) (m : Mutation) (place : Result ⊤ Refusal)
+    → place ≡ first_place_cause (is_insertion m && not (ends_in_list c.path)) (not (is_insertion m) && is_head c.key)
     → expected_of_change r c m ≡ expected_by_cause (and_then place (λ _. room_cause (own_op r c m) r.log)) (own_op r c m)
-due_by_both r c m place is =
+by_both_causes r c m place is =
     let op = own_op r c m in
     changed_by_causes (is_insertion m && not (ends_in_list c.path)) (not (is_insertion m) && is_head c.key) (nat_le (length (op ∷ r.log)) most_operations)
     (nat_le (length (replicas (op ∷ r.log))) most_replicas) op
@@ -28,9 +28,9 @@ pub returns-in-Ok : goal.returns-in-Ok
 returns-in-Ok c waiting =
     let r = replica_of c.args.name.now c.args.log.now.operations waiting in
     let op = own_op r c.args.cursor.now c.args.mutation.now in
-    due_by_both r c.args.cursor.now c.args.mutation.now _ c.in-Ok.ensures
+    by_both_causes r c.args.cursor.now c.args.mutation.now _ c.in-Ok.ensures
     ∙ ap (λ (a : Result ⊤ Refusal). expected_by_cause a op) (sym (c.check_room.ensures op refl))
 
 pub returns-in-Err : goal.returns-in-Err
 returns-in-Err c waiting =
-    due_by_both (replica_of c.args.name.now c.args.log.now.operations waiting) c.args.cursor.now c.args.mutation.now _ c.in-Err.ensures
+    by_both_causes (replica_of c.args.name.now c.args.log.now.operations waiting) c.args.cursor.now c.args.mutation.now _ c.in-Err.ensures

@@ -1,7 +1,7 @@
 use Rattle.replica_core.proofs.replica.Replica.read.Goals as goal
 
-pub read-requires-clause-tells : goal.read-requires-clause-tells
-read-requires-clause-tells c = c.self.invariant.tells
+pub read-requires-clause-agrees : goal.read-requires-clause-agrees
+read-requires-clause-agrees c = c.self.invariant.agrees
 
 pub read-requires-clause-current : goal.read-requires-clause-current
 read-requires-clause-current c = c.self.invariant.current
