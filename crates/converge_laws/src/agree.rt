@@ -25,7 +25,7 @@ pub fn orders_agree(alloc: Global, ops: &[Operation], others: &[Operation]) -> R
     }
 }
 
-/// Whether a list is good and holds the operations of a log.
+// Whether a list is good and holds the operations of a log.
 fn agrees_with(alloc: Global, log: &OpLog, others: &[Operation]) -> Result<bool, Refusal>
     ensures agree { IfOk result (λ agree. IsTrue agree ↔ Agree log.now.operations others.now) }
     ensures memory { IfErr result (λ cause. cause ≡ NoMemory) }
@@ -36,7 +36,7 @@ fn agrees_with(alloc: Global, log: &OpLog, others: &[Operation]) -> Result<bool,
     }
 }
 
-/// The log of a list, if each of its operations fits those before it.
+// The log of a list, if each of its operations fits those before it.
 fn good_log(alloc: Global, ops: &[Operation]) -> Result<Option<OpLog>, Refusal>
     ensures ok { IfOk result (λ found. MatchOption found (¬ (IsGood ops.now)) (λ log. log.operations ≡ ops.now)) }
     ensures memory { IfErr result (λ cause. cause ≡ NoMemory) }
@@ -47,7 +47,7 @@ fn good_log(alloc: Global, ops: &[Operation]) -> Result<Option<OpLog>, Refusal>
     }
 }
 
-/// No log for a cause against an operation.
+// No log for a cause against an operation.
 fn no_log(cause: Refusal) -> Result<Option<OpLog>, Refusal>
     ensures none { IfOk result (λ found. found ≡ None) }
     ensures misfit { IsOk result → cause ≢ NoMemory }
@@ -60,7 +60,7 @@ fn no_log(cause: Refusal) -> Result<Option<OpLog>, Refusal>
     }
 }
 
-/// Whether two logs hold the same operations: as many, and each of the one is in the other.
+// Whether two logs hold the same operations: as many, and each of the one is in the other.
 fn have_same(log: &OpLog, other: &OpLog) -> bool
     ensures { IsTrue result ↔ Agree log.now.operations other.now.operations }
 {

@@ -47,7 +47,7 @@ pub fn log_of(alloc: Global, ops: &[Operation]) -> Result<OpLog, Refusal>
     Ok(log)
 }
 
-/// Logs an operation if it fits.
+// Logs an operation if it fits.
 fn log_next(log: &mut OpLog, op: &Operation) -> Result<(), Refusal>
     ensures ok { OnOk result (log.new.operations ≡ log.old.operations ++ op.now ∷ []) }
     ensures fits { IsOk result → Fits op.now log.old.operations }
@@ -60,7 +60,7 @@ fn log_next(log: &mut OpLog, op: &Operation) -> Result<(), Refusal>
     Ok(())
 }
 
-/// The tree that a good list makes.
+// The tree that a good list makes.
 fn grown(alloc: Global, ops: &[Operation]) -> Result<Tree, Refusal>
     requires { IsGood ops.now }
     ensures ok { IfOk result (λ tree. AreOf ops.now (tree_facts tree) (tree_role tree)) }
@@ -73,7 +73,7 @@ fn grown(alloc: Global, ops: &[Operation]) -> Result<Tree, Refusal>
     Ok(tree)
 }
 
-/// Takes an operation into the tree that those before it made.
+// Takes an operation into the tree that those before it made.
 fn grow(tree: &mut Tree, before: &[Operation], op: &Operation) -> Result<(), Refusal>
     requires good { IsGood before.now }
     requires fits { Fits op.now before.now }

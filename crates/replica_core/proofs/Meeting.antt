@@ -31,7 +31,7 @@ meets_logged r op a s h = record {
   drains = h.3;
 }
 
--- memory is wanting
+-- out of memory
 pub meets_lacking : (r : Replica) (due : Expected) (e : Refusal) (s : Replica) → NeedsMemory due → e ≡ NoMemory → s ≡ r → Meets r due (reply.Refused e) s
 meets_lacking r due e s grows memory same = inr (grows, (ap reply.Refused memory, same))
 
@@ -44,7 +44,7 @@ pub meets_refused : (r : Replica) (op : Op) (cause : Result ⊤ Refusal) (e : Re
     → Meets r (expected_by_cause cause op) (reply.Refused e) s
 meets_refused r op cause e s is same = subst (λ (c : Result ⊤ Refusal). Meets r (expected_by_cause c op) (reply.Refused e) s) is (inl (refl, same))
 
--- ---- the table of operations that are handed in, a few rows at a time
+-- ---- the table of delivered operations, a few rows at a time
 
 -- the rows that look for its id, with what stands there
 abbrev by_id : Op → Option Op → Expected → Expected → Expected
@@ -122,7 +122,7 @@ module _ (r : Replica) (op : Op) (new : find_id r.log op.id ≡ None) (unheld : 
 pub meets_as : (r : Replica) (due other : Expected) (answer : Reply) (s : Replica) → due ≡ other → Meets r due answer s → Meets r other answer s
 meets_as r due other answer s is h = subst (λ d. Meets r d answer s) is h
 
--- an operation of one's own was logged, or memory is wanting
+-- an operation of one's own was logged, or memory ran out
 pub meets_outcome : (name : List ℕ) (log log' waiting waiting' : List Op) (op : Op) (answer : Result Applied Refusal)
     → IfOk answer (λ a. (n : ℕ) × (a.count ≡ suc n) × (a.id ≡ op.id) × Drains (append op (replica_of name log waiting)) n a.dropped (replica_of name log' waiting'))
     → IfErr answer (λ e. e ≡ NoMemory) → OnErr answer (log' ≡ log) → OnErr answer (waiting' ≡ waiting)

@@ -14,7 +14,7 @@ use Rattle.replica_core.proofs.Meeting.{meets_outcome}
 use Rattle.replica_core.proofs.Lacking.{answered}
 use Rattle.replica_core.proofs.own.log_own.Goals as goal
 
--- what is held stays where memory is wanting
+-- what is held stays when out of memory
 held_same : (answer : Result Applied Refusal) (old new : Buffer) → OnErr answer (new ≡ old) → OnErr answer (new.held ≡ old.held)
 held_same (Ok a) old new h = tt
 held_same (Err e) old new h = ap (λ (b : Buffer). b.held) h
