@@ -1,5 +1,5 @@
-//! Tests of ids, values and lines of bytes, and of operations as JSON and of a session's lines, by their worked rows. They stand
-//! above the crates that they try, so that those are proved once and not again for their tests.
+//! Tests of ids, values and lines of bytes, of operations as JSON, and of a session's lines, by worked rows. They are
+//! a crate above those that they test, so that these are proved once, and not again for their tests.
 #![tactic(auto)]
 
 #[cfg(test)]

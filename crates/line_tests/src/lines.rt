@@ -8,23 +8,23 @@ use op_core::{Front, Mutation};
 use std::alloc::Global;
 use std::test::Fail;
 
-/// What kind of request it is.
-fn kind(request: &Request) -> &'static str {
+// The kind of a request, for tests.
+fn kind_of(request: &Request) -> &'static str {
     match request {
         Request::Quit => "quit",
         Request::Version => "version",
-        Request::Of(_, ask) => asked(ask),
+        Request::Of(_, ask) => kind_on_document(ask),
     }
 }
 
-fn asked(ask: &DocRequest) -> &'static str {
+fn kind_on_document(ask: &DocRequest) -> &'static str {
     match ask {
         DocRequest::Open => "open",
         DocRequest::Front => "front",
         DocRequest::Held => "held",
         DocRequest::Account => "account",
-        DocRequest::Change(_, mutation) => changed(mutation),
-        DocRequest::Look(_, look) => looked(*look),
+        DocRequest::Change(_, mutation) => kind_of_change(mutation),
+        DocRequest::Look(_, look) => kind_of_query(*look),
         DocRequest::Let(_, _) => "let",
         DocRequest::Deliver(_) => "deliver",
         DocRequest::Operations(_, _) => "operations",
@@ -32,7 +32,7 @@ fn asked(ask: &DocRequest) -> &'static str {
     }
 }
 
-fn changed(mutation: &Mutation) -> &'static str {
+fn kind_of_change(mutation: &Mutation) -> &'static str {
     match mutation {
         Mutation::Assign(_) => "assign",
         Mutation::Insert(_) => "insert",
@@ -41,7 +41,7 @@ fn changed(mutation: &Mutation) -> &'static str {
     }
 }
 
-fn looked(look: Look) -> &'static str {
+fn kind_of_query(look: Look) -> &'static str {
     match look {
         Look::Keys => "keys",
         Look::Values => "values",
@@ -52,7 +52,7 @@ fn looked(look: Look) -> &'static str {
     }
 }
 
-/// The number of the cause against the line, or 0 where it is a request.
+// The number of the cause against the line, or 0 if it is a request.
 fn cause(alloc: Global, line: &[u8]) -> u64 {
     match Request::read(alloc, line) {
         Ok(_) => 0,
@@ -60,15 +60,15 @@ fn cause(alloc: Global, line: &[u8]) -> u64 {
     }
 }
 
-/// Whether the line is a request of this kind.
-fn is_of_kind(alloc: Global, line: &str, wanted: &str) -> bool {
+// Whether the line is a request of this kind.
+fn is_of_kind(alloc: Global, line: &str, expected: &str) -> bool {
     match Request::read(alloc, line.as_bytes()) {
-        Ok(request) => kind(&request) == wanted,
+        Ok(request) => kind_of(&request) == expected,
         Err(_) => false,
     }
 }
 
-/// A line of each kind, and which it is.
+// A line of each kind, and its kind.
 static REQUESTS: [(&str, &str); 20] = [
     ("[\"quit\"]", "quit"),
     ("[\"version\"]", "version"),
@@ -100,13 +100,13 @@ static REQUESTS: [(&str, &str); 20] = [
 
 #[test]
 fn reads_each_request(rt: HostRuntime) -> Result<(), Fail> {
-    for (line, wanted) in &REQUESTS {
-        assert!(rt; is_of_kind(rt.alloc(), line, wanted), "{line}");
+    for (line, expected) in &REQUESTS {
+        assert!(rt; is_of_kind(rt.alloc(), line, expected), "{line}");
     }
     Ok(())
 }
 
-/// Lines that are no request, and the number of the first cause against each.
+// Lines that are no request, and the number of the first cause against each.
 static CAUSES: [(&str, u64); 28] = [
     // no JSON, before all else
     ("", 1u64),
@@ -142,14 +142,14 @@ static CAUSES: [(&str, u64); 28] = [
 ];
 
 #[test]
-fn tells_the_first_cause(rt: HostRuntime) {
+fn reports_the_first_cause(rt: HostRuntime) {
     for (line, number) in &CAUSES {
         assert!(rt; cause(rt.alloc(), line.as_bytes()) == *number, "{line}");
     }
     assert_eq!(rt; cause(rt.alloc(), b"[\"\xff\"]"), 1);
 }
 
-/// What stands for an operation, and the number of the first cause against it.
+// JSON in place of an operation, and the number of the first cause against it.
 static OPERATIONS: [(&str, u64); 8] = [
     ("0", 12u64),
     ("[\"op\",[1,\"P\"],[],[[[\"m\",0]],\"k\"],[\"delete\"]]", 12),
@@ -172,7 +172,7 @@ static OPERATIONS: [(&str, u64); 8] = [
 ];
 
 #[test]
-fn tells_the_first_cause_against_an_operation(rt: HostRuntime) {
+fn reports_the_first_cause_against_an_operation(rt: HostRuntime) {
     for (operation, number) in &OPERATIONS {
         assert!(rt;
             delivered(rt.alloc(), operation) == Ok(*number),
@@ -181,7 +181,7 @@ fn tells_the_first_cause_against_an_operation(rt: HostRuntime) {
     }
 }
 
-/// The line by which an operation is handed in.
+// The line that delivers an operation.
 fn delivery(alloc: Global, operation: &str) -> Result<String, Refusal> {
     let mut line = String::from_str(alloc, "[\"deliver\",\"d\",")?;
     line.push_str(operation)?;
@@ -189,12 +189,12 @@ fn delivery(alloc: Global, operation: &str) -> Result<String, Refusal> {
     Ok(line)
 }
 
-/// The number of the cause against an operation that is handed in.
+// The number of the cause against an operation that is delivered.
 fn delivered(alloc: Global, operation: &str) -> Result<u64, Refusal> {
     Ok(cause(alloc, delivery(alloc, operation)?.as_bytes()))
 }
 
-/// The parts with so many of the same between them.
+// The parts with so many of the same between them.
 fn around(
     alloc: Global,
     before: &str,
@@ -210,7 +210,7 @@ fn around(
     Ok(line)
 }
 
-/// The number of the cause against such a line.
+// The number of the cause against such a line.
 fn cause_around(
     alloc: Global,
     before: &str,
@@ -221,7 +221,7 @@ fn cause_around(
     Ok(cause(alloc, around(alloc, before, many, piece, after)?.as_bytes()))
 }
 
-/// Lines at a limit and past it, by their parts, and the number of the cause against each, or 0.
+// Lines at a limit and past it, by their parts, and the number of the cause against each, or 0.
 static LIMITS: [(&str, usize, &str, &str, u64); 7] = [
     ("[\"assign\",\"d\",[0],\"", 4096, "a", "\"]", 0),
     ("[\"assign\",\"d\",[0],\"", 4097, "a", "\"]", 6),
@@ -241,7 +241,7 @@ fn reads_up_to_the_limits(rt: HostRuntime) {
     }
 }
 
-/// The number of the cause against an empty array in so many arrays less one.
+// The number of the cause against an empty array in so many arrays less one.
 fn cause_of_depth(alloc: Global, depth: usize) -> Result<u64, Refusal> {
     let opening = around(alloc, "", depth, "[", "")?;
     cause_around(alloc, opening.as_str(), depth, "]", "")
@@ -253,15 +253,15 @@ fn reads_down_to_the_deepest_array(rt: HostRuntime) {
     assert!(rt; cause_of_depth(rt.alloc(), 128) == Ok(1));
 }
 
-/// Whether this is told by that line.
-fn tells(alloc: Global, told: LineReply, line: &str) -> bool {
+// Whether the reply is written as that line.
+fn is_written_as(alloc: Global, reply: LineReply, line: &str) -> bool {
     let mut sink = Writer::new(Vec::<u8>::new(alloc));
-    told.write(alloc, &mut sink) == Ok(()) && sink.into_inner().as_slice() == line.as_bytes()
+    reply.write(alloc, &mut sink) == Ok(()) && sink.into_inner().as_slice() == line.as_bytes()
 }
 
-/// Whether this answer is told by that line.
-fn answers(alloc: Global, reply: Reply, line: &str) -> bool {
-    tells(alloc, LineReply::Answered(reply), line)
+// Whether the document's reply is written as that line.
+fn is_answered_as(alloc: Global, reply: Reply, line: &str) -> bool {
+    is_written_as(alloc, LineReply::Answered(reply), line)
 }
 
 fn own_id() -> Result<Id, Refusal> {
@@ -278,26 +278,26 @@ fn own_ids(alloc: Global, many: usize) -> Result<Ids, Refusal> {
 }
 
 #[test]
-fn tells_what_takes_no_memory(rt: HostRuntime) -> Result<(), Fail> {
-    assert!(rt; tells(rt.alloc(), LineReply::Opened(1), "[\"opened\",1]\n"));
-    assert!(rt; tells(rt.alloc(), LineReply::Bound, "[\"bound\"]\n"));
-    assert!(rt; tells(rt.alloc(), LineReply::Version, "[\"version\",2]\n"));
-    assert!(rt; tells(rt.alloc(), LineReply::Bye, "[\"bye\"]\n"));
+fn writes_replies_of_the_session(rt: HostRuntime) -> Result<(), Fail> {
+    assert!(rt; is_written_as(rt.alloc(), LineReply::Opened(1), "[\"opened\",1]\n"));
+    assert!(rt; is_written_as(rt.alloc(), LineReply::Bound, "[\"bound\"]\n"));
+    assert!(rt; is_written_as(rt.alloc(), LineReply::Version, "[\"version\",2]\n"));
+    assert!(rt; is_written_as(rt.alloc(), LineReply::Bye, "[\"bye\"]\n"));
     let applied = Reply::Applied {
         count: 1,
         dropped: 0,
         id: own_id()?,
     };
-    assert!(rt; answers(rt.alloc(), applied, "[\"applied\",1,0,[3,\"srv-1\"]]\n"));
+    assert!(rt; is_answered_as(rt.alloc(), applied, "[\"applied\",1,0,[3,\"srv-1\"]]\n"));
     Ok(())
 }
 
 #[test]
-fn tells_replies_of_one_part(rt: HostRuntime) {
-    assert!(rt; answers(rt.alloc(), Reply::Known, "[\"known\"]\n"));
-    assert!(rt; answers(rt.alloc(), Reply::Forgotten, "[\"forgotten\"]\n"));
+fn writes_replies_of_one_part(rt: HostRuntime) {
+    assert!(rt; is_answered_as(rt.alloc(), Reply::Known, "[\"known\"]\n"));
+    assert!(rt; is_answered_as(rt.alloc(), Reply::Forgotten, "[\"forgotten\"]\n"));
     assert!(rt;
-        answers(
+        is_answered_as(
             rt.alloc(),
             Reply::Account(18_446_744_073_709_551_615),
             "[\"account\",18446744073709551615]\n"
@@ -306,7 +306,7 @@ fn tells_replies_of_one_part(rt: HostRuntime) {
 }
 
 #[test]
-fn tells_refusals(rt: HostRuntime) {
+fn writes_refusals(rt: HostRuntime) {
     let rows = [
         (Refusal::BadRequest, "[\"no\",2,\"bad-request\"]\n"),
         (Refusal::Forked { last: 7 }, "[\"no\",14,\"forked\",7]\n"),
@@ -314,19 +314,19 @@ fn tells_refusals(rt: HostRuntime) {
     ];
     for (refusal, line) in rows {
         assert!(rt;
-            answers(rt.alloc(), Reply::Refused(refusal), line),
+            is_answered_as(rt.alloc(), Reply::Refused(refusal), line),
             "{line}"
         );
     }
 }
 
 #[test]
-fn tells_what_is_missing(rt: HostRuntime) -> Result<(), Fail> {
+fn writes_what_is_missing(rt: HostRuntime) -> Result<(), Fail> {
     let none = Ids::from(Vec::new(rt.alloc()));
-    assert!(rt; answers(rt.alloc(), Reply::Held(none), "[\"held\",[]]\n"));
+    assert!(rt; is_answered_as(rt.alloc(), Reply::Held(none), "[\"held\",[]]\n"));
     let two = own_ids(rt.alloc(), 2)?;
     assert!(rt;
-        answers(
+        is_answered_as(
             rt.alloc(),
             Reply::Held(two),
             "[\"held\",[[3,\"srv-1\"],[3,\"srv-1\"]]]\n"
@@ -336,10 +336,10 @@ fn tells_what_is_missing(rt: HostRuntime) -> Result<(), Fail> {
 }
 
 #[test]
-fn tells_readings(rt: HostRuntime) -> Result<(), Fail> {
+fn writes_what_was_read(rt: HostRuntime) -> Result<(), Fail> {
     let keys = String::from_str(rt.alloc(), "[\"\",\"a\\\"b\"]")?;
     assert!(rt;
-        answers(
+        is_answered_as(
             rt.alloc(),
             Reply::Keys(CompactText::from(keys)),
             "[\"keys\",[\"\",\"a\\\"b\"]]\n"
@@ -347,14 +347,14 @@ fn tells_readings(rt: HostRuntime) -> Result<(), Fail> {
     );
     let scalars = vec![in rt.alloc(); Scalar::Int(-1), Scalar::Bool(true), Scalar::Null]?;
     assert!(rt;
-        answers(
+        is_answered_as(
             rt.alloc(),
             Reply::Values(Scalars::from(scalars)),
             "[\"values\",[-1,true,null]]\n"
         )
     );
     assert!(rt;
-        answers(
+        is_answered_as(
             rt.alloc(),
             Reply::Sum(-18_446_744_073_709_551_614),
             "[\"sum\",\"-18446744073709551614\"]\n"
@@ -364,10 +364,10 @@ fn tells_readings(rt: HostRuntime) -> Result<(), Fail> {
 }
 
 #[test]
-fn tells_elements(rt: HostRuntime) -> Result<(), Fail> {
+fn writes_elements(rt: HostRuntime) -> Result<(), Fail> {
     let items = String::from_str(rt.alloc(), "[[[3,\"srv-1\"],[1]]]")?;
     assert!(rt;
-        answers(
+        is_answered_as(
             rt.alloc(),
             Reply::Items(CompactText::from(items)),
             "[\"items\",[[[3,\"srv-1\"],[1]]]]\n"
@@ -375,7 +375,7 @@ fn tells_elements(rt: HostRuntime) -> Result<(), Fail> {
     );
     let shown = String::from_str(rt.alloc(), "[[\"val\",[2,\"p\"],\"x\"]]")?;
     assert!(rt;
-        answers(
+        is_answered_as(
             rt.alloc(),
             Reply::Show(CompactText::from(shown)),
             "[\"show\",[[\"val\",[2,\"p\"],\"x\"]]]\n"
@@ -385,10 +385,10 @@ fn tells_elements(rt: HostRuntime) -> Result<(), Fail> {
 }
 
 #[test]
-fn tells_conflicts(rt: HostRuntime) -> Result<(), Fail> {
+fn writes_conflicts(rt: HostRuntime) -> Result<(), Fail> {
     let vals = vec![in rt.alloc(); (own_id()?, Val::EmptyMap), (own_id()?, Val::EmptyList)]?;
     assert!(rt;
-        answers(
+        is_answered_as(
             rt.alloc(),
             Reply::Conflicts(Conflicts::from(vals)),
             "[\"conflicts\",[[[3,\"srv-1\"],{}],[[3,\"srv-1\"],[]]]]\n"
@@ -398,11 +398,11 @@ fn tells_conflicts(rt: HostRuntime) -> Result<(), Fail> {
 }
 
 #[test]
-fn tells_the_log(rt: HostRuntime) -> Result<(), Fail> {
+fn writes_the_log(rt: HostRuntime) -> Result<(), Fail> {
     let operations = "[[\"op\",[1,\"p\"],[],[[[\"m\",0]],\"n\"],[\"add\",-7]]]";
     let text = CompactText::from(String::from_str(rt.alloc(), operations)?);
     assert!(rt;
-        answers(
+        is_answered_as(
             rt.alloc(),
             Reply::Operations(text),
             "[\"ops\",[[\"op\",[1,\"p\"],[],[[[\"m\",0]],\"n\"],[\"add\",-7]]]]\n"
@@ -412,10 +412,10 @@ fn tells_the_log(rt: HostRuntime) -> Result<(), Fail> {
 }
 
 #[test]
-fn tells_fronts_and_what_waits(rt: HostRuntime) -> Result<(), Fail> {
+fn writes_fronts_and_what_waits(rt: HostRuntime) -> Result<(), Fail> {
     let front = Front::from_pairs(rt.alloc(), &[(own_id()?.replica, 3u64)])?;
     assert!(rt;
-        answers(
+        is_answered_as(
             rt.alloc(),
             Reply::Front(front),
             "[\"front\",[[\"srv-1\",3]]]\n"
@@ -424,7 +424,7 @@ fn tells_fronts_and_what_waits(rt: HostRuntime) -> Result<(), Fail> {
     let missing = own_ids(rt.alloc(), 1)?;
     let waiting = Waiting::from(vec![in rt.alloc(); (own_id()?, missing)]?);
     assert!(rt;
-        answers(
+        is_answered_as(
             rt.alloc(),
             Reply::Waiting(waiting),
             "[\"waiting\",[[[3,\"srv-1\"],[[3,\"srv-1\"]]]]]\n"
@@ -434,11 +434,11 @@ fn tells_fronts_and_what_waits(rt: HostRuntime) -> Result<(), Fail> {
 }
 
 #[test]
-fn a_sink_that_fails_has_a_front_of_the_line(rt: HostRuntime) -> Result<(), Fail> {
+fn a_sink_that_fails_has_a_prefix_of_the_line(rt: HostRuntime) -> Result<(), Fail> {
     let missing = own_ids(rt.alloc(), 2)?;
     let mut sink = FailAfter::new(Writer::new(Vec::<u8>::new(rt.alloc())), 20);
-    let told = LineReply::Answered(Reply::Held(missing));
-    assert!(rt; told.write(rt.alloc(), &mut sink) == Err(WriteFault::Device));
+    let reply = LineReply::Answered(Reply::Held(missing));
+    assert!(rt; reply.write(rt.alloc(), &mut sink) == Err(WriteFault::Device));
     let FailAfter { device, .. } = sink;
     assert!(rt; device.into_inner().as_slice() == b"[\"held\",[[3,\"srv-1\"]".as_slice());
     Ok(())
