@@ -8,7 +8,7 @@ use Rattle.log_copy.specs.Kept.{Kept}
 use Rattle.copy_docs.specs.Docs.{Doc}
 use Rattle.served_copy.specs.Named.{is_known, replica_name}
 use Rattle.served_copy.specs.Stored.{ServesStored}
-use Rattle.tcp_server.specs.Listening.{TellsAddress}
+use Rattle.tcp_server.specs.Listening.{WritesAddress}
 use Rattle.commands.specs.Server.{ServesAndCloses, ServesAt}
 
 -- what holds where a call ended well, and it did
@@ -28,7 +28,7 @@ module _ {S : Type 0} (g : Ghosts S) (holds_alone : S → Trees → Type 0) wher
   }
 
   pub serves_at : (name : List ℕ) (names : List (List ℕ)) (count : ℕ) (old : Kept S) (held listens holds : Option (List ℕ))
-      → TellsAddress held listens → ServesAndCloses g holds_alone name names count old listens holds → ServesAt name names count held holds
+      → WritesAddress held listens → ServesAndCloses g holds_alone name names count old listens holds → ServesAt name names count held holds
   serves_at name names count old held listens holds listening all =
       let served = all.served in
       let named = served.raised.named in

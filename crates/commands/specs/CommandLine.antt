@@ -1,8 +1,9 @@
--- What the words of a command line ask for.
+-- What the arguments of a command line ask for.
 use Rattle.std.specs.Prelude.{◌≡◌, ◌≤◌, ℕ, Bool, true, false, List, [], ◌∷◌, codes, Some, unwrap_or}
 use Rattle.std.specs.Str.{bytes_eq}
 use Rattle.std.specs.Str.Parse.{IsNumeral, digits_value, without_leading_plus}
-use Rattle.clap.specs.Words.{App, Row, Rule, Text, all_of, fault_of, first_of, found_of, matches_of, new_app, new_rule, rows_of, with_rule}
+use Rattle.clap.specs.Words.{App, Row, Rule, Text, all_of, fault_of, first_of, found_of, matches_of}
+use Rattle.clap.specs.Words.{new_app, new_rule, rows_of, with_rule}
 use Rattle.clap.specs.declared.parser.matches.ArgMatches.{ArgMatches}
 use Rattle.run_core.specs.Names.{Wanted, is_good}
 use Rattle.clap.specs.declared.builder.ArgAction.TheVariants.{Append}
@@ -14,7 +15,7 @@ name_rule = record (new_rule (codes "name")) { long = Some (codes "name") }
 abbrev pub document_rule : Rule
 document_rule = record (new_rule (codes "doc")) { required = true; action = Some Append }
 
--- an option that has to be given, under its name
+-- a required option
 abbrev pub required_rule : Text → Rule
 required_rule name = record (new_rule name) { long = Some name; required = true }
 
@@ -24,7 +25,7 @@ run_command = with_rule (with_rule (new_app (codes "run")) name_rule) document_r
 
 abbrev pub is_run : List Text → Bool
 is_run [] = false
-is_run (word ∷ words) = bytes_eq word (codes "run")
+is_run (arg ∷ args) = bytes_eq arg (codes "run")
 
 -- the text is a number of sessions: decimal digits, before which a plus may stand, for 1 to 256
 pub record IsCount (text : Text) (sessions : ℕ) : Type 0 where
@@ -35,20 +36,25 @@ pub record IsCount (text : Text) (sessions : ℕ) : Type 0 where
 
 -- the name and the documents of clap's matches
 abbrev pub wanted_of : List Row → Wanted
-wanted_of rows = record { name = unwrap_or (first_of (codes "name") rows) (codes "srv"); documents = unwrap_or (all_of (codes "doc") rows) [] }
+wanted_of rows =
+    record {
+      name = unwrap_or (first_of (codes "name") rows) (codes "srv");
+      documents = unwrap_or (all_of (codes "doc") rows) [];
+    }
 
 -- the same, of matches that clap made
 abbrev pub asked_of : ArgMatches → Wanted
 asked_of matches = wanted_of (rows_of (found_of matches))
 
--- the words are a `run` that clap takes, with good names
-pub record AsksToRun (words : List Text) (wanted : Wanted) : Type 0 where
-  pub run : is_run words ≡ true
-  pub taken : fault_of run_command words ≡ []
-  pub named : wanted ≡ wanted_of (matches_of run_command words)
+-- the arguments are a `run` that clap takes, with good names
+pub record AsksToRun (args : List Text) (wanted : Wanted) : Type 0 where
+  pub run : is_run args ≡ true
+  pub taken : fault_of run_command args ≡ []
+  pub named : wanted ≡ wanted_of (matches_of run_command args)
   pub good : is_good wanted.name wanted.documents ≡ true
 
--- what a server is to be: its name, those of its documents, the address to listen at, and how many sessions
+-- what a server is to be: its name, those of its documents, the address to listen at, and how many
+-- sessions
 pub record WantedServer : Type 0 where
   pub name : Text
   pub documents : List Text
@@ -57,11 +63,13 @@ pub record WantedServer : Type 0 where
 
 -- serve --addr A --sessions N --file F [--name NAME] DOC..
 abbrev pub serve_command : App
-serve_command = with_rule (with_rule (with_rule (with_rule (with_rule (new_app (codes "serve")) (required_rule (codes "addr"))) (required_rule (codes "sessions"))) (required_rule (codes "file"))) name_rule) document_rule
+serve_command =
+    with_rule (with_rule (with_rule (with_rule (with_rule (new_app (codes "serve")) (required_rule (codes "addr")))
+    (required_rule (codes "sessions"))) (required_rule (codes "file"))) name_rule) document_rule
 
 abbrev pub is_serve : List Text → Bool
 is_serve [] = false
-is_serve (word ∷ words) = bytes_eq word (codes "serve")
+is_serve (arg ∷ args) = bytes_eq arg (codes "serve")
 
 -- these texts name this server, with good names and a number of sessions
 pub record IsServer (name : Text) (documents : List Text) (address count : Text) (wanted : WantedServer) : Type 0 where
@@ -77,11 +85,11 @@ NamesServer rows =
     IsServer (unwrap_or (first_of (codes "name") rows) (codes "srv")) (unwrap_or (all_of (codes "doc") rows) [])
     (unwrap_or (first_of (codes "addr") rows) []) (unwrap_or (first_of (codes "sessions") rows) [])
 
--- the words are a `serve` that clap takes, and name this server
-pub record AsksToServe (words : List Text) (wanted : WantedServer) : Type 0 where
-  pub serve : is_serve words ≡ true
-  pub taken : fault_of serve_command words ≡ []
-  pub named : NamesServer (matches_of serve_command words) wanted
+-- the arguments are a `serve` that clap takes, and name this server
+pub record AsksToServe (args : List Text) (wanted : WantedServer) : Type 0 where
+  pub serve : is_serve args ≡ true
+  pub taken : fault_of serve_command args ≡ []
+  pub named : NamesServer (matches_of serve_command args) wanted
 
 -- check --file F
 abbrev pub check_command : App
@@ -89,9 +97,9 @@ check_command = with_rule (new_app (codes "check")) (required_rule (codes "file"
 
 abbrev pub is_check : List Text → Bool
 is_check [] = false
-is_check (word ∷ words) = bytes_eq word (codes "check")
+is_check (arg ∷ args) = bytes_eq arg (codes "check")
 
--- the words are a `check` that clap takes
-pub record AsksToCheck (words : List Text) : Type 0 where
-  pub check : is_check words ≡ true
-  pub taken : fault_of check_command words ≡ []
+-- the arguments are a `check` that clap takes
+pub record AsksToCheck (args : List Text) : Type 0 where
+  pub check : is_check args ≡ true
+  pub taken : fault_of check_command args ≡ []

@@ -1,7 +1,8 @@
 //! The command line.
 ghost use Rattle.std.specs.Prelude.{◌≡◌, ◌≢◌, ℕ, [], false, map, MatchOption, IfOk, IfErr};
 ghost use Rattle.clap.specs.Words.{app_of, fault_of, found_of, kind_of, matches_of, rows_of, rule_of};
-ghost use Rattle.commands.specs.CommandLine.{IsCount, check_command, document_rule, is_check, is_run, is_serve, name_rule, required_rule, run_command, serve_command};
+ghost use Rattle.commands.specs.CommandLine.{IsCount, document_rule, is_check, is_run, is_serve, name_rule};
+ghost use Rattle.commands.specs.CommandLine.{check_command, required_rule, run_command, serve_command};
 
 use clap::error::ErrorKind;
 use clap::{Arg, ArgAction, ArgMatches, Command, Error};
@@ -10,7 +11,10 @@ use std::alloc::{AllocError, Global};
 /// The most sessions of a server.
 pub const MAX_SESSIONS: u16 = 256;
 
-/// An option that has to be given, under its name.
+/// The name of a server that is given none.
+pub const DEFAULT_NAME: &str = "srv";
+
+// A required option.
 fn required_option<'a>(alloc: Global, name: &'a str) -> Arg<'a>
     ensures rule { rule_of result ≡ required_rule name.entry.now }
     ensures local { result.global ≡ false }
@@ -18,7 +22,7 @@ fn required_option<'a>(alloc: Global, name: &'a str) -> Arg<'a>
     Arg::new(alloc, name).long(name).required(true)
 }
 
-/// `[--name NAME]`.
+// `[--name NAME]`.
 fn name_option<'a>(alloc: Global) -> Arg<'a>
     ensures rule { rule_of result ≡ name_rule }
     ensures local { result.global ≡ false }
@@ -26,8 +30,8 @@ fn name_option<'a>(alloc: Global) -> Arg<'a>
     Arg::new(alloc, "name").long("name")
 }
 
-/// `DOC..`.
-fn document_words<'a>(alloc: Global) -> Arg<'a>
+// `DOC..`.
+fn documents_argument<'a>(alloc: Global) -> Arg<'a>
     ensures rule { rule_of result ≡ document_rule }
     ensures local { result.global ≡ false }
 {
@@ -36,20 +40,20 @@ fn document_words<'a>(alloc: Global) -> Arg<'a>
         .action(ArgAction::Append)
 }
 
-/// What clap makes of the words of `run [--name NAME] DOC..`.
-pub fn run_matches<'a>(alloc: Global, words: &'a [&'a str]) -> Result<ArgMatches<'a>, Error>
-    ensures taken { IfOk result (λ m. fault_of run_command (map (λ s. s.now) words.entry.now) ≡ []) }
-    ensures rows { IfOk result (λ m. rows_of (found_of m) ≡ matches_of run_command (map (λ s. s.now) words.entry.now)) }
+/// Parses `run [--name NAME] DOC..`.
+pub fn parse_run<'a>(alloc: Global, args: &'a [&'a str]) -> Result<ArgMatches<'a>, Error>
+    ensures taken { IfOk result (λ m. fault_of run_command (map (λ s. s.now) args.entry.now) ≡ []) }
+    ensures rows { IfOk result (λ m. rows_of (found_of m) ≡ matches_of run_command (map (λ s. s.now) args.entry.now)) }
     ensures refused { IfErr result (λ e. kind_of e ≢ ErrorKind.OutOfMemory
-        → fault_of run_command (map (λ s. s.now) words.entry.now) ≢ []) }
+        → fault_of run_command (map (λ s. s.now) args.entry.now) ≢ []) }
 {
     let command = Command::new(alloc, "run")
         .arg(name_option(alloc))?
-        .arg(document_words(alloc))?;
-    command.try_get_matches_from(words)
+        .arg(documents_argument(alloc))?;
+    command.try_get_matches_from(args)
 }
 
-/// `serve --addr A --sessions N --file F [--name NAME] DOC..`.
+// `serve --addr A --sessions N --file F [--name NAME] DOC..`.
 fn server_command<'a>(alloc: Global) -> Result<Command<'a>, AllocError>
     ensures { IfOk result (λ command. app_of command ≡ serve_command) }
 {
@@ -58,61 +62,63 @@ fn server_command<'a>(alloc: Global) -> Result<Command<'a>, AllocError>
         .arg(required_option(alloc, "sessions"))?
         .arg(required_option(alloc, "file"))?
         .arg(name_option(alloc))?
-        .arg(document_words(alloc))
+        .arg(documents_argument(alloc))
 }
 
-/// What clap makes of the words of `serve --addr A --sessions N --file F [--name NAME] DOC..`.
-pub fn serve_matches<'a>(alloc: Global, words: &'a [&'a str]) -> Result<ArgMatches<'a>, Error>
-    ensures taken { IfOk result (λ m. fault_of serve_command (map (λ s. s.now) words.entry.now) ≡ []) }
-    ensures rows { IfOk result (λ m. rows_of (found_of m) ≡ matches_of serve_command (map (λ s. s.now) words.entry.now)) }
+/// Parses `serve --addr A --sessions N --file F [--name NAME] DOC..`.
+pub fn parse_serve<'a>(alloc: Global, args: &'a [&'a str]) -> Result<ArgMatches<'a>, Error>
+    ensures taken { IfOk result (λ m. fault_of serve_command (map (λ s. s.now) args.entry.now) ≡ []) }
+    ensures rows { IfOk result (λ m.
+        rows_of (found_of m) ≡ matches_of serve_command (map (λ s. s.now) args.entry.now)) }
     ensures refused { IfErr result (λ e. kind_of e ≢ ErrorKind.OutOfMemory
-        → fault_of serve_command (map (λ s. s.now) words.entry.now) ≢ []) }
+        → fault_of serve_command (map (λ s. s.now) args.entry.now) ≢ []) }
 {
-    server_command(alloc)?.try_get_matches_from(words)
+    server_command(alloc)?.try_get_matches_from(args)
 }
 
-/// What clap makes of the words of `check --file F`.
-pub fn check_matches<'a>(alloc: Global, words: &'a [&'a str]) -> Result<ArgMatches<'a>, Error>
-    ensures taken { IfOk result (λ m. fault_of check_command (map (λ s. s.now) words.entry.now) ≡ []) }
-    ensures rows { IfOk result (λ m. rows_of (found_of m) ≡ matches_of check_command (map (λ s. s.now) words.entry.now)) }
+/// Parses `check --file F`.
+pub fn parse_check<'a>(alloc: Global, args: &'a [&'a str]) -> Result<ArgMatches<'a>, Error>
+    ensures taken { IfOk result (λ m. fault_of check_command (map (λ s. s.now) args.entry.now) ≡ []) }
+    ensures rows { IfOk result (λ m.
+        rows_of (found_of m) ≡ matches_of check_command (map (λ s. s.now) args.entry.now)) }
     ensures refused { IfErr result (λ e. kind_of e ≢ ErrorKind.OutOfMemory
-        → fault_of check_command (map (λ s. s.now) words.entry.now) ≢ []) }
+        → fault_of check_command (map (λ s. s.now) args.entry.now) ≢ []) }
 {
     let command = Command::new(alloc, "check").arg(required_option(alloc, "file"))?;
-    command.try_get_matches_from(words)
+    command.try_get_matches_from(args)
 }
 
-/// Whether the first word is `run`.
-pub fn is_run(words: &[&str]) -> bool
-    ensures { result ≡ is_run (map (λ s. s.now) words.now) }
+/// Whether the first argument is `run`.
+pub fn is_run(args: &[&str]) -> bool
+    ensures { result ≡ is_run (map (λ s. s.now) args.now) }
 {
-    match words {
+    match args {
         [first, ..] => *first == "run",
         [] => false,
     }
 }
 
-/// Whether the first word is `serve`.
-pub fn is_serve(words: &[&str]) -> bool
-    ensures { result ≡ is_serve (map (λ s. s.now) words.now) }
+/// Whether the first argument is `serve`.
+pub fn is_serve(args: &[&str]) -> bool
+    ensures { result ≡ is_serve (map (λ s. s.now) args.now) }
 {
-    match words {
+    match args {
         [first, ..] => *first == "serve",
         [] => false,
     }
 }
 
-/// Whether the first word is `check`.
-pub fn is_check(words: &[&str]) -> bool
-    ensures { result ≡ is_check (map (λ s. s.now) words.now) }
+/// Whether the first argument is `check`.
+pub fn is_check(args: &[&str]) -> bool
+    ensures { result ≡ is_check (map (λ s. s.now) args.now) }
 {
-    match words {
+    match args {
         [first, ..] => *first == "check",
         [] => false,
     }
 }
 
-/// How many sessions a text asks for: 1 to 256.
+/// The number of sessions in the text: 1 to 256, or none.
 pub fn sessions_of(text: &str) -> Option<u16>
     ensures { MatchOption result ((n : ℕ) → IsCount text.now n → ⊥) (IsCount text.now) }
 {

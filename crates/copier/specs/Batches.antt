@@ -1,4 +1,4 @@
--- What is copied: a copier writes what sessions log into the copy, in batches, while they run.
+-- What is copied: while sessions run, a copier writes what they log into the copy, in batches.
 use Rattle.std.specs.Prelude.{◌≡◌, ◌≢◌, ℕ, Bool, true, false, List, [], Contains, length, Option, None}
 use Rattle.doc_words.specs.Words.{Op}
 use Rattle.copy_docs.specs.Docs.{Doc, IsBatch, add_batch, log_of}
@@ -15,17 +15,20 @@ pub record AddsNext (name : List ℕ) (old new : List Doc) : Type 0 where
 -- One batch after another was added, each of a document of these names; and whether there was one.
 pub data AreAdded (names : List (List ℕ)) (old : List Doc) : Bool → List Doc → Type 0 where
   none : AreAdded names old false old
-  more : {any : Bool} {before after : List Doc} {name : List ℕ} → AreAdded names old any before → Contains names name → AddsNext name before after → AreAdded names old true after
+  more : {any : Bool} {before after : List Doc} {name : List ℕ} → AreAdded names old any before
+      → Contains names name → AddsNext name before after → AreAdded names old true after
 
--- the copy has what it had, and batches of these documents behind it, if any
+-- the copy has what it had, and then batches of these documents, if any
 pub record AddsBatches {S : Type 0} (names : List (List ℕ)) (old new : Kept S) : Type 0 where
   pub any : Bool
   pub added : AreAdded names old.docs any new.docs
   pub epoch : new.epoch ≡ old.epoch
 
--- What a copier left of a copy, behind documents of these names, and why it ended before all was copied, if it did. With no fault the
--- copy has batches more, and still works. A fault of memory leaves batches too. After one of the store nothing is known.
-pub record HasCopied {S : Type 0} (names : List (List ℕ)) (old new : Kept S) (fault : Option Fault) : Type 0 where
+-- What a copier made of a copy, beside documents of these names, and why it ended before all was
+-- copied, if it did. Without a fault the copy has more batches, and still works. Where memory ran
+-- out it has more batches too. After a database error nothing is known.
+pub record HasCopied {S : Type 0} (names : List (List ℕ)) (old new : Kept S)
+    (fault : Option Fault) : Type 0 where
   pub copied : fault ≡ None → AddsBatches names old new
   pub works : fault ≡ None → old.has_failed ≡ false → new.has_failed ≡ false
   pub grown : new.has_failed ≡ false → AddsBatches names old new

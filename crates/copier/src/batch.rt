@@ -1,5 +1,6 @@
-//! The next entries of documents.
-ghost use Rattle.std.specs.Prelude.{◌≡◌, ◌≢◌, ◌⊎◌, ◌↔◌, ◌<◌, List, [], length, get_or, Contains, true, false, IfOk, IfErr, OnOk, Ok, Err};
+//! Batches: the next entries of a document, from its log into the stored log.
+ghost use Rattle.std.specs.Prelude.{◌≡◌, ◌≢◌, ◌⊎◌, ◌↔◌, ◌<◌, List, [], length, get_or, Contains};
+ghost use Rattle.std.specs.Prelude.{true, false, IfOk, IfErr, OnOk, Ok, Err};
 ghost use Rattle.json_scalar.specs.Refusal.{UnlessMemory};
 ghost use Rattle.sqlite.specs.Tree.{Trees};
 ghost use Rattle.sqlite.specs.Held.{state};
@@ -11,7 +12,7 @@ ghost use Rattle.copy_docs.specs.Docs.{IsBatch, add_batch, log_of};
 ghost use Rattle.log_copy.specs.Kept.{content};
 ghost use Rattle.copier.specs.Batches.{AddsNext, AreAdded, AddsBatches};
 
-use crate::watch::CopyObserver;
+use crate::observer::CopyObserver;
 use doc_words::Operations;
 use json_scalar::Refusal;
 use locked_doc::LockedDoc;
@@ -21,7 +22,7 @@ use share_ledger::Marker;
 use sqlite::Alter;
 use std::sync::Wait;
 
-/// How many entries of the document the copy has. The one error is `Store`, after a fault.
+// How many entries of the document the copy has. The one error is `Store`, after a fault.
 fn rows_of<S: Alter>(copy: &LogCopy<S>, name: &str) -> Result<usize, Fault>
     ensures rows { IfOk result (λ rows. rows ≡ length (log_of name.now copy.now.docs)) }
     ensures failed { (result ≡ Err Fault.Store) ↔ (copy.now.has_failed ≡ true) }
@@ -30,33 +31,35 @@ fn rows_of<S: Alter>(copy: &LogCopy<S>, name: &str) -> Result<usize, Fault>
     Ok(copy_docs::count(copy.docs()?, name))
 }
 
-/// What a document has behind these entries, as far as one batch may hold it. The one error is `NoMemory`.
+// The document's entries from this index on, at most a batch of them. It stands alone for its
+// clause: of what a lock holds a caller of `lock` can state nothing.
 fn next_of<M: Marker>(doc: &LockedDoc<M>, from: usize) -> Result<Operations, Refusal>
     ensures { UnlessMemory result (Ok (tail from MAX_BATCH doc.now.document)) }
 {
     doc.tail(from, MAX_BATCH)
 }
 
-/// The same of the document at this index. Its lock is taken, and given back.
+// The same for the document at this index, under its lock.
 fn next_at<M: Marker, R: Wait>(
     rt: &R,
     shared: &SharedDocuments<M>,
-    index: usize,
+    doc_index: usize,
     from: usize,
 ) -> Result<Operations, Refusal>
-    requires { index < length shared.now.names.items }
+    requires { doc_index < length shared.now.names.items }
 {
-    let doc = shared.shelf.doc(index).lock(rt);
+    let doc = shared.shelf.doc(doc_index).lock(rt);
     next_of(&doc, from)
 }
 
-/// Notes that the document's first entries, as many as the copy has, are copied.
+// Notes in the document how many of its entries the copy has.
 fn note_rows<M: Marker, S: Alter>(
     doc: &mut LockedDoc<M>,
     copy: &LogCopy<S>,
     name: &str,
 ) -> Result<(), Fault>
-    ensures noted { OnOk result ((doc.new.number ≡ doc.old.number) × (doc.new.document ≡ copied_to (length (log_of name.now copy.now.docs)) doc.old.document)) }
+    ensures noted { OnOk result ((doc.new.number ≡ doc.old.number)
+        × (doc.new.document ≡ copied_to (length (log_of name.now copy.now.docs)) doc.old.document)) }
     ensures failed { (result ≡ Err Fault.Store) ↔ (copy.now.has_failed ≡ true) }
     ensures never_else { IfErr result (λ e. (e ≡ Fault.Store) × (doc.new ≡ doc.old)) }
 {
@@ -64,25 +67,25 @@ fn note_rows<M: Marker, S: Alter>(
     Ok(())
 }
 
-/// The same of the document at this index. Its lock is taken, and given back.
+// The same for the document at this index, under its lock.
 fn note_at<M: Marker, R: Wait, S: Alter>(
     rt: &R,
     shared: &SharedDocuments<M>,
-    index: usize,
+    doc_index: usize,
     copy: &LogCopy<S>,
     name: &str,
 ) -> Result<(), Fault>
-    requires { index < length shared.now.names.items }
+    requires { doc_index < length shared.now.names.items }
     ensures failed { (result ≡ Err Fault.Store) ↔ (copy.now.has_failed ≡ true) }
     ensures never_else { IfErr result (λ e. e ≡ Fault.Store) }
 {
-    let mut doc = shared.shelf.doc(index).lock(rt);
+    let mut doc = shared.shelf.doc(doc_index).lock(rt);
     note_rows(&mut doc, copy, name)
 }
 
-/// Tells the watch of these entries, which were just added to the document of this name. Nothing is claimed of it.
-fn tell_added<S: Alter, T: CopyObserver>(
-    watch: &T,
+// Notifies the observer of these entries, which were just added to the document of this name.
+fn notify_added<S: Alter, T: CopyObserver>(
+    observer: &T,
     copy: &LogCopy<S>,
     name: &str,
     entries: &[op_core::Operation],
@@ -91,11 +94,11 @@ fn tell_added<S: Alter, T: CopyObserver>(
         return;
     };
     if let Some(at) = copy_docs::find(docs, name) {
-        watch.added(&docs[at], entries);
+        observer.added(&docs[at], entries);
     }
 }
 
-/// Adds these entries to the copy, as the document's next ones.
+// Adds these entries to the copy, as the document's next ones.
 fn add_next<S: Alter>(
     copy: &mut LogCopy<S>,
     name: &str,
@@ -108,25 +111,29 @@ fn add_next<S: Alter>(
     ensures failed { (result ≡ Err Fault.Store) ↔ (copy.new.has_failed ≡ true) }
     ensures alone { copy.new.is_alone ≡ copy.old.is_alone }
     // A crash leaves what was there, or all of them besides.
-    ensures crash { copy.old.has_failed ≡ false → copy.old.is_alone ≡ true → HasCleanDisk (state S.Store copy.new.conn) → (db : Trees) → (state S.Store copy.new.conn).may_leave db
-        → Holds (content copy.old.epoch copy.old.docs) db ⊎ Holds (content copy.old.epoch (add_batch name.now entries.now copy.old.docs)) db }
+    ensures crash { copy.old.has_failed ≡ false → copy.old.is_alone ≡ true → HasCleanDisk (state S.Store copy.new.conn)
+        → (db : Trees) → (state S.Store copy.new.conn).may_leave db
+        → Holds (content copy.old.epoch copy.old.docs) db
+        ⊎ Holds (content copy.old.epoch (add_batch name.now entries.now copy.old.docs)) db }
 {
     let from = rows_of(copy, name)?;
     copy.add_batch(name, from, entries)
 }
 
-/// Copies the next entries of the document of this name at this index, at most 256, and then notes how many of it the copy has, and
-/// tells the watch of them. The answer is whether there were any. Its lock isn't held while they are written. A fault notes nothing.
+/// Copies the next entries of the document of this name at this index, at most 256. Then it notes
+/// in the document how many of its entries the copy has, and notifies the observer. It returns
+/// whether there were any. The document's lock isn't held while they are written. The error is
+/// `Memory`, with the copy unchanged, or `Store` after a database error; then nothing is noted.
 pub fn copy_some<M: Marker, R: Wait, S: Alter, T: CopyObserver>(
     rt: &R,
     shared: &SharedDocuments<M>,
-    index: usize,
+    doc_index: usize,
     name: &str,
     copy: &mut LogCopy<S>,
-    watch: &T,
+    observer: &T,
 ) -> Result<bool, Fault>
-    requires within { index < length shared.now.names.items }
-    requires named { name.now ≡ get_or shared.now.names.items index [] }
+    requires within { doc_index < length shared.now.names.items }
+    requires named { name.now ≡ get_or shared.now.names.items doc_index [] }
     ensures some { result ≡ Ok true → AddsNext name.now copy.old.docs copy.new.docs }
     ensures none { result ≡ Ok false → copy.new ≡ copy.old }
     ensures works { OnOk result ((copy.new.epoch ≡ copy.old.epoch) × (copy.new.has_failed ≡ false)) }
@@ -135,45 +142,47 @@ pub fn copy_some<M: Marker, R: Wait, S: Alter, T: CopyObserver>(
     ensures alone { copy.new.is_alone ≡ copy.old.is_alone }
 {
     let from = rows_of(copy, name)?;
-    let Ok(next) = next_at(rt, shared, index, from) else {
+    let Ok(next) = next_at(rt, shared, doc_index, from) else {
         return Err(Fault::Memory);
     };
     if next.as_slice().is_empty() {
         return Ok(false);
     }
     add_next(copy, name, next.as_slice())?;
-    note_at(rt, shared, index, copy, name)?;
-    tell_added(watch, copy, name, next.as_slice());
+    note_at(rt, shared, doc_index, copy, name)?;
+    notify_added(observer, copy, name, next.as_slice());
     Ok(true)
 }
 
-/// The name of the document at this index.
-fn name_at<M: Marker>(shared: &SharedDocuments<M>, index: usize) -> &str
-    requires { index < length shared.now.names.items }
-    ensures named { result.now ≡ get_or shared.entry.now.names.items index [] }
+// The name of the document at this index.
+fn name_at<M: Marker>(shared: &SharedDocuments<M>, doc_index: usize) -> &str
+    requires { doc_index < length shared.now.names.items }
+    ensures named { result.now ≡ get_or shared.entry.now.names.items doc_index [] }
     ensures among { Contains shared.entry.now.names.items result.now }
 {
-    shared.names[index].as_str()
+    shared.names[doc_index].as_str()
 }
 
-/// Copies the next entries of each document, and tells whether there were any.
+/// Copies the next entries of each document, at most 256 of each, and returns whether there were
+/// any. The errors are those of `copy_some`: what was copied before the error stays.
 pub fn copy_each<M: Marker, R: Wait, S: Alter, T: CopyObserver>(
     rt: &R,
     shared: &SharedDocuments<M>,
     copy: &mut LogCopy<S>,
-    watch: &T,
+    observer: &T,
 ) -> Result<bool, Fault>
     ensures ok { IfOk result (λ any. AreAdded shared.now.names.items copy.old.docs any copy.new.docs) }
     ensures none { result ≡ Ok false → copy.new.docs ≡ copy.old.docs }
-    ensures works { OnOk result ((copy.new.epoch ≡ copy.old.epoch) × (copy.old.has_failed ≡ false → copy.new.has_failed ≡ false)) }
+    ensures works { OnOk result ((copy.new.epoch ≡ copy.old.epoch)
+        × (copy.old.has_failed ≡ false → copy.new.has_failed ≡ false)) }
     ensures err { IfErr result (λ e. (e ≡ Fault.Store) ⊎ AddsBatches shared.now.names.items copy.old copy.new) }
     ensures failed { result ≡ Err Fault.Store → copy.new.has_failed ≡ true }
     ensures alone { copy.new.is_alone ≡ copy.old.is_alone }
 {
     let mut any = false;
-    for index in 0..shared.names.len() {
-        let name = name_at(shared, index);
-        if copy_some(rt, shared, index, name, copy, watch)? {
+    for doc_index in 0..shared.names.len() {
+        let name = name_at(shared, doc_index);
+        if copy_some(rt, shared, doc_index, name, copy, observer)? {
             any = true;
         }
     }

@@ -1,23 +1,25 @@
-//! What a thread beside sessions does to keep a copy behind them.
+//! The copier: the background task that stores what sessions log.
 ghost use Rattle.std.specs.Prelude.{◌≡◌, ◌⊎◌, OnOk, IfErr, Err, true, false, None};
 ghost use Rattle.copier.specs.Batches.{AddsBatches, HasCopied};
 
 use crate::batch::copy_each;
-use crate::watch::CopyObserver;
+use crate::observer::CopyObserver;
 use log_copy::{Fault, LogCopy};
 use server_core::{SharedDocuments, Side, Signalled};
 use share_ledger::Marker;
 use sqlite::Alter;
 use std::sync::Wait;
 
-/// Copies what so many sessions log while they run, and what is left once they have ended. It sleeps while there is nothing to copy,
-/// and holds no lock while it writes. It tells the watch of each batch. A fault ends it.
+/// Copies what so many sessions log while they run, and what is left once they have ended. It
+/// sleeps while there is nothing to copy, and holds no lock while it writes. It notifies the
+/// observer of each batch. It ends at the first fault: `Store` where the database failed, `Memory`
+/// where memory ran out.
 pub fn keep_up<M: Marker, R: Wait, S: Alter, T: CopyObserver>(
     rt: &R,
     shared: &SharedDocuments<M>,
     sessions: u64,
     copy: &mut LogCopy<S>,
-    watch: &T,
+    observer: &T,
 ) -> Result<(), Fault>
     ensures ok { OnOk result (AddsBatches shared.now.names.items copy.old copy.new) }
     ensures err { IfErr result (λ e. (e ≡ Fault.Store) ⊎ AddsBatches shared.now.names.items copy.old copy.new) }
@@ -30,7 +32,7 @@ pub fn keep_up<M: Marker, R: Wait, S: Alter, T: CopyObserver>(
         ended: 0,
     };
     for _ in rt.forever() {
-        match copy_each(rt, shared, copy, watch) {
+        match copy_each(rt, shared, copy, observer) {
             Ok(true) => {}
             Ok(false) => {
                 // What was logged before all had ended was just copied.
@@ -45,46 +47,51 @@ pub fn keep_up<M: Marker, R: Wait, S: Alter, T: CopyObserver>(
     Ok(())
 }
 
-/// Tells the watch why the copying ended, if by a fault.
-fn tell_stopped<T: CopyObserver, S: Alter>(watch: &T, fault: &Option<Fault>, copy: &LogCopy<S>) {
+// Notifies the observer if a fault ended the copying.
+fn notify_stopped<T: CopyObserver, S: Alter>(
+    observer: &T,
+    fault: &Option<Fault>,
+    copy: &LogCopy<S>,
+) {
     if let Some(why) = fault {
-        watch.stopped(why, copy.cause());
+        observer.stopped(why, copy.cause());
     }
 }
 
-/// Keeps a copy behind sessions, as `keep_up`. A fault ends the copying alone: the watch is told of it at once, and it is kept.
+/// Stores what sessions log, as `keep_up`. A fault ends only the copying. The observer is notified
+/// at once, and the fault is kept.
 #[derive(Drop)]
 pub struct Copier<'a, S: Alter, T: CopyObserver> {
-    /// The copy.
+    /// The stored log.
     pub copy: &'a mut LogCopy<S>,
-    /// What is told of each batch, and of a fault.
-    pub watch: &'a T,
+    /// Is notified of each batch and of a fault.
+    pub observer: &'a T,
     /// Why the copying ended before all was copied, if it did.
     pub fault: Option<Fault>,
 }
 
 impl<'a, S: Alter, T: CopyObserver> Copier<'a, S, T> {
-    /// One that has copied nothing yet.
-    pub fn new(copy: &'a mut LogCopy<S>, watch: &'a T) -> Copier<'a, S, T>
+    /// A copier that has copied nothing yet.
+    pub fn new(copy: &'a mut LogCopy<S>, observer: &'a T) -> Copier<'a, S, T>
         ensures same_reference { result.copy.ghost_name ≡ copy.entry.ghost_name }
-        ensures begun { result.copy.now ≡ copy.old }
+        ensures copy { result.copy.now ≡ copy.old }
         ensures fault { result.fault ≡ None }
     {
         Copier {
             copy,
-            watch,
+            observer,
             fault: None,
         }
     }
 
-    /// Lets the copy go, and tells why the copying ended before all was copied, if it did.
+    /// Returns why the copying ended before all was copied, if it did.
     pub fn end(self) -> Option<Fault>
         ensures left { self.exit.0.now ≡ self.entry.copy.now }
         ensures fault { result ≡ self.entry.fault }
     {
         let Copier {
             copy: _,
-            watch: _,
+            observer: _,
             fault,
         } = self;
         fault
@@ -92,10 +99,11 @@ impl<'a, S: Alter, T: CopyObserver> Copier<'a, S, T> {
 }
 
 impl<M: Marker, S: Alter, T: CopyObserver> Side<M> for Copier<'_, S, T> {
-    ghost becomes = { λ names old new. (new.copy.ghost_name ≡ old.copy.ghost_name) × HasCopied names old.copy.now new.copy.now new.fault };
+    ghost becomes = { λ names old new. (new.copy.ghost_name ≡ old.copy.ghost_name)
+        × HasCopied names old.copy.now new.copy.now new.fault };
 
     fn run<R: Wait>(&mut self, rt: &R, shared: &SharedDocuments<M>, sessions: u64) {
-        self.fault = keep_up(rt, shared, sessions, self.copy, self.watch).err();
-        tell_stopped(self.watch, &self.fault, self.copy);
+        self.fault = keep_up(rt, shared, sessions, self.copy, self.observer).err();
+        notify_stopped(self.observer, &self.fault, self.copy);
     }
 }

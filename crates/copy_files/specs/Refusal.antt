@@ -1,4 +1,4 @@
--- Which causes are told as a refusal.
+-- Which causes are reported as a refusal.
 use Rattle.std.specs.Prelude.{⊤}
 use Rattle.copy_files.specs.declared.causes.Cause.{Cause}
 use Rattle.copy_files.specs.declared.causes.Cause.TheVariants.{NoDatabase, Damaged, NoLog}

@@ -3,7 +3,7 @@ ghost use Rattle.std.specs.Prelude.{◌≡◌, ◌⊎◌, ◌↔◌};
 ghost use Rattle.copy_files.specs.Refusal.{IsRefusal};
 
 use crate::wrong::Wrong;
-use log_copy::{Fault, words_of};
+use log_copy::{Fault, message_of};
 use sqlite::ErrorCode;
 use std::fmt;
 
@@ -41,7 +41,7 @@ pub enum Cause {
 }
 
 impl Cause {
-    /// The fault that a start or a check then tells.
+    // The fault that a start or a check then reports.
     pub(crate) fn fault(&self) -> Fault
         ensures refused { (result ≡ Fault.Refused) ↔ IsRefusal self.now }
         ensures else_store { (result ≡ Fault.Refused) ⊎ (result ≡ Fault.Store) }
@@ -52,9 +52,9 @@ impl Cause {
         }
     }
 
-    fn words(&self) -> &'static str {
+    fn message(&self) -> &'static str {
         match self {
-            Cause::Database(code) => words_of(*code),
+            Cause::Database(code) => message_of(*code),
             Cause::NoDatabase => "it is no SQLite database",
             Cause::Damaged =>
                 "it is a SQLite database that is damaged, or that this program does not understand",
@@ -77,7 +77,7 @@ impl fmt::Display for Cause {
     fn fmt<W: fmt::Write>(&self, f: &mut fmt::Formatter<W>) -> fmt::Result {
         match self {
             Cause::NoLog(wrong) => write!(f, "it is no stored log: {wrong}"),
-            other => f.write_str(other.words()),
+            other => f.write_str(other.message()),
         }
     }
 }

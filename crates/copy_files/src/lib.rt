@@ -1,7 +1,7 @@
-//! Stored logs in files: how one is opened, and how what it holds is told.
+//! Stored logs in files: opening one, and reporting what it holds.
 //!
-//! No clause can say what a real file holds, so all that a clause says of a stored log stands below, over any store. So does here what is
-//! done with one once its file is open.
+//! No clause can say what a real file holds. So all that clauses say of a stored log is said in the
+//! crates below, over any store. What is done with an open log here is generic over its store, too.
 #![tactic(auto)]
 
 mod causes;
@@ -15,7 +15,7 @@ ghost use Rattle.copy_files.specs.Refusal.{IsRefusal};
 pub use causes::Cause;
 use copy_report::{CheckFailure, check_opened};
 use line_feed::Sink;
-use log_copy::{Fault, Foldable, LogCopy, words_of};
+use log_copy::{Fault, Foldable, LogCopy, message_of};
 use paths::{Before, look_at, why_no_database, why_not_opened};
 use server_notes::{note_made, note_took_over};
 use sqlite::{Alter, Connection, Error, ErrorCode, File, FileStore};
@@ -24,18 +24,18 @@ use std::rt::HostRuntime;
 use wrong::wrong_of;
 pub use wrong::{Part, Wrong};
 
-/// The stored log over a connection.
+/// The stored log over a connection, or why there is none.
 pub fn adopted<S: Alter + Drop>(alloc: Global, conn: Connection<S>) -> Result<LogCopy<S>, Cause>
     ensures { IfOk result (λ c. c.has_failed ≡ false) }
 {
     match LogCopy::adopt(alloc, conn) {
         Ok(copy) => Ok(copy),
-        Err((fault, conn, code)) => Err(unadopted(alloc, fault, conn, code)),
+        Err((fault, conn, code)) => Err(adopt_cause(alloc, fault, conn, code)),
     }
 }
 
-/// Why the connection gives no stored log. Where its database was refused it is looked at once more.
-fn unadopted<S: Alter + Drop>(
+// Why the connection gives no stored log. A refused database is read once more to find out.
+fn adopt_cause<S: Alter + Drop>(
     alloc: Global,
     fault: Fault,
     conn: Connection<S>,
@@ -53,9 +53,10 @@ fn unadopted<S: Alter + Drop>(
     }
 }
 
-/// Why a file can't be opened. One that is no database, or a damaged one, is refused.
-fn unopened(rt: &HostRuntime, path: &str, error: Error) -> Cause
-    ensures { IsRefusal result ↔ ((error ≡ Error.SqliteFailure ErrorCode.NotADatabase) ⊎ (error ≡ Error.SqliteFailure ErrorCode.DatabaseCorrupt)) }
+// Why a file can't be opened. One that is no database, or a damaged one, is refused.
+fn open_cause(rt: &HostRuntime, path: &str, error: Error) -> Cause
+    ensures { IsRefusal result ↔ ((error ≡ Error.SqliteFailure ErrorCode.NotADatabase)
+        ⊎ (error ≡ Error.SqliteFailure ErrorCode.DatabaseCorrupt)) }
 {
     match error {
         Error::SqliteFailure(ErrorCode::NotADatabase | ErrorCode::DatabaseCorrupt) => {
@@ -67,17 +68,17 @@ fn unopened(rt: &HostRuntime, path: &str, error: Error) -> Cause
     }
 }
 
-/// Opens the file, or makes it. A file that is no database, or a damaged one, is refused.
+/// Opens the file, or creates it. A file that is no database, or a damaged one, is refused.
 pub fn open_file(rt: &HostRuntime, path: &str) -> Result<LogCopy<FileStore<File>>, Cause>
     ensures { IfOk result (λ c. c.has_failed ≡ false) }
 {
     match Connection::open(rt, path) {
         Ok(conn) => adopted(rt.alloc(), conn),
-        Err(error) => Err(unopened(rt, path, error)),
+        Err(error) => Err(open_cause(rt, path, error)),
     }
 }
 
-/// Notes what opening has made of what stood at the path.
+// Notes that the file was created, or that its write-ahead log was not empty.
 fn note_opened(rt: &HostRuntime, path: &str, before: &Before) {
     if before.is_new {
         note_made(rt, path);
@@ -87,13 +88,13 @@ fn note_opened(rt: &HostRuntime, path: &str, before: &Before) {
     }
 }
 
-/// Tells standard error why a file can't be opened. A fault of that changes nothing.
-fn tell_unopened(rt: &HostRuntime, path: &str, cause: &Cause) {
-    let _told = rt.eprintln(format_args!("jcrdt: cannot open {path}: {cause}"));
+// Reports on standard error why a file can't be opened. An error there changes nothing.
+fn report_open_failure(rt: &HostRuntime, path: &str, cause: &Cause) {
+    let _ = rt.eprintln(format_args!("jcrdt: cannot open {path}: {cause}"));
 }
 
-/// Opens the file, or makes it, and notes where it was made or its log was not empty. Where that fails the cause is told on standard
-/// error, and a fault of that changes nothing.
+/// Opens the file, or creates it, with a note where it was created or its write-ahead log was not
+/// empty. Where that fails standard error says why. An error of standard error changes nothing.
 pub fn open_copy(rt: &HostRuntime, path: &str) -> Result<LogCopy<FileStore<File>>, Fault> {
     let before = look_at(rt, path);
     match open_file(rt, path) {
@@ -102,26 +103,27 @@ pub fn open_copy(rt: &HostRuntime, path: &str) -> Result<LogCopy<FileStore<File>
             Ok(copy)
         }
         Err(cause) => {
-            tell_unopened(rt, path, &cause);
+            report_open_failure(rt, path, &cause);
             Err(cause.fault())
         }
     }
 }
 
-/// Tells standard error why there is no report. Why a file can't be opened was told already. A fault of it changes nothing.
-fn tell_untold(rt: &HostRuntime, why: CheckFailure) {
-    let _told = match why {
+// Reports on standard error why there is no report, unless the file could not be opened, which is
+// reported already. An error there changes nothing.
+fn report_check_failure(rt: &HostRuntime, why: CheckFailure) {
+    let _ = match why {
         CheckFailure::Unopened => Ok(()),
         CheckFailure::Memory => rt.eprintln("jcrdt: out of memory while the report was written"),
         CheckFailure::Output => rt.eprintln("jcrdt: standard output failed"),
         CheckFailure::Unclosed(code) => {
-            let cause = words_of(code);
+            let cause = message_of(code);
             rt.eprintln(format_args!("jcrdt: the file failed while it was closed: {cause}"))
         }
     };
 }
 
-/// Tells what the stored log holds, as `check_opened`. Where the status is 1 standard error is told why, or was told already.
+// Reports what the stored log holds, as `check_opened`. Standard error says why the status is 1.
 fn report_opened<S: Foldable + Drop, W: Sink>(
     rt: &HostRuntime,
     alloc: Global,
@@ -130,24 +132,24 @@ fn report_opened<S: Foldable + Drop, W: Sink>(
 ) -> u8
     requires { W.has_failed sink.old ≡ false }
     ensures status { (result ≡ 0) ⊎ (result ≡ 1) }
-    ensures told { result ≡ 0 → Reports (W.contents sink.old) (W.contents sink.new) }
+    ensures reported { result ≡ 0 → Reports (W.contents sink.old) (W.contents sink.new) }
     ensures stopped { result ≡ 1 → StopsShort (W.contents sink.old) (W.contents sink.new) ⊎ (sink.new ≡ sink.old) }
 {
     match check_opened(alloc, opened, sink) {
         Ok(()) => 0,
         Err(why) => {
-            tell_untold(rt, why);
+            report_check_failure(rt, why);
             1
         }
     }
 }
 
-/// Opens the file, or makes it, tells what it holds, as `check_opened`, and closes it. Where the status is 1 standard error is told why.
-/// No clause can say what a real file holds.
+/// Opens the file, or creates it, reports what it holds, as `check_opened`, and closes it. The
+/// status is 0, or 1 where standard error says why not. No clause can say what a real file holds.
 pub fn check_file<W: Sink>(rt: &HostRuntime, alloc: Global, path: &str, sink: &mut W) -> u8
     requires { W.has_failed sink.old ≡ false }
     ensures status { (result ≡ 0) ⊎ (result ≡ 1) }
-    ensures told { result ≡ 0 → Reports (W.contents sink.old) (W.contents sink.new) }
+    ensures reported { result ≡ 0 → Reports (W.contents sink.old) (W.contents sink.new) }
     ensures stopped { result ≡ 1 → StopsShort (W.contents sink.old) (W.contents sink.new) ⊎ (sink.new ≡ sink.old) }
 {
     report_opened(rt, alloc, open_copy(rt, path), sink)

@@ -1,4 +1,4 @@
-//! What stands at a path, as far as the file system tells it. Nothing is claimed of it.
+//! What is at a path, as far as the file system says. No clause says anything of it.
 ghost use Rattle.copy_files.specs.Refusal.{IsRefusal};
 
 use crate::causes::Cause;
@@ -8,22 +8,22 @@ use std::io::{self, ErrorKind, Read};
 use std::os::unix::fs::MetadataExt;
 use std::rt::HostRuntime;
 
-/// What a SQLite database begins with.
+// What a SQLite database begins with.
 const BEGINNING: &[u8; 16] = b"SQLite format 3\0";
 
-/// The bytes of a log's header and of the header of one page in it.
+// The bytes of a log's header and of the header of one page in it.
 const LOG_HEADERS: u64 = 32 + 24;
 
-/// What stood at a path before it was opened.
+// What was at a path before it was opened.
 #[derive(Clone, Copy)]
 pub(crate) struct Before {
-    /// Nothing did.
+    // Nothing was.
     pub(crate) is_new: bool,
-    /// Beside it stood a log with pages that were not in the file.
+    // Beside it was a write-ahead log with pages.
     pub(crate) has_log: bool,
 }
 
-/// What stands at the path.
+// What is at the path.
 pub(crate) fn look_at(rt: &HostRuntime, path: &str) -> Before {
     Before {
         is_new: matches!(fs::exists(rt, path), Ok(false)),
@@ -31,7 +31,8 @@ pub(crate) fn look_at(rt: &HostRuntime, path: &str) -> Before {
     }
 }
 
-/// Whether the log beside the file has pages. A log that was copied into the file is a header alone.
+// Whether the write-ahead log beside the file has pages. One that was folded into the file is only
+// a header.
 fn has_pages(rt: &HostRuntime, path: &str) -> bool {
     match beside(rt, path, "-wal") {
         Ok(found) => found.len() > LOG_HEADERS,
@@ -39,7 +40,7 @@ fn has_pages(rt: &HostRuntime, path: &str) -> bool {
     }
 }
 
-/// What stands beside the file, where links lead to, under its name and this ending.
+// What is beside the file that links lead to, under its name with this ending.
 fn beside(rt: &HostRuntime, path: &str, ending: &str) -> io::Result<fs::Metadata> {
     let real = fs::canonicalize(rt, path)?;
     let name = format!(in rt.alloc(); "{}{ending}", real.as_str())?;
@@ -63,7 +64,7 @@ pub(crate) fn why_not_opened(rt: &HostRuntime, path: &str) -> Cause
     }
 }
 
-/// Why a file that is not there can't be made: it is tried once more.
+// Why a file that is not there can't be made: it is tried once more.
 fn why_not_made(rt: &HostRuntime, path: &str) -> Cause
     ensures { ¬ IsRefusal result }
 {
@@ -81,7 +82,7 @@ fn why_not_made(rt: &HostRuntime, path: &str) -> Cause
     }
 }
 
-/// Why a file that is there can't be used.
+// Why a file that is there can't be used.
 fn why_not_used(rt: &HostRuntime, path: &str, found: &fs::Metadata) -> Cause
     ensures { ¬ IsRefusal result }
 {
@@ -100,7 +101,7 @@ fn why_not_used(rt: &HostRuntime, path: &str, found: &fs::Metadata) -> Cause
     }
 }
 
-/// Why what stands beside the file can't be used.
+// Why what is beside the file can't be used.
 fn why_not_beside(rt: &HostRuntime, path: &str) -> Cause
     ensures { ¬ IsRefusal result }
 {
@@ -113,7 +114,7 @@ fn why_not_beside(rt: &HostRuntime, path: &str) -> Cause
     }
 }
 
-/// The cause that the system tells.
+// The cause of a system's error.
 fn why(error: &io::Error) -> Cause
     ensures { ¬ IsRefusal result }
 {

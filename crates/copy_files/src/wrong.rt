@@ -1,4 +1,4 @@
-//! What of a database is wrong for a stored log. It is looked for once a database was refused, and nothing is claimed of it.
+//! What is wrong with a database that was refused as a stored log. No clause says anything of it.
 use copy_docs::{Fault, KeptDoc, count, is_doc_name, operation_of};
 use copy_rows::{FORMAT, OLD_FORMAT, meta_in};
 use copy_tables::{Found, find_tables, read_meta};
@@ -9,7 +9,7 @@ use sqlite_schema::schema::Schema;
 use std::alloc::Global;
 use std::{fmt, slice};
 
-/// What of a database is wrong for a stored log.
+/// What is wrong with a database as a stored log.
 #[derive(Clone, Copy, Debug)]
 pub enum Wrong {
     /// The table of this name is not there, and the other one is.
@@ -28,7 +28,7 @@ pub enum Wrong {
     Unknown,
 }
 
-/// What of a row of `entry` is wrong.
+/// What is wrong with a row of `entry`.
 #[derive(Clone, Copy, Debug)]
 pub enum Part {
     /// Its document has no such name.
@@ -55,7 +55,7 @@ impl fmt::Display for Wrong {
                 )
             }
             Wrong::Row(at, part) => {
-                let what = part_words(*part);
+                let what = part_message(*part);
                 write!(f, "row no. {at} of entry, by doc and place: {what}")
             }
             Wrong::Unknown => f.write_str("a table has a row that does not fit"),
@@ -63,7 +63,7 @@ impl fmt::Display for Wrong {
     }
 }
 
-fn part_words(part: Part) -> &'static str {
+fn part_message(part: Part) -> &'static str {
     match part {
         Part::Doc => "doc is no name of a document",
         Part::Place => "place is not the next one of its document",
@@ -72,7 +72,7 @@ fn part_words(part: Part) -> &'static str {
     }
 }
 
-/// What of the database that was refused is wrong.
+// What is wrong with the refused database.
 pub(crate) fn wrong_of<S: Alter>(alloc: Global, conn: &mut Connection<S>) -> Wrong {
     match find_tables(conn.schema()) {
         Found::Both => wrong_rows(alloc, conn),
@@ -132,7 +132,7 @@ fn text_at(row: &Row, at: usize) -> Option<&str> {
     }
 }
 
-/// Reads the rows of `entry` as a start does, up to the first that does not fit.
+// Reads the rows of `entry` as a start does, up to the first that does not fit.
 fn wrong_entries<S: Alter>(alloc: Global, conn: &mut Connection<S>, format: u32) -> Wrong {
     let Ok(mut rows) = conn.query(
         "SELECT doc, place, text FROM entry ORDER BY doc, place",
@@ -154,7 +154,7 @@ fn wrong_entries<S: Alter>(alloc: Global, conn: &mut Connection<S>, format: u32)
     Wrong::Unknown
 }
 
-/// What of this row is wrong, if anything. Otherwise its operation is added to the documents.
+// What is wrong with this row, if anything. Otherwise its operation is added to the documents.
 fn wrong_part(
     docs: &mut Vec<KeptDoc>,
     alloc: Global,

@@ -7,12 +7,12 @@ use Rattle.log_copy.specs.Kept.{Kept}
 use Rattle.copy_report.specs.Report.{IsReport, Reports, StopsShort, refusal_line, report}
 
 is_report : (docs : List Doc) (epoch : ℕ) → AreInOrder docs × AreGood docs → IsReport (report docs epoch)
-is_report docs epoch (in_order, good) = record { docs = docs; epoch = epoch; in_order = in_order; good = good; told = refl }
+is_report docs epoch (in_order, good) = record { docs = docs; epoch = epoch; in_order = in_order; good = good; reported = refl }
 
 pub reports : {S F : Type 0} (held holds : Option (List ℕ)) (r : Result (Kept S) F) → IfOk r (λ c. AreInOrder c.docs × AreGood c.docs)
     → IsOkAnd r (λ c. Appends held holds (report c.docs c.epoch)) → Reports held holds
-reports held holds (Ok c) good told = (report c.docs c.epoch, is_report c.docs c.epoch good, told)
-reports held holds (Err e) good told = absurd told
+reports held holds (Ok c) good reported = (report c.docs c.epoch, is_report c.docs c.epoch good, reported)
+reports held holds (Err e) good reported = absurd reported
 
 -- a part of a report, or nothing
 pub cut_short : {Same : Type 0} (held holds : Option (List ℕ)) (docs : List Doc) (epoch : ℕ) → AreInOrder docs × AreGood docs

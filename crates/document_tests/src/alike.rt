@@ -1,4 +1,5 @@
-//! What the tree says of a place, beside what the plain program says, and what the set of the operations says.
+//! What the tree says of a place, beside what the plain program says, and what the set of the
+//! operations says.
 use crate::history::{TEXTS, list_below, map_below};
 use crate::plain_shown::plain_shown;
 use crate::sites::Site;
@@ -21,7 +22,7 @@ fn has_id(entries: Entries<'_, Role>, id: &Id) -> bool {
     false
 }
 
-/// The plain program has the ids of the tree at a place, and of those of the history no other.
+// The plain program has the ids of the tree at a place, and of those of the history no other.
 fn marks_agree(tree: &Tree, plain: &PlainContext, site: &Site) -> bool {
     let (path, key) = (&site.cursor.path, &site.cursor.key);
     for entry in tree.present(path, key) {
@@ -37,7 +38,7 @@ fn marks_agree(tree: &Tree, plain: &PlainContext, site: &Site) -> bool {
     true
 }
 
-/// Whether these are the scalars that the plain program has at a place, in id order.
+// Whether these are the scalars that the plain program has at a place, in id order.
 fn are_scalars(read: &[Scalar], plain: &PlainContext, site: &Site) -> bool {
     let mut rest = read.iter();
     for entry in site.touched.as_slice() {
@@ -72,7 +73,7 @@ fn sums_agree(tree: &Tree, plain: &PlainContext, site: &Site) -> Result<bool, Re
     Ok(sum(tree, &site.cursor)? == due)
 }
 
-/// Whether there is an entry, with this id and value.
+// Whether there is an entry, with this id and value.
 fn is_entry(entry: Option<&(Id, Val)>, id: &Id, value: &Val) -> bool {
     match entry {
         Some(entry) => entry.0 == *id && entry.1 == *value,
@@ -80,8 +81,8 @@ fn is_entry(entry: Option<&(Id, Val)>, id: &Id, value: &Val) -> bool {
     }
 }
 
-/// Whether these are the values that operations have put at a place which make it present in the plain program, by their ids
-/// and in id order.
+// Whether these are the values that operations have put at a place which make it present in the
+// plain program, by their ids and in id order.
 fn are_conflicts(read: &[(Id, Val)], plain: &PlainContext, site: &Site) -> bool {
     let mut rest = read.iter();
     for (id, value) in site.touched.as_slice() {
@@ -106,7 +107,7 @@ fn conflicts_agree(
     Ok(are_conflicts(read.as_slice(), plain, site))
 }
 
-/// Whether the member of a map at this text is present.
+// Whether the member of a map at this text is present.
 fn is_member(plain: &PlainContext, map: &Path, text: &KeyText) -> Result<bool, Refusal> {
     let key = Key::Text(text.try_clone()?);
     Ok(plain.is_present(map.as_slice(), &key))
@@ -128,7 +129,7 @@ pub fn present_texts(
     Ok(present)
 }
 
-/// The texts of the present members of the map at a place, in byte order.
+// The texts of the present members of the map at a place, in byte order.
 fn due_keys(alloc: Global, plain: &PlainContext, site: &Site) -> Result<Vec<KeyText>, Refusal> {
     let map = map_below(&site.cursor.path, &site.cursor.key)?;
     present_texts(alloc, plain, &map)
@@ -160,7 +161,7 @@ pub fn present_elements(
     Ok(present)
 }
 
-/// An item has the values that are read at its element, which is a place of its own.
+// An item has the values that are read at its element, which is a place of its own.
 fn item_agrees(
     alloc: Global,
     tree: &Tree,
@@ -175,7 +176,7 @@ fn item_agrees(
     Ok(read.as_slice() == item.1.as_slice())
 }
 
-/// Whether these are the items of these elements.
+// Whether these are the items of these elements.
 fn are_items(
     alloc: Global,
     tree: &Tree,
@@ -206,7 +207,7 @@ fn items_agree(
     are_items(alloc, tree, list, read.as_slice(), due.as_slice())
 }
 
-/// The list at a place has one order in both, deleted elements included, and the same items.
+// The list at a place has one order in both, deleted elements included, and the same items.
 fn lists_agree(
     alloc: Global,
     tree: &Tree,
@@ -221,7 +222,7 @@ fn lists_agree(
     )
 }
 
-/// What the tree shows of the whole document.
+// What the tree shows of the whole document.
 fn show_document(alloc: Global, tree: &Tree) -> Result<CompactText, Refusal> {
     let document = Cursor {
         path: Path::new(alloc),
@@ -242,8 +243,8 @@ pub fn show_alike(
     Ok(shown.as_str() == due.as_str())
 }
 
-/// Whether tree and plain program say the same of a place: which ids make it present, its values, sum, conflicts and keys,
-/// the order of its list, and its items.
+/// Whether tree and plain program say the same of a place: which ids make it present, its values,
+/// sum, conflicts and keys, the order of its list, and its items.
 pub fn agree_at(
     alloc: Global,
     tree: &Tree,

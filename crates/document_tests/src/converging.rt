@@ -42,7 +42,7 @@ const PAIRS: [(&[&str], &[&str], bool, &str); 4] = [
         &[ONE, B, C],
         &[ONE, B, C, C],
         false,
-        "an operation that stands twice agrees",
+        "an operation listed twice agrees",
     ),
 ];
 
@@ -57,7 +57,7 @@ const REPLAYS: [(&[&str], u64, &str); 3] = [
     (
         &[ONE, ONE],
         15,
-        "an operation that stands twice is refused otherwise",
+        "an operation listed twice is refused otherwise",
     ),
 ];
 
@@ -118,7 +118,8 @@ struct Presence {
     due: bool,
 }
 
-// An element that one deletes while another edits it is made present by the edit alone. What stands below a deleted place is deleted too.
+// An element that one deletes while another edits it is made present by the edit alone. What stands
+// below a deleted place is deleted too.
 const PRESENCES: [Presence; 12] = [
     Presence {
         name: "free_present_rows: the list",

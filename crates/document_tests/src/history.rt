@@ -1,5 +1,5 @@
-//! A long history of four replicas, made by a fixed rule: each changes what it has seen, and now and then takes in all that
-//! another has.
+//! A long history of four replicas, made by a fixed rule: each changes what it has seen, and now
+//! and then takes in all that another has.
 ghost use Rattle.std.specs.Prelude.{◌<◌};
 
 use crate::rule::Rule;
@@ -8,16 +8,16 @@ use lamport_id::{Id, ReplicaName};
 use op_core::{Cursor, Front, Key, KeyText, Mutation, Operation, Path, Tagged};
 use std::alloc::Global;
 
-/// The names of the replicas, in byte order.
+// The names of the replicas, in byte order.
 const REPLICAS: [&str; 4] = ["a", "b", "c", "d"];
 
 /// The texts of the members of maps, in byte order.
 pub const TEXTS: [&str; 4] = ["k", "l", "m", "n"];
 
-/// The longest path from which a place below is made.
+// The longest path from which a place below is made.
 const DEEP: usize = 4;
 
-/// For each replica, the counters of the last operations that it has of the four, or 0.
+// For each replica, the counters of the last operations that it has of the four, or 0.
 #[derive(Drop)]
 struct Seen {
     counters: [[u64; 4]; 4],
@@ -42,7 +42,7 @@ fn push_entry(
 }
 
 impl Seen {
-    /// The front of all that a replica has.
+    // The front of all that a replica has.
     fn front(&self, alloc: Global, at: usize) -> Result<Front, Refusal>
         requires { at < 4 }
     {
@@ -53,7 +53,7 @@ impl Seen {
         Front::from_pairs(alloc, &entries)
     }
 
-    /// A replica takes in all that another has.
+    // A replica takes in all that another has.
     fn take_in(&mut self, to: usize, from: usize)
         requires to { to < 4 }
         requires from { from < 4 }
@@ -79,7 +79,7 @@ fn value(alloc: Global, rule: &mut Rule) -> Result<Val, Refusal> {
     }
 }
 
-/// What may be done to a member of a map, and to an element.
+// What may be done to a member of a map, and to an element.
 fn change(alloc: Global, rule: &mut Rule) -> Result<Mutation, Refusal> {
     match rule.below(6) {
         0 => Ok(Mutation::Delete),
@@ -101,7 +101,7 @@ fn mutation(alloc: Global, rule: &mut Rule, key: &Key) -> Result<Mutation, Refus
     }
 }
 
-/// A member of the map to which a path leads.
+// A member of the map to which a path leads.
 fn member(alloc: Global, rule: &mut Rule, path: Path) -> Result<Cursor, Refusal> {
     let text = TEXTS[rule.below(4) as usize];
     Ok(Cursor {
@@ -134,7 +134,7 @@ pub fn end_key(op: &Operation) -> Result<Key, Refusal> {
     }
 }
 
-/// The place where an operation ends, a member of the map there, or the head of the list there.
+// The place where an operation ends, a member of the map there, or the head of the list there.
 fn place_at(alloc: Global, rule: &mut Rule, op: &Operation) -> Result<Cursor, Refusal> {
     let path = &op.cursor().path;
     let key = end_key(op)?;
@@ -152,7 +152,7 @@ fn place_at(alloc: Global, rule: &mut Rule, op: &Operation) -> Result<Cursor, Re
     }
 }
 
-/// A number below the bound, of which lesser ones come more often.
+// A number below the bound, of which lesser ones come more often.
 fn early(rule: &mut Rule, bound: u64) -> u64
     requires { 0 < bound }
     ensures { result < bound }
@@ -161,7 +161,7 @@ fn early(rule: &mut Rule, bound: u64) -> u64
     rule.below(some)
 }
 
-/// One of the operations that a front covers, or none.
+// One of the operations that a front covers, or none.
 fn pick<'a>(rule: &mut Rule, front: &Front, ops: &'a [Operation]) -> Option<&'a Operation> {
     if ops.is_empty() {
         return None;
@@ -175,7 +175,8 @@ fn pick<'a>(rule: &mut Rule, front: &Front, ops: &'a [Operation]) -> Option<&'a 
     None
 }
 
-/// A place that a replica knows: near where an operation ended that it has, or a member of the document.
+// A place that a replica knows: near where an operation ended that it has, or a member of the
+// document.
 fn place(
     alloc: Global,
     rule: &mut Rule,
@@ -192,7 +193,7 @@ fn place(
     }
 }
 
-/// The id of the next operation of a replica that has all of a front.
+// The id of the next operation of a replica that has all of a front.
 fn next_id(name: &str, front: &Front) -> Result<Id, Refusal> {
     match Id::successor(front.max_counter(), name_of(name)?) {
         Some(id) => Ok(id),
@@ -200,7 +201,7 @@ fn next_id(name: &str, front: &Front) -> Result<Id, Refusal> {
     }
 }
 
-/// A place that a replica knows, and what it does there.
+// A place that a replica knows, and what it does there.
 fn step(
     alloc: Global,
     rule: &mut Rule,
@@ -212,7 +213,7 @@ fn step(
     Ok((cursor, mutation))
 }
 
-/// The next operation of a replica that has all of a front.
+// The next operation of a replica that has all of a front.
 fn next_operation(
     alloc: Global,
     rule: &mut Rule,
@@ -225,7 +226,7 @@ fn next_operation(
     Operation::shaped(id, front, cursor, mutation)
 }
 
-/// One of the replicas makes the next operation, and sometimes another takes in all that it has.
+// One of the replicas makes the next operation, and sometimes another takes in all that it has.
 fn turn(
     alloc: Global,
     rule: &mut Rule,

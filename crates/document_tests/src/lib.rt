@@ -1,6 +1,7 @@
-//! Tests of a document's layers: the tree, what is read of it, the plain program, the laws of convergence; and those that cross them,
-//! the causal orders of worked histories, and a long history by the tree, by the plain program and by the set of its operations alone.
-//! They stand above the crates that they try, so that those are proved once and not again for their tests.
+//! Tests of a document's layers: the tree, what is read of it, the plain program, the laws of
+//! convergence; and those that cross them, the causal orders of worked histories, and a long
+//! history by the tree, by the plain program and by the set of its operations alone. They are
+//! above the crates that they test, so that those are proved once and not again for their tests.
 #![tactic(auto)]
 
 #[cfg(test)]

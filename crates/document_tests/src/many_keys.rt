@@ -1,4 +1,5 @@
-//! A map of so many keys that its node's children stand in several blocks, made from the last key to the first.
+//! A map of so many keys that its node's children are in several blocks, made from the last key
+//! to the first.
 use crate::holds::no_fault;
 use crate::views::at;
 use crate::written::push_next;
@@ -10,15 +11,15 @@ use op_core::{KeyText, Operation};
 use std::alloc::Global;
 use std::test::Fail;
 
-/// An edit of the map `big`: an assignment at the key of this number, or the deletion of it all.
+// An edit of the map `big`: an assignment at the key of this number, or the deletion of it all.
 #[derive(Clone, Copy)]
 enum Edit {
     Assign(u64),
     Delete,
 }
 
-/// What is edited once there are the keys k100 to k399, and the keys that are left: their first number, how far they stand apart, and
-/// how many they are.
+// What is edited once there are the keys k100 to k399, and the keys that are left: their first
+// number, how far they are apart, and how many they are.
 const EDITED: [(&str, &[Edit], (u64, u64, u64)); 5] = [
     ("keys_made_from_the_last_to_the_first", &[], (100, 1, 300)),
     ("all_keys_deleted_twice: once", &[Edit::Delete], (0, 0, 0)),
@@ -54,7 +55,7 @@ fn push_edit(alloc: Global, ops: &mut Vec<Operation>, edit: Edit) -> Result<(), 
     }
 }
 
-/// Assignments at 300 keys, from k399 down to k100, and edits behind them.
+// Assignments at 300 keys, from k399 down to k100, and edits behind them.
 fn falling_and(alloc: Global, edits: &[Edit]) -> Result<Vec<Operation>, Refusal> {
     let mut ops = Vec::new(alloc);
     for before in 0..300 {
@@ -67,20 +68,20 @@ fn falling_and(alloc: Global, edits: &[Edit]) -> Result<Vec<Operation>, Refusal>
     Ok(ops)
 }
 
-/// The keys of the map after operations.
+// The keys of the map after operations.
 fn keys_after(alloc: Global, ops: &[Operation]) -> Result<Texts, Refusal> {
     let tree = replay_all(alloc, ops)?;
     let cursor = at(alloc, &tree, &["big"])?;
     keys(alloc, &tree, &cursor)
 }
 
-/// Whether a key is that of a number.
+// Whether a key is that of a number.
 fn is_of(alloc: Global, text: &KeyText, number: u64) -> Result<bool, Refusal> {
     let due = format!(in alloc; "k{number}")?;
     Ok(text.as_str() == due.as_str())
 }
 
-/// How many keys there are, if they are that of the first number and those so far apart behind it.
+// How many keys there are, if they are that of the first number and those so far apart behind it.
 fn count_rising(
     alloc: Global,
     texts: &[KeyText],
@@ -99,7 +100,7 @@ fn count_rising(
     Ok(Some(count))
 }
 
-/// How many keys there are after these edits, if they are those.
+// How many keys there are after these edits, if they are those.
 fn count_left(
     alloc: Global,
     edits: &[Edit],
@@ -111,7 +112,7 @@ fn count_left(
     count_rising(alloc, texts.as_slice(), first, apart)
 }
 
-/// The name of the first row after which other keys are left, or nothing.
+// The name of the first row after which other keys are left, or nothing.
 fn fault_of_edits(alloc: Global) -> Result<&'static str, Refusal> {
     for (name, edits, (first, apart, count)) in &EDITED {
         if count_left(alloc, edits, *first, *apart)? != Some(*count) {

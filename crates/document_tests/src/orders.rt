@@ -21,7 +21,7 @@ fn push_operations(alloc: Global, ops: &mut Vec<Operation>, texts: &[&str]) -> R
     Ok(())
 }
 
-/// The operations of some texts, and then those of others.
+// The operations of some texts, and then those of others.
 fn operations(alloc: Global, first: &[&str], later: &[&str]) -> Result<Vec<Operation>, Refusal> {
     let mut ops = Vec::new(alloc);
     push_operations(alloc, &mut ops, first)?;
@@ -41,13 +41,14 @@ pub struct History<'a> {
     pub due: &'a [Due<'a>],
 }
 
-/// What the tree of some operations says at a place.
+// What the tree of some operations says at a place.
 fn read_operations(alloc: Global, ops: &[Operation], names: &[&str]) -> Result<Readings, Refusal> {
     let tree = replay_all(alloc, ops)?;
     read_at(alloc, &tree, names)
 }
 
-/// What is wrong with what is read after these operations, or nothing. The readings are also those after the first order.
+// What is wrong with what is read after these operations, or nothing. The readings are also those
+// after the first order.
 fn fault_read(
     alloc: Global,
     history: &History<'_>,
@@ -66,7 +67,7 @@ fn fault_read(
     })
 }
 
-/// What is wrong with a history whose later operations come in this order, or nothing.
+// What is wrong with a history whose later operations come in this order, or nothing.
 fn fault_in_order(
     alloc: Global,
     history: &History<'_>,
@@ -95,7 +96,7 @@ pub fn fault_of(alloc: Global, history: &History<'_>) -> Result<&'static str, Re
 /// The operations of one replica: their written forms, its name, and the counter of the last.
 pub type Log<'a> = (&'a [&'a str], &'a str, u64);
 
-/// The front of such a log.
+// The front of such a log.
 fn front_of(alloc: Global, log: &Log<'_>) -> Result<Front, Refusal> {
     match ReplicaName::read(log.1.as_bytes()) {
         Some(name) => Front::from_pairs(alloc, &[(name, log.2)]),
@@ -103,7 +104,7 @@ fn front_of(alloc: Global, log: &Log<'_>) -> Result<Front, Refusal> {
     }
 }
 
-/// Pushes those operations that a front does not cover.
+// Pushes those operations that a front does not cover.
 fn push_uncovered(
     alloc: Global,
     ops: &mut Vec<Operation>,
@@ -119,7 +120,7 @@ fn push_uncovered(
     Ok(())
 }
 
-/// Operations, followed by those of the other replica that their front does not cover.
+// Operations, followed by those of the other replica that their front does not cover.
 fn pulled(alloc: Global, own: &Log<'_>, other: &Log<'_>) -> Result<Vec<Operation>, Refusal> {
     let mut ops = operations(alloc, own.0, &[])?;
     let front = front_of(alloc, own)?;
@@ -127,13 +128,13 @@ fn pulled(alloc: Global, own: &Log<'_>, other: &Log<'_>) -> Result<Vec<Operation
     Ok(ops)
 }
 
-/// Whether the tree of some operations says this at a name.
+// Whether the tree of some operations says this at a name.
 fn says(alloc: Global, ops: &[Operation], name: &str, due: &[Due<'_>]) -> Result<bool, Refusal> {
     let readings = read_operations(alloc, ops, &[name])?;
     Ok(readings.has_all(due))
 }
 
-/// What is wrong with the operations of two replicas that have pulled from each other, or nothing.
+// What is wrong with the operations of two replicas that have pulled from each other, or nothing.
 fn fault_of_pulled(
     alloc: Global,
     first: &[Operation],

@@ -15,7 +15,7 @@ fn id(counter: u64, replica: &str) -> Option<Id> {
     })
 }
 
-/// The plain program's context after operations, given by their written forms.
+// The plain program's context after operations, given by their written forms.
 fn context_of(alloc: Global, texts: &[&str]) -> Result<PlainContext, Refusal> {
     let ops = operations(alloc, texts)?;
     plain_replay(alloc, ops.as_slice())
@@ -27,7 +27,7 @@ const DELETED: &str = r#"["op",[2,"p"],[["p",1]],[[["m",0],["m","a"]],"b"],["del
 
 const DELETED_ABOVE: &str = r#"["op",[2,"q"],[["p",1]],[[["m",0]],"a"],["delete"]]"#;
 
-/// Operations, and whether they leave the place of the first present, and by the first.
+// Operations, and whether they leave the place of the first present, and by the first.
 const LEFT: [(&[&str], bool, &str); 3] = [
     (&[ASSIGNED], true, "the assignment makes nothing present"),
     (
@@ -42,7 +42,7 @@ const LEFT: [(&[&str], bool, &str); 3] = [
     ),
 ];
 
-/// Whether the place of the first operation is present after these, and by the first.
+// Whether the place of the first operation is present after these, and by the first.
 fn first_present(alloc: Global, texts: &[&str]) -> Result<(bool, bool), Refusal> {
     let ctx = context_of(alloc, texts)?;
     let first = operation(alloc, ASSIGNED)?;
@@ -54,7 +54,7 @@ fn first_present(alloc: Global, texts: &[&str]) -> Result<(bool, bool), Refusal>
     ))
 }
 
-/// What is wrong after the deletions, or nothing.
+// What is wrong after the deletions, or nothing.
 fn fault_of_deletes(alloc: Global) -> Result<&'static str, Refusal> {
     for (texts, due, what) in &LEFT {
         if first_present(alloc, texts)? != (*due, *due) {
@@ -76,7 +76,7 @@ const ADDED: [&str; 3] = [
     r#"["op",[2,"p"],[["p",1]],[[["m",0]],"n"],["assign",12]]"#,
 ];
 
-/// What is wrong with the entries at the place of the additions, or nothing.
+// What is wrong with the entries at the place of the additions, or nothing.
 fn fault_of_entries(ctx: &PlainContext, path: &[Tagged], key: &Key) -> Option<&'static str> {
     let p = id(1, "p")?;
     let q = id(1, "q")?;
@@ -94,7 +94,7 @@ fn fault_of_entries(ctx: &PlainContext, path: &[Tagged], key: &Key) -> Option<&'
     })
 }
 
-/// What is wrong after the additions and the assignment, or nothing.
+// What is wrong after the additions and the assignment, or nothing.
 fn fault_of_additions(alloc: Global) -> Result<&'static str, Refusal> {
     let ctx = context_of(alloc, &ADDED)?;
     let first = operation(alloc, ADDED[0])?;
@@ -122,7 +122,7 @@ const EDITS: [&str; 7] = [
 
 const EDITED: [(u64, &str); 6] = [(3, "o"), (7, "p"), (6, "q"), (4, "o"), (5, "o"), (7, "q")];
 
-/// Whether these are the ids due.
+// Whether these are the ids due.
 fn are_ids(found: &[Id], due: &[(u64, &str)]) -> bool {
     if found.len() != due.len() {
         return false;
@@ -135,7 +135,7 @@ fn are_ids(found: &[Id], due: &[(u64, &str)]) -> bool {
     true
 }
 
-/// Whether the list of the edits has the order that is due.
+// Whether the list of the edits has the order that is due.
 fn has_order(alloc: Global) -> Result<bool, Refusal> {
     let ctx = context_of(alloc, &EDITS)?;
     let first = operation(alloc, EDITS[0])?;

@@ -8,10 +8,10 @@ use op_core::{Key, KeyText, Path, Tagged};
 use plain_rules::PlainContext;
 use std::alloc::Global;
 
-/// How deep elements may lie in one another: deeper than any of the history.
+// How deep elements may lie in one another: deeper than any of the history.
 const DEEPEST: usize = 16;
 
-/// A plain context, with the places of its operations.
+// A plain context, with the places of its operations.
 #[derive(Clone, Copy)]
 struct History<'a> {
     alloc: Global,
@@ -19,7 +19,8 @@ struct History<'a> {
     sites: &'a [Site],
 }
 
-/// Writes the next item of an array, or the first of all. A text that begins with `[` and isn't closed opens an array.
+// Writes the next item of an array, or the first of all. A text that begins with `[` and isn't
+// closed opens an array.
 fn item(text: &mut String, part: &str) -> Result<(), Refusal> {
     if !matches!(text.as_bytes().last(), None | Some(b'[')) {
         text.push_str(",")?;
@@ -33,7 +34,7 @@ fn close(text: &mut String) -> Result<(), Refusal> {
     Ok(())
 }
 
-/// A scalar of the history, of whose texts none has a character that JSON escapes.
+// A scalar of the history, of whose texts none has a character that JSON escapes.
 fn scalar_text(alloc: Global, scalar: &Scalar) -> Result<String, Refusal> {
     Ok(match scalar {
         Scalar::Int(number) => number.to_string(alloc)?,
@@ -50,7 +51,7 @@ fn write_entry(alloc: Global, text: &mut String, id: &Id, scalar: &Scalar) -> Re
     item(text, part.as_str())
 }
 
-/// One part for each entry of the register.
+// One part for each entry of the register.
 fn write_register(
     text: &mut String,
     history: History<'_>,
@@ -65,7 +66,7 @@ fn write_register(
     Ok(())
 }
 
-/// The sum of the counter, if it has an entry.
+// The sum of the counter, if it has an entry.
 fn sum_of(history: History<'_>, path: &[Tagged], key: &Key) -> Option<i128> {
     let mut sum: Option<i128> = None;
     for entry in touched_at(history.sites, path, key) {
@@ -91,7 +92,7 @@ fn write_sum(
     }
 }
 
-/// What stands at a place itself, the last of its parts.
+// What is at a place itself, the last of its parts.
 fn end_element(
     text: &mut String,
     history: History<'_>,
@@ -110,7 +111,7 @@ fn puts(entry: &(Id, Option<Val>), val: &Val) -> bool {
     }
 }
 
-/// Whether an operation that makes a place present has put this value there.
+// Whether an operation that makes a place present has put this value there.
 fn is_put(history: History<'_>, path: &[Tagged], key: &Key, val: &Val) -> bool {
     for entry in touched_at(history.sites, path, key) {
         if puts(entry, val) && history.plain.has_mark(path, key, &entry.0) {
@@ -120,7 +121,7 @@ fn is_put(history: History<'_>, path: &[Tagged], key: &Key, val: &Val) -> bool {
     false
 }
 
-/// A member of a map, by its text, which has no character that JSON escapes.
+// A member of a map, by its text, which has no character that JSON escapes.
 #[cycle(shown)]
 fn write_member(
     text: &mut String,
@@ -135,7 +136,7 @@ fn write_member(
     close(text)
 }
 
-/// The members of a map, as its branch.
+// The members of a map, as its branch.
 #[cycle(shown)]
 fn write_members(
     text: &mut String,
@@ -152,7 +153,7 @@ fn write_members(
     close(text)
 }
 
-/// The map at a place, if it has a present member or was put there.
+// The map at a place, if it has a present member or was put there.
 #[cycle(shown)]
 fn write_map(
     text: &mut String,
@@ -169,7 +170,7 @@ fn write_map(
     write_members(text, history, &map, members.as_slice(), depth)
 }
 
-/// The elements of a list, as its branch.
+// The elements of a list, as its branch.
 #[cycle(shown)]
 fn write_elements(
     text: &mut String,
@@ -186,7 +187,7 @@ fn write_elements(
     close(text)
 }
 
-/// The list at a place, if it has a present element or was put there.
+// The list at a place, if it has a present element or was put there.
 #[cycle(shown)]
 fn write_list(
     text: &mut String,
@@ -203,7 +204,7 @@ fn write_list(
     write_elements(text, history, &list, elements.as_slice(), depth)
 }
 
-/// All that stands at a place and below it, so deep at most.
+// All that is at a place and below it, so deep at most.
 #[cycle(shown)]
 fn write_element(
     text: &mut String,

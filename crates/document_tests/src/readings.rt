@@ -21,14 +21,14 @@ pub enum Due<'a> {
     Shown(&'a str),
 }
 
-/// The keys and the items at a place.
+// The keys and the items at a place.
 #[derive(Drop)]
 struct Below {
     keys: Texts,
     items: Items,
 }
 
-/// The values, the conflicts and the sum at a place.
+// The values, the conflicts and the sum at a place.
 #[derive(Drop)]
 struct Here {
     values: Scalars,
@@ -49,7 +49,7 @@ fn push_step(alloc: Global, steps: &mut Vec<Step>, name: &str) -> Result<(), Ref
     Ok(())
 }
 
-/// The place to which names lead from the document.
+// The place to which names lead from the document.
 fn place(alloc: Global, tree: &Tree, names: &[&str]) -> Result<Cursor, Refusal> {
     let mut steps = Vec::new(alloc);
     for name in names {
@@ -183,7 +183,7 @@ fn are_conflicts(entries: &[(Id, Val)], due: &[(u64, &str, &str)]) -> bool {
 }
 
 impl Readings {
-    /// Whether a reading is as it is due.
+    // Whether a reading is as it is due.
     fn has(&self, due: &Due<'_>) -> bool {
         match due {
             Due::Keys(texts) => are_keys(self.below.keys.as_slice(), texts),

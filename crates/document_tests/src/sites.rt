@@ -7,14 +7,15 @@ use lamport_id::Id;
 use op_core::{Cursor, Key, Mutation, Operation, Path, Tagged};
 use std::alloc::Global;
 
-/// A place, and the operations that pass it or end there: their ids in id order, each with the value that it puts there.
+/// A place, and the operations that pass it or end there: their ids in id order, each with the
+/// value that it puts there.
 #[derive(Drop)]
 pub struct Site {
     pub cursor: Cursor,
     pub touched: Vec<(Id, Option<Val>)>,
 }
 
-/// The value that an operation puts where it ends.
+// The value that an operation puts where it ends.
 fn value_put(op: &Operation) -> Option<&Val> {
     match op.mutation() {
         Mutation::Assign(val) | Mutation::Insert(val) => Some(val),
@@ -40,7 +41,8 @@ fn position(sites: &[Site], path: &[Tagged], key: &Key) -> Option<usize>
     sites.iter().position(|site| is_at(site, path, key))
 }
 
-/// The operations that pass a place or end there, by their ids, each with the value that it puts there.
+/// The operations that pass a place or end there, by their ids, each with the value that it puts
+/// there.
 pub fn touched_at<'a>(sites: &'a [Site], path: &[Tagged], key: &Key) -> &'a [(Id, Option<Val>)] {
     match position(sites, path, key) {
         Some(at) => sites[at].touched.as_slice(),
@@ -48,7 +50,7 @@ pub fn touched_at<'a>(sites: &'a [Site], path: &[Tagged], key: &Key) -> &'a [(Id
     }
 }
 
-/// How many ids are less.
+// How many ids are less.
 fn rank(touched: &[(Id, Option<Val>)], id: &Id) -> usize
     ensures { result ≤ length touched.now }
 {
@@ -75,7 +77,7 @@ fn cursor_of(alloc: Global, path: &[Tagged], key: &Key) -> Result<Cursor, Refusa
     })
 }
 
-/// An operation passes a place or ends there.
+// An operation passes a place or ends there.
 fn touch(
     alloc: Global,
     sites: &mut Vec<Site>,
@@ -96,7 +98,7 @@ fn touch(
     Ok(())
 }
 
-/// Enters the places that an operation passes.
+// Enters the places that an operation passes.
 fn add_passed(
     alloc: Global,
     sites: &mut Vec<Site>,

@@ -22,6 +22,8 @@ fn is_insertion(mutation: &Mutation) -> bool
 
 // Prepares and commits an operation, if it is no insertion.
 fn apply(tree: &mut Tree, op: &Operation) -> Result<(), Refusal> {
+    // what its id's clause says: that its shape is valid
+    let _id = op.id();
     if is_insertion(op.mutation()) {
         return Err(Refusal::BadOperation);
     }
@@ -46,7 +48,8 @@ fn number_of(entries: Entries<'_, Role>) -> usize {
     number
 }
 
-// How many operations make the place of another present, and how many scalars and numbers stand there.
+// How many operations make the place of another present, and how many scalars and numbers stand
+// there.
 fn counts(alloc: Global, texts: &[&str], at: &str) -> Result<(usize, usize, usize), Refusal> {
     let tree = tree_of(alloc, texts)?;
     let op = operation(alloc, at)?;

@@ -11,7 +11,7 @@ use op_core::{Cursor, Key, KeyText, Operation, Path};
 use std::alloc::Global;
 use std::test::Fail;
 
-/// The tree after operations, given by their written forms.
+// The tree after operations, given by their written forms.
 fn tree_of(alloc: Global, texts: &[&str]) -> Result<Tree, Refusal> {
     replay_all(alloc, operations(alloc, texts)?.as_slice())
 }
@@ -37,32 +37,32 @@ fn whole(alloc: Global) -> Cursor {
     }
 }
 
-/// What of a place is told as a text.
+// Which text of a place.
 #[derive(Clone, Copy)]
-enum Told {
+enum Text {
     Shown,
     Keys,
     Items,
 }
 
-fn told_text(
+fn compact_text(
     alloc: Global,
     tree: &Tree,
     cursor: &Cursor,
-    what: Told,
+    what: Text,
 ) -> Result<CompactText, Refusal> {
     match what {
-        Told::Shown => show(alloc, tree, cursor),
-        Told::Keys => keys_text(alloc, tree, cursor),
-        Told::Items => items_text(alloc, tree, cursor),
+        Text::Shown => show(alloc, tree, cursor),
+        Text::Keys => keys_text(alloc, tree, cursor),
+        Text::Items => items_text(alloc, tree, cursor),
     }
 }
 
-/// What is told of the place to which names lead, after operations.
+// The text of the place to which names lead, after operations.
 struct Row {
     name: &'static str,
     texts: &'static [&'static str],
-    what: Told,
+    what: Text,
     names: &'static [&'static str],
     due: &'static str,
 }
@@ -112,90 +112,90 @@ const COUNTER: [&str; 3] = [
     r#"["op",[2,"p"],[["p",1]],[[["m",0]],"n"],["assign","x"]]"#,
 ];
 
-const TOLD: [Row; 10] = [
+const TEXTS: [Row; 10] = [
     Row {
         name: "todo_deleted_while_edited",
         texts: &TODO,
-        what: Told::Shown,
+        what: Text::Shown,
         names: &["todo"],
         due: r#"[["list",[[["map",[["done",[["val",[5,"q"],true]]]]]]]]]"#,
     },
     Row {
         name: "empty_map_and_empty_list",
         texts: &EMPTY,
-        what: Told::Shown,
+        what: Text::Shown,
         names: &[],
         due: r#"[["map",[["l",[["list",[]]]],["m",[["map",[]]]]]]]"#,
     },
     Row {
         name: "map_and_list_at_one_key",
         texts: &MAP_AND_LIST,
-        what: Told::Shown,
+        what: Text::Shown,
         names: &["a"],
         due: r#"[["map",[["x",[["val",[2,"p"],"y"]]]]],["list",[[["val",[2,"q"],"z"]]]]]"#,
     },
     Row {
-        name: "tells_items_as_text: of a list",
+        name: "items_text: of a list",
         texts: &ITEMS,
-        what: Told::Items,
+        what: Text::Items,
         names: &["l"],
         due: r#"[[[4,"p"],["d\"d"]],[[2,"p"],[true,-7]]]"#,
     },
     Row {
-        name: "tells_items_as_text: of the document",
+        name: "items_text: of the document",
         texts: &ITEMS,
-        what: Told::Items,
+        what: Text::Items,
         names: &[],
         due: "[]",
     },
     Row {
-        name: "tells_items_as_text: of nothing",
+        name: "items_text: of nothing",
         texts: &ITEMS,
-        what: Told::Items,
+        what: Text::Items,
         names: &["absent"],
         due: "[]",
     },
     Row {
-        name: "tells_keys_as_text: of a map",
+        name: "keys_text: of a map",
         texts: &KEYS,
-        what: Told::Keys,
+        what: Text::Keys,
         names: &["m"],
         due: r#"["a\"a","c"]"#,
     },
     Row {
-        name: "tells_keys_as_text: of the document",
+        name: "keys_text: of the document",
         texts: &KEYS,
-        what: Told::Keys,
+        what: Text::Keys,
         names: &[],
         due: r#"["m"]"#,
     },
     Row {
-        name: "tells_keys_as_text: of nothing",
+        name: "keys_text: of nothing",
         texts: &KEYS,
-        what: Told::Keys,
+        what: Text::Keys,
         names: &["absent"],
         due: "[]",
     },
     Row {
         name: "counter_and_scalar",
         texts: &COUNTER,
-        what: Told::Shown,
+        what: Text::Shown,
         names: &["n"],
         due: r#"[["val",[2,"p"],"x"],["cnt","-7"]]"#,
     },
 ];
 
-fn is_told(alloc: Global, tree: &Tree, row: &Row) -> Result<bool, Refusal> {
+fn has_text(alloc: Global, tree: &Tree, row: &Row) -> Result<bool, Refusal> {
     let cursor = at(alloc, tree, row.names)?;
-    let text = told_text(alloc, tree, &cursor, row.what)?;
+    let text = compact_text(alloc, tree, &cursor, row.what)?;
     Ok(text.as_str() == row.due)
 }
 
-/// The name of the first row that isn't told, or nothing.
-fn fault_told(alloc: Global) -> Result<&'static str, Refusal> {
-    for row in &TOLD {
+// The name of the first row whose text is another, or nothing.
+fn wrong_text(alloc: Global) -> Result<&'static str, Refusal> {
+    for row in &TEXTS {
         let tree = tree_of(alloc, row.texts)?;
-        if !is_told(alloc, &tree, row)? {
+        if !has_text(alloc, &tree, row)? {
             return Ok(row.name);
         }
     }
@@ -203,12 +203,12 @@ fn fault_told(alloc: Global) -> Result<&'static str, Refusal> {
 }
 
 #[test]
-fn told_as_text(rt: HostRuntime) -> Result<(), Fail> {
-    no_fault(&rt, fault_told(rt.alloc())?);
+fn texts_of_lists(rt: HostRuntime) -> Result<(), Fail> {
+    no_fault(&rt, wrong_text(rt.alloc())?);
     Ok(())
 }
 
-/// What is wrong with the sum of the counter, and the values beside it, or nothing.
+// What is wrong with the sum of the counter, and the values beside it, or nothing.
 fn fault_of_counter(alloc: Global) -> Result<&'static str, Refusal> {
     let tree = tree_of(alloc, &COUNTER)?;
     let cursor = at(alloc, &tree, &["n"])?;
@@ -234,7 +234,7 @@ fn is_only_text(texts: &[KeyText], text: &str) -> bool {
     }
 }
 
-/// One element, of q's second operation, with one scalar.
+// One element, of q's second operation, with one scalar.
 fn is_only_item(items: &[(Id, Scalars)]) -> bool {
     match items {
         [only] => only.0.counter == 2 && only.1.as_slice().len() == 1,
@@ -242,7 +242,7 @@ fn is_only_item(items: &[(Id, Scalars)]) -> bool {
     }
 }
 
-/// What is wrong with what is read of the place of a map and a list, or nothing.
+// What is wrong with what is read of the place of a map and a list, or nothing.
 fn fault_of_place(alloc: Global, tree: &Tree, cursor: &Cursor) -> Result<&'static str, Refusal> {
     Ok(if !is_only_text(keys(alloc, tree, cursor)?.as_slice(), "x") {
         "x isn't the only key"
@@ -267,13 +267,13 @@ fn reads_a_place(rt: HostRuntime) -> Result<(), Fail> {
     Ok(())
 }
 
-/// The place at an index of the list.
+// The place at an index of the list.
 fn at_index(alloc: Global, tree: &Tree, index: u64) -> Result<Cursor, Refusal> {
     let list = at(alloc, tree, &["a"])?;
     resolve(tree, list, &[Step::Index(index)])
 }
 
-/// What is asked of a place.
+// What is asked of a place.
 #[derive(Clone, Copy)]
 enum Asked {
     Keys,
@@ -281,10 +281,10 @@ enum Asked {
     Items,
     Conflicts,
     Sum,
-    Told(Told),
+    Text(Text),
 }
 
-/// All that can be asked of a head, each of which is refused.
+// All that can be asked of a head, each of which is refused.
 const ASKED: [(Asked, &str); 8] = [
     (Asked::Keys, "reads_at_a_head: keys"),
     (Asked::Values, "reads_at_a_head: values"),
@@ -292,14 +292,14 @@ const ASKED: [(Asked, &str); 8] = [
     (Asked::Conflicts, "reads_at_a_head: conflicts"),
     (Asked::Sum, "index_and_head_refusals: the sum"),
     (
-        Asked::Told(Told::Shown),
+        Asked::Text(Text::Shown),
         "reads_at_a_head: the element as text",
     ),
-    (Asked::Told(Told::Keys), "reads_at_a_head: keys as text"),
-    (Asked::Told(Told::Items), "reads_at_a_head: items as text"),
+    (Asked::Text(Text::Keys), "reads_at_a_head: keys as text"),
+    (Asked::Text(Text::Items), "reads_at_a_head: items as text"),
 ];
 
-/// Why what is asked of a place is refused, if it is.
+// Why what is asked of a place is refused, if it is.
 fn cause(alloc: Global, tree: &Tree, cursor: &Cursor, asked: Asked) -> Option<Refusal> {
     match asked {
         Asked::Keys => keys(alloc, tree, cursor).err(),
@@ -307,11 +307,11 @@ fn cause(alloc: Global, tree: &Tree, cursor: &Cursor, asked: Asked) -> Option<Re
         Asked::Items => items(alloc, tree, cursor).err(),
         Asked::Conflicts => conflicts(alloc, tree, cursor).err(),
         Asked::Sum => sum(tree, cursor).err(),
-        Asked::Told(what) => told_text(alloc, tree, cursor, what).err(),
+        Asked::Text(what) => compact_text(alloc, tree, cursor, what).err(),
     }
 }
 
-/// The name of what is answered at a head, or nothing.
+// The name of what is answered at a head, or nothing.
 fn answered_at(alloc: Global, tree: &Tree, head: &Cursor) -> &'static str {
     for (asked, what) in &ASKED {
         if cause(alloc, tree, head, *asked) != Some(Refusal::AtHead) {
@@ -321,7 +321,7 @@ fn answered_at(alloc: Global, tree: &Tree, head: &Cursor) -> &'static str {
     ""
 }
 
-/// What is wrong at the head of the list and past its end, or nothing.
+// What is wrong at the head of the list and past its end, or nothing.
 fn fault_of_indexes(alloc: Global) -> Result<&'static str, Refusal> {
     let tree = tree_of(alloc, &MAP_AND_LIST)?;
     if at_index(alloc, &tree, 2).err() != Some(Refusal::IndexPastEnd) {
@@ -337,7 +337,7 @@ fn reads_at_a_head_and_past_the_end(rt: HostRuntime) -> Result<(), Fail> {
     Ok(())
 }
 
-/// How deep the brackets of a text nest, none of which stands in a string.
+// How deep the brackets of a text nest, none of which is in a string.
 fn nesting(text: &str) -> usize {
     let mut open: usize = 0;
     let mut deepest: usize = 0;
@@ -352,14 +352,16 @@ fn nesting(text: &str) -> usize {
     deepest
 }
 
-/// How deep the brackets of a reply nest that shows the whole document after operations: it has the element in brackets of its own.
+// How deep the brackets of a reply nest that shows the whole document after operations: it has the
+// element in brackets of its own.
 fn shown_nesting(alloc: Global, ops: &[Operation]) -> Result<usize, Refusal> {
     let tree = replay_all(alloc, ops)?;
     let element = show(alloc, &tree, &whole(alloc))?;
     Ok(nesting(element.as_str()).saturating_add(1))
 }
 
-/// Pushes an insertion into the list to which a path leads, and makes the path that of a list in a map there.
+// Pushes an insertion into the list to which a path leads, and makes the path that of a list in a
+// map there.
 fn push_list(alloc: Global, ops: &mut Vec<Operation>, path: &mut String) -> Result<(), Refusal> {
     let cursor = format!(in alloc; "[{path}],1")?;
     push_next(alloc, ops, cursor.as_str(), r#""insert",7"#)?;
@@ -368,7 +370,8 @@ fn push_list(alloc: Global, ops: &mut Vec<Operation>, path: &mut String) -> Resu
     Ok(())
 }
 
-/// The operations that make a list in a map that is an element of a list, and so on, the last at a path of 30 keys.
+// The operations that make a list in a map that is an element of a list, and so on, the last at a
+// path of 30 keys.
 fn insertions(alloc: Global) -> Result<Vec<Operation>, Refusal> {
     let mut ops = Vec::new(alloc);
     let mut path = String::from_str(alloc, r#"["m",0],["l","k"]"#)?;
@@ -378,15 +381,16 @@ fn insertions(alloc: Global) -> Result<Vec<Operation>, Refusal> {
     Ok(ops)
 }
 
-/// How deep maps nest when shown, and how deep lists.
+// How deep maps nest when shown, and how deep lists.
 fn nestings(alloc: Global) -> Result<(usize, usize), Refusal> {
     let maps = shown_nesting(alloc, operations(alloc, &[DEEPEST])?.as_slice())?;
     let lists = shown_nesting(alloc, insertions(alloc)?.as_slice())?;
     Ok((maps, lists))
 }
 
-// No path is longer than 30 keys. A map has four brackets (its element, its branch, its fields and one of them), a list
-// three, a scalar three (its element, its branch and its id), and the reply one. So nothing nests deeper than maps alone.
+// No path is longer than 30 keys. A map has four brackets (its element, its branch, its fields and
+// one of them), a list three, a scalar three (its element, its branch and its id), and the reply
+// one. So nothing nests deeper than maps alone.
 #[test]
 fn deepest_show(rt: HostRuntime) -> Result<(), Fail> {
     let (maps, lists) = nestings(rt.alloc())?;

@@ -23,7 +23,7 @@ pub fn operations(alloc: Global, texts: &[&str]) -> Result<Vec<Operation>, Refus
     Ok(ops)
 }
 
-/// What the front of p's operation behind so many lists: the one before it, if there is one.
+// What the front of p's operation behind so many lists: the one before it, if there is one.
 fn front_behind(alloc: Global, before: usize) -> Result<String, Refusal> {
     if before == 0 {
         return Ok(String::new(alloc));
@@ -31,7 +31,7 @@ fn front_behind(alloc: Global, before: usize) -> Result<String, Refusal> {
     Ok(format!(in alloc; "[\"p\",{before}]")?)
 }
 
-/// The operation of p behind so many, whose cursor and mutation are given without their brackets.
+// The operation of p behind so many, whose cursor and mutation are given without their brackets.
 fn next(alloc: Global, before: usize, cursor: &str, mutation: &str) -> Result<Operation, Refusal> {
     let front = front_behind(alloc, before)?;
     let counter = before.saturating_add(1);

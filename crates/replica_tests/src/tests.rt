@@ -1,15 +1,15 @@
-//! Operations handed in out of order, twice, and against the rules, also against several at once; held ones given up, and
-//! released by changes of one's own; documents behind locks, on a shelf, and what their seats add up to; and want of memory.
+//! Operations delivered out of order, twice, and against the rules, also against several at once;
+//! held ones dropped, and released by own changes; what a document's seats add up to; and calls
+//! that are out of memory.
 mod cases;
 mod causes;
 mod counters;
 mod foreign;
 mod gathering;
 mod holding;
+mod out_of_memory;
 mod released;
 mod samples;
-mod scarce;
-mod shelf;
 
 use cases::{Before, Case, are_met};
 use json_scalar::Refusal;
@@ -112,7 +112,7 @@ fn forget_and_local(rt: HostRuntime) -> Result<(), Fail> {
     Ok(())
 }
 
-// Gives up what is held until p makes its first operation, and makes it then.
+// Drops what is held until p makes its first operation, and makes it then.
 fn forgets_and_changes(alloc: Global, replica: &mut Replica) -> Result<Applied, Refusal> {
     let op = operation(alloc, SECOND_OF_Q)?;
     let id = op.id();

@@ -20,7 +20,9 @@ all_differ (t ∷ ts) = not (list_any (bytes_eq t) ts) && all_differ ts
 
 -- at most 16 documents, of names that differ, and a name that leaves room for the number of a start
 abbrev pub is_good : List ℕ → List (List ℕ) → Bool
-is_good name documents = (is_name name && nat_le (length name) longest_server_name) && ((nat_le (length documents) most_documents && list_all is_name documents) && all_differ documents)
+is_good name documents =
+    (is_name name && nat_le (length name) longest_server_name)
+    && ((nat_le (length documents) most_documents && list_all is_name documents) && all_differ documents)
 
 -- the name of the replica that a server is at its first start
 abbrev pub first_replica : List ℕ → List ℕ

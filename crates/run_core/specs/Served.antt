@@ -8,17 +8,24 @@ use Rattle.session_rules.specs.declared.Ending.TheVariants.{ReadFault, WriteFaul
 use Rattle.session_core.specs.Ended.{Ends}
 use Rattle.run_core.specs.Names.{Wanted, first_replica}
 
--- What a source had and has, and what a sink had and has: a session over new documents of the wanted names, in which the
--- server has its name with the number of a first start, and which ended for this cause.
-abbrev pub ServesWanted : Wanted → Ending → Option (List ℕ) → Option (List ℕ) → Option (List ℕ) → Option (List ℕ) → Type 0
+-- What a source had and has, and what a sink had and has: a session over new documents of the
+-- wanted names, in which the server has its name with the number of a first start, and which ended
+-- for this cause.
+abbrev pub ServesWanted : Wanted → Ending → Option (List ℕ) → Option (List ℕ) → Option (List ℕ) → Option (List ℕ)
+    → Type 0
 ServesWanted wanted why had has held holds =
-    (end : Session (List Document)) × Ends (alone wanted.documents) (begins_alone (first_replica wanted.name) wanted.documents) had has held holds why end
+    (end : Session (List Document))
+    × Ends (alone wanted.documents) (begins_alone (first_replica wanted.name) wanted.documents) had has held holds why end
 
 -- a whole session, which no device's fault ended
 abbrev pub ServesAll : Wanted → Option (List ℕ) → Option (List ℕ) → Option (List ℕ) → Option (List ℕ) → Type 0
-ServesAll wanted had has held holds = (why : Ending) × (why ≢ ReadFault) × (why ≢ WriteFault) × ServesWanted wanted why had has held holds
+ServesAll wanted had has held holds =
+    (why : Ending) × (why ≢ ReadFault) × (why ≢ WriteFault) × ServesWanted wanted why had has held holds
 
--- a session up to the fault of the source or of the sink, of which it is told whether they have failed
-abbrev pub ServesUntilFault : Wanted → Bool → Bool → Option (List ℕ) → Option (List ℕ) → Option (List ℕ) → Option (List ℕ) → Type 0
+-- a session up to the fault of the source or of the sink, of which it is told whether they have
+-- failed
+abbrev pub ServesUntilFault : Wanted → Bool → Bool → Option (List ℕ) → Option (List ℕ) → Option (List ℕ)
+    → Option (List ℕ) → Type 0
 ServesUntilFault wanted source_failed sink_failed had has held holds =
-    (IsTrue source_failed × ServesWanted wanted ReadFault had has held holds) ⊎ (IsTrue sink_failed × ServesWanted wanted WriteFault had has held holds)
+    (IsTrue source_failed × ServesWanted wanted ReadFault had has held holds)
+    ⊎ (IsTrue sink_failed × ServesWanted wanted WriteFault had has held holds)

@@ -73,15 +73,18 @@ impl<M: Marker> Seated<M> {
     ghost use Rattle.locked_doc.specs.Sums.{totals_view};
     ghost use Rattle.run_core.specs.HasTold.{HasTold};
 
-    /// Adds up what was done at the document, given the end of its seat, if that was opened. The end that a session gave back
-    /// was told just what is logged for it, so it is refused for want of memory alone, and so is no end where no seat was
-    /// opened. Each refusal hands everything back.
+    /// Adds up what was done at the document, given the end of its seat, if that was opened. The end that a
+    /// session gave back was told just what is logged for it, so the only refusal is out of memory, and so is
+    /// no end where no seat was opened. Each refusal hands everything back.
     pub fn gather(self, alloc: Global, ends: Vec<SeatEnd<M>>) -> Result<Totals, Gathering<M>>
-        ensures ok { IfOk result (λ t. AreEndsOf self.locked.number self.locked.document ends.items × (totals_view t ≡ totals_of self.locked.document ends.items)) }
+        ensures ok { IfOk result (λ t. AreEndsOf self.locked.number self.locked.document ends.items
+            × (totals_view t ≡ totals_of self.locked.document ends.items)) }
         ensures err { IfErr result (λ g. (g.doc ≡ self.locked) × (g.ends.items ≡ ends.items)) }
-        ensures given_back { IfErr result (λ g. (end : seats.Seat) → ends.items ≡ end ∷ [] → HasTold self.locked.number self.locked.document end
+        ensures given_back { IfErr result (λ g. (end : seats.Seat) → ends.items ≡ end ∷ []
+            → HasTold self.locked.number self.locked.document end
             → g.refusal ≡ Refusal.NoMemory) }
-        ensures unopened { IfErr result (λ g. self.locked.document.opened ≡ 0 → ends.items ≡ [] → g.refusal ≡ Refusal.NoMemory) }
+        ensures unopened { IfErr result (λ g. self.locked.document.opened ≡ 0 → ends.items ≡ []
+            → g.refusal ≡ Refusal.NoMemory) }
     {
         self.locked.keeps_sound();
         self.locked.gather(alloc, ends)

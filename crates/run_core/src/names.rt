@@ -12,7 +12,8 @@ use std::alloc::{AllocError, Global};
 /// The most documents of a server.
 pub const MAX_DOCUMENTS: usize = 16;
 
-/// The most bytes of a server's name, which leave room for the number of a start in that of a replica.
+/// The most bytes of a server's name, which leave room for the number of a start in that of a
+/// replica.
 pub const MAX_NAME_BYTES: usize = 24;
 
 /// Whether the text is a name: 1 to 32 bytes of a-z, 0-9 and -.
@@ -29,7 +30,7 @@ pub fn is_among(text: &[u8], texts: &[&str]) -> bool
     texts.iter().any(|other| text == other.as_bytes())
 }
 
-/// Whether no text stands twice.
+// Whether no text stands twice.
 fn all_differ(texts: &[&str]) -> bool
     ensures { result ≡ all_differ (map (λ s. s.now) texts.now) }
 {
@@ -41,7 +42,7 @@ fn all_differ(texts: &[&str]) -> bool
     true
 }
 
-/// Whether each text is a name.
+// Whether each text is a name.
 fn are_names(texts: &[&str]) -> bool
     ensures { result ≡ list_all is_name (map (λ s. s.now) texts.now) }
 {
@@ -53,7 +54,8 @@ fn are_names(texts: &[&str]) -> bool
     true
 }
 
-/// Whether a server of this name, of at most 24 bytes, may serve these documents: at most 16, of names that differ.
+/// Whether a server of this name, of at most 24 bytes, may serve these documents: at most 16, of
+/// names that differ.
 pub fn is_good(name: &str, documents: &[&str]) -> bool
     ensures { result ≡ is_good name.now (map (λ s. s.now) documents.now) }
 {

@@ -30,7 +30,7 @@ pub trait Maker {
         ensures room { room self.old ≤ room self.new + 1 };
 }
 
-/// New documents of these names, for the replica of this name.
+// New documents of these names, for the replica of this name.
 fn make_all<M: Maker>(
     alloc: Global,
     maker: &mut M,
@@ -39,7 +39,8 @@ fn make_all<M: Maker>(
 ) -> Result<Alone<M::Made>, Refusal>
     requires { length names.now ≤ M.room maker.old }
     ensures names { IfOk result (λ made. made.names.items ≡ map (λ s. s.now) names.now) }
-    ensures documents { IfOk result (λ made. map M.Made.document made.documents.items ≡ map (λ n. new_document replica.now [] 1) (map (λ s. s.now) names.now)) }
+    ensures documents { IfOk result (λ made. map M.Made.document made.documents.items
+        ≡ map (λ n. new_document replica.now [] 1) (map (λ s. s.now) names.now)) }
     ensures memory { IfErr result (λ cause. cause ≡ Refusal.NoMemory) }
 {
     let mut made = Vec::new(alloc);
@@ -54,7 +55,7 @@ fn make_all<M: Maker>(
     })
 }
 
-/// The status of a session that ended so: 1 where a device failed.
+// The status of a session that ended so: 1 where a device failed.
 fn status_of(why: Ending) -> u8
     ensures bound { result ≤ 1 }
     ensures fault { result ≡ 1 → (why ≡ Ending.ReadFault) ⊎ (why ≡ Ending.WriteFault) }
@@ -66,19 +67,19 @@ fn status_of(why: Ending) -> u8
     }
 }
 
-/// The status of a session that has ended. The program ends with its run, and the memory of the documents goes back whole: to let go
-/// of each operation by itself would take a sixth of the run.
-fn let_go<D: Document>(ended: Ended<D>) -> u8
+// The status of a session that has ended. The documents are leaked: the program ends with its run,
+// and to drop each operation would take a sixth of it.
+fn finish<D: Document>(ended: Ended<D>) -> u8
     ensures bound { result ≤ 1 }
     ensures fault { result ≡ 1 → (ended.why ≡ Ending.ReadFault) ⊎ (ended.why ≡ Ending.WriteFault) }
     ensures no_fault { result ≡ 0 → (ended.why ≢ Ending.ReadFault) × (ended.why ≢ Ending.WriteFault) }
 {
     let Ended { why, documents, .. } = ended;
-    let _kept = ManuallyDrop::new(documents);
+    let _leaked = ManuallyDrop::new(documents);
     status_of(why)
 }
 
-/// Runs a session over new documents of these names, for the replica of this name.
+// Runs a session over new documents of these names, for the replica of this name.
 fn serve<M: Maker, R: Source, W: Sink>(
     alloc: Global,
     maker: &mut M,
@@ -91,26 +92,31 @@ fn serve<M: Maker, R: Source, W: Sink>(
     requires source_works { R.has_failed source.old ≡ false }
     requires sink_works { W.has_failed sink.old ≡ false }
     ensures bound { result ≤ 1 }
-    ensures served { (wanted : Wanted) → replica.now ≡ first_replica wanted.name → map (λ s. s.now) names.now ≡ wanted.documents
-        → result ≡ 0 → ServesAll wanted (R.remaining source.old) (R.remaining source.new) (W.contents sink.old) (W.contents sink.new) }
+    ensures served { (wanted : Wanted) → replica.now ≡ first_replica wanted.name
+        → map (λ s. s.now) names.now ≡ wanted.documents
+        → result ≡ 0 → ServesAll wanted
+        (R.remaining source.old) (R.remaining source.new) (W.contents sink.old) (W.contents sink.new) }
     ensures no_fault { result ≡ 0 → (R.has_failed source.new ≡ false) × (W.has_failed sink.new ≡ false) }
     ensures flushed { W.kept sink.old ≡ [] → result ≡ 0 → W.kept sink.new ≡ [] }
-    ensures failed { (wanted : Wanted) → replica.now ≡ first_replica wanted.name → map (λ s. s.now) names.now ≡ wanted.documents
-        → result ≡ 1 → ServesUntilFault wanted (R.has_failed source.new) (W.has_failed sink.new) (R.remaining source.old) (R.remaining source.new) (W.contents sink.old) (W.contents sink.new)
+    ensures failed { (wanted : Wanted) → replica.now ≡ first_replica wanted.name
+        → map (λ s. s.now) names.now ≡ wanted.documents
+        → result ≡ 1 → ServesUntilFault wanted (R.has_failed source.new) (W.has_failed sink.new)
+        (R.remaining source.old) (R.remaining source.new) (W.contents sink.old) (W.contents sink.new)
         ⊎ ((source.new ≡ source.old) × (sink.new ≡ sink.old)) }
 {
     let Ok(documents) = make_all(alloc, maker, replica, names) else {
         return 1;
     };
     match run_alone(alloc, source, sink, documents) {
-        Ok(ended) => let_go(ended),
+        Ok(ended) => finish(ended),
         Err(_) => 1,
     }
 }
 
-/// Runs a session over new documents of these names, for the first start of the server of this name, and gives the program's
-/// status: 2 where a name is bad or there are too many documents, with nothing read or written, and never where they are good; 1
-/// where a device failed, or for want of memory before anything was read or written.
+/// Runs a session over new documents of these names, for the first start of the server of this name, and
+/// gives the program's status: 2 where a name is bad or there are too many documents, with nothing read or
+/// written, and never where they are good; 1 where a device failed, or when out of memory before anything was
+/// read or written.
 pub fn run_over<M: Maker, R: Source, W: Sink>(
     alloc: Global,
     maker: &mut M,
@@ -126,11 +132,14 @@ pub fn run_over<M: Maker, R: Source, W: Sink>(
     ensures bad_name { is_good name.now (map (λ s. s.now) documents.now) ≡ false → result ≡ 2 }
     ensures good_names { is_good name.now (map (λ s. s.now) documents.now) ≡ true → result ≤ 1 }
     ensures served { result ≡ 0
-        → ServesAll (wanted_by name.now (map (λ s. s.now) documents.now)) (R.remaining source.old) (R.remaining source.new) (W.contents sink.old) (W.contents sink.new) }
+        → ServesAll (wanted_by name.now (map (λ s. s.now) documents.now))
+        (R.remaining source.old) (R.remaining source.new) (W.contents sink.old) (W.contents sink.new) }
     ensures no_fault { result ≡ 0 → (R.has_failed source.new ≡ false) × (W.has_failed sink.new ≡ false) }
     ensures flushed { W.kept sink.old ≡ [] → result ≡ 0 → W.kept sink.new ≡ [] }
     ensures failed { result ≡ 1
-        → ServesUntilFault (wanted_by name.now (map (λ s. s.now) documents.now)) (R.has_failed source.new) (W.has_failed sink.new) (R.remaining source.old) (R.remaining source.new) (W.contents sink.old) (W.contents sink.new)
+        → ServesUntilFault (wanted_by name.now (map (λ s. s.now) documents.now))
+        (R.has_failed source.new) (W.has_failed sink.new)
+        (R.remaining source.old) (R.remaining source.new) (W.contents sink.old) (W.contents sink.new)
         ⊎ ((source.new ≡ source.old) × (sink.new ≡ sink.old)) }
     ensures untouched { result ≡ 2 → (source.new ≡ source.old) × (sink.new ≡ sink.old) }
 {

@@ -21,7 +21,7 @@ no_batches {names = names} {old = old} same = record {
 abbrev pub IsLeft : {S X F : Type 0} → Result X F → List (List ℕ) → Kept S → Kept S → Option Fault → Type 0
 IsLeft ran names old new fault = (OnOk ran ⊥ × (new ≡ old)) ⊎ HasCopied names old new fault
 
--- the same, told of what the copier was lent
+-- the same, stated of what the copier was lent
 pub same_left : {S X F : Type 0} (ran : Result X F) {names : List (List ℕ)} {a old b new : Kept S} {f fault : Option Fault}
     → IsLeft ran names a b f → a ≡ old → b ≡ new → fault ≡ f → IsLeft ran names old new fault
 same_left ran {names = names} {old = old} {b = b} {new = new} {f = f} left begun ended why =

@@ -23,7 +23,7 @@ then_err (Ok x) p f = tt
 then_err (Err e) p f = f p
 
 module _ {S : Type 0} (g : Ghosts S) (holds_alone : S → Trees → Type 0) where
-  -- what is held where the copy was closed, told of the copy before
+  -- what is held where the copy was closed, stated of the copy before
   abbrev pub Held : {E : Type 0} → Result ⊤ E → Kept S → S → Type 0
   Held closed new last = OnOk closed (new.has_failed ≡ false → new.is_alone ≡ true → IsHeld g holds_alone (content new.epoch new.docs) last)
 

@@ -1,4 +1,4 @@
--- What a server tells of itself.
+-- What a server writes.
 use Rattle.std.proofs.Common.{◌≡◌, ◌<◌, ◌≤◌, ◌+◌, ◌++◌, ℕ, List, [], map, drop, get_or, length, Option, Result, Ok, IfOk, vec_len, refl, sym, ap, subst, ◌∙◌, add-one, drop-cons}
 use Rattle.std.proofs.lemmas.List.{drop_all}
 use Rattle.std.specs.Borrow.{Bor}
@@ -19,19 +19,19 @@ pub lines_step : (names : List (Bor (List ℕ))) (totals : List Totals) (i : ℕ
     ≡ total_line (get_or names i n).now (get_or totals i t) ++ total_lines (map (λ s. s.now) (drop (i + 1) names)) (drop (i + 1) totals)
 lines_step names totals i n t within there = rw (drop-cons names i n within, drop-cons totals i t there, add-one) refl
 
--- behind the last document nothing is left to tell
+-- behind the last document nothing is left to write
 pub lines_end : (names : List (Bor (List ℕ))) (totals : List Totals) (i : ℕ) → length names ≤ i
     → total_lines (map (λ s. s.now) (drop i names)) (drop i totals) ≡ []
 lines_end names totals i past = rw (drop_all i names past) refl
 
--- what sessions did over documents of these names, and what was told of it
+-- what sessions did over documents of these names, and what was written of it
 pub serves : (begun : ℕ → List Op) (docs : List Doc) (shelved names : List (List ℕ)) (connections : List Bytes) (count : ℕ) {F : Type 0} {ran : Result Gathered F} (gathered : Gathered)
     (held holds : Option (List ℕ)) → ran ≡ Ok gathered
     → IfOk ran (λ g. (given : List (List (Option Seat))) × AreAttended shelved connections g.endings.items given × AreTotalsFrom begun 0 given g.totals.items)
     → IfOk ran (λ g. vec_len g.totals ≡ length shelved)
     → begun ≡ entries_at docs names → shelved ≡ names → length connections ≡ count → Appends held holds (total_lines names gathered.totals.items)
     → ServesSessions docs names count held holds
-serves begun docs shelved names connections count gathered held holds is sessions each restored same so_many told =
+serves begun docs shelved names connections count gathered held holds is sessions each restored same so_many written =
     let (given, attended, added) = subst
     (λ ran. IfOk ran (λ g. (given : List (List (Option Seat))) × AreAttended shelved connections g.endings.items given × AreTotalsFrom begun 0 given g.totals.items)) is sessions in
     let many : vec_len gathered.totals ≡ length shelved = subst (λ ran. IfOk ran (λ g. vec_len g.totals ≡ length shelved)) is each in
@@ -44,5 +44,5 @@ serves begun docs shelved names connections count gathered held holds is session
       attended = subst (λ ns. AreAttended ns connections gathered.endings.items given) same attended;
       each = sym gathered.totals.ok.0 ∙ many ∙ ap length same;
       added = subst (λ first. AreTotalsFrom first 0 given gathered.totals.items) restored added;
-      told = told;
+      written = written;
     }

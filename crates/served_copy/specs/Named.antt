@@ -18,8 +18,10 @@ is_by replica op = bytes_eq op.id.replica replica
 abbrev pub is_known : List ℕ → List Doc → List (List ℕ) → Bool
 is_known replica docs names = list_any (λ n. list_any (is_by replica) (log_of n docs)) names
 
--- The copy has the same rows under a greater epoch, and the replica is named by that: a name that is new to these documents.
-pub record IsRaised {S : Type 0} (name : List ℕ) (names : List (List ℕ)) (replica : List ℕ) (old new : Kept S) : Type 0 where
+-- The copy has the same rows under a greater epoch, and the replica is named by that: a name that
+-- is new to these documents.
+pub record IsRaised {S : Type 0} (name : List ℕ) (names : List (List ℕ)) (replica : List ℕ)
+    (old new : Kept S) : Type 0 where
   pub named : replica ≡ replica_name name new.epoch
   pub raised : old.epoch < new.epoch
   pub unknown : is_known replica old.docs names ≡ false

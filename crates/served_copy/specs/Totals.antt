@@ -1,4 +1,4 @@
--- What a server tells at the end.
+-- What a server writes at the end.
 use Rattle.std.specs.Prelude.{◌≡◌, ℕ, List, [], ◌∷◌, ◌++◌, length, codes, Option}
 use Rattle.std.specs.Fmt.{decimal}
 use Rattle.std.specs.Io.KnownBytes.{Appends}
@@ -13,7 +13,8 @@ use Rattle.served_copy.specs.Restored.{entries_at}
 -- ["total",DOC,ACCEPTED,LOGGED,COPIED]
 abbrev pub total_line : List ℕ → Totals → List ℕ
 total_line name t =
-    codes "[\"total\",\"" ++ (name ++ (codes "\"," ++ (decimal t.accepted ++ (codes "," ++ (decimal t.logged ++ (codes "," ++ (decimal t.copied ++ codes "]\n")))))))
+    codes "[\"total\",\"" ++ (name ++ (codes "\","
+    ++ (decimal t.accepted ++ (codes "," ++ (decimal t.logged ++ (codes "," ++ (decimal t.copied ++ codes "]\n")))))))
 
 -- a line for each document, in their order
 abbrev pub total_lines : List (List ℕ) → List Totals → List ℕ
@@ -21,10 +22,12 @@ total_lines (name ∷ names) (t ∷ ts) = total_line name t ++ total_lines names
 total_lines [] ts = []
 total_lines (name ∷ names) [] = []
 
--- So many connections, each with a session over documents of these names, or with none; and then a line of totals for each
--- document, which are those of the seats that these sessions had. Each document began with just the entries that it has in these
--- documents of a copy. Where they are known, the bytes are what a connection's source has and what its sink has taken.
-pub record ServesSessions (docs : List Doc) (names : List (List ℕ)) (count : ℕ) (held holds : Option (List ℕ)) : Type 0 where
+-- So many connections, each with a session over documents of these names, or with none; and then a
+-- line of totals for each document, which are those of the seats that these sessions had. Each
+-- document began with just the entries that it has in these documents of a copy. Where they are
+-- known, the bytes are what a connection's source has and what its sink has taken.
+pub record ServesSessions (docs : List Doc) (names : List (List ℕ)) (count : ℕ)
+    (held holds : Option (List ℕ)) : Type 0 where
   pub connections : List Bytes
   pub endings : List (Option Ending)
   pub given : List (List (Option Seat))
@@ -33,4 +36,4 @@ pub record ServesSessions (docs : List Doc) (names : List (List ℕ)) (count : �
   pub attended : AreAttended names connections endings given
   pub each : length totals ≡ length names
   pub added : AreTotalsFrom (entries_at docs names) 0 given totals
-  pub told : Appends held holds (total_lines names totals)
+  pub written : Appends held holds (total_lines names totals)

@@ -4,7 +4,7 @@ ghost use Rattle.served_copy.specs.Unwritten.{IsUnwritten};
 
 use copy_rows::LAST_EPOCH;
 use json_scalar::Refusal;
-use log_copy::{Fault, LogCopy, words_of};
+use log_copy::{Fault, LogCopy, message_of};
 use server_core::Ungathered;
 use share_ledger::Marker;
 use sqlite::{Alter, ErrorCode};
@@ -51,7 +51,7 @@ pub enum Failure {
     Memory(Step),
     /// The database failed, by this error where it is known.
     Database(Step, Option<ErrorCode>),
-    /// What the sessions were told differs from what the log has.
+    /// The ids acknowledged to sessions differ from the log.
     Lists,
     /// The totals could not be written.
     Output(io::Error),
@@ -60,7 +60,7 @@ pub enum Failure {
 }
 
 impl Failure {
-    /// The failure of a call of the stored log that answered this fault.
+    // The failure of a call of the stored log that answered this fault.
     fn of_fault<S: Alter>(step: Step, fault: Fault, copy: &LogCopy<S>) -> Failure {
         match fault {
             Fault::Memory => Failure::Memory(step),
@@ -86,7 +86,8 @@ impl Failure {
         Failure::of_fault(Step::Restore, fault, copy)
     }
 
-    /// Why the totals of sessions were not added up. Where no session has begun there are no ends of seats.
+    /// Why the totals of sessions were not added up. Where no session has begun there are no ends
+    /// of seats.
     pub(crate) fn of_gathering<M: Marker>(left: &Ungathered<M>) -> Failure {
         match left.refusal {
             Refusal::ListsDiffer => Failure::Lists,
@@ -106,20 +107,20 @@ impl Failure {
     }
 }
 
-/// What the database failed by, in words.
-fn words_of_code(code: Option<ErrorCode>) -> &'static str {
+// The database error as a message.
+fn message_of_code(code: Option<ErrorCode>) -> &'static str {
     match code {
-        Some(code) => words_of(code),
+        Some(code) => message_of(code),
         None => "a database error",
     }
 }
 
-/// Why copying stopped, in words.
-pub fn words_of_stop(fault: &Fault, code: Option<ErrorCode>) -> &'static str {
+/// Why copying stopped, as a message.
+pub fn message_of_stop(fault: &Fault, code: Option<ErrorCode>) -> &'static str {
     match fault {
         Fault::Memory => "out of memory",
         Fault::Refused => "the file refuses an operation",
-        Fault::Store => words_of_code(code),
+        Fault::Store => message_of_code(code),
     }
 }
 
@@ -130,20 +131,20 @@ impl Display for Failure {
             Failure::Name => f.write_str("the name with its epoch is too long"),
             Failure::Memory(step) => write!(f, "out of memory {step}"),
             Failure::Database(step, code) => {
-                let why = words_of_code(*code);
+                let why = message_of_code(*code);
                 write!(f, "the file failed {step}: {why}")
             }
             Failure::Lists => f.write_str("what the sessions were told differs from the log"),
             Failure::Output(error) => fmt_output(error, f),
             Failure::Stopped(fault, code) => {
-                let why = words_of_stop(fault, *code);
+                let why = message_of_stop(fault, *code);
                 write!(f, "copying stopped while sessions ran: {why}")
             }
         }
     }
 }
 
-/// Why the totals could not be written, in words.
+// Why the totals could not be written, as a message.
 fn fmt_output<W: fmt::Write>(error: &io::Error, f: &mut Formatter<W>) -> fmt::Result {
     match error.kind() {
         ErrorKind::OutOfMemory => f.write_str("out of memory while the totals were written"),

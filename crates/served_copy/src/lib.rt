@@ -1,17 +1,18 @@
-//! Shared documents that start from a copy of their logs, and are copied while they are served.
+//! A server over a stored log: it starts a new epoch, restores its documents from the log, and
+//! stores what its sessions log while it serves them.
 #![tactic(auto)]
 
 mod failure;
-mod naming;
-mod noting;
-mod restoring;
-mod serving;
+mod notes;
+mod output;
+mod replica_name;
+mod restore;
+mod serve;
 mod stored;
-mod telling;
 
 pub use failure::{Failure, Step};
-pub use naming::raise;
-pub use restoring::{RestoredDocuments, restore_documents, share_documents};
-pub use serving::{serve_from, serve_over};
+pub use output::{report_fault, write_totals};
+pub use replica_name::next_replica_name;
+pub use restore::{RestoredDocuments, restore_documents, share_documents};
+pub use serve::{serve_over, start_and_serve};
 pub use stored::{Ended, serve_stored};
-pub use telling::{tell_fault, write_totals};

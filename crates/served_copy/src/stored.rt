@@ -1,4 +1,4 @@
-//! A server over a store of two files, from its start to the end of its file.
+//! A server over a stored log in two files, from the start of an epoch to the closed file.
 ghost use Rattle.std.specs.Prelude.{◌≡◌, ◌≤◌, true, false, length, map, IfErr, OnOk, OnErr};
 ghost use Rattle.doc_ledger.specs.Numbers.{greatest_number};
 ghost use Rattle.log_copy.specs.Folded.{IsHeld, StillHolds};
@@ -8,9 +8,9 @@ ghost use Rattle.served_copy.specs.Stored.{LeavesStored, ServesFolded, ServesSto
 ghost use Rattle.served_copy.specs.Unwritten.{IsUnwritten};
 
 use crate::failure::{Failure, Step};
-use crate::naming::raise;
-use crate::serving::serve_raised;
-use crate::telling::tell_fault;
+use crate::output::report_fault;
+use crate::replica_name::next_replica_name;
+use crate::serve::serve_epoch;
 use lamport_id::ReplicaName;
 use log::Log;
 use log_copy::{Foldable, LogCopy};
@@ -25,29 +25,32 @@ use std::time::Clock;
 /// How a server over a stored log has ended.
 #[derive(Drop)]
 pub struct Ended<S> {
-    /// Whether it served to its end, or why not.
+    /// Ok where it served to its end, or why it did not.
     pub served: Result<(), Failure>,
-    /// Whether all that was committed is in the database file alone, or the error of the database.
+    /// Ok where the log was closed, so that the database file alone has all of it; or the error of
+    /// the database.
     pub closed: Result<(), ErrorCode>,
     /// Whether the database failed while it served.
     pub has_failed: bool,
-    /// The store, whose drop closes its files.
+    /// The store. Its drop closes the files.
     pub store: S,
 }
 
-/// Whether the stored log has failed.
+// Whether the stored log has failed.
 fn has_failed<S: Alter>(copy: &LogCopy<S>) -> bool
     ensures { result ≡ copy.now.has_failed }
 {
     copy.epoch().is_err()
 }
 
-/// Closes the stored log of a server that has ended.
+// Closes the stored log of a server that has ended.
 fn end<S: Foldable + Drop>(served: Result<(), Failure>, copy: LogCopy<S>) -> Ended<S>
     ensures served { result.served ≡ served }
     ensures failed { result.has_failed ≡ copy.has_failed }
-    ensures held { OnOk result.closed (copy.has_failed ≡ false → copy.is_alone ≡ true → IsHeld S.Store S.Foldable.holds_alone (content copy.epoch copy.docs) result.store) }
-    ensures left { OnErr result.closed (copy.has_failed ≡ false → copy.is_alone ≡ true → StillHolds S.Store (content copy.epoch copy.docs) result.store) }
+    ensures held { OnOk result.closed (copy.has_failed ≡ false → copy.is_alone ≡ true
+        → IsHeld S.Store S.Foldable.holds_alone (content copy.epoch copy.docs) result.store) }
+    ensures left { OnErr result.closed (copy.has_failed ≡ false → copy.is_alone ≡ true
+        → StillHolds S.Store (content copy.epoch copy.docs) result.store) }
 {
     let has_failed = has_failed(&copy);
     match copy.close() {
@@ -66,9 +69,9 @@ fn end<S: Foldable + Drop>(served: Result<(), Failure>, copy: LogCopy<S>) -> End
     }
 }
 
-/// Folds the stored log, whose epoch is the replica's, into its file. Only then it serves these connections over the documents of these
-/// names, as `serve_raised`, and closes the log.
-fn serve_folded<
+// Folds the stored log, whose epoch is the replica's, into the database file. Then it serves the
+// connections, as `serve_epoch`, and closes the log.
+fn fold_and_serve<
     R: Threads + Wait + Sync + Log + Clock,
     C: Connect,
     S: Foldable + Drop,
@@ -86,14 +89,17 @@ fn serve_folded<
     requires few { length documents.now ≤ greatest_number }
     requires named { replica.now ≡ replica_name name.now copy.epoch }
     requires works { copy.has_failed ≡ false }
-    ensures served { OnOk result.served (ServesFolded S.Store S.Foldable.holds_alone (map (λ s. s.now) documents.now) (length connections.items) copy result.closed result.store (W.contents out.old) (W.contents out.new)) }
+    ensures served { OnOk result.served (ServesFolded S.Store S.Foldable.holds_alone
+        (map (λ s. s.now) documents.now) (length connections.items)
+        copy result.closed result.store (W.contents out.old) (W.contents out.new)) }
     ensures unwritten { IfErr result.served (λ why. IsUnwritten why → out.new ≡ out.old) }
-    ensures left { LeavesStored S.Store S.Foldable.holds_alone (map (λ s. s.now) documents.now) copy result.has_failed result.closed result.store }
+    ensures left { LeavesStored S.Store S.Foldable.holds_alone (map (λ s. s.now) documents.now)
+        copy result.has_failed result.closed result.store }
 {
     match copy.fold() {
         Ok(folded) => {
             let mut copy = folded;
-            let served = serve_raised(
+            let served = serve_epoch(
                 rt,
                 alloc,
                 name,
@@ -114,9 +120,10 @@ fn serve_folded<
     }
 }
 
-/// Serves these connections, one session each, on documents of these names: starts a new epoch of the stored log and folds it into the
-/// database file, restores the documents from it, stores what is logged meanwhile, writes the totals at the end, and closes the log,
-/// however it ends. So the database file alone has the epoch before anything is served, and all of the log at the end.
+/// Starts a new epoch of the stored log and folds it into the database file. Then it restores the
+/// documents of these names, serves the connections over them, one session each, stores what they
+/// log meanwhile, and writes the totals at the end. However it ends, it closes the log. So the
+/// database file alone has the epoch before anything is served, and all of the log at the end.
 pub fn serve_stored<
     R: Threads + Wait + Sync + Log + Clock,
     C: Connect,
@@ -132,15 +139,18 @@ pub fn serve_stored<
     out: &mut W,
 ) -> Ended<S>
     requires few { length documents.now ≤ greatest_number }
-    ensures served { OnOk result.served (ServesStored S.Store S.Foldable.holds_alone name.now (map (λ s. s.now) documents.now) (length connections.items) copy result.closed result.store (W.contents out.old) (W.contents out.new)) }
+    ensures served { OnOk result.served (ServesStored S.Store S.Foldable.holds_alone
+        name.now (map (λ s. s.now) documents.now) (length connections.items)
+        copy result.closed result.store (W.contents out.old) (W.contents out.new)) }
     ensures unwritten { IfErr result.served (λ why. IsUnwritten why → out.new ≡ out.old) }
-    ensures left { LeavesStored S.Store S.Foldable.holds_alone (map (λ s. s.now) documents.now) copy result.has_failed result.closed result.store }
+    ensures left { LeavesStored S.Store S.Foldable.holds_alone (map (λ s. s.now) documents.now)
+        copy result.has_failed result.closed result.store }
 {
     let mut copy = copy;
-    match raise(alloc, &mut copy, name, documents) {
-        Ok(replica) => serve_folded(rt, alloc, name, &replica, documents, connections, copy, out),
+    match next_replica_name(alloc, &mut copy, name, documents) {
+        Ok(replica) => fold_and_serve(rt, alloc, name, &replica, documents, connections, copy, out),
         Err(fault) => {
-            tell_fault(fault, out);
+            report_fault(fault, out);
             let failure = Failure::of_epoch(fault, &copy);
             end(Err(failure), copy)
         }

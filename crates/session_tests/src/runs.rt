@@ -1,4 +1,5 @@
-//! Runs over bytes in memory: the worked rows, the order of causes, pieces of 1, 7 and 4,096 bytes, faults, and names.
+//! Runs over bytes in memory: the worked rows, the order of causes, pieces of 1, 7 and 4,096 bytes,
+//! faults, and names.
 ghost use Rattle.std.specs.Prelude.{◌≡◌, ◌<◌};
 ghost use Rattle.share_ledger.specs.Begun.{BeginEmpty};
 
@@ -10,8 +11,8 @@ mod pieces;
 mod rows;
 mod waiting;
 
-use crate::servers::samples::told_alone;
-use crate::told::{holds, is_told};
+use crate::checks::{holds, replies_are};
+use crate::servers::samples::replies_alone;
 use json_scalar::Refusal;
 use line_feed::doubles::{FailAfter, InPieces};
 use line_feed::{Reader, Writer};
@@ -23,7 +24,7 @@ use std::process::Abort;
 use std::sync::Wait;
 use std::thread::Threads;
 
-/// A run over bytes in memory.
+// A run over bytes in memory.
 #[derive(Clone, Copy)]
 struct Run<'a> {
     server: &'a str,
@@ -37,7 +38,7 @@ struct Run<'a> {
     write_after: usize,
 }
 
-/// A run of the document `d` by the server `srv`, whose devices never fail.
+// A run of the document `d` by the server `srv`, whose devices never fail.
 fn run_of(input: &[u8]) -> Run<'_>
     ensures { 0 < result.piece }
 {
@@ -51,7 +52,7 @@ fn run_of(input: &[u8]) -> Run<'_>
     }
 }
 
-/// The status of a run, and what it wrote.
+// The status of a run, and what it wrote.
 fn written_over<M: Marker>(alloc: Global, blank: Blank, run: Run<'_>) -> (u8, Vec<u8>)
     requires blank { blank ≡ M.name }
     requires begun { BeginEmpty M.initial_log }
@@ -78,12 +79,12 @@ fn written_over<M: Marker>(alloc: Global, blank: Blank, run: Run<'_>) -> (u8, Ve
     (status, out)
 }
 
-/// The run of this name has this status, and writes this.
+// The run of this name has this status, and writes this.
 fn writes<R: Abort>(rt: &R, alloc: Global, name: &str, run: Run<'_>, status: u8, output: &[u8])
     requires { 0 < run.piece }
 {
     let (ended, out) = written_over::<Brand>(alloc, Blank::new(), run);
-    is_told(
+    replies_are(
         rt,
         &format_args!(
             "{name}, {} bytes in pieces of {}, failing once {} are read or {} written",
@@ -98,14 +99,14 @@ fn writes<R: Abort>(rt: &R, alloc: Global, name: &str, run: Run<'_>, status: u8,
     holds(rt, ended == status, name);
 }
 
-/// A session at the document `d`, and what it is told.
+// A session at the document `d`, and its replies.
 struct Row {
     name: &'static str,
     input: &'static str,
     output: &'static str,
 }
 
-/// A run of one document gives this output, and so does the one session of a server.
+// A run of one document gives this output, and so does the one session of a server.
 fn gives<R: Abort + Threads + Wait + Sync>(
     rt: &R,
     alloc: Global,
@@ -114,17 +115,17 @@ fn gives<R: Abort + Threads + Wait + Sync>(
     output: &[u8],
 ) -> Result<(), Refusal> {
     writes(rt, alloc, name, run_of(input), 0, output);
-    let told = told_alone(rt, alloc, &["d"], input)?;
-    is_told(
+    let replies = replies_alone(rt, alloc, &["d"], input)?;
+    replies_are(
         rt,
         &format_args!("{name}, over a shelf"),
-        told.as_slice(),
+        replies.as_slice(),
         output,
     );
     Ok(())
 }
 
-/// The same of each of these rows.
+// The same of each of these rows.
 fn give_all<R: Abort + Threads + Wait + Sync>(rt: &R, alloc: Global, rows: &[Row]) {
     for row in rows {
         let name = row.name;

@@ -3,7 +3,8 @@ use json_scalar::Refusal;
 use std::alloc::Global;
 use std::fmt::Write;
 
-/// A text that stands once for each number from the first to the last. In it `#` is that number, and `^` the one before it.
+/// A text that stands once for each number from the first to the last. In it `#` is that number,
+/// and `^` the one before it.
 pub struct Part(pub u32, pub u32, pub &'static str);
 
 /// Pushes this pattern, in which `#` is the number, and `^` the one before it.

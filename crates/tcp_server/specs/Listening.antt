@@ -1,4 +1,4 @@
--- What a server tells at its beginning.
+-- What a server writes when it starts.
 use Rattle.std.specs.Prelude.{ℕ, List, ◌++◌, codes, Option}
 use Rattle.std.specs.Io.KnownBytes.{Appends}
 use Rattle.std.specs.Net.Text.{socket_text}
@@ -9,10 +9,10 @@ abbrev pub listening_line : SocketAddr → List ℕ
 listening_line address = codes "[\"listening\",\"" ++ (socket_text address ++ codes "\"]\n")
 
 -- it was written of some address that the server listens there
-pub record TellsAddress (held holds : Option (List ℕ)) : Type 0 where
+pub record WritesAddress (held holds : Option (List ℕ)) : Type 0 where
   pub address : SocketAddr
-  pub told : Appends held holds (listening_line address)
+  pub written : Appends held holds (listening_line address)
 
--- what is told of an address that is none
+-- what an address should be
 abbrev pub hint : List ℕ
 hint = codes "; HOST:PORT is wanted, as 127.0.0.1:7001 or [::1]:7001"

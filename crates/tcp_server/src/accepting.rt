@@ -1,4 +1,4 @@
-//! Connections that a listener accepts.
+//! Accepting connections.
 ghost use Rattle.std.specs.Prelude.{◌≡◌, length, IfOk};
 
 use crate::keep_alive::keep_alive;
@@ -13,10 +13,10 @@ use std::net::{Shutdown, TcpListener, TcpStream};
 use std::sync::atomic::{AtomicU64, Ordering};
 use std::time::Clock;
 
-/// How often at most a connection is read when it is dropped.
+// How often at most a connection is read when it is dropped.
 const LAST_READS: u16 = 256;
 
-/// Discards what has come, as far as that needs no waiting: at most 1 MiB.
+// Discards what has arrived, without waiting: at most 1 MiB.
 fn read_away(mut stream: &TcpStream) {
     let mut unread = [0; 4096];
     for _ in 0..LAST_READS {
@@ -27,16 +27,17 @@ fn read_away(mut stream: &TcpStream) {
     }
 }
 
-/// What a client sends. Its drop ends what the client reads, and then discards what it has sent: a system that closes a connection
-/// with unread bytes resets it, and the client may lose the last replies by that.
+/// What a client sends. Its drop ends what the client reads, and then discards what it has sent: a
+/// system that closes a connection with unread bytes resets it, and the client may lose the last
+/// replies by that.
 pub struct Sent {
     stream: TcpStream,
 }
 
 impl Drop for Sent {
     fn drop(self) {
-        // Where one of these can't be had the connection is closed all the same.
-        let _ended = self.stream.shutdown(Shutdown::Write);
+        // The connection is closed even if these fail.
+        let _ = self.stream.shutdown(Shutdown::Write);
         if self.stream.set_nonblocking(true).is_ok() {
             read_away(&self.stream);
         }
@@ -70,12 +71,12 @@ impl<'a, R: Log + Clock> Entrance<'a, R> {
         }
     }
 
-    /// How many sessions have begun with this one.
+    // How many sessions have begun with this one.
     fn begin(&self) -> u64 {
         self.begun.fetch_add(1, Ordering::SeqCst).saturating_add(1)
     }
 
-    /// Waits for the next connection, which begins a session. A note says so, or why there is none.
+    // Waits for the next connection, which begins a session. A note says so, or why there is none.
     fn accept(&self) -> Option<TcpStream> {
         match self.listener.accept() {
             Ok((stream, from)) => {
@@ -109,8 +110,9 @@ impl<R: Log + Clock + Sync> Connect for Accepting<'_, R> {
             return Err(DeviceFault);
         };
         keep_alive(&stream);
-        // Flushed replies go out at once. Where that can't be had the system may hold them back for a while, and nothing is lost.
-        let _at_once = stream.set_nodelay(true);
+        // Flushed replies go out at once. If this fails the system may delay them, and nothing is
+        // lost.
+        let _ = stream.set_nodelay(true);
         let Ok(other) = stream.try_clone() else {
             return Err(DeviceFault);
         };

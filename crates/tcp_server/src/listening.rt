@@ -1,7 +1,7 @@
 //! Where a server listens.
 ghost use Rattle.std.specs.Prelude.{◌≡◌, ◌≢◌, [], IfSome, OnOk};
 ghost use Rattle.std.specs.IoError.{error_kind};
-ghost use Rattle.tcp_server.specs.Listening.{TellsAddress, hint};
+ghost use Rattle.tcp_server.specs.Listening.{WritesAddress, hint};
 
 use log::Log;
 use server_notes::note_listening;
@@ -11,16 +11,16 @@ use std::io::ErrorKind;
 use std::net::{Net, SocketAddr, TcpListener, TcpStream};
 use std::time::Clock;
 
-/// Writes where the server listens.
+// Writes where the server listens.
 fn write_address<W: io::Write>(alloc: Global, address: SocketAddr, out: &mut W) -> io::Result<()>
-    ensures { OnOk result (TellsAddress (W.contents out.old) (W.contents out.new)) }
+    ensures { OnOk result (WritesAddress (W.contents out.old) (W.contents out.new)) }
 {
     let line = format!(in alloc; "[\"listening\",\"{address}\"]\n")?;
     out.write_all(line.as_bytes())?;
     out.flush()
 }
 
-/// What is right where an address that can't be listened at is no address; nothing where it is one.
+/// What an address should be, where the error is that it is none; else an empty text.
 pub fn hint_of(error: &io::Error) -> &'static str
     ensures hinted { error_kind error.now ≡ ErrorKind.InvalidInput → result.now ≡ hint }
     ensures nothing { error_kind error.now ≢ ErrorKind.InvalidInput → result.now ≡ [] }
@@ -31,22 +31,22 @@ pub fn hint_of(error: &io::Error) -> &'static str
     }
 }
 
-/// Tells standard error why the address can't be listened at. A fault of standard error changes nothing.
-fn tell_unheard<R: Eprint>(rt: &R, address: &str, error: &io::Error) {
+// Reports on standard error why the address can't be listened at. An error there changes nothing.
+fn report_bind_error<R: Eprint>(rt: &R, address: &str, error: &io::Error) {
     let hint = hint_of(error);
-    let _told = rt.eprintln(format_args!("jcrdt: cannot listen at {address}: {error}{hint}"));
+    let _ = rt.eprintln(format_args!("jcrdt: cannot listen at {address}: {error}{hint}"));
 }
 
-/// Tells standard error why the address could not be written.
-fn tell_unwritten<R: Eprint>(rt: &R, error: &io::Error) {
-    let _told = match error.kind() {
+// Reports on standard error why the address could not be written.
+fn report_write_error<R: Eprint>(rt: &R, error: &io::Error) {
+    let _ = match error.kind() {
         ErrorKind::OutOfMemory => rt.eprintln("jcrdt: out of memory while the address was written"),
         _ => rt.eprintln(format_args!("jcrdt: standard output failed: {error}")),
     };
 }
 
-/// A listener at the address, and where it listens. Where there is none standard error is told why.
-fn bound<R: Net<Listener = TcpListener, Stream = TcpStream> + Eprint>(
+// A listener at the address, and where it listens. Standard error says why there is none.
+fn bind<R: Net<Listener = TcpListener, Stream = TcpStream> + Eprint>(
     rt: &R,
     address: &str,
 ) -> Option<(TcpListener, SocketAddr)> {
@@ -54,33 +54,34 @@ fn bound<R: Net<Listener = TcpListener, Stream = TcpStream> + Eprint>(
         Ok(listener) => match listener.local_addr() {
             Ok(at) => Some((listener, at)),
             Err(error) => {
-                tell_unheard(rt, address, &error);
+                report_bind_error(rt, address, &error);
                 None
             }
         },
         Err(error) => {
-            tell_unheard(rt, address, &error);
+            report_bind_error(rt, address, &error);
             None
         }
     }
 }
 
-/// Listens at the address, and writes where. None where it can't be listened at, where the writer fails, or where memory runs out:
-/// standard error is told which. That it listens at this address no clause can say.
+/// Listens at the address, and writes where. None where it can't be listened at, where the writer
+/// fails, or where memory runs out; standard error says why. No clause can say that it listens at
+/// this address.
 pub fn listen<
     R: Net<Listener = TcpListener, Stream = TcpStream> + Eprint + Log + Clock,
     W: io::Write,
 >(rt: &R, alloc: Global, address: &str, out: &mut W) -> Option<TcpListener>
-    ensures { IfSome result (λ listener. TellsAddress (W.contents out.old) (W.contents out.new)) }
+    ensures { IfSome result (λ listener. WritesAddress (W.contents out.old) (W.contents out.new)) }
 {
-    let (listener, at) = bound(rt, address)?;
+    let (listener, at) = bind(rt, address)?;
     match write_address(alloc, at, out) {
         Ok(()) => {
             note_listening(rt, &at);
             Some(listener)
         }
         Err(error) => {
-            tell_unwritten(rt, &error);
+            report_write_error(rt, &error);
             None
         }
     }

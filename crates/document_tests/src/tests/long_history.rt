@@ -1,4 +1,5 @@
-//! A history of 2,000 operations of four replicas: maps, lists, deletes, additions, and much that is concurrent.
+//! A history of 2,000 operations of four replicas: maps, lists, deletes, additions, and much that
+//! is concurrent.
 use crate::alike::{agree_at, is_free_at, show_alike};
 use crate::history::make_history;
 use crate::holds::no_fault_of;
@@ -12,7 +13,7 @@ use plain_rules::{PlainContext, plain_replay};
 use std::alloc::Global;
 use std::test::Fail;
 
-/// How many operations the history has.
+// How many operations the history has.
 const COUNT: usize = 2000;
 
 fn sites_of(alloc: Global, ops: &[Operation]) -> Result<Vec<Site>, Refusal> {
@@ -23,7 +24,7 @@ fn sites_of(alloc: Global, ops: &[Operation]) -> Result<Vec<Site>, Refusal> {
     Ok(sites)
 }
 
-/// Whether tree and plain program say the same at each of some places.
+// Whether tree and plain program say the same at each of some places.
 fn agree_at_each(
     alloc: Global,
     tree: &Tree,
@@ -38,7 +39,8 @@ fn agree_at_each(
     Ok(true)
 }
 
-/// Whether tree and plain program say the same of a document whose places these are: at each, and shown as a whole.
+// Whether tree and plain program say the same of a document whose places these are: at each, and
+// shown as a whole.
 fn agree_of_all(
     alloc: Global,
     tree: &Tree,
@@ -48,8 +50,8 @@ fn agree_of_all(
     Ok(agree_at_each(alloc, tree, plain, sites)? && show_alike(alloc, tree, plain, sites)?)
 }
 
-/// Whether the tree of some operations says what the plain program says, at each place that one passes or ends at, and shows
-/// the same of the whole document.
+// Whether the tree of some operations says what the plain program says, at each place that one
+// passes or ends at, and shows the same of the whole document.
 fn agree_everywhere(alloc: Global, ops: &[Operation]) -> Result<bool, Refusal> {
     let tree = replay_all(alloc, ops)?;
     let plain = plain_replay(alloc, ops)?;
@@ -66,7 +68,7 @@ fn agree_each_hundred(alloc: Global, ops: &[Operation]) -> Result<bool, Refusal>
     Ok(true)
 }
 
-/// Whether the set of the operations says what the tree says, at each of some places.
+// Whether the set of the operations says what the tree says, at each of some places.
 fn is_free_at_each(tree: &Tree, ops: &[Operation], sites: &[Site]) -> bool {
     for site in sites {
         if !is_free_at(tree, ops, site) {
@@ -76,7 +78,8 @@ fn is_free_at_each(tree: &Tree, ops: &[Operation], sites: &[Site]) -> bool {
     true
 }
 
-/// Whether the set of the operations says what the tree says, at each place that one passes or ends at.
+// Whether the set of the operations says what the tree says, at each place that one passes or ends
+// at.
 fn is_free_everywhere(alloc: Global, ops: &[Operation]) -> Result<bool, Refusal> {
     let tree = replay_all(alloc, ops)?;
     let sites = sites_of(alloc, ops)?;
@@ -93,7 +96,7 @@ fn count_deletes(ops: &[Operation]) -> usize {
     count
 }
 
-/// How many places have several values at once.
+// How many places have several values at once.
 fn count_conflicts(alloc: Global, tree: &Tree, sites: &[Site]) -> Result<usize, Refusal> {
     let mut count: usize = 0;
     for site in sites {
@@ -112,7 +115,7 @@ fn longest_list(alloc: Global, tree: &Tree, sites: &[Site]) -> Result<usize, Ref
     Ok(longest)
 }
 
-/// The number of places with several values of some operations, and the length of the longest list.
+// The number of places with several values of some operations, and the length of the longest list.
 fn count_in_tree(alloc: Global, ops: &[Operation]) -> Result<(usize, usize), Refusal> {
     let tree = replay_all(alloc, ops)?;
     let sites = sites_of(alloc, ops)?;
@@ -120,7 +123,8 @@ fn count_in_tree(alloc: Global, ops: &[Operation]) -> Result<(usize, usize), Ref
     Ok((conflicts, longest_list(alloc, &tree, sites.as_slice())?))
 }
 
-/// What these operations lack to tell something, or nothing: many deletes, places with several values, and long lists.
+// Which kind of change these operations lack, or nothing: many deletes, places with several
+// values, and long lists.
 fn lack_of(alloc: Global, ops: &[Operation]) -> Result<&'static str, Refusal> {
     let (conflicts, longest) = count_in_tree(alloc, ops)?;
     Ok(if count_deletes(ops) < 100 {
@@ -134,7 +138,8 @@ fn lack_of(alloc: Global, ops: &[Operation]) -> Result<&'static str, Refusal> {
     })
 }
 
-/// What is wrong between the tree, the plain program and the set of these operations, or nothing: the case, and what it is.
+// What is wrong between the tree, the plain program and the set of these operations, or nothing:
+// the case, and what it is.
 fn fault_between(
     alloc: Global,
     ops: &[Operation],
@@ -154,7 +159,7 @@ fn fault_between(
     })
 }
 
-/// What is wrong with the history: the case, and what it is.
+// What is wrong with the history: the case, and what it is.
 fn fault_of_history(alloc: Global) -> Result<(&'static str, &'static str), Refusal> {
     let history = make_history(alloc, COUNT)?;
     if history.len() != COUNT {
@@ -162,7 +167,7 @@ fn fault_of_history(alloc: Global) -> Result<(&'static str, &'static str), Refus
     }
     let lack = lack_of(alloc, history.as_slice())?;
     if !lack.is_empty() {
-        return Ok(("history_is_telling", lack));
+        return Ok(("history_has_all_kinds", lack));
     }
     fault_between(alloc, history.as_slice())
 }

@@ -1,4 +1,5 @@
-//! Each causal order of the operations of a worked history says the same, and what the history says.
+//! Each causal order of the operations of a worked history says the same, and what the history
+//! says.
 use crate::holds::no_fault_of;
 use crate::orders::{History, Log, fault_of, fault_of_exchange};
 use crate::readings::Due;
@@ -129,7 +130,8 @@ const HISTORIES: [History<'static>; 5] = [
     },
 ];
 
-/// The name of the first history that doesn't say the same in each order, and what is wrong, or nothing.
+// The name of the first history that doesn't say the same in each order, and what is wrong, or
+// nothing.
 fn fault_of_histories(alloc: Global) -> Result<(&'static str, &'static str), Refusal> {
     for history in &HISTORIES {
         let fault = fault_of(alloc, history)?;

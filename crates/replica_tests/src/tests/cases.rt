@@ -1,6 +1,7 @@
-//! What a replica tells of operations, one after another. Each case has its name, which is told where one fails.
+//! A replica's answers to operations, one after another. Each case has its name, which is shown if it
+//! fails.
 use super::samples::{
-    Deed, Digest, command, goes_on, holds, is_count, is_told, named, operation, told_by,
+    Deed, Digest, command, delivers_up_to, digest_of, holds, is_count, is_digest, named, operation,
 };
 use json_scalar::Refusal;
 use op_core::Operation;
@@ -8,7 +9,7 @@ use replica_core::Replica;
 use std::alloc::Global;
 use std::process::Abort;
 
-/// What a replica was handed in before.
+/// What was delivered to a replica before.
 #[derive(Clone, Copy)]
 pub enum Before {
     Nothing,
@@ -22,8 +23,8 @@ pub enum Before {
     Full,
 }
 
-/// What a replica of this name is handed in before, how many are held and logged then, what it is to do with operations and tells of
-/// each, and how many are logged in the end.
+/// What is delivered to a replica of this name before, how many are held and logged then, what it
+/// does with operations and answers to each, and how many are logged in the end.
 pub struct Case {
     pub name: &'static str,
     pub replica: &'static [u8],
@@ -41,21 +42,21 @@ const LOGGED: [&str; 3] = [
 // What (2,p) waits for.
 const FIRST: &str = r#"["op",[1,"p"],[],[[["m",0]],"k"],["assign",1]]"#;
 
-// Hands in what is to be handed in before, and answers how many are held then.
-fn hands_in(alloc: Global, replica: &mut Replica, before: Before) -> Result<u64, Refusal> {
+// Delivers what is to be delivered before, and returns how many are held then.
+fn delivers(alloc: Global, replica: &mut Replica, before: Before) -> Result<u64, Refusal> {
     match before {
         Before::Nothing => Ok(0),
-        Before::Three => knows(alloc, replica),
-        Before::Held => goes_on(alloc, replica, 257),
+        Before::Three => delivers_three(alloc, replica),
+        Before::Held => delivers_up_to(alloc, replica, 257),
         Before::Crowd => crowds(alloc, replica),
         Before::Full => {
             crowds(alloc, replica)?;
-            goes_on(alloc, replica, 99_745)
+            delivers_up_to(alloc, replica, 99_745)
         }
     }
 }
 
-fn knows(alloc: Global, replica: &mut Replica) -> Result<u64, Refusal> {
+fn delivers_three(alloc: Global, replica: &mut Replica) -> Result<u64, Refusal> {
     for text in &LOGGED {
         replica.deliver(operation(alloc, text)?)?;
     }
@@ -78,16 +79,16 @@ fn first_of(alloc: Global, number: u64) -> Result<Operation, Refusal> {
     operation(alloc, text.as_str())
 }
 
-// Asserts what is told of each operation.
-fn tells<R: Abort>(
+// Asserts the answer to each operation.
+fn rows_are<R: Abort>(
     rt: &R,
     alloc: Global,
     replica: &mut Replica,
     case: &Case,
 ) -> Result<(), Refusal> {
-    for (deed, text, due) in case.rows {
-        let told = told_by(replica.act(command(alloc, *deed, text)?));
-        is_told(rt, told, *due, case.name, text);
+    for (deed, text, expected) in case.rows {
+        let digest = digest_of(replica.act(command(alloc, *deed, text)?));
+        is_digest(rt, digest, *expected, case.name, text);
     }
     Ok(())
 }
@@ -95,10 +96,10 @@ fn tells<R: Abort>(
 /// The replica at the end of a case, all of which is asserted.
 pub fn after<R: Abort>(rt: &R, alloc: Global, case: &Case) -> Result<Replica, Refusal> {
     let mut replica = named(alloc, case.replica)?;
-    let held = hands_in(alloc, &mut replica, case.before.0)?;
+    let held = delivers(alloc, &mut replica, case.before.0)?;
     let is = (held, replica.log().len()) == (case.before.1, case.before.2);
     holds(rt, is, case.name);
-    tells(rt, alloc, &mut replica, case)?;
+    rows_are(rt, alloc, &mut replica, case)?;
     is_count(rt, replica.log().len(), case.logged, case.name);
     Ok(replica)
 }

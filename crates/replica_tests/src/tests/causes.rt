@@ -1,4 +1,5 @@
-//! Deliveries against which two causes stand, and what is told of them. The log or the held operations decide one cause at least.
+//! Deliveries with two causes against them, and which is reported. The log or the held operations
+//! decide one cause at least.
 use super::cases::{Before, Case, are_met};
 use super::samples::{Deed, Digest};
 use json_scalar::Refusal;
@@ -112,7 +113,8 @@ const CAUSES: [Case; 13] = [
         )],
         logged: 0,
     },
-    // It names no operation of its replica, which has two, and is held still, since another is missing.
+    // It names no operation of its replica, which has two, and is held still, since another is
+    // missing.
     Case {
         name: "missing_front_id_before_forked",
         replica: b"srv-1",
@@ -175,7 +177,8 @@ const CAUSES: [Case; 13] = [
         ],
         logged: 256,
     },
-    // It takes half a second, and two minutes under `rt try`, whose limit is then to be raised (`--seconds 600`).
+    // It takes half a second, and two minutes under `rt try`, whose limit is then to be raised
+    // (`--seconds 600`).
     Case {
         name: "log_full_before_too_many_replicas",
         replica: b"srv-1",

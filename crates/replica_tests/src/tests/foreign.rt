@@ -1,4 +1,4 @@
-//! The worked row on what is refused of operations that are handed in.
+//! The worked row on refused deliveries.
 use super::cases::{Before, Case, after};
 use super::samples::{Deed, Digest, holds, operation};
 use doc_words::{Query, Reply};
@@ -57,7 +57,8 @@ const FOREIGN: Case = Case {
     logged: 3,
 };
 
-// The counter of this one is not the next of its front, so it has no right shape and can't be handed in.
+// The counter of this one is not the next of its front, so it has no valid shape and can't be
+// delivered.
 const NO_SHAPE: &str = r#"["op",[9,"p"],[["o",1]],[[["m",0]],"k"],["assign",2]]"#;
 
 fn is_front(reply: Reply, first: (&str, u64), second: (&str, u64)) -> bool {
@@ -71,8 +72,8 @@ fn is_front(reply: Reply, first: (&str, u64), second: (&str, u64)) -> bool {
     }
 }
 
-fn is_entry(entry: (ReplicaName, u64), due: (&str, u64)) -> bool {
-    *entry.0.as_bytes() == *due.0.as_bytes() && entry.1 == due.1
+fn is_entry(entry: (ReplicaName, u64), expected: (&str, u64)) -> bool {
+    *entry.0.as_bytes() == *expected.0.as_bytes() && entry.1 == expected.1
 }
 
 fn is_bad_front(op: Result<Operation, Refusal>) -> bool {

@@ -4,8 +4,8 @@ ghost use Rattle.share_ledger.specs.Counters.{ledger_place};
 ghost use Rattle.share_ledger.specs.Begun.{BeginEmpty};
 
 use super::samples::{
-    Deed, Digest, adds_up, are_ids, command, document, hands_in, holds, is_count, tail_count,
-    told_by,
+    Deed, Digest, adds_up, are_ids, command, delivers, digest_of, document, holds, is_count,
+    tail_count,
 };
 use doc_words::Query;
 use json_scalar::Refusal;
@@ -31,19 +31,19 @@ fn assigns<M: Marker>(
 ) -> Result<bool, Refusal> {
     for counter in counters {
         let assignment = command(alloc, Deed::Make, ASSIGNMENT)?;
-        if told_by(doc.act(seat, assignment).into_reply()) != Digest::Applied(1, 0, *counter) {
+        if digest_of(doc.act(seat, assignment).into_reply()) != Digest::Applied(1, 0, *counter) {
             return Ok(false);
         }
     }
     Ok(true)
 }
 
-// Whether a seat's end was told of these operations of its document.
-fn was_told<M: Marker>(end: &SeatEnd<M>, seat: u16, ids: &[(u64, &str)]) -> bool {
+// Whether a seat's end was digest of these operations of its document.
+fn has_ids<M: Marker>(end: &SeatEnd<M>, seat: u16, ids: &[(u64, &str)]) -> bool {
     end.number() == 0 && end.seat() == seat && are_ids(end.acknowledged(), ids)
 }
 
-// Gathers ends that don't fit the document, and answers what is handed back.
+// Gathers ends that don't fit the document, and returns what comes back.
 fn refuses<M: Marker, R: Abort>(
     rt: &R,
     alloc: Global,
@@ -57,20 +57,20 @@ fn refuses<M: Marker, R: Abort>(
             Err(Refusal::ListsDiffer)
         }
         Err(back) => {
-            holds(rt, is_all(&back, count), "what is handed back");
+            holds(rt, is_all(&back, count), "what is returned");
             Ok(back)
         }
     }
 }
 
-// Whether all that was handed in is handed back, since the ends were not those of the document's seats.
+// Whether all that was given is returned, since the ends were not those of the document's seats.
 fn is_all<M: Marker>(back: &Gathering<M>, count: usize) -> bool {
     back.refusal == Refusal::ListsDiffer
         && back.ends.len() == count
         && (back.doc.number(), back.doc.opened()) == (0, 2)
 }
 
-// The same with one more end behind those that were handed back.
+// The same with one more end behind those that were returned.
 fn refuses_with<M: Marker, R: Abort>(
     rt: &R,
     alloc: Global,
@@ -154,7 +154,8 @@ fn both_assign<M: Marker, R: Abort>(
     Ok(())
 }
 
-// Without an end, with that of seat 1 alone, with the end of another document in the place of one, and with that one too many.
+// Without an end, with that of seat 1 alone, with the end of another document in the place of one,
+// and with that one too many.
 fn refuses_each<M: Marker, R: Abort>(
     rt: &R,
     alloc: Global,
@@ -205,37 +206,41 @@ fn gathers_turned<M: Marker, R: Abort>(rt: &R, alloc: Global, turned: Gathering<
         mut ends,
     } = turned;
     ends.reverse();
-    holds(rt, are_both(ends.as_slice()), "what both were told");
+    holds(rt, are_both(ends.as_slice()), "what both were digest");
     let is = adds_up(alloc, doc, ends, &[3, 2], (5, 5, 0));
     holds(rt, is, "what they add up to");
 }
 
 fn are_both<M: Marker>(ends: &[SeatEnd<M>]) -> bool {
     match ends {
-        [one, two] => was_told(one, 1, &[(1, "srv-1"), (2, "srv-1"), (3, "srv-1")])
-            && was_told(two, 2, &[(4, "srv-1"), (5, "srv-1")]),
+        [one, two] => has_ids(one, 1, &[(1, "srv-1"), (2, "srv-1"), (3, "srv-1")])
+            && has_ids(two, 2, &[(4, "srv-1"), (5, "srv-1")]),
         _ => false,
     }
 }
 
 #[test]
 fn release_counts_for_releaser(rt: HostRuntime) -> Result<(), Fail> {
-    releases::<Brand, _>(&rt, rt.alloc(), Blank::new())?;
+    second_seat_releases::<Brand, _>(&rt, rt.alloc(), Blank::new())?;
     Ok(())
 }
 
-// What one seat handed in and another seat's call released is the second seat's.
-fn releases<M: Marker, R: Abort>(rt: &R, alloc: Global, blank: Blank) -> Result<(), Refusal>
+// What one seat delivered and another seat's call released is the second seat's.
+fn second_seat_releases<M: Marker, R: Abort>(
+    rt: &R,
+    alloc: Global,
+    blank: Blank,
+) -> Result<(), Refusal>
     requires blank { blank ≡ M.name }
     requires begun { BeginEmpty M.initial_log }
 {
     let mut table = blank.named::<M>();
     let mut doc = document(alloc, &mut table, 0, 2)?;
     let mut other = document(alloc, &mut table, 1, 1)?;
-    counts_for_second(rt, alloc, &mut doc, &mut other)
+    seats_are_opened(rt, alloc, &mut doc, &mut other)
 }
 
-fn counts_for_second<M: Marker, R: Abort>(
+fn seats_are_opened<M: Marker, R: Abort>(
     rt: &R,
     alloc: Global,
     doc: &mut LockedDoc<M>,
@@ -254,8 +259,8 @@ fn second_releases<M: Marker, R: Abort>(
     one: &mut Seat<M>,
     two: &mut Seat<M>,
 ) -> Result<(), Refusal> {
-    hands_in(rt, alloc, doc, one, (SECOND, Digest::Held))?;
-    hands_in(rt, alloc, doc, two, (FIRST, Digest::Applied(2, 0, 1)))?;
+    delivers(rt, alloc, doc, one, (SECOND, Digest::Held))?;
+    delivers(rt, alloc, doc, two, (FIRST, Digest::Applied(2, 0, 1)))?;
     holds(rt, have_accounts(doc, one, two, (0, 2)), "accounts");
     holds(rt, is_full(doc), "no seat is left");
     turns_away(rt, alloc, other, one)?;
@@ -269,22 +274,23 @@ fn is_full<M: Marker>(doc: &mut LockedDoc<M>) -> bool {
     matches!(&doc.open_seat(), Err(Refusal::SeatsFull))
 }
 
-// Whether two seats are told these as their accounts, which are their shares.
+// Whether two seats are digest these as their accounts, which are their shares.
 fn have_accounts<M: Marker>(
     doc: &LockedDoc<M>,
     one: &mut Seat<M>,
     two: &mut Seat<M>,
-    due: (u64, u64),
+    expected: (u64, u64),
 ) -> bool {
-    is_account(doc, one, due.0) && is_account(doc, two, due.1)
+    is_account(doc, one, expected.0) && is_account(doc, two, expected.1)
 }
 
-fn is_account<M: Marker>(doc: &LockedDoc<M>, seat: &mut Seat<M>, due: u64) -> bool {
-    let told = told_by(doc.read(seat, Query::Account).into_reply());
-    told == Digest::Account(due) && seat.account() == due
+fn is_account<M: Marker>(doc: &LockedDoc<M>, seat: &mut Seat<M>, expected: u64) -> bool {
+    let digest = digest_of(doc.read(seat, Query::Account).into_reply());
+    digest == Digest::Account(expected) && seat.account() == expected
 }
 
-// A document answers a seat that isn't its own by not-open, with nothing changed, its own first seat not opened.
+// A document answers a seat that isn't its own by not-open, with nothing changed, its own first
+// seat not opened.
 fn turns_away<M: Marker, R: Abort>(
     rt: &R,
     alloc: Global,
@@ -293,8 +299,8 @@ fn turns_away<M: Marker, R: Abort>(
 ) -> Result<(), Refusal> {
     let away = Digest::Refused(Refusal::NotOpen);
     let before = seat.account();
-    hands_in(rt, alloc, doc, seat, (FIRST, away))?;
-    let read = told_by(doc.read(seat, Query::Account).into_reply());
+    delivers(rt, alloc, doc, seat, (FIRST, away))?;
+    let read = digest_of(doc.read(seat, Query::Account).into_reply());
     holds(rt, read == away, "account elsewhere");
     let counts = (seat.account(), doc.opened(), tail_count(doc, 0, 5)?);
     holds(rt, counts == (before, 0, 0), "nothing is changed elsewhere");

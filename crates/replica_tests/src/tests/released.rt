@@ -1,8 +1,8 @@
-//! The worked row on operations that are handed in out of order, on a document behind a lock.
+//! The worked row on operations that are delivered out of order, through a document's seat.
 ghost use Rattle.std.specs.Prelude.{◌≡◌};
 ghost use Rattle.share_ledger.specs.Begun.{BeginEmpty};
 
-use super::samples::{Digest, are_ids, document, hands_in, holds, is_number, look_at, told_by};
+use super::samples::{Digest, are_ids, delivers, digest_of, document, holds, is_number, look_at};
 use doc_words::{Look, Query, Reply};
 use json_scalar::Refusal;
 use locked_doc::{LockedDoc, Seat};
@@ -44,11 +44,15 @@ fn are_waiting(reply: Reply) -> bool {
 
 #[test]
 fn buffer_release(rt: HostRuntime) -> Result<(), Fail> {
-    releases::<Brand, _>(&rt, rt.alloc(), Blank::new())?;
+    delivers_in_reverse::<Brand, _>(&rt, rt.alloc(), Blank::new())?;
     Ok(())
 }
 
-fn releases<M: Marker, R: Abort>(rt: &R, alloc: Global, blank: Blank) -> Result<(), Refusal>
+fn delivers_in_reverse<M: Marker, R: Abort>(
+    rt: &R,
+    alloc: Global,
+    blank: Blank,
+) -> Result<(), Refusal>
     requires blank { blank ≡ M.name }
     requires begun { BeginEmpty M.initial_log }
 {
@@ -64,12 +68,12 @@ fn third_first<M: Marker, R: Abort>(
     doc: &mut LockedDoc<M>,
     seat: &mut Seat<M>,
 ) -> Result<(), Refusal> {
-    hands_in(rt, alloc, doc, seat, THIRD)?;
-    hands_in(rt, alloc, doc, seat, SECOND)?;
+    delivers(rt, alloc, doc, seat, THIRD)?;
+    delivers(rt, alloc, doc, seat, SECOND)?;
     let held = doc.read(seat, Query::Held).into_reply();
     holds(rt, are_waiting(held), "what is held");
-    hands_in(rt, alloc, doc, seat, FIRST)?;
-    let account = told_by(doc.read(seat, Query::Account).into_reply());
+    delivers(rt, alloc, doc, seat, FIRST)?;
+    let account = digest_of(doc.read(seat, Query::Account).into_reply());
     holds(rt, account == Digest::Account(3), "account");
     let values = doc
         .read(seat, look_at(alloc, Look::Values, "k")?)

@@ -1,4 +1,5 @@
-//! Operations and commands by their written forms, what is told of them, and a replica and a document to try them on.
+//! Operations and commands by their written forms, digests of the answers, and a replica and a
+//! document to try them on.
 ghost use Rattle.std.specs.Prelude.{◌≡◌, [], ◌+◌, ◌≤◌, IfOk, OnOk};
 ghost use Rattle.share_ledger.specs.Begun.{BeginEmpty};
 ghost use Rattle.share_ledger.specs.Counters.{ledger_place};
@@ -14,22 +15,24 @@ use share_ledger::{Marker, Table};
 use std::alloc::Global;
 use std::process::Abort;
 
-/// Asserts that this is so. It is proved once, where an assertion in each test would be proved in each.
+/// Asserts that this is so. It is proved once, where an assertion in each test would be proved in
+/// each.
 pub fn holds<R: Abort>(rt: &R, is: bool, what: &str) {
     assert!(rt; is, "{what}");
 }
 
-/// Asserts that there are so many of what is told of.
-pub fn is_count<R: Abort>(rt: &R, count: usize, due: usize, what: &str) {
-    assert_eq!(rt; count, due, "{what}");
+/// Asserts that there are so many of what is named.
+pub fn is_count<R: Abort>(rt: &R, count: usize, expected: usize, what: &str) {
+    assert_eq!(rt; count, expected, "{what}");
 }
 
-/// Asserts that an answer is the one that is due of this operation, in the case of this name.
-pub fn is_told<R: Abort>(rt: &R, told: Digest, due: Digest, case: &str, text: &str) {
-    assert_eq!(rt; told, due, "{case}: {text}");
+/// Asserts that an answer is the one that is expected of this operation, in the case of this name.
+pub fn is_digest<R: Abort>(rt: &R, digest: Digest, expected: Digest, case: &str, text: &str) {
+    assert_eq!(rt; digest, expected, "{case}: {text}");
 }
 
-/// What an answer tells, but for lists: of an operation that was logged how many were logged and how many dropped, and its counter.
+/// An answer without its lists: of a logged operation how many were logged and how many dropped,
+/// and its counter.
 #[derive(Clone, Copy, Debug, PartialEq, Eq)]
 pub enum Digest {
     Applied(u64, u64, u64),
@@ -41,7 +44,7 @@ pub enum Digest {
     Other,
 }
 
-pub fn told_by(reply: Reply) -> Digest {
+pub fn digest_of(reply: Reply) -> Digest {
     match &reply {
         Reply::Applied { count, dropped, id } => Digest::Applied(*count, *dropped, id.counter),
         Reply::Known => Digest::Known,
@@ -56,11 +59,11 @@ pub fn told_by(reply: Reply) -> Digest {
 /// What is done with an operation that is given by its written form.
 #[derive(Clone, Copy)]
 pub enum Deed {
-    /// It is handed in.
+    /// It is delivered.
     Deliver,
     /// The change that makes it is asked for.
     Make,
-    /// It is given up.
+    /// It is dropped.
     Forget,
 }
 
@@ -107,9 +110,9 @@ fn change(alloc: Global, op: &Operation) -> Result<Command, Refusal> {
     Ok(Command::Change(Place { start, steps }, mutation))
 }
 
-/// Hands in the operations of p from the second up to this counter, each of which knows the one before it, and answers how many
-/// of them are held.
-pub fn goes_on(alloc: Global, replica: &mut Replica, last: u64) -> Result<u64, Refusal> {
+/// Hands in the operations of p from the second up to this counter, each of which knows the one
+/// before it, and answers how many of them are held.
+pub fn delivers_up_to(alloc: Global, replica: &mut Replica, last: u64) -> Result<u64, Refusal> {
     let mut held = 0u64;
     for counter in 2..=last {
         if is_held(&replica.deliver(later(alloc, counter)?)) {
@@ -152,10 +155,10 @@ pub fn look_at(alloc: Global, look: Look, name: &str) -> Result<Query, Refusal> 
 }
 
 /// Whether this number is the one scalar.
-pub fn is_number(reply: Reply, due: i64) -> bool {
+pub fn is_number(reply: Reply, expected: i64) -> bool {
     match &reply {
         Reply::Values(scalars) => match scalars.as_slice() {
-            [scalar] => *scalar == Scalar::Int(due),
+            [scalar] => *scalar == Scalar::Int(expected),
             _ => false,
         },
         _ => false,
@@ -163,11 +166,11 @@ pub fn is_number(reply: Reply, due: i64) -> bool {
 }
 
 /// Whether these are the ids.
-pub fn are_ids(ids: &[Id], due: &[(u64, &str)]) -> bool {
-    if ids.len() != due.len() {
+pub fn are_ids(ids: &[Id], expected: &[(u64, &str)]) -> bool {
+    if ids.len() != expected.len() {
         return false;
     }
-    for (id, (counter, name)) in ids.iter().zip(due) {
+    for (id, (counter, name)) in ids.iter().zip(expected) {
         if id.counter != *counter || *id.replica.as_bytes() != *name.as_bytes() {
             return false;
         }
@@ -207,17 +210,17 @@ fn later(alloc: Global, counter: u64) -> Result<Operation, Refusal> {
     )
 }
 
-/// Hands in an operation through a document's seat, and asserts what is told of it.
-pub fn hands_in<M: Marker, R: Abort>(
+/// Delivers an operation through a document's seat, and asserts the answer.
+pub fn delivers<M: Marker, R: Abort>(
     rt: &R,
     alloc: Global,
     doc: &mut LockedDoc<M>,
     seat: &mut Seat<M>,
-    due: (&str, Digest),
+    expected: (&str, Digest),
 ) -> Result<(), Refusal> {
-    let delivery = command(alloc, Deed::Deliver, due.0)?;
-    let told = told_by(doc.act(seat, delivery).into_reply());
-    is_told(rt, told, due.1, "handed in", due.0);
+    let delivery = command(alloc, Deed::Deliver, expected.0)?;
+    let digest = digest_of(doc.act(seat, delivery).into_reply());
+    is_digest(rt, digest, expected.1, "delivered", expected.0);
     Ok(())
 }
 
@@ -231,7 +234,8 @@ pub fn alone<M: Marker>(alloc: Global, end: SeatEnd<M>) -> Result<Vec<SeatEnd<M>
     Ok(ends)
 }
 
-/// How many operations a document tells of those logged from this place on, of which so many are asked for at most.
+/// How many operations a document returns of those logged from this index on, if at most so many
+/// are asked for.
 pub fn tail_count<M: Marker>(
     doc: &LockedDoc<M>,
     from: usize,

@@ -6,7 +6,8 @@ use std::test::Fail;
 use std::time::Clock;
 use tcp_server::{hint_of, listen};
 
-/// Whether no listener is had at the address, nothing is written, and standard error is told what is right.
+// Whether there is no listener at the address, nothing is written, and the hint on standard error
+// is right.
 fn is_no_address<R: Net<Listener = TcpListener, Stream = TcpStream> + Eprint + Log + Clock>(
     rt: &R,
     alloc: Global,

@@ -1,12 +1,13 @@
-//! Command lines, each a text with a space between two words: what a run of one writes, what a check of one tells, which of them ask
-//! for no server, and what is told of how the program is called.
+//! Command lines, each a text with a space between two words: what a run of one writes, what a
+//! check of one prints, which of them ask for no server, and which say how the program is
+//! called.
 ghost use Rattle.std.specs.Prelude.{◌≡◌};
 ghost use Rattle.share_ledger.specs.Begun.{BeginEmpty};
 
 mod loopback;
 
-use super::told::holds;
-use commands::{USAGE, VERSION, parse_and_check, run_words, parse_and_serve, usage_of};
+use super::checks::holds;
+use commands::{USAGE, VERSION, parse_and_check, parse_and_serve, run_words, usage_of};
 use line_feed::{Reader, Writer};
 use log::Log;
 use run_core::NewDocuments;
@@ -20,7 +21,7 @@ use std::test::Fail;
 use std::thread::Threads;
 use std::time::Clock;
 
-/// The words of a line. Between two spaces stands an empty one.
+// The arguments of a line. Between two spaces is an empty one.
 fn words_of<'a>(alloc: Global, line: &'a str) -> Result<Vec<&'a str>, AllocError> {
     if line.is_empty() {
         return Ok(Vec::new(alloc));
@@ -28,7 +29,7 @@ fn words_of<'a>(alloc: Global, line: &'a str) -> Result<Vec<&'a str>, AllocError
     line.split(' ').collect(alloc)
 }
 
-/// The status of a run of these words over these bytes, and what it wrote.
+// The status of a run of these words over these bytes, and what it wrote.
 fn written<M: Marker>(alloc: Global, blank: Blank, words: &[&str], input: &[u8]) -> (u8, Vec<u8>)
     requires blank { blank ≡ M.name }
     requires begun { BeginEmpty M.initial_log }
@@ -45,7 +46,7 @@ fn written<M: Marker>(alloc: Global, blank: Blank, words: &[&str], input: &[u8])
     (status, out)
 }
 
-/// Whether a run of this line over this input has this status, and writes this.
+// Whether a run of this line over this input has this status, and writes this.
 fn gives(
     alloc: Global,
     line: &str,
@@ -60,7 +61,7 @@ fn gives(
 
 const OPENS_B: &str = "[\"open\",\"b\"]\n[\"assign\",\"b\",[0],{}]\n";
 
-/// Runs: what each is, its line, its input, its status, and what it writes.
+// Runs: what each is, its line, its input, its status, and what it writes.
 static RUNS: [(&str, &str, &str, u8, &str); 15] = [
     (
         "the server srv",
@@ -123,15 +124,15 @@ fn runs(rt: HostRuntime) {
     }
 }
 
-/// Whether a check of this line has this status, and prints this.
-fn tells(rt: &HostRuntime, line: &str, status: u8, text: &str) -> Result<bool, AllocError> {
+// Whether a check of this line has this status, and prints this.
+fn prints(rt: &HostRuntime, line: &str, status: u8, text: &str) -> Result<bool, AllocError> {
     let words = words_of(rt.alloc(), line)?;
     let mut out = Vec::<u8>::new(rt.alloc());
     let found = parse_and_check(rt, rt.alloc(), &words, &mut Writer::new(&mut out));
     Ok(found == status && *out.as_slice() == *text.as_bytes())
 }
 
-/// Checks: what each is, its line, its status, and what it prints.
+// Checks: what each is, its line, its status, and what it prints.
 static CHECKS: [(&str, &str, u8, &str); 9] = [
     (
         "a file that is not there",
@@ -167,15 +168,15 @@ static CHECKS: [(&str, &str, u8, &str); 9] = [
 #[test]
 fn checks(rt: HostRuntime) {
     for (what, line, status, text) in &CHECKS {
-        let told = tells(&rt, line, *status, text);
-        holds(&rt, matches!(told, Ok(true)), what);
+        let printed = prints(&rt, line, *status, text);
+        holds(&rt, matches!(printed, Ok(true)), what);
     }
     let is_removed = fs::remove_file(&rt, "jcrdt-check-test.db").is_ok();
     holds(&rt, is_removed, "the file that was made is removed");
     let _log = fs::remove_file(&rt, "jcrdt-check-test.db-wal");
 }
 
-/// A folder of this test alone, and a file in it.
+// A folder of this test alone, and a file in it.
 const FOLDER: &str = "jcrdt-no-database-test";
 
 const NO_DATABASE: &str = "jcrdt-no-database-test/copy.db";
@@ -189,15 +190,15 @@ fn no_database(rt: HostRuntime) -> Result<(), Fail> {
     fs::create_dir(&rt, FOLDER)?;
     fs::write(&rt, NO_DATABASE, BYTES.as_bytes())?;
     let line = "check --file jcrdt-no-database-test/copy.db";
-    let told = tells(&rt, line, 1, "[\"no\",26,\"copy-refused\"]\n");
-    holds(&rt, matches!(told, Ok(true)), "it is refused");
+    let printed = prints(&rt, line, 1, "[\"no\",26,\"copy-refused\"]\n");
+    holds(&rt, matches!(printed, Ok(true)), "it is refused");
     let bytes = fs::read(&rt, NO_DATABASE)?;
     assert_eq!(rt; bytes.as_slice(), BYTES.as_bytes());
     fs::remove_dir_all(&rt, FOLDER)?;
     Ok(())
 }
 
-/// Whether a line asks for no server, with nothing written.
+// Whether a line asks for no server, with nothing written.
 fn is_refused<
     R: Net<Listener = TcpListener, Stream = TcpStream>
         + Threads
@@ -213,7 +214,7 @@ fn is_refused<
     Ok(status == 2 && out.is_empty())
 }
 
-/// Lines that ask for no server: what is wrong with each, and the line.
+// Lines that ask for no server: what is wrong with each, and the line.
 static NO_SERVERS: [(&str, &str); 9] = [
     (
         "no session",
@@ -254,7 +255,7 @@ fn lines_that_ask_for_no_server(rt: HostRuntime) {
     }
 }
 
-/// Lines, and what is told of how the program is called.
+// Lines, and the usage that is printed of each.
 static USAGES: [(&str, &str); 5] = [
     ("--version", VERSION),
     ("version d", VERSION),
@@ -263,7 +264,7 @@ static USAGES: [(&str, &str); 5] = [
     ("", USAGE),
 ];
 
-/// Whether this is what is told of how the program is called, where it is called by this line.
+// Whether this is the usage that is printed of this line.
 fn is_usage(alloc: Global, line: &str, text: &str) -> Result<bool, AllocError> {
     Ok(usage_of(&words_of(alloc, line)?) == text)
 }

@@ -1,5 +1,5 @@
-//! Copies of logs: restarts, batches, formats and further tables. A test is a list of steps over one database, each with what it has to
-//! tell.
+//! Copies of logs: restarts, batches, formats and further tables. A test is a list of steps over
+//! one database, each with its expected answer.
 mod causes;
 mod formats;
 mod kept;

@@ -1,10 +1,10 @@
-//! What is done with a copy, one deed after another, and what each has to tell. All of it stands over any store, since each call that
-//! names a store in files is dear to prove.
+//! What is done with a copy, one deed after another, and its expected result. All of it is
+//! over any store, since each call that names a store in files is dear to prove.
+use super::checks::{bytes_are, counts, holds};
 use super::disks::new_files;
 use super::files::done_in_files;
 use super::serving::{Start, started};
-use super::told::{counts, holds, is_told};
-use super::watched::faults_told;
+use super::watched::faults_seen;
 use copy_report::check_over;
 use line_feed::Writer;
 use log::Log;
@@ -23,7 +23,8 @@ pub enum Deed<'a> {
     Serves(Start<'a>),
     /// A check of it prints this.
     Holds(&'a [u8]),
-    /// A copier copies a document to it beside so many sessions, none of which ends, and tells of so many faults.
+    /// A copier copies a document to it beside so many sessions, none of which ends, and reports
+    /// so many faults.
     Copies(u64, u32),
 }
 
@@ -35,7 +36,7 @@ pub struct Case<'a> {
     pub deeds: &'a [Deed<'a>],
 }
 
-/// The copy over this connection. Where there is none memory is said to be wanting.
+/// The copy over this connection, or, as if out of memory, none.
 pub fn adopted<S: Alter + Drop>(
     alloc: Global,
     conn: Connection<S>,
@@ -46,7 +47,7 @@ pub fn adopted<S: Alter + Drop>(
     }
 }
 
-/// What a check of the copy prints.
+// What a check of the copy prints.
 fn checked<S: Alter>(alloc: Global, copy: &LogCopy<S>) -> Vec<u8> {
     let mut out = Vec::<u8>::new(alloc);
     let _status = check_over(alloc, copy, &mut Writer::new(&mut out));
@@ -54,7 +55,7 @@ fn checked<S: Alter>(alloc: Global, copy: &LogCopy<S>) -> Vec<u8> {
 }
 
 fn prints<R: Abort, S: Alter>(rt: &R, alloc: Global, case: &str, copy: &LogCopy<S>, report: &[u8]) {
-    is_told(rt, case, "report", checked(alloc, copy).as_slice(), report);
+    bytes_are(rt, case, "report", checked(alloc, copy).as_slice(), report);
 }
 
 fn done<R: Threads + Wait + Abort + Sync + Log + Clock, S: Alter>(
@@ -68,12 +69,12 @@ fn done<R: Threads + Wait + Abort + Sync + Log + Clock, S: Alter>(
         Deed::Serves(start) => started(rt, alloc, case.name, case.documents, start, copy)?,
         Deed::Holds(report) => prints(rt, alloc, case.name, copy, report),
         Deed::Copies(sessions, faults) => {
-            let told = faults_told(rt, alloc, *sessions, copy)?;
+            let found = faults_seen(rt, alloc, *sessions, copy)?;
             counts(
                 rt,
                 case.name,
-                "faults told",
-                u64::from(told),
+                "faults",
+                u64::from(found),
                 u64::from(*faults),
             );
         }

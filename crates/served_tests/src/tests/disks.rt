@@ -1,4 +1,5 @@
-//! Databases in two files in memory, the log and the database itself. Each of the two stops after so many calls.
+//! Databases in two files in memory, the log and the database itself. Each of the two stops after
+//! so many calls.
 use sqlite::{Connection, FileStore, Options};
 use sqlite_disk::{Crash, Disk, Files, Fuse, Memory};
 use std::alloc::Global;

@@ -1,5 +1,5 @@
 //! Why a server ends with status 1, in words: one cause each.
-use super::told::holds;
+use super::checks::holds;
 use commands::run_failure;
 use log_copy::Fault;
 use served_copy::{Failure, Step};
@@ -9,13 +9,13 @@ use std::fmt::Display;
 use std::io;
 use std::process::Abort;
 
-/// Whether this is shown as the text.
+// Whether this is shown as the text.
 fn is_shown<F: Display>(alloc: Global, failure: &F, text: &str) -> Result<bool, AllocError> {
     let shown = format!(in alloc; "{failure}")?;
     Ok(shown.as_str() == text)
 }
 
-/// Stops unless this is shown as the text.
+// Stops unless this is shown as the text.
 fn shows<R: Abort, F: Display>(rt: &R, alloc: Global, failure: &F, text: &str) {
     holds(rt, matches!(is_shown(alloc, failure, text), Ok(true)), text);
 }

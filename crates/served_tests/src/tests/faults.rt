@@ -2,7 +2,7 @@
 use super::deeds::{Case, Deed, all_in_memory};
 use super::serving::{Session, Start, THREE, THREE_WHOLE, TWO_WHOLE};
 
-/// So many bytes are the first two lines of three, and a part of the third.
+// So many bytes are the first two lines of three, and a part of the third.
 const FAILS_AFTER: usize = 40;
 
 // With its number it has a byte too many for a replica's name.
@@ -30,9 +30,10 @@ static FAULTS: [Case<'static>; 2] = [
             Deed::Holds(b"[\"doc\",\"d\",3,[[\"srv-1\",3]]]\n[\"epoch\",1]\n"),
         ],
     },
-    // A server of a name that is too long does not start, and says so; the epoch of the copy is raised, and no more.
+    // A server of a name that is too long does not start, and says so; the epoch of the copy is
+    // raised, and no more.
     Case {
-        name: "refused_start_is_told",
+        name: "refused_start_is_reported",
         documents: &["d"],
         deeds: &[
             Deed::Serves(Start {

@@ -1,5 +1,5 @@
-//! Copies in two files, the log and the database itself. This stands over any disks: each call that names a store in files is dear to
-//! prove, and at disks of one kind twice as dear.
+//! Copies in two files, the log and the database itself. This is over any disks: each call that
+//! names a store in files is dear to prove, and at disks of one kind twice as dear.
 use super::deeds::{Case, Deed, all_done};
 use super::disks::connected;
 use log::Log;
@@ -25,7 +25,8 @@ pub fn done_in_files<R: Threads + Wait + Abort + Sync + Log + Clock, D: Disk + D
     Ok(store.close())
 }
 
-/// Does all of it with a copy in the files, and then these deeds with what the files hold when the machine has stopped and come back.
+/// Does all of it with a copy in the files, and then these deeds with what the files hold when the
+/// machine has stopped and come back.
 pub fn done_around_a_crash<R: Threads + Wait + Abort + Sync + Log + Clock, D: Crash + Drop>(
     rt: &R,
     alloc: Global,
@@ -45,7 +46,7 @@ pub fn done_around_a_crash<R: Threads + Wait + Abort + Sync + Log + Clock, D: Cr
     Ok(())
 }
 
-/// Does all of it with the copy that was opened. Where there is none memory is said to be wanting.
+/// Does all of it with the copy that was opened, or, as if out of memory, none.
 pub fn done_over<R: Threads + Wait + Abort + Sync + Log + Clock, S: Alter + Drop>(
     rt: &R,
     alloc: Global,

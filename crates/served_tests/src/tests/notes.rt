@@ -15,7 +15,7 @@ fn fill(count: usize, limit: usize) -> Fill {
     Fill { count, limit }
 }
 
-/// A clock that stands still.
+// A clock that stands still.
 #[derive(Drop)]
 struct Stopped;
 
@@ -29,7 +29,7 @@ impl Clock for Stopped {
     }
 }
 
-/// What each note says, in the order in which they are written below.
+// What each note says, in the order in which they are written below.
 const NOTES: [&str; 11] = [
     "[INFO  jcrdt] 2025-11-24T16:00:00Z made a new file a.db",
     "[INFO  jcrdt] 2025-11-24T16:00:00Z took over a.db-wal",
@@ -44,7 +44,7 @@ const NOTES: [&str; 11] = [
     "[INFO  jcrdt] 2025-11-24T16:00:00Z all sessions have ended",
 ];
 
-/// Notes of a start.
+// Notes of a start.
 fn note_start<R: Log + Clock>(rt: &R) {
     note_made(rt, "a.db");
     note_took_over(rt, "a.db");
@@ -55,7 +55,7 @@ fn note_start<R: Log + Clock>(rt: &R) {
     note_nearly_full(rt, "d", fill(231, 256), "replicas");
 }
 
-/// Notes of sessions.
+// Notes of sessions.
 fn note_sessions<R: Log + Clock>(rt: &R) {
     note_begun(rt, 3, 16, &"127.0.0.1:50123");
     note_unconnected(rt, 4, 16, &"too many open files");
@@ -91,7 +91,7 @@ fn nearly_full_from_nine_tenths_on(rt: HostRuntime) {
     }
 }
 
-/// A clock that tells no time.
+// A clock that tells no time.
 #[derive(Drop)]
 struct Broken;
 

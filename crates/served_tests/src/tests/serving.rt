@@ -1,5 +1,6 @@
-//! A server over a copy. It is called in a function that promises nothing, so that the proof of a test carries none of its clauses.
-use super::told::{counts, is_told};
+//! A server over a copy. It is called in a function that promises nothing, so that the proof of a
+//! test carries none of its clauses.
+use super::checks::{bytes_are, counts};
 use log::Log;
 use log_copy::LogCopy;
 use served_copy::serve_over;
@@ -39,7 +40,7 @@ pub const TWO_WHOLE: Session<'static> = Session {
     read_after: usize::MAX,
 };
 
-/// A start of a server: its sessions, and what is told once it has ended.
+/// A start of a server: its sessions, and its expected results.
 #[derive(Clone, Copy)]
 pub struct Start<'a> {
     pub server: &'a str,
@@ -47,11 +48,11 @@ pub struct Start<'a> {
     pub status: u8,
     /// The lines of the totals.
     pub totals: &'a [u8],
-    /// What the sessions are told, where that is looked at.
+    /// The replies to the sessions, if these are compared.
     pub replies: Option<&'a [u8]>,
 }
 
-/// What a server did.
+// What a server did.
 #[derive(Drop)]
 struct Served {
     status: u8,
@@ -59,7 +60,7 @@ struct Served {
     replies: Vec<u8>,
 }
 
-/// Connections of these sessions, whose replies go there.
+// Connections of these sessions, whose replies go there.
 fn scripts_of<'a, R: Wait>(
     rt: &'a R,
     alloc: Global,
@@ -80,7 +81,7 @@ fn scripts_of<'a, R: Wait>(
     Ok(scripts)
 }
 
-/// Serves these connections by the server of this name, over at most 16 documents.
+// Serves these connections by the server of this name, over at most 16 documents.
 fn serve_scripts<R: Threads + Wait + Sync + Log + Clock, S: Alter>(
     rt: &R,
     alloc: Global,
@@ -97,7 +98,7 @@ fn serve_scripts<R: Threads + Wait + Sync + Log + Clock, S: Alter>(
     (status, totals)
 }
 
-/// Serves the sessions of a start, by a new table of shares.
+// Serves the sessions of a start, by a new table of shares.
 fn serve<R: Threads + Wait + Sync + Log + Clock, S: Alter>(
     rt: &R,
     alloc: Global,
@@ -115,9 +116,9 @@ fn serve<R: Threads + Wait + Sync + Log + Clock, S: Alter>(
     })
 }
 
-/// The server did what was due at this start.
+// The server did what was due at this start.
 fn did<R: Abort>(rt: &R, case: &str, served: &Served, start: &Start<'_>) {
-    is_told(rt, case, "totals", served.totals.as_slice(), start.totals);
+    bytes_are(rt, case, "totals", served.totals.as_slice(), start.totals);
     counts(
         rt,
         case,
@@ -126,11 +127,11 @@ fn did<R: Abort>(rt: &R, case: &str, served: &Served, start: &Start<'_>) {
         u64::from(start.status),
     );
     if let Some(replies) = start.replies {
-        is_told(rt, case, "replies", served.replies.as_slice(), replies);
+        bytes_are(rt, case, "replies", served.replies.as_slice(), replies);
     }
 }
 
-/// Starts a server over the copy, which tells what is due.
+/// Starts a server over the copy, which does what is expected.
 pub fn started<R: Threads + Wait + Abort + Sync + Log + Clock, S: Alter>(
     rt: &R,
     alloc: Global,

@@ -1,8 +1,8 @@
 //! One start after another from the same copy.
+use super::checks::holds;
 use super::deeds::{Case, Deed, all_in_memory};
 use super::files::done_over;
 use super::serving::{Session, Start, THREE_WHOLE, TWO_WHOLE};
-use super::told::holds;
 use log::Log;
 use sqlite::Connection;
 use std::fs;
@@ -13,7 +13,7 @@ use std::test::Fail;
 use std::thread::Threads;
 use std::time::Clock;
 
-/// A session of one line whose source never fails.
+// A session of one line whose source never fails.
 const QUITS: Session<'static> = Session {
     input: b"[\"quit\"]\n",
     read_after: usize::MAX,
@@ -36,7 +36,7 @@ const NEXT: Session<'static> = Session {
     read_after: usize::MAX,
 };
 
-const NEXT_TOLD: &[u8] = br#"["opened",1]
+const NEXT_REPLIES: &[u8] = br#"["opened",1]
 ["applied",1,0,[2,"srv-2"]]
 ["account",1]
 ["ops",[["op",[2,"srv-2"],[["srv-1",1]],[[["m",0]],"k"],["assign",1]]]]
@@ -70,7 +70,7 @@ const READ_BOTH: Session<'static> = Session {
     read_after: usize::MAX,
 };
 
-const BOTH_TOLD: &[u8] = br#"["opened",1]
+const BOTH_REPLIES: &[u8] = br#"["opened",1]
 ["values",[3]]
 ["opened",1]
 ["values",[1]]
@@ -116,7 +116,7 @@ static STARTS: [Case<'static>; 4] = [
                 sessions: &[NEXT],
                 status: 0,
                 totals: b"[\"total\",\"d\",1,2,2]\n",
-                replies: Some(NEXT_TOLD),
+                replies: Some(NEXT_REPLIES),
             }),
             Deed::Holds(b"[\"doc\",\"d\",2,[[\"srv-1\",1],[\"srv-2\",2]]]\n[\"epoch\",2]\n"),
         ],
@@ -164,7 +164,7 @@ static STARTS: [Case<'static>; 4] = [
                 sessions: &[READ_BOTH],
                 status: 0,
                 totals: b"[\"total\",\"d\",0,2,2]\n[\"total\",\"e\",0,1,1]\n",
-                replies: Some(BOTH_TOLD),
+                replies: Some(BOTH_REPLIES),
             }),
             Deed::Holds(
                 b"[\"doc\",\"d\",2,[[\"srv-1\",2]]]\n[\"doc\",\"e\",1,[[\"srv-1\",1]]]\n[\"epoch\",2]\n",
@@ -182,7 +182,7 @@ const FOLDER: &str = "jcrdt-starts-test";
 
 const PATH: &str = "jcrdt-starts-test/copy.db";
 
-/// What is done with a file, which is closed and opened again between these.
+// What is done with a file, which is closed and opened again between these.
 static OPENED_AGAIN: [Case<'static>; 2] = [
     Case {
         name: "a file that is new",

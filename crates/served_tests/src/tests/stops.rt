@@ -1,9 +1,9 @@
 //! Disks that stop while a server runs or a copier copies.
+use super::checks::holds;
 use super::deeds::{Case, Deed};
 use super::disks::new_files;
 use super::files::done_around_a_crash;
 use super::serving::{Start, THREE_WHOLE};
-use super::told::holds;
 use log::Log;
 use std::alloc::{AllocError, Global};
 use std::process::Abort;
@@ -11,14 +11,15 @@ use std::sync::Wait;
 use std::thread::Threads;
 use std::time::Clock;
 
-/// What is done with a copy whose disk stops after so many calls, and with what it leaves in the files.
+// What is done with a copy whose disk stops after so many calls, and with what it leaves in the
+// files.
 struct Stop {
     calls: u64,
     case: Case<'static>,
     after: &'static [Deed<'static>],
 }
 
-const THREE_TOLD: &[u8] = br#"["opened",1]
+const THREE_REPLIES: &[u8] = br#"["opened",1]
 ["applied",1,0,[1,"srv-1"]]
 ["applied",1,0,[2,"srv-1"]]
 ["applied",1,0,[3,"srv-1"]]
@@ -36,7 +37,7 @@ static STOPS: [Stop; 3] = [
                 sessions: &[THREE_WHOLE],
                 status: 1,
                 totals: b"[\"total\",\"d\",3,3,0]\n",
-                replies: Some(THREE_TOLD),
+                replies: Some(THREE_REPLIES),
             })],
         },
         after: &[Deed::Holds(b"[\"epoch\",1]\n")],
@@ -51,7 +52,7 @@ static STOPS: [Stop; 3] = [
                 sessions: &[THREE_WHOLE],
                 status: 0,
                 totals: b"[\"total\",\"d\",3,3,3]\n",
-                replies: Some(THREE_TOLD),
+                replies: Some(THREE_REPLIES),
             })],
         },
         after: &[Deed::Holds(b"[\"doc\",\"d\",3,[[\"srv-1\",3]]]\n[\"epoch\",1]\n")],
@@ -60,7 +61,7 @@ static STOPS: [Stop; 3] = [
     Stop {
         calls: 24,
         case: Case {
-            name: "fault_is_told_while_a_session_runs",
+            name: "fault_is_reported_while_a_session_runs",
             documents: &["d"],
             deeds: &[Deed::Copies(1, 1)],
         },

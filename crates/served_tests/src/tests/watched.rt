@@ -1,4 +1,4 @@
-//! Who watches a copier is told of a fault as soon as the copier has met it, and of nothing else.
+//! A copier's observer is notified of a fault as soon as the copier has met it, and of nothing else.
 ghost use Rattle.std.specs.Prelude.{◌≡◌, ◌≤◌, length, map};
 ghost use Rattle.doc_ledger.specs.Numbers.{greatest_number};
 ghost use Rattle.served_copy.specs.Restored.{entries_at};
@@ -22,7 +22,7 @@ use std::sync::{Mutex, Wait};
 use std::thread::Threads;
 use std::time::Clock;
 
-/// Counts how often it is told of a fault.
+// Counts how often it is notified of a fault.
 #[derive(Drop)]
 struct Counting<'a, R: Wait> {
     rt: &'a R,
@@ -46,7 +46,8 @@ static LOGS_THREE: Start<'static> = Start {
     replies: None,
 };
 
-/// A copy with the three operations of the document d that a server logged, none of which stands in another copy.
+// A copy with the three operations of the document d that a server logged, none of which is in
+// another copy.
 fn with_three<R: Threads + Wait + Abort + Sync + Log + Clock>(
     rt: &R,
     alloc: Global,
@@ -57,8 +58,9 @@ fn with_three<R: Threads + Wait + Abort + Sync + Log + Clock>(
     Ok(copy)
 }
 
-/// The documents of these names of a copy behind locks. Where they can't be had memory is said to be wanting.
-fn shared_documents<M: Marker, S: Alter>(
+/// The documents of these names of a copy behind locks. If they can't be had,
+/// as if out of memory.
+pub fn shared_documents<M: Marker, S: Alter>(
     alloc: Global,
     blank: Blank,
     copy: &LogCopy<S>,
@@ -81,8 +83,9 @@ fn shared_documents<M: Marker, S: Alter>(
     }
 }
 
-/// Copies the library's documents beside so many sessions, none of which ends, and gives how often the watch was told of a fault.
-fn told<M: Marker, R: Wait, S: Alter>(
+// Copies the library's documents beside so many sessions, none of which ends, and gives how often
+// the observer was notified of a fault.
+fn faults_of<M: Marker, R: Wait, S: Alter>(
     rt: &R,
     shared: &SharedDocuments<M>,
     sessions: u64,
@@ -96,8 +99,8 @@ fn told<M: Marker, R: Wait, S: Alter>(
     times.into_inner()
 }
 
-/// The same where the shared is that of a full copy, and has a table of its own.
-fn told_beside<M: Marker, R: Wait, F: Alter, S: Alter>(
+// The same where the shared is that of a full copy, and has a table of its own.
+fn faults_beside<M: Marker, R: Wait, F: Alter, S: Alter>(
     rt: &R,
     alloc: Global,
     blank: Blank,
@@ -111,23 +114,23 @@ fn told_beside<M: Marker, R: Wait, F: Alter, S: Alter>(
     requires few { length documents.now ≤ greatest_number }
 {
     let shared = shared_documents::<M, F>(alloc, blank, full, documents)?;
-    Ok(told::<M, R, S>(rt, &shared, sessions, copy))
+    Ok(faults_of::<M, R, S>(rt, &shared, sessions, copy))
 }
 
-/// Copies a document with three operations to the copy beside so many sessions, none of which ends, and gives how often the watch was
-/// told of a fault.
-pub fn faults_told<R: Threads + Wait + Abort + Sync + Log + Clock, S: Alter>(
+/// Copies a document with three operations to the copy beside so many sessions, none of which ends,
+/// and gives how often the observer was notified of a fault.
+pub fn faults_seen<R: Threads + Wait + Abort + Sync + Log + Clock, S: Alter>(
     rt: &R,
     alloc: Global,
     sessions: u64,
     copy: &mut LogCopy<S>,
 ) -> Result<u32, AllocError> {
     let full = with_three(rt, alloc)?;
-    told_beside::<Brand, _, _, _>(rt, alloc, Blank::new(), &full, &["d"], sessions, copy)
+    faults_beside::<Brand, _, _, _>(rt, alloc, Blank::new(), &full, &["d"], sessions, copy)
 }
 
 static NO_FAULT: [Case<'static>; 1] = [Case {
-    name: "nothing_is_told_without_a_fault",
+    name: "nothing_is_reported_without_a_fault",
     documents: &["d"],
     deeds: &[Deed::Copies(0, 0)],
 }];

@@ -1,9 +1,9 @@
-//! Sessions whose seats are given back and gathered.
+//! Sessions whose seats are returned and gathered.
 ghost use Rattle.std.specs.Prelude.{◌≡◌};
 ghost use Rattle.share_ledger.specs.Begun.{BeginEmpty};
 
+use crate::checks::holds;
 use crate::servers::samples::names_of;
-use crate::told::holds;
 use json_scalar::Refusal;
 use lamport_id::ReplicaName;
 use line_feed::doubles::FailAfter;
@@ -17,7 +17,7 @@ use std::alloc::Global;
 use std::marker::Brand;
 use std::process::Abort;
 
-/// New documents `d` and `e`.
+// New documents `d` and `e`.
 fn two_documents<M: Marker>(
     alloc: Global,
     maker: &mut NewDocuments<M>,
@@ -30,7 +30,7 @@ fn two_documents<M: Marker>(
     Ok(Alone { names, documents })
 }
 
-/// A session over new documents `d` and `e`, with a sink that fails after so many bytes.
+// A session over new documents `d` and `e`, with a sink that fails after so many bytes.
 fn session<M: Marker>(
     alloc: Global,
     blank: Blank,
@@ -47,7 +47,7 @@ fn session<M: Marker>(
     run_alone(alloc, &mut Reader::new(input), &mut sink, documents).ok()
 }
 
-/// What was done at the document that stands last, gathered with its end.
+// What was done at the document that stands last, gathered with its end.
 fn last_totals<M: Marker>(
     alloc: Global,
     documents: &mut Vec<Seated<M>>,
@@ -60,7 +60,8 @@ fn last_totals<M: Marker>(
     documents.pop()?.gather(alloc, list).ok()
 }
 
-/// How a session over new documents `d` and `e` ends, and what was done at either. Its sink fails after so many bytes.
+// How a session over new documents `d` and `e` ends, and what was done at either. Its sink fails
+// after so many bytes.
 fn gathered<M: Marker>(
     alloc: Global,
     blank: Blank,
@@ -87,8 +88,9 @@ fn gathered<M: Marker>(
     Some((why, first, second))
 }
 
-/// A session over new documents `d` and `e`, whose sink fails after so many bytes: how it ends, and of how many operations each opened
-/// seat of either document was told, which are all that is logged.
+// A session over new documents `d` and `e`, whose sink fails after so many bytes: how it ends, and
+// of how many operations each opened seat of either document was told, which are all that is
+// logged.
 struct Row {
     name: &'static str,
     input: &'static str,
@@ -134,7 +136,7 @@ static ROWS: [Row; 3] = [
     },
 ];
 
-/// Whether the seats were told of so many operations, which are all that is logged.
+// Whether the seats were told of so many operations, which are all that is logged.
 fn adds_up(totals: &Totals, due: (&[u64], u64)) -> bool {
     totals.by_seat.as_slice() == due.0 && totals.accepted == due.1 && totals.logged == due.1
 }

@@ -1,7 +1,7 @@
 //! Names of servers and documents, good and bad.
 use super::{Run, run_of, writes};
 
-/// The names of a server and its documents, and the status of a run over no bytes.
+// The names of a server and its documents, and the status of a run over no bytes.
 struct Row {
     name: &'static str,
     server: &'static str,

@@ -2,41 +2,22 @@
 ghost use Rattle.std.specs.Prelude.{◌<◌};
 
 use super::{Run, run_of, writes};
-use crate::told::holds;
+use crate::checks::holds;
+use crate::shopping::{SHOPPED, SHOPPING};
 use std::alloc::{AllocError, Global};
 use std::process::Abort;
 
-const SHOPPING: &[u8] = br#"["open","d"]
-["assign","d",[0],{}]
-["assign","d",[0,"shopping"],[]]
-["insert","d",[0,"shopping",0],"eggs"]
-["let","d","e",[0,"shopping",1]]
-["insert","d",[0,"shopping",0],"cheese"]
-["insert","d",["e"],"milk"]
-["items","d",[0,"shopping"]]
-"#;
-
-const SHOPPED: &[u8] = br#"["opened",1]
-["applied",1,0,[1,"srv-1"]]
-["applied",1,0,[2,"srv-1"]]
-["applied",1,0,[3,"srv-1"]]
-["bound"]
-["applied",1,0,[4,"srv-1"]]
-["applied",1,0,[5,"srv-1"]]
-["items",[[[4,"srv-1"],["cheese"]],[[3,"srv-1"],["eggs"]],[[5,"srv-1"],["milk"]]]]
-"#;
-
-/// The first bytes of a text, so many of them.
-fn front(text: &[u8], count: usize) -> &[u8] {
+// The first bytes of a text, so many of them.
+fn prefix(text: &[u8], count: usize) -> &[u8] {
     text.get(..count).unwrap_or(text)
 }
 
-/// The first lines of a text, so many of them.
+// The first lines of a text, so many of them.
 fn first_lines(text: &[u8], count: usize) -> &[u8] {
     let mut ended: usize = 0;
     for (place, byte) in text.iter().enumerate() {
         if ended == count {
-            return front(text, place);
+            return prefix(text, place);
         }
         if *byte == b'\n' {
             ended = ended.saturating_add(1);
@@ -45,18 +26,18 @@ fn first_lines(text: &[u8], count: usize) -> &[u8] {
     text
 }
 
-/// How many lines of a text have ended.
+// How many lines of a text have ended.
 fn lines_ended(text: &[u8]) -> usize {
     text.iter().filter(|byte| **byte == b'\n').count()
 }
 
-/// What the shopping list's input gives where it ends after so many bytes: each whole line has its reply, with its newline or
-/// without, and a line that was cut is no JSON.
+// What the shopping list's input gives where it ends after so many bytes: each whole line has its
+// reply, with its newline or without, and a line that was cut is no JSON.
 fn shopped_after(alloc: Global, after: usize) -> Result<Vec<u8>, AllocError> {
-    let read = front(SHOPPING, after);
+    let read = prefix(SHOPPING.as_bytes(), after);
     let ended = lines_ended(read);
     let is_between = matches!(read.last(), None | Some(b'\n'));
-    let is_whole = SHOPPING.get(after) == Some(&b'\n');
+    let is_whole = SHOPPING.as_bytes().get(after) == Some(&b'\n');
     let (replies, refusal): (usize, &[u8]) = if is_between {
         (ended, b"")
     } else if is_whole {
@@ -64,12 +45,12 @@ fn shopped_after(alloc: Global, after: usize) -> Result<Vec<u8>, AllocError> {
     } else {
         (ended, b"[\"no\",1,\"not-json\"]\n")
     };
-    [first_lines(SHOPPED, replies), refusal].concat(alloc)
+    [first_lines(SHOPPED.as_bytes(), replies), refusal].concat(alloc)
 }
 
 fn input_cut_after<R: Abort>(rt: &R, alloc: Global, after: usize) -> Result<(), AllocError> {
     let due = shopped_after(alloc, after)?;
-    let run = run_of(front(SHOPPING, after));
+    let run = run_of(prefix(SHOPPING.as_bytes(), after));
     let name = "input_cut_after_every_byte";
     writes(rt, alloc, name, run, 0, due.as_slice());
     Ok(())
@@ -78,19 +59,23 @@ fn input_cut_after<R: Abort>(rt: &R, alloc: Global, after: usize) -> Result<(), 
 fn output_cut_after<R: Abort>(rt: &R, alloc: Global, after: usize) {
     let run = Run {
         write_after: after,
-        ..run_of(SHOPPING)
+        ..run_of(SHOPPING.as_bytes())
     };
     let name = "cut_after_every_byte";
-    writes(rt, alloc, name, run, 1, front(SHOPPED, after));
+    writes(rt, alloc, name, run, 1, prefix(SHOPPED.as_bytes(), after));
 }
 
-/// The source fails after so many bytes: the lines that had ended by then have their replies, and no more.
+// The source fails after so many bytes: the lines that had ended by then have their replies, and
+// no more.
 fn read_fault_after<R: Abort>(rt: &R, alloc: Global, after: usize) {
     let run = Run {
         read_after: after,
-        ..run_of(SHOPPING)
+        ..run_of(SHOPPING.as_bytes())
     };
-    let due = first_lines(SHOPPED, lines_ended(front(SHOPPING, after)));
+    let due = first_lines(
+        SHOPPED.as_bytes(),
+        lines_ended(prefix(SHOPPING.as_bytes(), after)),
+    );
     writes(rt, alloc, "read_fault_after_every_byte", run, 1, due);
 }
 
@@ -121,9 +106,16 @@ fn shopping_list_in_pieces<R: Abort>(rt: &R, alloc: Global, piece: usize)
 {
     let run = Run {
         piece,
-        ..run_of(SHOPPING)
+        ..run_of(SHOPPING.as_bytes())
     };
-    writes(rt, alloc, "shopping_list_in_pieces", run, 0, SHOPPED);
+    writes(
+        rt,
+        alloc,
+        "shopping_list_in_pieces",
+        run,
+        0,
+        SHOPPED.as_bytes(),
+    );
 }
 
 fn a_line_that_was_not_read_whole_is_none<R: Abort>(

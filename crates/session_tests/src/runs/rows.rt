@@ -1,11 +1,15 @@
-//! The worked rows, each a session over one document. A row that has several orders of its causes stands once for each, and one of several
-//! sessions for each of those. One table of them all would take too long to prove.
+//! The worked rows, each a session over one document: one for each order of a history's causes, and
+//! one for each session of several. One table of them all would take too long to prove.
+//!
+//! `tests/whole-program/rows` has the same rows for the built program:
+//! `tools/check-rows-once --write` makes them from these.
 use super::causes::CAUSES;
 use super::{Row, Run, give_all, run_of, writes};
+use crate::shopping::{SHOPPED, SHOPPING};
 use std::alloc::Global;
 use std::process::Abort;
 
-/// What sessions with no other replica are told.
+// Sessions with no other replica.
 static ALONE: [Row; 11] = [
     Row {
         name: "counter_beyond_i64",
@@ -90,24 +94,8 @@ static ALONE: [Row; 11] = [
     },
     Row {
         name: "shopping_list",
-        input: r#"["open","d"]
-["assign","d",[0],{}]
-["assign","d",[0,"shopping"],[]]
-["insert","d",[0,"shopping",0],"eggs"]
-["let","d","e",[0,"shopping",1]]
-["insert","d",[0,"shopping",0],"cheese"]
-["insert","d",["e"],"milk"]
-["items","d",[0,"shopping"]]
-"#,
-        output: r#"["opened",1]
-["applied",1,0,[1,"srv-1"]]
-["applied",1,0,[2,"srv-1"]]
-["applied",1,0,[3,"srv-1"]]
-["bound"]
-["applied",1,0,[4,"srv-1"]]
-["applied",1,0,[5,"srv-1"]]
-["items",[[[4,"srv-1"],["cheese"]],[[3,"srv-1"],["eggs"]],[[5,"srv-1"],["milk"]]]]
-"#,
+        input: SHOPPING,
+        output: SHOPPED,
     },
     Row {
         name: "variable_after_delete",
@@ -135,26 +123,26 @@ static ALONE: [Row; 11] = [
 "#,
     },
     Row {
-        name: "version_2",
+        name: "version_2-version",
         input: r#"["version"]
 "#,
         output: r#"["version",2]
 "#,
     },
     Row {
-        name: "without_open-1",
+        name: "without_open-empty",
         input: r#""#,
         output: r#""#,
     },
     Row {
-        name: "without_open-2",
+        name: "without_open-newline",
         input: r#"
 "#,
         output: r#"["no",1,"not-json"]
 "#,
     },
     Row {
-        name: "exchange_of_two",
+        name: "exchange_of_two-first",
         input: r#"["open","d"]
 ["assign","d",[0],{}]
 ["assign","d",[0,"k"],"A"]
@@ -174,7 +162,7 @@ static ALONE: [Row; 11] = [
     },
 ];
 
-/// Operations of two replicas, in each order of their causes.
+// Operations of two replicas, in each order of their causes.
 static ORDERS: [Row; 11] = [
     Row {
         name: "colors_reassigned-order_1",
@@ -405,7 +393,7 @@ static ORDERS: [Row; 11] = [
     },
 ];
 
-/// Operations in a list, in each order of their causes.
+// Operations in a list, in each order of their causes.
 static LIST_ORDERS: [Row; 12] = [
     Row {
         name: "concurrent_list_edits-order_1",
@@ -570,7 +558,7 @@ static LIST_ORDERS: [Row; 12] = [
 "#,
     },
     Row {
-        name: "map_and_list_at_one_key-order_1",
+        name: "map_and_list_at_one_key",
         input: r#"["open","d"]
 ["deliver","d",["op",[1,"p"],[],[[["m",0]],"a"],["assign",{}]]]
 ["deliver","d",["op",[2,"p"],[["p",1]],[[["m",0],["m","a"]],"x"],["assign","y"]]]
@@ -587,7 +575,7 @@ static LIST_ORDERS: [Row; 12] = [
 "#,
     },
     Row {
-        name: "map_and_list_at_one_key-order_2",
+        name: "map_and_list_at_one_key-causal_order_2",
         input: r#"["open","d"]
 ["deliver","d",["op",[1,"p"],[],[[["m",0]],"a"],["assign",{}]]]
 ["deliver","d",["op",[1,"q"],[],[[["m",0]],"a"],["assign",[]]]]
@@ -604,7 +592,7 @@ static LIST_ORDERS: [Row; 12] = [
 "#,
     },
     Row {
-        name: "map_and_list_at_one_key-order_3",
+        name: "map_and_list_at_one_key-causal_order_3",
         input: r#"["open","d"]
 ["deliver","d",["op",[1,"p"],[],[[["m",0]],"a"],["assign",{}]]]
 ["deliver","d",["op",[1,"q"],[],[[["m",0]],"a"],["assign",[]]]]
@@ -621,7 +609,7 @@ static LIST_ORDERS: [Row; 12] = [
 "#,
     },
     Row {
-        name: "map_and_list_at_one_key-order_4",
+        name: "map_and_list_at_one_key-causal_order_4",
         input: r#"["open","d"]
 ["deliver","d",["op",[1,"q"],[],[[["m",0]],"a"],["assign",[]]]]
 ["deliver","d",["op",[1,"p"],[],[[["m",0]],"a"],["assign",{}]]]
@@ -638,7 +626,7 @@ static LIST_ORDERS: [Row; 12] = [
 "#,
     },
     Row {
-        name: "map_and_list_at_one_key-order_5",
+        name: "map_and_list_at_one_key-causal_order_5",
         input: r#"["open","d"]
 ["deliver","d",["op",[1,"q"],[],[[["m",0]],"a"],["assign",[]]]]
 ["deliver","d",["op",[1,"p"],[],[[["m",0]],"a"],["assign",{}]]]
@@ -655,7 +643,7 @@ static LIST_ORDERS: [Row; 12] = [
 "#,
     },
     Row {
-        name: "map_and_list_at_one_key-order_6",
+        name: "map_and_list_at_one_key-causal_order_6",
         input: r#"["open","d"]
 ["deliver","d",["op",[1,"q"],[],[[["m",0]],"a"],["assign",[]]]]
 ["deliver","d",["op",[2,"q"],[["q",1]],[[["m",0],["l","a"]],1],["insert","z"]]]
@@ -673,7 +661,7 @@ static LIST_ORDERS: [Row; 12] = [
     },
 ];
 
-/// Operations that are held, released or forgotten, and hostile ones.
+// Operations that are held, released or forgotten, and hostile ones.
 static HELD: [Row; 11] = [
     Row {
         name: "buffer_release",
@@ -716,7 +704,7 @@ static HELD: [Row; 11] = [
 "#,
     },
     Row {
-        name: "hostile-1",
+        name: "hostile-what_can_never_come_is_forgotten",
         input: r#"["open","d"]
 ["deliver","d",["op",[1,"o"],[],[[["m",0]],"l"],["assign",[]]]]
 ["deliver","d",["op",[2,"o"],[["o",1]],[[["m",0],["l","l"]],1],["insert","a"]]]
@@ -739,7 +727,7 @@ static HELD: [Row; 11] = [
 "#,
     },
     Row {
-        name: "hostile-2",
+        name: "hostile-element_that_is_not_there",
         input: r#"["open","d"]
 ["deliver","d",["op",[1,"o"],[],[[["m",0]],"l"],["assign",[]]]]
 ["deliver","d",["op",[2,"o"],[["o",1]],[[["m",0],["l","l"]],1],["insert","a"]]]
@@ -754,7 +742,7 @@ static HELD: [Row; 11] = [
 "#,
     },
     Row {
-        name: "hostile-3",
+        name: "hostile-element_of_another_list",
         input: r#"["open","d"]
 ["deliver","d",["op",[1,"o"],[],[[["m",0]],"l"],["assign",[]]]]
 ["deliver","d",["op",[2,"o"],[["o",1]],[[["m",0],["l","l"]],1],["insert","a"]]]
@@ -769,7 +757,7 @@ static HELD: [Row; 11] = [
 "#,
     },
     Row {
-        name: "hostile-4",
+        name: "hostile-first_of_a_chain_again",
         input: r#"["open","d"]
 ["deliver","d",["op",[1,"o"],[],[[["m",0]],"l"],["assign",[]]]]
 ["deliver","d",["op",[2,"o"],[["o",1]],[[["m",0],["l","l"]],1],["insert","a"]]]
@@ -784,7 +772,7 @@ static HELD: [Row; 11] = [
 "#,
     },
     Row {
-        name: "hostile-5",
+        name: "hostile-other_operation_of_a_logged_id",
         input: r#"["open","d"]
 ["deliver","d",["op",[1,"o"],[],[[["m",0]],"l"],["assign",[]]]]
 ["deliver","d",["op",[2,"o"],[["o",1]],[[["m",0],["l","l"]],1],["insert","a"]]]
@@ -799,7 +787,7 @@ static HELD: [Row; 11] = [
 "#,
     },
     Row {
-        name: "hostile-6",
+        name: "hostile-waits_for_what_can_never_come",
         input: r#"["open","d"]
 ["deliver","d",["op",[1,"o"],[],[[["m",0]],"l"],["assign",[]]]]
 ["deliver","d",["op",[2,"o"],[["o",1]],[[["m",0],["l","l"]],1],["insert","a"]]]
@@ -864,7 +852,7 @@ static HELD: [Row; 11] = [
     },
 ];
 
-/// Requests and operations that are refused.
+// Requests and operations that are refused.
 static REFUSED: [Row; 8] = [
     Row {
         name: "delivered_twice",
@@ -922,7 +910,7 @@ static REFUSED: [Row; 8] = [
 "#,
     },
     Row {
-        name: "request_refusals-1",
+        name: "request_refusals-no_open",
         input: r#"["keys","d",[0]]
 ["open","x"]
 {}
@@ -939,7 +927,7 @@ static REFUSED: [Row; 8] = [
 "#,
     },
     Row {
-        name: "request_refusals-2",
+        name: "request_refusals-open",
         input: r#"["open","d"]
 ["keys","d",["v"]]
 ["forget","d",[1,"p"]]
@@ -954,7 +942,7 @@ static REFUSED: [Row; 8] = [
 "#,
     },
     Row {
-        name: "request_refusals-3",
+        name: "request_refusals-quit_ends",
         input: r#"["quit"]
 ["open","d"]
 "#,
@@ -962,7 +950,7 @@ static REFUSED: [Row; 8] = [
 "#,
     },
     Row {
-        name: "scalar_limits-1",
+        name: "scalar_limits",
         input: r#"["open","d"]
 ["assign","d",[0,"n"],9223372036854775807]
 ["assign","d",[0,"n"],9223372036854775808]
@@ -979,7 +967,7 @@ static REFUSED: [Row; 8] = [
 "#,
     },
     Row {
-        name: "scalar_limits-2",
+        name: "scalar_limits-before",
         input: r#"["open","d"]
 ["assign","d",[0,"n"],9223372036854775808]
 ["assign","d",[0,"n"],1.5]
@@ -997,10 +985,10 @@ static REFUSED: [Row; 8] = [
     },
 ];
 
-/// Forms of operations that are refused, and some beside them that are not.
+// Forms of operations that are refused, and some beside them that are not.
 static WIRE: [Row; 13] = [
     Row {
-        name: "wire_refusals_1-1",
+        name: "wire-replica_name_in_capitals",
         input: r#"["open","d"]
 ["deliver","d",["op",[1,"P"],[],[[["m",0]],"k"],["delete"]]]
 "#,
@@ -1009,7 +997,7 @@ static WIRE: [Row; 13] = [
 "#,
     },
     Row {
-        name: "wire_refusals_1-2",
+        name: "wire-empty_path_without_document",
         input: r#"["open","d"]
 ["deliver","d",["op",[1,"p"],[],[[],"k"],["delete"]]]
 "#,
@@ -1018,7 +1006,7 @@ static WIRE: [Row; 13] = [
 "#,
     },
     Row {
-        name: "wire_refusals_1-3",
+        name: "wire-assigns_the_document",
         input: r#"["open","d"]
 ["deliver","d",["op",[1,"p"],[],[[],0],["assign",{}]]]
 "#,
@@ -1027,7 +1015,7 @@ static WIRE: [Row; 13] = [
 "#,
     },
     Row {
-        name: "wire_refusals_1-4",
+        name: "wire-head_outside_a_list",
         input: r#"["open","d"]
 ["deliver","d",["op",[1,"p"],[],[[["m",0]],1],["delete"]]]
 "#,
@@ -1036,7 +1024,7 @@ static WIRE: [Row; 13] = [
 "#,
     },
     Row {
-        name: "wire_refusals_1-5",
+        name: "wire-deletes_a_head",
         input: r#"["open","d"]
 ["deliver","d",["op",[1,"p"],[],[[["l",0]],1],["delete"]]]
 "#,
@@ -1045,7 +1033,7 @@ static WIRE: [Row; 13] = [
 "#,
     },
     Row {
-        name: "wire_refusals_1-6",
+        name: "wire-inserts_behind_a_head",
         input: r#"["open","d"]
 ["deliver","d",["op",[1,"p"],[],[[["l",0]],1],["insert",null]]]
 "#,
@@ -1054,7 +1042,7 @@ static WIRE: [Row; 13] = [
 "#,
     },
     Row {
-        name: "wire_refusals_2-1",
+        name: "wire-inserts_outside_a_list",
         input: r#"["open","d"]
 ["deliver","d",["op",[1,"p"],[],[[["m",0]],"k"],["insert",1]]]
 "#,
@@ -1063,7 +1051,7 @@ static WIRE: [Row; 13] = [
 "#,
     },
     Row {
-        name: "wire_refusals_2-2",
+        name: "wire-front_does_not_ascend",
         input: r#"["open","d"]
 ["deliver","d",["op",[3,"p"],[["q",1],["o",2]],[[["m",0]],"k"],["delete"]]]
 "#,
@@ -1072,7 +1060,7 @@ static WIRE: [Row; 13] = [
 "#,
     },
     Row {
-        name: "wire_refusals_2-3",
+        name: "wire-counter_is_not_one_more",
         input: r#"["open","d"]
 ["deliver","d",["op",[2,"p"],[],[[["m",0]],"k"],["delete"]]]
 "#,
@@ -1081,7 +1069,7 @@ static WIRE: [Row; 13] = [
 "#,
     },
     Row {
-        name: "wire_refusals_2-4",
+        name: "wire-value_is_no_integer",
         input: r#"["open","d"]
 ["deliver","d",["op",[1,"p"],[],[[["m",0]],"k"],["assign",1.5]]]
 "#,
@@ -1090,7 +1078,7 @@ static WIRE: [Row; 13] = [
 "#,
     },
     Row {
-        name: "wire_refusals_2-5",
+        name: "wire-document_as_a_later_key",
         input: r#"["open","d"]
 ["deliver","d",["op",[1,"p"],[],[[["m",0],["m",0]],"k"],["delete"]]]
 "#,
@@ -1099,7 +1087,7 @@ static WIRE: [Row; 13] = [
 "#,
     },
     Row {
-        name: "wire_refusals_2-6",
+        name: "wire-path_of_31",
         input: r#"["open","d"]
 ["deliver","d",["op",[1,"p"],[],[[["m",0],["m","k0"],["m","k1"],["m","k2"],["m","k3"],["m","k4"],["m","k5"],["m","k6"],["m","k7"],["m","k8"],["m","k9"],["m","k10"],["m","k11"],["m","k12"],["m","k13"],["m","k14"],["m","k15"],["m","k16"],["m","k17"],["m","k18"],["m","k19"],["m","k20"],["m","k21"],["m","k22"],["m","k23"],["m","k24"],["m","k25"],["m","k26"],["m","k27"],["m","k28"],["m","k29"]],"k"],["delete"]]]
 "#,
@@ -1108,7 +1096,7 @@ static WIRE: [Row; 13] = [
 "#,
     },
     Row {
-        name: "wire_refusals_3",
+        name: "wire-path_of_30",
         input: r#"["open","d"]
 ["deliver","d",["op",[1,"p"],[],[[["m",0],["m","k0"],["m","k1"],["m","k2"],["m","k3"],["m","k4"],["m","k5"],["m","k6"],["m","k7"],["m","k8"],["m","k9"],["m","k10"],["m","k11"],["m","k12"],["m","k13"],["m","k14"],["m","k15"],["m","k16"],["m","k17"],["m","k18"],["m","k19"],["m","k20"],["m","k21"],["m","k22"],["m","k23"],["m","k24"],["m","k25"],["m","k26"],["m","k27"],["m","k28"]],"k"],["delete"]]]
 "#,
@@ -1118,9 +1106,9 @@ static WIRE: [Row; 13] = [
     },
 ];
 
-/// The other side of the exchange, where the server is `b`.
+// The other side of the exchange, where the server is `b`.
 static EXCHANGE_OF_TWO_OTHER_SIDE: Row = Row {
-    name: "exchange_of_two, the other side",
+    name: "exchange_of_two-second",
     input: r#"["open","d"]
 ["assign","d",[0,"k"],"B"]
 ["deliver","d",["op",[1,"srv-1"],[],[[],0],["assign",{}]]]

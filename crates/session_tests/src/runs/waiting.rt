@@ -2,7 +2,7 @@
 ghost use Rattle.std.specs.Prelude.{◌≡◌};
 ghost use Rattle.share_ledger.specs.Begun.{BeginEmpty};
 
-use crate::told::holds;
+use crate::checks::holds;
 use line_feed::{Outbox, Reader, Writer};
 use run_core::{NewDocuments, run_over};
 use share_ledger::{Blank, Marker};
@@ -12,7 +12,7 @@ use std::io::{Read, Write};
 use std::marker::Brand;
 use std::sync::atomic::{AtomicU64, Ordering};
 
-/// Counts the replies that come, and how often some come.
+// Counts the replies that come, and how often some come.
 #[derive(Drop)]
 struct Replies<'a> {
     lines: &'a AtomicU64,
@@ -35,7 +35,8 @@ impl Write for Replies<'_> {
     }
 }
 
-/// Sends four lines and a part of the next at a time, and looks before each time whether all whole lines have their replies.
+// Sends four lines and a part of the next at a time, and looks before each time whether all whole
+// lines have their replies.
 #[derive(Drop)]
 struct Client<'a> {
     left: u8,
@@ -44,7 +45,7 @@ struct Client<'a> {
     waits_in_vain: &'a AtomicU64,
 }
 
-/// Four lines and a part of one, which the first bytes of the next part end.
+// Four lines and a part of one, which the first bytes of the next part end.
 const PART: &[u8] = b"n\",\"d\"]\n[\"front\",\"d\"]\n[\"front\",\"d\"]\n[\"front\",\"d\"]\n[\"ope";
 
 impl Read for Client<'_> {
@@ -62,7 +63,8 @@ impl Read for Client<'_> {
     }
 }
 
-/// The status of a run over the client's lines, which tells whether it waited in vain, and the replies and writes.
+// The status of a run over the client's lines, which tells whether it waited in vain, and the
+// replies and writes.
 fn waits<M: Marker>(
     alloc: Global,
     blank: Blank,

@@ -1,6 +1,6 @@
 //! Sessions whose connection fails: they end alone, and what they did is in the totals.
 use super::samples::{Fault, NO_FAULT, Ran, first_did, run_two};
-use crate::told::holds;
+use crate::checks::holds;
 use json_scalar::Refusal;
 use server_core::OpenGate;
 use session_rules::Ending;
@@ -14,8 +14,9 @@ const TWO: &[u8] = br#"["open","a"]
 ["assign","a",[0,"b"],2]
 "#;
 
-/// A fault of the first of two sessions of the same lines, how many of its assignments that one does, and how it ends. What each seat
-/// did, where the first session took its seat first, and where it did not.
+// A fault of the first of two sessions of the same lines, how many of its assignments that one
+// does, and how it ends. What each seat did, where the first session took its seat first, and
+// where it did not.
 struct Row {
     name: &'static str,
     fault: Fault,
@@ -61,8 +62,8 @@ static ROWS: [Row; 3] = [
     },
 ];
 
-/// The session that fails does so much, and ends so; the other one does both assignments, up to the end. Nothing is told where the
-/// connection can't be opened, and then there is one seat.
+// The session that fails does so much, and ends so; the other one does both assignments, up to the
+// end. A connection that can't be opened has no reply, and then there is one seat.
 fn fails_alone<R: Abort>(rt: &R, row: &Row, ran: &Ran) {
     let endings = [row.why, Some(Ending::End)];
     let is = ran.gathered.endings.as_slice() == endings.as_slice()

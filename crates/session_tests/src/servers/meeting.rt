@@ -1,6 +1,6 @@
 //! A gate that is passed only where sessions at two documents run at the same time.
 use super::samples::{NO_FAULT, run_two, waits_in_vain};
-use crate::told::{holds, is_told};
+use crate::checks::{holds, replies_are};
 use json_scalar::Refusal;
 use server_core::Gate;
 use std::alloc::Global;
@@ -9,7 +9,8 @@ use std::sync::Wait;
 use std::sync::atomic::{AtomicU64, Ordering};
 use std::thread::Threads;
 
-/// Holds session 2 back before its first line until session 1 is inside, and session 1 inside until session 2 comes to its second line.
+// Holds session 2 back before its first line until session 1 is inside, and session 1 inside until
+// session 2 comes to its second line.
 #[derive(Drop)]
 struct Meeting {
     first_inside: AtomicU64,
@@ -55,8 +56,8 @@ pub fn meets<R: Threads + Wait + Abort + Sync>(rt: &R, alloc: Global) -> Result<
         missed: AtomicU64::new(0),
     };
     let ran = run_two(rt, alloc, &gate, [FIRST, SECOND], NO_FAULT)?;
-    is_told(rt, &"first", ran.first.as_slice(), b"[\"opened\",1]\n");
-    is_told(
+    replies_are(rt, &"first", ran.first.as_slice(), b"[\"opened\",1]\n");
+    replies_are(
         rt,
         &"second",
         ran.second.as_slice(),

@@ -1,10 +1,11 @@
-//! Worked rows, each as the one session of a run over a shelf of two documents, and that no lock is taken while a line is read or a
-//! reply is written.
+//! Worked rows, each as the one session of a server of two documents, and that no lock is taken
+//! while a line is read or a reply is written.
 ghost use Rattle.std.specs.Prelude.{◌≡◌};
 ghost use Rattle.share_ledger.specs.Begun.{BeginEmpty};
 
-use super::samples::{shared_documents, told_alone};
-use crate::told::{holds, is_told};
+use super::samples::{replies_alone, shared_documents};
+use crate::checks::{holds, replies_are};
+use crate::shopping::{SHOPPED, SHOPPING};
 use json_scalar::Refusal;
 use line_feed::{DeviceFault, Reader, Sink, Source, Writer};
 use server_core::{OpenGate, SharedDocuments, serve_session};
@@ -16,31 +17,7 @@ use std::process::Abort;
 use std::sync::Wait;
 use std::thread::Threads;
 
-const SHOPPING: &[u8] = br#"["open","a"]
-["assign","a",[0],{}]
-["assign","a",[0,"shopping"],[]]
-["insert","a",[0,"shopping",0],"eggs"]
-["let","a","e",[0,"shopping",1]]
-["insert","a",[0,"shopping",0],"cheese"]
-["insert","a",["e"],"milk"]
-["items","a",[0,"shopping"]]
-["account","a"]
-["quit"]
-"#;
-
-const SHOPPED: &[u8] = br#"["opened",1]
-["applied",1,0,[1,"srv-1"]]
-["applied",1,0,[2,"srv-1"]]
-["applied",1,0,[3,"srv-1"]]
-["bound"]
-["applied",1,0,[4,"srv-1"]]
-["applied",1,0,[5,"srv-1"]]
-["items",[[[4,"srv-1"],["cheese"]],[[3,"srv-1"],["eggs"]],[[5,"srv-1"],["milk"]]]]
-["account",5]
-["bye"]
-"#;
-
-const RELEASING: &[u8] = br#"["open","b"]
+const RELEASING: &str = r#"["open","b"]
 ["deliver","b",["op",[3,"p"],[["p",2]],[[["m",0]],"k"],["assign",3]]]
 ["deliver","b",["op",[2,"p"],[["p",1]],[[["m",0]],"k"],["assign",2]]]
 ["held","b"]
@@ -49,7 +26,7 @@ const RELEASING: &[u8] = br#"["open","b"]
 ["values","b",[0,"k"]]
 "#;
 
-const RELEASED: &[u8] = br#"["opened",1]
+const RELEASED: &str = r#"["opened",1]
 ["held",[[2,"p"]]]
 ["held",[[1,"p"]]]
 ["waiting",[[[2,"p"],[[1,"p"]]],[[3,"p"],[[2,"p"]]]]]
@@ -58,11 +35,11 @@ const RELEASED: &[u8] = br#"["opened",1]
 ["values",[3]]
 "#;
 
-/// A session at two documents, and what it is told.
+// A session at two documents, and its replies.
 struct Row {
     name: &'static str,
-    input: &'static [u8],
-    output: &'static [u8],
+    input: &'static str,
+    output: &'static str,
 }
 
 static ROWS: [Row; 2] = [
@@ -78,19 +55,19 @@ static ROWS: [Row; 2] = [
     },
 ];
 
-/// Each of these rows is told what is due.
-pub fn told_over_two_documents<R: Threads + Wait + Abort + Sync>(
+/// Each of these rows has its replies.
+pub fn rows_over_two_documents<R: Threads + Wait + Abort + Sync>(
     rt: &R,
     alloc: Global,
 ) -> Result<(), Refusal> {
     for row in &ROWS {
-        let told = told_alone(rt, alloc, &["a", "b"], row.input)?;
-        is_told(rt, &row.name, told.as_slice(), row.output);
+        let replies = replies_alone(rt, alloc, &["d", "b"], row.input.as_bytes())?;
+        replies_are(rt, &row.name, replies.as_slice(), row.output.as_bytes());
     }
     Ok(())
 }
 
-/// A device that looks, at each call, whether a document is locked.
+// A device that looks, at each call, whether a document is locked.
 #[derive(Drop)]
 struct Looking<'a, M: Marker, D> {
     shared: &'a SharedDocuments<M>,
@@ -98,7 +75,7 @@ struct Looking<'a, M: Marker, D> {
     found: bool,
 }
 
-/// Whether the lock of a document is taken.
+// Whether the lock of a document is taken.
 fn is_locked<M: Marker>(shared: &SharedDocuments<M>) -> bool {
     for place in 0..shared.shelf.len() {
         if shared.shelf.doc(place).try_lock().is_none() {
@@ -150,7 +127,8 @@ impl<M: Marker, D: Sink> Sink for Looking<'_, M, D> {
     }
 }
 
-/// Why the session of the shopping list ended, and whether a lock was taken while a line was read, or a reply written.
+// Why the session of the shopping list ended, and whether a lock was taken while a line was read,
+// or a reply written.
 fn looks<M: Marker, R: Wait>(
     rt: &R,
     alloc: Global,
@@ -159,10 +137,10 @@ fn looks<M: Marker, R: Wait>(
     requires blank { blank ≡ M.name }
     requires begun { BeginEmpty M.initial_log }
 {
-    let shared = shared_documents::<M>(alloc, blank, &["a", "b"], 1)?;
+    let shared = shared_documents::<M>(alloc, blank, &["d", "b"], 1)?;
     let mut source = Looking {
         shared: &shared,
-        device: Reader::new(SHOPPING),
+        device: Reader::new(SHOPPING.as_bytes()),
         found: false,
     };
     let mut sink = Looking {
@@ -180,7 +158,7 @@ pub fn no_lock_while_reading_or_writing<R: Wait + Abort>(
     alloc: Global,
 ) -> Result<(), Refusal> {
     let found = looks::<Brand, R>(rt, alloc, Blank::new())?;
-    let is = found == (Ending::Quit, false, false);
+    let is = found == (Ending::End, false, false);
     holds(rt, is, "no_lock_while_reading_or_writing");
     Ok(())
 }

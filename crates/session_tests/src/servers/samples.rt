@@ -3,7 +3,7 @@ ghost use Rattle.std.specs.Prelude.{◌≡◌, ◌≤◌, IfOk, length};
 ghost use Rattle.doc_ledger.specs.Numbers.{greatest_number};
 ghost use Rattle.share_ledger.specs.Begun.{BeginEmpty};
 
-use crate::told::holds;
+use crate::checks::holds;
 use doc_ledger::Ledger;
 use json_scalar::Refusal;
 use lamport_id::ReplicaName;
@@ -45,7 +45,7 @@ pub fn names_of(alloc: Global, documents: &[&str]) -> Result<Vec<Name>, Refusal>
     Ok(names)
 }
 
-/// So many new documents, with so many seats each.
+// So many new documents, with so many seats each.
 fn shelf_of<M: Marker>(
     alloc: Global,
     blank: Blank,
@@ -78,6 +78,7 @@ pub fn shared_documents<M: Marker>(
     requires blank { blank ≡ M.name }
     requires begun { BeginEmpty M.initial_log }
     requires few { length documents.now ≤ greatest_number }
+    ensures { IfOk result (λ shared. length shared.names.items ≡ length documents.now) }
 {
     let names = names_of(alloc, documents)?;
     let shelf = shelf_of::<M>(alloc, blank, documents.len(), seats)?;
@@ -88,7 +89,8 @@ pub fn shared_documents<M: Marker>(
     })
 }
 
-/// What the sessions of these connections did at new documents, of so many seats each, and what the side that ran beside them became.
+/// What the sessions of these connections did at new documents, of so many seats each, and what the
+/// side that ran beside them became.
 pub fn serve_beside<M: Marker + Send + Sync, R: Threads + Wait + Sync, G: Gate + Sync, S: Side<M>>(
     rt: &R,
     alloc: Global,
@@ -111,7 +113,7 @@ pub fn serve_beside<M: Marker + Send + Sync, R: Threads + Wait + Sync, G: Gate +
     }
 }
 
-/// The same with no side.
+// The same with no side.
 fn serve<M: Marker + Send + Sync, R: Threads + Wait + Sync, G: Gate + Sync>(
     rt: &R,
     alloc: Global,
@@ -143,7 +145,7 @@ pub fn serve_all<R: Threads + Wait + Sync, G: Gate + Sync>(
     serve::<Brand, R, G>(rt, alloc, Blank::new(), documents, seats, scripts, gate)
 }
 
-/// What the one session of a server of these documents did, and what it was told.
+/// What the one session of a server of these documents did, and its replies.
 pub fn run_alone<R: Threads + Wait + Sync>(
     rt: &R,
     alloc: Global,
@@ -158,8 +160,8 @@ pub fn run_alone<R: Threads + Wait + Sync>(
     Ok((gathered, replies.into_inner()))
 }
 
-/// What it was told.
-pub fn told_alone<R: Threads + Wait + Sync>(
+/// Its replies.
+pub fn replies_alone<R: Threads + Wait + Sync>(
     rt: &R,
     alloc: Global,
     documents: &[&str],
@@ -170,7 +172,7 @@ pub fn told_alone<R: Threads + Wait + Sync>(
     Ok(run_alone(rt, alloc, documents, input)?.1)
 }
 
-/// What two sessions at new documents `a` and `b` did, and what each was told.
+/// What two sessions at new documents `a` and `b` did, and the replies to each.
 #[derive(Drop)]
 pub struct Ran {
     pub gathered: Gathered,
@@ -224,7 +226,8 @@ pub fn first_did<R: Abort>(rt: &R, case: &str, gathered: &Gathered, all: u64, sh
     holds(rt, is, case);
 }
 
-/// Waits for 1,000,000 turns at most until the count has come so far, and says whether it was in vain.
+/// Waits for 1,000,000 turns at most until the count has come so far, and says whether it was in
+/// vain.
 pub fn waits_in_vain(count: &AtomicU64, due: u64) -> bool {
     for _ in 0..1_000_000u32 {
         if count.load(Ordering::SeqCst) >= due {

@@ -3,7 +3,7 @@ ghost use Rattle.std.specs.Prelude.{◌≡◌};
 ghost use Rattle.share_ledger.specs.Begun.{BeginEmpty};
 
 use super::samples::{NO_FAULT, THREE, TWO, first_did, run_two, serve_all, serve_beside};
-use crate::told::holds;
+use crate::checks::holds;
 use json_scalar::Refusal;
 use server_core::doubles::Script;
 use server_core::{Gathered, OpenGate, SharedDocuments, Side, Signalled};
@@ -15,20 +15,20 @@ use std::str;
 use std::sync::{Mutex, Wait};
 use std::thread::Threads;
 
-const THREE_TOLD: &[u8] = br#"["opened",_]
+const THREE_REPLIES: &[u8] = br#"["opened",_]
 ["applied",1,0,[_,"srv-1"]]
 ["applied",1,0,[_,"srv-1"]]
 ["applied",1,0,[_,"srv-1"]]
 ["values",[3]]
 "#;
 
-const TWO_TOLD: &[u8] = br#"["opened",_]
+const TWO_REPLIES: &[u8] = br#"["opened",_]
 ["applied",1,0,[_,"srv-1"]]
 ["applied",1,0,[_,"srv-1"]]
 ["values",[2]]
 "#;
 
-/// The bytes of the replies where the text has `_`, if the others are those of the text.
+// The bytes of the replies where the text has `_`, if the others are those of the text.
 fn filled<const N: usize>(text: &[u8], replies: &[u8]) -> Option<[u8; N]> {
     let mut found = [0; N];
     let mut count: usize = 0;
@@ -46,17 +46,17 @@ fn filled<const N: usize>(text: &[u8], replies: &[u8]) -> Option<[u8; N]> {
     Some(found)
 }
 
-/// Whether the counters rise in either session, and together are those from 1 to 5.
+// Whether the counters rise in either session, and together are those from 1 to 5.
 fn rise_together(first: [u8; 3], second: [u8; 2]) -> bool {
     let mut all = [first[0], first[1], first[2], second[0], second[1]];
     all.sort_unstable();
     first.iter().is_sorted() && second.iter().is_sorted() && all == *b"12345"
 }
 
-/// What each seat did, if both sessions were told of their own, line for line, whoever was first.
+// What each seat did, if both sessions have their own replies, line for line, whichever was first.
 fn shares(first: &[u8], second: &[u8]) -> Option<[u64; 2]> {
-    let one: [u8; 4] = filled(THREE_TOLD, first)?;
-    let two: [u8; 3] = filled(TWO_TOLD, second)?;
+    let one: [u8; 4] = filled(THREE_REPLIES, first)?;
+    let two: [u8; 3] = filled(TWO_REPLIES, second)?;
     if !rise_together([one[1], one[2], one[3]], [two[1], two[2]]) {
         return None;
     }
@@ -67,7 +67,7 @@ fn shares(first: &[u8], second: &[u8]) -> Option<[u64; 2]> {
     }
 }
 
-/// Two sessions at one document are each told of their own, and add up.
+/// Two sessions at one document each have their own replies, and add up.
 pub fn two_sessions<R: Threads + Wait + Abort + Sync>(
     rt: &R,
     alloc: Global,
@@ -77,7 +77,7 @@ pub fn two_sessions<R: Threads + Wait + Abort + Sync>(
     match shares(first, second) {
         Some(shares) => first_did(rt, "two_sessions", &ran.gathered, 5, &shares),
         None => panic!(rt;
-            "told {:?} and {:?}",
+            "replies {:?} and {:?}",
             str::from_utf8(first),
             str::from_utf8(second)
         ),
@@ -85,7 +85,7 @@ pub fn two_sessions<R: Threads + Wait + Abort + Sync>(
     Ok(())
 }
 
-/// 64 sessions of the same lines.
+// 64 sessions of the same lines.
 fn many<'a, R: Wait>(
     rt: &'a R,
     alloc: Global,
@@ -110,7 +110,7 @@ pub fn many_sessions<R: Threads + Wait + Abort + Sync>(
     Ok(())
 }
 
-/// Waits until all sessions have ended, and then looks how much is logged at the first document.
+// Waits until all sessions have ended, and then looks how much is logged at the first document.
 #[derive(Drop)]
 struct Watching {
     sessions: u64,
@@ -145,7 +145,7 @@ pub fn logged_first<M: Marker, R: Wait>(rt: &R, shared: &SharedDocuments<M>) -> 
     doc.tail(0, 1000).ok().map(|ops| ops.as_slice().len())
 }
 
-/// What they did, and the side, which is given back.
+// What they did, and the side, which is returned.
 fn watched<M: Marker + Send + Sync, R: Threads + Wait + Sync>(
     rt: &R,
     alloc: Global,

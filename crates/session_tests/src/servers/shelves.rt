@@ -1,10 +1,11 @@
-//! Shelves of three and of sixteen documents: each document has what was written to it, and none of what was written to another.
+//! Shelves of three and of sixteen documents: each document has what was written to it, and none of
+//! what was written to another.
 ghost use Rattle.std.specs.Prelude.{◌≤◌, length};
 ghost use Rattle.doc_ledger.specs.Numbers.{greatest_number};
 
 use super::samples::{did, run_alone};
+use crate::checks::{holds, replies_are};
 use crate::texts::{push_each, push_numbered};
-use crate::told::{holds, is_told};
 use json_scalar::Refusal;
 use locked_doc::Totals;
 use std::alloc::Global;
@@ -12,14 +13,14 @@ use std::process::Abort;
 use std::sync::Wait;
 use std::thread::Threads;
 
-/// The names of as many documents as a server may have.
+// The names of as many documents as a server may have.
 const SIXTEEN: [&str; 16] = [
     "d1", "d2", "d3", "d4", "d5", "d6", "d7", "d8", "d9", "d10", "d11", "d12", "d13", "d14", "d15",
     "d16",
 ];
 
-/// A session that opens so many documents, assigns to them in turn, so that each has as many operations as its number says, and then
-/// reads them all.
+// A session that opens so many documents, assigns to them in turn, so that each has as many
+// operations as its number says, and then reads them all.
 fn lines_over(alloc: Global, count: u32) -> Result<String, Refusal> {
     let mut text = String::new(alloc);
     push_each(&mut text, "[\"open\",\"d#\"]\n", 1, count)?;
@@ -30,7 +31,7 @@ fn lines_over(alloc: Global, count: u32) -> Result<String, Refusal> {
     Ok(text)
 }
 
-/// What it is told.
+// Its replies.
 fn replies_over(alloc: Global, count: u32) -> Result<String, Refusal> {
     let mut text = String::new(alloc);
     push_each(&mut text, "[\"opened\",1]\n", 1, count)?;
@@ -43,7 +44,7 @@ fn replies_over(alloc: Global, count: u32) -> Result<String, Refusal> {
     Ok(text)
 }
 
-/// Whether the documents have as many operations as their numbers say, by one seat each.
+// Whether the documents have as many operations as their numbers say, by one seat each.
 fn rise_by_one(totals: &[Totals]) -> bool {
     let mut due: u64 = 0;
     for sums in totals {
@@ -55,7 +56,7 @@ fn rise_by_one(totals: &[Totals]) -> bool {
     true
 }
 
-/// Each of these documents, which are named by their numbers, has what was written to it.
+// Each of these documents, which are named by their numbers, has what was written to it.
 fn each_has_its_own<R: Threads + Wait + Abort + Sync>(
     rt: &R,
     alloc: Global,
@@ -66,9 +67,9 @@ fn each_has_its_own<R: Threads + Wait + Abort + Sync>(
 {
     let count = documents.len() as u32;
     let lines = lines_over(alloc, count)?;
-    let due = replies_over(alloc, count)?;
-    let (gathered, told) = run_alone(rt, alloc, documents, lines.as_bytes())?;
-    is_told(rt, &name, told.as_slice(), due.as_bytes());
+    let expected = replies_over(alloc, count)?;
+    let (gathered, replies) = run_alone(rt, alloc, documents, lines.as_bytes())?;
+    replies_are(rt, &name, replies.as_slice(), expected.as_bytes());
     let totals = gathered.totals.as_slice();
     let is = totals.len() == documents.len() && rise_by_one(totals);
     holds(rt, is, name);

@@ -1,6 +1,7 @@
-//! Two sessions at one document, whose lines come to it in a given order: what each is told, from the first line to the last.
+//! Two sessions at one document, whose lines come to it in a given order: the replies to each, from
+//! the first line to the last.
 use super::samples::{NO_FAULT, THREE, TWO, first_did, run_two};
-use crate::told::{holds, is_told};
+use crate::checks::{holds, replies_are};
 use json_scalar::Refusal;
 use server_core::Gate;
 use std::alloc::Global;
@@ -10,7 +11,8 @@ use std::sync::atomic::{AtomicU64, AtomicUsize, Ordering};
 use std::thread;
 use std::thread::Threads;
 
-/// Lets the lines of two sessions come to the document in a given order. Each of these lines asks it once.
+// Lets the lines of two sessions come to the document in a given order. Each of these lines asks
+// it once.
 #[derive(Drop)]
 struct Turns {
     /// Whose line is next, one after the other.
@@ -21,7 +23,8 @@ struct Turns {
 }
 
 impl Turns {
-    /// Waits until it is this session's turn, for 1,000,000 turns of its own at most, and says whether it was in vain.
+    // Waits until it is this session's turn, for 1,000,000 turns of its own at most, and says
+    // whether it was in vain.
     fn waits_in_vain(&self, session: u64) -> bool {
         for _ in 0..1_000_000u32 {
             if self.order.get(self.came.load(Ordering::SeqCst)) == Some(&session) {
@@ -45,7 +48,7 @@ impl Gate for Turns {
     }
 }
 
-/// Whose line is next, one after the other, and what the sessions are told.
+// Whose line is next, one after the other, and the sessions' replies.
 struct Row {
     name: &'static str,
     order: [u64; 9],
@@ -86,8 +89,8 @@ static ROWS: [Row; 2] = [
     },
 ];
 
-/// In this order the sessions are told these replies, and they add up.
-fn told_in_order<R: Threads + Wait + Abort + Sync>(
+// In this order the sessions have these replies, and they add up.
+fn replies_in_order<R: Threads + Wait + Abort + Sync>(
     rt: &R,
     alloc: Global,
     row: &Row,
@@ -98,20 +101,20 @@ fn told_in_order<R: Threads + Wait + Abort + Sync>(
         missed: AtomicU64::new(0),
     };
     let ran = run_two(rt, alloc, &gate, [THREE, TWO], NO_FAULT)?;
-    is_told(rt, &row.name, ran.first.as_slice(), row.first.as_bytes());
-    is_told(rt, &row.name, ran.second.as_slice(), row.second.as_bytes());
+    replies_are(rt, &row.name, ran.first.as_slice(), row.first.as_bytes());
+    replies_are(rt, &row.name, ran.second.as_slice(), row.second.as_bytes());
     holds(rt, gate.missed.load(Ordering::SeqCst) == 0, row.name);
     first_did(rt, row.name, &ran.gathered, 5, &[3, 2]);
     Ok(())
 }
 
 /// The same of each of these rows.
-pub fn told_in_each_order<R: Threads + Wait + Abort + Sync>(
+pub fn replies_in_each_order<R: Threads + Wait + Abort + Sync>(
     rt: &R,
     alloc: Global,
 ) -> Result<(), Refusal> {
     for row in &ROWS {
-        told_in_order(rt, alloc, row)?;
+        replies_in_order(rt, alloc, row)?;
     }
     Ok(())
 }

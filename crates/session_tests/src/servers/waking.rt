@@ -4,7 +4,7 @@ ghost use Rattle.share_ledger.specs.Begun.{BeginEmpty};
 
 use super::samples::{THREE, first_did, serve_beside, waits_in_vain};
 use super::sessions::logged_first;
-use crate::told::holds;
+use crate::checks::holds;
 use json_scalar::Refusal;
 use server_core::doubles::Script;
 use server_core::{Gate, Gathered, SharedDocuments, Side, Signalled};
@@ -16,7 +16,7 @@ use std::sync::atomic::{AtomicU64, Ordering};
 use std::sync::{Mutex, Wait};
 use std::thread::Threads;
 
-/// Sleeps until it is woken, and then looks how much is logged at the first document.
+// Sleeps until it is woken, and then looks how much is logged at the first document.
 #[derive(Drop)]
 struct Woken<'a> {
     logged: &'a AtomicU64,
@@ -40,8 +40,9 @@ impl<M: Marker> Side<M> for Woken<'_> {
     }
 }
 
-/// Holds a session open until the side has seen what it logged: the line of this number is held back until it has seen each
-/// operation of the lines before it, of which the first one opened the document.
+// Holds a session open until the side has seen what it logged: the line of this number is held
+// back until it has seen each operation of the lines before it, of which the first one opened the
+// document.
 #[derive(Drop)]
 struct UntilSeen<'a> {
     logged: &'a AtomicU64,
@@ -58,7 +59,7 @@ impl Gate for UntilSeen<'_> {
     fn inside(&self, _session: u64, _document: usize) {}
 }
 
-/// What one session did that passes this gate, beside this side.
+// What one session did that passes this gate, beside this side.
 fn did_beside<M: Marker + Send + Sync, R: Threads + Wait + Sync>(
     rt: &R,
     alloc: Global,

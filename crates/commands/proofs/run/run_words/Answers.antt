@@ -10,23 +10,23 @@ good_unless false status bad other = absurd (other (bad refl))
 
 pub returns-in-Ok-clause-refused : goal.returns-in-Ok-clause-refused
 returns-in-Ok-clause-refused g c = λ two wanted asks.
-    let words = map (λ s. s.now) c.args.words.now in
+    let args = map (λ s. s.now) c.args.args.now in
     let is : asked_of c.in-Ok.matches ≡ wanted = ap wanted_of c.in-Ok.ensures.rows ∙ sym asks.named in
     let good : is_good (asked_of c.in-Ok.matches).name (asked_of c.in-Ok.matches).documents ≡ true = ap (λ (w : Wanted). is_good w.name w.documents) is ∙ asks.good in
-    let low = c.run_asked.ensures.good_names good in
+    let low = c.run_parsed.ensures.good_names good in
     absurd (omega (arith, two, low))
 
 pub returns-in-Ok-clause-served : goal.returns-in-Ok-clause-served
 returns-in-Ok-clause-served g c = λ zero.
-    let runs : is_run (map (λ s. s.now) c.args.words.now) ≡ true = search rules in
-    let good = good_unless (is_good (asked_of c.in-Ok.matches).name (asked_of c.in-Ok.matches).documents) c.run_asked.result c.run_asked.ensures.bad_name (λ two. absurd (omega (arith, zero, two))) in
-    (asked_of c.in-Ok.matches, record { run = runs; taken = c.in-Ok.ensures.taken; named = ap wanted_of c.in-Ok.ensures.rows; good = good }, c.run_asked.ensures.served zero)
+    let runs : is_run (map (λ s. s.now) c.args.args.now) ≡ true = search rules in
+    let good = good_unless (is_good (asked_of c.in-Ok.matches).name (asked_of c.in-Ok.matches).documents) c.run_parsed.result c.run_parsed.ensures.bad_name (λ two. absurd (omega (arith, zero, two))) in
+    (asked_of c.in-Ok.matches, record { run = runs; taken = c.in-Ok.ensures.taken; named = ap wanted_of c.in-Ok.ensures.rows; good = good }, c.run_parsed.ensures.served zero)
 
 pub returns-in-Ok-clause-failed : goal.returns-in-Ok-clause-failed
 returns-in-Ok-clause-failed g c = λ one.
-    let runs : is_run (map (λ s. s.now) c.args.words.now) ≡ true = search rules in
-    let good = good_unless (is_good (asked_of c.in-Ok.matches).name (asked_of c.in-Ok.matches).documents) c.run_asked.result c.run_asked.ensures.bad_name (λ two. absurd (omega (arith, one, two))) in
-    elim (c.run_asked.ensures.failed one) [
+    let runs : is_run (map (λ s. s.now) c.args.args.now) ≡ true = search rules in
+    let good = good_unless (is_good (asked_of c.in-Ok.matches).name (asked_of c.in-Ok.matches).documents) c.run_parsed.result c.run_parsed.ensures.bad_name (λ two. absurd (omega (arith, one, two))) in
+    elim (c.run_parsed.ensures.failed one) [
       | inl cut ↦ inl (asked_of c.in-Ok.matches, record { run = runs; taken = c.in-Ok.ensures.taken; named = ap wanted_of c.in-Ok.ensures.rows; good = good }, cut)
       | inr untouched ↦ inr untouched
     ]

@@ -4,12 +4,12 @@ use Rattle.copier.specs.Batches.AreAdded.{none, more}
 use Rattle.copier.proofs.batch.copy_each.Goals.{then-branch, else-branch}
 use Rattle.copier.proofs.batch.copy_each.Goals as goal
 
-pub loop-index-init : goal.loop-index-init
-loop-index-init g c = record { added = none; none = λ _. refl; epoch = refl; works = λ h. h; alone = refl }
+pub loop-doc_index-init : goal.loop-doc_index-init
+loop-doc_index-init g c = record { added = none; none = λ _. refl; epoch = refl; works = λ h. h; alone = refl }
 
-pub loop-index-preserved : goal.loop-index-preserved
-loop-index-preserved g c =
-    let before = c.loop-index.invariant in
+pub loop-doc_index-preserved : goal.loop-doc_index-preserved
+loop-doc_index-preserved g c =
+    let before = c.loop-doc_index.invariant in
     let here : Contains c.args.shared.now.names.items c.name_at-name.result.now = c.name_at-name.ensures.among in
     let works = c.in_ok-copy_some.ensures.works in
     elim c.if-branch.branch [

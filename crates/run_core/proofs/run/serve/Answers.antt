@@ -6,7 +6,7 @@ use Rattle.run_core.proofs.run.serve.Goals as goal
 pub returns-in-Ok-run_alone-clause-served : goal.returns-in-Ok-run_alone-clause-served
 returns-in-Ok-run_alone-clause-served g c = λ wanted named listed zero.
     let (opened, ends, seats) = c.in-Ok-run_alone.ensures.session in
-    let (no_read, no_write) = c.let_go.ensures.no_fault zero in (
+    let (no_read, no_write) = c.finish.ensures.no_fault zero in (
       c.in-Ok-run_alone.ended.why,
       no_read,
       no_write,
@@ -27,4 +27,4 @@ returns-in-Ok-run_alone-clause-failed g c = λ wanted named listed one.
           named c.in-Ok.ensures.names listed c.in-Ok.ensures.documents _ _ _ _ c.in-Ok-run_alone.ended.why _ ends,
     ) in
     inl (until_fault wanted c.in-Ok-run_alone.ended.why _ _ _ _ _ _ serves c.in-Ok-run_alone.ensures.read_fault c.in-Ok-run_alone.ensures.write_fault
-    (c.let_go.ensures.fault one))
+    (c.finish.ensures.fault one))

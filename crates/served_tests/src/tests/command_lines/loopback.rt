@@ -1,6 +1,6 @@
 //! Sessions over loopback, with both ends in one process, from a copy in memory.
+use super::super::checks::{bytes_are, holds};
 use super::super::deeds::adopted;
-use super::super::told::{holds, is_told};
 use log::Log;
 use served_copy::serve_over;
 use sqlite::Connection;
@@ -27,21 +27,21 @@ const TWO: &[u8] = br#"["open","d"]
 ["assign","d",[0,"b"],2]
 ["values","d",[0,"b"]]"#;
 
-/// What a server told: its status, what it wrote, and what each client was told.
+// What a server did: its status, what it wrote, and the replies to each client.
 #[derive(Drop)]
-struct Told {
+struct Outcome {
     status: u8,
     out: Vec<u8>,
     replies: Vec<String>,
 }
 
-impl Told {
-    /// Whether the server ended well, and wrote this.
+impl Outcome {
+    // Whether the server ended well, and wrote this.
     fn has(&self, totals: &[u8]) -> bool {
         self.status == 0 && *self.out.as_slice() == *totals
     }
 
-    /// What this client was told.
+    // The replies to this client.
     fn reply(&self, client: usize) -> &str {
         match self.replies.get(client) {
             Some(reply) => reply.as_str(),
@@ -50,7 +50,7 @@ impl Told {
     }
 }
 
-/// A client that has sent all its lines.
+// A client that has sent all its lines.
 fn client<R: Net<Listener = TcpListener, Stream = TcpStream>>(
     rt: &R,
     listener: &TcpListener,
@@ -62,7 +62,7 @@ fn client<R: Net<Listener = TcpListener, Stream = TcpStream>>(
     Ok(stream)
 }
 
-/// A client for each of these.
+// A client for each of these.
 fn clients<R: Net<Listener = TcpListener, Stream = TcpStream>>(
     rt: &R,
     alloc: Global,
@@ -76,7 +76,7 @@ fn clients<R: Net<Listener = TcpListener, Stream = TcpStream>>(
     Ok(all)
 }
 
-/// What each client is told.
+// The replies to each client.
 fn replies(alloc: Global, clients: Vec<TcpStream>) -> io::Result<Vec<String>> {
     let mut all = Vec::new(alloc);
     for stream in clients {
@@ -85,8 +85,8 @@ fn replies(alloc: Global, clients: Vec<TcpStream>) -> io::Result<Vec<String>> {
     Ok(all)
 }
 
-/// Serves so many connections over at most 16 documents and an empty copy: the status, and what was written. It promises nothing, so
-/// that the proof of its caller carries no clause of a server.
+// Serves so many connections over at most 16 documents and an empty copy: the status, and what was
+// written. It promises nothing, so that the proof of its caller carries no clause of a server.
 fn serve<R: Threads + Wait + Sync + Log + Clock>(
     rt: &R,
     alloc: Global,
@@ -108,25 +108,26 @@ fn serve<R: Threads + Wait + Sync + Log + Clock>(
     Ok((status, out))
 }
 
-/// What a server of these documents tells, over an empty copy and with a session for each client.
+// What a server of these documents does, over an empty copy and with a session for each client.
 fn served<R: Net<Listener = TcpListener, Stream = TcpStream> + Threads + Wait + Sync + Log + Clock>(
     rt: &R,
     alloc: Global,
     documents: &[&str],
     sent: &[&[u8]],
-) -> io::Result<Told> {
+) -> io::Result<Outcome> {
     let listener = TcpListener::bind(rt, "127.0.0.1:0")?;
     let clients = clients(rt, alloc, &listener, sent)?;
     let (status, out) = serve(rt, alloc, documents, &listener, sent.len())?;
-    Ok(Told {
+    Ok(Outcome {
         status,
         out,
         replies: replies(alloc, clients)?,
     })
 }
 
-/// A session of so many assignments was told of its seat, of each of them, and at the end this. The counters are not its own alone.
-fn is_told_all<R: Abort>(rt: &R, replies: &str, done: usize, last: &str) {
+// A session of so many assignments had replies of its seat, of each of them, and at the end this. The
+// counters are not its own alone.
+fn has_all_replies<R: Abort>(rt: &R, replies: &str, done: usize, last: &str) {
     let mut lines = replies.lines();
     let opened = lines.next().unwrap_or("");
     holds(rt, opened.starts_with("[\"opened\","), opened);
@@ -136,17 +137,17 @@ fn is_told_all<R: Abort>(rt: &R, replies: &str, done: usize, last: &str) {
         holds(rt, is, line);
     }
     let line = lines.next().unwrap_or("").as_bytes();
-    is_told(
+    bytes_are(
         rt,
         "a session over loopback",
         "the last line",
         line,
         last.as_bytes(),
     );
-    holds(rt, lines.next().is_none(), "nothing more is told");
+    holds(rt, lines.next().is_none(), "no further reply");
 }
 
-/// Which of two sessions has which of the two seats is open.
+// Which of two sessions has which of the two seats is open.
 fn have_both_seats(first: &str, second: &str) -> bool {
     if first.starts_with("[\"opened\",1]\n") {
         second.starts_with("[\"opened\",2]\n")
@@ -155,46 +156,46 @@ fn have_both_seats(first: &str, second: &str) -> bool {
     }
 }
 
-/// What two sessions at one document were told, three assignments and two.
-fn two_are_told<R: Abort>(rt: &R, told: &Told) {
-    holds(rt, told.has(b"[\"total\",\"d\",5,5,5]\n"), "the totals");
-    is_told_all(rt, told.reply(0), 3, "[\"values\",[3]]");
-    is_told_all(rt, told.reply(1), 2, "[\"values\",[2]]");
-    let seats = have_both_seats(told.reply(0), told.reply(1));
+// The replies to two sessions at one document, of three assignments and of two.
+fn two_have_replies<R: Abort>(rt: &R, outcome: &Outcome) {
+    holds(rt, outcome.has(b"[\"total\",\"d\",5,5,5]\n"), "the totals");
+    has_all_replies(rt, outcome.reply(0), 3, "[\"values\",[3]]");
+    has_all_replies(rt, outcome.reply(1), 2, "[\"values\",[2]]");
+    let seats = have_both_seats(outcome.reply(0), outcome.reply(1));
     holds(rt, seats, "each has a seat of its own");
 }
 
 #[test]
 fn two_sessions_over_loopback(rt: HostRuntime) -> Result<(), Fail> {
-    two_are_told(&rt, &served(&rt, rt.alloc(), &["d"], &[THREE, TWO])?);
+    two_have_replies(&rt, &served(&rt, rt.alloc(), &["d"], &[THREE, TWO])?);
     Ok(())
 }
 
-/// What a server tells a client whose line is too long.
+// The reply to a client whose line is too long.
 fn served_too_long<
     R: Net<Listener = TcpListener, Stream = TcpStream> + Threads + Wait + Sync + Log + Clock,
->(rt: &R, alloc: Global) -> io::Result<Told> {
+>(rt: &R, alloc: Global) -> io::Result<Outcome> {
     let line = vec![in alloc; b' '; 66_000]?;
     served(rt, alloc, &["d", "e"], &[line.as_slice()])
 }
 
-fn is_told_too_long<R: Abort>(rt: &R, told: &Told) {
+fn has_too_long_reply<R: Abort>(rt: &R, outcome: &Outcome) {
     let totals = b"[\"total\",\"d\",0,0,0]\n[\"total\",\"e\",0,0,0]\n";
-    holds(rt, told.has(totals), "the totals");
-    let reply = told.reply(0).as_bytes();
-    is_told(
+    holds(rt, outcome.has(totals), "the totals");
+    let reply = outcome.reply(0).as_bytes();
+    bytes_are(
         rt,
-        "line_too_long_is_told",
+        "line_too_long_has_its_reply",
         "replies",
         reply,
         b"[\"no\",3,\"line-too-long\"]\n",
     );
 }
 
-// A client whose line is too long, who has sent more than is read of it, and reads nothing until the server has ended, is told so,
-// and then that nothing more comes: its connection isn't reset.
+// A client whose line is too long, who has sent more than is read of it, and reads nothing until
+// the server has ended, gets its reply, and then the end of the stream: its connection isn't reset.
 #[test]
-fn line_too_long_is_told(rt: HostRuntime) -> Result<(), Fail> {
-    is_told_too_long(&rt, &served_too_long(&rt, rt.alloc())?);
+fn line_too_long_has_its_reply(rt: HostRuntime) -> Result<(), Fail> {
+    has_too_long_reply(&rt, &served_too_long(&rt, rt.alloc())?);
     Ok(())
 }

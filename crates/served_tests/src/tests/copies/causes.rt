@@ -9,7 +9,7 @@ const COPY: &str =
     INSERT INTO meta (name, value) VALUES ('format', 2), ('epoch', 0);
     INSERT INTO entry (doc, place, text) VALUES ('d', 1, '["op",[1,"p"],[],[[["m",0]],"k"],["assign",1]]')"#;
 
-/// What is said of the database of a connection.
+// What is said of the database of a connection.
 fn said_of<S: Alter + Drop>(alloc: Global, conn: Connection<S>) -> Result<String, AllocError> {
     match adopted(alloc, conn) {
         Ok(_) => format!(in alloc; "nothing"),
@@ -17,7 +17,7 @@ fn said_of<S: Alter + Drop>(alloc: Global, conn: Connection<S>) -> Result<String
     }
 }
 
-/// What is said of a copy with one entry of `d`, changed so.
+// What is said of a copy with one entry of `d`, changed so.
 fn said_after(alloc: Global, change: &str) -> Result<String, AllocError> {
     let mut conn = Connection::open_in_memory(alloc)?;
     if conn.execute_batch(COPY).is_err() || conn.execute_batch(change).is_err() {
@@ -26,7 +26,7 @@ fn said_after(alloc: Global, change: &str) -> Result<String, AllocError> {
     said_of(alloc, conn)
 }
 
-/// Changes, and what is then said.
+// Changes, and what is then said.
 static SAID: [(&str, &str); 12] = [
     ("UPDATE meta SET value = 3 WHERE name = 'epoch'", "nothing"),
     (

@@ -1,5 +1,6 @@
-//! The format from before there were additions: raised where it is opened, and refused with an addition in it.
-use super::steps::{Case, Log, REFUSED, Step, StepAnswer, all_told};
+//! The format from before there were additions: raised where it is opened, and refused with an
+//! addition in it.
+use super::steps::{Case, Log, REFUSED, Step, StepAnswer, all_answer};
 
 const TABLES: &str =
     "CREATE TABLE meta (name TEXT NOT NULL PRIMARY KEY, value INTEGER NOT NULL) STRICT;
@@ -69,5 +70,5 @@ static FORMATS: [Case<'static>; 2] = [
 
 #[test]
 fn formats(rt: HostRuntime) {
-    all_told(&rt, rt.alloc(), &FORMATS);
+    all_answer(&rt, rt.alloc(), &FORMATS);
 }

@@ -1,6 +1,6 @@
 //! What is kept, and what is refused and changes nothing.
 use super::samples;
-use super::steps::{Case, Log, REFUSED, Step, StepAnswer, all_told};
+use super::steps::{Case, Log, REFUSED, Step, StepAnswer, all_answer};
 
 static KEPT: [Case<'static>; 9] = [
     // The document is restored under another name, and its next change comes after what was copied.
@@ -83,7 +83,8 @@ static KEPT: [Case<'static>; 9] = [
             ),
         ],
     },
-    // The log has 1, 2, 3, 5. The first entry of the batch 3, 5 fits and the second does not: nothing of it stays, and 3 may come again.
+    // The log has 1, 2, 3, 5. The first entry of the batch 3, 5 fits and the second does not:
+    // nothing of it stays, and 3 may come again.
     Case {
         name: "refused_in_the_middle",
         log: Log::Numbered(5, 4),
@@ -172,5 +173,5 @@ static KEPT: [Case<'static>; 9] = [
 
 #[test]
 fn kept(rt: HostRuntime) {
-    all_told(&rt, rt.alloc(), &KEPT);
+    all_answer(&rt, rt.alloc(), &KEPT);
 }

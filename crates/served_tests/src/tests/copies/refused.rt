@@ -1,4 +1,5 @@
-//! Databases that are no copy, each made for what is wrong with it. A file that is refused has each byte that it had.
+//! Databases that are no copy, each made for what is wrong with it. A file that is refused has each
+//! byte that it had.
 use super::super::disks::Stopping;
 use super::steps::{REFUSED, Step, StepAnswer};
 use super::walks::{made, walked_over};
@@ -12,8 +13,8 @@ const COPY: &str =
     INSERT INTO meta (name, value) VALUES ('format', 2), ('epoch', 0);
     INSERT INTO entry (doc, place, text) VALUES ('d', 1, '["op",[1,"p"],[],[[["m",0]],"k"],["assign",1]]')"#;
 
-// What is told where a copy is opened in the files, if these then have each byte that they had.
-fn told_unchanged(alloc: Global, files: Files<Stopping>) -> Result<StepAnswer, AllocError> {
+// The answer if a copy is opened in the files, if these then have each byte that they had.
+fn answer_unchanged(alloc: Global, files: Files<Stopping>) -> Result<StepAnswer, AllocError> {
     let log = Vec::from_slice(alloc, files.log.inner().bytes())?;
     let db = Vec::from_slice(alloc, files.db.inner().bytes())?;
     let (files, other) = walked_over(alloc, files, &[], &[(Step::Open, StepAnswer::Done)]);
@@ -21,13 +22,13 @@ fn told_unchanged(alloc: Global, files: Files<Stopping>) -> Result<StepAnswer, A
         return Ok(StepAnswer::Other);
     }
     match other {
-        Some((_, told)) => Ok(told),
+        Some((_, answer)) => Ok(answer),
         None => Ok(StepAnswer::Done),
     }
 }
 
 // A copy with one entry of `d`, changed so.
-fn told_after(alloc: Global, change: &str) -> Result<StepAnswer, AllocError> {
+fn answer_after(alloc: Global, change: &str) -> Result<StepAnswer, AllocError> {
     match made(
         alloc,
         &[
@@ -35,29 +36,30 @@ fn told_after(alloc: Global, change: &str) -> Result<StepAnswer, AllocError> {
             (Step::Run(change), StepAnswer::Done),
         ],
     ) {
-        Some(files) => told_unchanged(alloc, files),
+        Some(files) => answer_unchanged(alloc, files),
         None => Ok(StepAnswer::NoSql),
     }
 }
 
-// The first change after which something else than this is told.
+// The first change after which the answer is another than this.
 fn first_other(
     alloc: Global,
     changes: &[&str],
     due: StepAnswer,
 ) -> Result<Option<(usize, StepAnswer)>, AllocError> {
     for (at, change) in changes.iter().enumerate() {
-        let told = told_after(alloc, change)?;
-        if told != due {
-            return Ok(Some((at, told)));
+        let answer = answer_after(alloc, change)?;
+        if answer != due {
+            return Ok(Some((at, answer)));
         }
     }
     Ok(None)
 }
 
-// Changes of a copy with one entry, each by itself, and what is told after each of them.
+// Changes of a copy with one entry, each by itself, and the answer after each of them.
 static CHANGES: [(&str, &[&str], StepAnswer); 13] = [
-    // Changes after which it is a copy still: what is refused below is refused for the one thing that differs.
+    // Changes after which it is a copy still: what is refused below is refused for the one thing
+    // that differs.
     (
         "sound_copies",
         &[
@@ -153,7 +155,7 @@ static CHANGES: [(&str, &[&str], StepAnswer); 13] = [
         ],
         REFUSED,
     ),
-    // An id that stands already; one that needs what is not there.
+    // An id that is there already; one that needs what is not there.
     (
         "an_operation_that_does_not_fit",
         &[

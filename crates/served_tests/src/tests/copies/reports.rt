@@ -1,4 +1,4 @@
-//! What is told of a copy that was opened, and of one that was not.
+//! What is reported of a copy that was opened, and of one that was not.
 use super::super::disks::{connected, new_files};
 use copy_report::{CheckFailure, check_opened};
 use line_feed::Writer;
@@ -8,11 +8,11 @@ use sqlite::{Alter, Connection, ErrorCode};
 use sqlite_disk::{Disk, Files};
 use std::alloc::{AllocError, Global};
 
-/// What a check answers.
+// What a check answers.
 type Answer = Result<(), CheckFailure>;
 
-/// What is answered, and what a sink has taken that fails after so many bytes.
-fn told<S: Foldable + Drop>(
+// What is answered, and what a sink has taken that fails after so many bytes.
+fn reported<S: Foldable + Drop>(
     alloc: Global,
     opened: Result<LogCopy<S>, Fault>,
     after: usize,
@@ -23,7 +23,7 @@ fn told<S: Foldable + Drop>(
     (answer, out)
 }
 
-/// The copy over a connection, after these statements.
+// The copy over a connection, after these statements.
 fn opened<S: Alter + Drop>(
     alloc: Global,
     mut conn: Connection<S>,
@@ -38,8 +38,8 @@ fn opened<S: Alter + Drop>(
     }
 }
 
-/// The same of a copy in these files.
-fn told_in<D: Disk + Drop>(
+// The same of a copy in these files.
+fn reported_in<D: Disk + Drop>(
     alloc: Global,
     files: Files<D>,
     sql: &str,
@@ -49,11 +49,12 @@ fn told_in<D: Disk + Drop>(
         return Err(AllocError);
     };
     let found = opened(alloc, conn, sql)?;
-    Ok(told(alloc, found, after))
+    Ok(reported(alloc, found, after))
 }
 
-/// Whether this is answered and this text told of a copy in memory after these statements, by a sink that fails after so many bytes.
-fn is_told(
+// Whether this is answered and this text reported of a copy in memory after these statements, by a
+// sink that fails after so many bytes.
+fn is_answered(
     alloc: Global,
     sql: &str,
     after: usize,
@@ -61,14 +62,14 @@ fn is_told(
     text: &[u8],
 ) -> Result<bool, AllocError> {
     let files = new_files(alloc, u64::MAX, u64::MAX);
-    let (answer, out) = told_in(alloc, files, sql, after)?;
+    let (answer, out) = reported_in(alloc, files, sql, after)?;
     Ok(answer == due && *out.as_slice() == *text)
 }
 
 const OTHER_TABLE: &str = "CREATE TABLE meta (name TEXT)";
 
-/// What each is, the statements, the bytes after which the sink fails, and what is told.
-static TOLD: [(&str, &str, usize, Answer, &[u8]); 4] = [
+// What each is, the statements, the bytes after which the sink fails, and what is reported.
+static REPORTS: [(&str, &str, usize, Answer, &[u8]); 4] = [
     ("an_empty_copy", "", usize::MAX, Ok(()), b"[\"epoch\",0]\n"),
     (
         "a_refused_copy",
@@ -77,7 +78,13 @@ static TOLD: [(&str, &str, usize, Answer, &[u8]); 4] = [
         Err(CheckFailure::Unopened),
         b"[\"no\",26,\"copy-refused\"]\n",
     ),
-    ("a_sink_that_fails", "", 5, Err(CheckFailure::Output), b"[\"epo"),
+    (
+        "a_sink_that_fails",
+        "",
+        5,
+        Err(CheckFailure::Output),
+        b"[\"epo",
+    ),
     (
         "a_sink_that_fails_within_the_refusal",
         OTHER_TABLE,
@@ -89,42 +96,47 @@ static TOLD: [(&str, &str, usize, Answer, &[u8]); 4] = [
 
 #[test]
 fn reports(rt: HostRuntime) {
-    for (case, sql, after, due, text) in &TOLD {
-        let is = is_told(rt.alloc(), sql, *after, *due, text);
+    for (case, sql, after, due, text) in &REPORTS {
+        let is = is_answered(rt.alloc(), sql, *after, *due, text);
         assert!(rt; matches!(is, Ok(true)), "{case}");
     }
 }
 
-/// What is answered of a copy whose database file stops after so many calls, and how many bytes are told.
-fn told_of_a_stop(alloc: Global, calls: u64) -> Option<(Answer, usize)> {
+// What is answered of a copy whose database file stops after so many calls, and how many bytes are
+// reported.
+fn reported_of_a_stop(alloc: Global, calls: u64) -> Option<(Answer, usize)> {
     let files = new_files(alloc, u64::MAX, calls);
-    match told_in(alloc, files, "", usize::MAX) {
+    match reported_in(alloc, files, "", usize::MAX) {
         Ok((answer, out)) => Some((answer, out.len())),
         Err(_) => None,
     }
 }
 
-/// A database file that stops while it is closed is told as a fault, and nothing else is told.
+// A database file that stops while it is closed is reported as a fault, and nothing else is.
 #[test]
 fn a_fault_of_closing(rt: HostRuntime) {
     let mut faults = 0u64;
     for calls in 0u64..40 {
-        match told_of_a_stop(rt.alloc(), calls) {
+        match reported_of_a_stop(rt.alloc(), calls) {
             Some((Err(CheckFailure::Unclosed(ErrorCode::SystemIoFailure)), 0)) => {
                 faults = faults.wrapping_add(1);
             }
-            Some((Ok(()), told)) => assert!(rt; told == 12 && faults > 2, "{calls}: {faults}"),
+            Some((Ok(()), reported)) => assert!(rt;
+                reported == 12 && faults > 2,
+                "{calls}: {faults}"
+            ),
             Some((Err(CheckFailure::Unopened), _)) | None => assert!(rt; faults == 0, "{calls}"),
             other => assert!(rt; false, "{calls}: {other:?}"),
         }
     }
 }
 
-/// Whether nothing is told where a copy could not be opened in the files, for another cause than a refusal.
+// Whether nothing is reported where a copy could not be opened in the files, for another cause than a
+// refusal.
 fn is_silent<S: Foldable + Drop>(alloc: Global, conn: Connection<S>) -> bool {
     drop(conn);
     let none: Result<LogCopy<S>, Fault> = Err(Fault::Store);
-    let (answer, out) = told(alloc, none, usize::MAX);
+    let (answer, out) = reported(alloc, none, usize::MAX);
     answer == Err(CheckFailure::Unopened) && out.is_empty()
 }
 

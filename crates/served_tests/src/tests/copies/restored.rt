@@ -7,7 +7,7 @@ use op_core::Operation;
 use replica_core::{Applied, Replica};
 use std::alloc::Global;
 
-/// The replica named srv-2 whose log is these entries.
+// The replica named srv-2 whose log is these entries.
 fn restored(alloc: Global, entries: &[Operation]) -> Result<Replica, Refusal> {
     let Some(name) = ReplicaName::read(b"srv-2") else {
         return Err(Refusal::BadRequest);

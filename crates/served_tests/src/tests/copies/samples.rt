@@ -54,7 +54,8 @@ fn text_of(alloc: Global, i: u64) -> Result<String, Refusal> {
     )?)
 }
 
-/// Operations of the replica p with the counters from 1 to n, but for the one left out (0 leaves out none). Each needs the one before it.
+/// Operations of the replica p with the counters from 1 to n, but for the one left out (0 leaves
+/// out none). Each needs the one before it.
 pub fn log_without(alloc: Global, n: u64, left_out: u64) -> Result<Vec<Operation>, Refusal> {
     let mut ops = Vec::new(alloc);
     for i in 1..=n {

@@ -1,5 +1,5 @@
-//! Steps over one database. Each call of the copy stands in a function of its own that promises nothing, so that the proof of a
-//! list of steps carries none of its clauses.
+//! Steps over one database. Each call of the copy is in a function of its own that promises
+//! nothing, so that the proof of a list of steps carries none of its clauses.
 use super::super::disks::new_files;
 use super::restored::{is_edited_after, is_restored};
 use super::samples;
@@ -29,7 +29,8 @@ pub enum Step<'a> {
     Check(&'a str),
     /// A replica is restored from the document, and its next change is this operation.
     Edit(&'a str, &'a str),
-    /// The document has as many entries as one of these numbers says, the first ones of the log, and a replica is restored from them.
+    /// The document has as many entries as one of these numbers says, the first ones of the log,
+    /// and a replica is restored from them.
     Restore(&'a str, usize, usize),
     /// The epoch is raised to one that is greater than this.
     UpFrom(u64),
@@ -43,7 +44,7 @@ pub enum Step<'a> {
     Ask(&'a str),
 }
 
-/// What a step tells.
+/// The answer to a step.
 #[derive(Clone, Copy, Debug, PartialEq, Eq)]
 pub enum StepAnswer {
     Done,
@@ -68,7 +69,7 @@ pub enum Log<'a> {
     Numbered(u64, u64),
 }
 
-/// Steps over one database, each with what it has to tell.
+/// Steps over one database, each with its expected answer.
 #[derive(Clone, Copy)]
 pub struct Case<'a> {
     pub name: &'a str,
@@ -78,7 +79,7 @@ pub struct Case<'a> {
 
 pub const REFUSED: StepAnswer = StepAnswer::Fault(Fault::Refused);
 
-/// A copy, a connection that is none, or a store that was closed.
+// A copy, a connection that is none, or a store that was closed.
 #[derive(Drop)]
 enum Held<S: Alter> {
     Copy(LogCopy<S>),
@@ -88,7 +89,7 @@ enum Held<S: Alter> {
 
 // ---- the calls of the copy
 
-fn told_number(answer: Result<u64, Fault>) -> StepAnswer {
+fn number_answer(answer: Result<u64, Fault>) -> StepAnswer {
     match answer {
         Ok(number) => StepAnswer::Number(number),
         Err(fault) => StepAnswer::Fault(fault),
@@ -96,11 +97,11 @@ fn told_number(answer: Result<u64, Fault>) -> StepAnswer {
 }
 
 fn up<S: Alter>(copy: &mut LogCopy<S>) -> StepAnswer {
-    told_number(copy.epoch_up())
+    number_answer(copy.epoch_up())
 }
 
 fn epoch<S: Alter>(copy: &LogCopy<S>) -> StepAnswer {
-    told_number(copy.epoch())
+    number_answer(copy.epoch())
 }
 
 fn add<S: Alter>(
@@ -118,17 +119,17 @@ fn add<S: Alter>(
 fn check<S: Alter>(alloc: Global, copy: &LogCopy<S>, due: &str) -> StepAnswer {
     let mut out = Vec::<u8>::new(alloc);
     let status = check_over(alloc, copy, &mut Writer::new(&mut out));
-    told_so(status == 0 && out.as_slice() == due.as_bytes())
+    done_if(status == 0 && out.as_slice() == due.as_bytes())
 }
 
 fn edit<S: Alter>(alloc: Global, copy: &LogCopy<S>, doc: &str, due: &str) -> StepAnswer {
     match copy.load(alloc, doc) {
-        Ok(loaded) => told_so(is_edited_after(alloc, loaded.as_slice(), due)),
+        Ok(loaded) => done_if(is_edited_after(alloc, loaded.as_slice(), due)),
         Err(fault) => StepAnswer::Fault(fault),
     }
 }
 
-fn told_so(is_so: bool) -> StepAnswer {
+fn done_if(is_so: bool) -> StepAnswer {
     if is_so {
         StepAnswer::Done
     } else {
@@ -144,7 +145,7 @@ fn restore<S: Alter>(
     due: (usize, usize),
 ) -> StepAnswer {
     match copy.load(alloc, doc) {
-        Ok(loaded) => told_so(
+        Ok(loaded) => done_if(
             is_due(loaded.as_slice(), log, due) && is_restored(alloc, loaded.as_slice()),
         ),
         Err(fault) => StepAnswer::Fault(fault),
@@ -153,12 +154,12 @@ fn restore<S: Alter>(
 
 fn is_due(loaded: &[Operation], log: &[Operation], due: (usize, usize)) -> bool {
     (loaded.len() == due.0 || loaded.len() == due.1)
-        && told_rows(loaded, log) == StepAnswer::Rows(loaded.len())
+        && rows_answer(loaded, log) == StepAnswer::Rows(loaded.len())
 }
 
 fn up_from<S: Alter>(copy: &mut LogCopy<S>, last: u64) -> StepAnswer {
     match copy.epoch_up() {
-        Ok(number) => told_so(number > last),
+        Ok(number) => done_if(number > last),
         Err(fault) => StepAnswer::Fault(fault),
     }
 }
@@ -172,12 +173,12 @@ fn docs<S: Alter>(copy: &LogCopy<S>) -> StepAnswer {
 
 fn load<S: Alter>(alloc: Global, copy: &LogCopy<S>, doc: &str, log: &[Operation]) -> StepAnswer {
     match copy.load(alloc, doc) {
-        Ok(loaded) => told_rows(loaded.as_slice(), log),
+        Ok(loaded) => rows_answer(loaded.as_slice(), log),
         Err(fault) => StepAnswer::Fault(fault),
     }
 }
 
-fn told_rows(loaded: &[Operation], log: &[Operation]) -> StepAnswer {
+fn rows_answer(loaded: &[Operation], log: &[Operation]) -> StepAnswer {
     if loaded.len() <= log.len() && loaded == &log[..loaded.len()] {
         StepAnswer::Rows(loaded.len())
     } else {
@@ -258,13 +259,13 @@ fn over_tables<S: Alter + Drop>(
     mut conn: Connection<S>,
     step: Step<'_>,
 ) -> (Held<S>, StepAnswer) {
-    let told = match step {
+    let answer = match step {
         Step::Open => return adopt(alloc, conn),
         Step::Run(sql) => run(&mut conn, sql),
         Step::Ask(sql) => ask(&mut conn, sql),
         _ => StepAnswer::NoCopy,
     };
-    (Held::Tables(conn), told)
+    (Held::Tables(conn), answer)
 }
 
 fn over_copy<S: Foldable + Drop>(
@@ -289,8 +290,8 @@ fn over_open<S: Alter + Drop>(
     log: &[Operation],
     step: Step<'_>,
 ) -> (Held<S>, StepAnswer) {
-    let told = asked(alloc, &mut copy, log, step);
-    (Held::Copy(copy), told)
+    let answer = asked(alloc, &mut copy, log, step);
+    (Held::Copy(copy), answer)
 }
 
 fn take<S: Foldable + Drop>(
@@ -306,18 +307,18 @@ fn take<S: Foldable + Drop>(
     }
 }
 
-// Where memory is wanting nothing has changed, so the step is taken once more.
+// If out of memory nothing has changed, so the step is taken once more.
 fn take_patiently<S: Foldable + Drop>(
     alloc: Global,
     held: Held<S>,
     log: &[Operation],
     step: Step<'_>,
 ) -> (Held<S>, StepAnswer) {
-    let (held, told) = take(alloc, held, log, step);
-    if told == StepAnswer::Fault(Fault::Memory) {
+    let (held, answer) = take(alloc, held, log, step);
+    if answer == StepAnswer::Fault(Fault::Memory) {
         return take(alloc, held, log, step);
     }
-    (held, told)
+    (held, answer)
 }
 
 fn given_back<S: Alter + Drop>(held: Held<S>) -> S {
@@ -328,8 +329,8 @@ fn given_back<S: Alter + Drop>(held: Held<S>) -> S {
     }
 }
 
-/// The place of the first step that tells something else than is due, and what it tells. Each is handed what the one before it left,
-/// and the last leaves the store.
+/// The index of the first step with another answer than expected, and that answer. Each gets what
+/// the one before it left, and the last leaves the store.
 pub fn walked<S: Foldable + Drop>(
     alloc: Global,
     conn: Connection<S>,
@@ -338,10 +339,10 @@ pub fn walked<S: Foldable + Drop>(
 ) -> (S, Option<(usize, StepAnswer)>) {
     let mut held = Held::Tables(conn);
     for (at, (step, due)) in steps.iter().enumerate() {
-        let (next, told) = take_patiently(alloc, held, log, *step);
+        let (next, answer) = take_patiently(alloc, held, log, *step);
         held = next;
-        if told != *due {
-            return (given_back(held), Some((at, told)));
+        if answer != *due {
+            return (given_back(held), Some((at, answer)));
         }
     }
     (given_back(held), None)
@@ -354,18 +355,21 @@ fn log_of(alloc: Global, log: Log<'_>) -> Result<Vec<Operation>, Refusal> {
     }
 }
 
-fn told_in_memory(alloc: Global, case: &Case<'_>) -> Result<Option<(usize, StepAnswer)>, Refusal> {
+fn walked_in_memory(
+    alloc: Global,
+    case: &Case<'_>,
+) -> Result<Option<(usize, StepAnswer)>, Refusal> {
     let log = log_of(alloc, case.log)?;
     let files = new_files(alloc, u64::MAX, u64::MAX);
     let (_, other) = walked_over(alloc, files, log.as_slice(), case.steps);
     Ok(other)
 }
 
-/// Over an empty database in files in memory each step of each of these cases tells what is due.
-pub fn all_told<R: Abort>(rt: &R, alloc: Global, cases: &[Case<'_>]) {
+/// Over an empty database in files in memory each step of each of these cases has its answer.
+pub fn all_answer<R: Abort>(rt: &R, alloc: Global, cases: &[Case<'_>]) {
     for case in cases {
         let name = case.name;
-        let other = told_in_memory(alloc, case);
+        let other = walked_in_memory(alloc, case);
         assert!(rt; matches!(other, Ok(None)), "{name}: {other:?}");
     }
 }

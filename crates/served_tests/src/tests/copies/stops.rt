@@ -1,4 +1,5 @@
-//! A stop at each call of the disks: afterwards all that was answered is there, and of a batch all or nothing.
+//! A stop at each call of the disks: afterwards all that was answered is there, and of a batch all
+//! or nothing.
 use super::super::disks::{Stopping, crash, new_files, without_log};
 use super::samples;
 use super::steps::{Step, StepAnswer};
@@ -11,7 +12,7 @@ use std::alloc::Global;
 use std::process::Abort;
 use std::test::Fail;
 
-// What stopped them is told as a fault of the store, and never as a refusal.
+// A stop is a fault of the store, and never a refusal.
 fn is_stop(other: Option<(usize, StepAnswer)>) -> bool {
     matches!(
         other,
@@ -19,7 +20,8 @@ fn is_stop(other: Option<(usize, StepAnswer)>) -> bool {
     )
 }
 
-// Whether these steps pass when the machine has come back, at one of so many tries, with the database file alone if it is said so.
+// Whether these steps pass when the machine has come back, at one of so many tries, with the
+// database file alone if it is said so.
 fn passes(
     alloc: Global,
     stopped: Files<Stopping>,
@@ -43,8 +45,9 @@ fn passes(
     false
 }
 
-// How many steps of the case were taken before disks stopped that stop after so many calls, if the steps that then have to pass do.
-// These are the first list where the first step was stopped, and the last list where none was.
+// How many steps of the case were taken before disks stopped that stop after so many calls, if the
+// steps that then have to pass do. These are the first list where the first step was stopped, and
+// the last list where none was.
 fn steps_taken(
     alloc: Global,
     log: &[Operation],
@@ -73,7 +76,8 @@ fn steps_taken(
     }
 }
 
-// After how many calls of one of the disks nothing is stopped, if what has to pass after each stop does.
+// After how many calls of one of the disks nothing is stopped, if what has to pass after each stop
+// does.
 fn calls_in_all(
     alloc: Global,
     log: &[Operation],
@@ -139,10 +143,11 @@ fn log_again(alloc: Global) -> Result<Vec<Operation>, Refusal> {
     }
 }
 
-// `tests/each-allocation served_tests tests::copies::stops::batches_with_memory_wanting` runs it once for each of its allocations,
-// with that one refused: in the steps, or in what has to pass after them, which then passes at the second try.
+// `tests/each-allocation served_tests tests::copies::stops::batches_out_of_memory` runs it
+// once for each of its allocations, with that one refused: in the steps, or in what has to pass
+// after them, which then passes at the second try.
 #[test]
-fn batches_with_memory_wanting(rt: HostRuntime) -> Result<(), Fail> {
+fn batches_out_of_memory(rt: HostRuntime) -> Result<(), Fail> {
     let log = log_again(rt.alloc())?;
     let both = (u64::MAX, u64::MAX);
     let taken = steps_taken(rt.alloc(), log.as_slice(), &STOPS[0], both, 2);
@@ -175,7 +180,8 @@ const FORMATS: &str = "SELECT count(*) FROM meta WHERE name = 'format' AND value
 
 const FORMAT: &str = "SELECT value FROM meta WHERE name = 'format'";
 
-// The rows stay byte for byte, in the old format or the new one, and in the new one where the copy was opened.
+// The rows stay byte for byte, in the old format or the new one, and in the new one where the copy
+// was opened.
 const AFTER_RAISE: [&[(Step<'static>, StepAnswer)]; 3] = [
     &[],
     &[
@@ -197,6 +203,41 @@ const AFTER_RAISE: [&[(Step<'static>, StepAnswer)]; 3] = [
         (Step::UpFrom(1), StepAnswer::Done),
     ],
 ];
+
+// An old copy with what the first start of the row restart_from_copy logs, in one transaction.
+const RAISE_RESTARTED: [(Step<'static>, StepAnswer); 2] = [
+    (
+        Step::Run(
+            r#"BEGIN;
+            CREATE TABLE meta (name TEXT NOT NULL PRIMARY KEY, value INTEGER NOT NULL) STRICT;
+            CREATE TABLE entry (doc TEXT NOT NULL, place INTEGER NOT NULL, text TEXT NOT NULL, PRIMARY KEY (doc, place)) STRICT;
+            INSERT INTO meta (name, value) VALUES ('format', 1), ('epoch', 1);
+            INSERT INTO entry (doc, place, text)
+            VALUES ('d', 1, '["op",[1,"srv-1"],[],[[["m",0]],"k"],["assign","v"]]');
+            COMMIT"#,
+        ),
+        StepAnswer::Done,
+    ),
+    (Step::Open, StepAnswer::Done),
+];
+
+// What its second start logs, in the second epoch.
+const RESTARTED: [(Step<'static>, StepAnswer); 5] = [
+    (Step::Open, StepAnswer::Done),
+    (
+        Step::Edit(
+            "d",
+            r#"["op",[2,"srv-2"],[["srv-1",1]],[[["m",0]],"k"],["assign",1]]"#,
+        ),
+        StepAnswer::Done,
+    ),
+    (Step::Up, StepAnswer::Number(2)),
+    (Step::Ask(FORMAT), StepAnswer::Number(2)),
+    (Step::Ask(ROWS), StepAnswer::Number(1)),
+];
+
+// It is restored from either format.
+const AFTER_RESTARTED: [&[(Step<'static>, StepAnswer)]; 3] = [&[], &RESTARTED, &RESTARTED];
 
 // Beside a further table.
 const BESIDE: [(Step<'static>, StepAnswer); 5] = [
@@ -246,7 +287,8 @@ const AFTER_BESIDE: [&[(Step<'static>, StepAnswer)]; 6] = [
     ],
 ];
 
-// As a server and a check take them: the log is copied into the database file once the epoch is raised, and at the end.
+// As a server and a check take them: the log is copied into the database file once the epoch is
+// raised, and at the end.
 const FOLDS: [(Step<'static>, StepAnswer); 7] = [
     (Step::Open, StepAnswer::Done),
     (Step::Up, StepAnswer::Number(1)),
@@ -289,8 +331,8 @@ const AFTER_FOLDS: [&[(Step<'static>, StepAnswer)]; 8] = [
     &ROWS_FROM_2,
 ];
 
-// Once it is copied the database file alone has the epoch, and the rows of that time. While it is copied that file is of two ages, of
-// which nothing is said here.
+// Once it is copied the database file alone has the epoch, and the rows of that time. While it is
+// copied that file is of two ages, of which nothing is said here.
 const ALONE_AFTER_FOLDS: [&[(Step<'static>, StepAnswer)]; 8] = [
     &[],
     &[],
@@ -337,6 +379,14 @@ static STOPS: [StopCase<'static>; 3] = [
     },
 ];
 
+static RESTART_STOPS: [StopCase<'static>; 1] = [StopCase {
+    name: "restarted_while_raised",
+    steps: &RAISE_RESTARTED,
+    after: &AFTER_RESTARTED,
+    is_alone: false,
+    least: (5, 1),
+}];
+
 // Those whose log is copied into the database file.
 static FOLD_STOPS: [StopCase<'static>; 2] = [
     StopCase {
@@ -374,6 +424,13 @@ fn stops(rt: HostRuntime) -> Result<(), Fail> {
         stopped(&rt, rt.alloc(), log.as_slice(), case);
     }
     Ok(())
+}
+
+#[test]
+fn restarts(rt: HostRuntime) {
+    for case in &RESTART_STOPS {
+        stopped(&rt, rt.alloc(), &[], case);
+    }
 }
 
 #[test]

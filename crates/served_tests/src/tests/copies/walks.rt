@@ -7,8 +7,8 @@ use sqlite::{Connection, FileStore};
 use sqlite_disk::{Disk, Files};
 use std::alloc::Global;
 
-// Takes the steps over a database in two files. This stands here once and over any disks, since each call that names a store in files is
-// dear to prove.
+// Takes the steps over a database in two files. This is here once and over any disks, since
+// each call that names a store in files is dear to prove.
 fn walked_in<D: Disk + Drop>(
     alloc: Global,
     conn: Connection<FileStore<D>>,

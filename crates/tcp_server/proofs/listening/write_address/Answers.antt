@@ -7,6 +7,6 @@ use Rattle.tcp_server.proofs.listening.write_address.Goals as goal
 
 pub returns : goal.returns
 returns g c =
-    let told : Appends (g.W.Write.contents c.args.out.now) (g.W.Write.contents c.write_all.new.self) (listening_line c.args.address) =
+    let written : Appends (g.W.Write.contents c.args.out.now) (g.W.Write.contents c.write_all.new.self) (listening_line c.args.address) =
     subst (λ bs. Appends (g.W.Write.contents c.args.out.now) (g.W.Write.contents c.write_all.new.self) bs) (c.as_bytes.ensures.value ∙ c.in_ok-line.ensures.ok) c.in_ok-write_all.ensures.bytes in
-    on_ok c.flush.result (record { address = c.args.address; told = Appends-kept _ _ _ _ told c.flush.ensures.bytes })
+    on_ok c.flush.result (record { address = c.args.address; written = Appends-kept _ _ _ _ written c.flush.ensures.bytes })

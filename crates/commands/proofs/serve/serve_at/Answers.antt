@@ -1,6 +1,0 @@
-use Rattle.commands.proofs.Closed.{serves_at}
-use Rattle.commands.proofs.serve.serve_at.Goals as goal
-
-pub returns-in-Some-clause-served : goal.returns-in-Some-clause-served
-returns-in-Some-clause-served g c = λ zero.
-    serves_at g.S.Store g.S.Foldable.holds_alone _ _ _ c.args.copy _ (g.W.Write.contents c.listen.new.out) _ c.in-Some.ensures (c.serve_on.ensures.served zero)

@@ -1,0 +1,17 @@
+//! What a copier reports while it runs.
+use copy_docs::KeptDoc;
+use log_copy::Fault;
+use op_core::Operation;
+use sqlite::ErrorCode;
+
+/// Is notified of what a copier does. The copier waits for each call, and holds no lock meanwhile.
+/// No clause says anything of it.
+pub trait CopyObserver {
+    /// Called after each batch, with the document as the file has it and the entries that were just
+    /// written.
+    fn added(&self, document: &KeptDoc, entries: &[Operation]);
+
+    /// Called once by a copier that an error ends, at once: sessions may still run. The code is the
+    /// database's, where it failed.
+    fn stopped(&self, why: &Fault, code: Option<ErrorCode>);
+}

@@ -1,0 +1,4 @@
+use Rattle.replica_tests.proofs.tests.out_of_memory.each_step.Given as goal
+
+abbrev pub ghosts-wants : goal.ghosts-wants
+ghosts-wants g a = record { name = a.blank; initial_log = λ _. a.replica.log }

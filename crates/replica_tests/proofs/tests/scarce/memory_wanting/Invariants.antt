@@ -1,4 +1,0 @@
-use Rattle.replica_tests.proofs.tests.scarce.memory_wanting.Given as goal
-
-abbrev pub ghosts-wants : goal.ghosts-wants
-ghosts-wants g a = record { name = a.blank; initial_log = λ _. a.replica.log }

@@ -1,0 +1,23 @@
+use Rattle.std.proofs.Common.{ℕ, List, [], ap, ◌+◌, ◌∙◌, length}
+use Rattle.std.proofs.lemmas.List.{length_push}
+use Rattle.std.specs.Borrow.{Bor}
+use Rattle.served_copy.proofs.Restored.{begins_here, one_restored}
+use Rattle.served_copy.proofs.restore.restore_all.Goals as goal
+
+pub restore_one-requires-clause-begun : goal.restore_one-requires-clause-begun
+restore_one-requires-clause-begun g c =
+    let none : Bor (List ℕ) = record { ref_ptr = (0, 0); now = [] } in
+    begins_here g.M.Marker.initial_log c.args.copy.now.docs c.args.names.now c.loop-name.ledger c.loop-name.name-index none c.requires.begun c.loop-name.invariant.next c.loop-name-test.true
+
+pub loop-name-preserved : goal.loop-name-preserved
+loop-name-preserved g c =
+    let at = c.loop-name in
+    let none : Bor (List ℕ) = record { ref_ptr = (0, 0); now = [] } in
+    let docs = at.docs.items in
+    let new = c.push_doc.new.docs.items in
+    let doc = c.in_ok-doc.doc in
+    let pushed = c.in_ok-push_doc.ensures.ok in record {
+      next = c.in_ok-doc.ensures.next ∙ ap (λ n. n + 1) at.invariant.next;
+      documents = one_restored c.args.replica.now c.args.copy.now.docs c.args.seats c.args.names.now at.name-index none docs new doc c.loop-name-test.true pushed c.in_ok-doc.ensures.made at.invariant.documents;
+      each = ap length pushed ∙ length_push docs doc ∙ ap (λ n. n + 1) at.invariant.each;
+    }

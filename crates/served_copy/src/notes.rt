@@ -1,0 +1,110 @@
+//! Notes on standard error about the stored log.
+use crate::failure::message_of_stop;
+use copier::CopyObserver;
+use copy_docs::{KeptDoc, find};
+use lamport_id::Id;
+use log::Log;
+use log_copy::{Fault, LogCopy};
+use op_core::Operation;
+use op_log::{MAX_OPERATIONS, MAX_REPLICAS};
+use server_notes::{Fill, note_nearly_full, note_restored, note_stopped};
+use sqlite::{Alter, ErrorCode};
+use std::time::Clock;
+
+// So many operations of those that a document may have.
+fn operations(count: usize) -> Fill {
+    Fill {
+        count,
+        limit: MAX_OPERATIONS,
+    }
+}
+
+// So many replicas of those whose operations a document may have.
+fn replicas(count: usize) -> Fill {
+    Fill {
+        count,
+        limit: MAX_REPLICAS,
+    }
+}
+
+// Warns where the document is nearly full.
+fn warn_if_full<R: Log + Clock>(rt: &R, name: &str, fill: Fill, counted: &str) {
+    if fill.is_nearly_full() {
+        note_nearly_full(rt, name, fill, counted);
+    }
+}
+
+// Warns where the document has become nearly full by as many more.
+fn warn_if_crossed<R: Log + Clock>(rt: &R, name: &str, fill: Fill, more: usize, counted: &str) {
+    let before = Fill {
+        count: fill.count.saturating_sub(more),
+        limit: fill.limit,
+    };
+    if !before.is_nearly_full() {
+        warn_if_full(rt, name, fill, counted);
+    }
+}
+
+// Notes a document that the file has. Without memory for its front the note is lost.
+fn note_document<R: Log + Clock>(rt: &R, document: &KeptDoc) {
+    let Ok(front) = document.front() else {
+        return;
+    };
+    let (logged, makers) = (operations(document.len()), replicas(front.len()));
+    note_restored(rt, document.name(), logged, makers);
+    warn_if_full(rt, document.name(), logged, "operations");
+    warn_if_full(rt, document.name(), makers, "replicas");
+}
+
+// Notes each of these documents as the file has it, in this order.
+pub(crate) fn note_documents<R: Log + Clock, S: Alter>(rt: &R, copy: &LogCopy<S>, names: &[&str]) {
+    let Ok(docs) = copy.docs() else {
+        return;
+    };
+    for name in names {
+        match find(docs, name) {
+            Some(at) => note_document(rt, &docs[at]),
+            None => note_restored(rt, name, operations(0), replicas(0)),
+        }
+    }
+}
+
+// Whether the operation is the first of its replica: each later one depends on the one before it.
+fn is_first(operation: &Operation) -> bool {
+    let first = Id {
+        counter: 1,
+        replica: operation.id().replica,
+    };
+    !operation.front().covers(first)
+}
+
+// Writes notes about the copying: documents that become nearly full, and why it stopped.
+#[derive(Drop)]
+pub(crate) struct CopyLogger<'a, R> {
+    pub(crate) rt: &'a R,
+}
+
+impl<R: Log + Clock> CopyObserver for CopyLogger<'_, R> {
+    fn added(&self, document: &KeptDoc, entries: &[Operation]) {
+        let logged = operations(document.len());
+        warn_if_crossed(
+            self.rt,
+            document.name(),
+            logged,
+            entries.len(),
+            "operations",
+        );
+        let makers = entries.iter().filter(|entry| is_first(entry)).count();
+        if makers == 0 {
+            return;
+        }
+        if let Ok(front) = document.front() {
+            let all = replicas(front.len());
+            warn_if_crossed(self.rt, document.name(), all, makers, "replicas");
+        }
+    }
+
+    fn stopped(&self, why: &Fault, code: Option<ErrorCode>) {
+        note_stopped(self.rt, &message_of_stop(why, code));
+    }
+}

@@ -1,0 +1,150 @@
+//! Restoring the documents of a server from the stored log.
+ghost use Rattle.std.specs.Prelude.{◌≡◌, ◌⊎◌, ◌-◌, ◌+◌, ◌≤◌, ◌++◌, ◌∷◌, [], true, length, map, IfOk, IfErr, OnOk, Err};
+ghost use Rattle.doc_rules.specs.Document.{new_document};
+ghost use Rattle.doc_ledger.specs.Numbers.{greatest_number};
+ghost use Rattle.copy_docs.specs.Docs.{log_of};
+ghost use Rattle.served_copy.specs.Restored.{entries_at, restored};
+
+use doc_ledger::Ledger;
+use json_scalar::Refusal;
+use lamport_id::ReplicaName;
+use line_proto::Name;
+use locked_doc::{LockedDoc, Shelf};
+use log_copy::{Fault, LogCopy};
+use server_core::{SharedDocuments, Signal};
+use share_ledger::Marker;
+use sqlite::Alter;
+use std::alloc::Global;
+
+/// Named documents before sessions share them. Contracts know each of them; once they are behind
+/// locks, they can't.
+#[derive(Drop)]
+pub struct RestoredDocuments<M: Marker> {
+    /// The names, in the order of the documents.
+    pub names: Vec<Name>,
+    /// The documents, as many as there are names.
+    pub docs: Vec<LockedDoc<M>>,
+    ghost as_many: { length names.items ≡ length docs.items },
+}
+
+// Clones of the names, in order. The one error is `NoMemory`.
+fn copy_names(alloc: Global, names: &[&str]) -> Result<Vec<Name>, Refusal>
+    ensures names { IfOk result (λ made. made.items ≡ map (λ s. s.now) names.now) }
+{
+    let mut made = Vec::new(alloc);
+    for name in names {
+        made.push(Name::new(alloc, name)?)?;
+    }
+    Ok(made)
+}
+
+// Restores the document of this name from the copy, with so many seats, for the replica of this
+// name.
+fn restore_one<M: Marker, S: Alter>(
+    alloc: Global,
+    ledger: &mut Ledger<M>,
+    copy: &LogCopy<S>,
+    replica: &ReplicaName,
+    name: &str,
+    seats: u16,
+) -> Result<LockedDoc<M>, Fault>
+    requires number { 1 ≤ greatest_number - ledger.old }
+    requires begun { log_of name.now copy.now.docs ≡ M.initial_log ledger.old }
+    ensures made { IfOk result (λ doc. doc.document ≡ new_document replica.now (log_of name.now copy.now.docs) seats) }
+    ensures next { IfOk result (λ doc. ledger.new ≡ ledger.old + 1) }
+    ensures never_refused { IfErr result (λ e. (e ≡ Fault.Store) ⊎ (e ≡ Fault.Memory)) }
+    ensures failed { result ≡ Err Fault.Store → copy.now.has_failed ≡ true }
+{
+    let entries = copy.load(alloc, name)?;
+    match ledger.restored(alloc, replica, entries.as_slice(), seats) {
+        Ok(doc) => Ok(doc),
+        // A copy holds only good logs, so this is out of memory.
+        Err(_) => Err(Fault::Memory),
+    }
+}
+
+// Pushes the document.
+fn push_doc<M: Marker>(docs: &mut Vec<LockedDoc<M>>, doc: LockedDoc<M>) -> Result<(), Fault>
+    ensures ok { OnOk result (docs.new.items ≡ docs.old.items ++ doc ∷ []) }
+    ensures err { IfErr result (λ e. e ≡ Fault.Memory) }
+{
+    match docs.push(doc) {
+        Ok(()) => Ok(()),
+        Err(_) => Err(Fault::Memory),
+    }
+}
+
+// Restores the documents of these names. They are the first of a ledger.
+fn restore_all<M: Marker, S: Alter>(
+    alloc: Global,
+    ledger: &mut Ledger<M>,
+    copy: &LogCopy<S>,
+    replica: &ReplicaName,
+    names: &[&str],
+    seats: u16,
+) -> Result<Vec<LockedDoc<M>>, Fault>
+    requires few { length names.now ≤ greatest_number }
+    requires first { ledger.old ≡ 0 }
+    requires begun { M.initial_log ≡ entries_at copy.now.docs (map (λ s. s.now) names.now) }
+    ensures documents { IfOk result (λ docs. map (λ d. d.document) docs.items
+        ≡ map (λ n. new_document replica.now (log_of n copy.now.docs) seats) (map (λ s. s.now) names.now)) }
+    ensures each { IfOk result (λ docs. length docs.items ≡ length names.now) }
+    ensures never_refused { IfErr result (λ e. (e ≡ Fault.Store) ⊎ (e ≡ Fault.Memory)) }
+    ensures failed { result ≡ Err Fault.Store → copy.now.has_failed ≡ true }
+{
+    let mut docs = Vec::new(alloc);
+    for name in names {
+        let doc = restore_one(alloc, ledger, copy, replica, name, seats)?;
+        push_doc(&mut docs, doc)?;
+    }
+    Ok(docs)
+}
+
+/// Restores the documents of these names from the copy, with so many seats each, for the replica of
+/// this name. Their entries belong to seat 0, and are noted as copied. They are the first documents
+/// of the ledger. The error is `Memory`, or `Store` after a database error; never `Refused`.
+pub fn restore_documents<M: Marker, S: Alter>(
+    alloc: Global,
+    ledger: &mut Ledger<M>,
+    copy: &LogCopy<S>,
+    replica: &ReplicaName,
+    names: &[&str],
+    seats: u16,
+) -> Result<RestoredDocuments<M>, Fault>
+    requires few { length names.now ≤ greatest_number }
+    requires first { ledger.old ≡ 0 }
+    requires begun { M.initial_log ≡ entries_at copy.now.docs (map (λ s. s.now) names.now) }
+    ensures names { IfOk result (λ made. made.names.items ≡ map (λ s. s.now) names.now) }
+    ensures documents { IfOk result (λ made. map (λ d. d.document) made.docs.items
+        ≡ restored replica.now copy.now.docs seats (map (λ s. s.now) names.now)) }
+    ensures never_refused { IfErr result (λ e. (e ≡ Fault.Store) ⊎ (e ≡ Fault.Memory)) }
+    ensures failed { result ≡ Err Fault.Store → copy.now.has_failed ≡ true }
+{
+    let Ok(made) = copy_names(alloc, names) else {
+        return Err(Fault::Memory);
+    };
+    let docs = restore_all(alloc, ledger, copy, replica, names, seats)?;
+    Ok(RestoredDocuments { names: made, docs })
+}
+
+/// Puts the documents behind locks, in order. The one error is `NoMemory`.
+pub fn share_documents<M: Marker>(
+    alloc: Global,
+    restored: RestoredDocuments<M>,
+) -> Result<SharedDocuments<M>, Refusal>
+    ensures names { IfOk result (λ shared. shared.names.items ≡ restored.names.items) }
+    ensures memory { IfErr result (λ cause. cause ≡ Refusal.NoMemory) }
+{
+    let RestoredDocuments { names, docs } = restored;
+    let mut shelf = Shelf::new(alloc);
+    for doc in docs {
+        if shelf.put(doc).is_err() {
+            return Err(Refusal::NoMemory);
+        }
+    }
+    Ok(SharedDocuments {
+        names,
+        shelf,
+        signal: Signal::new(),
+    })
+}

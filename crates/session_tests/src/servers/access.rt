@@ -1,0 +1,201 @@
+//! Documents as a session reaches them: each call takes one document's lock.
+ghost use Rattle.std.specs.Prelude.{◌≡◌, ◌<◌, length};
+ghost use Rattle.share_ledger.specs.Begun.{BeginEmpty};
+
+use super::samples::{did, shared_documents};
+use crate::checks::holds;
+use doc_words::{Command, Look, Place, Query, Reply, Steps};
+use json_scalar::{Refusal, Scalar, Val};
+use locked_doc::{LockedDoc, Seat, SeatEnd};
+use op_core::{Cursor, Key, Mutation, Path};
+use server_core::{OnShelf, OpenGate, SharedDocuments};
+use session_core::DocAccess;
+use share_ledger::{Blank, Marker};
+use std::alloc::Global;
+use std::marker::Brand;
+use std::process::Abort;
+use std::sync::{Mutex, Wait};
+
+// The whole document.
+fn whole(alloc: Global) -> Place {
+    let start = Cursor {
+        path: Path::new(alloc),
+        key: Key::Doc,
+    };
+    Place {
+        start,
+        steps: Steps::from(Vec::new(alloc)),
+    }
+}
+
+fn opens<M: Marker, R: Wait>(
+    rt: &R,
+    shared: &SharedDocuments<M>,
+    number: usize,
+) -> Result<Seat<M>, Refusal>
+    requires { number < length shared.now.names.items }
+{
+    let mut access = OnShelf {
+        rt,
+        shared,
+        gate: &OpenGate,
+        session: 1,
+    };
+    access.open(number)
+}
+
+// The reply to an assignment of 7 to the whole document.
+fn assigns<M: Marker, R: Wait>(
+    rt: &R,
+    alloc: Global,
+    shared: &SharedDocuments<M>,
+    number: usize,
+    seat: &mut Seat<M>,
+) -> Reply
+    requires { number < length shared.now.names.items }
+{
+    let mut access = OnShelf {
+        rt,
+        shared,
+        gate: &OpenGate,
+        session: 1,
+    };
+    let assignment = Mutation::Assign(Val::Scalar(Scalar::Int(7)));
+    let command = Command::Change(whole(alloc), assignment);
+    access.act(number, seat, command).into_reply()
+}
+
+// The reply to a query for the values of the whole document.
+fn reads<M: Marker, R: Wait>(
+    rt: &R,
+    alloc: Global,
+    shared: &SharedDocuments<M>,
+    number: usize,
+    seat: &mut Seat<M>,
+) -> Reply
+    requires { number < length shared.now.names.items }
+{
+    let mut access = OnShelf {
+        rt,
+        shared,
+        gate: &OpenGate,
+        session: 1,
+    };
+    let query = Query::Look(Look::Values, whole(alloc));
+    access.read(number, seat, query).into_reply()
+}
+
+fn is_refused(reply: &Reply, expected: Refusal) -> bool {
+    match reply {
+        Reply::Refused(refusal) => *refusal == expected,
+        _ => false,
+    }
+}
+
+fn is_seven(reply: &Reply) -> bool {
+    match reply {
+        Reply::Values(scalars) => match scalars.as_slice() {
+            [scalar] => *scalar == Scalar::Int(7),
+            _ => false,
+        },
+        _ => false,
+    }
+}
+
+fn is_first(reply: &Reply) -> bool {
+    match reply {
+        Reply::Applied { count, dropped, id } => (*count, *dropped, id.counter) == (1, 0, 1),
+        _ => false,
+    }
+}
+
+// What a seat assigns by one call it reads by the next. The other document turns it away.
+fn assigns_and_reads<M: Marker, R: Abort + Wait>(
+    rt: &R,
+    alloc: Global,
+    shared: &SharedDocuments<M>,
+    seat: &mut Seat<M>,
+)
+    requires { 1 < length shared.now.names.items }
+{
+    let elsewhere = assigns(rt, alloc, shared, 0, seat);
+    holds(rt, is_refused(&elsewhere, Refusal::NotOpen), "elsewhere");
+    let here = assigns(rt, alloc, shared, 1, seat);
+    holds(rt, is_first(&here), "here");
+    let values = reads(rt, alloc, shared, 1, seat);
+    holds(rt, is_seven(&values), "values");
+    let elsewhere = reads(rt, alloc, shared, 0, seat);
+    holds(
+        rt,
+        is_refused(&elsewhere, Refusal::NotOpen),
+        "read elsewhere",
+    );
+    let counts = (seat.number(), seat.account());
+    holds(rt, counts == (1, 1), "number and account");
+}
+
+// The ends of both seats of the first document, of which there is no third.
+fn both_of_first<M: Marker, R: Abort + Wait>(
+    rt: &R,
+    alloc: Global,
+    shared: &SharedDocuments<M>,
+) -> Result<Vec<SeatEnd<M>>, Refusal>
+    requires { 1 < length shared.now.names.items }
+{
+    let one = opens(rt, shared, 0)?;
+    let two = opens(rt, shared, 0)?;
+    let is_full = matches!(opens(rt, shared, 0), Err(Refusal::SeatsFull));
+    holds(rt, is_full, "no third seat");
+    Ok(vec![in alloc; one.end(), two.end()]?)
+}
+
+// The end of the one opened seat of the second document, which assigned and read.
+fn one_of_second<M: Marker, R: Abort + Wait>(
+    rt: &R,
+    alloc: Global,
+    shared: &SharedDocuments<M>,
+) -> Result<Vec<SeatEnd<M>>, Refusal>
+    requires { 1 < length shared.now.names.items }
+{
+    let mut seat = opens(rt, shared, 1)?;
+    assigns_and_reads(rt, alloc, shared, &mut seat);
+    Ok(vec![in alloc; seat.end()]?)
+}
+
+// Whether the ends of a document's seats add up to so many operations, these by each seat.
+fn adds_up<M: Marker>(
+    alloc: Global,
+    lock: Option<Mutex<LockedDoc<M>>>,
+    ends: Vec<SeatEnd<M>>,
+    all: u64,
+    shares: &[u64],
+) -> bool {
+    match lock {
+        Some(lock) => match lock.into_inner().gather(alloc, ends) {
+            Ok(totals) => did(&totals, all, shares),
+            Err(_) => false,
+        },
+        None => false,
+    }
+}
+
+// Two documents with two seats each: one has both opened and does nothing, one has one opened,
+// which assigns once.
+fn asks<M: Marker, R: Abort + Wait>(rt: &R, alloc: Global, blank: Blank) -> Result<(), Refusal>
+    requires blank { blank ≡ M.name }
+    requires begun { BeginEmpty M.initial_log }
+{
+    let shared = shared_documents::<M>(alloc, blank, &["a", "b"], 2)?;
+    let first = both_of_first(rt, alloc, &shared)?;
+    let second = one_of_second(rt, alloc, &shared)?;
+    let mut docs = shared.shelf.into_docs();
+    let is_second = adds_up(alloc, docs.pop(), second, 1, &[1]);
+    let is_first = adds_up(alloc, docs.pop(), first, 0, &[0, 0]);
+    holds(rt, is_first && is_second, "what the seats did");
+    Ok(())
+}
+
+/// Documents that are asked through their locks, and what their seats did.
+pub fn asks_through_the_lock<R: Abort + Wait>(rt: &R, alloc: Global) -> Result<(), Refusal> {
+    asks::<Brand, R>(rt, alloc, Blank::new())
+}
