@@ -1,5 +1,6 @@
 -- The rows of good documents, in order, are next one after another.
-use Rattle.std.proofs.Common.{◌≡◌, ◌≢◌, ◌+◌, ◌<◌, ◌^◌, ℕ, zero, suc, drop, get_or, Result, Ok, Err, IfErr, List, [], ◌∷◌, ◌++◌, length, map, true, false, ⊤, Contains, refl, sym, ap, subst, ◌∙◌, append-nil, append_assoc, arith, length-append, Ordering, Less, Equal, Greater}
+use Rattle.std.proofs.Common.{◌≡◌, ◌≢◌, ◌+◌, ◌<◌, ◌^◌, ℕ, zero, suc, drop, get_or, Result, Ok, Err, IfErr, List, [], ◌∷◌, ◌++◌, length, map, true, false, Contains, refl, sym, ap, subst, ◌∙◌, append-nil, append_assoc, arith, length-append, Ordering, Less, Equal, Greater}
+use Rattle.std.specs.Prelude.{⊤}
 use Rattle.std.specs.List.{AllByRecursion, list_any}
 use Rattle.std.specs.Ordering.{is_lt}
 use Rattle.std.specs.Str.{bytes_eq}

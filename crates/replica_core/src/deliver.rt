@@ -97,7 +97,7 @@ fn is_same_logged(log: &OpLog, op: &Operation) -> Option<bool>
 
 fn known_or_conflict(is_same: bool) -> Result<Delivered, Refusal>
     ensures { (r : Replica) →
-        Meets r (if is_same then expected.told Reply.Known else expected.no Refusal.IdConflict)
+        Meets r (if is_same then expected.replied Reply.Known else expected.no Refusal.IdConflict)
         (reply_of_delivered result) r }
 {
     if is_same {
@@ -141,7 +141,7 @@ fn is_same_held(held: &HoldBuffer, op: &Operation) -> Option<bool>
 
 fn held_or_conflict(log: &OpLog, op: &Operation, is_same: bool) -> Result<Delivered, Refusal>
     ensures { (r : Replica) →
-        Meets r (if is_same then expected.told (Reply.Held (missing op.now log.now.operations))
+        Meets r (if is_same then expected.replied (Reply.Held (missing op.now log.now.operations))
         else expected.no Refusal.IdConflict) (reply_of_delivered result) r }
 {
     if !is_same {
