@@ -1,10 +1,5 @@
 use Rattle.std.proofs.Common.{[]}
 use Rattle.replica_tests.proofs.tests.gathering.release_counts_for_releaser.Given as goal
 
-<<<<<<< ours
-abbrev pub ghosts-releases : goal.ghosts-releases
-ghosts-releases g a = record { name = a.blank; initial_log = λ _. [] }
-=======
 abbrev pub ghosts-second_seat_releases : goal.ghosts-second_seat_releases
-ghosts-second_seat_releases g a = record { name = a.blank; begun = λ _. [] }
->>>>>>> theirs
+ghosts-second_seat_releases g a = record { name = a.blank; initial_log = λ _. [] }

@@ -1,10 +1,5 @@
 use Rattle.std.proofs.Common.{[]}
 use Rattle.replica_tests.proofs.tests.released.buffer_release.Given as goal
 
-<<<<<<< ours
-abbrev pub ghosts-releases : goal.ghosts-releases
-ghosts-releases g a = record { name = a.blank; initial_log = λ _. [] }
-=======
 abbrev pub ghosts-delivers_in_reverse : goal.ghosts-delivers_in_reverse
-ghosts-delivers_in_reverse g a = record { name = a.blank; begun = λ _. [] }
->>>>>>> theirs
+ghosts-delivers_in_reverse g a = record { name = a.blank; initial_log = λ _. [] }
