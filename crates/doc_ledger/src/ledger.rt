@@ -43,8 +43,8 @@ fn with_counters<M: Marker>(
 ) -> Result<LockedDoc<M>, Refusal>
     requires { replica.log ≡ M.initial_log ledgers.number }
     ensures made { IfOk result (λ doc. (doc.number ≡ ledgers.number)
-        × (doc.document
-        ≡ document_of replica (replicate (length replica.log) 0) ledgers.seats 0 (length replica.log))) }
+        × (doc.document ≡ document_of replica (replicate (length replica.log) 0) ledgers.seats 0
+        (length replica.log))) }
     ensures memory { IfErr result (λ cause. cause ≡ Refusal.NoMemory) }
 {
     match LockedDoc::new(alloc, replica, ledgers) {

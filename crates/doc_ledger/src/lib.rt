@@ -1,4 +1,4 @@
-//! Documents of rising numbers, whose counters are in one table.
+//! Documents of rising numbers, whose counters stand in one table.
 #![tactic(auto)]
 
 mod ledger;

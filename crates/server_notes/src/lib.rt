@@ -26,7 +26,8 @@ pub fn note_made<R: Log + Clock>(rt: &R, path: &str) {
     note(rt, Level::Info, &format_args!("made a new file {path}"));
 }
 
-/// Notes that a start has folded what another run left in the write-ahead log of the file at this path.
+/// Notes that a start has folded what another run left in the write-ahead log of the file at this
+/// path.
 pub fn note_took_over<R: Log + Clock>(rt: &R, path: &str) {
     note(rt, Level::Info, &format_args!("took over {path}-wal"));
 }
@@ -74,7 +75,8 @@ pub fn note_nearly_full<R: Log + Clock>(rt: &R, document: &str, fill: Fill, coun
     note(rt, Level::Warn, &what);
 }
 
-/// Notes that a session begins: how many have begun, of how many, and from where its client connects.
+/// Notes that a session begins: how many have begun, of how many, and from where its client
+/// connects.
 pub fn note_begun<R: Log + Clock, A: Display>(rt: &R, begun: u64, sessions: u16, from: &A) {
     let what = format_args!("session {begun} of {sessions} begins, from {from}");
     note(rt, Level::Info, &what);

@@ -1,7 +1,7 @@
--- What the documents of a table begin with.
+-- The initial logs of the documents of a table.
 use Rattle.std.specs.Prelude.{◌≡◌, ℕ, List, []}
 use Rattle.op_core.specs.Op.{Op}
 
--- each with nothing
+-- each is empty
 abbrev pub BeginEmpty : (ℕ → List Op) → Type 0
-BeginEmpty begun = (number : ℕ) → begun number ≡ []
+BeginEmpty initial_log = (number : ℕ) → initial_log number ≡ []

@@ -4,7 +4,8 @@ ghost use Rattle.share_ledger.specs.Counters.{counted_to};
 use crate::halves::{Half, Rest};
 use std::marker::Model;
 
-/// How many calls were made in a line of calls, which no other counter has. It can't be copied, and it takes no bytes.
+/// How many calls were made in a line of calls, which no other counter has. It can't be copied, and
+/// it takes no bytes.
 #[derive(Drop)]
 pub struct Calls {
     rest: Rest,
@@ -21,8 +22,8 @@ impl Model for Calls {
     ghost invariant = { λ c. 0 < c.rest.next };
 }
 
-/// Which call of a line it was, from 1. A 0 is of no call. It can't be copied, it takes no bytes, and only
-/// `Calls::count` makes one of a call.
+/// Which call of a line it was, from 1. A 0 is of no call. It can't be copied, it takes no bytes,
+/// and only `Calls::count` makes one of a call.
 #[derive(Drop)]
 pub struct Stamp {
     half: Half,

@@ -5,13 +5,13 @@ ghost use Rattle.share_ledger.specs.Counters.{seat_counter, ledger_place, IsSame
 use crate::halves::{Half, Rest};
 use std::marker::{Brand, Model, PhantomData};
 
-/// Which table a counter is of. A type that is a marker ties the books of a program to its shares: `Book<M>`
-/// and `Share<M>` are of the one table that `M` names. It has no member at run time, and a caller that makes
-/// a table picks the name by `Brand`.
+/// Which table a counter is of. A type that is a marker ties the books of a program to its shares:
+/// `Book<M>` and `Share<M>` are of the one table that `M` names. It has no member at run time, and
+/// a caller that makes a table picks the name by `Brand`.
 pub trait Marker {
     ghost name: { ℕ };
 
-    /// With which operations the document of each number begins. No counter depends on it: the documents of
+    /// The initial log of the document of each number. No counter depends on it: the documents of
     /// the table do.
     ghost initial_log: { ℕ → List Op };
 }
@@ -38,8 +38,8 @@ impl Model for Blank {
     ghost invariant = { λ b. b.rest.next ≡ 0 };
 }
 
-/// The places that are not opened yet, in the order of `ledger_place`: by document number, then by seat.
-/// Contracts see it as the first place of which that is known. It takes no bytes.
+/// The places that are not opened yet, in the order of `ledger_place`: by document number, then by
+/// seat. Contracts see it as the first place of which that is known. It takes no bytes.
 #[derive(Drop)]
 pub struct Table<M: Marker> {
     rest: Rest,
@@ -56,7 +56,8 @@ impl<M: Marker> Model for Table<M> {
     ghost invariant = { λ t. t.rest.table ≡ M.name };
 }
 
-/// The half of a counter that a document keeps. It can't be copied, and its count changes by `credit` alone.
+/// The half of a counter that a document keeps. It can't be copied, and its count changes by
+/// `credit` alone.
 #[derive(Drop)]
 pub struct Book<M: Marker> {
     number: u16,
@@ -78,7 +79,8 @@ impl<M: Marker> Model for Book<M> {
         × (b.half.count ≡ b.count) };
 }
 
-/// The half of a counter that a seat keeps. It can't be copied, and its count changes by `Book::credit` alone.
+/// The half of a counter that a seat keeps. It can't be copied, and its count changes by
+/// `Book::credit` alone.
 #[derive(Drop)]
 pub struct Share<M: Marker> {
     number: u16,
@@ -120,8 +122,8 @@ impl Blank {
 }
 
 impl<M: Marker> Table<M> {
-    /// Two halves of one counter at 0, at the place of a document number and a seat, which comes after every
-    /// opened place. So no third half of a place is ever made. It takes no memory.
+    /// Two halves of one counter at 0, at the place of a document number and a seat, which comes
+    /// after every opened place. So no third half of a place is ever made. It takes no memory.
     pub fn open(&mut self, number: u16, seat: u16) -> (Book<M>, Share<M>)
         requires { self.old ≤ ledger_place number seat }
         ensures table { self.new ≡ ledger_place number seat + 1 }
@@ -170,8 +172,8 @@ impl<M: Marker> Book<M> {
         self.count
     }
 
-    /// Raises both halves of one counter by the amount; their sum stays below 2^64. It tells that they had
-    /// one count before.
+    /// Raises both halves of one counter by the amount; their sum stays below 2^64. It tells that
+    /// they had one count before.
     pub fn credit(&mut self, share: &mut Share<M>, amount: u64)
         requires place { IsSamePlace self.old share.old }
         requires fits { self.old.count + amount < 2 ^ 64 }
