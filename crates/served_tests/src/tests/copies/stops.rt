@@ -204,41 +204,6 @@ const AFTER_RAISE: [&[(Step<'static>, StepAnswer)]; 3] = [
     ],
 ];
 
-// An old copy with what the first start of the row restart_from_copy logs, in one transaction.
-const RAISE_RESTARTED: [(Step<'static>, StepAnswer); 2] = [
-    (
-        Step::Run(
-            r#"BEGIN;
-            CREATE TABLE meta (name TEXT NOT NULL PRIMARY KEY, value INTEGER NOT NULL) STRICT;
-            CREATE TABLE entry (doc TEXT NOT NULL, place INTEGER NOT NULL, text TEXT NOT NULL, PRIMARY KEY (doc, place)) STRICT;
-            INSERT INTO meta (name, value) VALUES ('format', 1), ('epoch', 1);
-            INSERT INTO entry (doc, place, text)
-            VALUES ('d', 1, '["op",[1,"srv-1"],[],[[["m",0]],"k"],["assign","v"]]');
-            COMMIT"#,
-        ),
-        StepAnswer::Done,
-    ),
-    (Step::Open, StepAnswer::Done),
-];
-
-// What its second start logs, in the second epoch.
-const RESTARTED: [(Step<'static>, StepAnswer); 5] = [
-    (Step::Open, StepAnswer::Done),
-    (
-        Step::Edit(
-            "d",
-            r#"["op",[2,"srv-2"],[["srv-1",1]],[[["m",0]],"k"],["assign",1]]"#,
-        ),
-        StepAnswer::Done,
-    ),
-    (Step::Up, StepAnswer::Number(2)),
-    (Step::Ask(FORMAT), StepAnswer::Number(2)),
-    (Step::Ask(ROWS), StepAnswer::Number(1)),
-];
-
-// It is restored from either format.
-const AFTER_RESTARTED: [&[(Step<'static>, StepAnswer)]; 3] = [&[], &RESTARTED, &RESTARTED];
-
 // Beside a further table.
 const BESIDE: [(Step<'static>, StepAnswer); 5] = [
     (
@@ -379,14 +344,6 @@ static STOPS: [StopCase<'static>; 3] = [
     },
 ];
 
-static RESTART_STOPS: [StopCase<'static>; 1] = [StopCase {
-    name: "restarted_while_raised",
-    steps: &RAISE_RESTARTED,
-    after: &AFTER_RESTARTED,
-    is_alone: false,
-    least: (5, 1),
-}];
-
 // Those whose log is copied into the database file.
 static FOLD_STOPS: [StopCase<'static>; 2] = [
     StopCase {
@@ -424,13 +381,6 @@ fn stops(rt: HostRuntime) -> Result<(), Fail> {
         stopped(&rt, rt.alloc(), log.as_slice(), case);
     }
     Ok(())
-}
-
-#[test]
-fn restarts(rt: HostRuntime) {
-    for case in &RESTART_STOPS {
-        stopped(&rt, rt.alloc(), &[], case);
-    }
 }
 
 #[test]
