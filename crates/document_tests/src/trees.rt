@@ -22,8 +22,6 @@ fn is_insertion(mutation: &Mutation) -> bool
 
 // Prepares and commits an operation, if it is no insertion.
 fn apply(tree: &mut Tree, op: &Operation) -> Result<(), Refusal> {
-    // what its id's clause says: that its shape is valid
-    let _id = op.id();
     if is_insertion(op.mutation()) {
         return Err(Refusal::BadOperation);
     }

@@ -11,7 +11,7 @@ mod faults;
 mod files;
 mod keeping_up;
 mod notes;
-mod serve;
+mod serving;
 mod starts;
 mod stops;
 mod watched;
