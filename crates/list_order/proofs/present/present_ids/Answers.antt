@@ -1,4 +1,4 @@
-use Rattle.std.proofs.Common.{◌≡◌, ◌<◌, ◌∙◌, ◌++◌, sym, ap, length, rules}
+use Rattle.std.proofs.Common.{◌<◌, ◌∙◌, ◌++◌, sym, ap, length, rules}
 use Rattle.list_order.specs.Slots.{slots_from}
 use Rattle.list_order.specs.Marks.{block_at, present_along}
 use Rattle.list_order.proofs.Counting.{from-zero, block_step}
