@@ -7,7 +7,7 @@ use Rattle.op_core.specs.declared.cursor.Key.TheVariants.{Doc, Element}
 use Rattle.op_core.specs.declared.cursor.Tagged.TheVariants.{Map as MapAt, List as ListAt}
 use Rattle.op_core.specs.Shape.{key_of, is_list, may_follow}
 use Rattle.crdt_rules.specs.Same.{key_eq}
-use Rattle.list_order.specs.Entries.{present_of}
+use Rattle.list_order.specs.Entries.{ids_of, present_of}
 use Rattle.list_order.proofs.Entries.{present_of-holding}
 use Rattle.doc_nodes.specs.declared.node.NodeNumber.{NodeNumber}
 use Rattle.doc_nodes.specs.declared.node.Node.{Node}
@@ -53,7 +53,12 @@ element_child nodes p n i e =
     ∙ ap (option_and_then (λ m. walk (child_of nodes) m (Element i ∷ []))) way.2
     ∙ one_step (child_of nodes n (Element i))
 
--- and its list shows whether it is present
+-- the list of a node shows which of its elements are present
+pub present_by_number : (nodes : List Node) → ListsShowPresence nodes → (n : NodeNumber)
+    → present_of (node_of nodes n).order.0 ≡ filter (λ i. is_node_present nodes (child_of nodes n (Element i))) (ids_of (node_of nodes n).order.0)
+present_by_number nodes right n = present_of-holding (λ i. is_node_present nodes (child_of nodes n (Element i))) (node_of nodes n).order.0 (λ i is c. right n i is c)
+
+-- and the list at a path does
 pub present_listed : (nodes : List Node) → ListsShowPresence nodes → (p : List Tagged) (n : NodeNumber) → list_node_at nodes p ≡ Some n
     → present_of (node_of nodes n).order.0 ≡ filter (λ i. is_node_present nodes (node_at nodes p (Element i))) ((facts_of nodes).order p)
 present_listed nodes right p n e =

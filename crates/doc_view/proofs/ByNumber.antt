@@ -1,5 +1,5 @@
 -- What is at a place, read by the number of its node.
-use Rattle.std.proofs.Common.{◌≡◌, ℕ, ℤ, ◌+◌, ◌<◌, List, [], ◌∷◌, ◌++◌, length, get_or, take, map, true, true≢false, inl, inr, Option, Some, None, is_some, Result, Ok, Err, refl, sym, ap, ◌∙◌, subst, Contains}
+use Rattle.std.proofs.Common.{◌≡◌, ℕ, ℤ, ◌+◌, ◌<◌, List, [], ◌∷◌, ◌++◌, length, get_or, take, map, filter, true, true≢false, inl, inr, Some, None, is_some, Result, Ok, Err, refl, sym, ap, ◌∙◌, subst, Contains}
 use Rattle.std.specs.Prelude.{option_and_then}
 use Rattle.std.proofs.lemmas.List.{map-append}
 use Rattle.serde_json.specs.Data.{Data}
@@ -16,6 +16,7 @@ use Rattle.doc_nodes.specs.declared.node.NodeNumber.{NodeNumber}
 use Rattle.doc_nodes.specs.Children.{number_at}
 use Rattle.doc_nodes.specs.KeyOrder.{IsInKeyOrder}
 use Rattle.doc_nodes.specs.Nodes.{node_of, child_of}
+use Rattle.doc_nodes.specs.ListPresence.{is_node_present}
 use Rattle.doc_nodes.proofs.ChildrenLaws.{number_at-own, number_at-Contains}
 use Rattle.crdt_rules.proofs.Tests.{same_found}
 use Rattle.doc_tree.specs.Nodes.{tree_facts, tree_number}
@@ -31,7 +32,8 @@ use Rattle.doc_view.specs.Showing.{EachElement, IsShown, IsMapShown, IsListShown
 use Rattle.doc_view.proofs.Entries.{are_all}
 use Rattle.list_laws.proofs.Reading.{take_read}
 use Rattle.doc_view.proofs.MapLaws.{those_append}
-use Rattle.doc_view.proofs.Presence.{AreRoles, present_role}
+use Rattle.doc_view.proofs.Presence.{AreRoles, present_role, tree_decides}
+use Rattle.doc_view.proofs.Lists.{those_filtered}
 use Rattle.doc_view.proofs.ShowLaws.{shown_from}
 
 -- where a place has no node it isn't present
@@ -64,12 +66,22 @@ module _ (tree : TreeValue) (p : List Tagged) (k : Key) (n : NodeNumber) (at : t
   pub terms_by_number : (terms : List (Id × ℤ)) → terms ≡ (node_of tree.0 n).counter.0 → IsAscending terms → AreTerms (tree_facts tree) p k terms
   terms_by_number terms is ascending = are_all terms ((tree_facts tree).counter p k) ascending (λ i. ap (λ l. get l i) is ∙ number_read tree.0 p k n at i)
 
-  pub order_by_number : (ids : List Id) → ids ≡ ids_of (node_of tree.0 n).order.0 → ids ≡ (tree_facts tree).order (into_list p k)
+  order_by_number : (ids : List Id) → ids ≡ ids_of (node_of tree.0 n).order.0 → ids ≡ (tree_facts tree).order (into_list p k)
   order_by_number ids is = is ∙ ids_read tree.0 (into_list p k) n (list-into tree.0 p k ∙ at)
 
   -- a child of the node has the place below
   pub element_number : (i : Id) → tree_number tree (into_list p k) (Element i) ≡ child_of tree.0 n (Element i)
   element_number i = number-into tree.0 p (tagged.List k) (Element i) refl ∙ ap (option_and_then (λ m. child_of tree.0 m (Element i))) at
+
+  -- what is kept of the node's present elements is what is present in the list
+  pub elements_by_number : (ids kept : List Id) → ids ≡ filter (λ i. is_node_present tree.0 (child_of tree.0 n (Element i))) (ids_of (node_of tree.0 n).order.0)
+      → AreThose (λ i. IsPresent (tree_facts tree) (into_list p k) (Element i)) ids kept → AreElements (tree_facts tree) p k kept
+  elements_by_number ids kept is those =
+      let all : List Id = ids_of (node_of tree.0 n).order.0 in
+      subst (λ (l : List Id). AreThose (λ i. IsPresent (tree_facts tree) (into_list p k) (Element i)) l kept) (order_by_number all refl)
+      (those_filtered (λ i. is_node_present tree.0 (child_of tree.0 n (Element i)))
+      (λ i e here. true≢false (sym ((tree_decides tree (into_list p k) (Element i)).1 here) ∙ ap (is_node_present tree.0) (element_number i) ∙ e))
+      all ids kept (sym is) those)
 
   module _ (children : List (Key × NodeNumber)) (these : children ≡ (node_of tree.0 n).children) where
     pub text_place : IsInKeyOrder children → (i : ℕ) (child : Key × NodeNumber) → i < length children → child ≡ get_or children i child

@@ -1,6 +1,5 @@
 -- A new tree has the facts of the empty log, and no present id.
-use Rattle.std.proofs.Common.{◌≡◌, List, [], Option, refl}
-use Rattle.doc_words.specs.Words.{Scalar}
+use Rattle.std.proofs.Common.{◌≡◌, [], refl}
 use Rattle.crdt_rules.specs.Context.{empty}
 use Rattle.crdt_rules.specs.Facts.{facts}
 use Rattle.doc_tree.specs.Nodes.{TreeValue}

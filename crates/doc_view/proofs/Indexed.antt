@@ -1,8 +1,8 @@
 -- Those elements of a list for which something holds.
-use Rattle.std.proofs.Common.{◌≡◌, List, [], ◌∷◌, filter, Bool, true, false, true≢false, if◌then◌else◌, Decides, ◌⊎◌, inl, inr, Option, Result, Err, refl, sym, ap}
+use Rattle.std.proofs.Common.{◌≡◌, List, [], ◌∷◌, filter, Bool, true, false, true≢false, if◌then◌else◌, Decides, ◌⊎◌, inl, inr, Result, Err, refl, sym, ap}
 use Rattle.std.specs.Prelude.{⊤}
 use Rattle.json_scalar.specs.Refusal.{and_then}
-use Rattle.doc_words.specs.Words.{Id, Scalar, Tagged, Refusal, Cursor}
+use Rattle.doc_words.specs.Words.{Id, Tagged, Refusal, Cursor}
 use Rattle.doc_words.specs.declared.place.Step.{Step}
 use Rattle.doc_words.specs.declared.place.Step.TheVariants.{Get, Index}
 use Rattle.op_core.specs.declared.cursor.Key.TheVariants.{Element}

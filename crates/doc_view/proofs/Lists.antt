@@ -1,5 +1,5 @@
 -- Elements of a list, one more at the end.
-use Rattle.std.proofs.Common.{◌≡◌, ℕ, zero, suc, arith, ◌+◌, ◌<◌, List, [], ◌∷◌, ◌++◌, length, get_or, take, drop, Bool, true, false, true≢false, Decides, if◌then◌else◌, refl, sym, ap, append-nil, subst, ◌∙◌}
+use Rattle.std.proofs.Common.{◌≡◌, ℕ, zero, suc, arith, ◌+◌, ◌<◌, List, [], ◌∷◌, ◌++◌, length, get_or, take, drop, filter, Bool, true, false, true≢false, Decides, if◌then◌else◌, refl, sym, ap, append-nil, subst, ◌∙◌}
 use Rattle.std.proofs.lemmas.List.{take-append-drop}
 use Rattle.list_laws.proofs.Reading.{take_read}
 use Rattle.doc_words.specs.Words.{Id, Scalar, Tagged}
@@ -25,6 +25,25 @@ module _ {X : Type 0} {holds : X → Type 0} where
   those_more x true d those = those_kept x those (d.0 refl)
   those_more {xs} {kept} x false d those =
       subst (λ l. AreThose holds (xs ++ x ∷ []) l) (sym (append-nil kept)) (those_left x those (λ h. absurd (true≢false (sym (d.1 h)))))
+
+-- those of what passes a test that each of them passes
+pub those_filtered : {X : Type 0} {holds : X → Type 0} (test : X → Bool) → ((x : X) → test x ≡ false → ¬ (holds x))
+    → (xs ys kept : List X) → filter test xs ≡ ys → AreThose holds ys kept → AreThose holds xs kept
+those_filtered {X} {holds} test fails [] ys kept is those = subst (λ (l : List X). AreThose holds l kept) (sym is) those
+those_filtered {X} {holds} test fails (x ∷ xs) ys kept is those = go (test x) refl ys kept is those (those_filtered test fails xs)
+  where
+    go : (b : Bool) → test x ≡ b → (ys kept : List X) → (if b then x ∷ filter test xs else filter test xs) ≡ ys → AreThose holds ys kept
+        → ((ys kept : List X) → filter test xs ≡ ys → AreThose holds ys kept → AreThose holds xs kept) → AreThose holds (x ∷ xs) kept
+    go true e ys kept is none ih = absurd (cc)
+    go true e ys kept is (keep {x = y} {xs = more} {kept = rest} h those) ih =
+        let same : x ≡ y = cc in
+        let left : filter test xs ≡ more = cc in
+        subst (λ (z : X). AreThose holds (x ∷ xs) (z ∷ rest)) same (keep (subst holds (sym same) h) (ih more rest left those))
+    go true e ys kept is (skip {x = y} {xs = more} h those) ih =
+        let same : x ≡ y = cc in
+        let left : filter test xs ≡ more = cc in
+        skip (λ here. h (subst holds same here)) (ih more kept left those)
+    go false e ys kept is those ih = skip (fails x e) (ih ys kept is those)
 
 -- the first of those left is the next one
 pub drop_gives : {X : Type 0} (xs : List X) (i : ℕ) (x : X) (rest : List X) → drop i xs ≡ x ∷ rest → (i < length xs) × (x ≡ get_or xs i x) × (drop (i + 1) xs ≡ rest)

@@ -2,7 +2,7 @@
 use Rattle.std.proofs.Common.{◌≡◌, List, [], ◌∷◌, true, false, true≢false, not, Bool, Decides, ◌⊎◌, inl, inr, Option, Some, None, refl, sym, ap, ◌∙◌, Contains, is_some}
 use Rattle.std.specs.Prelude.{◌↔◌, IsTrue}
 use Rattle.list_laws.proofs.Members.{Contains-nil, Contains-here}
-use Rattle.doc_words.specs.Words.{Id, Scalar, Key, Tagged}
+use Rattle.doc_words.specs.Words.{Id, Key, Tagged}
 use Rattle.crdt_rules.proofs.SameLaws.{id_decides}
 use Rattle.doc_words.specs.declared.role.Role.{Role}
 use Rattle.presence_set.specs.ById.{get, IsAscending}

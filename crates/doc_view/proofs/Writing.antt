@@ -1,12 +1,12 @@
 -- Parts of a shown element, written one behind another.
-use Rattle.std.proofs.Common.{◌≡◌, ℕ, List, [], ◌∷◌, ◌++◌, Option, Some, Result, Ok, Err, Bool, true, false, not, refl, sym, ap, ◌∙◌, append_assoc, append-nil}
+use Rattle.std.proofs.Common.{◌≡◌, ℕ, List, [], ◌∷◌, ◌++◌, Some, Result, Ok, Err, Bool, true, false, not, refl, sym, ap, ◌∙◌, append_assoc, append-nil}
 use Rattle.std.specs.Prelude.{⊤}
 use Rattle.json.specs.Token.{Token, begin_array, end_array}
 use Rattle.serde_json.specs.Data.{Data, string}
 use Rattle.op_core.specs.Wire.{list_data}
 use Rattle.json_text.specs.Tokens.{data_tokens, all_tokens, Puts}
 use Rattle.json_text.proofs.Texts.{all_tokens-append, data_tokens-list, put_list, put_pair}
-use Rattle.doc_words.specs.Words.{Refusal, Scalar, Key, Tagged}
+use Rattle.doc_words.specs.Words.{Refusal, Key, Tagged}
 use Rattle.doc_tree.specs.Nodes.{TreeValue}
 use Rattle.doc_nodes.specs.declared.node.NodeNumber.{NodeNumber}
 use Rattle.doc_tree.specs.Nodes.{tree_number}

@@ -1,7 +1,7 @@
 -- What the parts of a shown element mean, and their JSON.
-use Rattle.std.specs.Prelude.{◌≡◌, ℕ, List, [], ◌∷◌, map, Bool, true, false, Option}
+use Rattle.std.specs.Prelude.{◌≡◌, ℕ, List, [], ◌∷◌, map, Bool, true, false}
 use Rattle.serde_json.specs.Data.{Data, string}
-use Rattle.doc_words.specs.Words.{Id, Scalar, Key, Tagged}
+use Rattle.doc_words.specs.Words.{Id, Key, Tagged}
 use Rattle.op_core.specs.declared.cursor.Key.TheVariants.{Text, Element}
 use Rattle.op_core.specs.Wire.{list_data}
 use Rattle.doc_words.specs.declared.role.Role.{Role}

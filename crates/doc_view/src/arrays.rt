@@ -115,7 +115,7 @@ fn write_node_items(
     ensures { GivesUnlessMemory (λ _. WritesArray item_data (λ items. AtNode tree.now at
         (λ p k. AreItems (tree_facts tree.now) p k items)) text.old text.new) result }
 {
-    let ids = tree.elements_of(alloc, at)?;
+    let ids = tree.present_elements_of(alloc, at)?;
     text.begin_list()?;
     write_present_items(text, tree, at, ids.as_slice())?;
     text.end_list()

@@ -168,7 +168,7 @@ fn write_list(
 {
     let is_put = puts_list(tree.presence_of(at));
     begin_branch(text, "list", is_put)?;
-    let ids = tree.elements_of(alloc, at)?;
+    let ids = tree.present_elements_of(alloc, at)?;
     let is_begun = write_elements(alloc, text, tree, at, ids.as_slice(), is_put)?;
     end_branch(text, is_begun)
 }

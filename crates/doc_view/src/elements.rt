@@ -34,7 +34,7 @@ fn items_below(alloc: Global, tree: &Tree, at: NodeNumber) -> Result<Items, Refu
     ensures { GivesUnlessMemory (λ items. AtNode tree.now at
         (λ p k. AreItems (tree_facts tree.now) p k items)) result }
 {
-    let ids = tree.elements_of(alloc, at)?;
+    let ids = tree.present_elements_of(alloc, at)?;
     items_of(alloc, tree, at, ids.as_slice())
 }
 

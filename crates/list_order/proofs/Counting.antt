@@ -1,5 +1,5 @@
 -- Counts, blocks and presence along a path.
-use Rattle.std.proofs.Common.{◌≡◌, ◌≢◌, ◌<◌, ◌≤◌, ◌+◌, ◌-◌, ℕ, zero, suc, List, [], ◌∷◌, ◌++◌, length, Bool, true, false, ◌&&◌, nat_eq, nat_le, eqb, if◌then◌else◌, Option, Some, None, slice_get, refl, sym, ap, ◌∙◌, subst, true≢false, arith}
+use Rattle.std.proofs.Common.{◌≡◌, ◌≢◌, ◌<◌, ◌≤◌, ◌+◌, ◌-◌, ℕ, zero, suc, List, [], ◌∷◌, ◌++◌, length, Bool, true, false, ◌&&◌, nat_eq, nat_le, eqb, if◌then◌else◌, Option, Some, None, slice_get, drop, refl, sym, ap, ◌∙◌, subst, true≢false, arith}
 use Rattle.std.proofs.lemmas.Bool.{eqb-true, eq-eqb, leb-true, leb-false}
 use Rattle.std.proofs.lemmas.Bool.Decides.{nat_tests}
 use Rattle.std.proofs.Math.Dec.{leb-zero}
@@ -102,30 +102,27 @@ module _ (marks : List Mark) where
           no false = refl
 
   -- behind a block stand the present ids that are not counted in it
-  pub skip : (slots : List Slot) (k low : ℕ) (path : List SlotNumber) (i : ℕ) → k ≤ low → IsInBlockOrder low marks path
-      → slice_get (present_along slots marks path) (count_where (is_marked_in k) marks path + i) ≡ slice_get (present_along slots marks (from_block (suc k) marks path)) i
-  skip slots k low [] i le h = let e : 0 + i ≡ i = omega arith in ap (slice_get {X = Id} []) e
-  skip slots k low (n ∷ path) i le h = go (nat_le (suc k) (mark_at marks n).block) refl (skip slots k (mark_at marks n).block path i (omega (arith, h.0)) h.1)
+  skip : (slots : List Slot) (k low : ℕ) (path : List SlotNumber) → k ≤ low → IsInBlockOrder low marks path
+      → present_along slots marks (from_block (suc k) marks path) ≡ drop (count_where (is_marked_in k) marks path) (present_along slots marks path)
+  skip slots k low [] le h = refl
+  skip slots k low (n ∷ path) le h = go (nat_le (suc k) (mark_at marks n).block) refl (skip slots k (mark_at marks n).block path (omega (arith, h.0)) h.1)
     where
       go : (c : Bool) → nat_le (suc k) (mark_at marks n).block ≡ c
-          → slice_get (present_along slots marks path) (count_where (is_marked_in k) marks path + i) ≡ slice_get (present_along slots marks (from_block (suc k) marks path)) i
-          → slice_get (present_along slots marks (n ∷ path)) (count_where (is_marked_in k) marks (n ∷ path) + i)
-          ≡ slice_get (present_along slots marks (if c then n ∷ path else from_block (suc k) marks path)) i
+          → present_along slots marks (from_block (suc k) marks path) ≡ drop (count_where (is_marked_in k) marks path) (present_along slots marks path)
+          → present_along slots marks (if c then n ∷ path else from_block (suc k) marks path)
+          ≡ drop (count_where (is_marked_in k) marks (n ∷ path)) (present_along slots marks (n ∷ path))
       go true f ih =
           let none : count_where (is_marked_in k) marks (n ∷ path) ≡ 0 =
           count-later k (mark_at marks n).block (n ∷ path) (omega (arith, leb-true (suc k) (mark_at marks n).block f)) (omega arith, h.1) in
-          let e : count_where (is_marked_in k) marks (n ∷ path) + i ≡ i = omega (arith, none) in
-          ap (slice_get (present_along slots marks (n ∷ path))) e
+          ap (λ m. drop m (present_along slots marks (n ∷ path))) (sym none)
       go false f ih = by (mark_at marks n).is_present (nat_eq (mark_at marks n).block k) refl ih
         where
           by : (p : Bool) (e : Bool) → nat_eq (mark_at marks n).block k ≡ e
-              → slice_get (present_along slots marks path) (count_where (is_marked_in k) marks path + i) ≡ slice_get (present_along slots marks (from_block (suc k) marks path)) i
-              → slice_get (if p then (slot_at slots n).id ∷ present_along slots marks path else present_along slots marks path)
-              ((if p && e then suc (count_where (is_marked_in k) marks path) else count_where (is_marked_in k) marks path) + i)
-              ≡ slice_get (present_along slots marks (from_block (suc k) marks path)) i
-          by true true e ih =
-              let one : suc (count_where (is_marked_in k) marks path) + i ≡ suc (count_where (is_marked_in k) marks path + i) = omega arith in
-              rw one ih
+              → present_along slots marks (from_block (suc k) marks path) ≡ drop (count_where (is_marked_in k) marks path) (present_along slots marks path)
+              → present_along slots marks (from_block (suc k) marks path)
+              ≡ drop (if p && e then suc (count_where (is_marked_in k) marks path) else count_where (is_marked_in k) marks path)
+              (if p then (slot_at slots n).id ∷ present_along slots marks path else present_along slots marks path)
+          by true true e ih = ih
           by false e f ih = ih
           by true false e ih = absurd (true≢false (sym (eq-eqb (mark_at marks n).block k (omega (arith, h.0, leb-false (suc k) (mark_at marks n).block f))) ∙ e))
 
@@ -150,25 +147,23 @@ module _ (marks : List Mark) where
 
   -- from block to block
   module _ (slots : List Slot) (first : Option SlotNumber) (blocks : List MarkBlock) (walk : LinksEnd slots first) (counted : IsCounted marks blocks (slots_from slots first) None) where
-    pub block_step : (k : ℕ) (at : Option SlotNumber) (left : ℕ) → k < length blocks → slots_from slots at ≡ from_block k marks (slots_from slots first)
-        → (block_at blocks k).present ≤ left
+    pub block_step : (k : ℕ) (at : Option SlotNumber) → k < length blocks → slots_from slots at ≡ from_block k marks (slots_from slots first)
         → LinksEnd slots (block_at blocks k).end
         × (slots_from slots (block_at blocks k).end ≡ from_block (k + 1) marks (slots_from slots first))
-        × (slice_get (present_along slots marks (slots_from slots (block_at blocks k).end)) (left - (block_at blocks k).present) ≡ slice_get (present_along slots marks (slots_from slots at)) left)
-    block_step k at left within rest enough =
+        × (present_along slots marks (slots_from slots (block_at blocks k).end) ≡ drop (block_at blocks k).present (present_along slots marks (slots_from slots at)))
+    block_step k at within rest =
         let path : List SlotNumber = slots_from slots first in
         let on : IsPath slots (block_at blocks k).end (from_block (suc k) marks path) =
         subst (λ o. IsPath slots o (from_block (suc k) marks path)) (sym (counted.ends k within)) (path-from slots (suc k) first path walk.path) in
         let short : length (from_block (suc k) marks path) ≤ length slots = omega (arith, length-from (suc k) path, length-path_from slots first) in
         let there : slots_from slots (block_at blocks k).end ≡ from_block (suc k) marks path = path_from-path slots (block_at blocks k).end (from_block (suc k) marks path) on short in
         let count : count_where (is_marked_in k) marks (from_block k marks path) ≡ (block_at blocks k).present = count-from k path ∙ sym (counted.counted k within) in
-        let one : k + 1 ≡ suc k = omega arith in
-        let all : count_where (is_marked_in k) marks (from_block k marks path) + (left - (block_at blocks k).present) ≡ left = omega (arith, count) in (
+        let one : k + 1 ≡ suc k = omega arith in (
           walk_from_path slots (block_at blocks k).end (from_block (suc k) marks path) on short,
           there ∙ ap (λ m. from_block m marks path) (sym one),
-          ap (λ l. slice_get (present_along slots marks l) (left - (block_at blocks k).present)) (there ∙ sym (from-from k path))
-              ∙ sym (skip slots k k (from_block k marks path) (left - (block_at blocks k).present) (omega arith) (rising-from k 0 path counted.rising))
-              ∙ (λ i. slice_get (present_along slots marks (sym rest i)) (all i)),
+          ap (present_along slots marks) (there ∙ sym (from-from k path))
+              ∙ skip slots k k (from_block k marks path) (omega arith) (rising-from k 0 path counted.rising)
+              ∙ (λ i. drop (count i) (present_along slots marks (sym rest i))),
         )
 
 -- from slot to slot

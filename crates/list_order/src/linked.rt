@@ -13,6 +13,7 @@ use crate::marks::{
     Mark, MarkBlock, NextCuts, add_mark, blocks_wanted, first_cuts, mark_at, nth_along,
     recut_if_due, set_presence,
 };
+use crate::present::present_ids;
 use crate::slots::{
     Slot, SlotNumber, add_entry, behind, ids_from, last_passed, link, number_for, number_of,
     slot_at,
@@ -190,5 +191,18 @@ impl LinkedOrder {
         ensures { IfOk result (λ ids. ids.items ≡ ids_of self.now.0) }
     {
         ids_from(alloc, self.slots.as_slice(), self.first)
+    }
+    /// The present ids of the list in its order. The error is out of memory.
+    pub fn present_ids(&self, alloc: Global) -> Result<Vec<Id>, AllocError>
+        ensures { IfOk result (λ ids. ids.items ≡ present_of self.now.0) }
+    {
+        present_ids(
+            alloc,
+            self.slots.as_slice(),
+            self.first,
+            self.marks.as_slice(),
+            self.blocks.as_slice(),
+            self.present,
+        )
     }
 }

@@ -74,8 +74,8 @@ pub fn add_mark(marks: &mut Vec<Mark>, previous: Option<SlotNumber>)
     }
 }
 
-// 1 for what is so.
-fn bit(is: bool) -> usize
+/// 1 for what is so.
+pub fn bit(is: bool) -> usize
     ensures { result ≡ bit is }
 {
     if is { 1 } else { 0 }

@@ -1,10 +1,9 @@
-use Rattle.std.proofs.Common.{List, ◌∙◌, subst}
-use Rattle.doc_words.specs.Words.{Id}
+use Rattle.std.proofs.Common.{◌∙◌}
 use Rattle.doc_tree.specs.Nodes.{tree_facts}
-use Rattle.doc_rules.specs.Views.{AreItems, into_list}
+use Rattle.doc_rules.specs.Views.{AreItems}
 use Rattle.doc_rules.specs.Encoded.{item_data}
-use Rattle.doc_view.specs.ByNumber.{AtNode, HasItems}
-use Rattle.doc_view.proofs.ByNumber.{order_by_number}
+use Rattle.doc_view.specs.ByNumber.{AtNode}
+use Rattle.doc_view.proofs.ByNumber.{elements_by_number}
 use Rattle.doc_view.proofs.WritingAll.{array_written}
 use Rattle.doc_view.proofs.arrays.write_node_items.Goals as goal
 
@@ -17,6 +16,6 @@ returns c =
     array_written item_data (λ items. AtNode tree n (λ p k. AreItems f p k items)) c.args.text.now c.end_list.new.self c.begin_list.new.self c.write_present_items.new.text items
     c.end_list.result
     (λ p k at.
-    subst (λ (ids : List Id). HasItems f (into_list p k) ids items)
-    (order_by_number tree p k n at c.as_slice.result.now (c.as_slice.ensures.value ∙ c.in_ok-ids.ensures.ok)) (these p k at))
+    let h = these p k at in
+    (h.0, elements_by_number tree p k n at c.as_slice.result.now h.0 (c.as_slice.ensures.value ∙ c.in_ok-ids.ensures.ok) h.1, h.2))
     c.in_ok-begin_list.ensures is c.end_list.ensures

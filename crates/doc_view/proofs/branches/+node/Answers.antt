@@ -1,12 +1,11 @@
 use Rattle.std.proofs.Common.{List, ◌+◌, [], ◌∷◌, ◌++◌, map, codes, Decides, refl, ap, ◌∙◌, sym, subst, arith}
 use Rattle.json.specs.Token as token
-use Rattle.doc_words.specs.Words.{Id, Key}
+use Rattle.doc_words.specs.Words.{Key}
 use Rattle.op_core.specs.declared.cursor.Key.TheVariants.{Text, Element}
 use Rattle.doc_nodes.specs.declared.node.NodeNumber.{NodeNumber}
 use Rattle.doc_tree.specs.Nodes.{tree_facts}
-use Rattle.doc_rules.specs.Views.{IsPresent, into_list, into_map}
+use Rattle.doc_rules.specs.Views.{into_list, into_map}
 use Rattle.doc_rules.specs.Shown.{IsPut, value_entry_data, count_branch, total_shown}
-use Rattle.doc_rules.specs.Sorted.{AreThose}
 use Rattle.doc_rules.specs.Sorted.AreThose.{none, keep, skip}
 use Rattle.doc_view.specs.ByNumber.{AtNode}
 use Rattle.doc_view.specs.Members.{texts_at, texts_in}
@@ -15,7 +14,7 @@ use Rattle.doc_view.specs.TreeValues.{tree_values}
 use Rattle.json_text.specs.Tokens.{data_tokens}
 use Rattle.json_scalar.specs.declared.scalar.Val.TheVariants.{EmptyMap, EmptyList}
 use Rattle.doc_view.proofs.Lists.{drop_gives, drop_none}
-use Rattle.doc_view.proofs.ByNumber.{roles_by_number, entries_by_number, terms_by_number, order_by_number, text_place, has_child, shows_step, shown_by_number}
+use Rattle.doc_view.proofs.ByNumber.{roles_by_number, entries_by_number, terms_by_number, elements_by_number, text_place, has_child, shows_step, shown_by_number}
 use Rattle.doc_view.proofs.ShowLaws.{puts_map_decides, puts_list_decides, no_field, one_field, one_text, fields_step, map_from, list_from}
 use Rattle.doc_view.proofs.Writing.{no_parts, one_part, begun_more, more_parts, branch_put, named_put, element_put}
 use Rattle.doc_view.proofs.branches.+node.Goals as goal
@@ -140,8 +139,7 @@ write_list-returns t c =
     list_from tree p k put those.0 parts.0
     (subst (λ b. Decides b (IsPut (tree_facts tree) (tree_values tree) p k EmptyList)) (sym c.puts_list-is_put.ensures)
     (puts_list_decides tree p k c.presence_of.result (roles_by_number tree p k n at c.presence_of.result c.presence_of.ensures.value c.presence_of.ensures.ascending)))
-    (subst (λ (ids : List Id). AreThose (λ i. IsPresent (tree_facts tree) (into_list p k) (Element i)) ids those.0)
-    (order_by_number tree p k n at c.as_slice.result.now (c.as_slice.ensures.value ∙ c.in_ok-ids.ensures.ok)) those.1)
+    (elements_by_number tree p k n at c.as_slice.result.now those.0 (c.as_slice.ensures.value ∙ c.in_ok-ids.ensures.ok) those.1)
     those.2)
     c.in_ok-begin_branch.ensures parts.2 parts.3 c.end_branch.ensures
 

@@ -1,9 +1,8 @@
-use Rattle.std.proofs.Common.{List, subst, ◌∙◌}
-use Rattle.doc_words.specs.Words.{Id}
+use Rattle.std.proofs.Common.{◌∙◌}
 use Rattle.doc_tree.specs.Nodes.{tree_facts}
 use Rattle.doc_rules.specs.Views.{AreItems, into_list}
 use Rattle.doc_view.specs.ByNumber.{AtNode, HasItems}
-use Rattle.doc_view.proofs.ByNumber.{order_by_number}
+use Rattle.doc_view.proofs.ByNumber.{elements_by_number}
 use Rattle.doc_view.proofs.Reading.{gives}
 use Rattle.doc_view.proofs.elements.items_below.Goals as goal
 
@@ -14,7 +13,6 @@ returns c =
     let ids = c.as_slice.result.now in
     gives (λ items. AtNode tree c.args.at (λ p k. HasItems f (into_list p k) ids items)) (λ items. AtNode tree c.args.at (λ p k. AreItems f p k items)) c.items_of.result
     (λ items those p k at.
-    subst (λ (is : List Id). HasItems f (into_list p k) is items)
-    (order_by_number tree p k c.args.at at ids (c.as_slice.ensures.value ∙ c.in_ok-ids.ensures.ok))
-    (those p k at))
+    let h = those p k at in
+    (h.0, elements_by_number tree p k c.args.at at ids h.0 (c.as_slice.ensures.value ∙ c.in_ok-ids.ensures.ok) h.1, h.2))
     c.items_of.ensures

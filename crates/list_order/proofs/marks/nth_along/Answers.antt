@@ -1,6 +1,8 @@
-use Rattle.std.proofs.Common.{◌<◌, ◌∙◌, sym, refl, length, rules, arith}
+use Rattle.std.proofs.Common.{◌≡◌, ◌<◌, ◌+◌, ◌-◌, ◌∙◌, sym, ap, refl, length, slice_get, rules, arith}
 use Rattle.list_order.specs.Slots.{slots_from}
+use Rattle.list_order.specs.Marks.{block_at, present_along}
 use Rattle.list_order.proofs.Counting.{from-zero, block_step}
+use Rattle.list_order.proofs.Taking.{slice_get-drop}
 use Rattle.list_order.proofs.marks.nth_along.Goals as goal
 
 pub loop-block-init : goal.loop-block-init
@@ -12,6 +14,19 @@ loop-block-init c = record {
 
 pub loop-block-preserved : goal.loop-block-preserved
 loop-block-preserved c =
-    let within : c.loop-block.block-index < length c.args.blocks.now = search rules in
-    let s = block_step c.args.marks.now c.args.slots.now c.args.first c.args.blocks.now c.requires.walk c.requires.counted c.loop-block.block-index c.loop-block.at c.loop-block.left within c.loop-block.invariant.rest (omega arith) in
-    record { walk = s.0; rest = s.1; same = s.2 ∙ c.loop-block.invariant.same }
+    let slots = c.args.slots.now in
+    let marks = c.args.marks.now in
+    let k = c.loop-block.block-index in
+    let present = (block_at c.args.blocks.now k).present in
+    let within : k < length c.args.blocks.now = search rules in
+    let s = block_step marks slots c.args.first c.args.blocks.now c.requires.walk c.requires.counted k c.loop-block.at within c.loop-block.invariant.rest in
+    let all : present + (c.loop-block.left - present) ≡ c.loop-block.left = omega arith in
+    record {
+      walk = s.0;
+      rest = s.1;
+      same =
+          ap (λ l. slice_get l (c.loop-block.left - present)) s.2
+          ∙ slice_get-drop (present_along slots marks (slots_from slots c.loop-block.at)) present (c.loop-block.left - present)
+          ∙ ap (slice_get (present_along slots marks (slots_from slots c.loop-block.at))) all
+          ∙ c.loop-block.invariant.same;
+    }
