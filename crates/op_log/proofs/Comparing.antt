@@ -42,9 +42,6 @@ skip (e ∷ front) n others other =
     (λ i. (((names_differ n.0 e.0 (other e (Contains-here front refl)) i && nat_le e.1 n.1) || covers others (id_of e)) && is_le front (n ∷ others)))
     ∙ ap (λ b. covers others (id_of e) && b) (skip front n others (λ f c. other f (Contains-there e front c)))
 
-pub le_none : (e : List ℕ × ℕ) (rest : List (List ℕ × ℕ)) → is_le (e ∷ rest) [] ≡ false
-le_none e rest = refl
-
 pub le_less : (e : List ℕ × ℕ) (rest : List (List ℕ × ℕ)) (n : List ℕ × ℕ) (others : List (List ℕ × ℕ)) → is_ascending (n ∷ others) ≡ true → name_cmp e.0 n.0 ≡ Less
     → is_le (e ∷ rest) (n ∷ others) ≡ false
 le_less e rest n others ascends less =

@@ -179,11 +179,12 @@ pub before_stands : {log : List Op} {links : List Link} → AreLinks log links �
 before_stands {log} {links} are name k d at = (link_at are name k d at).before
 
 -- where the link of a place leads to no operation with the counter, its own is the first
-pub first_at : {log : List Op} {links : List Link} → AreLinks log links → IsGood log → (name : List ℕ) (counter k : ℕ) (d : Link) → (here : HasOpAt log name k)
+pub first_at : {log : List Op} {links : List Link} → AreLinks log links → IsGood log → (name : List ℕ) (from counter k : ℕ) (d : Link) → (here : HasOpAt log name k)
     → counter ≤ here.op.id.counter
-    → ((get_or links k d).before < k → (op : Op) → slice_get log (get_or links k d).before ≡ Some op → op.id.counter < counter) → IsFirstFrom log name counter k
-first_at {log} {links} are good name counter k d here reaches short =
-    first_here log good name counter k (get_or links k d) (link_at are name k d here) here reaches short
+    → ((get_or links k d).before < k → from ≤ (get_or links k d).before → (op : Op) → slice_get log (get_or links k d).before ≡ Some op → op.id.counter < counter)
+    → IsFirstFrom log name from counter k
+first_at {log} {links} are good name from counter k d here reaches short =
+    first_here log good name from counter k (get_or links k d) (link_at are name k d here) here reaches short
 
 pub none_of_replica : {log : List Op} {lasts : List (List ℕ × ℕ)} → AreLasts log lasts → (i : Id) → entry_of lasts i.replica ≡ None → find_id log i ≡ None
 none_of_replica {log} are i none = find_id-none log i (λ o c e. let at = placed log i c e in are.none i.replica none at.0 at.1)

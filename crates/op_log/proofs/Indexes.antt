@@ -106,7 +106,7 @@ module _ (log : List Op) (good : IsGood log) (i : Id) where
       omega arith)
 
   -- the first from its counter on is it, if it has the counter
-  pub first_found : (k : ℕ) → IsFirstFrom log i.replica i.counter k → (op : Op) → slice_get log k ≡ Some op → op.id.counter ≡ i.counter → find_id log i ≡ Some op
+  pub first_found : (k : ℕ) → IsFirstFrom log i.replica 0 i.counter k → (op : Op) → slice_get log k ≡ Some op → op.id.counter ≡ i.counter → find_id log i ≡ Some op
   first_found k first op there equal =
       let at = first.here in
       let same : at.op ≡ op = some_same (sym at.there ∙ there) in
@@ -114,14 +114,14 @@ module _ (log : List Op) (good : IsGood log) (i : Id) where
       let is : op.id ≡ i = λ j. record { counter = equal j; replica = made j } in
       find_id-Contains log i (ids_once log good) (Contains-from_slice_get log k _ there) is
 
-  pub first_other : (k : ℕ) → IsFirstFrom log i.replica i.counter k → ((op : Op) → slice_get log k ≡ Some op → op.id.counter ≢ i.counter) → find_id log i ≡ None
+  pub first_other : (k : ℕ) → IsFirstFrom log i.replica 0 i.counter k → ((op : Op) → slice_get log k ≡ Some op → op.id.counter ≢ i.counter) → find_id log i ≡ None
   first_other k first other =
       find_id-none log i
       (λ o c e.
       let at = placed log i c e in
       let equal : (at.1).op.id.counter ≡ i.counter = at.2 in
       elim (cases_lt at.0 k) [
-        | inl before ↦ let less : (at.1).op.id.counter < i.counter = first.first at.0 at.1 before in omega arith
+        | inl before ↦ let less : (at.1).op.id.counter < i.counter = first.first at.0 at.1 (omega arith) before in omega arith
         | inr behind ↦
             let reaches : i.counter ≤ (first.here).op.id.counter = first.reaches in
             let up_to : (first.here).op.id.counter ≤ (at.1).op.id.counter = rises_up_to log good i.replica k at.0 first.here at.1 behind in
@@ -130,15 +130,15 @@ module _ (log : List Op) (good : IsGood log) (i : Id) where
       ])
 
 -- where the one before it does not reach the counter, an operation is the first that does
-pub first_here : (log : List Op) → IsGood log → (name : List ℕ) (counter k : ℕ) (link : Link) → IsLink log name k link → (here : HasOpAt log name k) → counter ≤ here.op.id.counter
-    → (link.before < k → (op : Op) → slice_get log link.before ≡ Some op → op.id.counter < counter) → IsFirstFrom log name counter k
-first_here log good name counter k link is here reaches short = record {
+pub first_here : (log : List Op) → IsGood log → (name : List ℕ) (from counter k : ℕ) (link : Link) → IsLink log name k link → (here : HasOpAt log name k) → counter ≤ here.op.id.counter
+    → (link.before < k → from ≤ link.before → (op : Op) → slice_get log link.before ≡ Some op → op.id.counter < counter) → IsFirstFrom log name from counter k
+first_here log good name from counter k link is here reaches short = record {
   here = here;
   reaches = reaches;
-  first = λ j at below.
+  first = λ j at behind below.
       let next = is.next j at below in
       let up_to : at.op.id.counter ≤ (is.before).op.id.counter = rises_up_to log good name j link.before at is.before next.0 in
-      let less : (is.before).op.id.counter < counter = short next.1 (is.before).op (is.before).there in
+      let less : (is.before).op.id.counter < counter = short next.1 (omega (arith, behind, next.0)) (is.before).op (is.before).there in
       omega arith;
 }
 

@@ -1,6 +1,9 @@
 -- What a front covers of a log, by the chains of its replicas.
-use Rattle.std.proofs.Common.{◌≡◌, ℕ, ◌<◌, ◌≤◌, inl, inr, zero, suc, List, [], ◌∷◌, length, take, drop, get_or, ◌-◌, take_all, length-drop, true, not, Option, Some, None, Contains, if◌then◌else◌, refl, sym, ap, subst, ◌∙◌, arith}
+use Rattle.std.proofs.Common.{◌≡◌, ℕ, ◌<◌, ◌≤◌, inl, inr, zero, suc, List, [], ◌∷◌, length, take, drop, get_or, ◌+◌, ◌++◌, take_all, length-drop, true, false, not, rules, Option, Some, None, Contains, if◌then◌else◌, refl, sym, ap, subst, ◌∙◌, arith}
 use Rattle.std.specs.List.{slice_get}
+use Rattle.std.proofs.lemmas.Bool.{cases_lt}
+use Rattle.std.proofs.lemmas.List.{drop_all}
+use Rattle.std.proofs.lemmas.Option.{slice_get_read}
 use Rattle.std.proofs.lemmas.List.Elements.{Contains-push_cases}
 use Rattle.op_core.specs.Front.{covers}
 use Rattle.op_core.specs.Op.{Op}
@@ -8,20 +11,25 @@ use Rattle.crdt_rules.specs.Dependencies.{entry_of}
 use Rattle.crdt_rules.specs.Log.{IsGood}
 use Rattle.crdt_rules.proofs.Fronts.{covers_at, entry_of-Contains}
 use Rattle.doc_rules.specs.Answers.{since}
-use Rattle.op_log.specs.Index.{HasOpAt, AreLasts, IsLast, IsFirstFrom, CoversChain, CoversBefore}
-use Rattle.list_laws.proofs.Reading.{take_at}
+use Rattle.op_log.specs.Index.{HasOpAt, AreLasts, IsLast, IsFirstFrom, CoversChain, CoversBetween, IsUncovered}
+use Rattle.list_laws.proofs.Reading.{take_at, drop_read}
+use Rattle.crdt_rules.proofs.Tests.{some_same}
 use Rattle.doc_rules.proofs.WholeFront.{entry_of-at, rising_from_ascending}
 use Rattle.op_log.proofs.Indexes.{rises_up_to}
 
 -- up to a counter that the front has for the replica, its operations are covered
-pub chain_up_to : (front : List (List ℕ × ℕ)) (log : List Op) (name : List ℕ) (counter n : ℕ) → entry_of front name ≡ Some counter
-    → ((k : ℕ) (at : HasOpAt log name k) → k < n → at.op.id.counter ≤ counter) → CoversChain front log name n
-chain_up_to front log name counter n is up_to k at below =
-    covers_at front (name, counter) at.op.id (entry_of-Contains front name counter is) (sym at.made) (up_to k at below)
+pub chain_up_to : (front : List (List ℕ × ℕ)) (log : List Op) (name : List ℕ) (counter from n : ℕ) → entry_of front name ≡ Some counter
+    → ((k : ℕ) (at : HasOpAt log name k) → from ≤ k → k < n → at.op.id.counter ≤ counter) → CoversChain front log name from n
+chain_up_to front log name counter from n is up_to k at behind below =
+    covers_at front (name, counter) at.op.id (entry_of-Contains front name counter is) (sym at.made) (up_to k at behind below)
 
 -- none stands before the first of all
-pub chain_none : (front : List (List ℕ × ℕ)) (log : List Op) (name : List ℕ) (n : ℕ) → IsFirstFrom log name 0 n → CoversChain front log name n
-chain_none front log name n first k at below = let less : at.op.id.counter < 0 = first.first k at below in absurd (omega arith)
+pub chain_none : (front : List (List ℕ × ℕ)) (log : List Op) (name : List ℕ) (from n : ℕ) → IsFirstFrom log name from 0 n → CoversChain front log name from n
+chain_none front log name from n first k at behind below = let less : at.op.id.counter < 0 = first.first k at behind below in absurd (omega arith)
+
+-- and none behind the last
+pub chain_ended : (front : List (List ℕ × ℕ)) (log : List Op) (name : List ℕ) (last from n : ℕ) → IsLast log name last → last < from → CoversChain front log name from n
+chain_ended front log name last from n is ended k at behind below = let up_to : k ≤ last = is.last k at in absurd (omega arith)
 
 -- all up to the last
 pub up_to_last : (log : List Op) → IsGood log → (name : List ℕ) (last counter : ℕ) → IsLast log name last
@@ -36,40 +44,94 @@ pub last_of_entry : {log : List Op} {lasts : List (List ℕ × ℕ)} → AreLast
 last_of_entry {lasts = lasts} are e c = are.each e.0 e.1 (entry_of-at lasts e (rising_from_ascending lasts are.ascending) c)
 
 -- the chains looked at, with one more
-pub chains_next : (front : List (List ℕ × ℕ)) (log : List Op) (lasts : List (List ℕ × ℕ)) (i : ℕ) (e : List ℕ × ℕ) (least n m : ℕ) → m ≤ least → m ≤ n
+pub chains_next : (front : List (List ℕ × ℕ)) (log : List Op) (lasts : List (List ℕ × ℕ)) (i : ℕ) (e : List ℕ × ℕ) (from least n m : ℕ) → m ≤ least → m ≤ n
     → i < length lasts → e ≡ get_or lasts i e
-    → ((f : List ℕ × ℕ) → Contains (take i lasts) f → CoversChain front log f.0 least) → CoversChain front log e.0 n
-    → (f : List ℕ × ℕ) → Contains (take (suc i) lasts) f → CoversChain front log f.0 m
-chains_next front log lasts i e least n m low high within read before here f c k at below =
+    → ((f : List ℕ × ℕ) → Contains (take i lasts) f → CoversChain front log f.0 from least) → CoversChain front log e.0 from n
+    → (f : List ℕ × ℕ) → Contains (take (suc i) lasts) f → CoversChain front log f.0 from m
+chains_next front log lasts i e from least n m low high within read before here f c k at behind below =
     elim (Contains-push_cases (take i lasts) e f (subst (λ (l : List (List ℕ × ℕ)). Contains l f) (take_at lasts i e within read) c)) [
-      | inl old ↦ before f old k at (omega arith)
-      | inr new ↦ subst (λ (g : List ℕ × ℕ). CoversChain front log g.0 n) new here k at (omega arith)
+      | inl old ↦ before f old k at behind (omega arith)
+      | inr new ↦ subst (λ (g : List ℕ × ℕ). CoversChain front log g.0 from n) new here k at behind (omega arith)
     ]
 
 -- all chains are all operations
-pub chains_all : (front : List (List ℕ × ℕ)) (log : List Op) (lasts : List (List ℕ × ℕ)) (n : ℕ) → AreLasts log lasts
-    → ((f : List ℕ × ℕ) → Contains lasts f → CoversChain front log f.0 n) → CoversBefore front log n
-chains_all front log lasts n are each k op there below = by (entry_of lasts op.id.replica) refl
+pub chains_all : (front : List (List ℕ × ℕ)) (log : List Op) (lasts : List (List ℕ × ℕ)) (from n : ℕ) → AreLasts log lasts
+    → ((f : List ℕ × ℕ) → Contains lasts f → CoversChain front log f.0 from n) → CoversBetween front log from n
+chains_all front log lasts from n are each k op there behind below = by (entry_of lasts op.id.replica) refl
   where
     here : HasOpAt log op.id.replica k
     here = record { op = op; there = there; made = refl }
 
     by : (o : Option ℕ) → entry_of lasts op.id.replica ≡ o → covers front op.id ≡ true
     by None is = absurd (are.none op.id.replica is k here)
-    by (Some p) is = each (op.id.replica, p) (entry_of-Contains lasts op.id.replica p is) k here below
+    by (Some p) is = each (op.id.replica, p) (entry_of-Contains lasts op.id.replica p is) k here behind below
 
--- nothing stands before the start
-pub covers_none : (front : List (List ℕ × ℕ)) (log : List Op) → CoversBefore front log 0
-covers_none front log k op there below = absurd (omega arith)
+-- ---- from one place on and before another
 
--- what is covered at the start needs no look
-pub since-drop : (front : List (List ℕ × ℕ)) (log : List Op) (n : ℕ) → CoversBefore front log n → since front (drop n log) ≡ since front log
-since-drop front log zero covered = refl
-since-drop front [] (suc n) covered = refl
-since-drop front (op ∷ log) (suc n) covered =
-    since-drop front log n (λ k o there below. covered (suc k) o there (omega arith))
-    ∙ ap (λ b. if not b then op ∷ since front log else since front log) (sym (covered 0 op refl (omega arith)))
+module _ (front : List (List ℕ × ℕ)) (log : List Op) where
+  pub covers_none : (from : ℕ) → CoversBetween front log from from
+  covers_none from k op there behind below = absurd (omega arith)
 
-pub since-behind : (front : List (List ℕ × ℕ)) (log : List Op) (n : ℕ) → CoversBefore front log n → since front (take (length log - n) (drop n log)) ≡ since front log
-since-behind front log n covered =
-    ap (since front) (take_all (length log - n) (drop n log) (omega (arith, length-drop n log))) ∙ since-drop front log n covered
+  -- one more
+  pub covers_more : (from n : ℕ) (op : Op) → slice_get log n ≡ Some op → covers front op.id ≡ true → CoversBetween front log from n → CoversBetween front log from (n + 1)
+  covers_more from n op there is before k other at behind below =
+      elim (cases_lt k n) [
+        | inl less ↦ before k other at behind less
+        | inr le ↦
+            let same : n ≡ k = omega arith in
+            let one : op ≡ other = some_same (sym there ∙ ap (slice_get log) same ∙ at) in
+            subst (λ (o : Op). covers front o.id ≡ true) one is
+      ]
+
+  -- and those behind them
+  pub covers_on : (from mid n : ℕ) → CoversBetween front log from mid → CoversBetween front log mid n → CoversBetween front log from n
+  covers_on from mid n first next k op at behind below =
+      elim (cases_lt k mid) [
+        | inl less ↦ first k op at behind less
+        | inr le ↦ next k op at le below
+      ]
+
+-- what is covered needs no look
+pub since-between : (front : List (List ℕ × ℕ)) (log : List Op) (from n : ℕ) → from ≤ n → CoversBetween front log from n → since front (drop n log) ≡ since front (drop from log)
+since-between front log zero zero le covered = refl
+since-between front [] zero (suc n) le covered = refl
+since-between front (op ∷ log) zero (suc n) le covered =
+    since-between front log zero n (omega arith) (λ k o there behind below. covered (suc k) o there (omega arith) (omega arith))
+    ∙ ap (λ b. if not b then op ∷ since front log else since front log) (sym (covered 0 op refl (omega arith) (omega arith)))
+since-between front log (suc from) zero le covered = absurd (omega arith)
+since-between front [] (suc from) (suc n) le covered = refl
+since-between front (op ∷ log) (suc from) (suc n) le covered =
+    since-between front log from n (omega arith) (λ k o there behind below. covered (suc k) o there (omega arith) (omega arith))
+
+-- an operation that isn't covered is the next one
+pub since-next : (front : List (List ℕ × ℕ)) (log : List Op) (at : ℕ) (op : Op) → at < length log → op ≡ get_or log at op → covers front op.id ≡ false
+    → since front (drop at log) ≡ op ∷ since front (drop (at + 1) log)
+since-next front log at op within read is = ap (since front) (drop_read log at op within read) ∙ ap (λ b. if not b then op ∷ since front (drop (at + 1) log) else since front (drop (at + 1) log)) is
+
+-- ---- told one after another
+
+module _ {X : Type 0} where
+  pub told_next : (all : List X) (i : ℕ) (x : X) (rest : List X) → drop i all ≡ x ∷ rest → (take (suc i) all ≡ take i all ++ x ∷ []) × (drop (suc i) all ≡ rest)
+  told_next [] zero x rest is = absurd cc
+  told_next [] (suc i) x rest is = absurd cc
+  told_next (y ∷ all) zero x rest is = search (rules, is)
+  told_next (y ∷ all) (suc i) x rest is = let later = told_next all i x rest is in (ap (λ l. y ∷ l) later.0, later.1)
+
+  pub told_all : (all : List X) (i limit : ℕ) → drop i all ≡ [] → i ≤ limit → take limit all ≡ take i all
+  told_all all i limit is le =
+      let few : length all ≤ i = omega (arith, length-drop i all, ap length is) in
+      take_all limit all (omega arith) ∙ sym (take_all i all few)
+
+-- the first of what the front doesn't cover were told, and the search goes on at one place and has found another
+module _ (front : List (List ℕ × ℕ)) (log : List Op) (from at i : ℕ) (so_far : since front (drop from log) ≡ drop i (since front log))
+    (passed : since front (drop at log) ≡ since front (drop from log)) where
+  pub next_told : (op : Op) → at < length log → op ≡ get_or log at op → IsUncovered front log at
+      → (take (i + 1) (since front log) ≡ take i (since front log) ++ op ∷ []) × (since front (drop (at + 1) log) ≡ drop (i + 1) (since front log))
+  next_told op within read uncovered =
+      let is = uncovered op (slice_get_read log (length log) at op refl within read) in
+      let one : i + 1 ≡ suc i = omega arith in
+      let told = told_next (since front log) i op (since front (drop (at + 1) log)) (sym so_far ∙ sym passed ∙ since-next front log at op within read is) in
+      rw one (told.0, sym told.1)
+
+  pub all_told : (limit : ℕ) → length log ≤ at → i ≤ limit → take limit (since front log) ≡ take i (since front log)
+  all_told limit end le = told_all (since front log) i limit (sym so_far ∙ sym passed ∙ ap (since front) (drop_all at log end)) le

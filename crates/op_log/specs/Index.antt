@@ -1,5 +1,5 @@
 -- The index of a log: where each operation finds those of its replica before it, and where the last of each replica is.
-use Rattle.std.specs.Prelude.{◌≡◌, ℕ, ◌<◌, ◌≤◌, List, true, length, Some, None, slice_get}
+use Rattle.std.specs.Prelude.{◌≡◌, ℕ, ◌<◌, ◌≤◌, List, true, false, length, Some, None, slice_get}
 use Rattle.op_core.specs.Front.{covers, is_ascending}
 use Rattle.op_core.specs.Op.{Op}
 use Rattle.op_log.specs.Front.{IsFrontOf}
@@ -46,16 +46,21 @@ pub record IsIndexed (log : List Op) (index : List Link) (places counters : List
 
 -- ---- what a search finds
 
--- the first operation of the replica with this counter or a greater one is at place k
-pub record IsFirstFrom (log : List Op) (name : List ℕ) (counter : ℕ) (k : ℕ) : Type 0 where
+-- the first operation of the replica from a place on with this counter or a greater one is at place k
+pub record IsFirstFrom (log : List Op) (name : List ℕ) (from counter : ℕ) (k : ℕ) : Type 0 where
   pub here : HasOpAt log name k
   pub reaches : counter ≤ here.op.id.counter
-  pub first : (j : ℕ) (below : HasOpAt log name j) → j < k → below.op.id.counter < counter
+  pub first : (j : ℕ) (below : HasOpAt log name j) → from ≤ j → j < k → below.op.id.counter < counter
 
--- the front covers the operations of the replica before place n
-abbrev pub CoversChain : List (List ℕ × ℕ) → List Op → List ℕ → ℕ → Type 0
-CoversChain front log name n = (k : ℕ) (at : HasOpAt log name k) → k < n → covers front at.op.id ≡ true
+-- the front covers the operations of the replica from one place on and before another
+abbrev pub CoversChain : List (List ℕ × ℕ) → List Op → List ℕ → ℕ → ℕ → Type 0
+CoversChain front log name from n = (k : ℕ) (at : HasOpAt log name k) → from ≤ k → k < n → covers front at.op.id ≡ true
 
 -- and those of all replicas
-abbrev pub CoversBefore : List (List ℕ × ℕ) → List Op → ℕ → Type 0
-CoversBefore front log n = (k : ℕ) (op : Op) → slice_get log k ≡ Some op → k < n → covers front op.id ≡ true
+abbrev pub CoversBetween : List (List ℕ × ℕ) → List Op → ℕ → ℕ → Type 0
+CoversBetween front log from n =
+    (k : ℕ) (op : Op) → slice_get log k ≡ Some op → from ≤ k → k < n → covers front op.id ≡ true
+
+-- it does not cover the operation at place k, if there is one
+abbrev pub IsUncovered : List (List ℕ × ℕ) → List Op → ℕ → Type 0
+IsUncovered front log k = (op : Op) → slice_get log k ≡ Some op → covers front op.id ≡ false

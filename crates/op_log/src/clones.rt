@@ -2,6 +2,7 @@
 ghost use Rattle.std.specs.Prelude.{◌≡◌, ◌++◌, ◌∷◌, [], take, IfOk, IfErr, OnOk};
 ghost use Rattle.doc_rules.specs.Answers.{since};
 
+use crate::log::OpLog;
 use json_scalar::Refusal;
 use op_core::{Front, Operation};
 use std::alloc::Global;
@@ -18,25 +19,26 @@ pub fn clone_all(alloc: Global, operations: &[Operation]) -> Result<Vec<Operatio
     Ok(cloned)
 }
 
-/// Clones of the first of these operations that the front does not cover, at most `limit` of them,
+/// Clones of the first operations of a log that the front does not cover, at most `limit` of them,
 /// in their order. The only error is out of memory.
 pub fn first_uncovered(
     alloc: Global,
-    operations: &[Operation],
+    log: &OpLog,
     front: &Front,
     limit: usize,
 ) -> Result<Vec<Operation>, Refusal>
-    ensures ok { IfOk result (λ found. found.items ≡ take limit (since front.now operations.now)) }
+    ensures ok { IfOk result (λ found. found.items ≡ take limit (since front.now log.now.operations)) }
     ensures err { IfErr result (λ e. e ≡ Refusal.NoMemory) }
 {
-    let mut found = Vec::with_capacity(alloc, limit.min(operations.len()))?;
-    for op in operations {
-        if found.len() == limit {
-            break;
+    let mut found = Vec::with_capacity(alloc, limit.min(log.len()))?;
+    let mut from = 0;
+    for _ in 0..limit {
+        let at = log.next_uncovered(front, from);
+        if at == log.len() {
+            return Ok(found);
         }
-        if !front.covers(op.id()) {
-            push_clone(&mut found, op)?;
-        }
+        push_clone(&mut found, &log.as_slice()[at])?;
+        from = at + 1;
     }
     Ok(found)
 }

@@ -6,59 +6,54 @@ ghost use Rattle.doc_rules.specs.Answers.{since};
 ghost use Rattle.doc_rules.specs.Encoded.{operations_text};
 ghost use Rattle.json_text.specs.Tokens.{all_tokens, data_tokens, Puts};
 
+use crate::log::OpLog;
 use doc_words::CompactText;
 use json_scalar::Refusal;
 use json_text::{AsJson, JsonText};
-use op_core::{Front, Operation};
+use op_core::Front;
 use std::alloc::Global;
 
-/// The first of these operations that the front does not cover, at most `limit` of them, in their
+/// The first operations of a log that the front does not cover, at most `limit` of them, in their
 /// order, as the compact JSON text of an array. The only error is out of memory.
 pub fn text_of_uncovered(
     alloc: Global,
-    operations: &[Operation],
+    log: &OpLog,
     front: &Front,
     limit: usize,
 ) -> Result<CompactText, Refusal>
-    ensures { UnlessMemory result (Ok (operations_text (take limit (since front.now operations.now)))) }
+    ensures { UnlessMemory result (Ok (operations_text (take limit (since front.now log.now.operations)))) }
 {
     let mut text = JsonText::new(alloc);
-    put_list(&mut text, operations, front, limit)?;
+    put_list(&mut text, log, front, limit)?;
     Ok(CompactText::from(text.into_string()))
 }
 
 #[tactic(auto, using(json_text::proofs::Texts::lists))]
-fn put_list(
-    text: &mut JsonText,
-    operations: &[Operation],
-    front: &Front,
-    limit: usize,
-) -> Result<(), Refusal>
-    ensures { Puts (data_tokens (list_data (map wire (take limit (since front.now operations.now)))))
+fn put_list(text: &mut JsonText, log: &OpLog, front: &Front, limit: usize) -> Result<(), Refusal>
+    ensures { Puts (data_tokens (list_data (map wire (take limit (since front.now log.now.operations)))))
         text.old text.new result }
 {
     text.begin_list()?;
-    put_uncovered(text, operations, front, limit)?;
+    put_uncovered(text, log, front, limit)?;
     text.end_list()
 }
 
 fn put_uncovered(
     text: &mut JsonText,
-    operations: &[Operation],
+    log: &OpLog,
     front: &Front,
     limit: usize,
 ) -> Result<(), Refusal>
-    ensures { Puts (all_tokens (map wire (take limit (since front.now operations.now)))) text.old text.new result }
+    ensures { Puts (all_tokens (map wire (take limit (since front.now log.now.operations)))) text.old text.new result }
 {
-    let mut left = limit;
-    for op in operations {
-        if left == 0 {
-            break;
+    let mut from = 0;
+    for _ in 0..limit {
+        let at = log.next_uncovered(front, from);
+        if at == log.len() {
+            return Ok(());
         }
-        if !front.covers(op.id()) {
-            op.put_in(text)?;
-            left -= 1;
-        }
+        log.as_slice()[at].put_in(text)?;
+        from = at + 1;
     }
     Ok(())
 }

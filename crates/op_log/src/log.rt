@@ -12,6 +12,7 @@ ghost use Rattle.crdt_rules.specs.Pull.{front_of};
 ghost use Rattle.doc_rules.specs.Answers.{since};
 ghost use Rattle.doc_rules.specs.Encoded.{operations_text};
 ghost use Rattle.doc_rules.specs.Replica.{find_id};
+ghost use Rattle.op_log.specs.Index.{IsUncovered};
 
 use crate::clones::{clone_all, first_uncovered};
 use crate::encode::text_of_uncovered;
@@ -155,14 +156,13 @@ impl OpLog {
     }
 
     /// The first operations that the front does not cover, at most `limit` of them, in their order.
-    /// Where the front's pairs ascend, the search starts at the first of them. The only error is out of
-    /// memory. The program itself calls `since_text`.
+    /// Where the front's pairs ascend, those that it covers are passed over by searches. The only error
+    /// is out of memory. The program itself calls `since_text`.
     pub fn since(&self, front: &Front, limit: usize) -> Result<Operations, Refusal>
         ensures { UnlessMemory result (Ok (take limit (since front.now self.now.operations))) }
     {
         let alloc = *self.entries.allocator();
-        let operations = self.from_first_uncovered(front);
-        Ok(Operations::from(first_uncovered(alloc, operations, front, limit)?))
+        Ok(Operations::from(first_uncovered(alloc, self, front, limit)?))
     }
 
     /// What `since` returns, as the compact JSON text of an array. The only error is out of memory.
@@ -170,16 +170,18 @@ impl OpLog {
         ensures { UnlessMemory result (Ok (operations_text (take limit (since front.now self.now.operations)))) }
     {
         let alloc = *self.entries.allocator();
-        text_of_uncovered(alloc, self.from_first_uncovered(front), front, limit)
+        text_of_uncovered(alloc, self, front, limit)
     }
 
-    // The operations without those at the start that the front covers, up to the first that it does not cover where its
-    // pairs ascend.
-    fn from_first_uncovered(&self, front: &Front) -> &[Operation]
-        ensures { since front.now result.now ≡ since front.now self.now.operations }
+    // The place of the first operation from a place on that the front does not cover, or the number of operations.
+    pub(crate) fn next_uncovered(&self, front: &Front, from: usize) -> usize
+        requires { from ≤ length self.now.operations }
+        ensures within { result ≤ length self.now.operations }
+        ensures covered { since front.now (drop result self.now.operations)
+            ≡ since front.now (drop from self.now.operations) }
+        ensures uncovered { IsUncovered front.now self.now.operations result }
     {
-        let start = index::first_uncovered(&self.entries, &self.links, &self.lasts, front);
-        &self.entries[start..]
+        index::next_uncovered(&self.entries, &self.links, &self.lasts, front, from)
     }
 
     /// The operations after the first `from`, at most `max` of them. The only error is out of memory.

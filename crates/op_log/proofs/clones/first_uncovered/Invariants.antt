@@ -1,6 +1,10 @@
-use Rattle.std.proofs.Common.{◌≡◌, ◌≤◌, take, length}
+use Rattle.std.proofs.Common.{◌≡◌, ◌≤◌, take, drop, length}
 use Rattle.doc_rules.specs.Answers.{since}
 use Rattle.op_log.proofs.clones.first_uncovered.Given as goal
 
-abbrev pub invariant-loop-op : goal.invariant-loop-op
-invariant-loop-op l = (l.found.items ≡ since l.front (take l.op-index l.operations)) × (length l.found.items ≤ l.limit)
+abbrev pub invariant-loop : goal.invariant-loop
+invariant-loop l =
+    let all = since l.front l.log.operations in
+    (l.found.items ≡ take l.counter all)
+    × (since l.front (drop l.from l.log.operations) ≡ drop l.counter all)
+    × (l.from ≤ length l.log.operations)

@@ -16,11 +16,11 @@ pub first_from-requires-clause-within : goal.first_from-requires-clause-within
 first_from-requires-clause-within c = stands-within c.requires.last.here
 
 pub bounds-entries-first_from : goal.bounds-entries-first_from
-bounds-entries-first_from c = stands-within (c.first_from.ensures c.args.id.now.replica c.requires.last.here).here
+bounds-entries-first_from c = stands-within (c.first_from.ensures.first c.args.id.now.replica c.requires.last.here).here
 
 pub offset_bounds-entries-first_from : goal.offset_bounds-entries-first_from
 offset_bounds-entries-first_from c =
-    let within : c.first_from.result < length c.args.entries.now = stands-within (c.first_from.ensures c.args.id.now.replica c.requires.last.here).here in
+    let within : c.first_from.result < length c.args.entries.now = stands-within (c.first_from.ensures.first c.args.id.now.replica c.requires.last.here).here in
     let few : length c.args.entries.now ≤ 100000 = (good_room c.args.entries.now c.requires.good).operations in
     omega (arith, within, few)
 
@@ -28,7 +28,7 @@ pub returns-then-id : goal.returns-then-id
 returns-then-id c =
     let log = c.args.entries.now in
     let found = c.index-entries-first_from.result in
-    let first = c.first_from.ensures c.args.id.now.replica c.requires.last.here in
+    let first = c.first_from.ensures.first c.args.id.now.replica c.requires.last.here in
     let there = slice_get_read log (length log) c.first_from.result found refl (stands-within first.here) c.index-entries-first_from.is in
     sym (first_found log c.requires.good c.args.id.now c.first_from.result first found there (ap (λ (i : Id). i.counter) (sym c.id.ensures.value) ∙ c.if-id.true))
 
@@ -36,7 +36,7 @@ pub returns-else-id : goal.returns-else-id
 returns-else-id c =
     let log = c.args.entries.now in
     let found = c.index-entries-first_from.result in
-    let first = c.first_from.ensures c.args.id.now.replica c.requires.last.here in
+    let first = c.first_from.ensures.first c.args.id.now.replica c.requires.last.here in
     let there = slice_get_read log (length log) c.first_from.result found refl (stands-within first.here) c.index-entries-first_from.is in
     sym
     (first_other log c.requires.good c.args.id.now c.first_from.result first

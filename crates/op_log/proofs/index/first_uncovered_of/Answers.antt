@@ -1,12 +1,15 @@
 use Rattle.std.proofs.Common.{sym}
-use Rattle.op_log.proofs.Uncovered.{chain_up_to, chain_none}
+use Rattle.op_log.proofs.Uncovered.{chain_up_to, chain_none, chain_ended}
 use Rattle.op_log.proofs.index.first_uncovered_of.Goals as goal
 
-pub returns-in-Some : goal.returns-in-Some
-returns-in-Some c =
-    chain_up_to c.args.front.now c.args.entries.now c.args.last.now.0 c.in-Some.counter c.first_behind.result (sym c.in-Some.ensures)
-    (c.first_behind.ensures c.args.last.now.0 c.requires.last)
+pub returns-then-end-from-clause-covered : goal.returns-then-end-from-clause-covered
+returns-then-end-from-clause-covered c = chain_ended c.args.front.now c.args.entries.now c.args.last.now.0 c.args.last.now.1 c.args.from _ c.requires.last c.if-end-from.true
 
-pub returns-in-None : goal.returns-in-None
-returns-in-None c =
-    chain_none c.args.front.now c.args.entries.now c.args.last.now.0 c.first_from.result (c.first_from.ensures c.args.last.now.0 c.requires.last.here)
+pub returns-in-Some-clause-covered : goal.returns-in-Some-clause-covered
+returns-in-Some-clause-covered c =
+    chain_up_to c.args.front.now c.args.entries.now c.args.last.now.0 c.in-Some.counter c.args.from c.first_behind.result (sym c.in-Some.ensures)
+    (c.first_behind.ensures.covered c.args.last.now.0 c.requires.last)
+
+pub returns-in-None-clause-covered : goal.returns-in-None-clause-covered
+returns-in-None-clause-covered c =
+    chain_none c.args.front.now c.args.entries.now c.args.last.now.0 c.args.from c.first_from.result (c.first_from.ensures.first c.args.last.now.0 c.requires.last.here)

@@ -15,14 +15,16 @@ loop-last-preserved c =
     let one : c.loop-last.last-index + 1 ≡ suc c.loop-last.last-index = omega arith in
     let before : c.min-least.result ≤ c.loop-last.least = omega (arith, c.min-least.ensures, min-le_left c.loop-last.least c.first_uncovered_of.result) in
     let here : c.min-least.result ≤ c.first_uncovered_of.result = omega (arith, c.min-least.ensures, min-le_right c.loop-last.least c.first_uncovered_of.result) in
+    let later : c.args.from ≤ c.min-least.result = omega (arith, c.min-least.ensures, c.loop-last.invariant.1, c.first_uncovered_of.ensures.later) in
     rw one (
       omega (arith, before, c.loop-last.invariant.0),
-      chains_next c.args.front.now c.args.entries.now c.args.lasts.now c.loop-last.last-index c.last-item.result c.loop-last.least c.first_uncovered_of.result c.min-least.result
-          before here c.loop-last-test.true c.last-item.is c.loop-last.invariant.1 c.first_uncovered_of.ensures,
+      later,
+      chains_next c.args.front.now c.args.entries.now c.args.lasts.now c.loop-last.last-index c.last-item.result c.args.from c.loop-last.least c.first_uncovered_of.result c.min-least.result
+          before here c.loop-last-test.true c.last-item.is c.loop-last.invariant.2 c.first_uncovered_of.ensures.covered,
     )
 
 pub returns-clause-covered : goal.returns-clause-covered
 returns-clause-covered c =
-    chains_all c.args.front.now c.args.entries.now c.args.lasts.now c.loop-last.least c.requires.lasts
-    (λ f h. c.loop-last.invariant.1 f
+    chains_all c.args.front.now c.args.entries.now c.args.lasts.now c.args.from c.loop-last.least c.requires.lasts
+    (λ f h. c.loop-last.invariant.2 f
     (subst (λ (l : List (List ℕ × ℕ)). Contains l f) (sym (take_all c.loop-last.last-index c.args.lasts.now c.loop-last-test.false)) h))

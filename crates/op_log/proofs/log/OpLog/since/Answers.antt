@@ -1,6 +1,5 @@
-use Rattle.std.proofs.Common.{Ok, take, ap, ◌∙◌}
+use Rattle.std.proofs.Common.{Ok, ap, ◌∙◌}
 use Rattle.op_log.proofs.log.OpLog.since.Goals as goal
 
 pub returns : goal.returns
-returns c other =
-    ap Ok (c.from.ensures ∙ c.in_ok-first_uncovered.ensures.ok ∙ ap (take c.args.limit) c.from_first_uncovered-operations.ensures)
+returns c other = ap Ok (c.from.ensures ∙ c.in_ok-first_uncovered.ensures.ok)

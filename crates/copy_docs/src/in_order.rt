@@ -1,0 +1,95 @@
+//! The same of documents that stand in the order of their names, by bisection. The last one is looked at first, since
+//! rows are read in this order.
+ghost use Rattle.std.specs.Prelude.{◌≡◌, ◌≢◌, ◌≤◌, ◌↔◌, ◌++◌, length, IfErr, OnOk, Err, MatchResult, IsTrue, true, false};
+ghost use Rattle.std.specs.List.Sorted.{IsPartitionPoint};
+ghost use Rattle.std.specs.Ordering.{is_lt};
+ghost use Rattle.doc_words.specs.Words.{name_cmp};
+ghost use Rattle.lamport_id.specs.Name.{is_name};
+ghost use Rattle.sorted_lists.specs.Sorted.{IsPlace, IsGap};
+ghost use Rattle.crdt_rules.specs.Log.{IsGood};
+ghost use Rattle.copy_docs.specs.Docs.{AreInOrder, log_of, add_log};
+
+use crate::doc::KeptDoc;
+use crate::docs::{is_doc_name, is_less, made, put};
+use crate::fault::Fault;
+use op_core::Operation;
+use std::alloc::Global;
+
+// The index of the document of this name, or where it would go.
+fn search(docs: &[KeptDoc], name: &str) -> Result<usize, usize>
+    requires { AreInOrder docs.now }
+    ensures { MatchResult result
+        (IsPlace name_cmp (λ d. d.name) docs.now name.now) (IsGap name_cmp (λ d. d.name) docs.now name.now) }
+{
+    let at = rank(docs, name);
+    if at < docs.len() && docs[at].name() == name {
+        Ok(at)
+    } else {
+        Err(at)
+    }
+}
+
+// How many documents have a lesser name.
+fn rank(docs: &[KeptDoc], name: &str) -> usize
+    requires { AreInOrder docs.now }
+    ensures within { result ≤ length docs.now }
+    ensures point { IsPartitionPoint (λ d. is_lt (name_cmp d.name name.now) ≡ true)
+        (λ d. is_lt (name_cmp d.name name.now) ≡ false) docs.now result }
+{
+    let count = docs.len();
+    if count > 0 && is_before(&docs[count - 1], name) {
+        return count;
+    }
+    docs.partition_point(|doc| is_before(doc, name))
+}
+
+fn is_before(doc: &KeptDoc, name: &str) -> bool
+    ensures { result ≡ is_lt (name_cmp doc.now.name name.now) }
+{
+    is_less(doc.name(), name)
+}
+
+/// How many rows the document of this name has.
+pub fn count(docs: &[KeptDoc], name: &str) -> usize
+    requires { AreInOrder docs.now }
+    ensures { result ≡ length (log_of name.now docs.now) }
+{
+    match search(docs, name) {
+        Ok(at) => docs[at].len(),
+        Err(_) => 0,
+    }
+}
+
+/// Whether entries of a document of this name may follow so many.
+pub fn may_follow(docs: &[KeptDoc], name: &str, from: usize) -> bool
+    requires { AreInOrder docs.now }
+    ensures { IsTrue result ↔ ((is_name name.now ≡ true) × (from ≡ length (log_of name.now docs.now))) }
+{
+    is_doc_name(name) && from == count(docs, name)
+}
+
+/// Adds clones of the entries behind those of the document of this name, if each fits those before it. Otherwise the
+/// documents are as they were.
+pub fn add(
+    docs: &mut Vec<KeptDoc>,
+    alloc: Global,
+    name: &str,
+    entries: &[Operation],
+) -> Result<(), Fault>
+    requires { AreInOrder docs.old.items }
+    ensures ok { OnOk result ((docs.new.items ≡ add_log name.now entries.now docs.old.items)
+        × IsGood (log_of name.now docs.old.items ++ entries.now)) }
+    ensures err { IfErr result (λ e. (docs.new.items ≡ docs.old.items) × (e ≢ Fault.Store)) }
+    ensures refused { result ≡ Err Fault.Refused → ¬ IsGood (log_of name.now docs.old.items ++ entries.now) }
+{
+    match search(docs.as_slice(), name) {
+        Ok(at) => {
+            let doc = &mut docs[at];
+            doc.add(entries)
+        }
+        Err(at) => {
+            let doc = made(alloc, name, entries)?;
+            put(docs, at, doc)
+        }
+    }
+}
