@@ -86,11 +86,15 @@ StopsBy g [] old new error = ⊥
 StopsBy {S} g (it ∷ more) old new error =
     RunsTo g it old new (Err error) ⊎ ((mid : Held S) × Ran g it old mid × StopsBy g more mid new error)
 
+-- it commits this
+abbrev pub CommitsFor : {S : Type 0} → Ghosts S → Statement → Held S → Trees → Type 0
+CommitsFor g it old db = CommitsBy it.text it.params (state g old) db
+
 -- one of them commits this, after those before it ran
 abbrev pub CommitsOneOf : {S : Type 0} → Ghosts S → List Statement → Held S → Trees → Type 0
 CommitsOneOf g [] old db = ⊥
 CommitsOneOf {S} g (it ∷ more) old db =
-    CommitsBy it.text it.params (state g old) db ⊎ ((mid : Held S) × Ran g it old mid × CommitsOneOf g more mid db)
+    CommitsFor g it old db ⊎ ((mid : Held S) × Ran g it old mid × CommitsOneOf g more mid db)
 
 -- They were run in turn, up to the first that failed. A crash leaves what was there before, or what one of
 -- them commits.

@@ -2,18 +2,19 @@
 use Rattle.std.specs.Prelude.{◌≡◌, ◌≢◌, ◌⊎◌, ◌≤◌, ℕ, false, List, []}
 use Rattle.sqlite_trees.specs.declared.store.Store.{Ghosts}
 use Rattle.sqlite.specs.Order.{Row}
+use Rattle.sqlite.specs.Tree.{Trees}
 use Rattle.sqlite.specs.Held.{Held, state}
 use Rattle.sqlite.specs.State.{IsUnchanged}
 use Rattle.copy_schema.specs.Tables.{HasNeither, HasBoth}
-use Rattle.copy_tables.specs.Statements.{Ran, RanAll, ShowsFor, making_of_tables, select_meta, update_format}
+use Rattle.copy_tables.specs.Statements.{CommitsFor, CommitsOneOf, Ran, RanAll, ShowsFor, making_of_tables, select_meta, update_format}
 use Rattle.copy_docs.specs.Docs.{Doc}
 use Rattle.copy_rows.specs.Parsed.{IsMeta}
 use Rattle.copy_rows.specs.Shown.{AreShown, ShowsNoLogs}
-use Rattle.copy_rows.specs.declared.parse.TheConstants.{LAST_EPOCH}
+use Rattle.copy_rows.specs.Limits.{last_epoch}
 
 -- they name no known format, or no epoch that may have been given out
 abbrev pub IsNoMeta : List Row → Type 0
-IsNoMeta rows = (format epoch : ℕ) → epoch ≤ LAST_EPOCH → (format ≡ 2) ⊎ (format ≡ 1) → ¬ IsMeta format epoch rows
+IsNoMeta rows = (format epoch : ℕ) → epoch ≤ last_epoch → (format ≡ 2) ⊎ (format ≡ 1) → ¬ IsMeta format epoch rows
 
 module _ {S : Type 0} (g : Ghosts S) where
   -- The format, the epoch and the documents are those of the rows that it showed of both tables.
@@ -54,6 +55,14 @@ module _ {S : Type 0} (g : Ghosts S) where
   IsTakenOver old new epoch docs =
       (HasNeither (state g old).now.schema × AreMade old new epoch docs)
       ⊎ (HasBoth (state g old).now.schema × AreStored old new epoch docs)
+
+  -- A crash meanwhile may leave what one of these commits: where there were none, the statements that make the
+  -- tables, and where there were both, the one that raises the format once they were read.
+  abbrev pub MayLeave : Held S → Trees → Type 0
+  MayLeave old db =
+      (HasNeither (state g old).now.schema × CommitsOneOf g making_of_tables old db)
+      ⊎ (HasBoth (state g old).now.schema × (between : Held S) × IsUnchanged (state g old) (state g between)
+      × CommitsFor g (update_format 2) between db)
 
   -- a transaction is under way, it has other tables of these names, or its tables hold no copy
   abbrev pub IsNoCopy : Held S → Type 0

@@ -23,6 +23,7 @@ returns-then-not-is_autocommit g c =
       bare = λ is it. inside it.autocommit;
       no_copy = λ clean is. inl inside;
       taken = λ clean. tt;
+      commits = survives_same old _;
       asked = λ is. absurd cc;
       database = λ clean is. absurd cc;
     }
@@ -46,6 +47,7 @@ returns-in-Neither g c =
       bare = λ is. absurd (never_refused c.fresh.result c.fresh.ensures.err is);
       no_copy = λ clean. IfErr-weaker c.fresh.result _ _ (λ e same is. absurd cc) c.fresh.ensures.err;
       taken = λ clean. IfOk-weaker c.fresh.result _ _ (λ o made. inl (neither, made)) (c.fresh.ensures.made clean);
+      commits = survives_weaker old (state g.S.Store c.fresh.new.conn) _ _ (λ clean db h. inl (neither, h)) c.fresh.ensures.commits;
       asked = IfErr-weaker c.fresh.result _ _ (λ e same is. record { autocommit = autocommit; tables = inl neither }) c.fresh.ensures.err;
       database = λ clean. IfErr-weaker c.fresh.result _ _ (λ e fails is. inl (neither, fails)) (c.fresh.ensures.database clean);
     }
@@ -69,6 +71,7 @@ returns-in-Both g c =
       bare = λ is. not_bare;
       no_copy = λ clean. IfErr-weaker c.stored.result _ _ (λ e none is. inr (inr (both, none is))) (c.stored.ensures.no_copy clean);
       taken = λ clean. IfOk-weaker c.stored.result _ _ (λ o read. inr (both, read)) (c.stored.ensures.read clean);
+      commits = c.stored.ensures.commits both;
       asked = any_error c.stored.result (λ e is. record { autocommit = idle.autocommit; tables = inr both });
       database = λ clean. IfErr-weaker c.stored.result _ _ (λ e fails is. inr (both, fails is)) (c.stored.ensures.database clean);
     }
@@ -94,6 +97,7 @@ returns-in-Other g c =
       bare = λ is. not_bare;
       no_copy = λ clean is. inr (inl other);
       taken = λ clean. tt;
+      commits = survives_same old _;
       asked = λ is. absurd cc;
       database = λ clean is. absurd cc;
     }
