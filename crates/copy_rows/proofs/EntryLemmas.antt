@@ -2,19 +2,18 @@
 use Rattle.std.proofs.Common.{◌≡◌, List, [], ◌++◌, map, refl, sym, ap, subst, ◌∙◌}
 use Rattle.std.specs.List.Sorted.{IsPermutation, IsSorted}
 use Rattle.sqlite.specs.Order.{Row}
-use Rattle.sqlite.specs.Tree.{Trees}
 use Rattle.sqlite.specs.Program.{overlay}
 use Rattle.sqlite.specs.Listing.{understood}
 use Rattle.sqlite.specs.Effect.{Database}
-use Rattle.sqlite.specs.State.{State, Shown, Begins, CommitsShowing, IsUnchanged}
+use Rattle.sqlite.specs.State.{State, Shown, Begins, IsUnchanged}
 use Rattle.sqlite.specs.Clock.{timed}
 use Rattle.sqlite.specs.declared.types.Value.TheVariants.{Null}
-use Rattle.sqlite.proofs.Callers.{IsPlain, EndsIn, command_of, reads_as, begins_shown, unchanged_then, never_commits}
+use Rattle.sqlite.proofs.Callers.{EndsIn, command_of, reads_as, begins_shown}
 use Rattle.copy_schema.specs.Tables.{copy_schema}
 use Rattle.copy_schema.proofs.TextLemmas.{read_entries_text, read_entries_query, read_entries_is}
 use Rattle.copy_schema.specs.Content.{entry_tree, entry_columns}
 use Rattle.copy_rows.proofs.SortLemmas.{row_cmp}
-use Rattle.copy_tables.proofs.ReadLemmas.{answers_whole, sorted_whole, shown_unchanged}
+use Rattle.copy_tables.proofs.ReadLemmas.{answers_whole, sorted_whole}
 
 -- what a whole answer of the entries holds
 entries_answered : (old new : State) (rows : List Row) → Shown read_entries_text [] old new rows → old.now.schema ≡ copy_schema → IsPermutation (map entry_columns (old.now.trees entry_tree)) rows × IsSorted row_cmp rows
@@ -25,12 +24,8 @@ entries_answered old new rows h has =
     )
 
 -- the entries that were given last are all
-pub all_entries : (first old new : State) (rows : List Row) → IsUnchanged first old → Shown read_entries_text [] old new rows → first.now.schema ≡ copy_schema → IsPermutation (map entry_columns (first.now.trees entry_tree)) rows × IsUnchanged first new
-all_entries first old new rows same h has =
-    let has_still = subst (λ (d : Database). d.schema ≡ copy_schema) (sym same.0.now_is) has in (
-      subst (λ (d : Database). IsPermutation (map entry_columns (d.trees entry_tree)) rows) same.0.now_is (entries_answered old new rows h has_still).0,
-      unchanged_then first old new same (shown_unchanged read_entries_text [] old new rows (subst (λ s. IsPlain (understood s read_entries_text)) (sym has_still) read_entries_is.1) h),
-    )
+pub all_entries : (old new : State) (rows : List Row) → Shown read_entries_text [] old new rows → old.now.schema ≡ copy_schema → IsPermutation (map entry_columns (old.now.trees entry_tree)) rows
+all_entries old new rows h has = (entries_answered old new rows h has).0
 
 -- the entries that were given so far are the first of all
 pub first_entries : (first now : State) (rows : List Row) → IsUnchanged first now → Begins read_entries_text [] now rows → first.now.schema ≡ copy_schema
@@ -46,6 +41,3 @@ first_entries first now rows same h has =
     (λ c db it source. subst (λ k. EndsIn k db (timed [] c.formats it.now)) (sym (ap command_of (sym it.is ∙ ap (λ s. understood s read_entries_text) has_still) ∙ read_entries_is.0)) tt) in
     let whole = entries_answered now now (rows ++ all.0) all.1 has_still in
     (all.0, subst (λ (d : Database). IsPermutation (map entry_columns (d.trees entry_tree)) (rows ++ all.0)) same.0.now_is whole.0, whole.1)
-
-pub reads_entries_only : (old : State) (db : Trees) → old.now.schema ≡ copy_schema → ¬ CommitsShowing read_entries_text [] old db
-reads_entries_only old db has = never_commits read_entries_text [] old db (subst (λ s. IsPlain (understood s read_entries_text)) (sym has) read_entries_is.1)

@@ -9,7 +9,7 @@ use Rattle.crdt_rules.specs.Log.{IsGood}
 use Rattle.copy_schema.specs.Content.{Content, entry_row}
 use Rattle.copy_docs.specs.Docs.{Doc, AreInOrder, AreGood, op_text, log_of}
 use Rattle.copy_rows.specs.Rows.{rows_of}
-use Rattle.copy_rows.specs.declared.parse.TheConstants.{LAST_EPOCH}
+use Rattle.copy_rows.specs.Limits.{last_epoch}
 
 -- its text is UTF-8, and in format 1, which older programs wrote, no operation adds to a counter
 abbrev pub IsWritable : ℕ → Op → Type 0
@@ -21,7 +21,7 @@ AreWritable format docs = AllByRecursion (λ d. AllByRecursion (IsWritable forma
 -- A format that is known, an epoch that may have been given out, and the rows of good documents.
 pub record IsSoundContent (what : Content) : Type 0 where
   pub known : (what.format ≡ 2) ⊎ (what.format ≡ 1)
-  pub given_out : what.epoch ≤ LAST_EPOCH
+  pub given_out : what.epoch ≤ last_epoch
   pub docs : List Doc
   pub in_order : AreInOrder docs
   pub good : AreGood docs

@@ -9,6 +9,7 @@ ghost use Rattle.copy_tables.specs.Steps.{StaysOutside};
 ghost use Rattle.copy_docs.specs.Docs.{AreInOrder, AreGood};
 ghost use Rattle.copy_rows.specs.Accepted.{AreWritable, IsSoundContent};
 ghost use Rattle.copy_rows.specs.Rows.{rows_of};
+ghost use Rattle.copy_rows.specs.Shown.{AreShown, ShowsNoLogs};
 
 use crate::parse::add_row;
 use copy_docs::{Fault, KeptDoc};
@@ -27,14 +28,20 @@ pub fn read_docs<S: Alter>(
     ensures in_format { IfOk result (λ docs. AreWritable format docs.items) }
     ensures ok { HasCleanDisk (state S.Store conn.new)
         → IfOk result (λ docs. (state S.Store conn.old).now.schema ≡ copy_schema
-        → IsPermutation (map entry_columns ((state S.Store conn.old).now.trees entry_tree)) (rows_of docs.items)
-        × IsUnchanged (state S.Store conn.old) (state S.Store conn.new)) }
+        → IsPermutation (map entry_columns ((state S.Store conn.old).now.trees entry_tree)) (rows_of docs.items)) }
     ensures accepts { HasCleanDisk (state S.Store conn.new)
         → IfErr result (λ e. (was : Content) → IsSoundContent was → was.format ≡ format
         → (state S.Store conn.old).now.schema ≡ copy_schema
         → Holds was (state S.Store conn.old).now.trees → e ≢ Fault.Refused) }
-    ensures crash { Survives (state S.Store conn.old) (state S.Store conn.new)
-        (λ _. (state S.Store conn.old).now.schema ≢ copy_schema) }
+    // Also beside further tables, from here on: these are the documents of the rows that the database
+    // showed, and rows of good documents are not refused.
+    ensures shown { HasCleanDisk (state S.Store conn.new)
+        → IfOk result (λ docs. AreShown S.Store conn.old conn.new docs.items) }
+    ensures refused { HasCleanDisk (state S.Store conn.new)
+        → IfErr result (λ e. e ≡ Fault.Refused → ShowsNoLogs S.Store format conn.old) }
+    ensures unchanged { HasCleanDisk (state S.Store conn.new)
+        → IfOk result (λ _. IsUnchanged (state S.Store conn.old) (state S.Store conn.new)) }
+    ensures crash { Survives (state S.Store conn.old) (state S.Store conn.new) (λ _. ⊥) }
     ensures outside { StaysOutside (state S.Store conn.old) (state S.Store conn.new) }
 {
     let Ok(mut rows) = conn.query(

@@ -5,7 +5,7 @@ use Rattle.sqlite.specs.declared.types.Value.TheVariants.{Int}
 use Rattle.sqlite.specs.Order.{Row}
 use Rattle.sqlite.specs.Tree.{Trees}
 use Rattle.sqlite.specs.Held.{Held, state}
-use Rattle.sqlite.specs.State.{HasCleanDisk, Survives, Executes, CommitsBy, Shown, FailsToQuery}
+use Rattle.sqlite.specs.State.{HasCleanDisk, Survives, Executes, CommitsBy, Begins, Shown, FailsToQuery}
 use Rattle.sqlite.specs.declared.error.Error.{Error}
 use Rattle.copy_schema.specs.Tables.{meta_text, entry_text}
 
@@ -40,6 +40,9 @@ roll_it_back = record { text = codes "ROLLBACK"; params = [] }
 
 abbrev pub select_meta : Statement
 select_meta = record { text = codes "SELECT rowid, name, value FROM meta ORDER BY name DESC"; params = [] }
+
+abbrev pub select_entries : Statement
+select_entries = record { text = codes "SELECT doc, place, text FROM entry ORDER BY doc, place"; params = [] }
 
 abbrev pub create_meta_it : Statement
 create_meta_it = record { text = meta_text; params = [] }
@@ -83,11 +86,15 @@ StopsBy g [] old new error = ⊥
 StopsBy {S} g (it ∷ more) old new error =
     RunsTo g it old new (Err error) ⊎ ((mid : Held S) × Ran g it old mid × StopsBy g more mid new error)
 
+-- it commits this
+abbrev pub CommitsFor : {S : Type 0} → Ghosts S → Statement → Held S → Trees → Type 0
+CommitsFor g it old db = CommitsBy it.text it.params (state g old) db
+
 -- one of them commits this, after those before it ran
 abbrev pub CommitsOneOf : {S : Type 0} → Ghosts S → List Statement → Held S → Trees → Type 0
 CommitsOneOf g [] old db = ⊥
 CommitsOneOf {S} g (it ∷ more) old db =
-    CommitsBy it.text it.params (state g old) db ⊎ ((mid : Held S) × Ran g it old mid × CommitsOneOf g more mid db)
+    CommitsFor g it old db ⊎ ((mid : Held S) × Ran g it old mid × CommitsOneOf g more mid db)
 
 -- They were run in turn, up to the first that failed. A crash leaves what was there before, or what one of
 -- them commits.
@@ -102,6 +109,10 @@ pub record RunsThrough {S T : Type 0} (g : Ghosts S) (its : List Statement) (old
 -- the database showed these rows for it
 abbrev pub ShowsFor : {S : Type 0} → Ghosts S → Statement → Held S → Held S → List Row → Type 0
 ShowsFor g it old new rows = Shown it.text it.params (state g old) (state g new) rows
+
+-- the database began to answer it by these rows
+abbrev pub BeginsFor : {S : Type 0} → Ghosts S → Statement → Held S → List Row → Type 0
+BeginsFor g it held rows = Begins it.text it.params (state g held) rows
 
 -- the database answered it by this error
 abbrev pub FailsFor : {S : Type 0} → Ghosts S → Statement → Held S → Held S → Error → Type 0

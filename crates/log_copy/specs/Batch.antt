@@ -9,10 +9,10 @@ use Rattle.lamport_id.specs.Name.{is_name}
 use Rattle.op_core.specs.Op.{Op}
 use Rattle.crdt_rules.specs.Log.{IsGood}
 use Rattle.copy_schema.specs.Content.{Content, Holds, with_rows, rows_from}
-use Rattle.copy_tables.specs.Statements.{RanAll, batch_of}
+use Rattle.copy_tables.specs.Statements.{CommitsOneOf, RanAll, batch_of}
 use Rattle.copy_tables.specs.Steps.{IsOpenWith}
 use Rattle.copy_docs.specs.Docs.{Doc, op_text, log_of, add_log, IsBatch}
-use Rattle.copy_docs.specs.declared.docs.TheConstants.{MAX_BATCH}
+use Rattle.copy_docs.specs.Limits.{most_rows}
 use Rattle.copy_docs.specs.declared.fault.Fault.{Fault}
 use Rattle.copy_docs.specs.declared.fault.Fault.TheVariants.{Refused, Store, Memory}
 use Rattle.copy_rows.specs.Accepted.{IsWritable}
@@ -20,7 +20,7 @@ use Rattle.log_copy.specs.Failing.{FailsAmong}
 
 -- these may be tried as a batch, and may still not fit
 abbrev pub MayAdd : List ℕ → ℕ → List Op → List Doc → Type 0
-MayAdd name from ops docs = (is_name name ≡ true) × (from ≡ length (log_of name docs)) × (length ops ≤ MAX_BATCH)
+MayAdd name from ops docs = (is_name name ≡ true) × (from ≡ length (log_of name docs)) × (length ops ≤ most_rows)
 
 abbrev pub is_store : {T : Type 0} → Result T Fault → Bool
 is_store (Ok x) = false
@@ -39,6 +39,8 @@ module _ {S : Type 0} (g : Ghosts S) (name : List ℕ) (from : ℕ) (ops : List 
     pub added : now ≡ add_log name ops docs
     pub survives : Survives (state g old) (state g new) (λ db. (was : Content) → IsOpenWith was (state g old)
         → Holds (with_rows (rows_from name (from + 1) (map op_text ops)) was) db)
+    pub commits : Survives (state g old) (state g new)
+        (CommitsOneOf g (batch_of (rows_from name (from + 1) (map op_text ops))) old)
 
   -- The database answered them too.
   pub record Stores : Type 0 where

@@ -48,7 +48,7 @@ returns-in-Ok g c =
     let new = c.put_entries.new.conn in
     inr (record {
       sent = sends g.S.Store c.args.doc.now c.args.from c.args.entries.now old new c.args.docs.now.items c.add_kept.new.docs.items (map string_bytes c.as_slice-2.result.now) told may
-          (some_from c.args.entries.now (sym c.is_empty.ensures ∙ c.if-is_empty.false)) c.in_ok-texts.ensures.ok.1 (texts_writable c.as_slice-2.result.now c.args.entries.now told) c.in_ok-texts.ensures.ok.0 c.put_entries.ensures.crash;
+          (some_from c.args.entries.now (sym c.is_empty.ensures ∙ c.if-is_empty.false)) c.in_ok-texts.ensures.ok.1 (texts_writable c.as_slice-2.result.now c.args.entries.now told) c.in_ok-texts.ensures.ok.0 c.put_entries.ensures.crash c.put_entries.ensures.commits;
       shows = subst (λ (t : List (List ℕ)). HasCleanDisk (state g.S.Store new) → (was : Content) → IsOpenWith was (state g.S.Store old) → IsOpenWith (with_rows (rows_from c.args.doc.now (c.args.from + 1) t) was) (state g.S.Store new)) told c.in-Ok.ensures.ok;
       ran = subst (λ (t : List (List ℕ)). HasCleanDisk (state g.S.Store new) → RanAll g.S.Store (batch_of (rows_from c.args.doc.now (c.args.from + 1) t)) old new) told c.in-Ok.ensures.ran;
     })
@@ -60,6 +60,6 @@ returns g c =
     let old = c.args.conn.now in
     let new = c.put_entries.new.conn in record {
       sent = sends g.S.Store c.args.doc.now c.args.from c.args.entries.now old new c.args.docs.now.items c.add_kept.new.docs.items (map string_bytes c.as_slice-2.result.now) told may
-          (some_from c.args.entries.now (sym c.is_empty.ensures ∙ c.if-is_empty.false)) c.in_ok-texts.ensures.ok.1 (texts_writable c.as_slice-2.result.now c.args.entries.now told) c.in_ok-texts.ensures.ok.0 c.put_entries.ensures.crash;
+          (some_from c.args.entries.now (sym c.is_empty.ensures ∙ c.if-is_empty.false)) c.in_ok-texts.ensures.ok.1 (texts_writable c.as_slice-2.result.now c.args.entries.now told) c.in_ok-texts.ensures.ok.0 c.put_entries.ensures.crash c.put_entries.ensures.commits;
       failed = λ clean. subst (λ (t : List (List ℕ)). FailsAmong g.S.Store (batch_of (rows_from c.args.doc.now (c.args.from + 1) t)) old new) told (c.in-Err.error, c.in-Err.ensures.err clean);
     }

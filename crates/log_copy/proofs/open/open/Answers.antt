@@ -1,4 +1,4 @@
-use Rattle.std.proofs.Common.{◌≡◌, inl, inr, sym, ◌∙◌}
+use Rattle.std.proofs.Common.{◌≡◌, ◌⊎◌, inl, inr, sym, ◌∙◌}
 use Rattle.std.proofs.lemmas.Result.{IfOk-weaker, IfErr-weaker}
 use Rattle.sqlite.specs.Held.{state}
 use Rattle.sqlite.proofs.StateLemmas.{survives_weaker}
@@ -19,8 +19,11 @@ returns-then-not-is_autocommit g c =
       accepts = λ clean was sound serves refused. inside serves.autocommit;
       crash = λ ours. survives_same old _;
       outside = λ clean same. same;
-      refused = λ is ours. survives_same old _;
+      refused = λ is. survives_same old _;
       bare = λ is it. inside it.autocommit;
+      no_copy = λ clean is. inl inside;
+      taken = λ clean. tt;
+      commits = survives_same old _;
       asked = λ is. absurd cc;
       database = λ clean is. absurd cc;
     }
@@ -40,8 +43,11 @@ returns-in-Neither g c =
       accepts = λ clean. IfErr-weaker c.fresh.result _ _ (λ e is was sound serves refused. no_copy serves.schema) c.fresh.ensures.err;
       crash = λ ours. survives_weaker old (state g.S.Store c.fresh.new.conn) _ _ (λ clean db h. inl (is_bare ours, h (is_bare ours))) c.fresh.ensures.crash;
       outside = c.fresh.ensures.outside;
-      refused = λ is ours. absurd (never_refused c.fresh.result c.fresh.ensures.err is);
+      refused = λ is. absurd (never_refused c.fresh.result c.fresh.ensures.err is);
       bare = λ is. absurd (never_refused c.fresh.result c.fresh.ensures.err is);
+      no_copy = λ clean. IfErr-weaker c.fresh.result _ _ (λ e same is. absurd cc) c.fresh.ensures.err;
+      taken = λ clean. IfOk-weaker c.fresh.result _ _ (λ o made. inl (neither, made)) (c.fresh.ensures.made clean);
+      commits = survives_weaker old (state g.S.Store c.fresh.new.conn) _ _ (λ clean db h. inl (neither, h)) c.fresh.ensures.commits;
       asked = IfErr-weaker c.fresh.result _ _ (λ e same is. record { autocommit = autocommit; tables = inl neither }) c.fresh.ensures.err;
       database = λ clean. IfErr-weaker c.fresh.result _ _ (λ e fails is. inl (neither, fails)) (c.fresh.ensures.database clean);
     }
@@ -61,8 +67,11 @@ returns-in-Both g c =
       accepts = c.stored.ensures.accepts;
       crash = λ ours. survives_weaker old (state g.S.Store c.stored.new.conn) _ _ (λ clean db h. inr h) (c.stored.ensures.crash idle (is_copy ours));
       outside = c.stored.ensures.outside;
-      refused = λ is ours. c.stored.ensures.refused is (is_copy ours);
+      refused = c.stored.ensures.refused;
       bare = λ is. not_bare;
+      no_copy = λ clean. IfErr-weaker c.stored.result _ _ (λ e none is. inr (inr (both, none is))) (c.stored.ensures.no_copy clean);
+      taken = λ clean. IfOk-weaker c.stored.result _ _ (λ o read. inr (both, read)) (c.stored.ensures.read clean);
+      commits = c.stored.ensures.commits both;
       asked = any_error c.stored.result (λ e is. record { autocommit = idle.autocommit; tables = inr both });
       database = λ clean. IfErr-weaker c.stored.result _ _ (λ e fails is. inr (both, fails is)) (c.stored.ensures.database clean);
     }
@@ -72,6 +81,10 @@ returns-in-Other g c =
     let old = state g.S.Store c.args.conn.now in
     let no_copy : old.now.schema ≡ copy_schema → ⊥ = λ is. absurd (let both = copy_is_both old.now.schema c.find_tables.result (rw c.schema.ensures.value at c.find_tables.ensures.both) is in let here = c.in-Other.is in cc) in
     let not_bare : IsBare old → ⊥ = λ it. absurd (let neither = bare_is_neither old.now.schema c.find_tables.result (rw c.schema.ensures.value at c.find_tables.ensures.neither) it.schema in let here = c.in-Other.is in cc) in
+    let other : HasNeither old.now.schema ⊎ HasBoth old.now.schema → ⊥ = λ some. elim some [
+      | inl neither ↦ absurd (let is = (rw c.schema.ensures.value at c.find_tables.ensures.neither).1 neither in let here = c.in-Other.is in cc)
+      | inr both ↦ absurd (let is = (rw c.schema.ensures.value at c.find_tables.ensures.both).1 both in let here = c.in-Other.is in cc)
+    ] in
     record {
       good = tt;
       alone = tt;
@@ -80,8 +93,11 @@ returns-in-Other g c =
       accepts = λ clean was sound serves refused. no_copy serves.schema;
       crash = λ ours. survives_same old _;
       outside = λ clean same. same;
-      refused = λ is ours. survives_same old _;
+      refused = λ is. survives_same old _;
       bare = λ is. not_bare;
+      no_copy = λ clean is. inr (inl other);
+      taken = λ clean. tt;
+      commits = survives_same old _;
       asked = λ is. absurd cc;
       database = λ clean is. absurd cc;
     }
