@@ -10,17 +10,14 @@ use Rattle.list_order.specs.declared.marks.Mark.{Mark}
 use Rattle.list_order.specs.declared.marks.MarkBlock.{MarkBlock}
 use Rattle.list_order.specs.Slots.{slot_at, IsPath, slots_from, LinksEnd}
 use Rattle.list_order.specs.Marks.{mark_at, count_where, is_marked_in, from_block, start_of, IsInBlockOrder, present_along, bit, block_at, IsCounted}
-use Rattle.list_order.proofs.Paths.{path_from-path, walk_from_path, length-path_from}
+pub use Rattle.list_order.specs.Marks.{Along}
+use Rattle.std.specs.Option.{ForSome}
+use Rattle.list_order.proofs.Paths.{path_from-path, walk_from_path, walk-Some, length-path_from}
 use Rattle.list_order.proofs.Scanning.{IsStep}
 
 -- one that is at most the last, and isn't it
 pub less_of : (k len : ℕ) → eqb k len ≡ false → k < suc len → k < len
 less_of k len e h = grind (arith, nat_tests)
-
--- each slot of a path is so
-abbrev pub Along : (SlotNumber → Type 0) → List SlotNumber → Type 0
-Along P [] = Unit {0}
-Along P (n ∷ path) = P n × Along P path
 
 pub along : {P : SlotNumber → Type 0} → ((n : SlotNumber) → P n) → (path : List SlotNumber) → Along P path
 along f [] = tt
@@ -29,6 +26,10 @@ along f (n ∷ path) = (f n, along f path)
 pub along-map : {P Q : SlotNumber → Type 0} → ((n : SlotNumber) → P n → Q n) → (path : List SlotNumber) → Along P path → Along Q path
 along-map f [] a = tt
 along-map f (n ∷ path) a = (f n a.0, along-map f path a.1)
+
+pub along-both : {P Q R : SlotNumber → Type 0} → ((n : SlotNumber) → P n → Q n → R n) → (path : List SlotNumber) → Along P path → Along Q path → Along R path
+along-both f [] a b = tt
+along-both f (n ∷ path) a b = (f n a.0 b.0, along-both f path a.1 b.1)
 
 pub along-append : (P : SlotNumber → Type 0) (xs ys : List SlotNumber) → Along P (xs ++ ys) → Along P xs × Along P ys
 along-append P [] ys a = (tt, a)
@@ -147,19 +148,29 @@ module _ (marks : List Mark) where
 
   -- from block to block
   module _ (slots : List Slot) (first : Option SlotNumber) (blocks : List MarkBlock) (walk : LinksEnd slots first) (counted : IsCounted marks blocks (slots_from slots first) None) where
+    -- what stands behind a block
+    pub block_end : (k : ℕ) → k < length blocks → LinksEnd slots (block_at blocks k).end × (slots_from slots (block_at blocks k).end ≡ from_block (suc k) marks (slots_from slots first))
+    block_end k within =
+        let path : List SlotNumber = slots_from slots first in
+        let on : IsPath slots (block_at blocks k).end (from_block (suc k) marks path) =
+        subst (λ o. IsPath slots o (from_block (suc k) marks path)) (sym (counted.ends k within)) (path-from slots (suc k) first path walk.path) in
+        let short : length (from_block (suc k) marks path) ≤ length slots = omega (arith, length-from (suc k) path, length-path_from slots first) in
+        (walk_from_path slots (block_at blocks k).end (from_block (suc k) marks path) on short, path_from-path slots (block_at blocks k).end (from_block (suc k) marks path) on short)
+
+    pub end_within : (k : ℕ) → k < length blocks → ForSome (block_at blocks k).end (λ m. m.0 < length slots)
+    end_within k within = λ m e. (walk-Some slots m (subst (LinksEnd slots) e (block_end k within).0)).0
+
     pub block_step : (k : ℕ) (at : Option SlotNumber) → k < length blocks → slots_from slots at ≡ from_block k marks (slots_from slots first)
         → LinksEnd slots (block_at blocks k).end
         × (slots_from slots (block_at blocks k).end ≡ from_block (k + 1) marks (slots_from slots first))
         × (present_along slots marks (slots_from slots (block_at blocks k).end) ≡ drop (block_at blocks k).present (present_along slots marks (slots_from slots at)))
     block_step k at within rest =
         let path : List SlotNumber = slots_from slots first in
-        let on : IsPath slots (block_at blocks k).end (from_block (suc k) marks path) =
-        subst (λ o. IsPath slots o (from_block (suc k) marks path)) (sym (counted.ends k within)) (path-from slots (suc k) first path walk.path) in
-        let short : length (from_block (suc k) marks path) ≤ length slots = omega (arith, length-from (suc k) path, length-path_from slots first) in
-        let there : slots_from slots (block_at blocks k).end ≡ from_block (suc k) marks path = path_from-path slots (block_at blocks k).end (from_block (suc k) marks path) on short in
+        let end = block_end k within in
+        let there : slots_from slots (block_at blocks k).end ≡ from_block (suc k) marks path = end.1 in
         let count : count_where (is_marked_in k) marks (from_block k marks path) ≡ (block_at blocks k).present = count-from k path ∙ sym (counted.counted k within) in
         let one : k + 1 ≡ suc k = omega arith in (
-          walk_from_path slots (block_at blocks k).end (from_block (suc k) marks path) on short,
+          end.0,
           there ∙ ap (λ m. from_block m marks path) (sym one),
           ap (present_along slots marks) (there ∙ sym (from-from k path))
               ∙ skip slots k k (from_block k marks path) (omega arith) (rising-from k 0 path counted.rising)

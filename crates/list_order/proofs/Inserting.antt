@@ -1,5 +1,5 @@
 -- What an insertion makes of linked slots and their index.
-use Rattle.std.proofs.Common.{◌≡◌, ◌<◌, ◌≤◌, ◌+◌, ℕ, zero, suc, List, [], ◌∷◌, ◌++◌, length, length-append, get_or, Bool, true, false, if◌then◌else◌, Option, Some, None, Contains, refl, sym, ap, ◌∙◌, subst, arith}
+use Rattle.std.proofs.Common.{◌≡◌, ◌<◌, ◌≤◌, ◌+◌, ℕ, zero, suc, List, [], ◌∷◌, ◌++◌, append_assoc, length, length-append, get_or, Bool, true, false, if◌then◌else◌, Option, Some, None, Contains, refl, sym, ap, ◌∙◌, subst, arith}
 use Rattle.std.specs.Option.{ForSome}
 use Rattle.lamport_id.specs.declared.id.Id.{Id}
 use Rattle.crdt_rules.specs.Same.{id_eq}
@@ -15,7 +15,7 @@ use Rattle.std.proofs.Math.ListN.{get_or-append}
 use Rattle.std.proofs.Math.Seq.{get_or-append_seam}
 use Rattle.list_order.specs.declared.marks.Mark.{Mark}
 use Rattle.list_order.specs.Entries.{absent, entry_cmp, entry_of_reference}
-use Rattle.list_order.specs.Marks.{mark_at, unmarked, new_mark, entries_along}
+use Rattle.list_order.specs.Marks.{mark_at, unmarked, new_mark, entries_along, LeadsTo}
 use Rattle.list_order.proofs.Counting.{Along, IsSameMark}
 use Rattle.list_order.proofs.Paths.{path_from-path, walk_from_path, walk-None, path-append}
 use Rattle.list_order.proofs.Placing.{IsCut, IsReference, found, insertion_cuts}
@@ -89,6 +89,18 @@ module _ {slots : List Slot} {first : Option SlotNumber} {index : List (Id × Sl
   reference_walk None reference e = subst (λ r. LinksEnd slots (behind slots first r)) e first_walk
   reference_walk (Some id) None e = first_walk
   reference_walk (Some id) (Some p) e = (number_within id p e).1
+
+  -- the links lead to what is behind it
+  pub reference_leads : (after : Option Id) (reference : Option SlotNumber) → number_for index after ≡ reference → LeadsTo slots first (behind slots first reference)
+  reference_leads None reference e = subst (λ r. LeadsTo slots first (behind slots first r)) e ([], refl)
+  reference_leads (Some id) None e = ([], refl)
+  reference_leads (Some id) (Some p) e =
+      let f = found slots [] (slots_from slots first) id p (sym (o.exact id) ∙ e) in
+      let on = path-append slots f.front p f.rest first (subst (λ l. IsPath slots first l) f.parts o.path) in
+      let short : length f.rest ≤ length slots = omega (arith, o.every, ap length f.parts, length-append f.front (p ∷ f.rest)) in (
+        f.front ++ p ∷ [],
+        f.parts ∙ sym (append_assoc f.front (p ∷ []) f.rest) ∙ ap (λ l. (f.front ++ p ∷ []) ++ l) (sym (path_from-path slots (slot_at slots p).next f.rest on.1 short)),
+      )
 
   stays : (marks : List Mark) (mark : Mark) → length marks ≡ length slots → (at : Option SlotNumber) (path : List SlotNumber) → IsPath slots at path
       → Along (IsSameMark marks (marks ++ mark ∷ [])) path

@@ -16,6 +16,7 @@ use Rattle.list_order.proofs.Paths.{length-path_from}
 use Rattle.list_order.proofs.Placing.{found}
 use Rattle.list_order.proofs.Inserting.{number_within}
 use Rattle.list_order.proofs.Counting.{Along, along, IsSameMark, IsSameBlock, not_other}
+use Rattle.list_order.proofs.Lowering.{set_keeps}
 use Rattle.list_order.proofs.Same.{count-same, from-same, rising-same, count-append, count_within}
 use Rattle.list_order.proofs.Apart.{apart_front, apart_rest, set_here, set_other, set_apart}
 
@@ -138,8 +139,8 @@ module _ {slots : List Slot} {first : Option SlotNumber} {index : List (Id × Sl
         in_block = λ h. (may_move (is_marked_in was.block) (block_at blocks was.block).present (k.counted.counted was.block h) in_block in_block_now small).0;
       }
 
-      same_blocks : Along (IsSameBlock marks new) (slots_from slots first)
-      same_blocks = along (λ m. go m (eqb m.0 n.0) refl) (slots_from slots first)
+      same_block : (m : SlotNumber) → IsSameBlock marks new m
+      same_block m = go m (eqb m.0 n.0) refl
         where
           go : (m : SlotNumber) (b : Bool) → eqb m.0 n.0 ≡ b → IsSameBlock marks new m
           go m true f =
@@ -147,8 +148,15 @@ module _ {slots : List Slot} {first : Option SlotNumber} {index : List (Id × Sl
               ap (λ j. (mark_at new j).block) at ∙ ap (λ x. x.block) here ∙ ap (λ j. (mark_at marks j).block) (sym at)
           go m false f = ap (λ x. x.block) (set_other marks n mark m (λ h. true≢false (sym (eq-eqb m.0 n.0 (ap (λ j. j.0) h)) ∙ f)))
 
+      same_blocks : Along (IsSameBlock marks new) (slots_from slots first)
+      same_blocks = along same_block (slots_from slots first)
+
       abbrev block : MarkBlock
-      block = record { present = moved (block_at blocks was.block).present was.is_present is; end = (block_at blocks was.block).end }
+      block = record {
+        present = moved (block_at blocks was.block).present was.is_present is;
+        end = (block_at blocks was.block).end;
+        least_counter = (block_at blocks was.block).least_counter;
+      }
 
       count : (j : ℕ) → (b : Bool) → eqb j was.block ≡ b → j < length blocks → (block_at (set blocks was.block block) j).present ≡ count_where (is_marked_in j) new (slots_from slots first)
       count j true f h =
@@ -185,6 +193,10 @@ module _ {slots : List Slot} {first : Option SlotNumber} {index : List (Id × Sl
           ends = λ j h. stays j (eqb j was.block) refl (omega (arith, h, length-set blocks was.block block)) ∙ k.counted.ends j (omega (arith, h, length-set blocks was.block block)) ∙ ap (start_of None) (sym (from-same marks new (suc j) (slots_from slots first) same_blocks));
         };
         all = sym (may_move is_marked present k.all refl refl small).1;
+        above = λ m h.
+            let in_block : (block_at (set blocks was.block block) (mark_at new m).block).least_counter ≡ (block_at blocks (mark_at marks m).block).least_counter =
+            ap (λ j. (block_at (set blocks was.block block) j).least_counter) (same_block m) ∙ set_keeps (λ x. x.least_counter) blocks was.block block refl (mark_at marks m).block in
+            omega (arith, k.above m h, in_block);
       }
 
     changed : (m : SlotNumber) → m.0 < length slots → (b : Bool) → id_eq (slot_at slots m).id id ≡ b

@@ -1,6 +1,7 @@
 -- What is kept of each slot beside its id and link: whether its id is present, and the block that it is in.
-use Rattle.std.specs.Prelude.{◌≡◌, ◌⊎◌, ◌++◌, ◌<◌, ◌≤◌, ◌+◌, ◌-◌, ◌^◌, ℕ, suc, List, [], ◌∷◌, map, length, Bool, false, ◌&&◌, nat_eq, nat_le, Option, Some, None, slice_index_or, slice_set, if◌then◌else◌}
-use Rattle.lamport_id.specs.declared.id.Id.{Id}
+use Rattle.std.specs.Prelude.{◌≡◌, ◌⊎◌, ◌++◌, ◌<◌, ◌≤◌, ◌+◌, ◌-◌, ◌^◌, min, ℕ, suc, List, [], ◌∷◌, map, length, Bool, false, ◌&&◌, nat_eq, nat_le, Option, Some, None, slice_index_or, slice_set, if◌then◌else◌}
+use Rattle.std.specs.Ordering.{is_lt}
+use Rattle.doc_words.specs.Words.{Id, id_cmp}
 use Rattle.presence_set.specs.ById.{get}
 use Rattle.list_order.specs.declared.slots.Slot.{Slot}
 use Rattle.list_order.specs.declared.slots.SlotNumber.{SlotNumber}
@@ -17,7 +18,7 @@ mark_at marks n = slice_index_or marks n.0 unmarked
 
 -- a block for numbers that name none
 abbrev pub no_block : MarkBlock
-no_block = record { present = 0; end = None }
+no_block = record { present = 0; end = None; least_counter = 0 }
 
 abbrev pub block_at : List MarkBlock → ℕ → MarkBlock
 block_at blocks k = slice_index_or blocks k no_block
@@ -82,9 +83,45 @@ abbrev pub set_block : List Mark → SlotNumber → ℕ → List Mark
 set_block marks n block = slice_set marks n.0 (record { is_present = (mark_at marks n).is_present; block = block })
 
 -- the open block was closed, or stays open
-abbrev pub IsClosed : List MarkBlock → List MarkBlock → ℕ → Option SlotNumber → ℕ → Type 0
-IsClosed blocks new present end left =
-    ((new ≡ blocks ++ record { present = present; end = end } ∷ []) × (left ≡ 0)) ⊎ ((new ≡ blocks) × (left ≡ present))
+abbrev pub IsClosed : List MarkBlock → List MarkBlock → ℕ → ℕ → Option SlotNumber → ℕ → ℕ → Type 0
+IsClosed blocks new present least end left least_left =
+    ((new ≡ blocks ++ record { present = present; end = end; least_counter = least } ∷ []) × (left ≡ 0))
+    ⊎ ((new ≡ blocks) × (left ≡ present) × (least_left ≡ least))
+
+-- each slot of a path is so
+abbrev pub Along : (SlotNumber → Type 0) → List SlotNumber → Type 0
+Along P [] = Unit {0}
+Along P (n ∷ path) = P n × Along P path
+
+-- the counter of a slot's id is at least what the slot's block says. A slot in no block is so
+abbrev pub IsAbove : List Slot → List Mark → List MarkBlock → SlotNumber → Type 0
+IsAbove slots marks blocks n = (block_at blocks (mark_at marks n).block).least_counter ≤ (slot_at slots n).id.counter
+
+-- a block has an id with this counter, too
+abbrev pub lowered_in : List MarkBlock → ℕ → ℕ → List MarkBlock
+lowered_in blocks k counter =
+    slice_set blocks k
+    (record {
+      present = (block_at blocks k).present;
+      end = (block_at blocks k).end;
+      least_counter = min (block_at blocks k).least_counter counter;
+    })
+
+-- the slots from the first one on lead to this one
+abbrev pub LeadsTo : List Slot → Option SlotNumber → Option SlotNumber → Type 0
+LeadsTo slots first at = (front : List SlotNumber) × (slots_from slots first ≡ front ++ slots_from slots at)
+
+-- behind the block of a slot there is this one. The ids of the block and of that slot are greater than the id
+pub record SkipsTo (slots : List Slot) (marks : List Mark) (blocks : List MarkBlock) (id : Id) (n m : SlotNumber) : Type 0 where
+  pub block : (mark_at marks n).block < length blocks
+  pub above : id.counter < (block_at blocks (mark_at marks n).block).least_counter
+  pub end : (block_at blocks (mark_at marks n).block).end ≡ Some m
+  pub greater : is_lt (id_cmp (slot_at slots m).id id) ≡ false
+
+-- from a slot that is passed one goes on to the next one, or to the one behind its block
+abbrev pub PassesOn : List Slot → List Mark → List MarkBlock → Id → SlotNumber → Option SlotNumber → Type 0
+PassesOn slots marks blocks id n next =
+    (next ≡ (slot_at slots n).next) ⊎ ((m : SlotNumber) × (next ≡ Some m) × SkipsTo slots marks blocks id n m)
 
 -- the same ids are present, and the blocks are cut anew
 pub record IsRecut (marks new : List Mark) (blocks : List MarkBlock) (path : List SlotNumber) : Type 0 where
@@ -95,7 +132,12 @@ pub record IsRecut (marks new : List Mark) (blocks : List MarkBlock) (path : Lis
 -- the blocks with one count moved
 abbrev pub moved_in : List MarkBlock → ℕ → Bool → Bool → List MarkBlock
 moved_in blocks k was is =
-    slice_set blocks k (record { present = moved (block_at blocks k).present was is; end = (block_at blocks k).end })
+    slice_set blocks k
+    (record {
+      present = moved (block_at blocks k).present was is;
+      end = (block_at blocks k).end;
+      least_counter = (block_at blocks k).least_counter;
+    })
 
 -- a count may be moved
 pub record MayMove (count : ℕ) (was is : Bool) : Type 0 where
@@ -129,3 +171,4 @@ pub record IsMarkedOrder (slots : List Slot) (first : Option SlotNumber) (index 
   pub marked : length marks ≡ length slots
   pub counted : IsCounted marks blocks (slots_from slots first) None
   pub all : present ≡ count_where is_marked marks (slots_from slots first)
+  pub above : (n : SlotNumber) → n.0 < length slots → IsAbove slots marks blocks n

@@ -10,13 +10,13 @@ ghost use Rattle.list_order.specs.Entries.{ids_of, present_of, entry_cmp, absent
 ghost use Rattle.list_order.specs.Following.{following};
 
 use crate::marks::{
-    Mark, MarkBlock, NextCuts, add_mark, blocks_wanted, first_cuts, mark_at, nth_along,
-    recut_if_due, set_presence,
+    Mark, MarkBlock, NextCuts, add_mark, blocks_wanted, first_cuts, lower_least, mark_at,
+    nth_along, recut_if_due, set_presence,
 };
+use crate::passing::last_passed;
 use crate::present::present_ids;
 use crate::slots::{
-    Slot, SlotNumber, add_entry, behind, ids_from, last_passed, link, number_for, number_of,
-    slot_at,
+    Slot, SlotNumber, add_entry, behind, ids_from, link, number_for, number_of, slot_at,
 };
 use lamport_id::Id;
 use std::alloc::{AllocError, Global};
@@ -103,8 +103,21 @@ impl LinkedOrder {
         ensures { self.new ≡ (insert_after entry_cmp self.old.0 (entry_of_reference after) (absent id), self.old.1) }
     {
         let reference = number_for(self.index.as_slice(), after);
-        let previous = last_passed(self.slots.as_slice(), self.first, reference, &id);
+        let previous = last_passed(
+            self.slots.as_slice(),
+            self.first,
+            reference,
+            self.marks.as_slice(),
+            self.blocks.as_slice(),
+            &id,
+        );
         let fresh = SlotNumber(self.slots.len());
+        lower_least(
+            &mut self.blocks,
+            self.marks.as_slice(),
+            previous,
+            id.counter,
+        );
         add_mark(&mut self.marks, previous);
         link(&mut self.slots, &mut self.first, previous, &id);
         add_entry(&mut self.index, &id, fresh);

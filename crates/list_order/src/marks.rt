@@ -2,7 +2,7 @@
 ghost use Rattle.std.specs.Prelude.{◌≡◌, ◌^◌, ◌&&◌, nat_eq, ◌+◌, ◌-◌, ◌<◌, ◌≤◌, ◌++◌, ◌∷◌, [], length, suc, None, Some, slice_get, vec_capacity};
 ghost use Rattle.std.specs.Option.{ForSome};
 ghost use Rattle.list_order.specs.Slots.{slots_from, LinksEnd};
-ghost use Rattle.list_order.specs.Marks.{bit, block_at, moved_in, present_along, set_block, set_mark, new_mark, IsClosed, IsCounted, IsRecut, MaySet};
+ghost use Rattle.list_order.specs.Marks.{bit, block_at, lowered_in, moved_in, present_along, set_block, set_mark, new_mark, Along, IsAbove, IsClosed, IsCounted, IsRecut, MaySet};
 ghost use Rattle.list_order.specs.Marks as Spec;
 
 use crate::slots::{Slot, SlotNumber, slot_at};
@@ -18,11 +18,12 @@ pub struct Mark {
     pub block: usize,
 }
 
-/// How many ids of a block are present, and the slot behind the block.
+/// How many ids of a block are present, the slot behind the block, and a counter that none of the block's ids is below.
 #[derive(Clone, Copy)]
 pub struct MarkBlock {
     pub present: usize,
     pub end: Option<SlotNumber>,
+    pub least_counter: u64,
 }
 
 /// The mark of a slot.
@@ -102,6 +103,23 @@ pub fn move_count(blocks: &mut Vec<MarkBlock>, k: usize, was: bool, is: bool)
     }
 }
 
+/// Says of a block, if there is one of that number, that it has an id with this counter.
+pub fn lower_least(
+    blocks: &mut Vec<MarkBlock>,
+    marks: &[Mark],
+    previous: Option<SlotNumber>,
+    counter: u64,
+)
+    requires known { ForSome previous (λ p. p.0 < length marks.now) }
+    ensures { blocks.new.items ≡ lowered_in blocks.old.items (Spec.block_behind marks.now previous) counter }
+{
+    let k = block_behind(marks, previous);
+    if k < blocks.len() {
+        let least = blocks[k].least_counter;
+        blocks[k].least_counter = least.min(counter);
+    }
+}
+
 // Whether the wanted id is reached.
 fn is_due(is_present: bool, left: usize) -> bool
     ensures { result ≡ (is_present && nat_eq left 0) }
@@ -159,6 +177,18 @@ pub fn nth_along(
 struct Open {
     len: usize,
     present: usize,
+    least_counter: u64,
+}
+
+// No slots.
+fn none_open() -> Open
+    ensures { result.present ≡ 0 }
+{
+    Open {
+        len: 0,
+        present: 0,
+        least_counter: u64::MAX,
+    }
 }
 
 // Puts a slot into a block. The answer is whether its id is present.
@@ -179,7 +209,8 @@ fn closed(
     end: Option<SlotNumber>,
     block_len: usize,
 ) -> Open
-    ensures { IsClosed blocks.old.items blocks.new.items rest.present end result.present }
+    ensures { IsClosed blocks.old.items blocks.new.items rest.present rest.least_counter end
+        result.present result.least_counter }
 {
     if rest.len >= block_len && blocks.len() < blocks.capacity() {
         let last = blocks.len();
@@ -188,12 +219,13 @@ fn closed(
             MarkBlock {
                 present: rest.present,
                 end,
+                least_counter: rest.least_counter,
             },
         ) {
             Ok(()) => {}
             Err(_) => unreachable!(),
         }
-        Open { len: 0, present: 0 }
+        none_open()
     } else {
         rest
     }
@@ -222,17 +254,21 @@ fn cut_on(
     requires walk { LinksEnd slots.now first }
     requires marked { length marks.old.items ≡ length slots.now }
     requires counted { IsCounted marks.old.items blocks.old.items (slots_from slots.now first) None }
+    requires above { Along (IsAbove slots.now marks.old.items blocks.old.items) (slots_from slots.now first) }
     ensures cut { IsRecut marks.old.items marks.new.items blocks.new.items (slots_from slots.now first) }
+    ensures above { Along (IsAbove slots.now marks.new.items blocks.new.items) (slots_from slots.now first) }
     ensures capacity { vec_capacity marks.new ≡ vec_capacity marks.old }
 {
-    let mut rest = Open { len: 0, present: 0 };
+    let mut rest = none_open();
     let mut at = behind_blocks(blocks.as_slice(), first);
     while let Some(n) = at {
         let is_present = set_block(marks, n, blocks.len());
-        at = slot_at(slots, n).next;
+        let slot = slot_at(slots, n);
+        at = slot.next;
         let longer = Open {
             len: rest.len.saturating_add(1),
             present: rest.present + bit(is_present),
+            least_counter: rest.least_counter.min(slot.id.counter),
         };
         rest = closed(blocks, longer, at, block_len);
     }
@@ -293,7 +329,9 @@ pub fn recut_if_due(
     requires walk { LinksEnd slots.now first }
     requires marked { length marks.old.items ≡ length slots.now }
     requires counted { IsCounted marks.old.items blocks.old.items (slots_from slots.now first) None }
+    requires above { Along (IsAbove slots.now marks.old.items blocks.old.items) (slots_from slots.now first) }
     ensures cut { IsRecut marks.old.items marks.new.items blocks.new.items (slots_from slots.now first) }
+    ensures above { Along (IsAbove slots.now marks.new.items blocks.new.items) (slots_from slots.now first) }
     ensures capacity { vec_capacity marks.new ≡ vec_capacity marks.old }
 {
     let len = slots.len();

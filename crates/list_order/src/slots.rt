@@ -46,31 +46,6 @@ pub fn behind(
     }
 }
 
-/// The slot that a new id comes behind: from the slot behind its reference on, it passes greater ids.
-pub fn last_passed(
-    slots: &[Slot],
-    first: Option<SlotNumber>,
-    reference: Option<SlotNumber>,
-    id: &Id,
-) -> Option<SlotNumber>
-    requires known { ForSome reference (λ p. p.0 < length slots.now) }
-    requires walk { LinksEnd slots.now (Spec.behind slots.now first reference) }
-    ensures { result
-        ≡ passed slots.now id.now reference (slots_from slots.now (Spec.behind slots.now first reference)) }
-{
-    let mut previous = reference;
-    let mut at = behind(slots, first, reference);
-    while let Some(n) = at {
-        let slot = slot_at(slots, n);
-        if slot.id < *id {
-            break;
-        }
-        previous = at;
-        at = slot.next;
-    }
-    previous
-}
-
 /// Links a new id in behind a slot, or as the first.
 pub fn link(
     slots: &mut Vec<Slot>,

@@ -6,7 +6,7 @@ use Rattle.list_order.proofs.marks.cut_on.Given as goal
 abbrev pub invariant-loop-at : goal.invariant-loop-at
 invariant-loop-at l = record {
   walk : LinksEnd l.slots l.at;
-  cut : IsPartlyCut l.slots l.fn.first l.fn.marks.items l.marks.items l.blocks.items l.at l.rest.present;
+  cut : IsPartlyCut l.slots l.fn.first l.fn.marks.items l.marks.items l.blocks.items l.at l.rest.present l.rest.least_counter;
   capacity : vec_capacity l.marks ≡ vec_capacity l.fn.marks;
 }
 
