@@ -3,7 +3,7 @@
 ghost use Rattle.std.specs.Prelude.{◌≡◌};
 ghost use Rattle.share_ledger.specs.Begun.{BeginEmpty};
 
-use super::samples::{replies_alone, shared_documents};
+use super::samples::{NO_FAULT, replies_alone, run_two, shared_documents};
 use crate::checks::{holds, replies_are};
 use crate::shopping::{SHOPPED, SHOPPING};
 use json_scalar::Refusal;
@@ -64,6 +64,19 @@ pub fn rows_over_two_documents<R: Threads + Wait + Abort + Sync>(
         let replies = replies_alone(rt, alloc, &["d", "b"], row.input.as_bytes())?;
         replies_are(rt, &row.name, replies.as_slice(), row.output.as_bytes());
     }
+    Ok(())
+}
+
+/// What is held stays held while a document has a seat that no session opened.
+pub fn held_beside_a_free_seat<R: Threads + Wait + Abort + Sync>(
+    rt: &R,
+    alloc: Global,
+) -> Result<(), Refusal> {
+    let lines = [RELEASING.as_bytes(), b"[\"quit\"]\n"];
+    let ran = run_two(rt, alloc, &OpenGate, lines, NO_FAULT)?;
+    let case = "held_beside_a_free_seat";
+    replies_are(rt, &case, ran.first.as_slice(), RELEASED.as_bytes());
+    replies_are(rt, &case, ran.second.as_slice(), b"[\"bye\"]\n");
     Ok(())
 }
 
