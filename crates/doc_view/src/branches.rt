@@ -1,5 +1,5 @@
 //! All that is at a place and below it, as JSON branches.
-ghost use Rattle.std.specs.Prelude.{◌≡◌, ◌<◌, ◌∷◌, [], List, length, Contains, codes};
+ghost use Rattle.std.specs.Prelude.{◌≡◌, ◌<◌, ◌∷◌, [], List, length, Contains, codes, Decides};
 ghost use Rattle.serde_json.specs.Data.{Data, string};
 ghost use Rattle.doc_words.specs.Words.{Key, Tagged};
 ghost use Rattle.op_core.specs.Wire.{list_data};
@@ -8,7 +8,8 @@ ghost use Rattle.doc_nodes.specs.KeyOrder.{IsInKeyOrder};
 ghost use Rattle.doc_nodes.specs.Nodes.{node_of};
 ghost use Rattle.doc_tree.specs.Nodes.{tree_facts};
 ghost use Rattle.doc_rules.specs.Views.{into_list, into_map};
-ghost use Rattle.doc_rules.specs.Shown.{ShowsText};
+ghost use Rattle.doc_rules.specs.Shown.{IsPut, ShowsText};
+ghost use Rattle.json_scalar.specs.declared.scalar.Val.TheVariants.{EmptyMap, EmptyList};
 ghost use Rattle.doc_view.specs.ByNumber.{AtNode, IsTextAt, ShowsThose};
 ghost use Rattle.doc_view.specs.Members.{texts_at, texts_in};
 ghost use Rattle.doc_view.specs.Readings.{GivesUnlessMemory, ReadsUnlessMemory};
@@ -20,7 +21,7 @@ ghost use Rattle.json_text.specs.Tokens.{data_tokens};
 use crate::elements::present_element;
 use crate::json_parts::{begin_branch, end_branch, write_values};
 use crate::maps::present_text;
-use crate::roles::{puts_list, puts_map};
+use crate::roles::empty_put;
 use doc_tree::{EachChild, NodeNumber, SearchHint, Tree};
 use doc_words::CompactText;
 use json_scalar::Refusal;
@@ -69,19 +70,27 @@ fn write_node(
         (λ p k. IsShown tree.now p k d)) text.old text.new) result }
 {
     text.begin_list()?;
-    write_map(alloc, text, tree, at)?;
-    write_list(alloc, text, tree, at)?;
+    let put = empty_put(tree.presence_of(at));
+    write_map(alloc, text, tree, at, put.map)?;
+    write_list(alloc, text, tree, at, put.list)?;
     write_values(text, tree.register_of(at), tree.counter_of(at))?;
     text.end_list()
 }
 
 // The branch of the map at a node.
 #[cycle(node)]
-fn write_map(alloc: Global, text: &mut JsonText, tree: &Tree, at: NodeNumber) -> Result<(), Refusal>
+fn write_map(
+    alloc: Global,
+    text: &mut JsonText,
+    tree: &Tree,
+    at: NodeNumber,
+    is_put: bool,
+) -> Result<(), Refusal>
+    requires { AtNode tree.now at
+        (λ p k. Decides is_put (IsPut (tree_facts tree.now) (tree_values tree.now) p k EmptyMap)) }
     ensures { GivesUnlessMemory (λ _. WritesEach (λ ds. AtNode tree.now at
         (λ p k. IsMapShown tree.now p k ds)) text.old text.new) result }
 {
-    let is_put = puts_map(tree.presence_of(at));
     begin_branch(text, "map", is_put)?;
     let is_begun = write_fields(alloc, text, tree, at, tree.children_of(at), is_put)?;
     end_branch(text, is_begun)
@@ -162,11 +171,13 @@ fn write_list(
     text: &mut JsonText,
     tree: &Tree,
     at: NodeNumber,
+    is_put: bool,
 ) -> Result<(), Refusal>
+    requires { AtNode tree.now at
+        (λ p k. Decides is_put (IsPut (tree_facts tree.now) (tree_values tree.now) p k EmptyList)) }
     ensures { GivesUnlessMemory (λ _. WritesEach (λ ds. AtNode tree.now at
         (λ p k. IsListShown tree.now p k ds)) text.old text.new) result }
 {
-    let is_put = puts_list(tree.presence_of(at));
     begin_branch(text, "list", is_put)?;
     let ids = tree.present_elements_of(alloc, at)?;
     let is_begun = write_elements(alloc, text, tree, at, ids.as_slice(), is_put)?;

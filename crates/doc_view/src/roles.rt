@@ -1,5 +1,5 @@
 //! What operations did at a place.
-ghost use Rattle.std.specs.Prelude.{◌≡◌, ◌++◌, [], option_map};
+ghost use Rattle.std.specs.Prelude.{◌≡◌, ◌++◌, ◌||◌, [], option_map};
 ghost use Rattle.json_scalar.specs.declared.scalar.Val.TheVariants.{Scalar as Plain};
 ghost use Rattle.presence_set.specs.ById.{get};
 ghost use Rattle.doc_tree.specs.Nodes.{tree_facts};
@@ -81,36 +81,43 @@ fn scalar_of_id(id: &Id, scalars: &[(Id, Scalar)]) -> Result<Option<Val>, Refusa
     Ok(None)
 }
 
-/// Some id has the role of one that put an empty map.
-pub fn puts_map(roles: Entries<'_, Role>) -> bool
-    ensures { result ≡ list_any (λ e. showing.is_map e.1) roles.entry }
-{
-    let mut roles = roles;
-    roles.any(|entry| is_map(&entry.1))
+/// Whether an empty map and an empty list are put at a place.
+#[derive(Clone, Copy, Debug)]
+pub struct EmptyPut {
+    pub map: bool,
+    pub list: bool,
 }
 
-/// Some id has the role of one that put an empty list.
-pub fn puts_list(roles: Entries<'_, Role>) -> bool
-    ensures { result ≡ list_any (λ e. showing.is_list_role e.1) roles.entry }
+/// Whether some id has the role of one that put an empty map, or an empty list. It looks at each role, as no order tells
+/// which those are.
+pub fn empty_put(roles: Entries<'_, Role>) -> EmptyPut
+    ensures map { result.map ≡ list_any (λ e. showing.is_map e.1) roles.entry }
+    ensures list { result.list ≡ list_any (λ e. showing.is_list_role e.1) roles.entry }
 {
-    let mut roles = roles;
-    roles.any(|entry| is_list(&entry.1))
-}
-
-fn is_map(role: &Role) -> bool
-    ensures { result ≡ showing.is_map role.now }
-{
-    match role {
-        Role::Map => true,
-        Role::Through | Role::List | Role::Scalar | Role::Counter => false,
+    let mut put = EmptyPut {
+        map: false,
+        list: false,
+    };
+    for entry in roles {
+        put = with_role(put, &entry.1);
     }
+    put
 }
 
-fn is_list(role: &Role) -> bool
-    ensures { result ≡ showing.is_list_role role.now }
+// The same of one role more.
+fn with_role(put: EmptyPut, role: &Role) -> EmptyPut
+    ensures map { result.map ≡ (showing.is_map role.now || put.map) }
+    ensures list { result.list ≡ (showing.is_list_role role.now || put.list) }
 {
     match role {
-        Role::List => true,
-        Role::Through | Role::Map | Role::Scalar | Role::Counter => false,
+        Role::Map => EmptyPut {
+            map: true,
+            list: put.list,
+        },
+        Role::List => EmptyPut {
+            map: put.map,
+            list: true,
+        },
+        Role::Through | Role::Scalar | Role::Counter => put,
     }
 }

@@ -130,15 +130,14 @@ pub write_list-returns : goal.write_list-returns
 write_list-returns t c =
     let tree = c.args.tree.now in
     let n = c.args.at in
-    let put = c.puts_list-is_put.result in
+    let put = c.args.is_put in
     let parts = c.in_ok-is_begun.ensures in
     branch_put (λ ds. AtNode tree n (λ p k. IsListShown tree p k ds)) (codes "list") put c.in_ok-is_begun.is_begun c.args.text.now c.begin_branch.new.text
     c.write_elements.new.text c.end_branch.new.text parts.0 c.end_branch.result
     (λ p k at.
     let those = parts.1 p k at in
     list_from tree p k put those.0 parts.0
-    (subst (λ b. Decides b (IsPut (tree_facts tree) (tree_values tree) p k EmptyList)) (sym c.puts_list-is_put.ensures)
-    (puts_list_decides tree p k c.presence_of.result (roles_by_number tree p k n at c.presence_of.result c.presence_of.ensures.value c.presence_of.ensures.ascending)))
+    (c.requires p k at)
     (elements_by_number tree p k n at c.as_slice.result.now those.0 (c.as_slice.ensures.value ∙ c.in_ok-ids.ensures.ok) those.1)
     those.2)
     c.in_ok-begin_branch.ensures parts.2 parts.3 c.end_branch.ensures
@@ -147,14 +146,13 @@ pub write_map-returns : goal.write_map-returns
 write_map-returns t c =
     let tree = c.args.tree.now in
     let n = c.args.at in
-    let put = c.puts_map-is_put.result in
+    let put = c.args.is_put in
     let parts = c.in_ok-is_begun.ensures in
     branch_put (λ ds. AtNode tree n (λ p k. IsMapShown tree p k ds)) (codes "map") put c.in_ok-is_begun.is_begun c.args.text.now c.begin_branch.new.text
     c.write_fields.new.text c.end_branch.new.text parts.0 c.end_branch.result
     (λ p k at.
     map_from tree p k c.children_of.result c.children_of.ensures.rising (has_child tree p k n at c.children_of.result c.children_of.ensures.value) put parts.0
-    (subst (λ b. Decides b (IsPut (tree_facts tree) (tree_values tree) p k EmptyMap)) (sym c.puts_map-is_put.ensures)
-    (puts_map_decides tree p k c.presence_of.result (roles_by_number tree p k n at c.presence_of.result c.presence_of.ensures.value c.presence_of.ensures.ascending)))
+    (c.requires p k at)
     (parts.1 p k at))
     c.in_ok-begin_branch.ensures parts.2 parts.3 c.end_branch.ensures
 
@@ -179,3 +177,21 @@ write_node-returns t c =
     (λ p k at. entries_by_number tree p k n at entries c.register_of.ensures.value c.register_of.ensures.ascending)
     (λ p k at. terms_by_number tree p k n at terms c.counter_of.ensures.value c.counter_of.ensures.ascending))
     c.in_ok-begin_list.ensures members.2 elements.2 c.in_ok-write_values.ensures c.end_list.ensures
+
+pub write_node-write_map-requires : goal.write_node-write_map-requires
+write_node-write_map-requires t c = (
+  omega arith,
+  λ p k at.
+      let tree = c.args.tree.now in
+      subst (λ b. Decides b (IsPut (tree_facts tree) (tree_values tree) p k EmptyMap)) (sym c.empty_put-put.ensures.map)
+      (puts_map_decides tree p k c.presence_of.result (roles_by_number tree p k c.args.at at c.presence_of.result c.presence_of.ensures.value c.presence_of.ensures.ascending)),
+)
+
+pub write_node-write_list-requires : goal.write_node-write_list-requires
+write_node-write_list-requires t c = (
+  omega arith,
+  λ p k at.
+      let tree = c.args.tree.now in
+      subst (λ b. Decides b (IsPut (tree_facts tree) (tree_values tree) p k EmptyList)) (sym c.empty_put-put.ensures.list)
+      (puts_list_decides tree p k c.presence_of.result (roles_by_number tree p k c.args.at at c.presence_of.result c.presence_of.ensures.value c.presence_of.ensures.ascending)),
+)
