@@ -20,7 +20,7 @@ use Rattle.copy_rows.proofs.EntryLemmas.{first_entries, all_entries}
 use Rattle.op_core.specs.Op.{Op}
 use Rattle.copy_docs.specs.Docs.{Doc, AreInOrder, AreGood, add_log}
 use Rattle.copy_rows.specs.Accepted.{AreWritable, IsNext, IsSoundContent}
-use Rattle.copy_rows.specs.Shown.{AreShown, ShowsNoLogs}
+use Rattle.copy_rows.specs.Shown.{AreAnswered, ShowsNoLogs}
 use Rattle.copy_rows.specs.Parsed.{HoldsRows, AddsRow}
 use Rattle.copy_rows.specs.Rows.{rows_of}
 use Rattle.copy_rows.proofs.NextLemmas.{AreNext, all_next}
@@ -121,7 +121,7 @@ module _ {S : Type 0} (g : Ghosts S) (old : Held S) (format : ℕ) where
 
     -- no row is left
     module _ (ended : HasCleanDisk (state g new) → Shown read_entries_text [] (state g mid) (state g new) before.given) where
-      pub are_shown : HasCleanDisk (state g new) → AreShown g old new docs
+      pub are_shown : HasCleanDisk (state g new) → AreAnswered g old new docs
       are_shown clean =
           let was = before.reads (omega (arith, survives.clean)) in record {
             rows = before.given;

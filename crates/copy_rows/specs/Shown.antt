@@ -16,7 +16,7 @@ IsNoStart format rows =
 
 module _ {S : Type 0} (g : Ghosts S) where
   -- It showed the rows of these documents and no others.
-  pub record AreShown (old new : Held S) (docs : List Doc) : Type 0 where
+  pub record AreAnswered (old new : Held S) (docs : List Doc) : Type 0 where
     pub rows : List Row
     pub shown : ShowsFor g select_entries old new rows
     pub rows_are : IsPermutation rows (rows_of docs)

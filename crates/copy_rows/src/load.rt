@@ -9,7 +9,7 @@ ghost use Rattle.copy_tables.specs.Steps.{StaysOutside};
 ghost use Rattle.copy_docs.specs.Docs.{AreInOrder, AreGood};
 ghost use Rattle.copy_rows.specs.Accepted.{AreWritable, IsSoundContent};
 ghost use Rattle.copy_rows.specs.Rows.{rows_of};
-ghost use Rattle.copy_rows.specs.Shown.{AreShown, ShowsNoLogs};
+ghost use Rattle.copy_rows.specs.Shown.{AreAnswered, ShowsNoLogs};
 
 use crate::parse::add_row;
 use copy_docs::{Fault, KeptDoc};
@@ -36,7 +36,7 @@ pub fn read_docs<S: Alter>(
     // Also beside further tables, from here on: these are the documents of the rows that the database
     // showed, and rows of good documents are not refused.
     ensures shown { HasCleanDisk (state S.Store conn.new)
-        → IfOk result (λ docs. AreShown S.Store conn.old conn.new docs.items) }
+        → IfOk result (λ docs. AreAnswered S.Store conn.old conn.new docs.items) }
     ensures refused { HasCleanDisk (state S.Store conn.new)
         → IfErr result (λ e. e ≡ Fault.Refused → ShowsNoLogs S.Store format conn.old) }
     ensures unchanged { HasCleanDisk (state S.Store conn.new)

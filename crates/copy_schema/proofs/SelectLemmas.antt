@@ -124,7 +124,7 @@ module _ (sql : List ℕ) (is : IsSelect sql) (params : Row) where
         h.0,
         statement_of_same before old same h.0 h.1,
         subst (ShowsRows before new sql h.0 all rows) (sym none)
-        (it.0, subst (λ (d : Database). IsSourceOf (reads_listing d.schema sql) d it.0) same it.1, it.2, unchanged_then before old new kept it.3),
+            (it.0, subst (λ (d : Database). IsSourceOf (reads_listing d.schema sql) d it.0) same it.1, it.2, unchanged_then before old new kept it.3),
       )
 
   module _ {S : Type 0} (g : Ghosts S) (old new : Held S) where

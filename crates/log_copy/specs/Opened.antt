@@ -9,7 +9,7 @@ use Rattle.copy_schema.specs.Tables.{HasNeither, HasBoth}
 use Rattle.copy_tables.specs.Statements.{CommitsFor, CommitsOneOf, Ran, RanAll, ShowsFor, making_of_tables, select_meta, update_format}
 use Rattle.copy_docs.specs.Docs.{Doc}
 use Rattle.copy_rows.specs.Parsed.{IsMeta}
-use Rattle.copy_rows.specs.Shown.{AreShown, ShowsNoLogs}
+use Rattle.copy_rows.specs.Shown.{AreAnswered, ShowsNoLogs}
 use Rattle.copy_rows.specs.Limits.{last_epoch}
 
 -- they name no known format, or no epoch that may have been given out
@@ -23,7 +23,7 @@ module _ {S : Type 0} (g : Ghosts S) where
     pub rows : List Row
     pub shown : ShowsFor g select_meta old between rows
     pub named : IsMeta format epoch rows
-    pub entries : AreShown g between new docs
+    pub entries : AreAnswered g between new docs
     pub unchanged : IsUnchanged (state g old) (state g new)
 
   -- It showed rows of one table that no copy has.

@@ -3,7 +3,7 @@ use Rattle.std.proofs.lemmas.Result.{err_from_is_err_and}
 use Rattle.sqlite.specs.Held.{state}
 use Rattle.sqlite.specs.State.{HasCleanDisk, Survives, IsUnchanged, CommitsShowing}
 use Rattle.copy_schema.proofs.TextLemmas.{read_entries_text}
-use Rattle.copy_rows.specs.Shown.{AreShown}
+use Rattle.copy_rows.specs.Shown.{AreAnswered}
 use Rattle.copy_rows.proofs.NextLemmas.{refused_or_memory}
 use Rattle.copy_rows.proofs.Reading.{commits_none, has_begun, leaves_all, given_back, reads_on, is_next, shows_none, are_shown, ends_unchanged, all_rows}
 use Rattle.copy_rows.proofs.load.read_docs.Goals as goal
@@ -69,7 +69,7 @@ returns-in-Ok-None-clause-shown g c clean =
     let ended = λ (late : HasCleanDisk (state g.S.Store now)). (rw (c.in-Ok-None.is, c.in-Ok-None.field-0-is) at (moved.ok late)) read_entries_text [] before.given (before.reads (omega (arith, moved.survives.clean))).0 in
     let shown = are_shown g.S.Store c.args.conn.now c.args.format c.rows.rows.conn.now now c.rows.docs.items before moved.survives ended late in
     let same : c.conn-in-Ok-None-1.given.0 ≡ now = search rules in
-    subst (λ h. AreShown g.S.Store c.args.conn.now h c.rows.docs.items) (sym same) shown
+    subst (λ h. AreAnswered g.S.Store c.args.conn.now h c.rows.docs.items) (sym same) shown
 
 pub returns-in-Ok-None-clause-unchanged : goal.returns-in-Ok-None-clause-unchanged
 returns-in-Ok-None-clause-unchanged g c clean =
