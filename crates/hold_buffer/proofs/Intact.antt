@@ -1,11 +1,19 @@
 -- All that a buffer keeps, after each change.
-use Rattle.std.proofs.Common.{◌≡◌, ℕ, ◌++◌, ◌∷◌, inl, inr, List, [], map, filter, not, true, cond, Bool, false, Option, Some, refl, sym, ap, subst, ◌∙◌, Contains, find, Less}
+use Rattle.std.proofs.Common.{◌≡◌, ℕ, ◌&&◌, nat_le, nat_lt, arith, ◌++◌, ◌∷◌, inl, inr, List, [], map, filter, not, true, cond, Bool, false, Option, Some, refl, sym, ap, subst, ◌∙◌, Contains, find, Less}
 use Rattle.std.specs.Prelude.{insert, ◌↔◌}
 use Rattle.std.specs.Option.{option_map}
 use Rattle.std.specs.List.{cons_option}
 use Rattle.slab.specs.Slab.{Slab, get}
 use Rattle.doc_words.specs.Words.{id_cmp, name_cmp, Id, Op}
 use Rattle.op_core.specs.Front.{id_of, is_ascending}
+use Rattle.lamport_id.specs.Limits.{greatest_counter}
+use Rattle.lamport_id.specs.Name.{is_name}
+use Rattle.op_core.specs.Shape.{is_id, is_entry, is_key, is_tagged, is_mutation, is_placed, is_allowed, is_shallow, has_parts, has_form, has_front, is_shaped}
+use Rattle.std.specs.List.{list_all}
+use Rattle.std.proofs.lemmas.Bool.{and_parts}
+use Rattle.std.proofs.lemmas.Bool.Decides.{nat_tests}
+use Rattle.hold_buffer.specs.Missing.{is_left, left_of}
+use Rattle.crdt_rules.proofs.Tests.{all_at}
 use Rattle.crdt_rules.specs.Same.{id_eq}
 use Rattle.crdt_rules.specs.Dependencies.{is_logged, missing}
 use Rattle.doc_rules.specs.Replica.{put_among}
@@ -66,6 +74,31 @@ held-now old new order order' is log op at t gap put name lacks held current =
     (subst (λ (l : List Id). (w : Wait) → Contains (waits_of (insert order at t)) w ↔ Contains (waits_of order ++ waits_for l op.id) w) lacks
     (subst (λ (n : Id). (w : Wait) → Contains (waits_of (insert order at t)) w ↔ Contains (waits_of order ++ waits_for t.missing n) w) name (waits-insert order at t)))
     (no_waits order op.id at gap) (no_held is op.id at gap) current)
+
+small : (n : ℕ) → nat_le n 100000 ≡ true → nat_lt n 4294967296 ≡ true
+small n h = grind (arith, nat_tests)
+
+all_left : (ids : List Id) → ((i : Id) → Contains ids i → is_left i ≡ true) → left_of ids ≡ ids
+all_left [] all = refl
+all_left (i ∷ ids) all = rw (all i (Contains-here ids refl)) (ap (λ l. i ∷ l) (all_left ids (λ j c. all j (Contains-there i ids c))))
+
+-- each id of a front has a counter
+pub left_missing : (op : Op) (log : List Op) → is_shaped op ≡ true → left_of (missing op log) ≡ missing op log
+left_missing op log shaped =
+    let form = (and_parts (is_shallow op.cursor.path) (has_form op) (and_parts (is_shallow op.cursor.path && has_form op) (has_front op) shaped).0).1 in
+    let placed = (and_parts (has_parts op && is_placed op.cursor.path op.cursor.key) (is_allowed op.mutation op.cursor) form).0 in
+    let parts = (and_parts (has_parts op) (is_placed op.cursor.path op.cursor.key) placed).0 in
+    let fourth = and_parts (is_id op.id && list_all is_entry op.front && (list_all is_tagged op.cursor.path && is_key op.cursor.key)) (is_mutation op.mutation) parts in
+    let third = and_parts (is_id op.id && list_all is_entry op.front) (list_all is_tagged op.cursor.path && is_key op.cursor.key) fourth.0 in
+    let entries = (and_parts (is_id op.id) (list_all is_entry op.front) third.0).1 in
+    all_left (missing op log)
+    (λ i c.
+    let e = map-from id_of op.front (filter-Contains (λ j. not (is_logged log j)) (map id_of op.front) c).0 in
+    subst (λ (j : Id). is_left j ≡ true) e.2 (counted (id_of e.0) (all_at is_entry op.front entries e.1)))
+  where
+    counted : (i : Id) → is_id i ≡ true → is_left i ≡ true
+    counted i h =
+        small i.counter (and_parts (is_name i.replica && nat_le 1 i.counter) (nat_le i.counter greatest_counter) h).1
 
 -- ---- an id is lacked no more
 

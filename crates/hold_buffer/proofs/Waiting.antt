@@ -309,11 +309,6 @@ first_operation p held id rising first =
 
 -- ---- look-ups
 
-pub same_state : {old new : Slab Op} {xs ys : List Entry} {capacity : ℕ} → IsOrdered old xs → new ≡ record old { capacity = capacity } → ys ≡ xs → IsOrdered new ys
-same_state {old} {ys = ys} {capacity = capacity} is slots order =
-    subst (λ s. IsOrdered s ys) (sym slots)
-    (subst (IsOrdered (record old { capacity = capacity })) (sym order) (record { rising = is.rising; right = is.right }))
-
 -- whether the operation that was found is the one that was asked for
 pub same_as_found : (held : List Op) (op x : Op) (b : Bool) → IsRising id_cmp (λ o. o.id) held → Some x ≡ find_id held op.id → Decides b (x ≡ op) → IsTrue b ↔ Contains held op
 same_as_found held op x b rising found decides = (

@@ -1,12 +1,16 @@
 -- How the held operations stand in their slots, and what is kept of what they wait for.
-use Rattle.std.specs.Prelude.{◌≡◌, ◌++◌, List, [], ◌∷◌, Some, Contains, filter, filter_map, map, not, true}
+use Rattle.std.specs.Prelude.{◌≡◌, ◌++◌, ◌≤◌, ◌==◌, Bool, List, [], ◌∷◌, Some, Contains, filter, filter_map, map, length, not, true}
+use Rattle.std.specs.Global.{Vec}
+use Rattle.std.specs.Vec.{vec_capacity}
 use Rattle.slab.specs.Slab.{Slab, get}
 use Rattle.doc_words.specs.Words.{id_cmp, name_cmp, Id, Op}
 use Rattle.op_core.specs.Front.{is_ascending}
 use Rattle.crdt_rules.specs.Same.{id_eq}
 use Rattle.doc_rules.specs.Sorted.{IsRising}
 use Rattle.hold_buffer.specs.Held.{Wait}
+use Rattle.hold_buffer.specs.Waiters.{waiters_of}
 use Rattle.hold_buffer.specs.declared.entry.Entry.{Entry}
+use Rattle.hold_buffer.specs.declared.waiters.Waiters.{Waiters}
 
 -- the operations of the entries
 abbrev pub operations_of : Slab Op → List Entry → List Op
@@ -38,9 +42,30 @@ AreNamed order = (t : Entry) → Contains order t → IsRising name_cmp (λ i. i
 abbrev pub without_id : Id → Entry → Entry
 without_id id t = record t { missing = filter (λ i. not (id_eq i id)) t.missing }
 
--- all of a buffer
+-- all of the entries
 pub record IsIntact (slots : Slab Op) (order : List Entry) : Type 0 where
   pub ordered : IsOrdered slots order
   pub named : AreNamed order
   -- each front is in the order of the names
   pub ascending : (o : Op) → Contains (operations_of slots order) o → is_ascending o.front ≡ true
+
+-- the entry waits for nothing
+abbrev pub is_free : Entry → Bool
+is_free t = length t.missing == 0
+
+-- the ready ids are those of the entries that wait for nothing, in their order, with room for all
+pub record ListsFree (order : List Entry) (ready : Vec Id) : Type 0 where
+  pub rising : IsRising id_cmp (λ i. i) ready.items
+  pub free : (i : Id) → Contains ready.items i → (t : Entry) × Contains order t × (t.id ≡ i) × (is_free t ≡ true)
+  pub all : (t : Entry) → Contains order t → is_free t ≡ true → Contains ready.items t.id
+  pub room : length order ≤ vec_capacity ready
+
+-- each entry is noted at each id that it waits for
+abbrev pub AreNoted : List Entry → Waiters → Type 0
+AreNoted order waiters = (t : Entry) → Contains order t → (i : Id) → Contains t.missing i → Contains (waiters_of waiters i) t.key
+
+-- all of a buffer
+pub record KeepsWaits (slots : Slab Op) (order : List Entry) (ready : Vec Id) (waiters : Waiters) : Type 0 where
+  pub intact : IsIntact slots order
+  pub lists : ListsFree order ready
+  pub noted : AreNoted order waiters

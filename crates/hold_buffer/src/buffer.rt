@@ -11,7 +11,10 @@ ghost use Rattle.hold_buffer.specs.Held.{IsCurrent, hold_cause};
 ghost use Rattle.doc_rules.specs.Replica.{put_among};
 
 use crate::entry::Entry;
-use crate::order::{admit, first_ready, ids_of, mark_arrived, search, store, take, waiting_of};
+use crate::order::{admit, forget_waits, ids_of, search, store, take, waiting_of};
+use crate::ready::{announce, drop_id, least};
+use crate::release::release;
+use crate::waiters::Waiters;
 use doc_words::{Ids, Waiting};
 use json_scalar::Refusal;
 use lamport_id::Id;
@@ -29,17 +32,20 @@ pub struct HoldBuffer {
     slots: Slab<Operation>,
     // by rising id
     order: Vec<Entry>,
+    // the ids of those that wait for nothing, by rising id
+    ready: Vec<Id>,
+    waiters: Waiters,
 }
 
 impl Model for HoldBuffer {
     ghost use Rattle.hold_buffer.specs.Held.{Buffer};
-    ghost use Rattle.hold_buffer.specs.Order.{operations_of, waits_of, IsIntact};
+    ghost use Rattle.hold_buffer.specs.Order.{operations_of, waits_of, KeepsWaits};
 
     ghost Value = { Buffer };
 
     ghost view = { λ b. record { held = operations_of b.slots b.order.items; waits = waits_of b.order.items } };
 
-    ghost invariant = { λ b. IsIntact b.slots b.order.items };
+    ghost invariant = { λ b. KeepsWaits b.slots b.order.items b.ready b.waiters };
 }
 
 impl HoldBuffer {
@@ -51,6 +57,8 @@ impl HoldBuffer {
         HoldBuffer {
             slots: Slab::new(alloc),
             order: Vec::new(alloc),
+            ready: Vec::new(alloc),
+            waiters: Waiters::new(alloc),
         }
     }
 
@@ -142,9 +150,19 @@ impl HoldBuffer {
         ensures current { (log : List Op) → missing.now ≡ deps.missing op log
             → IsCurrent self.old log → IsCurrent self.new log }
     {
-        match admit(&op, missing, &mut self.slots, &mut self.order) {
+        match admit(
+            &op,
+            missing,
+            &mut self.slots,
+            &mut self.order,
+            &mut self.ready,
+            &mut self.waiters,
+        ) {
             Ok((at, awaited)) => {
+                let id = op.id();
+                let is_free = awaited.is_empty();
                 store(&mut self.slots, &mut self.order, at, op, awaited);
+                announce(&mut self.ready, &id, is_free);
                 Ok(())
             }
             Err(refusal) => {
@@ -161,7 +179,8 @@ impl HoldBuffer {
         ensures current { (log : List Op) (op : Op) → op.id ≡ id
             → IsCurrent self.old log → IsCurrent self.new (log ++ op ∷ []) }
     {
-        mark_arrived(&mut self.order, &id);
+        let keys = self.waiters.of(&id);
+        release(&self.slots, &mut self.order, &mut self.ready, keys, &id);
     }
 
     /// The least id of the ready operations.
@@ -171,7 +190,7 @@ impl HoldBuffer {
         ensures operation { IfSome result (λ id.
             find_id self.now.held id ≡ find (λ o. is_ready o log.now.operations) self.now.held) }
     {
-        first_ready(&self.order)
+        least(&self.ready)
     }
 
     /// The ids that a held operation waits for, in the order of its front. The only error is out of
@@ -196,6 +215,8 @@ impl HoldBuffer {
         ensures held { self.new.held ≡ filter (λ o. not (id_eq o.id id)) self.old.held }
         ensures current { (log : List Op) → IsCurrent self.old log → IsCurrent self.new log }
     {
+        forget_waits(&self.order, &mut self.waiters, id);
+        drop_id(&mut self.ready, &id);
         take(&mut self.slots, &mut self.order, id)
     }
 }
@@ -203,6 +224,11 @@ impl HoldBuffer {
 // By hand, so that it is called and not written out where a buffer is dropped.
 impl Drop for HoldBuffer {
     fn drop(self) {
-        let HoldBuffer { slots: _, order: _ } = self;
+        let HoldBuffer {
+            slots: _,
+            order: _,
+            ready: _,
+            waiters: _,
+        } = self;
     }
 }

@@ -1,86 +1,106 @@
 //! What one held operation waits for.
-ghost use Rattle.std.specs.Prelude.{◌≡◌, ◌↔◌, ◌<◌, IsTrue, Contains, slice_index_or, not, length, filter, ◌==◌, Ok, MatchResult, MatchOption};
+ghost use Rattle.std.specs.Prelude.{◌≡◌, true, ◌↔◌, ◌<◌, IsTrue, Contains, slice_index_or, slice_set, not, length, filter, ◌==◌, Ok, MatchResult, MatchOption, IfOk};
 ghost use Rattle.doc_words.specs.Words.{Id, UnlessMemory, name_cmp};
 ghost use Rattle.crdt_rules.specs.Same.{id_eq};
 ghost use Rattle.doc_rules.specs.Sorted.{IsRising};
 ghost use Rattle.sorted_lists.specs.Sorted.{IsPlace, IsGap};
-ghost use Rattle.hold_buffer.specs.Missing.{AreFrom};
+ghost use Rattle.hold_buffer.specs.Missing.{is_left, left_of, arrived};
 
 use doc_words::Ids;
 use json_scalar::Refusal;
 use lamport_id::{Id, ReplicaName};
-use std::alloc::Global;
+use std::alloc::{AllocError, Global};
 use std::marker::Model;
 
 /// The ids for which one operation waits, of different replicas, in the order of its front. A contract
 /// sees them as a list.
 #[derive(Debug)]
 pub struct Missing {
+    // all that it waited for at first; what was logged since has a counter that no operation has
     ids: Vec<Id>,
-    // none of them has a lesser counter: most ids that are logged differ from these by it
-    floor: u64,
+    // how many were not logged since
+    count: usize,
 }
 
 impl Model for Missing {
     ghost use Rattle.std.specs.Prelude.{List};
     ghost use Rattle.doc_words.specs.Words.{Id};
-    ghost use Rattle.hold_buffer.specs.Missing.{AreFrom};
+    ghost use Rattle.hold_buffer.specs.Missing.{left_of, HasLeft};
 
     ghost Value = { List Id };
 
-    ghost view = { λ l. l.ids.items };
+    ghost view = { λ l. left_of l.ids.items };
 
-    ghost invariant = { λ l. AreFrom l.floor l.ids.items };
+    ghost invariant = { λ l. HasLeft l.count l.ids.items };
 }
 
 impl Missing {
     /// These ids, in no more room than they take. The only error is out of memory.
     pub fn of(alloc: Global, missing: &Ids) -> Result<Missing, Refusal>
+        requires rising { IsRising name_cmp (λ i. i.replica) missing.now }
+        requires left { left_of missing.now ≡ missing.now }
         ensures { UnlessMemory result (Ok missing.now) }
     {
         let ids = missing.as_slice().to_vec(alloc)?;
-        let floor = floor_of(&ids);
-        Ok(Missing { ids, floor })
+        let count = ids.len();
+        Ok(Missing { ids, count })
     }
 
     /// Whether there is none.
     pub fn is_empty(&self) -> bool
         ensures { result ≡ (length self.now == 0) }
     {
-        self.ids.is_empty()
+        self.count == 0
     }
 
     /// The ids, in their order. The only error is out of memory.
     pub fn ids(&self, alloc: Global) -> Result<Ids, Refusal>
         ensures { UnlessMemory result (Ok self.now) }
     {
-        let ids = self.ids.as_slice().to_vec(alloc)?;
-        Ok(Ids::from(ids))
+        Ok(Ids::from(left_of(alloc, &self.ids)?))
     }
 
-    /// Takes an id out, if it is there.
+    /// The ids, in their order, among those that were logged since: these have greater counters than
+    /// operations have.
+    pub fn among(&self) -> &[Id]
+        ensures { left_of result.now ≡ self.now }
+    {
+        self.ids.as_slice()
+    }
+
+    /// Takes an id out, if it is there: in time by one search, since the others stay where they are.
     pub fn remove(&mut self, id: &Id)
-        requires { IsRising name_cmp (λ i. i.replica) self.old }
         ensures { self.new ≡ filter (λ i. not (id_eq i id.now)) self.old }
     {
-        if id.counter < self.floor {
-            return;
-        }
         if let Some(at) = place_of(&self.ids, id) {
-            self.ids.remove(at);
+            if id.counter < LOGGED {
+                clear(&mut self.ids, at);
+                self.count -= 1;
+            }
         }
     }
 }
 
-// A counter below which no id has one: the least.
-fn floor_of(ids: &[Id]) -> u64
-    ensures { AreFrom result ids.now }
+// Added to the counter of an id that was logged: no operation has such a counter.
+const LOGGED: u64 = 4_294_967_296;
+
+// Those that were not logged since.
+fn left_of(alloc: Global, ids: &[Id]) -> Result<Vec<Id>, AllocError>
+    ensures { IfOk result (λ left. left.items ≡ left_of ids.now) }
 {
-    let mut floor = u64::MAX;
-    for at in 0..ids.len() {
-        floor = floor.min(ids[at].counter);
-    }
-    floor
+    ids.iter()
+        .filter(|id| id.counter < LOGGED)
+        .map(|id| *id)
+        .collect(alloc)
+}
+
+// Notes that the id at a place was logged.
+fn clear(ids: &mut Vec<Id>, at: usize)
+    requires within { at < length ids.old.items }
+    requires left { (d : Id) → is_left (slice_index_or ids.old.items at d) ≡ true }
+    ensures { (d : Id) → ids.new.items ≡ slice_set ids.old.items at (arrived (slice_index_or ids.old.items at d)) }
+{
+    ids[at].counter += LOGGED;
 }
 
 // Up to so many ids are compared one by one: most have another counter, which takes less time to
@@ -144,6 +164,6 @@ fn search(ids: &[Id], name: ReplicaName) -> Result<usize, usize>
 // By hand, so that it is called and not written out where it is dropped.
 impl Drop for Missing {
     fn drop(self) {
-        let Missing { ids: _, floor: _ } = self;
+        let Missing { ids: _, count: _ } = self;
     }
 }

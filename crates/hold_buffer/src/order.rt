@@ -1,23 +1,27 @@
 //! The order of the held operations.
-ghost use Rattle.std.specs.Prelude.{◌≡◌, ◌≢◌, ◌<◌, ◌+◌, not, length, filter, map, vec_len, ◌≤◌, ℕ, insert, find, ◌==◌, ◌++◌, ◌∷◌, [], true, OnOk, OnSome, IfOk, IfErr, Ok, Err, MatchResult};
+ghost use Rattle.std.specs.Prelude.{◌≡◌, ◌≢◌, ◌<◌, ◌+◌, not, length, filter, map, vec_len, ◌≤◌, ℕ, insert, List, ◌++◌, ◌∷◌, [], true, OnOk, OnSome, IfOk, IfErr, Ok, Err, MatchResult, Some, Contains};
 ghost use Rattle.std.specs.Vec.{vec_capacity};
 ghost use Rattle.std.specs.Option.{option_map};
-ghost use Rattle.slab.specs.Slab.{HasRoomFor};
-ghost use Rattle.doc_words.specs.Words.{id_cmp, UnlessMemory};
+ghost use Rattle.slab.specs.Slab.{HasRoomFor, get};
+ghost use Rattle.doc_words.specs.Words.{id_cmp, UnlessMemory, Id, Op};
+ghost use Rattle.crdt_rules.specs.Dependencies as deps;
 ghost use Rattle.op_core.specs.Front.{is_ascending};
 ghost use Rattle.crdt_rules.specs.Same.{id_eq};
 ghost use Rattle.doc_rules.specs.Sorted.{IsRising};
 ghost use Rattle.sorted_lists.specs.Sorted.{IsPlace, IsGap};
 ghost use Rattle.doc_rules.specs.Replica.{find_id, put_among};
 ghost use Rattle.hold_buffer.specs.Held.{hold_cause};
-ghost use Rattle.hold_buffer.specs.Order.{operations_of, IsOrdered, AreNamed, without_id};
+ghost use Rattle.hold_buffer.specs.Order.{operations_of, IsOrdered, AreNoted};
+ghost use Rattle.hold_buffer.specs.Waiters.{waiters_of};
+ghost use Rattle.hold_buffer.specs.declared.entry.Entry.{Entry};
 
 use crate::entry::Entry;
 use crate::missing::Missing;
+use crate::waiters::Waiters;
 use doc_words::{Ids, Waiting};
 use json_scalar::Refusal;
 use lamport_id::Id;
-use op_core::Operation;
+use op_core::{Operation, keeps_shape};
 use slab::Slab;
 use std::alloc::{AllocError, Global};
 
@@ -43,14 +47,17 @@ pub fn ids_of(alloc: Global, order: &[Entry]) -> Result<Vec<Id>, AllocError>
 pub fn prepare(
     slots: &mut Slab<Operation>,
     order: &mut Vec<Entry>,
+    ready: &mut Vec<Id>,
     id: Id,
 ) -> Result<usize, Refusal>
     requires { IsOrdered slots.old order.old.items }
     ensures order { order.new.items ≡ order.old.items }
     ensures slots { slots.new ≡ record slots.old { capacity = slots.new.capacity } }
+    ensures ready { (ready.new.items ≡ ready.old.items) × (vec_capacity ready.old ≤ vec_capacity ready.new) }
     ensures gap { IfOk result (IsGap id_cmp (λ t. t.id) order.old.items id) }
     ensures slot { OnOk result (HasRoomFor slots.new 1) }
     ensures entry { OnOk result (vec_len order.new < vec_capacity order.new) }
+    ensures room { OnOk result (vec_len order.new < vec_capacity ready.new) }
     ensures cause { MatchResult result (λ _. hold_cause id (operations_of slots.old order.old.items) ≡ Ok tt)
         (λ e. e ≢ Refusal.NoMemory → hold_cause id (operations_of slots.old order.old.items) ≡ Err e) }
 {
@@ -62,32 +69,63 @@ pub fn prepare(
             }
             slots.reserve(1)?;
             order.reserve(1)?;
+            ready.reserve(order.len() + 1)?;
             Ok(at)
         }
     }
 }
 
-/// Makes room for one more operation that waits for these ids, and returns where it is to be stored,
-/// and the ids; or the first cause against it.
+// The ids that an operation waits for, noted in the index under the key of the next slot.
+fn await_ids(
+    op: &Operation,
+    missing: &Ids,
+    slots: &Slab<Operation>,
+    waiters: &mut Waiters,
+    alloc: Global,
+) -> Result<Missing, Refusal>
+    requires { (log : List Op) × (missing.now ≡ deps.missing op.now log) }
+    ensures missing { UnlessMemory result (Ok missing.now) }
+    ensures kept { (i : Id) (k : ℕ) (o : Op) → get slots.now k ≡ Some o
+        → Contains (waiters_of waiters.old i) k → Contains (waiters_of waiters.new i) k }
+    ensures noted { OnOk result ((i : Id) → Contains missing.now i
+        → Contains (waiters_of waiters.new i) slots.now.vacant_key) }
+{
+    keeps_shape(op);
+    let awaited = Missing::of(alloc, missing)?;
+    waiters.note_all(alloc, missing.as_slice(), slots.vacant_key())?;
+    Ok(awaited)
+}
+
+/// Makes room for one more operation that waits for these ids, notes it at each of them, and returns where
+/// it is to be stored, and the ids; or the first cause against it.
 pub fn admit(
     op: &Operation,
     missing: &Ids,
     slots: &mut Slab<Operation>,
     order: &mut Vec<Entry>,
+    ready: &mut Vec<Id>,
+    waiters: &mut Waiters,
 ) -> Result<(usize, Missing), Refusal>
-    requires { IsOrdered slots.old order.old.items }
+    requires ordered { IsOrdered slots.old order.old.items }
+    requires missed { (log : List Op) × (missing.now ≡ deps.missing op.now log) }
     ensures order { order.new.items ≡ order.old.items }
     ensures slots { slots.new ≡ record slots.old { capacity = slots.new.capacity } }
+    ensures ready { (ready.new.items ≡ ready.old.items) × (vec_capacity ready.old ≤ vec_capacity ready.new) }
+    ensures kept { (i : Id) (k : ℕ) (o : Op) → get slots.old k ≡ Some o
+        → Contains (waiters_of waiters.old i) k → Contains (waiters_of waiters.new i) k }
     ensures gap { IfOk result (λ r. IsGap id_cmp (λ t. t.id) order.old.items op.now.id r.0) }
     ensures missing { IfOk result (λ r. r.1 ≡ missing.now) }
+    ensures noted { OnOk result ((i : Id) → Contains missing.now i
+        → Contains (waiters_of waiters.new i) slots.new.vacant_key) }
     ensures slot { OnOk result (HasRoomFor slots.new 1) }
     ensures entry { OnOk result (vec_len order.new < vec_capacity order.new) }
+    ensures room { OnOk result (vec_len order.new < vec_capacity ready.new) }
     ensures cause { MatchResult result (λ _. hold_cause op.now.id (operations_of slots.old order.old.items) ≡ Ok tt)
         (λ e. e ≢ Refusal.NoMemory → hold_cause op.now.id (operations_of slots.old order.old.items) ≡ Err e) }
 {
     let alloc = *order.allocator();
-    match prepare(slots, order, op.id()) {
-        Ok(at) => match Missing::of(alloc, missing) {
+    match prepare(slots, order, ready, op.id()) {
+        Ok(at) => match await_ids(op, missing, slots, waiters, alloc) {
             Ok(awaited) => Ok((at, awaited)),
             Err(_) => Err(Refusal::NoMemory),
         },
@@ -111,8 +149,8 @@ pub fn store(
     ensures ordered { IsOrdered slots.new order.new.items }
     ensures operations { operations_of slots.new order.new.items
         ≡ put_among op (operations_of slots.old order.old.items) }
-    ensures entry { (key : ℕ)
-        × (order.new.items ≡ insert order.old.items at (record { id = op.id; key = key; missing = missing })) }
+    ensures entry { order.new.items ≡ insert order.old.items at
+        (record { id = op.id; key = slots.old.vacant_key; missing = missing }) }
 {
     let id = op.id();
     let key = slots.insert_reserved(op);
@@ -162,24 +200,15 @@ fn push_waiting(alloc: Global, waiting: &mut Vec<(Id, Ids)>, entry: &Entry) -> R
     Ok(())
 }
 
-/// The least id of the entries that wait for nothing.
-pub fn first_ready(order: &[Entry]) -> Option<Id>
-    ensures { result ≡ option_map (λ t. t.id) (find (λ t. length t.missing == 0) order.now) }
+/// Takes the keys of the entry of this id out of the index.
+pub fn forget_waits(order: &[Entry], waiters: &mut Waiters, id: Id)
+    requires rising { IsRising id_cmp (λ t. t.id) order.now }
+    requires apart { (t u : Entry) → Contains order.now t → Contains order.now u → t.key ≡ u.key → t.id ≡ u.id }
+    requires noted { AreNoted order.now waiters.old }
+    ensures { AreNoted (filter (λ t. not (id_eq t.id id)) order.now) waiters.new }
 {
-    for entry in order {
-        if entry.missing.is_empty() {
-            return Some(entry.id);
-        }
-    }
-    None
-}
-
-/// Takes this id, which was logged, out of what each operation waits for.
-pub fn mark_arrived(order: &mut Vec<Entry>, id: &Id)
-    requires { AreNamed order.old.items }
-    ensures { order.new.items ≡ map (without_id id.now) order.old.items }
-{
-    for entry in order.iter_mut() {
-        entry.missing.remove(id);
+    if let Ok(at) = search(order, id) {
+        let entry = &order[at];
+        waiters.forget_all(entry.missing.among(), entry.key);
     }
 }

@@ -27,9 +27,5 @@ returns-clause-operations c =
     (λ (id : Id). operations_of c.insert_reserved-key.new.self (insert c.args.order.now.items c.args.at (entry id c)) ≡ put_among c.args.op (operations_of c.args.slots.now c.args.order.now.items))
     (sym c.id-id.ensures.value) stored)
 
-pub returns-clause-entry : goal.returns-clause-entry
-returns-clause-entry c =
-    (c.insert_reserved-key.result, rw (c.insert.ensures.items, c.unwrap.ensures) (λ i. insert c.args.order.now.items c.args.at (entry (c.id-id.ensures.value i) c)))
-
 pub returns-clause-ascending : goal.returns-clause-ascending
 returns-clause-ascending c = shaped_ascending c.args.op c.id-id.ensures.shaped

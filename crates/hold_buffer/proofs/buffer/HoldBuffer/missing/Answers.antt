@@ -12,7 +12,7 @@ pub unreachable-requires : goal.unreachable-requires
 unreachable-requires c =
     let gap = rw c.deref.ensures.value at c.in-Err.ensures in
     let held = subst (λ (b : Buffer). is_logged b.held c.args.id ≡ true) (sym c.self.view_is) c.requires.held in
-    true≢false (sym held ∙ not_held c.self.invariant.ordered c.args.id c.in-Err.field-0 gap)
+    true≢false (sym held ∙ not_held c.self.invariant.intact.ordered c.args.id c.in-Err.field-0 gap)
 
 pub returns : goal.returns
 returns c op found other =
@@ -22,6 +22,6 @@ returns c op found other =
     let place = rw c.deref.ensures.value at c.in-Ok.ensures in
     let current = subst (λ (b : Buffer). IsCurrent b log) (sym c.self.view_is) c.requires.current in
     let among : Contains order t = subst (Contains order) (sym c.index.ensures) (Contains-get_or order c.in-Ok.at t place.within) in
-    let at = found_at c.self.invariant.ordered c.args.id c.in-Ok.at t place c.index.ensures in
+    let at = found_at c.self.invariant.intact.ordered c.args.id c.in-Ok.at t place c.index.ensures in
     let here = subst (λ (b : Buffer). find_id b.held c.args.id ≡ Some op) (sym c.self.view_is) found in
-    c.ids.ensures other ∙ ap Ok (missing_is c.self.invariant log current t among op (at ∙ here))
+    c.ids.ensures other ∙ ap Ok (missing_is c.self.invariant.intact log current t among op (at ∙ here))
