@@ -1,5 +1,5 @@
 -- The ready ids are those of the entries that wait for nothing.
-use Rattle.std.proofs.Common.{◌≡◌, ◌≢◌, ◌↔◌, ◌⊎◌, ◌<◌, ◌≤◌, ◌+◌, ◌++◌, ◌∷◌, inl, inr, ℕ, List, [], map, filter, find, not, length, Bool, true, false, cond, Some, Contains, refl, sym, ap, subst, ◌∙◌, arith, true≢false, Less, length-append}
+use Rattle.std.proofs.Common.{◌≡◌, ◌↔◌, ◌⊎◌, ◌<◌, ◌≤◌, ◌++◌, ◌∷◌, inl, inr, ℕ, List, [], map, filter, find, not, length, Bool, true, false, cond, Some, Contains, refl, sym, ap, subst, ◌∙◌, arith, true≢false, Less, length-append}
 use Rattle.std.specs.Prelude.{insert, slice_get}
 use Rattle.std.specs.Option.{option_map}
 use Rattle.std.specs.Global.{Vec}

@@ -1,4 +1,4 @@
-use Rattle.std.proofs.Common.{◌∙◌, ◌++◌, ◌∷◌, ◌+◌, [], List, ℕ, length, ap, arith, length-append}
+use Rattle.std.proofs.Common.{◌∙◌, ◌++◌, ◌∷◌, [], List, ℕ, length, ap, arith, length-append}
 use Rattle.hold_buffer.specs.Waiters.{row_at}
 use Rattle.hold_buffer.proofs.Keys.{row_more}
 use Rattle.hold_buffer.proofs.waiters.fill.Goals as goal
