@@ -1,10 +1,16 @@
 -- What is looked up in clap's matches.
-use Rattle.std.proofs.Common.{◌≡◌, List, [], map, codes, Option, Some, None, unwrap_or, option_map, refl, ap, ap₂, subst, ◌∙◌}
+use Rattle.std.proofs.Common.{◌≡◌, ◌≤◌, ◌&&◌, Bool, true, nat_le, length, arith, List, [], map, codes, Option, Some, None, unwrap_or, option_map, refl, ap, ap₂, subst, ◌∙◌}
 use Rattle.std.specs.Borrow.{Bor}
 use Rattle.clap.specs.Words.{Text, all_of, first_of, first_value, found_of, matched_of, raw_values, rows_of}
 use Rattle.clap.proofs.WalkLemmas.{first_value-rows, raw_values-rows}
 use Rattle.clap.specs.declared.parser.matches.ArgMatches.{ArgMatches}
-use Rattle.run_core.specs.Names.{wanted_by}
+use Rattle.std.specs.List.{list_all}
+use Rattle.std.proofs.lemmas.Bool.{and_parts, leb-true}
+use Rattle.std.proofs.lemmas.List.{length-map}
+use Rattle.lamport_id.specs.Name.{is_name}
+use Rattle.doc_ledger.specs.Numbers.{greatest_number}
+use Rattle.run_core.specs.Limits.{longest_server_name, most_documents}
+use Rattle.run_core.specs.Names.{all_differ, is_good, wanted_by}
 use Rattle.commands.specs.CommandLine.{IsCount, IsServer, WantedServer, asked_of}
 
 unwrap_or-map : {A B : Type 0} (f : A → B) (o : Option A) (d : A) → f (unwrap_or o d) ≡ unwrap_or (option_map f o) (f d)
@@ -44,3 +50,17 @@ same_server {name} {other} {documents} {others} {address} {there} {count} {so_ma
       sessions = subst (λ t. IsCount t wanted.sessions) same_count asked.sessions;
       good = asked.good;
     }
+
+-- the second of four tests that hold
+second_holds : (a b c d : Bool) → (a && ((b && c) && d)) ≡ true → b ≡ true
+second_holds a b c d holds = (and_parts b c (and_parts (b && c) d (and_parts a ((b && c) && d) holds).1).0).0
+
+-- good names are few enough to be numbered
+pub few_documents : (name : Text) (documents : List (Bor Text)) → is_good name (map (λ s. s.now) documents) ≡ true → length documents ≤ greatest_number
+few_documents name documents good =
+    let names = map (λ s. s.now) documents in
+    let few : nat_le (length names) most_documents ≡ true =
+    second_holds (is_name name && nat_le (length name) longest_server_name) (nat_le (length names) most_documents) (list_all is_name names) (all_differ names) good in
+    let many : length names ≡ length documents = length-map _ _ in
+    let at_most : length names ≤ most_documents = leb-true (length names) most_documents few in
+    omega (arith, at_most, many)

@@ -6,6 +6,7 @@ use Rattle.sqlite_trees.specs.Tree.{Trees}
 use Rattle.sqlite_trees.specs.declared.store.Store.{Ghosts}
 use Rattle.log_copy.specs.Kept.{Kept}
 use Rattle.copy_docs.specs.Docs.{Doc}
+use Rattle.copier.specs.Batches.{AreAdded}
 use Rattle.served_copy.specs.Named.{is_known, replica_name}
 use Rattle.served_copy.specs.Stored.{ServesStored}
 use Rattle.tcp_server.specs.Listening.{WritesAddress}
@@ -38,5 +39,8 @@ module _ {S : Type 0} (g : Ghosts S) (holds_alone : S → Trees → Type 0) wher
         docs = served.begun.docs;
         epoch = served.begun.epoch;
         unknown = subst (λ (docs : List Doc). is_known (replica_name name served.begun.epoch) docs names ≡ false) (sym kept) (subst (λ (r : List ℕ). is_known r old.docs names ≡ false) named served.raised.unknown);
+        last = served.served.new.docs;
+        any = served.served.copied.any;
+        copied = subst (λ (docs : List Doc). AreAdded names docs served.served.copied.any served.served.new.docs) served.served.same_docs served.served.copied.added;
         served = served.served.sessions;
       }

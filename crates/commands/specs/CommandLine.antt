@@ -7,7 +7,7 @@ use Rattle.clap.specs.Words.{new_app, new_rule, rows_of, with_rule}
 use Rattle.clap.specs.declared.parser.matches.ArgMatches.{ArgMatches}
 use Rattle.run_core.specs.Names.{Wanted, is_good}
 use Rattle.clap.specs.declared.builder.ArgAction.TheVariants.{Append}
-use Rattle.commands.specs.declared.command_line.TheConstants.{MAX_SESSIONS}
+use Rattle.commands.specs.Limits.{most_sessions}
 
 abbrev pub name_rule : Rule
 name_rule = record (new_rule (codes "name")) { long = Some (codes "name") }
@@ -32,7 +32,7 @@ pub record IsCount (text : Text) (sessions : ℕ) : Type 0 where
   pub digits : IsNumeral 10 (without_leading_plus text)
   pub value : sessions ≡ digits_value 10 (without_leading_plus text)
   pub some : 1 ≤ sessions
-  pub few : sessions ≤ MAX_SESSIONS
+  pub few : sessions ≤ most_sessions
 
 -- the name and the documents of clap's matches
 abbrev pub wanted_of : List Row → Wanted

@@ -3,6 +3,7 @@ ghost use Rattle.std.specs.Prelude.{◌≡◌, ◌≢◌, ℕ, [], false, map, M
 ghost use Rattle.clap.specs.Words.{app_of, fault_of, found_of, kind_of, matches_of, rows_of, rule_of};
 ghost use Rattle.commands.specs.CommandLine.{IsCount, document_rule, is_check, is_run, is_serve, name_rule};
 ghost use Rattle.commands.specs.CommandLine.{check_command, required_rule, run_command, serve_command};
+ghost use Rattle.commands.specs.Limits.{most_sessions};
 
 use clap::error::ErrorKind;
 use clap::{Arg, ArgAction, ArgMatches, Command, Error};
@@ -10,6 +11,11 @@ use std::alloc::{AllocError, Global};
 
 /// The most sessions of a server.
 pub const MAX_SESSIONS: u16 = 256;
+
+/// The law that this limit is that of the definitions.
+pub fn limits_as_defined()
+    ensures sessions { MAX_SESSIONS ≡ most_sessions }
+{}
 
 /// The name of a server that is given none.
 pub const DEFAULT_NAME: &str = "srv";

@@ -11,7 +11,7 @@ mod serve;
 mod usage;
 
 pub use check::parse_and_check;
-pub use command_line::{is_check, is_run, is_serve};
+pub use command_line::{is_check, is_run, is_serve, limits_as_defined};
 pub use host::ServerHost;
 pub use run::run_words;
 pub use serve::parse_and_serve;

@@ -1,9 +1,9 @@
 //! A run: one session over two devices.
 ghost use Rattle.std.specs.Prelude.{◌≡◌, ◌⊎◌, ◌≤◌, [], false, true, map};
 ghost use Rattle.commands.specs.CommandLine.{AsksToRun, asked_of, is_run};
+ghost use Rattle.run_core.specs.Limits.{most_documents};
 ghost use Rattle.run_core.specs.Names.{Wanted, is_good};
 ghost use Rattle.run_core.specs.Served.{ServesAll, ServesUntilFault};
-ghost use Rattle.run_core.specs.declared.names.TheConstants.{MAX_DOCUMENTS};
 
 use crate::command_line::{DEFAULT_NAME, is_run, parse_run};
 use clap::ArgMatches;
@@ -22,7 +22,7 @@ fn run_parsed<M: Maker, R: Source, W: Sink>(
     source: &mut R,
     sink: &mut W,
 ) -> u8
-    requires room { MAX_DOCUMENTS ≤ M.room maker.old }
+    requires room { most_documents ≤ M.room maker.old }
     requires source_works { R.has_failed source.old ≡ false }
     requires sink_works { W.has_failed sink.old ≡ false }
 
@@ -56,7 +56,7 @@ pub fn run_words<M: Maker, R: Source, W: Sink>(
     source: &mut R,
     sink: &mut W,
 ) -> u8
-    requires room { MAX_DOCUMENTS ≤ M.room maker.old }
+    requires room { most_documents ≤ M.room maker.old }
     requires source_works { R.has_failed source.old ≡ false }
     requires sink_works { W.has_failed sink.old ≡ false }
 

@@ -3,7 +3,7 @@ ghost use Rattle.std.specs.Prelude.{◌≡◌, ◌≢◌, ◌⊎◌, ◌≤◌, 
 ghost use Rattle.clap.specs.Words.{found_of, rows_of};
 ghost use Rattle.doc_ledger.specs.Numbers.{greatest_number};
 ghost use Rattle.commands.specs.CommandLine.{AsksToServe, IsServer, NamesServer, WantedServer, is_serve};
-ghost use Rattle.commands.specs.Server.{ServesAndCloses, ServesAt};
+ghost use Rattle.commands.specs.Server.{ServesAt};
 
 use crate::command_line::{DEFAULT_NAME, is_serve, parse_serve, sessions_of};
 use crate::host::ServerHost;
@@ -17,7 +17,6 @@ use served_copy::{Failure, Step, report_fault, serve_stored};
 use sqlite::ErrorCode;
 use std::alloc::Global;
 use std::io;
-use std::net::TcpListener;
 use std::rt::HostRuntime;
 use tcp_server::{Entrance, connections, listen};
 
@@ -68,36 +67,9 @@ fn status_of(served: &Result<(), Failure>, closed: &Result<(), ErrorCode>) -> u8
     }
 }
 
-// Serves so many sessions from the stored log, each over a connection of the listener, as
-// `serve_stored`. It reports on standard error why it ended with status 1.
-fn serve_listener<R: ServerHost, S: Foldable + Drop, W: io::Write>(
-    rt: &R,
-    alloc: Global,
-    name: &str,
-    documents: &[&str],
-    listener: &TcpListener,
-    sessions: u16,
-    copy: LogCopy<S>,
-    out: &mut W,
-) -> u8
-    requires few { length documents.now ≤ greatest_number }
-    ensures status { result ≤ 1 }
-    ensures served { result ≡ 0 → ServesAndCloses S.Store S.Foldable.holds_alone
-        name.now (map (λ s. s.now) documents.now) sessions copy (W.contents out.old) (W.contents out.new) }
-{
-    let entrance = Entrance::new(rt, listener, sessions);
-    let Ok(all) = connections(alloc, &entrance, sessions) else {
-        let _ = rt.eprintln("jcrdt: out of memory while the sessions were prepared");
-        close(rt, copy);
-        return 1;
-    };
-    let ended = serve_stored(rt, alloc, name, documents, all, copy, out);
-    report_causes(rt, &ended.served, &ended.closed);
-    status_of(&ended.served, &ended.closed)
-}
-
-// Listens at the address, writes where, and serves from the stored log, if it could be opened. It
-// is generic over the store: each step at the store of a file would cost its proof much.
+// Listens at the address, writes where, and serves so many sessions from the stored log, if it could
+// be opened. It reports on standard error why it ended with status 1. It is generic over the store:
+// each step at the store of a file would cost its proof much.
 fn listen_and_serve<R: ServerHost, S: Foldable + Drop, W: io::Write>(
     rt: &R,
     alloc: Global,
@@ -118,44 +90,28 @@ fn listen_and_serve<R: ServerHost, S: Foldable + Drop, W: io::Write>(
         Ok(copy) => copy,
         Err(fault) => {
             // `open_copy` has reported why on standard error.
-            report_fault(fault, out);
+            let _ = report_fault(fault, out);
             return 1;
         }
     };
-    match listen(rt, alloc, address, out) {
-        Some(listener) => serve_listener(
-            rt, alloc, name, documents, &listener, sessions, copy, out,
-        ),
-        None => {
-            close(rt, copy);
-            1
-        }
-    }
+    let Some(listener) = listen(rt, alloc, address, out) else {
+        close(rt, copy);
+        return 1;
+    };
+    let entrance = Entrance::new(rt, &listener, sessions);
+    let Ok(all) = connections(alloc, &entrance, sessions) else {
+        let _ = rt.eprintln("jcrdt: out of memory while the sessions were prepared");
+        close(rt, copy);
+        return 1;
+    };
+    let ended = serve_stored(rt, alloc, name, documents, all, copy, out);
+    report_causes(rt, &ended.served, &ended.closed);
+    status_of(&ended.served, &ended.closed)
 }
 
-// Opens the stored log in the file, and serves from it.
-fn open_and_serve<R: ServerHost, W: io::Write>(
-    host: &HostRuntime,
-    rt: &R,
-    alloc: Global,
-    name: &str,
-    documents: &[&str],
-    address: &str,
-    sessions: u16,
-    file: &str,
-    out: &mut W,
-) -> u8
-    requires few { length documents.now ≤ greatest_number }
-    ensures status { result ≤ 1 }
-    ensures served { result ≡ 0
-        → ServesAt name.now (map (λ s. s.now) documents.now) sessions (W.contents out.old) (W.contents out.new) }
-{
-    let opened = open_copy(host, file);
-    listen_and_serve(rt, alloc, name, documents, address, sessions, opened, out)
-}
-
-// Serves what clap's matches ask for. The status is 2 exactly where a name is bad, there are too
-// many documents, or the number of sessions isn't 1 to 256; nothing is written then.
+// Opens the stored log in the file that clap's matches name, and serves what they ask for. The
+// status is 2 exactly where a name is bad, there are too many documents, or the number of sessions
+// isn't 1 to 256; nothing is written then.
 fn validate_and_serve<R: ServerHost, W: io::Write>(
     host: &HostRuntime,
     rt: &R,
@@ -182,9 +138,8 @@ fn validate_and_serve<R: ServerHost, W: io::Write>(
     if !is_good(name, documents) {
         return 2;
     }
-    open_and_serve(
-        host, rt, alloc, name, documents, address, sessions, file, out,
-    )
+    let opened = open_copy(host, file);
+    listen_and_serve(rt, alloc, name, documents, address, sessions, opened, out)
 }
 
 /// Serves what the arguments ask for, and returns the program's status.

@@ -71,7 +71,7 @@ then_ok (Err e) p f = tt
 
 -- what was served behind a start
 pub served_behind : {S X F : Type 0} (r : Result X F) {name : List ℕ} {names : List (List ℕ)} (count : ℕ) {replica : List ℕ} {old begun : Kept S} (new : Kept S) (held holds : Option (List ℕ))
-    → IsRaised name names replica old begun → begun.has_failed ≡ false → OnOk r (ServesSessions begun.docs names count held holds)
+    → IsRaised name names replica old begun → begun.has_failed ≡ false → OnOk r (ServesSessions begun.docs new.docs names count held holds)
     → OnOk r (AddsBatches names begun new) → OnOk r (begun.has_failed ≡ false → new.has_failed ≡ false) → OnOk r (ServesCopied name names count old new held holds)
 served_behind (Ok x) count {replica = replica} {begun = begun} new held holds raised fine sessions copied works =
     record { begun = begun; replica = replica; raised = raised; sessions = sessions; copied = copied; works = works fine }

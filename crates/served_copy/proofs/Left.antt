@@ -31,12 +31,12 @@ module _ {S : Type 0} (g : Ghosts S) (holds_alone : S → Trees → Type 0) wher
   pub serves_folded : {X F E : Type 0} (names : List (List ℕ)) (count : ℕ) (begun folded new : Kept S) (served ended : Result X F) (closed : Result ⊤ E) (last : S) (held holds : Option (List ℕ))
       → ended ≡ served → folded.epoch ≡ begun.epoch → folded.docs ≡ begun.docs → folded.has_failed ≡ false → new.is_alone ≡ begun.is_alone
       → (begun.is_alone ≡ true → HasCleanDisk (state g folded.conn) → WasAlone g holds_alone (content begun.epoch begun.docs) begun.conn.store)
-      → OnOk served (ServesSessions folded.docs names count held holds) → OnOk served (AddsBatches names folded new) → OnOk served (folded.has_failed ≡ false → new.has_failed ≡ false)
+      → OnOk served (ServesSessions folded.docs new.docs names count held holds) → OnOk served (AddsBatches names folded new) → OnOk served (folded.has_failed ≡ false → new.has_failed ≡ false)
       → Held closed new last → OnOk ended (ServesFolded g holds_alone names count begun closed last held holds)
   serves_folded {X} {F} names count begun folded new served ended closed last held holds is same_epoch same_docs fine same_tables alone sessions copied works held_then =
       subst (λ (r : Result X F). OnOk r (ServesFolded g holds_alone names count begun closed last held holds)) (sym is) (go served sessions copied works)
     where
-      go : (r : Result X F) → OnOk r (ServesSessions folded.docs names count held holds) → OnOk r (AddsBatches names folded new) → OnOk r (folded.has_failed ≡ false → new.has_failed ≡ false)
+      go : (r : Result X F) → OnOk r (ServesSessions folded.docs new.docs names count held holds) → OnOk r (AddsBatches names folded new) → OnOk r (folded.has_failed ≡ false → new.has_failed ≡ false)
           → OnOk r (ServesFolded g holds_alone names count begun closed last held holds)
       go (Ok x) told added well = record {
         folded = folded;
@@ -44,7 +44,7 @@ module _ {S : Type 0} (g : Ghosts S) (holds_alone : S → Trees → Type 0) wher
         same_epoch = same_epoch;
         same_docs = same_docs;
         was_alone = alone;
-        sessions = subst (λ (docs : List Doc). ServesSessions docs names count held holds) same_docs told;
+        sessions = subst (λ (docs : List Doc). ServesSessions docs new.docs names count held holds) same_docs told;
         copied = added;
         works = well fine;
         is_held = then_ok closed held_then (λ h is_alone. h (well fine) (same_tables ∙ is_alone));

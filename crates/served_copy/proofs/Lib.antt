@@ -2,3 +2,4 @@ mod Lines
 mod Restored
 mod Keeping
 mod Left
+mod Storing

@@ -11,7 +11,7 @@ use Rattle.server_core.specs.Sums.{AreTotalsFrom}
 use Rattle.op_core.specs.Op.{Op}
 use Rattle.copy_docs.specs.Docs.{Doc}
 use Rattle.served_copy.specs.Restored.{entries_at}
-use Rattle.served_copy.specs.Totals.{ServesSessions, total_line, total_lines}
+use Rattle.served_copy.specs.Totals.{AreStored, ServesSessions, total_line, total_lines}
 
 -- the line of one document, and those of the documents behind it
 pub lines_step : (names : List (Bor (List ℕ))) (totals : List Totals) (i : ℕ) (n : Bor (List ℕ)) (t : Totals) → i < length names → i < length totals
@@ -25,13 +25,13 @@ pub lines_end : (names : List (Bor (List ℕ))) (totals : List Totals) (i : ℕ)
 lines_end names totals i past = rw (drop_all i names past) refl
 
 -- what sessions did over documents of these names, and what was written of it
-pub serves : (begun : ℕ → List Op) (docs : List Doc) (shelved names : List (List ℕ)) (connections : List Bytes) (count : ℕ) {F : Type 0} {ran : Result Gathered F} (gathered : Gathered)
+pub serves : (begun : ℕ → List Op) (docs last : List Doc) (shelved names : List (List ℕ)) (connections : List Bytes) (count : ℕ) {F : Type 0} {ran : Result Gathered F} (gathered : Gathered)
     (held holds : Option (List ℕ)) → ran ≡ Ok gathered
     → IfOk ran (λ g. (given : List (List (Option Seat))) × AreAttended shelved connections g.endings.items given × AreTotalsFrom begun 0 given g.totals.items)
     → IfOk ran (λ g. vec_len g.totals ≡ length shelved)
-    → begun ≡ entries_at docs names → shelved ≡ names → length connections ≡ count → Appends held holds (total_lines names gathered.totals.items)
-    → ServesSessions docs names count held holds
-serves begun docs shelved names connections count gathered held holds is sessions each restored same so_many written =
+    → begun ≡ entries_at docs names → shelved ≡ names → length connections ≡ count → AreStored last names gathered.totals.items
+    → Appends held holds (total_lines names gathered.totals.items) → ServesSessions docs last names count held holds
+serves begun docs last shelved names connections count gathered held holds is sessions each restored same so_many stored written =
     let (given, attended, added) = subst
     (λ ran. IfOk ran (λ g. (given : List (List (Option Seat))) × AreAttended shelved connections g.endings.items given × AreTotalsFrom begun 0 given g.totals.items)) is sessions in
     let many : vec_len gathered.totals ≡ length shelved = subst (λ ran. IfOk ran (λ g. vec_len g.totals ≡ length shelved)) is each in
@@ -44,5 +44,6 @@ serves begun docs shelved names connections count gathered held holds is session
       attended = subst (λ ns. AreAttended ns connections gathered.endings.items given) same attended;
       each = sym gathered.totals.ok.0 ∙ many ∙ ap length same;
       added = subst (λ first. AreTotalsFrom first 0 given gathered.totals.items) restored added;
+      stored = stored;
       written = written;
     }

@@ -7,13 +7,13 @@ use Rattle.served_copy.specs.Totals.{ServesSessions}
 
 -- The server took a name of a greater epoch of the copy, and so many connections were served over
 -- documents of these names, each restored from the copy as it was then; and the copy has what it
--- had, and batches that fit behind it.
+-- had, and batches that fit behind it, up to as many operations of each document as were logged.
 pub record ServesCopied {S : Type 0} (name : List ℕ) (names : List (List ℕ)) (count : ℕ) (old new : Kept S)
     (held holds : Option (List ℕ)) : Type 0 where
   pub begun : Kept S
   pub replica : List ℕ
   pub raised : IsRaised name names replica old begun
-  pub sessions : ServesSessions begun.docs names count held holds
+  pub sessions : ServesSessions begun.docs new.docs names count held holds
   pub copied : AddsBatches names begun new
   pub works : new.has_failed ≡ false
 

@@ -23,7 +23,7 @@ module _ {S : Type 0} (g : Ghosts S) (holds_alone : S → Trees → Type 0) wher
     pub same_docs : folded.docs ≡ begun.docs
     pub was_alone : begun.is_alone ≡ true → HasCleanDisk (state g folded.conn)
         → WasAlone g holds_alone (content begun.epoch begun.docs) begun.conn.store
-    pub sessions : ServesSessions begun.docs names count held holds
+    pub sessions : ServesSessions begun.docs new.docs names count held holds
     pub copied : AddsBatches names folded new
     pub works : new.has_failed ≡ false
     pub is_held : OnOk closed (begun.is_alone ≡ true → IsHeld g holds_alone (content new.epoch new.docs) last)

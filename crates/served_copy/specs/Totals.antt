@@ -2,12 +2,13 @@
 use Rattle.std.specs.Prelude.{◌≡◌, ℕ, List, [], ◌∷◌, ◌++◌, length, codes, Option}
 use Rattle.std.specs.Fmt.{decimal}
 use Rattle.std.specs.Io.KnownBytes.{Appends}
+use Rattle.std.specs.List.{AllZip}
 use Rattle.doc_rules.specs.Seats.{Seat}
 use Rattle.locked_doc.specs.declared.gather.Totals.{Totals}
 use Rattle.session_rules.specs.declared.Ending.{Ending}
 use Rattle.server_core.specs.Attended.{AreAttended, Bytes}
 use Rattle.server_core.specs.Sums.{AreTotalsFrom}
-use Rattle.copy_docs.specs.Docs.{Doc}
+use Rattle.copy_docs.specs.Docs.{Doc, log_of}
 use Rattle.served_copy.specs.Restored.{entries_at}
 
 -- ["total",DOC,ACCEPTED,LOGGED,COPIED]
@@ -22,11 +23,20 @@ total_lines (name ∷ names) (t ∷ ts) = total_line name t ++ total_lines names
 total_lines [] ts = []
 total_lines (name ∷ names) [] = []
 
+-- the stored log has as many operations of the document as are logged, and as many count as copied
+abbrev pub IsStored : List Doc → List ℕ → Totals → Type 0
+IsStored docs name t = (t.logged ≡ length (log_of name docs)) × (t.copied ≡ length (log_of name docs))
+
+-- each document, in their order
+abbrev pub AreStored : List Doc → List (List ℕ) → List Totals → Type 0
+AreStored docs names totals = AllZip (IsStored docs) names totals
+
 -- So many connections, each with a session over documents of these names, or with none; and then a
 -- line of totals for each document, which are those of the seats that these sessions had. Each
--- document began with just the entries that it has in these documents of a copy. Where they are
+-- document began with just the entries that it has in these documents of a copy. At the end the copy
+-- has these last documents: of each it has as many operations as the totals say. Where they are
 -- known, the bytes are what a connection's source has and what its sink has taken.
-pub record ServesSessions (docs : List Doc) (names : List (List ℕ)) (count : ℕ)
+pub record ServesSessions (docs last : List Doc) (names : List (List ℕ)) (count : ℕ)
     (held holds : Option (List ℕ)) : Type 0 where
   pub connections : List Bytes
   pub endings : List (Option Ending)
@@ -36,4 +46,5 @@ pub record ServesSessions (docs : List Doc) (names : List (List ℕ)) (count : �
   pub attended : AreAttended names connections endings given
   pub each : length totals ≡ length names
   pub added : AreTotalsFrom (entries_at docs names) 0 given totals
+  pub stored : AreStored last names totals
   pub written : Appends held holds (total_lines names totals)

@@ -55,6 +55,8 @@ pub enum Failure {
     Lists,
     /// The totals could not be written.
     Output(io::Error),
+    /// The stored log lacks operations that sessions logged.
+    Unstored,
     /// Copying stopped while sessions ran.
     Stopped(Fault, Option<ErrorCode>),
 }
@@ -136,6 +138,7 @@ impl Display for Failure {
             }
             Failure::Lists => f.write_str("what the sessions were told differs from the log"),
             Failure::Output(error) => fmt_output(error, f),
+            Failure::Unstored => f.write_str("not all operations were stored"),
             Failure::Stopped(fault, code) => {
                 let why = message_of_stop(fault, *code);
                 write!(f, "copying stopped while sessions ran: {why}")

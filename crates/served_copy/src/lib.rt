@@ -7,6 +7,7 @@ mod notes;
 mod output;
 mod replica_name;
 mod restore;
+mod rows;
 mod serve;
 mod stored;
 

@@ -1,6 +1,7 @@
 //! What a server writes: the refusal of its file, or the totals of its documents.
 ghost use Rattle.std.specs.Prelude.{◌≡◌, ◌⊎◌, length, map, OnOk};
 ghost use Rattle.std.specs.Io.KnownBytes.{Appends};
+ghost use Rattle.copy_report.specs.Report.{refusal_line};
 ghost use Rattle.served_copy.specs.Totals.{total_line, total_lines};
 
 use copy_report::REFUSED_LINE;
@@ -9,15 +10,24 @@ use log_copy::Fault;
 use std::alloc::Global;
 use std::io;
 
-/// Writes the refusal of the file for `Refused`, and nothing for another fault. An I/O error is
-/// ignored.
-pub fn report_fault<W: io::Write>(fault: Fault, out: &mut W)
+// Writes the refusal of the file, and flushes.
+fn write_refusal<W: io::Write>(out: &mut W) -> io::Result<()>
+    ensures { OnOk result (Appends (W.contents out.old) (W.contents out.new) refusal_line) }
+{
+    out.write_all(REFUSED_LINE)?;
+    out.flush()
+}
+
+/// Writes the refusal of the file for `Refused`, and nothing for another fault. The error is the
+/// writer's.
+pub fn report_fault<W: io::Write>(fault: Fault, out: &mut W) -> io::Result<()>
+    ensures refused { OnOk result (fault ≡ Fault.Refused
+        → Appends (W.contents out.old) (W.contents out.new) refusal_line) }
     ensures unwritten { (fault ≡ Fault.Refused) ⊎ (out.new ≡ out.old) }
 {
-    if fault == Fault::Refused {
-        // Where the writer fails nothing more can be written.
-        let _ = out.write_all(REFUSED_LINE);
-        let _ = out.flush();
+    match fault {
+        Fault::Refused => write_refusal(out),
+        Fault::Store | Fault::Memory => Ok(()),
     }
 }
 

@@ -10,7 +10,7 @@ ghost use Rattle.copier.specs.Batches.{AddsBatches, HasCopied};
 ghost use Rattle.served_copy.specs.Named.{replica_name};
 ghost use Rattle.served_copy.specs.Restored.{entries_at};
 ghost use Rattle.served_copy.specs.Served.{KeepsRows, ServesCopied};
-ghost use Rattle.served_copy.specs.Totals.{ServesSessions};
+ghost use Rattle.served_copy.specs.Totals.{AreStored, ServesSessions};
 ghost use Rattle.served_copy.specs.Unwritten.{IsUnwritten};
 
 use crate::failure::{Failure, Step};
@@ -18,9 +18,11 @@ use crate::notes::{CopyLogger, note_documents};
 use crate::output::{report_fault, write_totals};
 use crate::replica_name::next_replica_name;
 use crate::restore::{RestoredDocuments, restore_documents, share_documents};
+use crate::rows::has_all;
 use copier::{Copier, CopyObserver};
 use doc_ledger::Ledger;
 use lamport_id::ReplicaName;
+use locked_doc::Totals;
 use log::Log;
 use log_copy::{Fault, LogCopy};
 use server_core::{Connect, Gathered, OpenGate, SharedDocuments, run_sessions};
@@ -110,20 +112,32 @@ fn serve_with_copier<
     (ran, why)
 }
 
-// The outcome once the totals are written: a failure where the copying ended before all was copied.
-fn outcome_of<S: Alter>(fault: Option<Fault>, copy: &LogCopy<S>) -> Result<(), Failure>
+// The outcome once the totals are written: a failure where the copying ended before all was copied,
+// or where the stored log lacks operations that the totals count.
+fn outcome_of<S: Alter>(
+    fault: Option<Fault>,
+    copy: &LogCopy<S>,
+    names: &[&str],
+    totals: &[Totals],
+) -> Result<(), Failure>
+    requires { length totals.now ≡ length names.now }
     ensures copied { OnOk result (fault ≡ None) }
+    ensures stored { OnOk result (AreStored copy.now.docs (map (λ s. s.now) names.now) totals.now) }
     ensures written { IfErr result (λ why. ¬ IsUnwritten why) }
 {
     match fault {
-        None => Ok(()),
         Some(why) => Err(Failure::of_copying(why, copy)),
+        None => if has_all(copy, names, totals) {
+            Ok(())
+        } else {
+            Err(Failure::Unstored)
+        },
     }
 }
 
 // Serves these connections over the restored documents while a copier runs, and writes the totals
-// at the end. It fails where memory runs out, where the writer fails, or where the copying ended
-// before all was copied.
+// at the end. It fails where memory runs out, where the writer fails, or where not all that the
+// sessions logged is stored.
 fn serve_documents<
     M: Marker + Send + Sync,
     R: Threads + Wait + Sync + Log + Clock,
@@ -141,8 +155,8 @@ fn serve_documents<
 ) -> Result<(), Failure>
     requires names { restored.names.items ≡ map (λ s. s.now) names.now }
     requires begun { M.initial_log ≡ entries_at copy.old.docs (map (λ s. s.now) names.now) }
-    ensures served { OnOk result (ServesSessions copy.old.docs (map (λ s. s.now) names.now) (length connections.items)
-        (W.contents out.old) (W.contents out.new)) }
+    ensures served { OnOk result (ServesSessions copy.old.docs copy.new.docs (map (λ s. s.now) names.now)
+        (length connections.items) (W.contents out.old) (W.contents out.new)) }
     ensures unwritten { IfErr result (λ why. IsUnwritten why → out.new ≡ out.old) }
     ensures copied { OnOk result (AddsBatches (map (λ s. s.now) names.now) copy.old copy.new) }
     ensures works { OnOk result (copy.old.has_failed ≡ false → copy.new.has_failed ≡ false) }
@@ -154,16 +168,18 @@ fn serve_documents<
     };
     let (ran, fault) = serve_with_copier(rt, alloc, shared, connections, copy);
     let gathered = ran?;
-    match write_totals(alloc, names, gathered.totals.as_slice(), out) {
-        Ok(()) => outcome_of(fault, copy),
+    let totals = gathered.totals.as_slice();
+    match write_totals(alloc, names, totals, out) {
+        Ok(()) => outcome_of(fault, copy, names, totals),
         Err(error) => Err(Failure::Output(error)),
     }
 }
 
 // Restores the documents of these names from the copy, for this replica, and serves the connections
 // over them, one session each. The replica is named by the server's name and the copy's epoch. The
-// counters are of a new table, `blank`.
-fn restore_and_serve<
+// counters are of a new table, `blank`. The name is bytes, since a call with a `&str` can't pick
+// ghost members.
+pub(crate) fn restore_and_serve<
     M: Marker + Send + Sync,
     R: Threads + Wait + Sync + Log + Clock,
     C: Connect,
@@ -184,7 +200,7 @@ fn restore_and_serve<
     requires named { replica.now ≡ replica_name name.now copy.old.epoch }
     requires begun { M.initial_log ≡ entries_at copy.old.docs (map (λ s. s.now) documents.now) }
     requires few { length documents.now ≤ greatest_number }
-    ensures served { OnOk result (ServesSessions copy.old.docs (map (λ s. s.now) documents.now)
+    ensures served { OnOk result (ServesSessions copy.old.docs copy.new.docs (map (λ s. s.now) documents.now)
         (length connections.items) (W.contents out.old) (W.contents out.new)) }
     ensures unwritten { IfErr result (λ why. IsUnwritten why → out.new ≡ out.old) }
     ensures copied { OnOk result (AddsBatches (map (λ s. s.now) documents.now) copy.old copy.new) }
@@ -204,52 +220,13 @@ fn restore_and_serve<
     }
 }
 
-// The same, with a new table of counters.
-pub(crate) fn serve_epoch<
-    R: Threads + Wait + Sync + Log + Clock,
-    C: Connect,
-    S: Alter,
-    W: io::Write,
->(
-    rt: &R,
-    alloc: Global,
-    name: &str,
-    replica: &ReplicaName,
-    documents: &[&str],
-    connections: Vec<C>,
-    copy: &mut LogCopy<S>,
-    out: &mut W,
-) -> Result<(), Failure>
-    requires few { length documents.now ≤ greatest_number }
-    requires named { replica.now ≡ replica_name name.now copy.old.epoch }
-    ensures served { OnOk result (ServesSessions copy.old.docs (map (λ s. s.now) documents.now)
-        (length connections.items) (W.contents out.old) (W.contents out.new)) }
-    ensures unwritten { IfErr result (λ why. IsUnwritten why → out.new ≡ out.old) }
-    ensures copied { OnOk result (AddsBatches (map (λ s. s.now) documents.now) copy.old copy.new) }
-    ensures works { OnOk result (copy.old.has_failed ≡ false → copy.new.has_failed ≡ false) }
-    ensures grown { copy.new.has_failed ≡ false → AddsBatches (map (λ s. s.now) documents.now) copy.old copy.new }
-    ensures alone { copy.new.is_alone ≡ copy.old.is_alone }
-{
-    restore_and_serve::<Brand, R, C, S, W>(
-        rt,
-        alloc,
-        Blank::new(),
-        name.as_bytes(),
-        replica,
-        documents,
-        connections,
-        copy,
-        out,
-    )
-}
-
 /// Starts a new epoch of the copy, restores the documents of these names from it, serves the
 /// connections over them, one session each, stores what they log meanwhile, and writes the totals
 /// at the end.
 ///
 /// The failure says why it did not. If the copy was refused (no epoch is left, or the name is too
 /// long), it also writes the refusal. If the copy fails while sessions run, they go on, and the
-/// failure is `Stopped` at the end.
+/// failure is `Stopped` at the end. Tests call it; the program calls `serve_stored`.
 pub fn start_and_serve<R: Threads + Wait + Sync + Log + Clock, C: Connect, S: Alter, W: io::Write>(
     rt: &R,
     alloc: Global,
@@ -268,15 +245,26 @@ pub fn start_and_serve<R: Threads + Wait + Sync + Log + Clock, C: Connect, S: Al
     ensures alone { copy.new.is_alone ≡ copy.old.is_alone }
 {
     match next_replica_name(alloc, copy, name, documents) {
-        Ok(replica) => serve_epoch(rt, alloc, name, &replica, documents, connections, copy, out),
+        Ok(replica) => restore_and_serve::<Brand, R, C, S, W>(
+            rt,
+            alloc,
+            Blank::new(),
+            name.as_bytes(),
+            &replica,
+            documents,
+            connections,
+            copy,
+            out,
+        ),
         Err(fault) => {
-            report_fault(fault, out);
+            // Where the writer fails nothing more can be written.
+            let _ = report_fault(fault, out);
             Err(Failure::of_epoch(fault, copy))
         }
     }
 }
 
-/// `start_and_serve` as the program's status: 0, or 1 where it failed.
+/// `start_and_serve` as a program's status: 0, or 1 where it failed. Only tests call it.
 pub fn serve_over<R: Threads + Wait + Sync + Log + Clock, C: Connect, S: Alter, W: io::Write>(
     rt: &R,
     alloc: Global,

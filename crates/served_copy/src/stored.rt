@@ -10,14 +10,16 @@ ghost use Rattle.served_copy.specs.Unwritten.{IsUnwritten};
 use crate::failure::{Failure, Step};
 use crate::output::report_fault;
 use crate::replica_name::next_replica_name;
-use crate::serve::serve_epoch;
+use crate::serve::restore_and_serve;
 use lamport_id::ReplicaName;
 use log::Log;
 use log_copy::{Foldable, LogCopy};
 use server_core::Connect;
+use share_ledger::Blank;
 use sqlite::{Alter, ErrorCode};
 use std::alloc::Global;
 use std::io;
+use std::marker::Brand;
 use std::sync::Wait;
 use std::thread::Threads;
 use std::time::Clock;
@@ -70,7 +72,7 @@ fn end<S: Foldable + Drop>(served: Result<(), Failure>, copy: LogCopy<S>) -> End
 }
 
 // Folds the stored log, whose epoch is the replica's, into the database file. Then it serves the
-// connections, as `serve_epoch`, and closes the log.
+// connections, as `restore_and_serve`, with a new table of counters, and closes the log.
 fn fold_and_serve<
     R: Threads + Wait + Sync + Log + Clock,
     C: Connect,
@@ -99,10 +101,11 @@ fn fold_and_serve<
     match copy.fold() {
         Ok(folded) => {
             let mut copy = folded;
-            let served = serve_epoch(
+            let served = restore_and_serve::<Brand, R, C, S, W>(
                 rt,
                 alloc,
-                name,
+                Blank::new(),
+                name.as_bytes(),
                 replica,
                 documents,
                 connections,
@@ -150,7 +153,8 @@ pub fn serve_stored<
     match next_replica_name(alloc, &mut copy, name, documents) {
         Ok(replica) => fold_and_serve(rt, alloc, name, &replica, documents, connections, copy, out),
         Err(fault) => {
-            report_fault(fault, out);
+            // Where the writer fails nothing more can be written.
+            let _ = report_fault(fault, out);
             let failure = Failure::of_epoch(fault, &copy);
             end(Err(failure), copy)
         }

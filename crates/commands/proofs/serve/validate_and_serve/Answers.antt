@@ -1,7 +1,11 @@
 use Rattle.std.proofs.Common.{◌≡◌, [], true, false, codes, map, rules, refl, sym, ap, ◌∙◌}
 use Rattle.run_core.specs.Names.{is_good}
-use Rattle.commands.proofs.Asked.{same_server, text_is, texts_are}
+use Rattle.commands.proofs.Asked.{few_documents, same_server, text_is, texts_are}
 use Rattle.commands.proofs.serve.validate_and_serve.Goals as goal
+
+pub listen_and_serve-requires-clause-few : goal.listen_and_serve-requires-clause-few
+listen_and_serve-requires-clause-few g c κs within =
+    let good : c.is_good.result ≡ true = search rules in few_documents c.unwrap_or-name.result.now c.unwrap_or-documents.result.now (sym c.is_good.ensures ∙ good)
 
 pub returns-in-None-clause-refused : goal.returns-in-None-clause-refused
 returns-in-None-clause-refused g c = λ two wanted asked.
@@ -54,5 +58,5 @@ returns-clause-served g c = λ zero.
       },
       same_server name_is documents_are address_is count_is _
           (record { named = refl; listed = refl; at = refl; sessions = c.in-Some.ensures; good = search rules }),
-      c.open_and_serve.ensures.served zero,
+      c.listen_and_serve.ensures.served zero,
     )

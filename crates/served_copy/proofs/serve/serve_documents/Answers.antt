@@ -1,8 +1,7 @@
-use Rattle.std.proofs.Common.{map, refl, rules, ◌∙◌}
+use Rattle.std.proofs.Common.{◌≡◌, map, refl, rules, subst, ◌∙◌}
 use Rattle.std.proofs.lemmas.List.{length-map}
 use Rattle.std.specs.Io.KnownBytes.{Appends}
-use Rattle.server_notes.proofs.Telling.{on_ok}
-use Rattle.served_copy.specs.Totals.{total_lines}
+use Rattle.served_copy.specs.Totals.{AreStored, total_lines}
 use Rattle.served_copy.proofs.Lines.{serves}
 use Rattle.served_copy.proofs.Keeping.{alone_beside, copied_if_ran, grown_beside, no_batches, then_ok}
 use Rattle.served_copy.proofs.serve.serve_documents.Goals as goal
@@ -19,10 +18,12 @@ returns-in_err-gathered-clause-alone g c = alone_beside _ c.serve_with_copier-ra
 pub returns-in-Ok-write_totals-clause-served : goal.returns-in-Ok-write_totals-clause-served
 returns-in-Ok-write_totals-clause-served g c =
     let sessions = c.serve_with_copier-ran.ensures in
-    let written : Appends (g.W.Write.contents c.args.out.now) (g.W.Write.contents c.write_totals.new.out)
-    (total_lines (map (λ s. s.now) c.args.names.now) c.in_ok-gathered.gathered.totals.items) = search rules in
-    on_ok c.outcome_of.result (serves g.M.Marker.initial_log c.args.copy.now.docs _ _ _ _ c.in_ok-gathered.gathered _ _ c.in_ok-gathered.was sessions.sessions sessions.each
-    c.requires.begun (c.in-Ok.ensures.names ∙ c.requires.names) (length-map _ _) written)
+    let same : c.as_slice-totals.result.now ≡ c.in_ok-gathered.gathered.totals.items = search rules in
+    let names = map (λ s. s.now) c.args.names.now in
+    let written : Appends (g.W.Write.contents c.args.out.now) (g.W.Write.contents c.write_totals.new.out) (total_lines names c.in_ok-gathered.gathered.totals.items) = search rules in
+    then_ok c.outcome_of.result c.outcome_of.ensures.stored
+    (λ stored. serves g.M.Marker.initial_log c.args.copy.now.docs _ _ _ _ _ c.in_ok-gathered.gathered _ _ c.in_ok-gathered.was sessions.sessions sessions.each
+    c.requires.begun (c.in-Ok.ensures.names ∙ c.requires.names) (length-map _ _) (subst (AreStored _ names) same stored) written)
 
 pub returns-in-Ok-write_totals-clause-copied : goal.returns-in-Ok-write_totals-clause-copied
 returns-in-Ok-write_totals-clause-copied g c =

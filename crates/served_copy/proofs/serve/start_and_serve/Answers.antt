@@ -6,8 +6,8 @@ returns-in-Err-clause-kept g c = kept_by_start c.next_replica_name.ensures.faile
 
 pub returns-in-Ok-clause-served : goal.returns-in-Ok-clause-served
 returns-in-Ok-clause-served g c =
-    let serves = c.serve_epoch.ensures in
-    served_behind c.serve_epoch.result _ _ _ _ c.in-Ok.ensures.raised c.in-Ok.ensures.works serves.served serves.copied serves.works
+    let serves = c.restore_and_serve.ensures in
+    served_behind c.restore_and_serve.result _ _ _ _ c.in-Ok.ensures.raised c.in-Ok.ensures.works serves.served serves.copied serves.works
 
 pub returns-in-Ok-clause-kept : goal.returns-in-Ok-clause-kept
-returns-in-Ok-clause-kept g c = kept_behind c.in-Ok.ensures.raised c.serve_epoch.ensures.grown
+returns-in-Ok-clause-kept g c = kept_behind c.in-Ok.ensures.raised c.restore_and_serve.ensures.grown
