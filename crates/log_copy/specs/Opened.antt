@@ -38,7 +38,7 @@ module _ {S : Type 0} (g : Ghosts S) where
   RaisesFrom format old new = ((format ≡ 2) × (new ≡ old)) ⊎ ((format ≢ 2) × Ran g (update_format 2) old new)
 
   -- They were read, and the format raised.
-  pub record AreStored (old new : Held S) (epoch : ℕ) (docs : List Doc) : Type 0 where
+  pub record AreReadAndRaised (old new : Held S) (epoch : ℕ) (docs : List Doc) : Type 0 where
     pub format : ℕ
     pub between : Held S
     pub read : AreRead old between format epoch docs
@@ -54,7 +54,7 @@ module _ {S : Type 0} (g : Ghosts S) where
   abbrev pub IsTakenOver : Held S → Held S → ℕ → List Doc → Type 0
   IsTakenOver old new epoch docs =
       (HasNeither (state g old).now.schema × AreMade old new epoch docs)
-      ⊎ (HasBoth (state g old).now.schema × AreStored old new epoch docs)
+      ⊎ (HasBoth (state g old).now.schema × AreReadAndRaised old new epoch docs)
 
   -- A crash meanwhile may leave what one of these commits: where there were none, the statements that make the
   -- tables, and where there were both, the one that raises the format once they were read.
