@@ -12,7 +12,8 @@ use Rattle.copy_rows.specs.Rows.{rows_of}
 -- No documents that a file of this format may hold have rows that begin so.
 abbrev pub IsNoStart : ℕ → List Row → Type 0
 IsNoStart format rows =
-    (docs : List Doc) (rest : List Row) → AreInOrder docs → AreGood docs → AreWritable format docs → rows_of docs ≢ rows ++ rest
+    (docs : List Doc) (rest : List Row) → AreInOrder docs → AreGood docs → AreWritable format docs
+    → rows_of docs ≢ rows ++ rest
 
 module _ {S : Type 0} (g : Ghosts S) where
   -- It showed the rows of these documents and no others.

@@ -1,8 +1,10 @@
 -- What a command does to a replica, and what it answers. The tables have the rows of docs/FORMATS.md, "The
 -- order of causes".
-use Rattle.std.specs.Prelude.{◌≡◌, ◌⊎◌, ℕ, suc, nat_le, length, bytes_eq, ◌&&◌, not, Bool, true, false, List, [], ◌∷◌, Option, Some, None, is_some, Result, Ok, Err, if◌then◌else◌, ⊤}
+use Rattle.std.specs.Prelude.{◌≡◌, ◌⊎◌, ℕ, suc, nat_le, length, bytes_eq, ◌&&◌, not, Bool, true, false, List, [], ◌∷◌}
+use Rattle.std.specs.Prelude.{Option, Some, None, is_some, Result, Ok, Err, if◌then◌else◌, ⊤}
 use Rattle.doc_words.specs.Words.{Id, Refusal, NoMemory, Op, Cursor, Mutation}
-use Rattle.json_scalar.specs.declared.refusal.Refusal.TheVariants.{AtHead, NotInList, LogFull, TooManyReplicas, IdConflict, OwnName, HeldFull, NotHeld}
+use Rattle.json_scalar.specs.declared.refusal.Refusal.TheVariants.{AtHead, NotInList, LogFull, TooManyReplicas}
+use Rattle.json_scalar.specs.declared.refusal.Refusal.TheVariants.{IdConflict, OwnName, HeldFull, NotHeld}
 use Rattle.op_core.specs.Equality.{operation_eq}
 use Rattle.op_core.specs.Limits.{most_held, most_operations, most_replicas}
 use Rattle.op_core.specs.Shape.{is_head, ends_in_list, is_mutation, is_shaped}

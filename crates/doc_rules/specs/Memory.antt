@@ -4,7 +4,8 @@ use Rattle.doc_words.specs.declared.ask.Command.{Command}
 use Rattle.doc_words.specs.declared.ask.Command.TheVariants.{Change, Deliver, Forget}
 use Rattle.doc_words.specs.declared.reply.Reply.{Reply}
 use Rattle.crdt_rules.specs.Fits.{Fits}
-use Rattle.doc_rules.specs.Events.{Expected, replied, held, logged, Settles, expected_at_place, expected_of_delivery, Does}
+use Rattle.doc_rules.specs.Events.{Expected, replied, held, logged, Settles, expected_at_place, expected_of_delivery}
+use Rattle.doc_rules.specs.Events.{Does}
 use Rattle.doc_rules.specs.Replica.{Replica, Drains}
 use Rattle.doc_rules.specs.Replica.Drains.{done, logs, drops}
 

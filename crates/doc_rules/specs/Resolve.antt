@@ -1,5 +1,6 @@
 -- Where a cursor's steps lead.
-use Rattle.std.specs.Prelude.{◌≡◌, ℕ, zero, suc, List, [], ◌∷◌, ◌++◌, length, nat_le, Bool, true, ◌&&◌, Option, Some, option_map, slice_get, Result, Ok, Err, ok_or, MatchResult, if◌then◌else◌, ⊤}
+use Rattle.std.specs.Prelude.{◌≡◌, ℕ, zero, suc, List, [], ◌∷◌, ◌++◌, length, nat_le, Bool, true, ◌&&◌, Option, Some}
+use Rattle.std.specs.Prelude.{option_map, slice_get, Result, Ok, Err, ok_or, MatchResult, if◌then◌else◌, ⊤}
 use Rattle.std.specs.List.{list_any}
 use Rattle.doc_words.specs.Words.{Id, Refusal, Cursor, Key, Tagged}
 use Rattle.json_scalar.specs.declared.refusal.Refusal.TheVariants.{BadCursor, IndexPastEnd, AtHead, TooDeep}

@@ -1,5 +1,6 @@
 -- What the operation of an id did at a place.
-use Rattle.std.specs.Prelude.{◌≡◌, List, [], ◌∷◌, Bool, ◌&&◌, Option, Some, None, option_map, option_and_then, if◌then◌else◌}
+use Rattle.std.specs.Prelude.{◌≡◌, List, [], ◌∷◌, Bool, ◌&&◌, Option, Some, None, option_map, option_and_then}
+use Rattle.std.specs.Prelude.{if◌then◌else◌}
 use Rattle.doc_words.specs.Words.{Id, Scalar, Val, Key, Tagged, Mutation, Assign, Insert, Delete, Add, Op}
 use Rattle.json_scalar.specs.declared.scalar.Val.TheVariants.{Scalar as Plain, EmptyMap, EmptyList}
 use Rattle.doc_words.specs.declared.role.Role.{Role}

@@ -9,7 +9,8 @@ use Rattle.json_scalar.specs.declared.scalar.Val.TheVariants.{EmptyMap, EmptyLis
 use Rattle.op_core.specs.declared.cursor.Key.TheVariants.{Text, Element}
 use Rattle.op_core.specs.Wire.{list_data, id_data}
 use Rattle.crdt_rules.specs.Facts.{Facts}
-use Rattle.doc_rules.specs.Views.{Values, into_map, into_list, IsPresent, AreKeys, AreElements, AreEntries, AreTerms, total}
+use Rattle.doc_rules.specs.Views.{Values, into_map, into_list, IsPresent, AreKeys, AreElements, AreEntries, AreTerms}
+use Rattle.doc_rules.specs.Views.{total}
 
 mutual
   -- what is shown: the map and the list of the place, where they stand there, the entries of its register,

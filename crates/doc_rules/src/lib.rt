@@ -2,7 +2,8 @@
 //! that many seats share. The functions here are laws, and do nothing.
 #![tactic(auto)]
 
-ghost use Rattle.std.specs.Prelude.{◌≡◌, ◌≢◌, ◌⊎◌, ℕ, ◌+◌, ◌≤◌, true, false, List, [], ◌∷◌, ◌++◌, length, sum, Contains, Result, Ok, Err};
+ghost use Rattle.std.specs.Prelude.{◌≡◌, ◌≢◌, ◌⊎◌, ℕ, ◌+◌, ◌≤◌, true, false, List, [], ◌∷◌, ◌++◌, length, sum};
+ghost use Rattle.std.specs.Prelude.{Contains, Result, Ok, Err};
 ghost use Rattle.lamport_id.specs.Name.{is_name};
 ghost use Rattle.doc_words.specs.Words.{Id, Refusal, Val, Cursor, Key, Tagged, Mutation, Op};
 ghost use Rattle.op_core.specs.Front.{covers};
@@ -21,7 +22,8 @@ ghost use Rattle.crdt_rules.specs.Log.{IsGood, replay};
 ghost use Rattle.crdt_rules.specs.Pull.{front_of};
 ghost use Rattle.doc_rules.specs.Answers.{LooksHere, Reads, IsOfOperations};
 ghost use Rattle.doc_rules.specs.Cause.{IsFirstMisfit, cause_of};
-ghost use Rattle.doc_rules.specs.Document.{Document, Acts, GivesTo, IsSound, copied_to, count_in, count_of, logged_by, new_document, opens, total_of};
+ghost use Rattle.doc_rules.specs.Document.{Document, Acts, GivesTo, IsSound, copied_to, count_in, count_of, logged_by};
+ghost use Rattle.doc_rules.specs.Document.{new_document, opens, total_of};
 ghost use Rattle.doc_rules.specs.Events.{Event, IsWellMade, expected_of_change, logged};
 ghost use Rattle.doc_rules.specs.Memory.{DoesFully};
 ghost use Rattle.doc_rules.specs.Views.{AgreeOnPresent, AreConflicts, Values};

@@ -1,5 +1,6 @@
 -- How the held operations stand in their slots, and what is kept of what they wait for.
-use Rattle.std.specs.Prelude.{◌≡◌, ◌++◌, ◌≤◌, ◌==◌, Bool, List, [], ◌∷◌, Some, Contains, filter, filter_map, map, length, not, true}
+use Rattle.std.specs.Prelude.{◌≡◌, ◌++◌, ◌≤◌, ◌==◌, Bool, List, [], ◌∷◌, Some, Contains, filter, filter_map, map}
+use Rattle.std.specs.Prelude.{length, not, true}
 use Rattle.std.specs.Global.{Vec}
 use Rattle.std.specs.Vec.{vec_capacity}
 use Rattle.slab.specs.Slab.{Slab, get}
@@ -62,7 +63,8 @@ pub record ListsFree (order : List Entry) (ready : Vec Id) : Type 0 where
 
 -- each entry is noted at each id that it waits for
 abbrev pub AreNoted : List Entry → Waiters → Type 0
-AreNoted order waiters = (t : Entry) → Contains order t → (i : Id) → Contains t.missing i → Contains (waiters_of waiters i) t.key
+AreNoted order waiters =
+    (t : Entry) → Contains order t → (i : Id) → Contains t.missing i → Contains (waiters_of waiters i) t.key
 
 -- all of a buffer
 pub record KeepsWaits (slots : Slab Op) (order : List Entry) (ready : Vec Id) (waiters : Waiters) : Type 0 where

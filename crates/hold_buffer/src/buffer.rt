@@ -1,5 +1,6 @@
 //! The buffer.
-ghost use Rattle.std.specs.Prelude.{◌≡◌, ◌↔◌, List, [], ◌∷◌, ◌++◌, ◌+◌, length, ◌==◌, map, filter, find, not, true, false, IsTrue, OnOk, OnErr, OnSome, Some, IfSome, Ok, Contains};
+ghost use Rattle.std.specs.Prelude.{◌≡◌, ◌↔◌, List, [], ◌∷◌, ◌++◌, ◌+◌, length, ◌==◌, map, filter, find, not, true};
+ghost use Rattle.std.specs.Prelude.{false, IsTrue, OnOk, OnErr, OnSome, Some, IfSome, Ok, Contains};
 ghost use Rattle.std.specs.Option.{option_map, option_copied};
 ghost use Rattle.doc_words.specs.Words.{id_cmp, UnlessMemory, Op};
 ghost use Rattle.crdt_rules.specs.Same.{id_eq};

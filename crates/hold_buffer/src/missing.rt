@@ -1,5 +1,6 @@
 //! What one held operation waits for.
-ghost use Rattle.std.specs.Prelude.{◌≡◌, true, ◌↔◌, ◌<◌, IsTrue, Contains, slice_index_or, slice_set, not, length, filter, ◌==◌, Ok, MatchResult, MatchOption, IfOk};
+ghost use Rattle.std.specs.Prelude.{◌≡◌, true, ◌↔◌, ◌<◌, IsTrue, Contains, slice_index_or, slice_set, not, length};
+ghost use Rattle.std.specs.Prelude.{filter, ◌==◌, Ok, MatchResult, MatchOption, IfOk};
 ghost use Rattle.doc_words.specs.Words.{Id, UnlessMemory, name_cmp};
 ghost use Rattle.crdt_rules.specs.Same.{id_eq};
 ghost use Rattle.doc_rules.specs.Sorted.{IsRising};

@@ -1,5 +1,6 @@
 //! The order of the held operations.
-ghost use Rattle.std.specs.Prelude.{◌≡◌, ◌≢◌, ◌<◌, ◌+◌, not, length, filter, map, vec_len, ◌≤◌, ℕ, insert, List, ◌++◌, ◌∷◌, [], true, OnOk, OnSome, IfOk, IfErr, Ok, Err, MatchResult, Some, Contains};
+ghost use Rattle.std.specs.Prelude.{◌≡◌, ◌≢◌, ◌<◌, ◌+◌, not, length, filter, map, vec_len, ◌≤◌, ℕ, insert, List, ◌++◌};
+ghost use Rattle.std.specs.Prelude.{◌∷◌, [], true, OnOk, OnSome, IfOk, IfErr, Ok, Err, MatchResult, Some, Contains};
 ghost use Rattle.std.specs.Vec.{vec_capacity};
 ghost use Rattle.std.specs.Option.{option_map};
 ghost use Rattle.slab.specs.Slab.{HasRoomFor, get};

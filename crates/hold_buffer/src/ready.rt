@@ -1,5 +1,6 @@
 //! The held operations that wait for nothing, in id order.
-ghost use Rattle.std.specs.Prelude.{true, ◌≡◌, ◌≢◌, ◌<◌, ◌≤◌, not, slice_get, length, filter, vec_len, find, ◌==◌, OnOk, IfOk, MatchResult, ◌↔◌, ◌⊎◌, Contains};
+ghost use Rattle.std.specs.Prelude.{true, ◌≡◌, ◌≢◌, ◌<◌, ◌≤◌, not, slice_get, length, filter, vec_len, find, ◌==◌};
+ghost use Rattle.std.specs.Prelude.{OnOk, IfOk, MatchResult, ◌↔◌, ◌⊎◌, Contains};
 ghost use Rattle.std.specs.Vec.{vec_capacity};
 ghost use Rattle.std.specs.Option.{option_map};
 ghost use Rattle.doc_words.specs.Words.{id_cmp, Id};

@@ -3,7 +3,8 @@ ghost use Rattle.std.specs.Prelude.{◌≡◌, [], ◌∷◌, map, string_bytes,
 ghost use Rattle.json_scalar.specs.declared.refusal.Refusal.TheVariants.{NoMemory};
 ghost use Rattle.json.specs.Token.{begin_array, end_array, string};
 ghost use Rattle.op_core.specs.Wire.{list_data};
-ghost use Rattle.serde_json.specs.Data.{Data, array, boolean, no_items, no_members, null, number, object, string as text_data, unsigned};
+ghost use Rattle.serde_json.specs.Data.{Data, array, boolean, no_items, no_members, null, number, object};
+ghost use Rattle.serde_json.specs.Data.{string as text_data, unsigned};
 ghost use Rattle.serde_json.specs.Find.{of_integer};
 ghost use Rattle.serde_json.specs.Written.{compact_text};
 ghost use Rattle.json_text.specs.Tokens.{all_tokens, data_tokens, Puts};

@@ -1,5 +1,6 @@
 //! Places, fronts and operations as JSON.
-ghost use Rattle.op_core.specs.Wire.{cursor_data, entry_data, front_data, id_data, key_data, mutation_data, tagged_data, wire};
+ghost use Rattle.op_core.specs.Wire.{cursor_data, entry_data, front_data, id_data, key_data, mutation_data};
+ghost use Rattle.op_core.specs.Wire.{tagged_data, wire};
 ghost use Rattle.op_core.specs.declared.mutation.Mutation.TheVariants.{Delete};
 ghost use Rattle.serde_json.specs.Data.{string};
 ghost use Rattle.std.specs.Prelude.{◌++◌, codes, map};

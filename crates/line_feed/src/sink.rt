@@ -1,5 +1,6 @@
 //! Sinks: devices that take bytes.
-ghost use Rattle.std.specs.Prelude.{◌≡◌, ℕ, Bool, false, List, [], Option, ◌<◌, length, is_err, IfOk, OnOk, OnErr, refl};
+ghost use Rattle.std.specs.Prelude.{◌≡◌, ℕ, Bool, false, List, [], Option, ◌<◌, length, is_err, IfOk, OnOk, OnErr};
+ghost use Rattle.std.specs.Prelude.{refl};
 ghost use Rattle.std.specs.Io.{WritesAtMost};
 ghost use Rattle.std.specs.Io.KnownBytes.{Appends, Keeps, WriteAppends};
 ghost use Rattle.line_feed.specs.Cut.{AppendsCut, LosesLast};

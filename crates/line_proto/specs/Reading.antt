@@ -1,5 +1,6 @@
 -- How requests are read from JSON: the request that has this JSON, or the first cause against it.
-use Rattle.std.specs.Prelude.{ℕ, ℤ, zero, suc, ◌&&◌, nat_le, List, [], ◌∷◌, codes, length, Option, Some, None, option_map, Result, Ok, Err, ok_or, if◌then◌else◌}
+use Rattle.std.specs.Prelude.{ℕ, ℤ, zero, suc, ◌&&◌, nat_le, List, [], ◌∷◌, codes, length, Option, Some, None}
+use Rattle.std.specs.Prelude.{option_map, Result, Ok, Err, ok_or, if◌then◌else◌}
 use Rattle.std.specs.Str.{bytes_eq, is_utf8}
 use Rattle.serde_json.specs.Data.{Data, null, boolean, number, string, array, object, Items, no_items, item}
 use Rattle.serde_json.specs.Find.{as_u64, as_number, as_str, as_array}

@@ -9,7 +9,9 @@ use Rattle.json_scalar.specs.Scalar.{scalar_data, val_data}
 use Rattle.json_scalar.specs.declared.refusal.Refusal.TheVariants as refusal
 use Rattle.op_core.specs.Wire.{list_data, id_data, front_data, cursor_data}
 use Rattle.doc_words.specs.declared.reply.Reply.{Reply}
-use Rattle.doc_words.specs.declared.reply.Reply.TheVariants.{Applied, Known, Held, Forgotten, Resolved, Keys, Values, Items, Conflicts, Show, Sum, Operations, Front, Waiting, Account, Refused}
+use Rattle.doc_words.specs.declared.reply.Reply.TheVariants.{Applied, Known, Held, Forgotten, Resolved, Keys, Values}
+use Rattle.doc_words.specs.declared.reply.Reply.TheVariants.{Items, Conflicts, Show, Sum, Operations, Front, Waiting}
+use Rattle.doc_words.specs.declared.reply.Reply.TheVariants.{Account, Refused}
 use Rattle.line_feed.specs.Cut.{line_of}
 use Rattle.line_proto.specs.declared.line_reply.LineReply.{LineReply}
 use Rattle.line_proto.specs.declared.line_reply.LineReply.TheVariants.{Opened, Bound, Version, Bye, Answered}

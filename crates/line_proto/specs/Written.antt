@@ -1,5 +1,6 @@
 -- The written form of requests.
-use Rattle.std.specs.Prelude.{ℕ, ℤ, pos, negsuc, ◌^◌, ◌&&◌, nat_le, nat_lt, Bool, true, List, [], ◌∷◌, map, codes, length}
+use Rattle.std.specs.Prelude.{ℕ, ℤ, pos, negsuc, ◌^◌, ◌&&◌, nat_le, nat_lt, Bool, true, List, [], ◌∷◌, map, codes}
+use Rattle.std.specs.Prelude.{length}
 use Rattle.serde_json.specs.Data.{Data, number, unsigned, string}
 use Rattle.serde_json.specs.Find.{of_integer}
 use Rattle.json_scalar.specs.Scalar.{is_val, val_data}

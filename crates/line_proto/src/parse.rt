@@ -5,7 +5,11 @@ ghost use Rattle.serde_json.specs.View.{view, items_view};
 ghost use Rattle.json_scalar.specs.Refusal.{UnlessMemory, and_then};
 ghost use Rattle.json_scalar.specs.declared.refusal.Refusal.TheVariants.{BadRequest, BadValue, NotJson, NoMemory};
 ghost use Rattle.op_core.specs.Reading.{front_of_json};
-ghost use Rattle.line_proto.specs.Reading.{bare_request, plain_request, look_of, look_from, deletion_request, delivery_from, forgetting_from, short_request, naming_from, limit_of, limit_from, in_order, ops_from, addition_of, mutation_of_verb, amount_of, change_request, long_request, doc_request_items, bare_from, named_from, request_items, request_from, line_data, request_of};
+ghost use Rattle.line_proto.specs.Reading.{bare_request, plain_request, look_of, look_from, deletion_request};
+ghost use Rattle.line_proto.specs.Reading.{delivery_from, forgetting_from, short_request, naming_from, limit_of};
+ghost use Rattle.line_proto.specs.Reading.{limit_from, in_order, ops_from, addition_of, mutation_of_verb, amount_of};
+ghost use Rattle.line_proto.specs.Reading.{change_request, long_request, doc_request_items, bare_from, named_from};
+ghost use Rattle.line_proto.specs.Reading.{request_items, request_from, line_data, request_of};
 ghost use Rattle.line_proto.specs.Loading.{Loads};
 
 use crate::cursor::{read_expr, read_variable};

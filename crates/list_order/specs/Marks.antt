@@ -1,5 +1,6 @@
 -- What is kept of each slot beside its id and link: whether its id is present, and the block that it is in.
-use Rattle.std.specs.Prelude.{◌≡◌, ◌⊎◌, ◌++◌, ◌<◌, ◌≤◌, ◌+◌, ◌-◌, ◌^◌, min, ℕ, suc, List, [], ◌∷◌, map, length, Bool, false, ◌&&◌, nat_eq, nat_le, Option, Some, None, slice_index_or, slice_set, if◌then◌else◌}
+use Rattle.std.specs.Prelude.{◌≡◌, ◌⊎◌, ◌++◌, ◌<◌, ◌≤◌, ◌+◌, ◌-◌, ◌^◌, min, ℕ, suc, List, [], ◌∷◌, map, length, Bool}
+use Rattle.std.specs.Prelude.{false, ◌&&◌, nat_eq, nat_le, Option, Some, None, slice_index_or, slice_set, if◌then◌else◌}
 use Rattle.std.specs.Ordering.{is_lt}
 use Rattle.doc_words.specs.Words.{Id, id_cmp}
 use Rattle.presence_set.specs.ById.{get}
@@ -112,7 +113,8 @@ abbrev pub LeadsTo : List Slot → Option SlotNumber → Option SlotNumber → T
 LeadsTo slots first at = (front : List SlotNumber) × (slots_from slots first ≡ front ++ slots_from slots at)
 
 -- behind the block of a slot there is this one. The ids of the block and of that slot are greater than the id
-pub record SkipsTo (slots : List Slot) (marks : List Mark) (blocks : List MarkBlock) (id : Id) (n m : SlotNumber) : Type 0 where
+pub record SkipsTo (slots : List Slot) (marks : List Mark) (blocks : List MarkBlock)
+    (id : Id) (n m : SlotNumber) : Type 0 where
   pub block : (mark_at marks n).block < length blocks
   pub above : id.counter < (block_at blocks (mark_at marks n).block).least_counter
   pub end : (block_at blocks (mark_at marks n).block).end ≡ Some m

@@ -1,6 +1,7 @@
 //! The ids of a list as linked slots.
 
-ghost use Rattle.std.specs.Prelude.{◌≡◌, ◌+◌, ◌<◌, ◌≤◌, [], length, min, Contains, IfOk, IfSome, OnOk, Some, None, IsSome, slice_get, vec_capacity, option_to_list, ◌++◌};
+ghost use Rattle.std.specs.Prelude.{◌≡◌, ◌+◌, ◌<◌, ◌≤◌, [], length, min, Contains, IfOk, IfSome, OnOk, Some, None};
+ghost use Rattle.std.specs.Prelude.{IsSome, slice_get, vec_capacity, option_to_list, ◌++◌};
 ghost use Rattle.std.specs.Option.{ForSome};
 ghost use Rattle.std.specs.List.{list_any};
 ghost use Rattle.crdt_rules.specs.Same.{id_eq};

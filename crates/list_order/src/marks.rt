@@ -1,8 +1,10 @@
 //! What is kept of each slot beside its id and link, and the blocks that count the present ids.
-ghost use Rattle.std.specs.Prelude.{◌≡◌, ◌^◌, ◌&&◌, nat_eq, ◌+◌, ◌-◌, ◌<◌, ◌≤◌, ◌++◌, ◌∷◌, [], length, suc, None, Some, slice_get, vec_capacity};
+ghost use Rattle.std.specs.Prelude.{◌≡◌, ◌^◌, ◌&&◌, nat_eq, ◌+◌, ◌-◌, ◌<◌, ◌≤◌, ◌++◌, ◌∷◌, [], length, suc, None, Some};
+ghost use Rattle.std.specs.Prelude.{slice_get, vec_capacity};
 ghost use Rattle.std.specs.Option.{ForSome};
 ghost use Rattle.list_order.specs.Slots.{slots_from, LinksEnd};
-ghost use Rattle.list_order.specs.Marks.{bit, block_at, lowered_in, moved_in, present_along, set_block, set_mark, new_mark, Along, IsAbove, IsClosed, IsCounted, IsRecut, MaySet};
+ghost use Rattle.list_order.specs.Marks.{bit, block_at, lowered_in, moved_in, present_along, set_block, set_mark};
+ghost use Rattle.list_order.specs.Marks.{new_mark, Along, IsAbove, IsClosed, IsCounted, IsRecut, MaySet};
 ghost use Rattle.list_order.specs.Marks as Spec;
 
 use crate::slots::{Slot, SlotNumber, slot_at};

@@ -6,7 +6,8 @@ use Rattle.sqlite.specs.Tree.{Trees}
 use Rattle.sqlite.specs.Held.{Held, state}
 use Rattle.sqlite.specs.State.{IsUnchanged}
 use Rattle.copy_schema.specs.Tables.{HasNeither, HasBoth}
-use Rattle.copy_tables.specs.Statements.{CommitsFor, CommitsOneOf, Ran, RanAll, ShowsFor, making_of_tables, select_meta, update_format}
+use Rattle.copy_tables.specs.Statements.{CommitsFor, CommitsOneOf, Ran, RanAll, ShowsFor, making_of_tables, select_meta}
+use Rattle.copy_tables.specs.Statements.{update_format}
 use Rattle.copy_docs.specs.Docs.{Doc}
 use Rattle.copy_rows.specs.Parsed.{IsMeta}
 use Rattle.copy_rows.specs.Shown.{AreAnswered, ShowsNoLogs}

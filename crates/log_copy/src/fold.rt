@@ -29,7 +29,8 @@ pub trait Foldable: Alter {
             → AreDatabases (Self.Store.recovers self.old)
             → holds_alone self.new (Self.Store.view self.new).committed) }
         // A crash leaves nothing that it did not leave before, whether this is answered or not.
-        ensures quiet { IsQuiet Self.Store.view Self.Store.faults Self.Store.recovers Self.Store.is_shielded self.old self.new };
+        ensures quiet { IsQuiet Self.Store.view Self.Store.faults Self.Store.recovers Self.Store.is_shielded
+            self.old self.new };
 }
 
 impl<D: Disk + Drop> Foldable for FileStore<D> {

@@ -1,5 +1,6 @@
 //! Whether an operation fits a log.
-ghost use Rattle.std.specs.Prelude.{◌≡◌, ◌<◌, ◌↔◌, ◌&&◌, [], ◌∷◌, Contains, Some, length, get_or, true, nat_le, IfSome, IsOk, IsTrue};
+ghost use Rattle.std.specs.Prelude.{◌≡◌, ◌<◌, ◌↔◌, ◌&&◌, [], ◌∷◌, Contains, Some, length, get_or, true, nat_le, IfSome};
+ghost use Rattle.std.specs.Prelude.{IsOk, IsTrue};
 ghost use Rattle.std.specs.Option.{option_copied};
 ghost use Rattle.std.specs.List.{list_any, list_all};
 ghost use Rattle.op_core.specs.Limits.{most_replicas};

@@ -1,5 +1,6 @@
 //! The front of a log: for each replica the counter of its last operation.
-ghost use Rattle.std.specs.Prelude.{[], Contains, IsTrue, Some, get_or, ◌≡◌, ◌+◌, ◌<◌, ◌≤◌, true, length, vec_len, MatchResult, Ok};
+ghost use Rattle.std.specs.Prelude.{[], Contains, IsTrue, Some, get_or, ◌≡◌, ◌+◌, ◌<◌, ◌≤◌, true, length, vec_len};
+ghost use Rattle.std.specs.Prelude.{MatchResult, Ok};
 ghost use Rattle.std.specs.List.{zip};
 ghost use Rattle.std.specs.Option.{option_copied};
 ghost use Rattle.op_core.specs.Op.{Op};

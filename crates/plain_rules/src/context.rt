@@ -1,12 +1,15 @@
 //! Plain contexts.
-ghost use Rattle.std.specs.Prelude.{◌≡◌, filter, not, ◌&&◌, true, false, Bool, Some, ◌∷◌, IfOk, OnOk, IfErr, ◌≤◌, length};
+ghost use Rattle.std.specs.Prelude.{◌≡◌, filter, not, ◌&&◌, true, false, Bool, Some, ◌∷◌, IfOk, OnOk, IfErr, ◌≤◌};
+ghost use Rattle.std.specs.Prelude.{length};
 ghost use Rattle.json_scalar.specs.declared.refusal.Refusal.TheVariants.{NoMemory};
 ghost use Rattle.op_core.specs.declared.cursor.Tagged.{Tagged};
 ghost use Rattle.op_core.specs.declared.mutation.Mutation.TheVariants.{Insert};
 ghost use Rattle.crdt_rules.specs.Same.{key_eq, tagged_eq};
 ghost use Rattle.crdt_rules.specs.Effect.{scalar_in};
-ghost use Rattle.crdt_rules.specs.Context.{clear_all, clear_elem, mark, enter, count, put, place_id, mutate, descend, step};
-ghost use Rattle.plain_rules.specs.Plain.{is_in, context_of, contexts_of, seen, clear_child, clear_each, child_in, place_of_child, blank_context, made, passed_key};
+ghost use Rattle.crdt_rules.specs.Context.{clear_all, clear_elem, mark, enter, count, put, place_id, mutate, descend};
+ghost use Rattle.crdt_rules.specs.Context.{step};
+ghost use Rattle.plain_rules.specs.Plain.{is_in, context_of, contexts_of, seen, clear_child, clear_each, child_in};
+ghost use Rattle.plain_rules.specs.Plain.{place_of_child, blank_context, made, passed_key};
 
 use crate::copy::{key_copy, scalar_copy, tagged_copy};
 use crate::order::insert_by_rule;

@@ -1,8 +1,10 @@
 //! Values by the ids of operations, in blocks, so that one more id moves few others.
-ghost use Rattle.std.specs.Prelude.{◌≡◌, ◌+◌, ◌<◌, ◌≤◌, ◌↔◌, ◌∷◌, ◌++◌, ℕ, [], true, false, length, map, filter, take, drop, not, insert, IsTrue, IfSome, OnOk, OnErr, slice_index_or, slice_set};
+ghost use Rattle.std.specs.Prelude.{◌≡◌, ◌+◌, ◌<◌, ◌≤◌, ◌↔◌, ◌∷◌, ◌++◌, ℕ, [], true, false, length, map, filter, take};
+ghost use Rattle.std.specs.Prelude.{drop, not, insert, IsTrue, IfSome, OnOk, OnErr, slice_index_or, slice_set};
 ghost use Rattle.lamport_id.specs.declared.id.Id.{Id};
 ghost use Rattle.presence_set.specs.ById.{put_at_id, contains, uncovered, IsAscending};
-ghost use Rattle.presence_set.specs.Blocks.{pairs_in, has_pair, starts_by, blocks_by, AreNonEmpty, HasSpareRoom, AllHaveRoom, HaveRoomBut};
+ghost use Rattle.presence_set.specs.Blocks.{pairs_in, has_pair, starts_by, blocks_by, AreNonEmpty, HasSpareRoom};
+ghost use Rattle.presence_set.specs.Blocks.{AllHaveRoom, HaveRoomBut};
 ghost use Rattle.presence_set.specs.Blocks as Spec;
 
 use crate::ById;

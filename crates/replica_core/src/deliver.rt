@@ -1,5 +1,6 @@
 //! The delivery of operations that were made elsewhere.
-ghost use Rattle.std.specs.Prelude.{◌≡◌, ◌≤◌, ℕ, suc, List, [], ◌∷◌, ◌++◌, length, nat_le, bytes_eq, OnErr, IfOk, IfErr, None, true, false, ◌<◌, if◌then◌else◌};
+ghost use Rattle.std.specs.Prelude.{◌≡◌, ◌≤◌, ℕ, suc, List, [], ◌∷◌, ◌++◌, length, nat_le, bytes_eq, OnErr, IfOk};
+ghost use Rattle.std.specs.Prelude.{IfErr, None, true, false, ◌<◌, if◌then◌else◌};
 ghost use Rattle.op_core.specs.Limits.{most_held};
 ghost use Rattle.op_core.specs.Op.{Op};
 ghost use Rattle.std.specs.Option.{option_map};
@@ -75,7 +76,8 @@ pub fn deliver(
     requires current { IsCurrent held.old log.old.operations }
     requires few { length held.old.held ≤ most_held }
     ensures met { let r = replica_of name log.old.operations held.old.held in
-        Meets r (expected_of_delivery r op) (reply_of_delivered result) (replica_of name log.new.operations held.new.held) }
+        Meets r (expected_of_delivery r op) (reply_of_delivered result)
+        (replica_of name log.new.operations held.new.held) }
     ensures agrees { AgreesWith tree.new log.new.operations }
     ensures current { IsCurrent held.new log.new.operations }
 {
@@ -119,7 +121,8 @@ fn deliver_unlogged(
     requires current { IsCurrent held.old log.old.operations }
     requires few { length held.old.held ≤ most_held }
     ensures met { let r = replica_of name log.old.operations held.old.held in
-        Meets r (expected_of_delivery r op) (reply_of_delivered result) (replica_of name log.new.operations held.new.held) }
+        Meets r (expected_of_delivery r op) (reply_of_delivered result)
+        (replica_of name log.new.operations held.new.held) }
     ensures agrees { AgreesWith tree.new log.new.operations }
     ensures current { IsCurrent held.new log.new.operations }
 {
@@ -166,7 +169,8 @@ fn deliver_new(
     requires current { IsCurrent held.old log.old.operations }
     requires few { length held.old.held ≤ most_held }
     ensures met { let r = replica_of name log.old.operations held.old.held in
-        Meets r (expected_of_delivery r op) (reply_of_delivered result) (replica_of name log.new.operations held.new.held) }
+        Meets r (expected_of_delivery r op) (reply_of_delivered result)
+        (replica_of name log.new.operations held.new.held) }
     ensures agrees { AgreesWith tree.new log.new.operations }
     ensures current { IsCurrent held.new log.new.operations }
 {

@@ -15,7 +15,8 @@ abbrev pub ServesWanted : Wanted → Ending → Option (List ℕ) → Option (Li
     → Type 0
 ServesWanted wanted why had has held holds =
     (end : Session (List Document))
-    × Ends (alone wanted.documents) (begins_alone (first_replica wanted.name) wanted.documents) had has held holds why end
+    × Ends (alone wanted.documents) (begins_alone (first_replica wanted.name) wanted.documents)
+    had has held holds why end
 
 -- a whole session, which no device's fault ended
 abbrev pub ServesAll : Wanted → Option (List ℕ) → Option (List ℕ) → Option (List ℕ) → Option (List ℕ) → Type 0
