@@ -17,7 +17,7 @@ use std::alloc::Global;
 use std::marker::Model;
 
 /// A table of counters from which documents of rising numbers are made, the first of number 0.
-/// Contracts see it as the number of the next one.
+/// Contracts see it as the number of the next one. (`Ledgers` are the counters of one document.)
 #[derive(Drop)]
 pub struct Ledger<M: Marker> {
     table: Table<M>,

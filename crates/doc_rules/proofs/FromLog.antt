@@ -2,18 +2,16 @@
 use Rattle.std.proofs.Common.{◌≡◌, ℕ, ℤ, List, [], ◌∷◌, Bool, true, false, not, Option, Some, None, if◌then◌else◌, Contains, refl, sym, ap, ◌∙◌, map, filter}
 use Rattle.std.specs.List.{list_all}
 use Rattle.std.proofs.lemmas.Bool.{and_from, both_ways}
-use Rattle.doc_words.specs.Words.{Id, Scalar, Val, Op, Key, Tagged}
+use Rattle.doc_words.specs.Words.{Id, Scalar, Op, Key, Tagged}
 use Rattle.op_core.specs.Front.{id_of}
-use Rattle.list_laws.proofs.Members.{Contains-here, Contains-there}
 use Rattle.crdt_rules.specs.Dependencies.{is_logged, is_ready, missing}
-use Rattle.crdt_rules.specs.Effect.{number_added, scalar_put, value_put}
+use Rattle.crdt_rules.specs.Effect.{number_added, scalar_put}
 use Rattle.crdt_rules.specs.Facts.{facts, ends_here}
 use Rattle.crdt_rules.specs.Free.{is_cleared}
 use Rattle.crdt_rules.specs.Free as free
 use Rattle.crdt_rules.specs.Log.{IsGood, replay}
 use Rattle.crdt_rules.proofs.ReplayFacts.{value_at-from, replay_register, replay_counter}
 use Rattle.crdt_rules.proofs.Tests.{some≢none}
-use Rattle.doc_rules.specs.Role.{value_put_at}
 
 -- an operation of the log ends at the place
 pub record IsFrom (log : List Op) (p : List Tagged) (k : Key) (i : Id) (o : Op) : Type 0 where
@@ -36,17 +34,6 @@ counter_from log p k i n good h = by (is_cleared log p k i) (ap (λ f. f p k i) 
         → (o : Op) × IsFrom log p k i o × (number_added o.mutation ≡ Some n)
     by true h = absurd (some≢none (sym h))
     by false h = let r = value_at-from number_added log p k i n h in (r.0, record { logged = r.1; here = r.2 }, r.3)
-
-pub value_from : (log : List Op) (p : List Tagged) (k : Key) (i : Id) (v : Val) → value_put_at log p k i ≡ Some v
-    → (o : Op) × IsFrom log p k i o × (value_put o.mutation ≡ Some v)
-value_from [] p k i v h = absurd (some≢none (sym h))
-value_from (o ∷ log) p k i v h = by (ends_here o p k i) refl h (λ h. value_from log p k i v h)
-  where
-    by : (b : Bool) → ends_here o p k i ≡ b → (if b then value_put o.mutation else value_put_at log p k i) ≡ Some v
-        → (value_put_at log p k i ≡ Some v → (z : Op) × IsFrom log p k i z × (value_put z.mutation ≡ Some v))
-        → (z : Op) × IsFrom (o ∷ log) p k i z × (value_put z.mutation ≡ Some v)
-    by true e h ih = (o, record { logged = Contains-here log refl; here = e }, h)
-    by false e h ih = let r = ih h in (r.0, record { logged = Contains-there o log r.1.logged; here = r.1.here }, r.2)
 
 -- an operation that isn't ready lacks something
 pub lacks_something : (op : Op) (log : List Op) → is_ready op log ≡ false → ¬ (missing op log ≡ [])

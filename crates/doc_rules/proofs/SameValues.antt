@@ -1,18 +1,14 @@
 -- What is shown depends on the values of present ids alone.
-use Rattle.std.proofs.Common.{◌≡◌, ◌≢◌, inl, inr, List, Bool, true, false, Result, Ok, Err, refl, sym, ap, ◌∙◌}
-use Rattle.std.specs.Prelude.{MatchBool, MatchResult}
-use Rattle.doc_words.specs.Words.{Id, Refusal, NoMemory, Val, Cursor, Key, Tagged}
-use Rattle.json_scalar.specs.declared.refusal.Refusal.TheVariants.{AtHead}
-use Rattle.op_core.specs.Shape.{is_head}
+use Rattle.std.proofs.Common.{inl, inr, List, Ok, Err, sym, ◌∙◌}
+use Rattle.doc_words.specs.Words.{Id, Val, Cursor, Key, Tagged}
 use Rattle.doc_words.specs.declared.ask.Look.{Look}
 use Rattle.doc_words.specs.declared.ask.Look.TheVariants as look
 use Rattle.doc_words.specs.declared.reply.Reply.{Reply}
 use Rattle.doc_words.specs.declared.reply.Reply.TheVariants as reply
 use Rattle.op_core.specs.declared.cursor.Key.TheVariants.{Text, Element}
 use Rattle.crdt_rules.specs.Facts.{Facts}
-use Rattle.doc_rules.specs.Views.{Values, AgreeOnPresent, into_map, into_list, AreConflicts, ReadsPlace}
+use Rattle.doc_rules.specs.Views.{Values, AgreeOnPresent, into_map, into_list, AreConflicts}
 use Rattle.doc_rules.specs.Answers.{ReadsHere, LooksHere}
-use Rattle.doc_rules.proofs.Resolved.{ok≢err}
 use Rattle.doc_rules.specs.Shown.{ShowsText, IsPut, HasMap, HasList, Shown, MapShown, ListShown, Fields, Elements, shown, no_map, a_map, no_list, a_list, no_fields, field, no_elements, element, Shows, ShowsMap, ShowsList, ShowsFields, ShowsElements}
 
 put_moved : (f : Facts) (v w : Values) → AgreeOnPresent f v w → (p : List Tagged) (k : Key) (x : Val) → IsPut f v p k x → IsPut f w p k x
@@ -71,15 +67,3 @@ looks_same f v w same look.Conflicts c answer h = here_moved (AreConflicts f v) 
 looks_same f v w same look.Show c answer h =
     here_moved (ShowsText f v) (ShowsText f w) reply.Show (λ p k text h. (h.0, shows_same f v w same p k h.0 h.1, h.2)) c answer h
 looks_same f v w same look.Sum c answer h = h
-
--- a reading that is answered by cases, or out of memory, is one at the place where there is memory
-pub place_from : {X : Type 0} (reads : List Tagged → Key → X → Type 0) (c : Cursor) (r : Result X Refusal)
-    → MatchBool (is_head c.key) (r ≡ Err AtHead) (MatchResult r (reads c.path c.key) (λ e. e ≡ NoMemory)) → r ≢ Err NoMemory → ReadsPlace reads c r
-place_from {X} reads c r h memory = by (is_head c.key) refl r h memory
-  where
-    by : (b : Bool) → is_head c.key ≡ b → (r : Result X Refusal) → MatchBool b (r ≡ Err AtHead) (MatchResult r (reads c.path c.key) (λ e. e ≡ NoMemory))
-        → r ≢ Err NoMemory → ReadsPlace reads c r
-    by true e (Ok x) h memory = absurd (ok≢err (sym h))
-    by true e (Err cause) h memory = (e, let same = h in cc)
-    by false e (Ok x) h memory = (e, h)
-    by false e (Err cause) h memory = absurd (memory (ap Err h))

@@ -55,7 +55,7 @@ pub enum Reply {
     },
     /// The operation is logged already.
     Known,
-    /// The operation is held; with the ids that it waits for.
+    /// To a delivery: the operation is held, and waits for these ids.
     Held(Ids),
     /// The operation is held no longer.
     Forgotten,
@@ -77,7 +77,7 @@ pub enum Reply {
     Operations(CompactText),
     /// The front of the whole log.
     Front(Front),
-    /// The held operations, and what each waits for.
+    /// To the query `Held`: the held operations, and what each waits for.
     Waiting(Waiting),
     /// How many of the logged operations are the asking seat's.
     Account(u64),

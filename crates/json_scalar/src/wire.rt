@@ -1,6 +1,7 @@
 //! How values are read from JSON, and written as JSON. They are functions beside the types: a method would
 //! carry the library of JSON into each crate that names a value.
 ghost use Rattle.std.specs.Prelude.{◌≡◌, Ok, IsTrue};
+ghost use Rattle.serde_json.specs.Data.{Data};
 ghost use Rattle.serde_json.specs.View.{view, items_view, members_view};
 ghost use Rattle.json_scalar.specs.Refusal.{UnlessMemory};
 ghost use Rattle.json_scalar.specs.Scalar.{ReadsVal, is_val, scalar_data, val_data, val_of, list_of, map_of};
@@ -32,6 +33,14 @@ pub fn val_to_json(alloc: Global, val: &Val) -> Result<Value, Refusal>
         Val::EmptyList => Ok(Value::Array(Vec::new(alloc))),
     }
 }
+
+/// The law that each value has one JSON of its own. No two values have the same one, a value is read from its own, and
+/// nothing else is read as that value.
+pub fn one_json_each()
+    ensures one { (v other : Val) → IsTrue (is_val v) → IsTrue (is_val other) → val_data v ≡ val_data other → v ≡ other }
+    ensures back { (v : Val) → IsTrue (is_val v) → val_of (val_data v) ≡ Ok v }
+    ensures only { (d : Data) (v : Val) → val_of d ≡ Ok v → val_data v ≡ d }
+{}
 
 fn scalar_to_json(alloc: Global, scalar: &Scalar) -> Result<Value, Refusal>
     ensures { Writes (scalar_data scalar.now) result }

@@ -369,18 +369,6 @@ module _ {X : Type 0} where
 
   -- ---- all but one block have room
 
-  take-spliced : (blocks : List (List (Id × X) × ℕ)) (n : ℕ) (mid : List (List (Id × X) × ℕ)) → take n (spliced blocks n mid) ≡ take n blocks
-  take-spliced [] n mid = refl
-  take-spliced (b ∷ blocks) zero mid = refl
-  take-spliced (b ∷ blocks) (suc n) mid = ap (λ l. b ∷ l) (take-spliced blocks n mid)
-
-  -- what stands before a block that is cut, and of which the second part grows, stays
-  pub split-earlier : (blocks : List (List (Id × X) × ℕ)) (at : ℕ) (a b c : List (Id × X) × ℕ) → at < length blocks
-      → take at (set (insert (set blocks at a) (suc at) b) (suc at) c) ≡ take at blocks
-  split-earlier blocks at a b c within =
-      ap (take at) (ap (λ l. set l (suc at) c) (insert-spliced blocks at a b within) ∙ second-spliced blocks at a b c within)
-      ∙ take-spliced blocks at (a ∷ c ∷ [])
-
   pub rooms-drop : (n : ℕ) (blocks : List (List (Id × X) × ℕ)) → AllHaveRoom blocks → AllHaveRoom (drop n blocks)
   rooms-drop zero blocks room = room
   rooms-drop (suc n) [] room = tt
@@ -446,12 +434,6 @@ module _ {A : Type 0} (f : A → A) where
   mapped-all [] (suc i) h = refl
   mapped-all (x ∷ xs) zero h = absurd (omega (arith, h))
   mapped-all (x ∷ xs) (suc i) h = ap (λ l. f x ∷ l) (mapped-all xs i (omega (arith, h)))
-
-  pub mapped-length : (xs : List A) (i : ℕ) → length (map f (take i xs) ++ drop i xs) ≡ length xs
-  mapped-length [] zero = refl
-  mapped-length [] (suc i) = refl
-  mapped-length (x ∷ xs) zero = refl
-  mapped-length (x ∷ xs) (suc i) = ap suc (mapped-length xs i)
 
 module _ {X : Type 0} where
   pub get-set : (blocks : List (List (Id × X) × ℕ)) (n : ℕ) (b d : List (Id × X) × ℕ) → n < length blocks → get_or (set blocks n b) n d ≡ b

@@ -14,4 +14,5 @@ mod notes;
 mod serving;
 mod starts;
 mod stops;
+mod two_sessions;
 mod watched;

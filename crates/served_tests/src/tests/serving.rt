@@ -81,8 +81,8 @@ fn scripts_of<'a, R: Wait>(
     Ok(scripts)
 }
 
-// Serves these connections by the server of this name, over at most 16 documents.
-fn serve_scripts<R: Threads + Wait + Sync + Log + Clock, S: Alter>(
+/// Serves these connections by the server of this name, over at most 16 documents: the status, and the totals.
+pub fn serve_scripts<R: Threads + Wait + Sync + Log + Clock, S: Alter>(
     rt: &R,
     alloc: Global,
     name: &str,

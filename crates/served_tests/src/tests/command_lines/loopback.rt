@@ -1,6 +1,7 @@
 //! Sessions over loopback, with both ends in one process, from a copy in memory.
 use super::super::checks::{bytes_are, holds};
 use super::super::deeds::adopted;
+use super::super::two_sessions::{THREE, TOTALS, TWO, have_replies};
 use log::Log;
 use served_copy::serve_over;
 use sqlite::Connection;
@@ -14,18 +15,6 @@ use std::test::Fail;
 use std::thread::Threads;
 use std::time::Clock;
 use tcp_server::{Entrance, connections};
-
-const THREE: &[u8] = br#"["open","d"]
-["assign","d",[0,"a"],1]
-["assign","d",[0,"a"],2]
-["assign","d",[0,"a"],3]
-["values","d",[0,"a"]]
-"#;
-
-const TWO: &[u8] = br#"["open","d"]
-["assign","d",[0,"b"],1]
-["assign","d",[0,"b"],2]
-["values","d",[0,"b"]]"#;
 
 // What a server did: its status, what it wrote, and the replies to each client.
 #[derive(Drop)]
@@ -125,44 +114,10 @@ fn served<R: Net<Listener = TcpListener, Stream = TcpStream> + Threads + Wait + 
     })
 }
 
-// A session of so many assignments had replies of its seat, of each of them, and at the end this. The
-// counters are not its own alone.
-fn has_all_replies<R: Abort>(rt: &R, replies: &str, done: usize, last: &str) {
-    let mut lines = replies.lines();
-    let opened = lines.next().unwrap_or("");
-    holds(rt, opened.starts_with("[\"opened\","), opened);
-    for _ in 0..done {
-        let line = lines.next().unwrap_or("");
-        let is = line.starts_with("[\"applied\",1,0,[") && line.ends_with(",\"srv-1\"]]");
-        holds(rt, is, line);
-    }
-    let line = lines.next().unwrap_or("").as_bytes();
-    bytes_are(
-        rt,
-        "a session over loopback",
-        "the last line",
-        line,
-        last.as_bytes(),
-    );
-    holds(rt, lines.next().is_none(), "no further reply");
-}
-
-// Which of two sessions has which of the two seats is open.
-fn have_both_seats(first: &str, second: &str) -> bool {
-    if first.starts_with("[\"opened\",1]\n") {
-        second.starts_with("[\"opened\",2]\n")
-    } else {
-        second.starts_with("[\"opened\",1]\n")
-    }
-}
-
 // The replies to two sessions at one document, of three assignments and of two.
 fn two_have_replies<R: Abort>(rt: &R, outcome: &Outcome) {
-    holds(rt, outcome.has(b"[\"total\",\"d\",5,5,5]\n"), "the totals");
-    has_all_replies(rt, outcome.reply(0), 3, "[\"values\",[3]]");
-    has_all_replies(rt, outcome.reply(1), 2, "[\"values\",[2]]");
-    let seats = have_both_seats(outcome.reply(0), outcome.reply(1));
-    holds(rt, seats, "each has a seat of its own");
+    holds(rt, outcome.has(TOTALS), "the totals");
+    have_replies(rt, outcome.reply(0), outcome.reply(1));
 }
 
 #[test]
