@@ -1,7 +1,6 @@
 -- What a front covers of a log, by the chains of its replicas.
 use Rattle.std.proofs.Common.{◌≡◌, ℕ, ◌<◌, ◌≤◌, inl, inr, zero, suc, List, [], ◌∷◌, length, take, drop, get_or, ◌+◌, ◌++◌, take_all, length-drop, true, false, not, rules, Option, Some, None, Contains, if◌then◌else◌, refl, sym, ap, subst, ◌∙◌, arith}
 use Rattle.std.specs.List.{slice_get}
-use Rattle.std.proofs.lemmas.Bool.{cases_lt}
 use Rattle.std.proofs.lemmas.List.{drop_all}
 use Rattle.std.proofs.lemmas.Option.{slice_get_read}
 use Rattle.std.proofs.lemmas.List.Elements.{Contains-push_cases}
@@ -13,7 +12,6 @@ use Rattle.crdt_rules.proofs.Fronts.{covers_at, entry_of-Contains}
 use Rattle.doc_rules.specs.Answers.{since}
 use Rattle.op_log.specs.Index.{HasOpAt, AreLasts, IsLast, IsFirstFrom, CoversChain, CoversBetween, IsUncovered}
 use Rattle.list_laws.proofs.Reading.{take_at, drop_read}
-use Rattle.crdt_rules.proofs.Tests.{some_same}
 use Rattle.doc_rules.proofs.WholeFront.{entry_of-at, rising_from_ascending}
 use Rattle.op_log.proofs.Indexes.{rises_up_to}
 
@@ -68,28 +66,8 @@ chains_all front log lasts from n are each k op there behind below = by (entry_o
 
 -- ---- from one place on and before another
 
-module _ (front : List (List ℕ × ℕ)) (log : List Op) where
-  pub covers_none : (from : ℕ) → CoversBetween front log from from
-  covers_none from k op there behind below = absurd (omega arith)
-
-  -- one more
-  pub covers_more : (from n : ℕ) (op : Op) → slice_get log n ≡ Some op → covers front op.id ≡ true → CoversBetween front log from n → CoversBetween front log from (n + 1)
-  covers_more from n op there is before k other at behind below =
-      elim (cases_lt k n) [
-        | inl less ↦ before k other at behind less
-        | inr le ↦
-            let same : n ≡ k = omega arith in
-            let one : op ≡ other = some_same (sym there ∙ ap (slice_get log) same ∙ at) in
-            subst (λ (o : Op). covers front o.id ≡ true) one is
-      ]
-
-  -- and those behind them
-  pub covers_on : (from mid n : ℕ) → CoversBetween front log from mid → CoversBetween front log mid n → CoversBetween front log from n
-  covers_on from mid n first next k op at behind below =
-      elim (cases_lt k mid) [
-        | inl less ↦ first k op at behind less
-        | inr le ↦ next k op at le below
-      ]
+pub covers_none : (front : List (List ℕ × ℕ)) (log : List Op) (from : ℕ) → CoversBetween front log from from
+covers_none front log from k op there behind below = absurd (omega arith)
 
 -- what is covered needs no look
 pub since-between : (front : List (List ℕ × ℕ)) (log : List Op) (from n : ℕ) → from ≤ n → CoversBetween front log from n → since front (drop n log) ≡ since front (drop from log)
