@@ -133,7 +133,7 @@ module _ (nodes : List Node) (n : NodeNumber) (within : n.0 < length nodes) wher
 
 -- where no child is added, blocks may still be cut
 module _ (nodes new : List Node) (n : NodeNumber) (within : n.0 < length nodes) (only : ChangesBlocksOnly nodes new n) where
-  changed : Node
+  abbrev changed : Node
   changed = record (node_of nodes n) { children = ((node_of nodes n).children.0, only.blocks) }
 
   blocks_shape : child_of (set nodes n.0 (record (node_of nodes n) { children = ((node_of nodes n).children.0, only.blocks) })) ≡ child_of nodes
@@ -150,7 +150,7 @@ module _ (nodes new : List Node) (n : NodeNumber) (within : n.0 < length nodes) 
 
   pub grows_cut : Grows nodes new
   grows_cut = record {
-    size = omega (arith, ap length only.is, length-set nodes n.0 changed);
+    size = omega (arith, length_cut);
     presence = same_but_blocks (λ z. z.presence.0) refl;
     register = same_but_blocks (λ z. z.register.0) refl;
     counter = same_but_blocks (λ z. z.counter.0) refl;

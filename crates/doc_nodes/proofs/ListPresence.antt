@@ -187,7 +187,7 @@ module _ (nodes : List Node) (at : NodeNumber) (within : at.0 < length nodes) (r
   node_is : get_or nodes at.0 read ≡ node_of nodes at
   node_is = get_or_default nodes at.0 read blank_node within
 
-  changes_from : ChangesBlocks nodes (set nodes at.0 (record (get_or nodes at.0 read) { children = children })) at
+  abbrev changes_from : ChangesBlocks nodes (set nodes at.0 (record (get_or nodes at.0 read) { children = children })) at
   changes_from = record {
     blocks = children.1;
     is = λ i. set nodes at.0 (record (node_is i) { children = ((same ∙ ap (λ z. z.children.0) node_is) i, children.1) });

@@ -14,7 +14,7 @@ err_from (Err e) p = p
 pub returns-in_err-reserve-clause-err : goal.returns-in_err-reserve-clause-err
 returns-in_err-reserve-clause-err c =
     let items = c.args.nodes.now.items in
-    err_from c.from_residual-in_err-reserve.result
+    err_from c.from_residual.result
     (subst (λ l. ChangesBlocksOnly items l c.args.at) (sym c.reserve.ensures.items) (nothing_changed items c.args.at))
 
 pub returns-in_err-insert-clause-err : goal.returns-in_err-insert-clause-err

@@ -1,10 +1,6 @@
 use Rattle.std.proofs.Common.{◌≡◌, ◌<◌, ◌∙◌, [], ◌∷◌, ◌++◌, length, Contains, false, Some, ⊎_elim, refl, sym, ap, subst, arith}
-use Rattle.std.proofs.lemmas.List.Elements.{Contains-append_left, Contains-append_right, Contains-append_cases}
+use Rattle.std.proofs.lemmas.List.Elements.{Contains-append_left, Contains-append_right}
 use Rattle.list_laws.proofs.Members.{Contains-here}
-use Rattle.op_core.specs.declared.cursor.Key.{Key}
-use Rattle.doc_nodes.specs.declared.node.NodeNumber.{NodeNumber}
-use Rattle.doc_nodes.specs.ListPresence.{is_node_present}
-use Rattle.doc_nodes.proofs.Clearing.{only_one}
 use Rattle.doc_nodes.proofs.list_presence.+is_any_present.Goals as goal
 
 pub is_present-requires : goal.is_present-requires
@@ -21,13 +17,3 @@ is_any_present-requires t c =
       omega (arith, c.in-Some.ensures.cases.1),
       λ e there. c.requires e (subst (λ l. Contains l e) (sym c.in-Some.ensures.cases.0) (Contains-append_left rest (last ∷ []) e there)),
     )
-
-pub returns-else-is_present : goal.returns-else-is_present
-returns-else-is_present t c = λ none e there.
-    let nodes = c.args.nodes.now in
-    let last = c.in-Some.last.now in
-    let rest = c.in-Some.rest.now in
-    ⊎_elim
-    (λ earlier. c.is_any_present.ensures none e earlier)
-    (λ here. ap (λ (x : Key × NodeNumber). is_node_present nodes (Some x.1)) (only_one last e here) ∙ sym c.if-is_present.ensures)
-    (Contains-append_cases rest (last ∷ []) e (subst (λ l. Contains l e) c.in-Some.ensures.cases.0 there))

@@ -160,7 +160,7 @@ returns-in-Some-clause-candidates t c = λ n q right.
     let is : c.update_list_presence-in-Some.new.nodes ≡ with_list_presence last c.args.at (reference key) below =
     c.update_list_presence-in-Some.ensures ∙ ap (λ e. with_list_presence last c.args.at e below) (c.element_in-in-Some.ensures ∙ ap reference c.key-in-Some.ensures) in
     let noted : KeepsBlocks c.update_list_presence-in-Some.new.nodes c.note_present_child-in-Some.new.nodes c.args.at key =
-    subst (KeepsBlocks c.update_list_presence-in-Some.new.nodes c.note_present_child-in-Some.new.nodes c.args.at) c.key-2-in-Some.ensures c.note_present_child-in-Some.ensures in
+    subst (KeepsBlocks c.update_list_presence-in-Some.new.nodes c.note_present_child-in-Some.new.nodes c.args.at) c.key-in-Some-2.ensures c.note_present_child-in-Some.ensures in
     candidate_passed id c.args.role nodes mid last c.update_list_presence-in-Some.new.nodes c.args.at below key rest c.requires.tree c.requires.known c.add_presence.ensures down
     c.add_presence_below.ensures.added is c.note_present_child-in-Some.new.nodes c.add_presence_below.auto.nodes noted
     c.add_presence_below.ensures.candidates n q right

@@ -15,9 +15,9 @@ returns c =
     let read : c.as_slice.result.now ≡ block = search rules in
     let are : c.open_blocks.result.1.now ≡ block ∷ later = c.in_ok-block.ensures.cases.0 in
     let isnt : get_or gone 0 false ≡ false = ⊎_elim (λ e. e) (λ none. absurd (omega (arith, ap length (sym none ∙ are)))) c.open_blocks.ensures.open in
-    let steps : c.args.self.now ≡ first ∷ (rest ++ joined (but_gone c.all_but_first.result.now later)) =
+    let steps : c.args.self.now ≡ first ∷ (rest ++ joined (but_gone c.all_but_first-self-inside.result.now later)) =
     sym c.self.view_is ∙ ap (λ l. l ++ joined (but_gone c.self.inside.gone.now c.self.inside.blocks.now)) (nil_from_length entries c.in_default.ensures.cases)
     ∙ sym c.open_blocks.ensures.same ∙ ap (λ bs. joined (but_gone gone bs)) are ∙ first_open gone block later isnt
     ∙ ap (λ l. l ++ joined (but_gone (drop 1 gone) later)) (sym read ∙ c.in_ok-first.ensures.cases.0)
-    ∙ ap (λ g. first ∷ (rest ++ joined (but_gone g later))) (sym c.all_but_first.ensures) in
+    ∙ ap (λ g. first ∷ (rest ++ joined (but_gone g later))) (sym c.all_but_first-self-inside.ensures) in
     record { steps = steps; goes = search (rules, steps) }
