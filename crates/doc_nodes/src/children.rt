@@ -341,10 +341,10 @@ fn is_gone(gone: &[bool], at: usize) -> bool
 fn entries_of(blocks: &[Block], at: usize) -> &[(Key, NodeNumber)]
     ensures { result.now ≡ slice_index_or blocks.now at [] }
 {
-    match blocks.get(at) {
-        Some(block) => block.entries.as_slice(),
-        None => &[],
-    }
+    let Some(block) = blocks.get(at) else {
+        return &[];
+    };
+    block.entries.as_slice()
 }
 
 // The block that has the child at a key, if there is such a child.
