@@ -26,14 +26,14 @@ pub eq_number : (j n : NodeNumber) → j.0 ≡ n.0 → j ≡ n
 eq_number j n e = λ i. record { 0 = e i }
 
 -- where the children of the written node stay, the tree keeps its shape
-pub shape-set : (nodes : List Node) (n : NodeNumber) (node : Node) → n.0 < length nodes → node.children ≡ (node_of nodes n).children
+pub shape-set : (nodes : List Node) (n : NodeNumber) (node : Node) → n.0 < length nodes → node.children.0 ≡ (node_of nodes n).children.0
     → child_of (set nodes n.0 node) ≡ child_of nodes
 shape-set nodes n node within same = fun_ext (λ j. fun_ext (λ k. ap (λ cs. number_at cs k) (at j)))
   where
-    at : (j : NodeNumber) → (node_of (set nodes n.0 node) j).children ≡ (node_of nodes j).children
+    at : (j : NodeNumber) → (node_of (set nodes n.0 node) j).children.0 ≡ (node_of nodes j).children.0
     at j = ⊎_elim
-        (λ e. subst (λ z. (node_of (set nodes n.0 node) z).children ≡ (node_of nodes z).children) (sym (eq_number j n e)) (ap (λ z. z.children) (here-set nodes n node within) ∙ same))
-        (λ e. ap (λ z. z.children) (other-set nodes n j node e))
+        (λ e. subst (λ z. (node_of (set nodes n.0 node) z).children.0 ≡ (node_of nodes z).children.0) (sym (eq_number j n e)) (ap (λ z. z.children.0) (here-set nodes n node within) ∙ same))
+        (λ e. ap (λ z. z.children.0) (other-set nodes n j node e))
         (cases_eq j.0 n.0)
 
 pub kept-set : (nodes : List Node) (n : NodeNumber) (node : Node) → n.0 < length nodes → node.register ≡ (node_of nodes n).register → node.counter ≡ (node_of nodes n).counter → node.order ≡ (node_of nodes n).order
@@ -44,7 +44,7 @@ kept-set nodes n node within same too also j = ⊎_elim
     (λ e. (ap (λ z. z.register) (other-set nodes n j node e), ap (λ z. z.counter) (other-set nodes n j node e), ap (λ z. z.order) (other-set nodes n j node e)))
     (cases_eq j.0 n.0)
 
-pub tree-set : (nodes : List Node) (n : NodeNumber) (node : Node) → n.0 < length nodes → node.children ≡ (node_of nodes n).children → AreTree nodes → AreTree (set nodes n.0 node)
+pub tree-set : (nodes : List Node) (n : NodeNumber) (node : Node) → n.0 < length nodes → node.children.0 ≡ (node_of nodes n).children.0 → AreTree nodes → AreTree (set nodes n.0 node)
 tree-set nodes n node within same tree =
     subst (λ f. IsTree f (length (set nodes n.0 node))) (sym (shape-set nodes n node within same))
     (subst (λ z. IsTree (child_of nodes) z) (sym (length-set nodes n.0 node)) tree)

@@ -19,13 +19,13 @@ use Rattle.sorted_lists.proofs.Insertion.{rank-within}
 use Rattle.doc_nodes.specs.declared.node.NodeNumber.{NodeNumber}
 use Rattle.doc_nodes.specs.Children.{number_at}
 use Rattle.doc_nodes.specs.KeyOrder.{key_cmp, key_rank, IsInKeyOrder}
-use Rattle.doc_nodes.specs.Blocks.{joined, AreFilled, AreBlocks, IsStart, ends_before, block_rank}
+use Rattle.doc_nodes.specs.Blocks.{joined, AreFilled, AreBlocks, ends_before, block_rank}
 use Rattle.doc_nodes.proofs.KeyOrder.{keys_ordered}
 use Rattle.doc_nodes.proofs.ChildrenLaws.{number_at-own, number_at-rank, number_at-missing, rising-insert_rank}
 
 -- ---- one block, and what comes after it
 
-rising_parts : (block rest : List (Key × NodeNumber)) → IsInKeyOrder (block ++ rest) → IsInKeyOrder block × IsInKeyOrder rest
+pub rising_parts : (block rest : List (Key × NodeNumber)) → IsInKeyOrder (block ++ rest) → IsInKeyOrder block × IsInKeyOrder rest
 rising_parts [] rest rising = (tt, rising)
 rising_parts (e ∷ block) rest rising =
     let parts = rising_parts block rest rising.1 in
@@ -137,26 +137,6 @@ ends_within blocks n d within =
     subst (λ (bs : List (List (Key × NodeNumber))). length (joined (take n blocks)) + length (get_or blocks n d) ≤ length (joined bs))
     (take_all (length blocks) blocks (omega arith)) (starts_rise blocks n (length blocks) d within (omega arith))
 
--- the entry at a place is found from a start that isn't behind it
-module _ (blocks : List (List (Key × NodeNumber))) (n before at : ℕ) (is : IsStart blocks n before) (le : before ≤ at) where
-  parted : joined (take n blocks) ++ joined (drop n blocks) ≡ joined blocks
-  parted = sym (flat_map-append (λ (b : List (Key × NodeNumber)). b) (take n blocks) (drop n blocks)) ∙ ap joined (take-append-drop n blocks)
-
-  whole : take (length blocks - n) (drop n blocks) ≡ drop n blocks
-  whole = take_all (length blocks - n) (drop n blocks) (omega (arith, length-drop n blocks))
-
-  pub start-rest : at < length (joined blocks) → at - before < length (joined (take (length blocks - n) (drop n blocks)))
-  start-rest inside =
-      let sum : length (joined blocks) ≡ length (joined (take n blocks)) + length (joined (drop n blocks)) =
-      ap length (sym parted) ∙ length-append (joined (take n blocks)) (joined (drop n blocks)) in
-      subst (λ (bs : List (List (Key × NodeNumber))). at - before < length (joined bs)) (sym whole) (omega (arith, sum, is, le, inside))
-
-  pub read-start : (d : Key × NodeNumber) → get_or (joined (take (length blocks - n) (drop n blocks))) (at - before) d ≡ get_or (joined blocks) at d
-  read-start d =
-      ap (λ (bs : List (List (Key × NodeNumber))). get_or (joined bs) (at - before) d) whole
-      ∙ sym (get_or-append_right (joined (take n blocks)) (joined (drop n blocks)) before at d (sym is) le)
-      ∙ ap (λ (l : List (Key × NodeNumber)). get_or l at d) parted
-
 module _ (key : Key) where
   rank-joined : (blocks : List (List (Key × NodeNumber))) → IsInKeyOrder (joined blocks)
       → key_rank (joined blocks) key ≡ length (joined (take (block_rank key blocks) blocks)) + key_rank (get_or blocks (block_rank key blocks) []) key
@@ -267,7 +247,7 @@ module _ (key : Key) where
             number_at-missing (joined blocks) key d are.rising (λ _. ap (λ (e : Key × NodeNumber). key_eq e.0 key) at ∙ other)
             ∙ sym (number_at-missing block key d (rising_at blocks are.rising (block_rank key blocks) [] within) (λ _. other))
 
-joined-Contains : (blocks : List (List (Key × NodeNumber))) (n : ℕ) (e : Key × NodeNumber) → n < length blocks → Contains (get_or blocks n []) e → Contains (joined blocks) e
+pub joined-Contains : (blocks : List (List (Key × NodeNumber))) (n : ℕ) (e : Key × NodeNumber) → n < length blocks → Contains (get_or blocks n []) e → Contains (joined blocks) e
 joined-Contains [] n e within has = absurd (omega (arith, within))
 joined-Contains (block ∷ blocks) zero e within has = Contains-append_left block (joined blocks) e has
 joined-Contains (block ∷ blocks) (suc n) e within has =

@@ -1,5 +1,5 @@
 -- What made a value is what makes its node present, after each write.
-use Rattle.std.proofs.Common.{◌≡◌, ℕ, ℤ, ◌+◌, ◌<◌, ◌≤◌, List, [], ◌∷◌, ◌++◌, append-nil, append_assoc, length, set, Bool, true, false, if◌then◌else◌, Option, Some, None, ◌⊎◌, inl, inr, ⊎_elim, refl, sym, ap, ◌∙◌, subst, true≢false, arith}
+use Rattle.std.proofs.Common.{◌≡◌, ℕ, ℤ, ◌+◌, ◌<◌, ◌≤◌, List, [], ◌∷◌, ◌++◌, append-nil, append_assoc, length, set, Bool, true, false, if◌then◌else◌, Option, Some, None, ◌⊎◌, inl, inr, ⊎_elim, refl, sym, ap, ◌∙◌, subst, true≢false, arith, Contains}
 use Rattle.std.specs.Prelude.{is_some, option_and_then, ◌&&◌, ◌||◌}
 use Rattle.std.proofs.lemmas.Bool.{cases_eq, cases_lt}
 use Rattle.std.proofs.Math.Bool.{or-true}
@@ -15,14 +15,14 @@ use Rattle.presence_set.proofs.ByIdLaws.{get-put, get-uncovered}
 use Rattle.doc_nodes.specs.declared.node.NodeNumber.{NodeNumber}
 use Rattle.doc_nodes.specs.declared.node.Node.{Node}
 use Rattle.doc_nodes.specs.Walk.{walk, root}
-use Rattle.doc_nodes.specs.Nodes.{blank_node, node_of, child_of, cleared, AreTree, ClearsUnder}
+use Rattle.doc_nodes.specs.Nodes.{blank_node, node_of, child_of, cleared, AreTree, ClearsUnder, ClearsFirst}
 use Rattle.doc_nodes.specs.PresenceAlong.{passes, role_before, may_have_present_child_after, AddsPresenceAlong}
 use Rattle.doc_nodes.specs.Writes.{with_scalar, with_number, with_entry}
 use Rattle.doc_nodes.specs.Growth.{Grows}
 use Rattle.doc_nodes.specs.ListPresence.{plain, without_list_presence, is_some_entry, is_node_present}
 use Rattle.doc_nodes.specs.HasPresence.{HasEntry, IsPresentBy, HasPresence, HavePresenceFrom, HavePresence}
 use Rattle.doc_nodes.proofs.Walks.{parts_of, walk_join}
-use Rattle.doc_nodes.proofs.Clearing.{ClearsFirst, none_yet, same_children}
+use Rattle.doc_nodes.proofs.Clearing.{none_yet, same_children}
 use Rattle.doc_nodes.proofs.AddingPresence.{here-set, other-set, eq_number, shape-set}
 use Rattle.doc_nodes.proofs.WriteFacts.{unwritten}
 use Rattle.doc_nodes.proofs.Plain.{node_of-plain, child_of-plain, length-plain, write-plain, tree-plain}
@@ -139,6 +139,10 @@ has_presence_of-plain nodes m has_presence = record {
 pub has_presence-same : (old new : List Node) (m : ℕ) → plain new ≡ plain old → HavePresenceFrom old m → HavePresenceFrom new m
 has_presence-same old new m same has_presence = has_presence_of-plain new m (subst (λ l. HavePresenceFrom l m) (sym same) (has_presence-plain old m has_presence))
 
+no_entries : (entries : List (Id × Role)) → is_some_entry entries ≡ false → entries ≡ []
+no_entries [] none = refl
+no_entries (e ∷ entries) none = absurd (true≢false none)
+
 -- A node that isn't present holds nothing, nor does any below it, so it is cleared as it is.
 module _ (front : List (List ℕ × ℕ)) (nodes : List Node) (n : NodeNumber) (tree : AreTree nodes) (has_presence : HavePresenceFrom nodes n.0) where
   absent_below : (p : NodeNumber) (keys : List Key) (j : NodeNumber) → n.0 ≤ p.0 → (node_of nodes p).presence.0 ≡ [] → walk (child_of nodes) p keys ≡ Some j
@@ -167,7 +171,7 @@ module _ (front : List (List ℕ × ℕ)) (nodes : List Node) (n : NodeNumber) (
     outside = alone.outside;
   }
     where
-      alone : ClearsFirst front nodes (set nodes n.0 (cleared front (node_of nodes n))) n 0
+      alone : ClearsFirst front nodes (set nodes n.0 (cleared front (node_of nodes n))) n []
       alone = none_yet front nodes (set nodes n.0 (cleared front (node_of nodes n))) n within refl
 
       inside : (j : NodeNumber) (keys : List Key) → walk (child_of nodes) n keys ≡ Some j
@@ -179,19 +183,45 @@ module _ (front : List (List ℕ × ℕ)) (nodes : List Node) (n : NodeNumber) (
           let absent = absent_below step.0 keys j (omega (arith, tree.rising n k step.0 step.1)) child step.2 in
           ⊎_elim (λ still. still ∙ sym (node-untouched front (node_of nodes j) absent (has_presence.each j))) (λ done. done) (alone.each j)
 
-some_entry : (entries : List (Id × Role)) (i : Id) → HasEntry entries i → is_some_entry entries ≡ true
+  -- where all children that are present are done, the node is
+  clears_all : (new : List Node) (done : List (Key × NodeNumber)) → ClearsFirst front nodes new n done
+      → ((k : Key) (c : NodeNumber) → child_of nodes n k ≡ Some c → is_node_present nodes (Some c) ≡ true → Contains done (k, c)) → ClearsUnder front nodes new n
+  clears_all new done first all = record {
+    each = first.each;
+    changed = first.changed;
+    inside = inside;
+    outside = first.outside;
+  }
+    where
+      at_child : (k : Key) (c : NodeNumber) → child_of nodes n k ≡ Some c → (j : NodeNumber) (keys : List Key) → walk (child_of nodes) c keys ≡ Some j
+          → (b : Bool) → is_node_present nodes (Some c) ≡ b → node_of new j ≡ cleared front (node_of nodes j)
+      at_child k c down j keys e true is = first.below (k, c) (all k c down is) j keys e
+      at_child k c down j keys e false is =
+          let absent = absent_below c keys j (omega (arith, tree.rising n k c down)) (no_entries (node_of nodes c).presence.0 is) e in
+          ⊎_elim (λ still. still ∙ sym (node-untouched front (node_of nodes j) absent (has_presence.each j))) (λ done. done) (first.each j)
+
+      inside : (j : NodeNumber) (keys : List Key) → walk (child_of nodes) n keys ≡ Some j → node_of new j ≡ cleared front (node_of nodes j)
+      inside j [] e = let same : n ≡ j = cc in subst (λ z. node_of new z ≡ cleared front (node_of nodes z)) same first.here
+      inside j (k ∷ keys) e =
+          let step = parts_of (child_of nodes) (λ m. walk (child_of nodes) m keys) (child_of nodes n k) j e in
+          at_child k step.0 step.1 j keys step.2 (is_node_present nodes (Some step.0)) refl
+
+pub some_entry : (entries : List (Id × Role)) (i : Id) → HasEntry entries i → is_some_entry entries ≡ true
 some_entry [] i there = there
 some_entry (e ∷ entries) i there = refl
-
-no_entries : (entries : List (Id × Role)) → is_some_entry entries ≡ false → entries ≡ []
-no_entries [] none = refl
-no_entries (e ∷ entries) none = absurd (true≢false none)
 
 pub clears-absent : (front : List (List ℕ × ℕ)) (nodes : List Node) (n : NodeNumber) → AreTree nodes → HavePresenceFrom nodes n.0 → is_node_present nodes (Some n) ≡ false
     → ClearsUnder front (plain nodes) (plain nodes) n
 clears-absent front nodes n tree has_presence absent =
     clears_nothing front (plain nodes) n (tree-plain nodes tree) (has_presence-plain nodes n.0 has_presence)
     (ap (λ z. z.presence.0) (node_of-plain nodes n) ∙ no_entries (node_of nodes n).presence.0 absent)
+
+pub clears-all : (front : List (List ℕ × ℕ)) (nodes new : List Node) (n : NodeNumber) (done : List (Key × NodeNumber)) → AreTree nodes → HavePresenceFrom nodes n.0
+    → ClearsFirst front (plain nodes) (plain new) n done
+    → ((k : Key) (c : NodeNumber) → child_of nodes n k ≡ Some c → is_node_present nodes (Some c) ≡ true → Contains done (k, c)) → ClearsUnder front (plain nodes) (plain new) n
+clears-all front nodes new n done tree has_presence first all =
+    clears_all front (plain nodes) n (tree-plain nodes tree) (has_presence-plain nodes n.0 has_presence) (plain new) done first
+    (λ k c down present. all k c (ap (λ f. f n k) (sym (child_of-plain nodes)) ∙ down) (ap (λ z. is_some_entry z.presence.0) (sym (node_of-plain nodes c)) ∙ present))
 
 pub clears-childless : (front : List (List ℕ × ℕ)) (nodes : List Node) (n : NodeNumber) → n.0 < length nodes → AreTree nodes → HavePresenceFrom nodes n.0 → (node_of nodes n).may_have_present_child ≡ false
     → ClearsUnder front (plain nodes) (plain (set nodes n.0 (cleared front (node_of nodes n)))) n
@@ -355,7 +385,7 @@ module _ (id : Id) (role : Role) (old new : List Node) (keys : List Key) (tree :
       (present_end id role (plain old) (plain new) keys (tree-plain old tree) added m (ap (λ f. walk f root keys) (child_of-plain old) ∙ way))
 
 -- a node is written elsewhere than in its presence and its children
-pub has_presence-set : (nodes : List Node) (at : NodeNumber) (node : Node) → at.0 < length nodes → node.children ≡ (node_of nodes at).children
+pub has_presence-set : (nodes : List Node) (at : NodeNumber) (node : Node) → at.0 < length nodes → node.children.0 ≡ (node_of nodes at).children.0
     → node.presence ≡ (node_of nodes at).presence → node.may_have_present_child ≡ (node_of nodes at).may_have_present_child → HasPresence node → HavePresence nodes → HavePresence (set nodes at.0 node)
 has_presence-set nodes at node within children presence may_have_present_child here has_presence = record {
   each = λ n. ⊎_elim

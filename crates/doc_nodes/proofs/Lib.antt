@@ -3,6 +3,7 @@ pub mod Walks
 pub mod Trails
 pub mod ChildrenLaws
 pub mod Blocks
+pub mod Gone
 pub mod Clearing
 pub mod HasPresence
 pub mod Places

@@ -13,7 +13,7 @@ use Rattle.doc_nodes.specs.Children.{number_at}
 use Rattle.doc_nodes.specs.Walk.{walk, root, trail, list_trail, IsTree}
 use Rattle.doc_nodes.specs.Nodes.{blank_node, node_of, child_of, node_at, list_node_at, role_in, part_in, ids_in, role_at, facts_of, AreTree}
 use Rattle.doc_nodes.specs.PresenceAlong.{HasRoomAlong, IsReady}
-use Rattle.doc_nodes.specs.ListPresence.{with_element_presence, is_node_present, with_list_presence, without_list_presence, plain}
+use Rattle.doc_nodes.specs.ListPresence.{with_element_presence, is_node_present, with_list_presence, without_list_presence, with_blocks, plain}
 
 without_list_presence_at : (nodes : List Node) (i : ℕ) → get_or (map without_list_presence nodes) i blank_node ≡ without_list_presence (get_or nodes i blank_node)
 without_list_presence_at [] i = refl
@@ -25,7 +25,7 @@ module _ (nodes : List Node) where
   node_of-plain n = without_list_presence_at nodes n.0
 
   pub child_of-plain : child_of (plain nodes) ≡ child_of nodes
-  child_of-plain = fun_ext (λ n. fun_ext (λ k. ap (λ z. number_at z.children k) (without_list_presence_at nodes n.0)))
+  child_of-plain = fun_ext (λ n. fun_ext (λ k. ap (λ z. number_at z.children.0 k) (without_list_presence_at nodes n.0)))
 
   pub length-plain : length (plain nodes) ≡ length nodes
   length-plain = length-map nodes without_list_presence
@@ -68,7 +68,14 @@ module _ (nodes : List Node) where
       ∙ set-get_or (plain nodes) n.0 blank_node
     where
       same : (node : Node) → without_list_presence (with_element_presence id (is_node_present nodes (Some child)) node) ≡ without_list_presence node
-      same node = λ i. record node { order = (all_absent-with node.order.0 id (is_node_present nodes (Some child)) i, node.order.1) }
+      same node = λ i. record node { order = (all_absent-with node.order.0 id (is_node_present nodes (Some child)) i, node.order.1); children = (node.children.0, []) }
+
+  -- other blocks of children that aren't gone
+  pub blocks-plain : (n : NodeNumber) (blocks : List (List (Key × NodeNumber))) → plain (set nodes n.0 (with_blocks blocks (node_of nodes n))) ≡ plain nodes
+  blocks-plain n blocks =
+      map-set without_list_presence nodes n.0 (with_blocks blocks (node_of nodes n))
+      ∙ ap (set (plain nodes) n.0) (sym (node_of-plain n))
+      ∙ set-get_or (plain nodes) n.0 blank_node
 
   part_in-plain : {X : Type 0} (part : Node → X) → ((node : Node) → part (without_list_presence node) ≡ part node) → (n : NodeNumber) → part (node_of (plain nodes) n) ≡ part (node_of nodes n)
   part_in-plain part same n = ap part (node_of-plain n) ∙ same (node_of nodes n)

@@ -26,7 +26,7 @@ module _ (nodes : List Node) (n : NodeNumber) (within : n.0 < length nodes) wher
       (λ e. ap part (other-set nodes n c node e))
       (cases_eq c.0 n.0)
 
-  module _ (node : Node) (same : node.children ≡ (node_of nodes n).children) where
+  module _ (node : Node) (same : node.children.0 ≡ (node_of nodes n).children.0) where
     node_at-set : (q : List Tagged) (j : Key) → node_at (set nodes n.0 node) q j ≡ node_at nodes q j
     node_at-set q j = ap (λ f. option_and_then (walk f root) (trail q j)) (shape-set nodes n node within same)
 
@@ -58,7 +58,7 @@ module _ (nodes : List Node) (n : NodeNumber) (within : n.0 < length nodes) wher
 
 module _ (nodes : List Node) (tree : AreTree nodes) (n : NodeNumber) (within : n.0 < length nodes) where
   -- a value is put into one part of the node
-  value-put : {X : Type 0} (part : Node → List (Id × X)) (node : Node) (id : Id) (s : X) → node.children ≡ (node_of nodes n).children → part node ≡ put_at_id (part (node_of nodes n)) id s
+  value-put : {X : Type 0} (part : Node → List (Id × X)) (node : Node) (id : Id) (s : X) → node.children.0 ≡ (node_of nodes n).children.0 → part node ≡ put_at_id (part (node_of nodes n)) id s
       → (p : List Tagged) (k : Key) → node_at nodes p k ≡ Some n → (q : List Tagged) (j : Key) (i : Id)
       → part_in part (set nodes n.0 node) (node_at (set nodes n.0 node) q j) i ≡ (if path_eq p q && key_eq k j && id_eq id i then Some s else part_in part nodes (node_at nodes q j) i)
   value-put {X} part node id s shape puts p k at q j i =

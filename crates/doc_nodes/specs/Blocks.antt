@@ -1,5 +1,5 @@
 -- The children of a node in blocks, each in the order of keys.
-use Rattle.std.specs.Prelude.{◌≡◌, ℕ, ◌<◌, List, [], ◌∷◌, length, take, Bool, true}
+use Rattle.std.specs.Prelude.{ℕ, zero, suc, ◌<◌, List, [], ◌∷◌, length, Bool, true, if◌then◌else◌}
 use Rattle.std.specs.List.{flat_map, prefix_len}
 use Rattle.std.specs.Ordering.{is_lt}
 use Rattle.doc_words.specs.Words.{Key}
@@ -20,9 +20,17 @@ pub record AreBlocks (blocks : List (List (Key × NodeNumber))) : Type 0 where
   pub filled : AreFilled blocks
   pub rising : IsInKeyOrder (joined blocks)
 
--- so many children come before a block
-abbrev pub IsStart : List (List (Key × NodeNumber)) → ℕ → ℕ → Type 0
-IsStart blocks block before = before ≡ length (joined (take block blocks))
+-- the blocks, with nothing in place of those that are gone: none of their children is present
+abbrev pub but_gone : List Bool → List (List (Key × NodeNumber)) → List (List (Key × NodeNumber))
+but_gone [] blocks = blocks
+but_gone (g ∷ gone) [] = []
+but_gone (g ∷ gone) (block ∷ blocks) = (if g then [] else block) ∷ but_gone gone blocks
+
+-- what is noted of a block is noted of a second one behind it
+abbrev pub repeated : List Bool → ℕ → List Bool
+repeated [] n = []
+repeated (g ∷ gone) zero = g ∷ g ∷ gone
+repeated (g ∷ gone) (suc n) = g ∷ repeated gone n
 
 -- a block ends with a lesser key
 abbrev pub ends_before : Key → List (Key × NodeNumber) → Bool

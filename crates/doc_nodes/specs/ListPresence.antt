@@ -1,11 +1,13 @@
 -- Each list stores with each of its elements whether the element is present.
-use Rattle.std.specs.Prelude.{◌≡◌, ◌⊎◌, List, [], ◌∷◌, map, Bool, true, false, Option, Some, None, Contains, slice_set}
+use Rattle.std.specs.Prelude.{◌≡◌, ◌≢◌, ◌⊎◌, ℕ, List, [], ◌∷◌, map, Bool, true, false, Option, Some, None, Contains, slice_index_or, slice_set}
 use Rattle.lamport_id.specs.declared.id.Id.{Id}
+use Rattle.op_core.specs.declared.cursor.Key.{Key}
 use Rattle.op_core.specs.declared.cursor.Key.TheVariants.{Element}
 use Rattle.doc_words.specs.declared.role.Role.{Role}
 use Rattle.list_order.specs.Entries.{with_presence, all_absent}
 use Rattle.doc_nodes.specs.declared.node.NodeNumber.{NodeNumber}
 use Rattle.doc_nodes.specs.declared.node.Node.{Node}
+use Rattle.doc_nodes.specs.Blocks.{joined}
 use Rattle.doc_nodes.specs.Nodes.{node_of, child_of}
 
 -- a list has an element
@@ -28,11 +30,16 @@ with_list_presence nodes at None child = nodes
 with_list_presence nodes at (Some id) child =
     slice_set nodes at.0 (with_element_presence id (is_node_present nodes (Some child)) (node_of nodes at))
 
--- a node whose list shows no element as present
-abbrev pub without_list_presence : Node → Node
-without_list_presence node = record node { order = (all_absent node.order.0, node.order.1) }
+-- a node with other blocks of children that aren't gone
+abbrev pub with_blocks : List (List (Key × NodeNumber)) → Node → Node
+with_blocks blocks node = record node { children = (node.children.0, blocks) }
 
--- the nodes, with lists that show no element as present
+-- a node whose list shows no element as present, and that has no block of children that isn't gone
+abbrev pub without_list_presence : Node → Node
+without_list_presence node =
+    record node { order = (all_absent node.order.0, node.order.1); children = (node.children.0, []) }
+
+-- the nodes, with lists that show no element as present, and nothing told of which children are
 abbrev pub plain : List Node → List Node
 plain nodes = map without_list_presence nodes
 
@@ -45,10 +52,46 @@ ShowsPresence nodes n i =
 abbrev pub ShowsPresenceBut : List Node → NodeNumber → NodeNumber → Id → Type 0
 ShowsPresenceBut nodes m n i = (child_of nodes n (Element i) ≡ Some m) ⊎ ShowsPresence nodes n i
 
--- the lists show which of their elements are present
+-- the children of a node that may be present: those in blocks that aren't gone
+abbrev pub candidates : Node → List (Key × NodeNumber)
+candidates node = joined node.children.1
+
+-- the child at a key, if it is present, is one of them
+abbrev pub IsCandidate : List Node → NodeNumber → Key → Type 0
+IsCandidate nodes n k =
+    (c : NodeNumber) → child_of nodes n k ≡ Some c → is_node_present nodes (Some c) ≡ true
+    → Contains (candidates (node_of nodes n)) (k, c)
+
+-- or it is this one
+abbrev pub IsCandidateBut : List Node → NodeNumber → NodeNumber → Key → Type 0
+IsCandidateBut nodes m n k = (child_of nodes n k ≡ Some m) ⊎ IsCandidate nodes n k
+
+-- each child that is present is one of those that may be
+abbrev pub HaveCandidates : List Node → Type 0
+HaveCandidates nodes = (n : NodeNumber) (k : Key) → IsCandidate nodes n k
+
+-- the lists show which of their elements are present, and blocks of children without a present one alone are gone
 abbrev pub ListsShowPresence : List Node → Type 0
-ListsShowPresence nodes = (n : NodeNumber) (i : Id) → ShowsPresence nodes n i
+ListsShowPresence nodes = ((n : NodeNumber) (i : Id) → ShowsPresence nodes n i) × HaveCandidates nodes
 
 -- but for the element of one node
 abbrev pub ListsShowPresenceBut : List Node → NodeNumber → Type 0
-ListsShowPresenceBut nodes m = (n : NodeNumber) (i : Id) → ShowsPresenceBut nodes m n i
+ListsShowPresenceBut nodes m = ((n : NodeNumber) (i : Id) → ShowsPresenceBut nodes m n i) × HaveCandidates nodes
+
+-- at one node other blocks of children aren't gone
+pub record ChangesBlocks (old new : List Node) (at : NodeNumber) : Type 0 where
+  pub blocks : List (List (Key × NodeNumber))
+  pub is : new ≡ slice_set old at.0 (with_blocks blocks (node_of old at))
+
+-- of the old ones none is gone, nor is that of the child at a key
+pub record KeepsBlocks (old new : List Node) (at : NodeNumber) (key : Key) : Type 0 where
+  pub changes : ChangesBlocks old new at
+  pub kept : (e : Key × NodeNumber) → Contains (candidates (node_of old at)) e → Contains (joined changes.blocks) e
+  pub noted : (c : NodeNumber) → child_of old at key ≡ Some c → Contains (joined changes.blocks) (key, c)
+
+-- at most one of the old ones is gone, and only if none of its children is present
+pub record MayDropBlock (old new : List Node) (at : NodeNumber) (block : ℕ) : Type 0 where
+  pub changes : ChangesBlocks old new at
+  pub others : (m : ℕ) → m ≢ block → slice_index_or changes.blocks m [] ≡ slice_index_or (node_of old at).children.1 m []
+  pub kept : (e : Key × NodeNumber) → Contains (candidates (node_of old at)) e
+      → is_node_present old (Some e.1) ≡ true → Contains (joined changes.blocks) e

@@ -1,5 +1,5 @@
 -- The facts of a document that is kept as numbered nodes.
-use Rattle.std.specs.Prelude.{◌≡◌, ◌≢◌, ℕ, ℤ, List, [], Bool, ◌&&◌, not, Option, Some, None, is_some, option_and_then, slice_index_or, if◌then◌else◌, ◌⊎◌, length, false}
+use Rattle.std.specs.Prelude.{◌≡◌, ◌≢◌, ℕ, ℤ, List, [], Bool, ◌&&◌, not, Option, Some, None, is_some, option_and_then, slice_index_or, if◌then◌else◌, ◌⊎◌, length, false, Contains}
 use Rattle.doc_words.specs.Words.{Id, Scalar, Key, Tagged}
 use Rattle.crdt_rules.specs.Within.{is_within}
 use Rattle.crdt_rules.specs.Facts.{Facts}
@@ -19,7 +19,7 @@ blank_node =
       register = ([], 0);
       counter = ([], 0);
       order = ([], 0);
-      children = [];
+      children = ([], []);
       may_have_present_child = false;
     }
 
@@ -27,7 +27,7 @@ abbrev pub node_of : List Node → NodeNumber → Node
 node_of nodes n = slice_index_or nodes n.0 blank_node
 
 abbrev pub child_of : List Node → NodeNumber → Key → Option NodeNumber
-child_of nodes n k = number_at (node_of nodes n).children k
+child_of nodes n k = number_at (node_of nodes n).children.0 k
 
 -- the node of a place
 abbrev pub node_at : List Node → List Tagged → Key → Option NodeNumber
@@ -90,6 +90,23 @@ pub record ClearsUnder (front : List (List ℕ × ℕ)) (old new : List Node) (n
       → (node_of new j ≡ node_of old j) ⊎ ((keys : List Key) × (walk (child_of old) n keys ≡ Some j))
   pub inside : (j : NodeNumber) (keys : List Key) → walk (child_of old) n keys ≡ Some j
       → node_of new j ≡ cleared front (node_of old j)
+  pub outside : (j : NodeNumber) → ((keys : List Key) → walk (child_of old) n keys ≢ Some j)
+      → node_of new j ≡ node_of old j
+
+-- each node stays, or is cleared
+abbrev pub IsPartCleared : List (List ℕ × ℕ) → List Node → List Node → Type 0
+IsPartCleared front old new =
+    (j : NodeNumber) → (node_of new j ≡ node_of old j) ⊎ (node_of new j ≡ cleared front (node_of old j))
+
+-- a node is cleared, with these children and all below them, and no other that isn't below it
+pub record ClearsFirst (front : List (List ℕ × ℕ)) (old new : List Node) (n : NodeNumber)
+    (done : List (Key × NodeNumber)) : Type 0 where
+  pub each : IsPartCleared front old new
+  pub changed : (j : NodeNumber)
+      → (node_of new j ≡ node_of old j) ⊎ ((keys : List Key) × (walk (child_of old) n keys ≡ Some j))
+  pub here : node_of new n ≡ cleared front (node_of old n)
+  pub below : (e : Key × NodeNumber) → Contains done e → (j : NodeNumber) (keys : List Key)
+      → walk (child_of old) e.1 keys ≡ Some j → node_of new j ≡ cleared front (node_of old j)
   pub outside : (j : NodeNumber) → ((keys : List Key) → walk (child_of old) n keys ≢ Some j)
       → node_of new j ≡ node_of old j
 

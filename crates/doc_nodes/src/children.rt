@@ -1,20 +1,20 @@
 //! The nodes below a node, in the order of their keys.
 ghost use Rattle.std.specs.Ordering.{is_lt, nat_cmp};
+ghost use Rattle.std.specs.Vec.{vec_len, vec_capacity};
 ghost use Rattle.std.specs.Cmp.Lexicographic.{slice_cmp};
-ghost use Rattle.std.specs.Prelude.{◌≡◌, ◌<◌, ◌≤◌, ◌+◌, ◌++◌, ◌∷◌, ◌⊎◌, List, [], length, insert, None, Some};
+ghost use Rattle.std.specs.Prelude.{◌≡◌, ◌≢◌, ◌<◌, ◌≤◌, ◌+◌, ◌++◌, ◌∷◌, ◌⊎◌, ℕ, List, Bool, [], length, take, drop, false};
+ghost use Rattle.std.specs.Prelude.{insert, None, Some};
 ghost use Rattle.std.specs.Prelude.{OnOk, OnErr, IfOk, IfSome, IfNone, Contains, slice_index_or, slice_set};
 ghost use Rattle.crdt_rules.specs.Same.{key_eq};
 ghost use Rattle.op_core.specs.declared.cursor.Key.{Key};
 ghost use Rattle.doc_nodes.specs.declared.node.NodeNumber.{NodeNumber};
-ghost use Rattle.crdt_rules.specs.Context.{reference};
 ghost use Rattle.doc_nodes.specs.Children.{number_at};
 ghost use Rattle.doc_nodes.specs.KeyOrder.{key_cmp, IsInKeyOrder};
 ghost use Rattle.doc_nodes.specs.KeyOrder as KeyOrder;
-ghost use Rattle.doc_nodes.specs.Blocks.{joined, block_rank, AreBlocks, IsStart};
+ghost use Rattle.doc_nodes.specs.Blocks.{joined, but_gone, block_rank, AreBlocks, AreFilled};
 ghost use Rattle.doc_nodes.specs.Blocks as Blocks;
 
-use crate::node::{NodeNumber, element_in};
-use lamport_id::Id;
+use crate::node::NodeNumber;
 use op_core::Key;
 use std::alloc::{AllocError, Global};
 use std::marker::Model;
@@ -35,13 +35,6 @@ impl SearchHint {
     pub fn first() -> SearchHint {
         SearchHint { block: 0, place: 0 }
     }
-}
-
-// How many children come before a block.
-#[derive(Clone, Copy)]
-struct Start {
-    block: usize,
-    before: usize,
 }
 
 /// Some children of a node, in the order of their keys.
@@ -66,36 +59,35 @@ impl Drop for Block {
 }
 
 /// The nodes below a node, in the order of their keys: in blocks, so that a new one moves few of the others. A search
-/// first looks at the child that was added or found last, which an operation asks for next. `go_to` starts at the block
-/// where it was. Clauses see the list of their keys and numbers.
+/// first looks at the child that was added or found last, which an operation asks for next. A block is gone once it is
+/// known that none of its children is present, until one may be again. Clauses see the list of all keys and numbers, and
+/// the blocks, with nothing in place of those that are gone.
 pub struct Children {
     blocks: Vec<Block>,
-    count: usize,
+    // Whether a block is gone. It may be shorter than the blocks, and those past its end aren't gone.
+    gone: Vec<bool>,
     latest: SearchHint,
-    start: Start,
 }
 
 impl Model for Children {
-    ghost use Rattle.std.specs.Prelude.{◌≡◌, List, length};
+    ghost use Rattle.std.specs.Prelude.{List};
     ghost use Rattle.op_core.specs.declared.cursor.Key.{Key};
     ghost use Rattle.doc_nodes.specs.declared.node.NodeNumber.{NodeNumber};
-    ghost use Rattle.doc_nodes.specs.Blocks.{joined, AreBlocks, IsStart};
+    ghost use Rattle.doc_nodes.specs.Blocks.{joined, but_gone, AreBlocks};
 
-    ghost Value = { List (Key × NodeNumber) };
+    ghost Value = { List (Key × NodeNumber) × List (List (Key × NodeNumber)) };
 
-    ghost view = { λ c. joined c.blocks.items };
+    ghost view = { λ c. (joined c.blocks.items, but_gone c.gone.items c.blocks.items) };
 
-    ghost invariant = { λ c. AreBlocks c.blocks.items × (c.count ≡ length (joined c.blocks.items))
-        × IsStart c.blocks.items c.start.block c.start.before };
+    ghost invariant = { λ c. AreBlocks c.blocks.items };
 }
 
 impl Drop for Children {
     fn drop(self) {
         let Children {
             blocks: _,
-            count: _,
+            gone: _,
             latest: _,
-            start: _,
         } = self;
     }
 }
@@ -103,19 +95,18 @@ impl Drop for Children {
 impl Children {
     /// No child. Allocates nothing yet.
     pub fn new(alloc: Global) -> Children
-        ensures { result ≡ [] }
+        ensures { result ≡ ([], []) }
     {
         Children {
             blocks: Vec::new(alloc),
-            count: 0,
+            gone: Vec::new(alloc),
             latest: SearchHint::first(),
-            start: first_start(),
         }
     }
 
     /// The number of the child at a key, found by bisection.
     pub fn find(&self, key: &Key) -> Option<NodeNumber>
-        ensures { result ≡ number_at self.now key.now }
+        ensures { result ≡ number_at self.now.0 key.now }
     {
         if let Some(number) = number_there(self.blocks.as_slice(), self.latest, key) {
             return Some(number);
@@ -131,7 +122,7 @@ impl Children {
     /// right behind the one before.
     pub fn seek(&mut self, key: &Key) -> Option<NodeNumber>
         ensures same { self.new ≡ self.old }
-        ensures value { result ≡ number_at self.old key.now }
+        ensures value { result ≡ number_at self.old.0 key.now }
     {
         if let Some(number) = number_there(self.blocks.as_slice(), self.latest, key) {
             return Some(number);
@@ -148,7 +139,7 @@ impl Children {
     /// The same as `find`, fast if the child is right behind the hint or right before it. The hint is then where the
     /// child is.
     pub fn find_beside(&self, key: &Key, hint: &mut SearchHint) -> Option<NodeNumber>
-        ensures { result ≡ number_at self.now key.now }
+        ensures { result ≡ number_at self.now.0 key.now }
     {
         let next = hint_behind(self.blocks.as_slice(), *hint);
         if let Some(number) = number_there(self.blocks.as_slice(), next, key) {
@@ -166,68 +157,91 @@ impl Children {
 
     /// Adds a child at a key that has none, in the order of keys. It fails only when out of memory.
     pub fn insert(&mut self, key: Key, number: NodeNumber) -> Result<(), AllocError>
-        requires { number_at self.old key ≡ None }
-        ensures ok { OnOk result (self.new ≡ insert self.old (KeyOrder.key_rank self.old key) (key, number)) }
-        ensures err { OnErr result (self.new ≡ self.old) }
+        requires { number_at self.old.0 key ≡ None }
+        ensures ok { OnOk result
+            (self.new.0 ≡ insert self.old.0 (KeyOrder.key_rank self.old.0 key) (key, number)) }
+        ensures err { OnErr result (self.new.0 ≡ self.old.0) }
+        ensures kept { (e : Key × NodeNumber) → Contains (joined self.old.1) e → Contains (joined self.new.1) e }
     {
-        let Some(count) = self.count.checked_add(1) else {
-            return Err(AllocError);
-        };
-        self.start = first_start();
-        let at = block_for(&mut self.blocks, &key)?;
+        make_flag(&mut self.gone, self.blocks.len())?;
+        let at = block_for(&mut self.blocks, &mut self.gone, &key)?;
         self.latest = add_entry(&mut self.blocks, at, key, number)?;
-        self.count = count;
         Ok(())
     }
 
-    /// How many children there are.
-    pub fn len(&self) -> usize
-        ensures { result ≡ length self.now }
-    {
-        self.count
-    }
-
-    /// The children, in the order of their keys.
+    /// The children in blocks that aren't gone, in the order of their keys.
     pub fn each(&self) -> EachChild<'_>
-        ensures value { result ≡ self.now }
+        ensures value { result ≡ joined self.now.1 }
         ensures rising { IsInKeyOrder result }
+        ensures some { (e : Key × NodeNumber) → Contains result e → number_at self.now.0 e.0 ≡ Some e.1 }
     {
         EachChild {
             entries: &[],
+            gone: self.gone.as_slice(),
             blocks: self.blocks.as_slice(),
         }
     }
 
-    /// Makes `element` and `number` fast at an index, if its child is in the block of the index before or in the next
-    /// one.
-    pub fn go_to(&mut self, at: usize)
-        ensures { self.new ≡ self.old }
+    /// How many blocks there are, those that are gone included.
+    pub fn block_count(&self) -> usize
+        ensures { result ≡ length self.now.1 }
     {
-        self.start = start_for(self.blocks.as_slice(), self.start, at);
+        self.blocks.len()
     }
 
-    /// The element of the child at an index, if its key is one.
-    pub fn element(&self, at: usize) -> Option<Id>
-        requires { at < length self.now }
-        ensures { (d : Key × NodeNumber) → result ≡ reference (slice_index_or self.now at d).0 }
+    /// The children in a block, or none if it is gone, or there is no such block.
+    pub fn block(&self, at: usize) -> &[(Key, NodeNumber)]
+        ensures value { result.now ≡ slice_index_or self.now.1 at [] }
+        ensures some { (e : Key × NodeNumber) → Contains result.now e → number_at self.now.0 e.0 ≡ Some e.1 }
     {
-        element_in(&entry_from(self.blocks.as_slice(), self.start, at).0)
+        if is_gone(self.gone.as_slice(), at) {
+            return &[];
+        }
+        entries_of(self.blocks.as_slice(), at)
     }
 
-    /// The number of the child at an index.
-    pub fn number(&self, at: usize) -> NodeNumber
-        requires { at < length self.now }
-        ensures value { (d : Key × NodeNumber) → (slice_index_or self.now at d).1 ≡ result }
-        ensures found { (d : Key × NodeNumber) → number_at self.now (slice_index_or self.now at d).0 ≡ Some result }
+    /// The number of the block that has the child at a key. Without such a child, any number.
+    pub fn block_with(&self, key: &Key) -> usize
+        ensures { (n : NodeNumber) → number_at self.now.0 key.now ≡ Some n
+            → Contains (slice_index_or self.now.1 result []) (key.now, n) ⊎ (slice_index_or self.now.1 result [] ≡ []) }
     {
-        entry_from(self.blocks.as_slice(), self.start, at).1
+        block_beside(self.blocks.as_slice(), self.latest, key)
+    }
+
+    /// Notes that the child at a key may be present, so that its block isn't gone.
+    pub fn note_present(&mut self, key: &Key)
+        ensures same { self.new.0 ≡ self.old.0 }
+        ensures kept { (e : Key × NodeNumber) → Contains (joined self.old.1) e → Contains (joined self.new.1) e }
+        ensures noted { (n : NodeNumber) → number_at self.old.0 key.now ≡ Some n
+            → Contains (joined self.new.1) (key.now, n) }
+    {
+        if self.gone.is_empty() {
+            return;
+        }
+        let at = block_beside(self.blocks.as_slice(), self.latest, key);
+        if at < self.gone.len() {
+            self.gone[at] = false;
+        }
+    }
+
+    /// Notes that a block is gone, if there is room to note it.
+    pub fn note_gone(&mut self, at: usize)
+        ensures same { self.new.0 ≡ self.old.0 }
+        ensures count { length self.new.1 ≡ length self.old.1 }
+        ensures others { (m : ℕ) → m ≢ at → slice_index_or self.new.1 m [] ≡ slice_index_or self.old.1 m [] }
+    {
+        if at < self.gone.len() {
+            self.gone[at] = true;
+        }
     }
 }
 
-/// Children one after another, in the order of their keys, seen as the list of those that are left.
+/// Children one after another, in the order of their keys, seen as the list of those that are left. It passes blocks by
+/// that are gone.
 #[derive(Drop)]
 pub struct EachChild<'a> {
     entries: &'a [(Key, NodeNumber)],
+    gone: &'a [bool],
     blocks: &'a [Block],
 }
 
@@ -235,11 +249,11 @@ impl<'a> Model for EachChild<'a> {
     ghost use Rattle.std.specs.Prelude.{List, ◌++◌};
     ghost use Rattle.op_core.specs.declared.cursor.Key.{Key};
     ghost use Rattle.doc_nodes.specs.declared.node.NodeNumber.{NodeNumber};
-    ghost use Rattle.doc_nodes.specs.Blocks.{joined, AreFilled};
+    ghost use Rattle.doc_nodes.specs.Blocks.{joined, but_gone, AreFilled};
 
     ghost Value = { List (Key × NodeNumber) };
 
-    ghost view = { λ e. e.entries.now ++ joined e.blocks.now };
+    ghost view = { λ e. e.entries.now ++ joined (but_gone e.gone.now e.blocks.now) };
 
     ghost invariant = { λ e. AreFilled e.blocks.now };
 }
@@ -251,6 +265,7 @@ impl<'a> EachChild<'a> {
     {
         EachChild {
             entries: &[],
+            gone: &[],
             blocks: &[],
         }
     }
@@ -270,12 +285,88 @@ impl<'a> Iterator for EachChild<'a> {
             self.entries = rest;
             return Some(first);
         }
-        let (block, later) = self.blocks.split_first()?;
+        let (gone, blocks) = open_blocks(self.gone, self.blocks);
+        let (block, later) = blocks.split_first()?;
         let (first, rest) = block.entries.as_slice().split_first()?;
         self.entries = rest;
+        self.gone = all_but_first(gone);
         self.blocks = later;
         Some(first)
     }
+}
+
+// The blocks from the first on that isn't gone, and what is noted of them.
+fn open_blocks<'a>(gone: &'a [bool], blocks: &'a [Block]) -> (&'a [bool], &'a [Block])
+    requires { AreFilled blocks.now }
+    ensures same { joined (but_gone result.0.now result.1.now) ≡ joined (but_gone gone.now blocks.now) }
+    ensures open { slice_index_or result.0.now 0 false ≡ false ⊎ (result.1.now ≡ []) }
+    ensures filled { AreFilled result.1.now }
+{
+    let Some((_, later)) = blocks.split_first() else {
+        return (gone, blocks);
+    };
+    match gone.split_first() {
+        None => (gone, blocks),
+        Some((is, rest)) => {
+            if *is {
+                open_blocks(rest, later)
+            } else {
+                (gone, blocks)
+            }
+        }
+    }
+}
+
+// What is noted of the blocks behind the first.
+fn all_but_first(gone: &[bool]) -> &[bool]
+    ensures { result.now ≡ drop 1 gone.now }
+{
+    match gone.split_first() {
+        None => gone,
+        Some((_, rest)) => rest,
+    }
+}
+
+// Whether a block is gone.
+fn is_gone(gone: &[bool], at: usize) -> bool
+    ensures { result ≡ slice_index_or gone.now at false }
+{
+    match gone.get(at) {
+        None => false,
+        Some(is) => *is,
+    }
+}
+
+// The children in a block, gone or not.
+fn entries_of(blocks: &[Block], at: usize) -> &[(Key, NodeNumber)]
+    ensures { result.now ≡ slice_index_or blocks.now at [] }
+{
+    let Some(block) = blocks.get(at) else {
+        return &[];
+    };
+    block.entries.as_slice()
+}
+
+// The block that has the child at a key, if there is such a child.
+fn block_beside(blocks: &[Block], hint: SearchHint, key: &Key) -> usize
+    requires { AreBlocks blocks.now }
+    ensures { (n : NodeNumber) → number_at (joined blocks.now) key.now ≡ Some n
+        → Contains (slice_index_or blocks.now result []) (key.now, n) }
+{
+    if number_here(entries_of(blocks, hint.block), hint.place, key).is_some() {
+        return hint.block;
+    }
+    block_of(blocks, key)
+}
+
+// Has it noted of one more block that it isn't gone, unless it is noted of all. A node with one block needs no notes.
+fn make_flag(gone: &mut Vec<bool>, count: usize) -> Result<(), AllocError>
+    ensures { (blocks : List (List (Key × NodeNumber))) → but_gone gone.new.items blocks ≡ but_gone gone.old.items blocks }
+{
+    if count > 1 && gone.len() < count {
+        gone.push(false)?;
+    }
+    Ok(())
 }
 
 // Where a key is, or would be, found by bisection.
@@ -369,10 +460,12 @@ fn number_here(entries: &[(Key, NodeNumber)], place: usize, key: &Key) -> Option
 }
 
 // How many blocks end with a lesser key, once the block to which the key belongs is cut in two if it was full.
-fn block_for(blocks: &mut Vec<Block>, key: &Key) -> Result<usize, AllocError>
+fn block_for(blocks: &mut Vec<Block>, gone: &mut Vec<bool>, key: &Key) -> Result<usize, AllocError>
     requires { AreBlocks blocks.old.items }
     ensures blocks { AreBlocks blocks.new.items }
     ensures same { joined blocks.new.items ≡ joined blocks.old.items }
+    ensures gone { joined (but_gone gone.new.items blocks.new.items)
+        ≡ joined (but_gone gone.old.items blocks.old.items) }
     ensures value { IfOk result (λ at. at ≡ block_rank key.now blocks.new.items) }
 {
     let at = block_of(blocks.as_slice(), key);
@@ -382,7 +475,9 @@ fn block_for(blocks: &mut Vec<Block>, key: &Key) -> Result<usize, AllocError>
     let Some(half) = half_of(&blocks[at]) else {
         return Ok(at);
     };
+    gone.reserve(1)?;
     cut(blocks, at, half)?;
+    repeat(gone, at);
     Ok(block_of(blocks.as_slice(), key))
 }
 
@@ -405,12 +500,31 @@ fn cut(blocks: &mut Vec<Block>, at: usize, half: usize) -> Result<(), AllocError
     requires more { half < length (slice_index_or blocks.old.items at []) }
     ensures blocks { AreBlocks blocks.new.items }
     ensures same { joined blocks.new.items ≡ joined blocks.old.items }
+    ensures ok { OnOk result (blocks.new.items
+        ≡ insert (slice_set blocks.old.items at (take half (slice_index_or blocks.old.items at []))) (at + 1)
+        (drop half (slice_index_or blocks.old.items at []))) }
+    ensures err { OnErr result (blocks.new.items ≡ blocks.old.items) }
 {
     blocks.reserve(1)?;
     let block = &mut blocks[at];
     let entries = block.entries.split_off(half)?;
     match blocks.insert(at + 1, Block { entries }) {
         Ok(()) => Ok(()),
+        Err(_) => unreachable!(),
+    }
+}
+
+// Notes of a second block behind one what is noted of the one.
+fn repeat(gone: &mut Vec<bool>, at: usize)
+    requires { vec_len gone.old < vec_capacity gone.old }
+    ensures { gone.new.items ≡ Blocks.repeated gone.old.items at }
+{
+    if at >= gone.len() {
+        return;
+    }
+    let is = gone[at];
+    match gone.insert(at + 1, is) {
+        Ok(()) => {}
         Err(_) => unreachable!(),
     }
 }
@@ -429,6 +543,8 @@ fn add_entry(
     ensures ok { OnOk result (joined blocks.new.items
         ≡ insert (joined blocks.old.items) (KeyOrder.key_rank (joined blocks.old.items) key) (key, number)) }
     ensures err { OnErr result (joined blocks.new.items ≡ joined blocks.old.items) }
+    ensures kept { (gone : List Bool) (e : Key × NodeNumber) → Contains (joined (but_gone gone blocks.old.items)) e
+        → Contains (joined (but_gone gone blocks.new.items)) e }
 {
     match open_block(blocks.as_slice(), at) {
         Some(open) => put_in(blocks, open, key, number),
@@ -491,68 +607,6 @@ fn put_behind(
     entries.push((key, number))?;
     blocks.push(Block { entries })?;
     Ok(SearchHint { block, place: 0 })
-}
-
-// The start of the first block.
-fn first_start() -> Start
-    ensures { (blocks : List (List (Key × NodeNumber))) → IsStart blocks result.block result.before }
-{
-    Start {
-        block: 0,
-        before: 0,
-    }
-}
-
-// The start of the block that holds a place, if that is the block of this start or the next one; else of another.
-fn start_for(blocks: &[Block], start: Start, at: usize) -> Start
-    requires { IsStart blocks.now start.block start.before }
-    ensures { IsStart blocks.now result.block result.before }
-{
-    if at < start.before {
-        return first_start();
-    }
-    let Some(block) = blocks.get(start.block) else {
-        return start;
-    };
-    let count = block.entries.len();
-    if at - start.before < count {
-        return start;
-    }
-    Start {
-        block: start.block + 1,
-        before: start.before + count,
-    }
-}
-
-// The entry at a place, looked for from a start on.
-fn entry_from(blocks: &[Block], start: Start, at: usize) -> &(Key, NodeNumber)
-    requires start { IsStart blocks.now start.block start.before }
-    requires within { at < length (joined blocks.now) }
-    ensures { (d : Key × NodeNumber) → result.now ≡ slice_index_or (joined blocks.now) at d }
-{
-    if at < start.before {
-        entry_at(blocks, at)
-    } else {
-        entry_at(&blocks[start.block..], at - start.before)
-    }
-}
-
-// The entry at a place, counted over all blocks.
-fn entry_at(blocks: &[Block], at: usize) -> &(Key, NodeNumber)
-    requires { at < length (joined blocks.now) }
-    ensures { (d : Key × NodeNumber) → result.now ≡ slice_index_or (joined blocks.now) at d }
-{
-    match blocks.split_first() {
-        None => unreachable!(),
-        Some((block, later)) => {
-            let count = block.entries.len();
-            if at < count {
-                &block.entries[at]
-            } else {
-                entry_at(later, at - count)
-            }
-        }
-    }
 }
 
 // How many blocks end with a lesser key.

@@ -6,7 +6,7 @@ ghost use Rattle.doc_nodes.specs.Nodes.{AreTree, node_of, child_of};
 ghost use Rattle.op_core.specs.Shape.{key_of};
 ghost use Rattle.doc_nodes.specs.PresenceAlong.{keys_above, keys_below, keys_to};
 ghost use Rattle.doc_nodes.specs.Walk.{root, walk};
-ghost use Rattle.doc_nodes.specs.Growth.{Grows, IsMade, with_child};
+ghost use Rattle.doc_nodes.specs.Growth.{Grows, IsMade, AddsChild, ChangesBlocksOnly};
 
 use crate::node::{Node, NodeNumber, PlaceNodes, ROOT};
 use json_scalar::Refusal;
@@ -184,10 +184,8 @@ fn seek_child(nodes: &mut Vec<Node>, at: NodeNumber, key: &Key) -> Option<NodeNu
 fn add_child(nodes: &mut Vec<Node>, at: NodeNumber, key: Key, fresh: Node) -> Result<(), Refusal>
     requires known { at.0 < length nodes.old.items }
     requires missing { child_of nodes.old.items at key ≡ None }
-    ensures ok { OnOk result (nodes.new.items
-        ≡ slice_set nodes.old.items at.0
-        (with_child key (record { 0 = length nodes.old.items }) (node_of nodes.old.items at)) ++ fresh ∷ []) }
-    ensures err { OnErr result (nodes.new.items ≡ nodes.old.items) }
+    ensures ok { OnOk result (AddsChild nodes.old.items nodes.new.items at key fresh) }
+    ensures err { OnErr result (ChangesBlocksOnly nodes.old.items nodes.new.items at) }
     ensures memory { IfErr result (λ cause. cause ≡ NoMemory) }
 {
     nodes.reserve(1)?;

@@ -82,7 +82,7 @@ impl Node {
         ensures register { result.register.0 ≡ [] }
         ensures counter { result.counter.0 ≡ [] }
         ensures order { result.order.0 ≡ [] }
-        ensures children { result.children ≡ [] }
+        ensures children { result.children ≡ ([], []) }
         ensures may_have_present_child { result.may_have_present_child ≡ false }
     {
         Node {

@@ -8,8 +8,10 @@ ghost use Rattle.doc_nodes.specs.PresenceAlong.{made_present, keys_below, keys_t
 ghost use Rattle.doc_nodes.specs.PresenceAlong.{HasRoomAlong, IsReady, AddsPresenceAlong};
 ghost use Rattle.doc_nodes.specs.PresenceAlong as Spec;
 ghost use Rattle.doc_nodes.specs.ListPresence.{plain, ListsShowPresence, ListsShowPresenceBut, ShowsPresenceBut};
+ghost use Rattle.doc_nodes.specs.ListPresence.{IsCandidate, IsCandidateBut};
+ghost use Rattle.op_core.specs.declared.cursor.Key.{Key};
 
-use crate::list_presence::update_list_presence;
+use crate::list_presence::{note_present_child, update_list_presence};
 use crate::node::{Node, NodeNumber, ROOT, element_in};
 use lamport_id::Id;
 use op_core::{Key, Tagged};
@@ -44,6 +46,7 @@ pub fn add_presence_below(
     ensures added { AddsPresenceAlong id.now role (plain nodes.old) (plain nodes.new) at (keys_below way.now key.now) }
     ensures list_presence { (m : NodeNumber) → walk (child_of nodes.old) at (keys_below way.now key.now) ≡ Some m
         → (n : NodeNumber) (i : Id) → ShowsPresenceBut nodes.old m n i → ShowsPresenceBut nodes.new at n i }
+    ensures candidates { (n : NodeNumber) (k : Key) → IsCandidate nodes.old n k → IsCandidateBut nodes.new at n k }
 {
     add_presence(nodes, at, id, Role::Through);
     match way.split_first() {
@@ -51,11 +54,13 @@ pub fn add_presence_below(
             let end = known_child(nodes, at, key);
             add_presence(nodes, end, id, role);
             update_list_presence(nodes, at, element_in(key), end);
+            note_present_child(nodes, at, key);
         }
         Some((next, rest)) => {
             let below = known_child(nodes, at, next.key());
             add_presence_below(nodes, below, rest, key, id, role);
             update_list_presence(nodes, at, element_in(next.key()), below);
+            note_present_child(nodes, at, next.key());
         }
     }
 }

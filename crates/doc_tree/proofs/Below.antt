@@ -10,7 +10,9 @@ use Rattle.crdt_rules.specs.Same.{key_eq}
 use Rattle.doc_nodes.specs.declared.node.NodeNumber.{NodeNumber}
 use Rattle.doc_nodes.specs.declared.node.Node.{Node}
 use Rattle.doc_nodes.specs.Walk.{trail, trail_below, list_trail, list_trail_below, walk, root}
-use Rattle.doc_nodes.specs.Nodes.{AreTree, child_of, node_at, list_node_at, role_in, role_at, facts_of}
+use Rattle.doc_nodes.specs.Nodes.{AreTree, node_of, child_of, node_at, list_node_at, role_in, role_at, facts_of}
+use Rattle.doc_nodes.specs.ListPresence.{is_node_present}
+use Rattle.doc_nodes.proofs.HasPresence.{some_entry}
 use Rattle.doc_nodes.proofs.Walks.{parts_of, walk-append, walk_split}
 use Rattle.doc_nodes.proofs.Places.{node_by}
 
@@ -98,11 +100,11 @@ module _ (nodes : List Node) (p : List Tagged) (k : Key) (x : List ℕ) where
 
   -- so is one that is present
   pub present_child : (i : Id) → (facts_of nodes).present (p ++ MapAt k ∷ []) (Text x) i ≡ true
-      → (n : NodeNumber) × (c : NodeNumber) × (node_at nodes p k ≡ Some n) × (child_of nodes n (Text x) ≡ Some c)
+      → (n : NodeNumber) × (c : NodeNumber) × (node_at nodes p k ≡ Some n) × (child_of nodes n (Text x) ≡ Some c) × (is_node_present nodes (Some c) ≡ true)
   unfolding facts_of role_at
   present_child i h = go (node_at nodes (p ++ MapAt k ∷ []) (Text x)) refl h
     where
       go : (o : Option NodeNumber) → node_at nodes (p ++ MapAt k ∷ []) (Text x) ≡ o → is_some (role_in nodes o i) ≡ true
-          → (n : NodeNumber) × (c : NodeNumber) × (node_at nodes p k ≡ Some n) × (child_of nodes n (Text x) ≡ Some c)
+          → (n : NodeNumber) × (c : NodeNumber) × (node_at nodes p k ≡ Some n) × (child_of nodes n (Text x) ≡ Some c) × (is_node_present nodes (Some c) ≡ true)
       go None is f = absurd (cc)
-      go (Some c) is f = let at = child_at c is in (at.0, c, at.1, at.2)
+      go (Some c) is f = let at = child_at c is in (at.0, c, at.1, at.2, some_entry (node_of nodes c).presence.0 i f)

@@ -58,5 +58,5 @@ pub present_listed : (nodes : List Node) → ListsShowPresence nodes → (p : Li
     → present_of (node_of nodes n).order.0 ≡ filter (λ i. is_node_present nodes (node_at nodes p (Element i))) ((facts_of nodes).order p)
 present_listed nodes right p n e =
     present_of-holding (λ i. is_node_present nodes (node_at nodes p (Element i))) (node_of nodes n).order.0
-    (λ i is c. right n i is c ∙ ap (is_node_present nodes) (sym (element_child nodes p n i e)))
+    (λ i is c. right.0 n i is c ∙ ap (is_node_present nodes) (sym (element_child nodes p n i e)))
     ∙ ap (filter (λ i. is_node_present nodes (node_at nodes p (Element i)))) (ids_read nodes p n e)

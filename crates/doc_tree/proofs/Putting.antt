@@ -12,9 +12,9 @@ use Rattle.presence_set.proofs.ByIdLaws.{length-uncovered}
 use Rattle.doc_nodes.specs.declared.node.NodeNumber.{NodeNumber}
 use Rattle.doc_nodes.specs.declared.node.Node.{Node}
 use Rattle.doc_nodes.specs.Walk.{walk, root, trail, trail_below}
-use Rattle.doc_nodes.specs.Nodes.{node_of, child_of, node_at, AreTree, ClearsUnder, facts_of, role_at, clear_facts_at}
+use Rattle.doc_nodes.specs.Nodes.{node_of, child_of, node_at, AreTree, ClearsUnder, facts_of, role_at, clear_facts_at, IsPartCleared}
 use Rattle.doc_nodes.specs.PresenceAlong.{keys_below, keys_to, HasRoomAlong, IsReady, AddsPresenceAlong, presence_facts}
-use Rattle.doc_nodes.proofs.Clearing.{IsPartCleared, same_children, tree-cleared}
+use Rattle.doc_nodes.proofs.Clearing.{same_children, tree-cleared}
 use Rattle.doc_nodes.specs.Writes.{put_facts, put_role, enter_facts, with_scalar, with_number, add_facts, add_role, count_facts}
 use Rattle.crdt_rules.specs.Within.{is_within}
 use Rattle.doc_words.specs.declared.role.Role.TheVariants.{Through}
@@ -23,7 +23,7 @@ use Rattle.doc_tree.proofs.ClearFacts.{facts-cleared, role-cleared}
 use Rattle.doc_tree.proofs.PresenceFacts.{facts-made_present, role-made_present}
 use Rattle.doc_nodes.proofs.WriteFacts.{facts-entered, facts-counted, role-set}
 use Rattle.doc_nodes.proofs.AddingPresence.{tree-set}
-use Rattle.doc_nodes.specs.ListPresence.{plain, ShowsPresence, ShowsPresenceBut, ListsShowPresenceBut}
+use Rattle.doc_nodes.specs.ListPresence.{plain, ShowsPresence, ShowsPresenceBut, ListsShowPresenceBut, HaveCandidates}
 use Rattle.doc_nodes.proofs.Plain.{child_of-plain, node_of-plain, node_at-plain, tree-plain, facts-plain, role-plain, shape_of-plain, tree_same}
 
 -- the keys of a trail
@@ -104,11 +104,15 @@ module _ (front : List (List ℕ × ℕ)) (old new : List Node) (tree : AreTree 
       ∙ ap (λ o. if is_within q j p k && covers front i then None else o) (role-plain old q j i)
 
   -- what its list shows of the place may be wrong then
-  pub shows_presence_cleared : ((n : NodeNumber) (i : Id) → ShowsPresence old n i → ShowsPresenceBut new m n i) → ListsShowPresenceBut old m → ListsShowPresenceBut new m
-  shows_presence_cleared kept but n i = ⊎_elim
-      (λ there. inl (ap (λ f. f n (Element i)) (shape_of-plain old new (same_children front (plain old) (plain new) clears.each)) ∙ there))
-      (λ right. kept n i right)
-      (but n i)
+  pub shows_presence_cleared : ((n : NodeNumber) (i : Id) → ShowsPresence old n i → ShowsPresenceBut new m n i) → HaveCandidates new → ListsShowPresenceBut old m
+      → ListsShowPresenceBut new m
+  shows_presence_cleared kept candidates but = (
+    λ n i. ⊎_elim
+        (λ there. inl (ap (λ f. f n (Element i)) (shape_of-plain old new (same_children front (plain old) (plain new) clears.each)) ∙ there))
+        (λ right. kept n i right)
+        (but.0 n i),
+    candidates,
+  )
 
 -- An assignment step by step: the place is cleared, then the way is made present.
 module _ (front : List (List ℕ × ℕ)) (id : Id) (role : Role) (old between new : List Node) (tree : AreTree old) (p : List Tagged) (k : Key) (m : NodeNumber)

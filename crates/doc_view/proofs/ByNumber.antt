@@ -13,10 +13,8 @@ use Rattle.presence_set.specs.ById.{get, IsAscending}
 use Rattle.list_order.specs.Entries.{ids_of}
 use Rattle.doc_tree.specs.Nodes.{TreeValue}
 use Rattle.doc_nodes.specs.declared.node.NodeNumber.{NodeNumber}
-use Rattle.doc_nodes.specs.Children.{number_at}
-use Rattle.doc_nodes.specs.KeyOrder.{IsInKeyOrder}
 use Rattle.doc_nodes.specs.Nodes.{node_of, child_of}
-use Rattle.doc_nodes.proofs.ChildrenLaws.{number_at-own, number_at-Contains}
+use Rattle.doc_nodes.specs.ListPresence.{is_node_present}
 use Rattle.crdt_rules.proofs.Tests.{same_found}
 use Rattle.doc_tree.specs.Nodes.{tree_facts, tree_number}
 use Rattle.doc_tree.proofs.Below.{list-into, number-into, present_child}
@@ -71,24 +69,22 @@ module _ (tree : TreeValue) (p : List Tagged) (k : Key) (n : NodeNumber) (at : t
   pub element_number : (i : Id) → tree_number tree (into_list p k) (Element i) ≡ child_of tree.0 n (Element i)
   element_number i = number-into tree.0 p (tagged.List k) (Element i) refl ∙ ap (option_and_then (λ m. child_of tree.0 m (Element i))) at
 
-  module _ (children : List (Key × NodeNumber)) (these : children ≡ (node_of tree.0 n).children) where
-    pub text_place : IsInKeyOrder children → (i : ℕ) (child : Key × NodeNumber) → i < length children → child ≡ get_or children i child
+  module _ (children : List (Key × NodeNumber)) where
+    pub text_place : ((q : Key) (c : NodeNumber) → Contains children (q, c) → child_of tree.0 n q ≡ Some c) → (i : ℕ) (child : Key × NodeNumber) → i < length children → child ≡ get_or children i child
         → IsTextAt tree (into_map p k) child.0 child.1
-    text_place rising i child within is = λ text e.
+    text_place found i child within is = λ text e.
         number-into tree.0 p (tagged.Map k) (Text text) refl
         ∙ ap (option_and_then (λ m. child_of tree.0 m (Text text))) at
-        ∙ ap (λ cs. number_at cs (Text text)) (sym these)
-        ∙ ap (number_at children) (sym e)
-        ∙ number_at-own children rising child (i, within, sym is)
+        ∙ ap (child_of tree.0 n) (sym e)
+        ∙ found child.0 child.1 (i, within, sym is)
 
     -- each present key of the map is among the children
-    pub has_child : (text : List ℕ) (i : Id) → (tree_facts tree).present (into_map p k) (Text text) i ≡ true → (c : NodeNumber) × Contains children (Text text, c)
-    has_child text i here =
+    pub has_child : ((q : Key) (c : NodeNumber) → child_of tree.0 n q ≡ Some c → is_node_present tree.0 (Some c) ≡ true → Contains children (q, c)) → (text : List ℕ) (i : Id) → (tree_facts tree).present (into_map p k) (Text text) i ≡ true → (c : NodeNumber) × Contains children (Text text, c)
+    has_child present text i here =
         let below = present_child tree.0 p k text i here in
         let same = same_found below.2 at in (
           below.1,
-          subst (λ (cs : List (Key × NodeNumber)). Contains cs (Text text, below.1)) (sym these)
-              (number_at-Contains (node_of tree.0 n).children (Text text) below.1 (subst (λ m. child_of tree.0 m (Text text) ≡ Some below.1) same below.3)),
+          present (Text text) below.1 (subst (λ m. child_of tree.0 m (Text text) ≡ Some below.1) same below.3) below.4,
         )
 
 -- what is given at a node is given at its place

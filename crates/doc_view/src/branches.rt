@@ -1,11 +1,10 @@
 //! All that is at a place and below it, as JSON branches.
-ghost use Rattle.std.specs.Prelude.{◌≡◌, ◌<◌, ◌∷◌, [], List, length, Contains, codes};
+ghost use Rattle.std.specs.Prelude.{◌≡◌, ◌<◌, ◌∷◌, [], List, length, Contains, codes, Some};
 ghost use Rattle.serde_json.specs.Data.{Data, string};
 ghost use Rattle.doc_words.specs.Words.{Key, Tagged};
 ghost use Rattle.op_core.specs.Wire.{list_data};
 ghost use Rattle.doc_nodes.specs.declared.node.NodeNumber.{NodeNumber};
-ghost use Rattle.doc_nodes.specs.KeyOrder.{IsInKeyOrder};
-ghost use Rattle.doc_nodes.specs.Nodes.{node_of};
+ghost use Rattle.doc_nodes.specs.Nodes.{child_of};
 ghost use Rattle.doc_tree.specs.Nodes.{tree_facts};
 ghost use Rattle.doc_rules.specs.Views.{into_list, into_map};
 ghost use Rattle.doc_rules.specs.Shown.{ShowsText};
@@ -97,8 +96,7 @@ fn write_fields(
     children: EachChild<'_>,
     was_begun: bool,
 ) -> Result<bool, Refusal>
-    requires these { children ≡ (node_of tree.now.0 at).children }
-    requires rising { IsInKeyOrder children }
+    requires found { (k : Key) (n : NodeNumber) → Contains children (k, n) → child_of tree.now.0 at k ≡ Some n }
     requires deeper { (k : Key) (n : NodeNumber) → Contains children (k, n)
         → (at.0 < n.0) × (n.0 < length tree.now.0) }
     ensures { GivesUnlessMemory (λ is_begun. WritesParts (codes "map") was_begun

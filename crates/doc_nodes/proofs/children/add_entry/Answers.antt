@@ -1,5 +1,8 @@
-use Rattle.std.proofs.Common.{◌≡◌, ◌<◌, ◌≤◌, ◌+◌, [], ◌⊎◌, ◌∙◌, inl, inr, ⊎_elim, sym, ap, subst, length, arith}
-use Rattle.doc_nodes.specs.Blocks.{joined, block_rank, AreBlocks}
+use Rattle.std.proofs.Common.{◌≡◌, ◌<◌, ◌≤◌, ◌+◌, [], ◌⊎◌, ◌∙◌, inl, inr, ⊎_elim, sym, ap, subst, length, arith, List, ◌++◌, ◌∷◌, get_or, set, insert, Contains}
+use Rattle.list_laws.proofs.Members.{Contains-insert_old}
+use Rattle.doc_nodes.specs.KeyOrder.{key_rank}
+use Rattle.doc_nodes.proofs.Gone.{but_gone-kept, more_in, more_behind}
+use Rattle.doc_nodes.specs.Blocks.{joined, but_gone, block_rank, AreBlocks}
 use Rattle.doc_nodes.proofs.Blocks.{block_rank-within, rising_at, joined-open, blocks-open, joined-own, blocks-own, either_way}
 use Rattle.std.proofs.lemmas.Result.{on_ok_weaker}
 use Rattle.doc_nodes.proofs.children.add_entry.Goals as goal
@@ -56,4 +59,29 @@ returns-in-None-clause-blocks c =
     either_way c.put_behind.result
     (λ is. subst AreBlocks (sym is) (blocks-own key c.args.number blocks c.requires.blocks c.requires.missing (omega (arith, past))))
     (λ is. subst AreBlocks (sym is) c.requires.blocks)
+    c.put_behind.ensures.ok c.put_behind.ensures.err
+
+pub returns-in-Some-clause-kept : goal.returns-in-Some-clause-kept
+returns-in-Some-clause-kept c = λ gone e.
+    let blocks = c.args.blocks.now.items in
+    let n = c.in-Some.open in
+    let within : n < length blocks = subst (λ l. n < length l) c.as_slice.ensures.value c.in-Some.ensures.open.0 in
+    let rank = key_rank (get_or blocks n []) c.args.key in
+    either_way c.put_in.result
+    (λ is there. subst (λ l. Contains (joined (but_gone gone l)) e) (sym is)
+    (but_gone-kept gone gone blocks (set blocks n (insert (get_or blocks n []) rank (c.args.key, c.args.number))) e (λ m x. x)
+    (more_in blocks n (insert (get_or blocks n []) rank (c.args.key, c.args.number)) e within
+    (Contains-insert_old (get_or blocks n []) rank (c.args.key, c.args.number)))
+    there))
+    (λ is there. subst (λ l. Contains (joined (but_gone gone l)) e) (sym is) there)
+    c.put_in.ensures.ok c.put_in.ensures.err
+
+pub returns-in-None-clause-kept : goal.returns-in-None-clause-kept
+returns-in-None-clause-kept c = λ gone e.
+    let blocks = c.args.blocks.now.items in
+    either_way c.put_behind.result
+    (λ is there. subst (λ l. Contains (joined (but_gone gone l)) e) (sym is)
+    (but_gone-kept gone gone blocks (blocks ++ ((c.args.key, c.args.number) ∷ []) ∷ []) e (λ m x. x)
+    (more_behind blocks ((c.args.key, c.args.number) ∷ []) e) there))
+    (λ is there. subst (λ l. Contains (joined (but_gone gone l)) e) (sym is) there)
     c.put_behind.ensures.ok c.put_behind.ensures.err

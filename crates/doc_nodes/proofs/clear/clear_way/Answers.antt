@@ -31,12 +31,12 @@ returns-in-None-clause-clears c = λ m way.
     subst (λ z. ClearsUnder c.args.front.now (plain nodes) (plain c.clear_under.new.nodes) z) same c.clear_under.ensures.clears
 
 pub returns-in-None-clause-list_presence : goal.returns-in-None-clause-list_presence
-returns-in-None-clause-list_presence c = λ right n i.
+returns-in-None-clause-list_presence c = λ right.
     let nodes = c.args.nodes.now in
     let new = c.clear_under.new.nodes in
     let shape = shape_of-plain nodes new (same_children c.args.front.now (plain nodes) (plain new) c.clear_under.ensures.clears.each) in
-    shows_presence-but_root new (tree_same nodes new c.clear_under.auto.nodes shape c.requires.tree) n i
-    (c.clear_under.ensures.list_presence n i (right n i))
+    let tree = tree_same nodes new c.clear_under.auto.nodes shape c.requires.tree in
+    (λ n i. shows_presence-but_root new tree n i (c.clear_under.ensures.list_presence n i (right.0 n i)), c.clear_under.ensures.candidates)
 
 pub returns-in-Some-clause-clears : goal.returns-in-Some-clause-clears
 returns-in-Some-clause-clears c = λ m way.
@@ -46,4 +46,5 @@ returns-in-Some-clause-clears c = λ m way.
     (ap (walk (child_of nodes) root) (sym keys) ∙ way)
 
 pub returns-in-Some-clause-list_presence : goal.returns-in-Some-clause-list_presence
-returns-in-Some-clause-list_presence c = λ right n i. c.clear_below.ensures.list_presence n i (right n i)
+returns-in-Some-clause-list_presence c = λ right.
+    (λ n i. c.clear_below.ensures.list_presence n i (right.0 n i), c.clear_below.ensures.candidates)

@@ -11,7 +11,7 @@ returns-in_err-reserve_one-clause-tree c =
     let items = c.args.nodes.now.items in
     let node = c.index_mut-node.result.now in
     let is : node ≡ node_of items c.args.at = c.index_mut-node.ensures.value ∙ get_or_default items c.args.at.0 node blank_node c.requires.known in
-    tree-set items c.args.at _ c.requires.known (ap (λ (z : Node). z.children) is) c.requires.tree
+    tree-set items c.args.at _ c.requires.known (ap (λ (z : Node). z.children.0) is) c.requires.tree
 
 pub returns-in_err-reserve_one-clause-grows : goal.returns-in_err-reserve_one-clause-grows
 returns-in_err-reserve_one-clause-grows c =
@@ -25,7 +25,7 @@ returns-clause-tree c =
     let items = c.args.nodes.now.items in
     let node = c.index_mut-node.result.now in
     let is : node ≡ node_of items c.args.at = c.index_mut-node.ensures.value ∙ get_or_default items c.args.at.0 node blank_node c.requires.known in
-    tree-set items c.args.at _ c.requires.known (ap (λ (z : Node). z.children) is) c.requires.tree
+    tree-set items c.args.at _ c.requires.known (ap (λ (z : Node). z.children.0) is) c.requires.tree
 
 pub returns-clause-grows : goal.returns-clause-grows
 returns-clause-grows c =

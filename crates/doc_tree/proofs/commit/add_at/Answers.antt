@@ -50,7 +50,7 @@ returns-clause-list_presence c =
     let old = c.args.nodes.now in
     let new = c.add_presence_along.new.nodes in
     let m = c.args.end in
-    let right = c.add_presence_along.ensures.list_presence m (known_way old c.args.path.now c.args.key.now m c.requires.end).1 (λ n i. inr (c.requires.list_presence n i)) in
+    let right = c.add_presence_along.ensures.list_presence m (known_way old c.args.path.now c.args.key.now m c.requires.end).1 (λ n i. inr (c.requires.list_presence.0 n i), c.requires.list_presence.1) in
     subst ListsShowPresence (sym c.count.ensures)
     (lists_show_presence-set new m
     (within-made_present c.args.id.now Counter old new c.requires.tree c.args.path.now c.args.key.now m c.requires.end c.add_presence_along.ensures.added c.add_presence_along.auto.nodes)

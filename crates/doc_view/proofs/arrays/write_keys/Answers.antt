@@ -3,7 +3,6 @@ use Rattle.serde_json.specs.Data.{string}
 use Rattle.op_core.specs.declared.cursor.Key.TheVariants.{Text}
 use Rattle.doc_tree.specs.Nodes.{tree_facts}
 use Rattle.doc_rules.specs.Views.{AreKeys, into_map}
-use Rattle.doc_nodes.proofs.ChildrenLaws.{number_at-own}
 use Rattle.doc_view.proofs.MapLaws.{are_keys}
 use Rattle.doc_view.proofs.WritingAll.{array_written}
 use Rattle.doc_view.proofs.arrays.write_keys.Goals as goal
@@ -17,5 +16,5 @@ returns c =
     let (names, those, is) = c.in_ok-write_present_texts.ensures in
     array_written string (AreKeys f p k) c.args.text.now c.end_list.new.self c.begin_list.new.self c.write_present_texts.new.text names c.end_list.result
     (are_keys f p k children names c.children.ensures.rising c.children.ensures.map
-    (those (into_map p k) (λ text n has. sym (c.children.ensures.members text) ∙ number_at-own children c.children.ensures.rising (Text text, n) has)))
+    (those (into_map p k) c.children.ensures.members))
     c.in_ok-begin_list.ensures is c.end_list.ensures

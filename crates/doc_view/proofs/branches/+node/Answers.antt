@@ -109,7 +109,7 @@ write_fields-loop-child-preserved t c =
         λ p k at.
             fields_step c.args.tree.now (into_map p k) children i child before.0 more.0 (before.0 ++ more.0) taken.0 taken.1 (before.1 p k at)
             (more.1 (into_map p k)
-            (text_place c.args.tree.now p k c.args.at at children c.requires.these c.requires.rising i child taken.0 taken.1))
+            (text_place c.args.tree.now p k c.args.at at children c.requires.found i child taken.0 taken.1))
             refl,
         begun_more c.args.was_begun c.loop-child.is_begun c.in_ok-is_begun.is_begun before.0 more.0 before.2 more.2,
         more_parts (codes "map") c.args.was_begun c.loop-child.is_begun c.args.text.now c.loop-child.text c.write_field.new.text before.0 more.0 before.2 before.3 more.3,
@@ -154,7 +154,7 @@ write_map-returns t c =
     branch_put (λ ds. AtNode tree n (λ p k. IsMapShown tree p k ds)) (codes "map") put c.in_ok-is_begun.is_begun c.args.text.now c.begin_branch.new.text
     c.write_fields.new.text c.end_branch.new.text parts.0 c.end_branch.result
     (λ p k at.
-    map_from tree p k c.children_of.result c.children_of.ensures.rising (has_child tree p k n at c.children_of.result c.children_of.ensures.value) put parts.0
+    map_from tree p k c.children_of.result c.children_of.ensures.rising (has_child tree p k n at c.children_of.result c.children_of.ensures.present) put parts.0
     (subst (λ b. Decides b (IsPut (tree_facts tree) (tree_values tree) p k EmptyMap)) (sym c.puts_map-is_put.ensures)
     (puts_map_decides tree p k c.presence_of.result (roles_by_number tree p k n at c.presence_of.result c.presence_of.ensures.value c.presence_of.ensures.ascending)))
     (parts.1 p k at))

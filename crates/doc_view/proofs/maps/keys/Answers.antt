@@ -4,7 +4,6 @@ use Rattle.op_core.specs.declared.cursor.Tagged.{Tagged}
 use Rattle.doc_tree.specs.Nodes.{tree_facts}
 use Rattle.doc_rules.specs.Views.{AreKeys, IsPresent, into_map}
 use Rattle.doc_rules.specs.Sorted.{AreThose}
-use Rattle.doc_nodes.proofs.ChildrenLaws.{number_at-own}
 use Rattle.doc_view.specs.ByNumber.{AreIn}
 use Rattle.doc_view.specs.Members.{texts_in}
 use Rattle.doc_view.proofs.MapLaws.{are_keys}
@@ -22,5 +21,5 @@ returns c =
     (λ texts those.
     are_keys f at.path at.key children texts c.children.ensures.rising c.children.ensures.map
     (those (into_map at.path at.key)
-    (λ text n has. sym (c.children.ensures.members text) ∙ number_at-own children c.children.ensures.rising (Text text, n) has)))
+    c.children.ensures.members))
     c.present_texts.ensures

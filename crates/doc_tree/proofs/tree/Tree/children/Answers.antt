@@ -7,7 +7,8 @@ use Rattle.op_core.specs.declared.cursor.Tagged.TheVariants.{Map, List as ListAt
 use Rattle.doc_nodes.specs.declared.node.NodeNumber.{NodeNumber}
 use Rattle.doc_nodes.specs.Nodes.{blank_node, node_of, node_at, child_of}
 use Rattle.doc_tree.specs.Nodes.{tree_facts, tree_number}
-use Rattle.doc_nodes.proofs.ChildrenLaws.{number_at-Contains}
+use Rattle.list_laws.proofs.Members.{Contains-nil}
+use Rattle.doc_nodes.specs.Blocks.{joined}
 use Rattle.crdt_rules.proofs.Tests.{same_found}
 use Rattle.doc_nodes.proofs.Places.{node_within}
 use Rattle.doc_tree.proofs.Below.{number-into, present_child}
@@ -48,24 +49,15 @@ returns-in-Some-clause-map c = λ text i there.
     let same = same_found child.2 found in
     let at : child_of nodes c.in-Some.at (Text text) ≡ Some child.1 = subst (λ n. child_of nodes n (Text text) ≡ Some child.1) same child.3 in (
       child.1,
-      subst (λ l. Contains l (Text text, child.1)) (sym (c.each.ensures.value ∙ ap (λ z. z.children) read))
-          (number_at-Contains (node_of nodes c.in-Some.at).children (Text text) child.1 at),
+      subst (λ l. Contains l (Text text, child.1)) (sym (c.each.ensures.value ∙ ap (λ z. joined z.children.1) read))
+          (c.self.invariant.1.1 c.in-Some.at (Text text) child.1 at child.4),
     )
 
 pub returns-in-None-clause-members : goal.returns-in-None-clause-members
-returns-in-None-clause-members c = λ text.
-    let nodes = c.self.inside.nodes.items in
-    let p = c.args.path.now in
-    let k = c.args.key.now in
-    let absent : node_at nodes p k ≡ None =
-    ap (λ p. node_at nodes p c.args.key.now) (sym c.keys.ensures)
-    ∙ ap (λ l. node_at l c.keys.result.now c.args.key.now) (sym c.as_slice.ensures.value) ∙ sym c.find.ensures ∙ c.in-None.is in
-    ap (λ l. number_at l (Text text)) c.none.ensures
-    ∙ sym (number-into nodes p (Map k) (Text text) refl ∙ ap (option_and_then (λ n. child_of nodes n (Text text))) absent)
-    ∙ ap (λ t. tree_number t (p ++ Map k ∷ []) (Text text)) c.self.view_is
+returns-in-None-clause-members c = λ text n has. absurd (Contains-nil (subst (λ l. Contains l (Text text, n)) c.none.ensures has))
 
 pub returns-in-Some-clause-members : goal.returns-in-Some-clause-members
-returns-in-Some-clause-members c = λ text.
+returns-in-Some-clause-members c = λ text n has.
     let nodes = c.self.inside.nodes.items in
     let p = c.args.path.now in
     let k = c.args.key.now in
@@ -75,24 +67,15 @@ returns-in-Some-clause-members c = λ text.
     let read : c.index.result.now ≡ node_of nodes c.in-Some.at =
     c.index.ensures
     ∙ get_or_default nodes c.in-Some.at.0 c.index.result.now blank_node (node_within nodes c.self.invariant.0 p k c.in-Some.at found) in
-    ap (λ l. number_at l (Text text)) (c.each.ensures.value ∙ ap (λ z. z.children) read)
-    ∙ sym (number-into nodes p (Map k) (Text text) refl ∙ ap (option_and_then (λ n. child_of nodes n (Text text))) found)
-    ∙ ap (λ t. tree_number t (p ++ Map k ∷ []) (Text text)) c.self.view_is
+    ap (λ t. tree_number t (p ++ Map k ∷ []) (Text text)) (sym c.self.view_is)
+    ∙ number-into nodes p (Map k) (Text text) refl ∙ ap (option_and_then (λ m. child_of nodes m (Text text))) found
+    ∙ ap (λ z. number_at z.children.0 (Text text)) (sym read) ∙ c.each.ensures.some (Text text, n) has
 
 pub returns-in-None-clause-elements : goal.returns-in-None-clause-elements
-returns-in-None-clause-elements c = λ i.
-    let nodes = c.self.inside.nodes.items in
-    let p = c.args.path.now in
-    let k = c.args.key.now in
-    let absent : node_at nodes p k ≡ None =
-    ap (λ p. node_at nodes p c.args.key.now) (sym c.keys.ensures)
-    ∙ ap (λ l. node_at l c.keys.result.now c.args.key.now) (sym c.as_slice.ensures.value) ∙ sym c.find.ensures ∙ c.in-None.is in
-    ap (λ l. number_at l (Element i)) c.none.ensures
-    ∙ sym (number-into nodes p (ListAt k) (Element i) refl ∙ ap (option_and_then (λ n. child_of nodes n (Element i))) absent)
-    ∙ ap (λ t. tree_number t (p ++ ListAt k ∷ []) (Element i)) c.self.view_is
+returns-in-None-clause-elements c = λ i n has. absurd (Contains-nil (subst (λ l. Contains l (Element i, n)) c.none.ensures has))
 
 pub returns-in-Some-clause-elements : goal.returns-in-Some-clause-elements
-returns-in-Some-clause-elements c = λ i.
+returns-in-Some-clause-elements c = λ i n has.
     let nodes = c.self.inside.nodes.items in
     let p = c.args.path.now in
     let k = c.args.key.now in
@@ -102,6 +85,6 @@ returns-in-Some-clause-elements c = λ i.
     let read : c.index.result.now ≡ node_of nodes c.in-Some.at =
     c.index.ensures
     ∙ get_or_default nodes c.in-Some.at.0 c.index.result.now blank_node (node_within nodes c.self.invariant.0 p k c.in-Some.at found) in
-    ap (λ l. number_at l (Element i)) (c.each.ensures.value ∙ ap (λ z. z.children) read)
-    ∙ sym (number-into nodes p (ListAt k) (Element i) refl ∙ ap (option_and_then (λ n. child_of nodes n (Element i))) found)
-    ∙ ap (λ t. tree_number t (p ++ ListAt k ∷ []) (Element i)) c.self.view_is
+    ap (λ t. tree_number t (p ++ ListAt k ∷ []) (Element i)) (sym c.self.view_is)
+    ∙ number-into nodes p (ListAt k) (Element i) refl ∙ ap (option_and_then (λ m. child_of nodes m (Element i))) found
+    ∙ ap (λ z. number_at z.children.0 (Element i)) (sym read) ∙ c.each.ensures.some (Element i, n) has
