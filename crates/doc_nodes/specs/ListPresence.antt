@@ -1,5 +1,6 @@
 -- Each list stores with each of its elements whether the element is present.
-use Rattle.std.specs.Prelude.{◌≡◌, ◌≢◌, ◌⊎◌, ℕ, List, [], ◌∷◌, map, Bool, true, false, Option, Some, None, Contains, slice_index_or, slice_set}
+use Rattle.std.specs.Prelude.{◌≡◌, ◌≢◌, ◌⊎◌, ℕ, List, [], ◌∷◌, map, Bool, true, false, Option, Some, None, Contains}
+use Rattle.std.specs.Prelude.{slice_index_or, slice_set}
 use Rattle.lamport_id.specs.declared.id.Id.{Id}
 use Rattle.op_core.specs.declared.cursor.Key.{Key}
 use Rattle.op_core.specs.declared.cursor.Key.TheVariants.{Element}
@@ -92,6 +93,7 @@ pub record KeepsBlocks (old new : List Node) (at : NodeNumber) (key : Key) : Typ
 -- at most one of the old ones is gone, and only if none of its children is present
 pub record MayDropBlock (old new : List Node) (at : NodeNumber) (block : ℕ) : Type 0 where
   pub changes : ChangesBlocks old new at
-  pub others : (m : ℕ) → m ≢ block → slice_index_or changes.blocks m [] ≡ slice_index_or (node_of old at).children.1 m []
+  pub others : (m : ℕ) → m ≢ block
+      → slice_index_or changes.blocks m [] ≡ slice_index_or (node_of old at).children.1 m []
   pub kept : (e : Key × NodeNumber) → Contains (candidates (node_of old at)) e
       → is_node_present old (Some e.1) ≡ true → Contains (joined changes.blocks) e

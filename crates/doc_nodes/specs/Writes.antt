@@ -1,5 +1,6 @@
 -- Writes to one node, and how they change the facts.
-use Rattle.std.specs.Prelude.{◌≡◌, ◌<◌, ℤ, List, length, Bool, true, false, Option, Some, None, IsSome, ◌&&◌, if◌then◌else◌}
+use Rattle.std.specs.Prelude.{◌≡◌, ◌<◌, ℤ, List, length, Bool, true, false, Option, Some, None, IsSome, ◌&&◌}
+use Rattle.std.specs.Prelude.{if◌then◌else◌}
 use Rattle.doc_words.specs.Words.{Id, Scalar, Key, Tagged}
 use Rattle.crdt_rules.specs.Same.{id_eq, key_eq, path_eq}
 use Rattle.crdt_rules.specs.Within.{is_within}

@@ -2,7 +2,8 @@
 ghost use Rattle.std.specs.Ordering.{is_lt, nat_cmp};
 ghost use Rattle.std.specs.Vec.{vec_len, vec_capacity};
 ghost use Rattle.std.specs.Cmp.Lexicographic.{slice_cmp};
-ghost use Rattle.std.specs.Prelude.{◌≡◌, ◌≢◌, ◌<◌, ◌≤◌, ◌+◌, ◌++◌, ◌∷◌, ◌⊎◌, ℕ, List, Bool, [], length, take, drop, false};
+ghost use Rattle.std.specs.Prelude.{◌≡◌, ◌≢◌, ◌<◌, ◌≤◌, ◌+◌, ◌++◌, ◌∷◌, ◌⊎◌, ℕ, List, Bool, [], length, take, drop};
+ghost use Rattle.std.specs.Prelude.{false};
 ghost use Rattle.std.specs.Prelude.{insert, None, Some};
 ghost use Rattle.std.specs.Prelude.{OnOk, OnErr, IfOk, IfSome, IfNone, Contains, slice_index_or, slice_set};
 ghost use Rattle.crdt_rules.specs.Same.{key_eq};
@@ -60,8 +61,8 @@ impl Drop for Block {
 
 /// The nodes below a node, in the order of their keys: in blocks, so that a new one moves few of the others. A search
 /// first looks at the child that was added or found last, which an operation asks for next. A block is gone once it is
-/// known that none of its children is present, until one may be again. Clauses see the list of all keys and numbers, and
-/// the blocks, with nothing in place of those that are gone.
+/// known that none of its children is present, until one may be again. Clauses see the list of all keys and numbers,
+/// and the blocks, with nothing in place of those that are gone.
 pub struct Children {
     blocks: Vec<Block>,
     // Whether a block is gone. It may be shorter than the blocks, and those past its end aren't gone.
@@ -361,7 +362,8 @@ fn block_beside(blocks: &[Block], hint: SearchHint, key: &Key) -> usize
 
 // Has it noted of one more block that it isn't gone, unless it is noted of all. A node with one block needs no notes.
 fn make_flag(gone: &mut Vec<bool>, count: usize) -> Result<(), AllocError>
-    ensures { (blocks : List (List (Key × NodeNumber))) → but_gone gone.new.items blocks ≡ but_gone gone.old.items blocks }
+    ensures { (blocks : List (List (Key × NodeNumber)))
+        → but_gone gone.new.items blocks ≡ but_gone gone.old.items blocks }
 {
     if count > 1 && gone.len() < count {
         gone.push(false)?;

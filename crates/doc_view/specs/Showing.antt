@@ -9,7 +9,8 @@ use Rattle.doc_words.specs.declared.role.Role.TheVariants as role
 use Rattle.doc_tree.specs.Nodes.{TreeValue}
 use Rattle.doc_tree.specs.Nodes.{tree_facts}
 use Rattle.doc_rules.specs.Views.{IsPresent}
-use Rattle.doc_rules.specs.Shown.{Shown, MapShown, ListShown, Shows, ShowsMap, ShowsList, shown_data, map_branch, list_branch}
+use Rattle.doc_rules.specs.Shown.{Shown, MapShown, ListShown, Shows, ShowsMap, ShowsList, shown_data, map_branch}
+use Rattle.doc_rules.specs.Shown.{list_branch}
 use Rattle.doc_rules.specs.Sorted.{AreThose}
 use Rattle.doc_view.specs.TreeValues.{tree_values}
 

@@ -88,8 +88,8 @@ pub struct EmptyPut {
     pub list: bool,
 }
 
-/// Whether some id has the role of one that put an empty map, or an empty list. It looks at each role, as no order tells
-/// which those are.
+/// Whether some id has the role of one that put an empty map, or an empty list. It looks at each role, as no order
+/// tells which those are.
 pub fn empty_put(roles: Entries<'_, Role>) -> EmptyPut
     ensures map { result.map ≡ list_any (λ e. showing.is_map e.1) roles.entry }
     ensures list { result.list ≡ list_any (λ e. showing.is_list_role e.1) roles.entry }

@@ -37,7 +37,8 @@ pub fn val_to_json(alloc: Global, val: &Val) -> Result<Value, Refusal>
 /// The law that each value has one JSON of its own. No two values have the same one, a value is read from its own, and
 /// nothing else is read as that value.
 pub fn one_json_each()
-    ensures one { (v other : Val) → IsTrue (is_val v) → IsTrue (is_val other) → val_data v ≡ val_data other → v ≡ other }
+    ensures one { (v other : Val) → IsTrue (is_val v) → IsTrue (is_val other)
+        → val_data v ≡ val_data other → v ≡ other }
     ensures back { (v : Val) → IsTrue (is_val v) → val_of (val_data v) ≡ Ok v }
     ensures only { (d : Data) (v : Val) → val_of d ≡ Ok v → val_data v ≡ d }
 {}
