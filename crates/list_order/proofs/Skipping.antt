@@ -1,5 +1,5 @@
 -- Blocks that an insertion passes at once.
-use Rattle.std.proofs.Common.{◌≡◌, ◌<◌, ◌≤◌, ◌+◌, ℕ, suc, List, [], ◌∷◌, ◌++◌, append_assoc, length, Bool, true, false, eqb, eqb-true, inl, inr, Option, Some, None, refl, sym, ap, ◌∙◌, subst, arith}
+use Rattle.std.proofs.Common.{◌≡◌, ◌<◌, ◌≤◌, ℕ, suc, List, [], ◌∷◌, ◌++◌, append_assoc, length, Bool, true, false, eqb, eqb-true, inl, inr, Option, Some, None, refl, sym, ap, ◌∙◌, subst, arith}
 use Rattle.std.proofs.lemmas.Bool.{lt-leb, le-ltb}
 use Rattle.std.specs.Ordering.{is_lt}
 use Rattle.doc_words.specs.Words.{Id, id_cmp}
@@ -99,7 +99,7 @@ module _ (slots : List Slot) (marks : List Mark) (blocks : List MarkBlock) (firs
       along-both {P = λ x. (x.0 < length slots) × (b ≤ (mark_at marks x).block)} {Q = λ x. (mark_at marks x).block < suc b} {R = λ x. is_lt (id_cmp (slot_at slots x).id id) ≡ false}
       (λ x h l. greater_in b to.above x h.0 h.1 l) xs
       (along-both {P = λ x. x.0 < length slots} {Q = λ x. b ≤ (mark_at marks x).block} {R = λ x. (x.0 < length slots) × (b ≤ (mark_at marks x).block)} (λ x h l. (h, l)) xs inside from)
-       (within_front marks (suc b) (n ∷ rest)) in
+      (within_front marks (suc b) (n ∷ rest)) in
       let skipped : from_block (suc b) marks (n ∷ rest) ≡ from_block (suc b) marks rest = from_front marks (suc b) (n ∷ []) rest (omega arith, tt) in
       record {
         walk = goes_on;
