@@ -1,7 +1,7 @@
-use Rattle.std.proofs.Common.{rules, false, true, ◌≡◌, ◌<◌, ◌∙◌, sym, ap, subst, refl, length, Some}
+use Rattle.std.proofs.Common.{rules, false, true, ◌≡◌, ◌∙◌, sym, ap, subst}
 use Rattle.std.specs.Ordering.{is_lt}
 use Rattle.lamport_id.specs.Order.{id_cmp}
-use Rattle.list_order.specs.Slots.{slot_at, LinksEnd, slots_from, passed}
+use Rattle.list_order.specs.Slots.{LinksEnd, slots_from, passed}
 use Rattle.list_order.specs.Marks.{LeadsTo}
 use Rattle.list_order.proofs.Paths.{walk-None}
 use Rattle.list_order.proofs.Scanning.{step, passed_stop}
