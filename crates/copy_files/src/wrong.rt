@@ -167,6 +167,7 @@ fn wrong_part(
     if !is_doc_name(name) {
         return Ok(Some(Part::Doc));
     }
+    keep_one(docs, name);
     if !is_next(docs.as_slice(), name, row) {
         return Ok(Some(Part::Place));
     }
@@ -174,6 +175,17 @@ fn wrong_part(
         Ok(entry) => wrong_order(docs, alloc, name, &entry),
         Err(Fault::Refused) => Ok(Some(Part::Text)),
         Err(fault) => Err(fault),
+    }
+}
+
+// Lets other documents go: rows come by document, so none of them gets a further row, and a search has one to look at.
+fn keep_one(docs: &mut Vec<KeptDoc>, name: &str) {
+    let is_other = match docs.last() {
+        Some(last) => last.name() != name,
+        None => false,
+    };
+    if is_other {
+        docs.clear();
     }
 }
 
