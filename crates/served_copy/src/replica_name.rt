@@ -7,7 +7,7 @@ ghost use Rattle.sqlite.specs.State.{HasCleanDisk};
 ghost use Rattle.lamport_id.specs.Name.{is_name};
 ghost use Rattle.copy_schema.specs.Content.{Holds};
 ghost use Rattle.copy_docs.specs.Docs.{log_of};
-ghost use Rattle.copy_rows.specs.declared.parse.TheConstants.{LAST_EPOCH};
+ghost use Rattle.copy_rows.specs.Limits.{last_epoch};
 ghost use Rattle.log_copy.specs.Kept.{content};
 ghost use Rattle.served_copy.specs.Named.{IsRaised, is_by, is_known, replica_name};
 
@@ -84,7 +84,7 @@ pub fn next_replica_name<S: Alter>(
     ensures raised { IfOk result (λ replica.
         IsRaised name.now (map (λ s. s.now) documents.now) replica copy.old copy.new) }
     ensures refused { result ≡ Err Fault.Refused
-        → (LAST_EPOCH ≤ copy.new.epoch) ⊎ (is_name (replica_name name.now copy.new.epoch) ≡ false) }
+        → (last_epoch ≤ copy.new.epoch) ⊎ (is_name (replica_name name.now copy.new.epoch) ≡ false) }
     ensures failed { (result ≡ Err Fault.Store) ↔ (copy.new.has_failed ≡ true) }
     ensures works { OnOk result (copy.new.has_failed ≡ false) }
     ensures kept { (result ≡ Err Fault.Store) ⊎ ((copy.new.docs ≡ copy.old.docs) × (copy.old.epoch ≤ copy.new.epoch)) }

@@ -1,5 +1,5 @@
 use Rattle.std.proofs.Common.{◌≡◌, ◌≤◌, ◌-◌}
-use Rattle.copy_rows.specs.declared.parse.TheConstants.{LAST_EPOCH}
+use Rattle.copy_rows.specs.Limits.{last_epoch}
 use Rattle.served_copy.proofs.replica_name.next_replica_name.Given as goal
 
 abbrev pub invariant-loop-epoch : goal.invariant-loop-epoch
@@ -11,4 +11,4 @@ invariant-loop-epoch g l = record {
 }
 
 abbrev pub decreases-loop-epoch : goal.decreases-loop-epoch
-decreases-loop-epoch g l = LAST_EPOCH - l.copy.epoch
+decreases-loop-epoch g l = last_epoch - l.copy.epoch
