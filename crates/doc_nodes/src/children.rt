@@ -60,8 +60,8 @@ impl Drop for Block {
 
 /// The nodes below a node, in the order of their keys: in blocks, so that a new one moves few of the others. A search
 /// first looks at the child that was added or found last, which an operation asks for next. A block is gone once it is
-/// known that none of its children is present, until one may be again. Clauses see the list of all keys and numbers, and
-/// the blocks, with nothing in place of those that are gone.
+/// known that none of its children is present, until one may be again. Clauses see the list of all keys and numbers,
+/// and the blocks, with nothing in place of those that are gone.
 pub struct Children {
     blocks: Vec<Block>,
     // Whether a block is gone. It may be shorter than the blocks, and those past its end aren't gone.

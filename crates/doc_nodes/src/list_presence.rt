@@ -1,5 +1,5 @@
-//! Each list stores with each of its elements whether the element is present, and each node which blocks of its children
-//! are gone.
+//! Each list stores with each of its elements whether the element is present, and each node which blocks of its
+//! children are gone.
 ghost use Rattle.std.specs.Prelude.{◌≡◌, ◌<◌, length, Some, Contains, false};
 ghost use Rattle.op_core.specs.declared.cursor.Key.{Key};
 ghost use Rattle.lamport_id.specs.declared.id.Id.{Id};
@@ -97,7 +97,7 @@ fn has_present_child(nodes: &[Node], at: NodeNumber, block: usize) -> bool
     is_any_present(nodes, nodes[at.0].children.block(block))
 }
 
-// Whether one of these children is present. It looks from the last one on: who deletes one after another finds one soon.
+// Whether one of these children is present. It looks from the last one on, so that deletes in order find one soon.
 fn is_any_present(nodes: &[Node], children: &[(Key, NodeNumber)]) -> bool
     requires { (e : Key × NodeNumber) → Contains children.now e → e.1.0 < length nodes.now }
     ensures { result ≡ false → (e : Key × NodeNumber) → Contains children.now e
