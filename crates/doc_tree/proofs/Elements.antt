@@ -56,7 +56,7 @@ element_child nodes p n i e =
 -- the list of a node shows which of its elements are present
 pub present_by_number : (nodes : List Node) → ListsShowPresence nodes → (n : NodeNumber)
     → present_of (node_of nodes n).order.0 ≡ filter (λ i. is_node_present nodes (child_of nodes n (Element i))) (ids_of (node_of nodes n).order.0)
-present_by_number nodes right n = present_of-holding (λ i. is_node_present nodes (child_of nodes n (Element i))) (node_of nodes n).order.0 (λ i is c. right n i is c)
+present_by_number nodes right n = present_of-holding (λ i. is_node_present nodes (child_of nodes n (Element i))) (node_of nodes n).order.0 (λ i is c. right.0 n i is c)
 
 -- and the list at a path does
 pub present_listed : (nodes : List Node) → ListsShowPresence nodes → (p : List Tagged) (n : NodeNumber) → list_node_at nodes p ≡ Some n
