@@ -155,7 +155,7 @@ fn batches_out_of_memory(rt: HostRuntime) -> Result<(), Fail> {
     Ok(())
 }
 
-// A copy of format 1 with the file of a server's first run: its one operation, and the epoch 1.
+// An old copy with one entry and the epoch 1, in one transaction.
 const RAISE: [(Step<'static>, StepAnswer); 2] = [
     (
         Step::Run(
@@ -163,7 +163,7 @@ const RAISE: [(Step<'static>, StepAnswer); 2] = [
             CREATE TABLE meta (name TEXT NOT NULL PRIMARY KEY, value INTEGER NOT NULL) STRICT;
             CREATE TABLE entry (doc TEXT NOT NULL, place INTEGER NOT NULL, text TEXT NOT NULL, PRIMARY KEY (doc, place)) STRICT;
             INSERT INTO meta (name, value) VALUES ('format', 1), ('epoch', 1);
-            INSERT INTO entry (doc, place, text) VALUES ('d', 1, '["op",[1,"srv-1"],[],[[],0],["assign",{}]]');
+            INSERT INTO entry (doc, place, text) VALUES ('d', 1, '["op",[1,"o"],[],[[],0],["assign",{}]]');
             COMMIT"#,
         ),
         StepAnswer::Done,
@@ -174,16 +174,14 @@ const RAISE: [(Step<'static>, StepAnswer); 2] = [
 const ROWS: &str = "SELECT count(*) FROM entry";
 
 const SAME_ROWS: &str =
-    r#"SELECT count(*) FROM entry WHERE doc = 'd' AND place = 1 AND text = '["op",[1,"srv-1"],[],[[],0],["assign",{}]]'"#;
-
-const NEXT: &str = r#"["op",[2,"srv-2"],[["srv-1",1]],[[["m",0]],"k"],["assign",1]]"#;
+    r#"SELECT count(*) FROM entry WHERE doc = 'd' AND place = 1 AND text = '["op",[1,"o"],[],[[],0],["assign",{}]]'"#;
 
 const FORMATS: &str = "SELECT count(*) FROM meta WHERE name = 'format' AND value IN (1, 2)";
 
 const FORMAT: &str = "SELECT value FROM meta WHERE name = 'format'";
 
 // The rows stay byte for byte, in the old format or the new one, and in the new one where the copy
-// was opened. Then the server starts as the second of its name.
+// was opened.
 const AFTER_RAISE: [&[(Step<'static>, StepAnswer)]; 3] = [
     &[],
     &[
@@ -191,10 +189,8 @@ const AFTER_RAISE: [&[(Step<'static>, StepAnswer)]; 3] = [
         (Step::Ask(ROWS), StepAnswer::Number(1)),
         (Step::Ask(SAME_ROWS), StepAnswer::Number(1)),
         (Step::Open, StepAnswer::Done),
-        (Step::Epoch, StepAnswer::Number(1)),
         (Step::Restore("d", 1, 1), StepAnswer::Done),
-        (Step::Up, StepAnswer::Number(2)),
-        (Step::Edit("d", NEXT), StepAnswer::Done),
+        (Step::UpFrom(1), StepAnswer::Done),
         (Step::Ask(FORMAT), StepAnswer::Number(2)),
         (Step::Ask(SAME_ROWS), StepAnswer::Number(1)),
     ],
@@ -203,10 +199,8 @@ const AFTER_RAISE: [&[(Step<'static>, StepAnswer)]; 3] = [
         (Step::Ask(ROWS), StepAnswer::Number(1)),
         (Step::Ask(SAME_ROWS), StepAnswer::Number(1)),
         (Step::Open, StepAnswer::Done),
-        (Step::Epoch, StepAnswer::Number(1)),
         (Step::Restore("d", 1, 1), StepAnswer::Done),
-        (Step::Up, StepAnswer::Number(2)),
-        (Step::Edit("d", NEXT), StepAnswer::Done),
+        (Step::UpFrom(1), StepAnswer::Done),
     ],
 ];
 
@@ -326,13 +320,20 @@ struct StopCase<'a> {
     least: (u64, u64),
 }
 
-static STOPS: [StopCase<'static>; 2] = [
+static STOPS: [StopCase<'static>; 3] = [
     StopCase {
         name: "batches",
         steps: &BATCHES,
         after: &AFTER_BATCHES,
         is_alone: false,
         least: (20, 2),
+    },
+    StopCase {
+        name: "while_raised",
+        steps: &RAISE,
+        after: &AFTER_RAISE,
+        is_alone: false,
+        least: (5, 1),
     },
     StopCase {
         name: "beside_a_table",
@@ -342,15 +343,6 @@ static STOPS: [StopCase<'static>; 2] = [
         least: (20, 2),
     },
 ];
-
-// The file of a first run, whose format is raised.
-static RAISES: [StopCase<'static>; 1] = [StopCase {
-    name: "while_raised",
-    steps: &RAISE,
-    after: &AFTER_RAISE,
-    is_alone: false,
-    least: (5, 1),
-}];
 
 // Those whose log is copied into the database file.
 static FOLD_STOPS: [StopCase<'static>; 2] = [
@@ -386,15 +378,6 @@ fn stopped<R: Abort>(rt: &R, alloc: Global, log: &[Operation], case: &StopCase<'
 fn stops(rt: HostRuntime) -> Result<(), Fail> {
     let log = samples::operations(rt.alloc(), &samples::CONCURRENT_LIST_EDITS)?;
     for case in &STOPS {
-        stopped(&rt, rt.alloc(), log.as_slice(), case);
-    }
-    Ok(())
-}
-
-#[test]
-fn raises(rt: HostRuntime) -> Result<(), Fail> {
-    let log = samples::operations(rt.alloc(), &samples::FIRST_RUN)?;
-    for case in &RAISES {
         stopped(&rt, rt.alloc(), log.as_slice(), case);
     }
     Ok(())
