@@ -155,15 +155,15 @@ fn batches_out_of_memory(rt: HostRuntime) -> Result<(), Fail> {
     Ok(())
 }
 
-// An old copy with one entry and the epoch 1, in one transaction.
-const RAISE: [(Step<'static>, StepAnswer); 2] = [
+// The copy of `restart_from_copy` before its second start, in the old format: one entry and the epoch 1.
+const MIGRATE: [(Step<'static>, StepAnswer); 2] = [
     (
         Step::Run(
             r#"BEGIN;
             CREATE TABLE meta (name TEXT NOT NULL PRIMARY KEY, value INTEGER NOT NULL) STRICT;
             CREATE TABLE entry (doc TEXT NOT NULL, place INTEGER NOT NULL, text TEXT NOT NULL, PRIMARY KEY (doc, place)) STRICT;
             INSERT INTO meta (name, value) VALUES ('format', 1), ('epoch', 1);
-            INSERT INTO entry (doc, place, text) VALUES ('d', 1, '["op",[1,"o"],[],[[],0],["assign",{}]]');
+            INSERT INTO entry (doc, place, text) VALUES ('d', 1, '["op",[1,"srv-1"],[],[[],0],["assign",{}]]');
             COMMIT"#,
         ),
         StepAnswer::Done,
@@ -174,7 +174,7 @@ const RAISE: [(Step<'static>, StepAnswer); 2] = [
 const ROWS: &str = "SELECT count(*) FROM entry";
 
 const SAME_ROWS: &str =
-    r#"SELECT count(*) FROM entry WHERE doc = 'd' AND place = 1 AND text = '["op",[1,"o"],[],[[],0],["assign",{}]]'"#;
+    r#"SELECT count(*) FROM entry WHERE doc = 'd' AND place = 1 AND text = '["op",[1,"srv-1"],[],[[],0],["assign",{}]]'"#;
 
 const FORMATS: &str = "SELECT count(*) FROM meta WHERE name = 'format' AND value IN (1, 2)";
 
@@ -182,7 +182,7 @@ const FORMAT: &str = "SELECT value FROM meta WHERE name = 'format'";
 
 // The rows stay byte for byte, in the old format or the new one, and in the new one where the copy
 // was opened.
-const AFTER_RAISE: [&[(Step<'static>, StepAnswer)]; 3] = [
+const AFTER_MIGRATED: [&[(Step<'static>, StepAnswer)]; 3] = [
     &[],
     &[
         (Step::Ask(FORMATS), StepAnswer::Number(1)),
@@ -320,20 +320,13 @@ struct StopCase<'a> {
     least: (u64, u64),
 }
 
-static STOPS: [StopCase<'static>; 3] = [
+static STOPS: [StopCase<'static>; 2] = [
     StopCase {
         name: "batches",
         steps: &BATCHES,
         after: &AFTER_BATCHES,
         is_alone: false,
         least: (20, 2),
-    },
-    StopCase {
-        name: "while_raised",
-        steps: &RAISE,
-        after: &AFTER_RAISE,
-        is_alone: false,
-        least: (5, 1),
     },
     StopCase {
         name: "beside_a_table",
@@ -343,6 +336,15 @@ static STOPS: [StopCase<'static>; 3] = [
         least: (20, 2),
     },
 ];
+
+// The format is migrated where the copy is opened.
+static MIGRATION: StopCase<'static> = StopCase {
+    name: "while_migrated",
+    steps: &MIGRATE,
+    after: &AFTER_MIGRATION,
+    is_alone: false,
+    least: (5, 1),
+};
 
 // Those whose log is copied into the database file.
 static FOLD_STOPS: [StopCase<'static>; 2] = [
@@ -380,6 +382,13 @@ fn stops(rt: HostRuntime) -> Result<(), Fail> {
     for case in &STOPS {
         stopped(&rt, rt.alloc(), log.as_slice(), case);
     }
+    Ok(())
+}
+
+#[test]
+fn migration(rt: HostRuntime) -> Result<(), Fail> {
+    let log = samples::operations(rt.alloc(), &samples::FIRST_RUN)?;
+    stopped(&rt, rt.alloc(), log.as_slice(), &MIGRATION);
     Ok(())
 }
 
