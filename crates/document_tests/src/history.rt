@@ -223,7 +223,7 @@ fn next_operation(
 ) -> Result<Operation, Refusal> {
     let id = next_id(name, &front)?;
     let (cursor, mutation) = step(alloc, rule, &front, ops)?;
-    Operation::shaped(id, front, cursor, mutation)
+    Operation::shaped(alloc, id, front, cursor, mutation)
 }
 
 // One of the replicas makes the next operation, and sometimes another takes in all that it has.

@@ -134,8 +134,8 @@ pub fn beside_last(alloc: Global, pairs: &[Entry], entries: &[Operation]) -> Res
     }
 }
 
-/// The same operation. It shares the names of its front with the operation at a place, the one of its
-/// replica before it, or with the last one, where they have the same.
+/// The same operation. Where it has no clones, it shares the names of its front with the operation at a
+/// place, the one of its replica before it, or with the last one, where they have the same.
 pub fn sharing(op: Operation, entries: &[Operation], at: usize) -> Operation
     ensures { result ≡ op }
 {

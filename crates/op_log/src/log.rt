@@ -128,9 +128,9 @@ impl OpLog {
         Ok(())
     }
 
-    /// Adds an operation that fits, in room that was reserved. Allocates nothing. Where the names of
-    /// its front are those of its replica's operation before it or of the last one, it shares them and
-    /// frees its own.
+    /// Adds an operation that fits, in room that was reserved. Allocates nothing. Where it has no
+    /// clones, and the names of its front are those of its replica's operation before it or of the last
+    /// one, it shares them and frees its own.
     pub fn append(&mut self, op: Operation)
         requires fits { Fits op self.old.operations }
         requires room { 1 ≤ self.old.room }
@@ -144,6 +144,19 @@ impl OpLog {
         self.links.push(link).unwrap();
         let op = front::sharing(op, &self.entries, link.before as usize);
         self.entries.push(op).unwrap();
+    }
+
+    /// The same operation. Where it has no clones, it shares the names of its front with its replica's
+    /// last operation or with the last of all, where they have the same, as `append` does. So call this
+    /// before a clone is appended. Allocates nothing.
+    pub fn sharing(&self, op: Operation) -> Operation
+        ensures { result ≡ op }
+    {
+        let before = match front::last_of(&self.lasts, op.id().replica) {
+            Some(place) => place as usize,
+            None => self.entries.len(),
+        };
+        front::sharing(op, &self.entries, before)
     }
 
     /// The front of the log (a version vector): each replica with the counter of its last operation.

@@ -26,10 +26,12 @@ use json_scalar::Refusal;
 use lamport_id::{Id, ReplicaName};
 use op_core::{Cursor, Front, Key, Mutation, Operation};
 use op_log::{OpLog, keeps_good};
+use std::alloc::Global;
 
 /// Makes a change where the steps of its place led. The error is why they led nowhere, or the first
 /// cause against the change.
 pub fn change(
+    alloc: Global,
     name: ReplicaName,
     tree: &mut Tree,
     log: &mut OpLog,
@@ -50,7 +52,7 @@ pub fn change(
 {
     match resolved {
         Ok(cursor) => match own_cause(&name, log, &cursor, &mutation) {
-            Ok(()) => log_own(name, tree, log, held, cursor, mutation),
+            Ok(()) => log_own(alloc, name, tree, log, held, cursor, mutation),
             Err(cause) => Err(cause),
         },
         Err(cause) => Err(cause),
@@ -59,6 +61,7 @@ pub fn change(
 
 // Logs one's own operation, against which there is no cause.
 fn log_own(
+    alloc: Global,
     name: ReplicaName,
     tree: &mut Tree,
     log: &mut OpLog,
@@ -81,7 +84,7 @@ fn log_own(
 {
     keeps_limits(&mutation);
     keeps_good(log);
-    match own_operation(name, log, cursor, mutation) {
+    match own_operation(alloc, name, log, cursor, mutation) {
         Ok(op) => log_and_drain(tree, log, held, op),
         Err(_) => Err(Refusal::NoMemory),
     }
@@ -130,8 +133,9 @@ fn no_head(key: &Key) -> Result<(), Refusal>
     Ok(())
 }
 
-// One's own next operation, which fits. The only error is out of memory, for the front.
+// One's own next operation, which fits. The only error is out of memory.
 fn own_operation(
+    alloc: Global,
     name: ReplicaName,
     log: &OpLog,
     cursor: Cursor,
@@ -143,7 +147,7 @@ fn own_operation(
     keeps_good(log);
     let front = log.front()?;
     let id = next_id(&front, &name);
-    Ok(Operation::new(id, front, cursor, mutation))
+    Operation::new(alloc, id, front, cursor, mutation)
 }
 
 // One's own next id: greater than all that a front covers, of whatever replica.

@@ -130,6 +130,7 @@ impl Replica {
         let Place { start, steps } = place;
         let resolved = resolve(&self.tree, start, steps.as_slice());
         change(
+            self.alloc,
             self.name,
             &mut self.tree,
             &mut self.log,

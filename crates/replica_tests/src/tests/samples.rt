@@ -203,6 +203,7 @@ fn later(alloc: Global, counter: u64) -> Result<Operation, Refusal> {
         key: Key::Doc,
     };
     Operation::shaped(
+        alloc,
         Id { counter, replica },
         Front::from_pairs(alloc, &entries)?,
         cursor,

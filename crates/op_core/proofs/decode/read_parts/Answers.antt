@@ -32,4 +32,4 @@ returns c =
     let short : is_long (path_len (view parts.cursor.now)) ≡ false = sym c.is_long.ensures ∙ c.if-is_long.false in
     let stamp = due_Ok (stamp_from (view parts.id.now) (view parts.front.now)) c.read_stamp.result (c.in_ok-id.id, c.in_ok-id.front) c.read_stamp.ensures c.in_ok-id.was in
     let change = due_Ok (change_from (view parts.cursor.now) (view parts.mutation.now)) c.read_change.result (c.in_ok-cursor.cursor, c.in_ok-cursor.mutation) c.read_change.ensures c.in_ok-cursor.was in
-    λ _. rw (c.shaped.ensures, short, stamp, change) refl
+    λ other. rw (c.shaped.ensures other, short, stamp, change) refl

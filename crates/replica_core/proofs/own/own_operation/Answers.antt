@@ -41,5 +41,5 @@ pub returns : goal.returns
 returns c other =
     let front : c.in_ok-front.front ≡ front_of c.args.log.now.operations = answered c.in_ok-front.ensures in
     let counter = c.next_id-id.ensures.0 ∙ ap (λ f. max_counter f + 1) front in
-    ap Ok (c.new.ensures.parts
-    ∙ (λ i. record { id = record { counter = counter i; replica = c.next_id-id.ensures.1 i }; front = front i; cursor = c.args.cursor; mutation = c.args.mutation }))
+    c.new.ensures.parts other ∙ ap Ok
+    (λ i. record { id = record { counter = counter i; replica = c.next_id-id.ensures.1 i }; front = front i; cursor = c.args.cursor; mutation = c.args.mutation })
