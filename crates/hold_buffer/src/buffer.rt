@@ -180,8 +180,11 @@ impl HoldBuffer {
         ensures current { (log : List Op) (op : Op) → op.id ≡ id
             → IsCurrent self.old log → IsCurrent self.new (log ++ op ∷ []) }
     {
-        let keys = self.waiters.of(&id);
-        release(&self.slots, &mut self.order, &mut self.ready, keys, &id);
+        // Mostly none is held: then the id isn't even hashed.
+        if !self.order.is_empty() {
+            let keys = self.waiters.of(&id);
+            release(&self.slots, &mut self.order, &mut self.ready, keys, &id);
+        }
     }
 
     /// The least id of the ready operations.
