@@ -36,6 +36,23 @@ pub fn search(order: &[Entry], id: &Id) -> Result<usize, usize>
     ensures { MatchResult result (IsPlace id_cmp (λ t. t.id) order.now id.now)
         (IsGap id_cmp (λ t. t.id) order.now id.now) }
 {
+    // Most ids are the least: one that arrives backwards, and one that the last logged one releases.
+    match order.first() {
+        None => Err(0),
+        Some(least) => match id.cmp(&least.id) {
+            Ordering::Less => Err(0),
+            Ordering::Equal => Ok(0),
+            Ordering::Greater => bisect(order, id),
+        },
+    }
+}
+
+// The same, by bisection.
+fn bisect(order: &[Entry], id: &Id) -> Result<usize, usize>
+    requires { IsRising id_cmp (λ t. t.id) order.now }
+    ensures { MatchResult result (IsPlace id_cmp (λ t. t.id) order.now id.now)
+        (IsGap id_cmp (λ t. t.id) order.now id.now) }
+{
     // Not by key: that would copy the id of each entry that is looked at.
     order.binary_search_by(
         |entry: &Entry| -> Ordering
