@@ -1,21 +1,25 @@
 -- The ready ids are those of the entries that wait for nothing.
-use Rattle.std.proofs.Common.{◌≡◌, ◌↔◌, ◌⊎◌, ◌<◌, ◌≤◌, ◌++◌, ◌∷◌, inl, inr, ℕ, List, [], map, filter, find, not, length, Bool, true, false, cond, Some, Contains, refl, sym, ap, subst, ◌∙◌, arith, true≢false, Less, length-append}
+use Rattle.std.proofs.Common.{◌≡◌, ◌↔◌, ◌⊎◌, ◌<◌, ◌≤◌, ◌++◌, ◌∷◌, inl, inr, ℕ, List, [], map, filter, find, not, length, Bool, true, false, cond, Some, Contains, refl, sym, ap, subst, ◌∙◌, arith, true≢false, Less, length-append, take, drop, suc}
 use Rattle.std.specs.Prelude.{insert, slice_get}
 use Rattle.std.specs.Option.{option_map}
 use Rattle.std.specs.Global.{Vec}
 use Rattle.std.specs.Vec.{vec_capacity}
 use Rattle.std.proofs.lemmas.List.{length-map}
 use Rattle.std.proofs.lemmas.List.Edits.{length-insert}
-use Rattle.std.proofs.lemmas.List.Elements.{Contains-append_left, Contains-append_right, Contains-append_cases}
+use Rattle.std.proofs.lemmas.List.Elements.{filter-append, Contains-append_left, Contains-append_right, Contains-append_cases}
 use Rattle.doc_words.specs.Words.{id_cmp, Id}
 use Rattle.crdt_rules.specs.Same.{id_eq}
 use Rattle.crdt_rules.proofs.WalkLaws.{id_order}
+use Rattle.crdt_rules.proofs.SameLaws.{id_decides}
 use Rattle.doc_rules.specs.Sorted.{IsRising}
-use Rattle.list_laws.proofs.Members.{Contains-here, Contains-there, Contains-cases, Contains-map, map-from, Contains-insert_new, Contains-insert_old, Contains-insert_cases}
+use Rattle.list_laws.proofs.Members.{split_at, Contains-here, Contains-there, Contains-cases, Contains-map, map-from, Contains-insert_new, Contains-insert_old, Contains-insert_cases}
 use Rattle.list_laws.proofs.Filters.{filter-Contains, Contains-filter, filter-failed, length-filter}
-use Rattle.sorted_lists.proofs.Rising.{rising-filter, rising_same}
+use Rattle.sorted_lists.specs.Sorted.{IsPlace, IsGap}
+use Rattle.sorted_lists.proofs.Keys.{less≢equal}
+use Rattle.sorted_lists.proofs.Rising.{rising-filter, rising_same, gap_none, IsRising-split}
 use Rattle.hold_buffer.specs.Order.{is_free, ListsFree}
 use Rattle.hold_buffer.specs.declared.entry.Entry.{Entry}
+use Rattle.hold_buffer.proofs.Waiting.{others_kept}
 
 -- ---- what they are
 
@@ -124,6 +128,29 @@ ready-held {ready} {new} {order} at t is within rising members room = record {
       ];
   room = omega (arith, length-insert order at t within, room);
 }
+
+-- what is left when the id at a place goes
+pub without_place : (ids : List Id) (id : Id) (at : ℕ) → IsRising id_cmp (λ i. i) ids → IsPlace id_cmp (λ i. i) ids id at
+    → take at ids ++ drop (suc at) ids ≡ filter (λ i. not (id_eq i id)) ids
+without_place ids id at rising place =
+    let test : Id → Bool = λ i. not (id_eq i id) in
+    let us = take at ids in
+    let vs = drop (suc at) ids in
+    let whole = split_at ids at id place.within (sym (place.has_key id)) in
+    let parts = IsRising-split id_order (λ (i : Id). i) us vs id (subst (IsRising id_cmp (λ (i : Id). i)) (sym whole) rising) in
+    sym (others_kept (λ (i : Id). i) id (us ++ vs)
+    (λ i c.
+    elim (Contains-append_cases us vs i c) [
+      | inl left ↦ less≢equal id_order i id (parts.0 i left)
+      | inr right ↦ (λ same. less≢equal id_order id i (parts.1 i right) (sym same))
+    ]))
+    ∙ filter-append test us vs
+    ∙ sym (filter-failed test us id vs (ap not (id_decides.itself id)))
+    ∙ ap (filter test) whole
+
+-- an id that is not there takes nothing away
+pub without_gap : (ids : List Id) (id : Id) (at : ℕ) → IsGap id_cmp (λ i. i) ids id at → ids ≡ filter (λ i. not (id_eq i id)) ids
+without_gap ids id at gap = sym (others_kept (λ (i : Id). i) id ids (gap_none id_order (λ (i : Id). i) ids id at gap))
 
 -- one is dropped
 pub ready-removed : {ready new : Vec Id} {order : List Entry} (id : Id) → ListsFree order ready → new.items ≡ filter (λ i. not (id_eq i id)) ready.items

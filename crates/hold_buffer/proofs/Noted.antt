@@ -67,6 +67,3 @@ pub noted-forgotten : (order : List Entry) (old new : Waiters) (id : Id) (t : En
 noted-forgotten order old new id t apart noted among name kept u c i lacked =
     let s = kept_other (λ (v : Entry). v.id) id order c in
     kept i u.key (λ same. s.1 (apart u t s.0 among same ∙ name)) (noted u s.0 i lacked)
-
-pub noted-others : (order : List Entry) (waiters : Waiters) (id : Id) → AreNoted order waiters → AreNoted (filter (λ u. not (id_eq u.id id)) order) waiters
-noted-others order waiters id noted u c = noted u (filter-Contains (λ (v : Entry). not (id_eq v.id id)) order c).0

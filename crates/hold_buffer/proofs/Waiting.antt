@@ -271,9 +271,6 @@ none_removed {slots} {order} is id i gap =
     let u = operations-from slots order is.right c in
     gap_none id_order (λ t. t.id) order id i gap u.0 u.1 (sym (entry_id slots order is.right u.0 o u.1 u.2) ∙ same)))
 
-pub no_entry_removed : (order : List Entry) (id : Id) (i : ℕ) → IsGap id_cmp (λ u. u.id) order id i → order ≡ filter (λ u. not (id_eq u.id id)) order
-no_entry_removed order id i gap = sym (others_kept (λ (u : Entry). u.id) id order (λ u c. gap_none id_order (λ t. t.id) order id i gap u c))
-
 -- ---- the cause against holding an operation
 
 pub hold_cause-taken : (id : Id) (held : List Op) → is_logged held id ≡ true → hold_cause id held ≡ Err IdConflict

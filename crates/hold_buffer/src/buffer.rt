@@ -12,7 +12,7 @@ ghost use Rattle.hold_buffer.specs.Held.{IsCurrent, hold_cause};
 ghost use Rattle.doc_rules.specs.Replica.{put_among};
 
 use crate::entry::Entry;
-use crate::order::{admit, forget_waits, ids_of, search, store, take, waiting_of};
+use crate::order::{admit, forget_waits, ids_of, search, store, take_at, waiting_of};
 use crate::ready::{announce, drop_id, least};
 use crate::release::release;
 use crate::waiters::Waiters;
@@ -100,7 +100,7 @@ impl HoldBuffer {
         ensures found { option_copied result ≡ find_id self.now.held id }
         ensures rising { IsRising id_cmp (λ o. o.id) self.now.held }
     {
-        match search(&self.order, id) {
+        match search(&self.order, &id) {
             Ok(at) => self.slots.get(self.order[at].key),
             Err(_) => None,
         }
@@ -180,8 +180,11 @@ impl HoldBuffer {
         ensures current { (log : List Op) (op : Op) → op.id ≡ id
             → IsCurrent self.old log → IsCurrent self.new (log ++ op ∷ []) }
     {
-        let keys = self.waiters.of(&id);
-        release(&self.slots, &mut self.order, &mut self.ready, keys, &id);
+        // Mostly none is held: then the id isn't even hashed.
+        if !self.order.is_empty() {
+            let keys = self.waiters.of(&id);
+            release(&self.slots, &mut self.order, &mut self.ready, keys, &id);
+        }
     }
 
     /// The least id of the ready operations.
@@ -203,7 +206,7 @@ impl HoldBuffer {
             → UnlessMemory result (Ok (missing op log.now.operations)) }
     {
         let alloc = *self.order.allocator();
-        match search(&self.order, id) {
+        match search(&self.order, &id) {
             Ok(at) => self.order[at].missing.ids(alloc),
             Err(_) => unreachable!(),
         }
@@ -216,9 +219,14 @@ impl HoldBuffer {
         ensures held { self.new.held ≡ filter (λ o. not (id_eq o.id id)) self.old.held }
         ensures current { (log : List Op) → IsCurrent self.old log → IsCurrent self.new log }
     {
-        forget_waits(&self.order, &mut self.waiters, id);
-        drop_id(&mut self.ready, &id);
-        take(&mut self.slots, &mut self.order, id)
+        match search(&self.order, &id) {
+            Ok(at) => {
+                forget_waits(&self.order, &mut self.waiters, at);
+                drop_id(&mut self.ready, &id);
+                take_at(&mut self.slots, &mut self.order, at)
+            }
+            Err(_) => None,
+        }
     }
 }
 

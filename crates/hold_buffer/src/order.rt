@@ -25,16 +25,40 @@ use lamport_id::Id;
 use op_core::{Operation, keeps_shape};
 use slab::Slab;
 use std::alloc::{AllocError, Global};
+use std::cmp::Ordering;
 
 /// The most operations that are held.
 pub const MAX_HELD: usize = 256;
 
 /// The place of the id in the order, or where it would go.
-pub fn search(order: &[Entry], id: Id) -> Result<usize, usize>
+pub fn search(order: &[Entry], id: &Id) -> Result<usize, usize>
     requires { IsRising id_cmp (λ t. t.id) order.now }
-    ensures { MatchResult result (IsPlace id_cmp (λ t. t.id) order.now id) (IsGap id_cmp (λ t. t.id) order.now id) }
+    ensures { MatchResult result (IsPlace id_cmp (λ t. t.id) order.now id.now)
+        (IsGap id_cmp (λ t. t.id) order.now id.now) }
 {
-    order.binary_search_by_key(&id, |entry| entry.id)
+    // Most ids are the least: one that arrives backwards, and one that the last logged one releases.
+    match order.first() {
+        None => Err(0),
+        Some(least) => match id.cmp(&least.id) {
+            Ordering::Less => Err(0),
+            Ordering::Equal => Ok(0),
+            Ordering::Greater => bisect(order, id),
+        },
+    }
+}
+
+// The same, by bisection.
+fn bisect(order: &[Entry], id: &Id) -> Result<usize, usize>
+    requires { IsRising id_cmp (λ t. t.id) order.now }
+    ensures { MatchResult result (IsPlace id_cmp (λ t. t.id) order.now id.now)
+        (IsGap id_cmp (λ t. t.id) order.now id.now) }
+{
+    // Not by key: that would copy the id of each entry that is looked at.
+    order.binary_search_by(
+        |entry: &Entry| -> Ordering
+            ensures { result ≡ id_cmp entry.now.id id.entry.now }
+        { entry.id.cmp(id) },
+    )
 }
 
 /// The ids of the entries.
@@ -62,7 +86,7 @@ pub fn prepare(
     ensures cause { MatchResult result (λ _. hold_cause id (operations_of slots.old order.old.items) ≡ Ok tt)
         (λ e. e ≢ Refusal.NoMemory → hold_cause id (operations_of slots.old order.old.items) ≡ Err e) }
 {
-    match search(order, id) {
+    match search(order, &id) {
         Ok(_) => Err(Refusal::IdConflict),
         Err(at) => {
             if order.len() >= MAX_HELD {
@@ -159,24 +183,23 @@ pub fn store(
     order.insert(at, entry).unwrap();
 }
 
-/// Takes the operation of this id out.
-pub fn take(slots: &mut Slab<Operation>, order: &mut Vec<Entry>, id: Id) -> Option<Operation>
-    requires { IsOrdered slots.old order.old.items }
+/// Takes the operation of the entry at a place out.
+pub fn take_at(slots: &mut Slab<Operation>, order: &mut Vec<Entry>, at: usize) -> Option<Operation>
+    requires ordered { IsOrdered slots.old order.old.items }
+    requires within { at < length order.old.items }
     ensures ordered { IsOrdered slots.new order.new.items }
-    ensures value { result ≡ find_id (operations_of slots.old order.old.items) id }
-    ensures len { OnSome result (length (operations_of slots.new order.new.items) + 1
-        ≡ length (operations_of slots.old order.old.items)) }
-    ensures operations { operations_of slots.new order.new.items
+    ensures value { (id : Id) → IsPlace id_cmp (λ t. t.id) order.old.items id at
+        → result ≡ find_id (operations_of slots.old order.old.items) id }
+    ensures len { length (operations_of slots.new order.new.items) + 1
+        ≡ length (operations_of slots.old order.old.items) }
+    ensures operations { (id : Id) → IsPlace id_cmp (λ t. t.id) order.old.items id at
+        → operations_of slots.new order.new.items
         ≡ filter (λ o. not (id_eq o.id id)) (operations_of slots.old order.old.items) }
-    ensures entries { order.new.items ≡ filter (λ t. not (id_eq t.id id)) order.old.items }
+    ensures entries { (id : Id) → IsPlace id_cmp (λ t. t.id) order.old.items id at
+        → order.new.items ≡ filter (λ t. not (id_eq t.id id)) order.old.items }
 {
-    match search(order, id) {
-        Ok(at) => {
-            let entry = order.remove(at);
-            slots.try_remove(entry.key)
-        }
-        Err(_) => None,
-    }
+    let entry = order.remove(at);
+    slots.try_remove(entry.key)
 }
 
 /// The ids of the entries, each with those that its operation waits for. The only error is
@@ -201,15 +224,14 @@ fn push_waiting(alloc: Global, waiting: &mut Vec<(Id, Ids)>, entry: &Entry) -> R
     Ok(())
 }
 
-/// Takes the keys of the entry of this id out of the index.
-pub fn forget_waits(order: &[Entry], waiters: &mut Waiters, id: Id)
-    requires rising { IsRising id_cmp (λ t. t.id) order.now }
+/// Takes the key of the entry at a place out of the index.
+pub fn forget_waits(order: &[Entry], waiters: &mut Waiters, at: usize)
+    requires within { at < length order.now }
     requires apart { (t u : Entry) → Contains order.now t → Contains order.now u → t.key ≡ u.key → t.id ≡ u.id }
     requires noted { AreNoted order.now waiters.old }
-    ensures { AreNoted (filter (λ t. not (id_eq t.id id)) order.now) waiters.new }
+    ensures { (id : Id) → IsPlace id_cmp (λ t. t.id) order.now id at
+        → AreNoted (filter (λ t. not (id_eq t.id id)) order.now) waiters.new }
 {
-    if let Ok(at) = search(order, id) {
-        let entry = &order[at];
-        waiters.forget_all(entry.missing.among(), entry.key);
-    }
+    let entry = &order[at];
+    waiters.forget_all(entry.missing.among(), entry.key);
 }

@@ -13,11 +13,11 @@ use crate::entry::Entry;
 use lamport_id::Id;
 
 /// The place of an id, or where it would go.
-fn search(ready: &[Id], id: Id) -> Result<usize, usize>
+fn search(ready: &[Id], id: &Id) -> Result<usize, usize>
     requires { IsRising id_cmp (λ i. i) ready.now }
-    ensures { MatchResult result (IsPlace id_cmp (λ i. i) ready.now id) (IsGap id_cmp (λ i. i) ready.now id) }
+    ensures { MatchResult result (IsPlace id_cmp (λ i. i) ready.now id.now) (IsGap id_cmp (λ i. i) ready.now id.now) }
 {
-    ready.binary_search_by_key(&id, |one| *one)
+    ready.binary_search(id)
 }
 
 /// Puts the id of one more operation among the others, for which there is room, if it waits for nothing.
@@ -42,21 +42,20 @@ pub fn put(ready: &mut Vec<Id>, id: &Id)
     ensures members { (i : Id) → Contains ready.new.items i ↔ ((i ≡ id.now) ⊎ Contains ready.old.items i) }
     ensures room { vec_capacity ready.old ≤ vec_capacity ready.new }
 {
-    if let Err(at) = search(ready, *id) {
+    if let Err(at) = search(ready, id) {
         ready.insert(at, *id).unwrap();
     }
 }
 
-/// Takes an id out.
+/// Takes an id out, if it is there.
 pub fn drop_id(ready: &mut Vec<Id>, id: &Id)
+    requires { IsRising id_cmp (λ i. i) ready.old.items }
     ensures items { ready.new.items ≡ filter (λ i. not (id_eq i id.now)) ready.old.items }
     ensures room { vec_capacity ready.new ≡ vec_capacity ready.old }
 {
-    ready.retain(
-        |one: &Id| -> bool
-            ensures { result ≡ not (id_eq one.now id.entry.now) }
-        { *one != *id },
-    );
+    if let Ok(at) = search(ready, id) {
+        ready.remove(at);
+    }
 }
 
 /// The least id.

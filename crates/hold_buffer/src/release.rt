@@ -48,7 +48,7 @@ fn release_one(
     ensures ready { ListsFree order.new.items ready.new }
 {
     if let Some(op) = slots.get(key) {
-        if let Ok(at) = search(order, op.id()) {
+        if let Ok(at) = search(order, &op.id()) {
             release_at(order, ready, at, id);
         }
     }

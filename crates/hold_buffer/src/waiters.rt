@@ -1,5 +1,5 @@
 //! Who may wait for which id.
-ghost use Rattle.std.specs.Prelude.{IsTrue, ◌≡◌, ◌≢◌, ◌<◌, ◌≤◌, ◌==◌, [], ℕ, Contains, OnOk, length, not, filter};
+ghost use Rattle.std.specs.Prelude.{IsTrue, ◌∷◌, ◌≡◌, ◌≢◌, ◌<◌, ◌≤◌, ◌==◌, [], ℕ, Contains, OnOk, length, not, filter};
 ghost use Rattle.std.specs.Prelude.{slice_index_or, slice_set};
 ghost use Rattle.doc_words.specs.Words.{Id};
 ghost use Rattle.std.specs.List.{fold};
@@ -62,6 +62,11 @@ impl Row {
     fn forget(&mut self, key: usize)
         ensures { self.new ≡ filter (λ k. not (k == key)) self.old }
     {
+        // Most rows have one key.
+        if is_only(&self.keys, key) {
+            self.keys.pop();
+            return;
+        }
         self.keys.retain(
             |noted: &usize| -> bool
                 ensures { result ≡ not (noted.now == key) }
@@ -135,6 +140,13 @@ fn ends_with(keys: &[usize], key: usize) -> bool
     ensures { IsTrue result → Contains keys.now key }
 {
     keys.len() > 0 && keys[keys.len() - 1] == key
+}
+
+// Whether there is one key, and it is this one.
+fn is_only(keys: &[usize], key: usize) -> bool
+    ensures { IsTrue result → keys.now ≡ key ∷ [] }
+{
+    keys.len() == 1 && keys[0] == key
 }
 
 // The row of an id. That of an id that was logged since is the same.

@@ -1,17 +1,13 @@
 use Rattle.std.proofs.Common.{◌≡◌, ◌∙◌, Contains, sym, ap, subst}
 use Rattle.std.proofs.lemmas.List.Elements.{Contains-get_or}
 use Rattle.hold_buffer.specs.declared.entry.Entry.{Entry}
-use Rattle.hold_buffer.proofs.Noted.{noted-forgotten, noted-others}
+use Rattle.hold_buffer.proofs.Noted.{noted-forgotten}
 use Rattle.hold_buffer.proofs.order.forget_waits.Goals as goal
 
-pub returns-in-Ok : goal.returns-in-Ok
-returns-in-Ok c =
+pub returns : goal.returns
+returns c id place =
     let order = c.args.order.now in
     let t = c.index-order-at.result in
-    let place = c.in-Ok.ensures in
-    let among : Contains order t = subst (Contains order) (sym c.index-order-at.is) (Contains-get_or order c.in-Ok.at t place.within) in
-    let name : t.id ≡ c.args.id = ap (λ (u : Entry). u.id) c.index-order-at.is ∙ place.has_key t in
-    noted-forgotten order c.args.waiters.now c.forget_all.new.self c.args.id t c.requires.apart c.requires.noted among name c.forget_all.ensures
-
-pub returns-in_default : goal.returns-in_default
-returns-in_default c = noted-others c.args.order.now c.args.waiters.now c.args.id c.requires.noted
+    let among : Contains order t = subst (Contains order) (sym c.index-order-at.is) (Contains-get_or order c.args.at t place.within) in
+    let name : t.id ≡ id = ap (λ (u : Entry). u.id) c.index-order-at.is ∙ place.has_key t in
+    noted-forgotten order c.args.waiters.now c.forget_all.new.self id t c.requires.apart c.requires.noted among name c.forget_all.ensures

@@ -1,11 +1,16 @@
-use Rattle.std.proofs.Common.{rules}
-use Rattle.std.proofs.lemmas.List.Sorted.{answers_always}
-use Rattle.sorted_lists.proofs.Rising.{searched}
-use Rattle.crdt_rules.proofs.WalkLaws.{id_order}
+use Rattle.std.proofs.Common.{sym, ◌∙◌}
+use Rattle.hold_buffer.proofs.Least.{only_gap, least_gap, least_place}
 use Rattle.hold_buffer.proofs.order.search.Goals as goal
 
-pub returns : goal.returns
-returns c =
-    let facts = c.binary_search_by_key.ensures in
-    let by_id = facts.position (λ t. t.id) (answers_always _ _ _ (λ f a r g called. search rules)) in
-    searched id_order (λ t. t.id) c.args.order.now c.args.id _ c.requires facts.bound by_id
+pub returns-in-None : goal.returns-in-None
+returns-in-None c = only_gap c.args.order.now c.args.id.now c.in-None.ensures.item.3
+
+pub returns-in-Less : goal.returns-in-Less
+returns-in-Less c =
+    let item = c.in-Some.ensures.item in
+    least_gap c.args.order.now c.in-Some.least.now c.args.id.now c.requires item.3.0 item.1 (sym c.cmp.ensures ∙ c.in-Less.is)
+
+pub returns-in-Equal : goal.returns-in-Equal
+returns-in-Equal c =
+    let item = c.in-Some.ensures.item in
+    least_place c.args.order.now c.in-Some.least.now c.args.id.now item.3.0 item.1 (sym c.cmp.ensures ∙ c.in-Equal.is)

@@ -1,7 +1,12 @@
-use Rattle.std.proofs.Common.{rules, not}
-use Rattle.std.proofs.lemmas.Fn.{filter_same}
-use Rattle.crdt_rules.specs.Same.{id_eq}
+use Rattle.hold_buffer.proofs.FreeOnes.{without_place, without_gap}
 use Rattle.hold_buffer.proofs.ready.drop_id.Goals as goal
 
-pub returns-clause-items : goal.returns-clause-items
-returns-clause-items c = filter_same _ (λ i. not (id_eq i c.args.id.now)) _ (λ x b f' h. search rules) _ _ c.retain.ensures.filtered
+pub returns-in-Ok-clause-items : goal.returns-in-Ok-clause-items
+returns-in-Ok-clause-items c =
+    let place = rw c.deref.ensures.value at c.in-Ok.ensures in
+    rw c.remove.ensures.items (without_place c.args.ready.now.items c.args.id.now c.in-Ok.at c.requires place)
+
+pub returns-in_default-clause-items : goal.returns-in_default-clause-items
+returns-in_default-clause-items c =
+    let gap = rw c.deref.ensures.value at c.in_default.ensures in
+    without_gap c.args.ready.now.items c.args.id.now _ gap
