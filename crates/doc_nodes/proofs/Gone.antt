@@ -117,12 +117,6 @@ but_gone-cut gone blocks n h within = let one : n + 1 ≡ suc n = omega arith in
     go (g ∷ fs) (b ∷ bs) zero inside = both g b (joined (but_gone fs bs))
     go (g ∷ fs) (b ∷ bs) (suc m) inside = ap (λ (l : List (Key × NodeNumber)). (if g then [] else b) ++ l) (go fs bs m (omega (arith, inside)))
 
--- those that come one after another are the same
-pub open_same : (g : Bool) (gone : List Bool) (block : List (Key × NodeNumber)) (blocks : List (List (Key × NodeNumber))) → g ≡ true
-    → joined (but_gone gone blocks) ≡ joined (but_gone (g ∷ gone) (block ∷ blocks))
-open_same true gone block blocks is = refl
-open_same false gone block blocks is = absurd (true≢false (sym is))
-
 pub first_open : (gone : List Bool) (block : List (Key × NodeNumber)) (blocks : List (List (Key × NodeNumber))) → get_or gone 0 false ≡ false
     → joined (but_gone gone (block ∷ blocks)) ≡ block ++ joined (but_gone (drop 1 gone) blocks)
 first_open [] block blocks isnt = refl

@@ -13,23 +13,6 @@ use Rattle.doc_nodes.specs.Nodes.{blank_node, node_of, child_of, role_in, regist
 use Rattle.doc_nodes.specs.Growth.{Grows, IsMade}
 use Rattle.doc_nodes.proofs.Walks.{parts_of, walk_rises, walk_split}
 
-pub grows_not : (nodes : List Node) → Grows nodes nodes
-grows_not nodes = record {
-  size = omega arith;
-  presence = λ n. refl;
-  register = λ n. refl;
-  counter = λ n. refl;
-  order = λ n. refl;
-  candidates = λ n e there. there;
-  may_have_present_child = λ n. refl;
-  presence_room = λ n room. room;
-  register_room = λ n. omega arith;
-  counter_room = λ n. omega arith;
-  order_room = λ n. omega arith;
-  forward = λ n k c e. e;
-  back = λ n k c e l. e;
-}
-
 pub grows_twice : (a b c : List Node) → Grows a b → Grows b c → Grows a c
 grows_twice a b c one two = record {
   size = omega (arith, one.size, two.size);

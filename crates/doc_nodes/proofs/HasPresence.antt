@@ -422,15 +422,3 @@ has_presence-grown old new grows has_presence = record {
       (λ past. absurd (no_entry (node_of old c).presence.0 i (ap (λ z. z.presence.0) (get_or_past old c.0 blank_node past)) was))
       (cases_lt c.0 (length old));
 }
-
--- all nodes are empty
-pub has_presence-empty : (nodes : List Node) → ((n : NodeNumber) → (node_of nodes n).presence.0 ≡ []) → ((n : NodeNumber) → (node_of nodes n).register.0 ≡ [])
-    → ((n : NodeNumber) → (node_of nodes n).counter.0 ≡ []) → HavePresence nodes
-has_presence-empty nodes presence register counter = record {
-  each = λ n. record {
-    register = λ i there. absurd (no_entry (node_of nodes n).register.0 i (register n) there);
-    counter = λ i there. absurd (no_entry (node_of nodes n).counter.0 i (counter n) there);
-  };
-  above = λ n k c i le down there. absurd (no_entry (node_of nodes c).presence.0 i (presence c) there);
-  may_have_present_child = λ n k c i le down there. absurd (no_entry (node_of nodes c).presence.0 i (presence c) there);
-}

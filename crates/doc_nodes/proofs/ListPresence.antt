@@ -254,15 +254,6 @@ pub some_uncovered : (front : List (List ℕ × ℕ)) (entries : List (Id × Rol
 some_uncovered front [] is = is
 some_uncovered front (e ∷ entries) is = refl
 
--- what is cleared is present at most as it was
-pub fewer-cleared : (front : List (List ℕ × ℕ)) (old new : List Node) → IsPartCleared front (plain old) (plain new) → (c : NodeNumber)
-    → is_node_present new (Some c) ≡ true → is_node_present old (Some c) ≡ true
-fewer-cleared front old new each c present = ⊎_elim
-    (λ still. ap (λ z. is_some_entry z.presence.0) (sym (node_of-plain old c) ∙ sym still ∙ node_of-plain new c) ∙ present)
-    (λ done. some_uncovered front (node_of old c).presence.0
-    (ap (λ z. is_some_entry (uncovered front z.presence.0)) (sym (node_of-plain old c)) ∙ ap (λ z. is_some_entry z.presence.0) (sym done ∙ node_of-plain new c) ∙ present))
-    (each c)
-
 -- the list of a node stores anew whether a child is present
 module _ (nodes : List Node) (at : NodeNumber) (within : at.0 < length nodes) (child : NodeNumber) where
   pub list_presence-shape : (element : Option Id) → child_of (with_list_presence nodes at element child) ≡ child_of nodes

@@ -34,8 +34,3 @@ made_step nodes n c k keys room down made = record { reached = subst (λ o. IsSo
         let both : ◌≡◌ {A = Option NodeNumber} (Some c) (Some step.0) = sym down ∙ ap (child_of nodes n) first ∙ step.1 in
         let same : c ≡ step.0 = cc in
         made.room front rest j more (subst (λ z. walk (child_of nodes) z front ≡ Some j) (sym same) step.2)
-
--- what follows from two facts that hold at Ok
-pub on_both_ok : {T E P Q R : Type 0} (r : Result T E) → (P → Q → R) → OnOk r P → OnOk r Q → OnOk r R
-on_both_ok (Ok x) f h g = f h g
-on_both_ok (Err e) f h g = h

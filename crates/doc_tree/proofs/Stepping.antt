@@ -39,11 +39,6 @@ put_is : (f : Facts) (p : List Tagged) (k : Key) (deps : Id → Bool) (id : Id) 
 put_is f p k deps id None = refl
 put_is f p k deps id (Some s) = refl
 
-pub assign_step : (f : Facts) (op : Op) (v : Val) (deps : Id → Bool) → op.mutation ≡ Assign v
-    → put_facts f (path_of op) op.cursor.key deps op.id (scalar_in v) ≡ step_facts f op deps
-assign_step f op v deps e =
-    put_is f (path_of op) op.cursor.key deps op.id (scalar_in v) ∙ ap (λ o. step_facts f o deps) (sym (known_mutation op (Assign v) e))
-
 pub insert_step : (f : Facts) (op : Op) (v : Val) (deps : Id → Bool) → op.mutation ≡ Insert v
     → put_facts (order_facts f (path_of op) (λ ids. insert_after id_cmp ids (reference op.cursor.key) op.id)) (path_of op) (Element op.id) deps op.id (scalar_in v) ≡ step_facts f op deps
 insert_step f op v deps e =

@@ -98,12 +98,6 @@ module _ (tree : TreeValue) (p : List Tagged) (k : Key) (n : NodeNumber) (at : t
           present (Text text) below.1 (subst (λ m. child_of tree.0 m (Text text) ≡ Some below.1) same below.3) below.4,
         )
 
--- what is given at a node is given at its place
-pub gives_at : {X : Type 0} (tree : TreeValue) (n : NodeNumber) (reads : List Tagged → Key → X → Type 0) (r : Result X Refusal) (p : List Tagged) (k : Key)
-    → tree_number tree p k ≡ Some n → GivesUnlessMemory (λ x. AtNode tree n (λ q j. reads q j x)) r → GivesUnlessMemory (reads p k) r
-gives_at tree n reads (Ok x) p k at h = h p k at
-gives_at tree n reads (Err e) p k at h = h
-
 -- ---- elements of a list, one after another
 
 items_join : (f : Facts) (list : List Tagged) (ids more : List Id) (items others : List (Id × List Scalar))

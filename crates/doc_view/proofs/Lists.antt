@@ -62,23 +62,9 @@ drop_gives (y ∷ xs) (suc i) x rest left =
 pub drop_none : {X : Type 0} (xs : List X) (i : ℕ) → drop i xs ≡ [] → take i xs ≡ xs
 drop_none xs i left = sym (append-nil (take i xs)) ∙ ap (λ l. take i xs ++ l) (sym left) ∙ take-append-drop i xs
 
-pub those_step : {X : Type 0} {holds : X → Type 0} (xs kept new : List X) (i : ℕ) (x : X) (b : Bool) → i < length xs → x ≡ get_or xs i x
-    → AreThose holds (take i xs) kept → Decides b (holds x) → new ≡ kept ++ (if b then x ∷ [] else []) → AreThose holds (take (i + 1) xs) new
-those_step {X} {holds} xs kept new i x b within is those d e =
-    subst (λ (l : List X). AreThose holds (take (i + 1) xs) l) (sym e)
-    (subst (λ (l : List X). AreThose holds l (kept ++ (if b then x ∷ [] else []))) (sym (take_read xs i x within is)) (those_more x b d those))
-
 pub values-push : (f : Facts) (p : List Tagged) (ids : List Id) (items : List (Id × List Scalar)) (i : Id) (scalars : List Scalar)
     → HaveValues f p ids items → AreValues f p (Element i) scalars → HaveValues f p (ids ++ i ∷ []) (items ++ (i, scalars) ∷ [])
 values-push f p [] [] i scalars h here = (refl, here, tt)
 values-push f p (j ∷ ids) (item ∷ items) i scalars h here = (h.0, h.1, values-push f p ids items i scalars h.2 here)
 values-push f p [] (item ∷ items) i scalars h here = absurd h
 values-push f p (j ∷ ids) [] i scalars h here = absurd h
-
-pub values_step : (f : Facts) (p : List Tagged) (ids : List Id) (items new : List (Id × List Scalar)) (i : ℕ) (id : Id) (scalars : List Scalar)
-    → i < length ids → id ≡ get_or ids i id → HaveValues f p (take i ids) items → AreValues f p (Element id) scalars
-    → new ≡ items ++ (id, scalars) ∷ [] → HaveValues f p (take (i + 1) ids) new
-values_step f p ids items new i id scalars within is have here e =
-    subst (λ (l : List (Id × List Scalar)). HaveValues f p (take (i + 1) ids) l) (sym e)
-    (subst (λ (l : List Id). HaveValues f p l (items ++ (id, scalars) ∷ [])) (sym (take_read ids i id within is))
-    (values-push f p (take i ids) items id scalars have here))

@@ -208,23 +208,6 @@ elements_shown tree p (i ∷ ids) (e ∷ es) h = (i, ids, refl, h.0, elements_sh
 elements_shown tree p [] (e ∷ es) h = absurd h
 elements_shown tree p (i ∷ ids) [] h = absurd h
 
-each_push : (tree : TreeValue) (p : List Tagged) (ids : List Id) (es : List Shown) (i : Id) (e : Shown) → EachElement tree p ids es
-    → Shows (tree_facts tree) (tree_values tree) p (Element i) e → EachElement tree p (ids ++ i ∷ []) (es ++ e ∷ [])
-each_push tree p [] [] i e h here = (here, tt)
-each_push tree p (j ∷ ids) (d ∷ es) i e h here = (h.0, each_push tree p ids es i e h.1 here)
-each_push tree p [] (d ∷ es) i e h here = absurd h
-each_push tree p (j ∷ ids) [] i e h here = absurd h
-
-pub elements_step : (tree : TreeValue) (p : List Tagged) (ids : List Id) (i : ℕ) (id : Id) (ds new : List Data) (d : Data) → i < length ids
-    → id ≡ get_or ids i id → AreShown tree p (take i ids) ds → IsShown tree p (Element id) d → new ≡ ds ++ d ∷ [] → AreShown tree p (take (i + 1) ids) new
-elements_step tree p ids i id ds new d within is a one e =
-    subst (λ (xs : List Id). AreShown tree p xs new) (sym (take_read ids i id within is))
-    (record {
-      elements = a.elements ++ one.shown ∷ [];
-      each = each_push tree p (take i ids) a.elements id one.shown a.each one.shows;
-      is = e ∙ (λ j. a.is j ++ one.is j ∷ []) ∙ sym (map-append shown_data a.elements (one.shown ∷ []));
-    })
-
 module _ (tree : TreeValue) (p : List Tagged) (k : Key) where
   a_list_shown : (ids : List Id) (es : List Shown) → AreElements (tree_facts tree) p k ids → EachElement tree (into_list p k) ids es
       → HasList (tree_facts tree) (tree_values tree) p k ids

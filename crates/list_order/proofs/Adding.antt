@@ -193,10 +193,6 @@ module _ {slots : List Slot} {first : Option SlotNumber} {index : List (Id × Sl
   pub above_along : Along (IsAbove slots marks blocks) (slots_from slots first)
   above_along = along_path slots k.above first (slots_from slots first) k.order.path
 
--- no block says anything
-pub above-none : (slots : List Slot) (marks : List Mark) (path : List SlotNumber) → Along (IsAbove slots marks []) path
-above-none slots marks path = along (λ n. omega arith) path
-
 -- no slots
 pub none_kept : IsMarkedOrder [] None [] [] [] 0
 none_kept = record {

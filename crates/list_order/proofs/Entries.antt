@@ -32,16 +32,6 @@ pub ids_of-insert : (entries : List (Id × Bool)) (after : Option Id) (id : Id)
 ids_of-insert entries None id = ids_of-place entries id
 ids_of-insert entries (Some after) id = ids_of-place_behind entries after id
 
--- another presence changes no id
-pub ids_of-with : (entries : List (Id × Bool)) (id : Id) (is : Bool) → ids_of (with_presence entries id is) ≡ ids_of entries
-ids_of-with [] id is = refl
-ids_of-with (e ∷ entries) id is = go (id_eq e.0 id) (ids_of-with entries id is)
-  where
-    go : (b : Bool) → ids_of (with_presence entries id is) ≡ ids_of entries
-        → ids_of ((if b then (e.0, is) else e) ∷ with_presence entries id is) ≡ ids_of (e ∷ entries)
-    go true ih = ap (λ l. e.0 ∷ l) ih
-    go false ih = ap (λ l. e.0 ∷ l) ih
-
 -- nor does it count where nothing is told
 pub ids_of-all_absent : (entries : List (Id × Bool)) → ids_of (all_absent entries) ≡ ids_of entries
 ids_of-all_absent [] = refl

@@ -18,13 +18,6 @@ use Rattle.plain_rules.specs.declared.context.PlainContext.{PlainContext}
 use Rattle.plain_rules.specs.declared.context.PlainContext.TheViews.{out-PlainContext}
 use Rattle.plain_rules.proofs.Contexts.{level_of, context_of-out}
 
--- what a delete passes stays
-pub passed-delete : (id : Id) (key : Key) (p : PlainContext) → context_of p ≡ passed_key id key Delete (context_of p)
-passed-delete id key p = subst (λ c. c ≡ passed_key id key Delete c) (sym (context_of-out p)) (same (level_of (out-PlainContext p)))
-  where
-    same : (c : Context) → node (child c) (register c) (counter c) (present c) (order c) ≡ passed_key id key Delete c
-    same c = λ x. node (child c) (register c) (counter c) (λ k i. sym (or-false (present c k i)) x) (order c)
-
 pub made-context : (p : PlainContext) → context_of p ≡ made (context_of p)
 made-context p = subst (λ c. c ≡ made c) (sym (context_of-out p)) refl
 

@@ -13,16 +13,6 @@ pub head_is : {X : Type 0} (xs : List X) (x : X) → 0 < length xs → x ≡ sli
 head_is [] x some is = absurd (omega arith)
 head_is (y ∷ xs) x some is = ap (λ z. z ∷ xs) (sym is)
 
-pub first_of-None : (xs : List (Option Seat)) (x : Option Seat) → xs ≡ x ∷ drop 1 xs → x ≡ None → first_end xs ≡ []
-first_of-None xs x is none = ap first_end is ∙ ap (λ y. first_end (y ∷ drop 1 xs)) none
-
-pub first_of-Some : (xs : List (Option Seat)) (x : Option Seat) (end : Seat) → xs ≡ x ∷ drop 1 xs → x ≡ Some end → first_end xs ≡ end ∷ []
-first_of-Some xs x end is some = ap first_end is ∙ ap (λ y. first_end (y ∷ drop 1 xs)) some
-
-pub later_is : (xs : List (Option Seat)) → drop 1 xs ≡ later_ends xs
-later_is [] = refl
-later_is (x ∷ xs) = refl
-
 -- So many sessions were gone through: what is left of them stands behind those to come.
 pub record IsThrough (sessions now : List (List (Option Seat))) (i : ℕ) (before column : List Seat) : Type 0 where
   pub done : List (List (Option Seat))
