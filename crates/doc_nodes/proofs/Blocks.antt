@@ -4,7 +4,7 @@ use Rattle.std.specs.Prelude.{insert, IfSome, OnOk, OnErr}
 use Rattle.std.specs.Ordering.{is_lt}
 use Rattle.std.specs.List.Sorted.{IsPartitionedBy, IsPartitionPoint}
 use Rattle.std.proofs.lemmas.Bool.{cases_lt}
-use Rattle.std.proofs.lemmas.List.{get_or_past, get_or-append_right, take_all, take-append-drop, length-take-le, length-drop}
+use Rattle.std.proofs.lemmas.List.{get_or_past, take_all, take-append-drop, length-take-le, length-drop}
 use Rattle.std.proofs.lemmas.List.Concat.{flat_map-append, get_or-flat_map}
 use Rattle.std.proofs.lemmas.List.Edits.{insert_end, insert-append_left, insert-append_right, length-insert}
 use Rattle.std.proofs.lemmas.List.Elements.{Contains-append_left, Contains-append_right}

@@ -16,8 +16,8 @@ use Rattle.doc_nodes.specs.Walk.{root}
 use Rattle.doc_words.specs.declared.role.Role.{Role}
 use Rattle.presence_set.specs.ById.{uncovered}
 use Rattle.doc_nodes.specs.Blocks.{joined}
-use Rattle.doc_nodes.specs.Nodes.{blank_node, node_of, child_of, IsPartCleared, AreTree}
-use Rattle.doc_nodes.proofs.Plain.{node_of-plain, blocks-plain}
+use Rattle.doc_nodes.specs.Nodes.{blank_node, node_of, child_of, AreTree}
+use Rattle.doc_nodes.proofs.Plain.{blocks-plain}
 use Rattle.doc_nodes.specs.Writes.{with_entry}
 use Rattle.doc_nodes.specs.Growth.{Grows}
 use Rattle.doc_nodes.specs.ListPresence.{is_some_entry, is_node_present, with_element_presence, with_list_presence, ShowsPresence, ShowsPresenceBut, ListsShowPresence, ListsShowPresenceBut, plain, with_blocks, candidates, IsCandidate, IsCandidateBut, HaveCandidates, ChangesBlocks, KeepsBlocks, MayDropBlock}

@@ -1,6 +1,6 @@
 -- What growth makes, step by step.
-use Rattle.std.proofs.Common.{◌≡◌, List, [], ◌∷◌, ◌++◌, Option, Some, refl, sym, ap, ◌∙◌, subst, Result, Ok, Err, true}
-use Rattle.std.specs.Prelude.{IsSome, option_and_then, OnOk}
+use Rattle.std.proofs.Common.{◌≡◌, List, [], ◌∷◌, ◌++◌, Option, Some, refl, sym, ap, ◌∙◌, subst, true}
+use Rattle.std.specs.Prelude.{IsSome, option_and_then}
 use Rattle.op_core.specs.declared.cursor.Key.{Key}
 use Rattle.doc_nodes.specs.declared.node.NodeNumber.{NodeNumber}
 use Rattle.doc_nodes.specs.declared.node.Node.{Node}

@@ -1,9 +1,9 @@
 -- What is at a place, read by the number of its node.
-use Rattle.std.proofs.Common.{◌≡◌, ℕ, ℤ, ◌+◌, ◌<◌, List, [], ◌∷◌, ◌++◌, length, get_or, take, map, filter, true, true≢false, inl, inr, Some, None, is_some, Result, Ok, Err, refl, sym, ap, ◌∙◌, subst, Contains}
+use Rattle.std.proofs.Common.{◌≡◌, ℕ, ℤ, ◌+◌, ◌<◌, List, [], ◌∷◌, ◌++◌, length, get_or, take, map, filter, true, true≢false, inl, inr, Some, None, is_some, refl, sym, ap, ◌∙◌, subst, Contains}
 use Rattle.std.specs.Prelude.{option_and_then}
 use Rattle.std.proofs.lemmas.List.{map-append}
 use Rattle.serde_json.specs.Data.{Data}
-use Rattle.doc_words.specs.Words.{Id, Refusal, Scalar, Key, Tagged}
+use Rattle.doc_words.specs.Words.{Id, Scalar, Key, Tagged}
 use Rattle.op_core.specs.declared.cursor.Key.TheVariants.{Text, Element}
 use Rattle.op_core.specs.declared.cursor.Tagged.TheVariants as tagged
 use Rattle.op_core.specs.Wire.{list_data}
@@ -24,7 +24,6 @@ use Rattle.doc_rules.specs.Shown.{Shown, shown_data, no_map, no_list, total_show
 use Rattle.doc_rules.specs.Sorted.{AreThose}
 use Rattle.doc_rules.specs.Sorted.AreThose.{none}
 use Rattle.doc_view.specs.ByNumber.{AtNode, HasItems, IsTextAt, ShowsThose}
-use Rattle.doc_view.specs.Readings.{GivesUnlessMemory}
 use Rattle.doc_view.specs.Showing.{EachElement, IsShown, IsMapShown, IsListShown}
 use Rattle.doc_view.proofs.Entries.{are_all}
 use Rattle.list_laws.proofs.Reading.{take_read}

@@ -24,7 +24,7 @@ use Rattle.list_laws.proofs.Members.{Contains-nil, Contains-cases}
 use Rattle.list_order.proofs.Newest.{found_there}
 use Rattle.list_order.proofs.Lowering.{counted_lowered, lowered_least, lowered_there}
 use Rattle.list_order.proofs.Skipping.{along_path}
-use Rattle.list_order.proofs.Counting.{Along, along, IsSameMark, less_of}
+use Rattle.list_order.proofs.Counting.{Along, IsSameMark, less_of}
 use Rattle.list_order.proofs.Same.{count-same, blocks-same, from-same, rising-same}
 use Rattle.list_order.proofs.Presence.{count-presence}
 

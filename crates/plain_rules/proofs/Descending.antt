@@ -1,7 +1,6 @@
 -- An operation on its way down through plain contexts.
 use Rattle.std.proofs.Common.{◌≡◌, ℤ, suc, ◌+◌, ◌<◌, ◌≤◌, List, [], ◌∷◌, length, get_or, Bool, true, false, not, if◌then◌else◌, refl, sym, ap, ◌∙◌, subst, arith}
 use Rattle.std.specs.List.{remove}
-use Rattle.std.proofs.Math.Bool.{or-false}
 use Rattle.lamport_id.specs.declared.id.Id.{Id}
 use Rattle.json_scalar.specs.declared.scalar.Scalar.{Scalar}
 use Rattle.op_core.specs.declared.cursor.Key.{Key}
@@ -15,8 +14,7 @@ use Rattle.crdt_rules.specs.Context.{Context, empty, node, child, register, coun
 use Rattle.crdt_rules.proofs.SameLaws.{tagged_decides}
 use Rattle.plain_rules.specs.Plain.{child_in, whole, blank_context, made, passed_key, context_of, contexts_of, place_of_child}
 use Rattle.plain_rules.specs.declared.context.PlainContext.{PlainContext}
-use Rattle.plain_rules.specs.declared.context.PlainContext.TheViews.{out-PlainContext}
-use Rattle.plain_rules.proofs.Contexts.{level_of, context_of-out}
+use Rattle.plain_rules.proofs.Contexts.{context_of-out}
 
 pub made-context : (p : PlainContext) → context_of p ≡ made (context_of p)
 made-context p = subst (λ c. c ≡ made c) (sym (context_of-out p)) refl

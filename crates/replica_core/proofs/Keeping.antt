@@ -1,7 +1,7 @@
 -- A replica keeps what it keeps.
-use Rattle.std.proofs.Common.{◌≡◌, ℕ, List, [], Option, true, sym, subst, arith}
+use Rattle.std.proofs.Common.{◌≡◌, ℕ, List, [], true, sym, subst, arith}
 use Rattle.lamport_id.specs.Name.{is_name}
-use Rattle.doc_words.specs.Words.{Scalar, Op}
+use Rattle.doc_words.specs.Words.{Op}
 use Rattle.list_laws.proofs.Members.{Contains-nil}
 use Rattle.doc_words.specs.declared.ask.Command.{Command}
 use Rattle.doc_words.specs.declared.reply.Reply.{Reply}

@@ -1,7 +1,7 @@
 -- What is read of a tree that says what the log makes is the replica's answer.
-use Rattle.std.proofs.Common.{◌≡◌, ◌⊎◌, inl, inr, ℕ, List, Bool, true, false, Option, Result, Ok, Err, refl, ap, subst}
+use Rattle.std.proofs.Common.{◌≡◌, ◌⊎◌, inl, inr, ℕ, List, Bool, true, false, Result, Ok, Err, refl, ap, subst}
 use Rattle.std.specs.Prelude.{MatchBool}
-use Rattle.doc_words.specs.Words.{Scalar, Refusal, NoMemory, Cursor, Key, Tagged, Op}
+use Rattle.doc_words.specs.Words.{Refusal, NoMemory, Cursor, Key, Tagged, Op}
 use Rattle.json_scalar.specs.declared.refusal.Refusal.TheVariants.{AtHead}
 use Rattle.op_core.specs.Shape.{is_head}
 use Rattle.doc_words.specs.declared.ask.Look.{Look}

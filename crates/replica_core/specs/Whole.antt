@@ -1,7 +1,7 @@
 -- What a replica keeps.
-use Rattle.std.specs.Prelude.{◌≡◌, ℕ, List, Option, true}
+use Rattle.std.specs.Prelude.{◌≡◌, ℕ, List, true}
 use Rattle.lamport_id.specs.Name.{is_name}
-use Rattle.doc_words.specs.Words.{Scalar, Op}
+use Rattle.doc_words.specs.Words.{Op}
 use Rattle.doc_tree.specs.Nodes.{TreeValue}
 use Rattle.doc_rules.specs.Replica.{Replica, IsKept}
 use Rattle.hold_buffer.specs.Held.{Buffer, IsCurrent}

@@ -1,4 +1,4 @@
-use Rattle.std.proofs.Common.{◌≡◌, ◌<◌, ◌≤◌, ◌+◌, [], ◌⊎◌, ◌∙◌, inl, inr, ⊎_elim, sym, ap, subst, length, arith, List, ◌++◌, ◌∷◌, get_or, set, insert, Contains}
+use Rattle.std.proofs.Common.{◌≡◌, ◌<◌, ◌≤◌, ◌+◌, [], ◌⊎◌, ◌∙◌, inl, inr, ⊎_elim, sym, ap, subst, length, arith, ◌++◌, ◌∷◌, get_or, set, insert, Contains}
 use Rattle.list_laws.proofs.Members.{Contains-insert_old}
 use Rattle.doc_nodes.specs.KeyOrder.{key_rank}
 use Rattle.doc_nodes.proofs.Gone.{but_gone-kept, more_in, more_behind}

@@ -1,4 +1,4 @@
-use Rattle.std.proofs.Common.{rules, ◌≡◌, ◌<◌, ◌≤◌, ◌+◌, ◌∙◌, ◌++◌, ◌∷◌, List, [], length, get_or, set, insert, take, drop, Contains, Bool, true, false, if◌then◌else◌, Option, Some, sym, ap, subst, arith}
+use Rattle.std.proofs.Common.{[], get_or, Contains, sym, subst}
 use Rattle.std.specs.Prelude.{IfSome}
 use Rattle.doc_nodes.specs.KeyOrder.{IsInKeyOrder}
 use Rattle.doc_nodes.proofs.Gone.{rising_or_none, hinted, ranked}

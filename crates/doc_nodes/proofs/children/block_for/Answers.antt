@@ -1,4 +1,4 @@
-use Rattle.std.proofs.Common.{rules, ◌≡◌, ◌<◌, ◌+◌, ◌∙◌, List, [], length, get_or, set, insert, take, drop, sym, ap, arith}
+use Rattle.std.proofs.Common.{rules, ◌≡◌, ◌<◌, ◌+◌, ◌∙◌, [], length, get_or, set, insert, take, drop, ap}
 use Rattle.doc_nodes.specs.Blocks.{joined, but_gone, repeated}
 use Rattle.doc_nodes.proofs.Gone.{but_gone-cut}
 use Rattle.doc_nodes.proofs.children.block_for.Goals as goal

@@ -1,4 +1,4 @@
-use Rattle.std.proofs.Common.{rules, ◌≡◌, ◌<◌, ◌≤◌, ◌+◌, ◌∙◌, ◌++◌, ◌∷◌, List, [], length, get_or, set, insert, take, drop, Contains, Bool, true, false, if◌then◌else◌, Option, Some, sym, ap, subst, arith}
+use Rattle.std.proofs.Common.{◌∙◌, ap}
 use Rattle.doc_nodes.specs.Blocks.{but_gone}
 use Rattle.doc_nodes.proofs.Gone.{but_gone-told}
 use Rattle.doc_nodes.proofs.children.make_flag.Goals as goal

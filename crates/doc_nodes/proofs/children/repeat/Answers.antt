@@ -1,4 +1,4 @@
-use Rattle.std.proofs.Common.{rules, ◌≡◌, ◌<◌, ◌≤◌, ◌+◌, ◌∙◌, ◌++◌, ◌∷◌, List, [], length, get_or, set, insert, take, drop, Contains, Bool, true, false, if◌then◌else◌, Option, Some, sym, ap, subst, arith}
+use Rattle.std.proofs.Common.{◌<◌, ◌+◌, ◌∙◌, length, insert, true, false, ap, arith}
 use Rattle.std.proofs.lemmas.List.{get_or_default}
 use Rattle.doc_nodes.proofs.Gone.{repeated_past, repeated_inside}
 use Rattle.doc_nodes.proofs.children.repeat.Goals as goal

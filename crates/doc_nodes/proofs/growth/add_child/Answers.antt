@@ -1,10 +1,10 @@
-use Rattle.std.proofs.Common.{rules, ◌≡◌, ◌∙◌, ◌++◌, ◌∷◌, [], length, get_or, set, insert, Contains, sym, ap, subst, List, Result, Ok, Err}
+use Rattle.std.proofs.Common.{◌∙◌, ◌++◌, ◌∷◌, [], length, get_or, set, insert, sym, ap, subst, List, Result, Ok, Err}
 use Rattle.std.specs.Prelude.{OnErr}
-use Rattle.std.proofs.lemmas.List.{get_or_default, set-get_or}
+use Rattle.std.proofs.lemmas.List.{get_or_default}
 use Rattle.json_scalar.specs.declared.refusal.Refusal.{Refusal}
 use Rattle.doc_nodes.specs.declared.node.NodeNumber.{NodeNumber}
 use Rattle.doc_nodes.specs.declared.node.Node.{Node}
-use Rattle.doc_nodes.specs.Nodes.{blank_node, node_of}
+use Rattle.doc_nodes.specs.Nodes.{blank_node}
 use Rattle.doc_nodes.specs.Growth.{ChangesBlocksOnly}
 use Rattle.doc_nodes.proofs.Adding.{nothing_changed, cut_from, added_from}
 use Rattle.doc_nodes.proofs.growth.add_child.Goals as goal

@@ -1,4 +1,4 @@
-use Rattle.std.proofs.Common.{◌≡◌, ◌<◌, ◌∙◌, [], ◌∷◌, ◌++◌, length, Contains, false, Some, ⊎_elim, refl, sym, ap, subst, arith}
+use Rattle.std.proofs.Common.{[], ◌∷◌, Contains, refl, sym, subst, arith}
 use Rattle.std.proofs.lemmas.List.Elements.{Contains-append_left, Contains-append_right}
 use Rattle.list_laws.proofs.Members.{Contains-here}
 use Rattle.doc_nodes.proofs.list_presence.+is_any_present.Goals as goal

@@ -1,4 +1,3 @@
-use Rattle.std.proofs.Common.{refl, sym}
 use Rattle.doc_nodes.proofs.ListPresence.{drops_from, drops_nothing}
 use Rattle.doc_nodes.proofs.list_presence.note_gone_block.Goals as goal
 

@@ -1,6 +1,4 @@
-use Rattle.std.proofs.Common.{sym, ◌∙◌}
 use Rattle.serde_json.specs.Data.{string}
-use Rattle.op_core.specs.declared.cursor.Key.TheVariants.{Text}
 use Rattle.doc_tree.specs.Nodes.{tree_facts}
 use Rattle.doc_rules.specs.Views.{AreKeys, into_map}
 use Rattle.doc_view.proofs.MapLaws.{are_keys}

@@ -1,4 +1,4 @@
-use Rattle.std.proofs.Common.{rules, ◌≡◌, ◌<◌, ◌≤◌, ◌+◌, ◌∙◌, ◌++◌, ◌∷◌, List, [], length, get_or, set, insert, take, drop, Contains, Bool, true, false, if◌then◌else◌, Option, Some, sym, ap, subst, arith}
+use Rattle.std.proofs.Common.{◌≡◌, ◌∙◌, [], get_or, Contains, Bool, true, false, if◌then◌else◌, sym, ap, subst}
 use Rattle.doc_nodes.proofs.ChildrenLaws.{number_at-own}
 use Rattle.doc_nodes.specs.Blocks.{joined}
 use Rattle.doc_nodes.proofs.Gone.{get_or-but_gone, in_joined}

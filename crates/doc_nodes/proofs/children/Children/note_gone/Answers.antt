@@ -1,4 +1,4 @@
-use Rattle.std.proofs.Common.{rules, ◌≡◌, ◌<◌, ◌≤◌, ◌+◌, ◌∙◌, ◌++◌, ◌∷◌, List, [], length, get_or, set, insert, take, drop, Contains, Bool, true, false, if◌then◌else◌, Option, Some, sym, ap, subst, arith}
+use Rattle.std.proofs.Common.{◌∙◌, [], get_or, set, Bool, true, false, if◌then◌else◌, sym, ap}
 use Rattle.std.proofs.lemmas.List.{get_or-set_other}
 use Rattle.doc_nodes.proofs.Gone.{length-but_gone, get_or-but_gone}
 use Rattle.doc_nodes.proofs.children.Children.note_gone.Goals as goal

@@ -1,4 +1,4 @@
-use Rattle.std.proofs.Common.{rules, ◌≡◌, ◌++◌, ◌∷◌, ◌∙◌, [], List, drop, false, get_or, length, ⊎_elim, sym, ap, arith}
+use Rattle.std.proofs.Common.{rules, ◌≡◌, ◌++◌, ◌∷◌, ◌∙◌, drop, false, get_or, length, ⊎_elim, sym, ap, arith}
 use Rattle.std.proofs.lemmas.List.{nil_from_length}
 use Rattle.doc_nodes.specs.Blocks.{joined, but_gone}
 use Rattle.doc_nodes.proofs.Gone.{first_open}

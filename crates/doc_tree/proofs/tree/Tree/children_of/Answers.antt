@@ -1,11 +1,10 @@
-use Rattle.std.proofs.Common.{rules, ◌≡◌, ◌≤◌, ◌∙◌, List, [], length, sym, ap, subst, Contains, Option, Some, None}
+use Rattle.std.proofs.Common.{rules, ◌≡◌, ◌≤◌, ◌∙◌, length, sym, ap, subst, Contains, Option, Some, None}
 use Rattle.std.proofs.lemmas.List.{get_or_past}
 use Rattle.list_laws.proofs.Members.{Contains-nil}
-use Rattle.doc_words.specs.Words.{Key}
 use Rattle.doc_nodes.specs.declared.node.NodeNumber.{NodeNumber}
 use Rattle.doc_nodes.specs.Children.{number_at}
 use Rattle.doc_nodes.specs.Blocks.{joined}
-use Rattle.doc_nodes.specs.Nodes.{blank_node, AreTree, node_of, child_of}
+use Rattle.doc_nodes.specs.Nodes.{blank_node, AreTree, node_of}
 use Rattle.doc_nodes.specs.ListPresence.{HaveCandidates}
 use Rattle.doc_tree.specs.Nodes.{TreeValue}
 use Rattle.doc_tree.proofs.Below.{child_deeper}

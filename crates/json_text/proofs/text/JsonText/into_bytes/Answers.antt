@@ -1,4 +1,4 @@
-use Rattle.std.proofs.Common.{sym, ◌∙◌}
+use Rattle.std.proofs.Common.{◌∙◌}
 use Rattle.json_text.proofs.Texts.{whole_text}
 use Rattle.json_text.proofs.text.JsonText.into_bytes.Goals as goal
 

@@ -1,4 +1,4 @@
-use Rattle.std.proofs.Common.{Vec, sym, ◌∙◌, ap}
+use Rattle.std.proofs.Common.{◌∙◌, ap}
 use Rattle.json_text.proofs.Texts.{whole_text}
 use Rattle.json_text.proofs.text.JsonText.into_string.Goals as goal
 
