@@ -1,6 +1,6 @@
 //! The same of documents that stand in the order of their names, by bisection. The last one is looked at first, since
 //! rows are read in this order.
-ghost use Rattle.std.specs.Prelude.{◌≡◌, ◌≢◌, ◌≤◌, ◌↔◌, ◌++◌, length, IfErr, OnOk, Err, MatchResult, IsTrue, true};
+ghost use Rattle.std.specs.Prelude.{◌≡◌, ◌≢◌, ◌≤◌, ◌↔◌, ◌++◌, ◌∷◌, [], length, IfErr, OnOk, Err, MatchResult, IsTrue, true};
 ghost use Rattle.std.specs.Prelude.{false};
 ghost use Rattle.std.specs.List.Sorted.{IsPartitionPoint};
 ghost use Rattle.std.specs.Ordering.{is_lt};
@@ -15,6 +15,7 @@ use crate::docs::{is_doc_name, is_less, made, put};
 use crate::fault::Fault;
 use op_core::Operation;
 use std::alloc::Global;
+use std::slice;
 
 // The index of the document of this name, or where it would go.
 fn search(docs: &[KeptDoc], name: &str) -> Result<usize, usize>
@@ -67,6 +68,36 @@ pub fn may_follow(docs: &[KeptDoc], name: &str, from: usize) -> bool
     ensures { IsTrue result ↔ ((is_name name.now ≡ true) × (from ≡ length (log_of name.now docs.now))) }
 {
     is_doc_name(name) && from == count(docs, name)
+}
+
+/// Adds the entry behind those of the document of this name, if it fits them. Where it has no clones, it shares the
+/// names of its front with an entry of the document, where they are the same. After an error the documents are as they
+/// were.
+pub fn add_one(
+    docs: &mut Vec<KeptDoc>,
+    alloc: Global,
+    name: &str,
+    entry: Operation,
+) -> Result<(), Fault>
+    requires { AreInOrder docs.old.items }
+    ensures ok { OnOk result ((docs.new.items ≡ add_log name.now (entry ∷ []) docs.old.items)
+        × IsGood (log_of name.now docs.old.items ++ entry ∷ [])) }
+    ensures err { IfErr result (λ e. (docs.new.items ≡ docs.old.items) × (e ≢ Fault.Store)) }
+    ensures refused { result ≡ Err Fault.Refused → ¬ IsGood (log_of name.now docs.old.items ++ entry ∷ []) }
+{
+    let entry = sharing(docs.as_slice(), name, entry);
+    add(docs, alloc, name, slice::from_ref(&entry))
+}
+
+// The same operation. It may share the names of its front with an entry of the document of this name.
+fn sharing(docs: &[KeptDoc], name: &str, op: Operation) -> Operation
+    requires { AreInOrder docs.now }
+    ensures { result ≡ op }
+{
+    match search(docs, name) {
+        Ok(at) => docs[at].sharing(op),
+        Err(_) => op,
+    }
 }
 
 /// Adds clones of the entries behind those of the document of this name, if each fits those before it. Otherwise the

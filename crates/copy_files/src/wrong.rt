@@ -7,7 +7,7 @@ use sqlite::types::ValueRef;
 use sqlite::{Alter, Connection, Row};
 use sqlite_schema::schema::Schema;
 use std::alloc::Global;
-use std::{fmt, slice};
+use std::fmt;
 
 /// What is wrong with a database as a stored log.
 #[derive(Clone, Copy, Debug)]
@@ -172,7 +172,7 @@ fn wrong_part(
         return Ok(Some(Part::Place));
     }
     match operation_at(alloc, format, row) {
-        Ok(entry) => wrong_order(docs, alloc, name, &entry),
+        Ok(entry) => wrong_order(docs, alloc, name, entry),
         Err(Fault::Refused) => Ok(Some(Part::Text)),
         Err(fault) => Err(fault),
     }
@@ -211,9 +211,9 @@ fn wrong_order(
     docs: &mut Vec<KeptDoc>,
     alloc: Global,
     name: &str,
-    entry: &Operation,
+    entry: Operation,
 ) -> Result<Option<Part>, Fault> {
-    match copy_docs::add(docs, alloc, name, slice::from_ref(entry)) {
+    match copy_docs::add_one(docs, alloc, name, entry) {
         Ok(()) => Ok(None),
         Err(Fault::Refused) => Ok(Some(Part::Order)),
         Err(fault) => Err(fault),
