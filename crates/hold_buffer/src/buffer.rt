@@ -180,7 +180,7 @@ impl HoldBuffer {
         ensures current { (log : List Op) (op : Op) → op.id ≡ id
             → IsCurrent self.old log → IsCurrent self.new (log ++ op ∷ []) }
     {
-        // Mostly none is held: then the id isn't even hashed.
+        // Usually no operation is held. Then the id isn't hashed.
         if !self.order.is_empty() {
             let keys = self.waiters.of(&id);
             release(&self.slots, &mut self.order, &mut self.ready, keys, &id);

@@ -36,7 +36,7 @@ pub fn search(order: &[Entry], id: &Id) -> Result<usize, usize>
     ensures { MatchResult result (IsPlace id_cmp (λ t. t.id) order.now id.now)
         (IsGap id_cmp (λ t. t.id) order.now id.now) }
 {
-    // Most ids are the least: one that arrives backwards, and one that the last logged one releases.
+    // Usually the id is the least: of an operation that arrives backwards, or that is released.
     match order.first() {
         None => Err(0),
         Some(least) => match id.cmp(&least.id) {
@@ -53,7 +53,7 @@ fn bisect(order: &[Entry], id: &Id) -> Result<usize, usize>
     ensures { MatchResult result (IsPlace id_cmp (λ t. t.id) order.now id.now)
         (IsGap id_cmp (λ t. t.id) order.now id.now) }
 {
-    // Not by key: that would copy the id of each entry that is looked at.
+    // `binary_search_by_key` would copy the id of each entry that it compares.
     order.binary_search_by(
         |entry: &Entry| -> Ordering
             ensures { result ≡ id_cmp entry.now.id id.entry.now }
