@@ -1,11 +1,16 @@
 -- Batches that were added one after another.
-use Rattle.std.proofs.Common.{◌≡◌, ◌⊎◌, inl, inr, ℕ, Bool, true, List, ◌∙◌}
-use Rattle.copy_docs.specs.Docs.{Doc}
+use Rattle.std.proofs.Common.{◌≡◌, ◌≢◌, ◌⊎◌, inl, inr, Result, Ok, Err, OnOk, length, List, [], ℕ, zero, suc, Bool, true, Contains, max, ltb, ◌<◌, ◌≤◌, ◌∙◌, subst, sym, refl}
+use Rattle.std.proofs.Math.Nat.{max-zero, zero-lt-suc, le-max_right, lt_of_lt_of_le, lt_irrefl}
+use Rattle.std.proofs.lemmas.Bool.{lt-ltb}
+use Rattle.std.proofs.lemmas.List.{nil_from_length}
+use Rattle.doc_words.specs.Words.{Op}
+use Rattle.copy_docs.specs.Docs.{Doc, IsBatch, add_batch, log_of}
 use Rattle.copy_docs.specs.declared.fault.Fault.{Fault}
 use Rattle.copy_docs.specs.declared.fault.Fault.TheVariants.{Store}
 use Rattle.log_copy.specs.Kept.{Kept}
-use Rattle.copier.specs.Batches.{AreAdded, AddsBatches}
+use Rattle.copier.specs.Batches.{AddsMany, AreAdded, AreAddedUpTo, AddsBatches}
 use Rattle.copier.specs.Batches.AreAdded.{none, more}
+use Rattle.copier.specs.Batches.AreAddedUpTo.{none_yet, one_more}
 
 -- some, and then some more
 pub added_all : {names : List (List ℕ)} {old mid after : List Doc} {a b : Bool} → AreAdded names old a mid → AreAdded names mid b after → (any : Bool) × AreAdded names old any after
@@ -22,3 +27,39 @@ pub grows_until : {S : Type 0} {names : List (List ℕ)} {old mid new : Kept S} 
     → (fault ≡ Store) ⊎ AddsBatches names mid new → (fault ≡ Store) ⊎ AddsBatches names old new
 grows_until first (inl store) = inl store
 grows_until first (inr next) = inr (grows_all first next)
+
+-- a batch has entries
+some_of : {name : List ℕ} {count : ℕ} {old new : List Doc} → AddsMany name count old new → 0 < count
+some_of {count = zero} adds = absurd (adds.next.some (nil_from_length adds.next.ops adds.many))
+some_of {count = suc n} adds = zero-lt-suc n
+
+-- whether there was a batch
+pub any_added : {names : List (List ℕ)} {old new : List Doc} {most : ℕ} → AreAddedUpTo names old most new → AreAdded names old (ltb 0 most) new
+any_added none_yet = none
+any_added {names = ns} {old = old} (one_more {most = m} {count = n} {after = after} before here adds) =
+    subst (λ any. AreAdded ns old any after) (sym (lt-ltb 0 (max m n) (lt_of_lt_of_le (some_of adds) (le-max_right m n)))) (more (any_added before) here adds.next)
+
+-- the next entries of one document more, if any
+adds_to_max : {names : List (List ℕ)} {old before after : List Doc} {most count : ℕ} {name : List ℕ} → AreAddedUpTo names old most before
+    → Contains names name → (0 < count → AddsMany name count before after) → (count ≡ 0 → after ≡ before) → AreAddedUpTo names old (max most count) after
+adds_to_max {names = ns} {old = old} {before = b} {most = m} {count = zero} so_far here some unless =
+    subst (λ docs. AreAddedUpTo ns old (max m 0) docs) (sym (unless refl)) (subst (λ n. AreAddedUpTo ns old n b) (sym (max-zero m)) so_far)
+adds_to_max {count = suc n} so_far here some unless = one_more so_far here (some (zero-lt-suc n))
+
+-- the same, where the maximum was computed
+pub adds_next : {names : List (List ℕ)} {old before after : List Doc} {most count now : ℕ} {name : List ℕ} → now ≡ max most count → AreAddedUpTo names old most before
+    → Contains names name → (0 < count → AddsMany name count before after) → (count ≡ 0 → after ≡ before) → AreAddedUpTo names old now after
+adds_next {names = ns} {old = old} {after = a} is so_far here some unless = subst (λ n. AreAddedUpTo ns old n a) (sym is) (adds_to_max so_far here some unless)
+
+-- no batch
+pub none_added : {names : List (List ℕ)} {old new : List Doc} {most : ℕ} → AreAddedUpTo names old most new → most ≡ 0 → new ≡ old
+none_added none_yet is_0 = refl
+none_added (one_more {most = m} {count = n} before here adds) is_0 =
+    absurd (lt_irrefl 0 (lt_of_lt_of_le (some_of adds) (subst (λ k. n ≤ k) is_0 (le-max_right m n))))
+
+-- what a batch that was written makes of the documents
+pub adds_many : {U F : Type 0} (B C : Type 0) (r : Result U F) (name : List ℕ) (old new : List Doc) {from : ℕ} {ops : List Op} → ops ≢ [] → from ≡ length (log_of name old)
+    → OnOk r ((new ≡ add_batch name ops old) × B × C) → OnOk r (IsBatch name from ops old) → OnOk r (AddsMany name (length ops) old new)
+adds_many B C (Ok u) n d new {ops = o} some rows ok batch =
+    record { next = record { ops = o; some = some; batch = subst (λ k. IsBatch n k o d) rows batch; added = ok.0 }; many = refl }
+adds_many B C (Err e) n d new some rows ok batch = tt

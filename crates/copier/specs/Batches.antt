@@ -1,5 +1,5 @@
 -- What is copied: while sessions run, a copier writes what they log into the copy, in batches.
-use Rattle.std.specs.Prelude.{◌≡◌, ◌≢◌, ℕ, Bool, true, false, List, [], Contains, length, Option, None}
+use Rattle.std.specs.Prelude.{◌≡◌, ◌≢◌, ℕ, Bool, true, false, List, [], Contains, length, max, Option, None}
 use Rattle.doc_words.specs.Words.{Op}
 use Rattle.copy_docs.specs.Docs.{Doc, IsBatch, add_batch, log_of}
 use Rattle.copy_docs.specs.declared.fault.Fault.{Fault}
@@ -12,11 +12,22 @@ pub record AddsNext (name : List ℕ) (old new : List Doc) : Type 0 where
   pub batch : IsBatch name (length (log_of name old)) ops old
   pub added : new ≡ add_batch name ops old
 
+-- the same, and how many they were
+pub record AddsMany (name : List ℕ) (count : ℕ) (old new : List Doc) : Type 0 where
+  pub next : AddsNext name old new
+  pub many : length next.ops ≡ count
+
 -- One batch after another was added, each of a document of these names; and whether there was one.
 pub data AreAdded (names : List (List ℕ)) (old : List Doc) : Bool → List Doc → Type 0 where
   none : AreAdded names old false old
   more : {any : Bool} {before after : List Doc} {name : List ℕ} → AreAdded names old any before
       → Contains names name → AddsNext name before after → AreAdded names old true after
+
+-- The same, with the length of the longest batch: 0 where there was none.
+pub data AreAddedUpTo (names : List (List ℕ)) (old : List Doc) : ℕ → List Doc → Type 0 where
+  none_yet : AreAddedUpTo names old 0 old
+  one_more : {most count : ℕ} {before after : List Doc} {name : List ℕ} → AreAddedUpTo names old most before
+      → Contains names name → AddsMany name count before after → AreAddedUpTo names old (max most count) after
 
 -- the copy has what it had, and then batches of these documents, if any
 pub record AddsBatches {S : Type 0} (names : List (List ℕ)) (old new : Kept S) : Type 0 where

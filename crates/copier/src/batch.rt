@@ -1,5 +1,5 @@
 //! Batches: the next entries of a document, from its log into the stored log.
-ghost use Rattle.std.specs.Prelude.{◌≡◌, ◌≢◌, ◌⊎◌, ◌↔◌, ◌<◌, List, [], length, get_or, Contains};
+ghost use Rattle.std.specs.Prelude.{◌≡◌, ◌≢◌, ◌⊎◌, ◌↔◌, ◌<◌, ltb, List, [], length, get_or, Contains};
 ghost use Rattle.std.specs.Prelude.{true, false, IfOk, IfErr, OnOk, Ok, Err};
 ghost use Rattle.json_scalar.specs.Refusal.{UnlessMemory};
 ghost use Rattle.sqlite.specs.Tree.{Trees};
@@ -10,7 +10,7 @@ ghost use Rattle.doc_rules.specs.Document.{copied_to, tail};
 ghost use Rattle.copy_schema.specs.Content.{Holds};
 ghost use Rattle.copy_docs.specs.Docs.{IsBatch, add_batch, log_of};
 ghost use Rattle.log_copy.specs.Kept.{content};
-ghost use Rattle.copier.specs.Batches.{AddsNext, AreAdded, AddsBatches};
+ghost use Rattle.copier.specs.Batches.{AddsMany, AreAdded, AreAddedUpTo, AddsBatches};
 
 use crate::observer::CopyObserver;
 use doc_words::Operations;
@@ -105,7 +105,7 @@ fn add_next<S: Alter>(
     entries: &[op_core::Operation],
 ) -> Result<(), Fault>
     requires { entries.now ≢ [] }
-    ensures some { OnOk result (AddsNext name.now copy.old.docs copy.new.docs) }
+    ensures some { OnOk result (AddsMany name.now (length entries.now) copy.old.docs copy.new.docs) }
     ensures works { OnOk result ((copy.new.epoch ≡ copy.old.epoch) × (copy.new.has_failed ≡ false)) }
     ensures err { IfErr result (λ e. (e ≡ Fault.Store) ⊎ (copy.new ≡ copy.old)) }
     ensures failed { (result ≡ Err Fault.Store) ↔ (copy.new.has_failed ≡ true) }
@@ -121,9 +121,9 @@ fn add_next<S: Alter>(
 }
 
 /// Copies the next entries of the document of this name at this index, at most 256. Then it notes
-/// in the document how many of its entries the copy has, and notifies the observer. It returns
-/// whether there were any. The document's lock isn't held while they are written. The error is
-/// `Memory`, with the copy unchanged, or `Store` after a database error; then nothing is noted.
+/// in the document how many of its entries the copy has, and notifies the observer. It returns how
+/// many it copied. The document's lock isn't held while they are written. The error is `Memory`,
+/// with the copy unchanged, or `Store` after a database error; then nothing is noted.
 pub fn copy_some<M: Marker, R: Wait, S: Alter, T: CopyObserver>(
     rt: &R,
     shared: &SharedDocuments<M>,
@@ -131,11 +131,11 @@ pub fn copy_some<M: Marker, R: Wait, S: Alter, T: CopyObserver>(
     name: &str,
     copy: &mut LogCopy<S>,
     observer: &T,
-) -> Result<bool, Fault>
+) -> Result<usize, Fault>
     requires within { doc_index < length shared.now.names.items }
     requires named { name.now ≡ get_or shared.now.names.items doc_index [] }
-    ensures some { result ≡ Ok true → AddsNext name.now copy.old.docs copy.new.docs }
-    ensures none { result ≡ Ok false → copy.new ≡ copy.old }
+    ensures some { IfOk result (λ count. 0 < count → AddsMany name.now count copy.old.docs copy.new.docs) }
+    ensures none { result ≡ Ok 0 → copy.new ≡ copy.old }
     ensures works { OnOk result ((copy.new.epoch ≡ copy.old.epoch) × (copy.new.has_failed ≡ false)) }
     ensures err { IfErr result (λ e. (e ≡ Fault.Store) ⊎ (copy.new ≡ copy.old)) }
     ensures failed { (result ≡ Err Fault.Store) ↔ (copy.new.has_failed ≡ true) }
@@ -146,12 +146,12 @@ pub fn copy_some<M: Marker, R: Wait, S: Alter, T: CopyObserver>(
         return Err(Fault::Memory);
     };
     if next.as_slice().is_empty() {
-        return Ok(false);
+        return Ok(0);
     }
     add_next(copy, name, next.as_slice())?;
     note_at(rt, shared, doc_index, copy, name)?;
     notify_added(observer, copy, name, next.as_slice());
-    Ok(true)
+    Ok(next.as_slice().len())
 }
 
 // The name of the document at this index.
@@ -163,28 +163,29 @@ fn name_at<M: Marker>(shared: &SharedDocuments<M>, doc_index: usize) -> &str
     shared.names[doc_index].as_str()
 }
 
-/// Copies the next entries of each document, at most 256 of each, and returns whether there were
-/// any. The errors are those of `copy_some`: what was copied before the error stays.
+/// Copies the next entries of each document, at most 256 of each, and returns how many it copied of
+/// the document of which it copied most. The errors are those of `copy_some`: what was copied
+/// before the error stays.
 pub fn copy_each<M: Marker, R: Wait, S: Alter, T: CopyObserver>(
     rt: &R,
     shared: &SharedDocuments<M>,
     copy: &mut LogCopy<S>,
     observer: &T,
-) -> Result<bool, Fault>
-    ensures ok { IfOk result (λ any. AreAdded shared.now.names.items copy.old.docs any copy.new.docs) }
-    ensures none { result ≡ Ok false → copy.new.docs ≡ copy.old.docs }
+) -> Result<usize, Fault>
+    ensures ok { IfOk result (λ most. AreAdded shared.now.names.items copy.old.docs (ltb 0 most) copy.new.docs) }
+    ensures most { IfOk result (λ most. AreAddedUpTo shared.now.names.items copy.old.docs most copy.new.docs) }
+    ensures none { result ≡ Ok 0 → copy.new.docs ≡ copy.old.docs }
     ensures works { OnOk result ((copy.new.epoch ≡ copy.old.epoch)
         × (copy.old.has_failed ≡ false → copy.new.has_failed ≡ false)) }
     ensures err { IfErr result (λ e. (e ≡ Fault.Store) ⊎ AddsBatches shared.now.names.items copy.old copy.new) }
     ensures failed { result ≡ Err Fault.Store → copy.new.has_failed ≡ true }
     ensures alone { copy.new.is_alone ≡ copy.old.is_alone }
 {
-    let mut any = false;
+    let mut most: usize = 0;
     for doc_index in 0..shared.names.len() {
         let name = name_at(shared, doc_index);
-        if copy_some(rt, shared, doc_index, name, copy, observer)? {
-            any = true;
-        }
+        let count = copy_some(rt, shared, doc_index, name, copy, observer)?;
+        most = most.max(count);
     }
-    Ok(any)
+    Ok(most)
 }

@@ -4,14 +4,31 @@ ghost use Rattle.copier.specs.Batches.{AddsBatches, HasCopied};
 
 use crate::batch::copy_each;
 use crate::observer::CopyObserver;
-use log_copy::{Fault, LogCopy};
+use log_copy::{Fault, LogCopy, MAX_BATCH};
 use server_core::{SharedDocuments, Side, Signalled};
 use share_ledger::Marker;
 use sqlite::Alter;
 use std::sync::Wait;
 
+// Waits until the copier should look again, after a look at which it copied at most so many entries
+// of a document. It returns what the signal has counted by then.
+fn next_look<M: Marker, R: Wait>(
+    rt: &R,
+    shared: &SharedDocuments<M>,
+    sessions: u64,
+    seen: Signalled,
+    most: usize,
+) -> Signalled {
+    // A full batch may have left some. Once all have ended, no batch grows.
+    if most >= MAX_BATCH || seen.ended >= sessions {
+        return seen;
+    }
+    shared.signal.pause(rt, seen)
+}
+
 /// Copies what so many sessions log while they run, and what is left once they have ended. It
-/// sleeps while there is nothing to copy, and holds no lock while it writes. It notifies the
+/// sleeps while there is nothing to copy, and holds no lock while it writes. It pauses for some
+/// milliseconds unless a batch was full, so that batches grow: each costs an fsync. It notifies the
 /// observer of each batch. It ends at the first fault: `Store` where the database failed, `Memory`
 /// where memory ran out.
 pub fn keep_up<M: Marker, R: Wait, S: Alter, T: CopyObserver>(
@@ -33,14 +50,14 @@ pub fn keep_up<M: Marker, R: Wait, S: Alter, T: CopyObserver>(
     };
     for _ in rt.forever() {
         match copy_each(rt, shared, copy, observer) {
-            Ok(true) => {}
-            Ok(false) => {
+            Ok(0) => {
                 // What was logged before all had ended was just copied.
                 if seen.ended >= sessions {
                     return Ok(());
                 }
                 seen = shared.signal.wait(rt, seen);
             }
+            Ok(most) => seen = next_look(rt, shared, sessions, seen, most),
             Err(fault) => return Err(fault),
         }
     }

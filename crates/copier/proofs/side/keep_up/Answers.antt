@@ -1,4 +1,4 @@
-use Rattle.std.proofs.Common.{◌∙◌, refl, false}
+use Rattle.std.proofs.Common.{◌∙◌, refl, false, ltb}
 use Rattle.copier.specs.Batches.AreAdded.{none}
 use Rattle.copier.proofs.Adding.{grows_all, grows_until}
 use Rattle.copier.proofs.side.keep_up.Goals as goal
@@ -6,12 +6,12 @@ use Rattle.copier.proofs.side.keep_up.Goals as goal
 pub loop-init : goal.loop-init
 loop-init g c = record { waits = (tt, tt); grown = record { any = false; added = none; epoch = refl }; works = λ h. h; alone = refl }
 
-pub loop-preserved-in-Ok-true : goal.loop-preserved-in-Ok-true
-loop-preserved-in-Ok-true g c =
-    let now = c.in-Ok-true.ensures in
+pub loop-preserved : goal.loop-preserved
+loop-preserved g c =
+    let now = c.in-Ok.ensures in
     let before = c.loop.invariant in record {
       waits = (tt, tt);
-      grown = grows_all before.grown (record { any = c.in-Ok-true.field-0; added = now.ok; epoch = now.works.0 });
+      grown = grows_all before.grown (record { any = ltb 0 c.in-Ok.most; added = now.ok; epoch = now.works.0 });
       works = λ h. now.works.1 (before.works h);
       alone = now.alone ∙ before.alone;
     }
