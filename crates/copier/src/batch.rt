@@ -39,7 +39,7 @@ fn next_of<M: Marker>(doc: &LockedDoc<M>, from: usize) -> Result<Operations, Ref
     doc.tail(from, MAX_BATCH)
 }
 
-// The same for the document at this index, under its lock.
+// The next entries of the document at this index. Its lock is held while they are read.
 fn next_at<M: Marker, R: Wait>(
     rt: &R,
     shared: &SharedDocuments<M>,
@@ -67,7 +67,8 @@ fn note_rows<M: Marker, S: Alter>(
     Ok(())
 }
 
-// The same for the document at this index, under its lock.
+// Notes in the document at this index how many of its entries the copy has. Its lock is held
+// meanwhile.
 fn note_at<M: Marker, R: Wait, S: Alter>(
     rt: &R,
     shared: &SharedDocuments<M>,
