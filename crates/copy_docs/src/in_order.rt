@@ -1,7 +1,7 @@
 //! The same of documents that stand in the order of their names, by bisection. The last one is looked at first, since
 //! rows are read in this order.
-ghost use Rattle.std.specs.Prelude.{◌≡◌, ◌≢◌, ◌≤◌, ◌↔◌, ◌++◌, ◌∷◌, [], length, IfErr, OnOk, Err, MatchResult, IsTrue, true};
-ghost use Rattle.std.specs.Prelude.{false};
+ghost use Rattle.std.specs.Prelude.{◌≡◌, ◌≢◌, ◌≤◌, ◌↔◌, ◌++◌, ◌∷◌, [], length, IfErr, OnOk, Err, MatchResult};
+ghost use Rattle.std.specs.Prelude.{IsTrue, true, false};
 ghost use Rattle.std.specs.List.Sorted.{IsPartitionPoint};
 ghost use Rattle.std.specs.Ordering.{is_lt};
 ghost use Rattle.doc_words.specs.Words.{name_cmp};
