@@ -182,7 +182,7 @@ const FORMAT: &str = "SELECT value FROM meta WHERE name = 'format'";
 
 // The rows stay byte for byte, in the old format or the new one, and in the new one where the copy
 // was opened.
-const AFTER_MIGRATED: [&[(Step<'static>, StepAnswer)]; 3] = [
+const AFTER_MIGRATION: [&[(Step<'static>, StepAnswer)]; 3] = [
     &[],
     &[
         (Step::Ask(FORMATS), StepAnswer::Number(1)),
