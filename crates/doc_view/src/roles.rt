@@ -31,7 +31,7 @@ pub fn conflicts(alloc: Global, tree: &Tree, cursor: &Cursor) -> Result<Conflict
 
 fn values_of_roles(
     alloc: Global,
-    roles: Entries<'_, Role>,
+    roles: Entries<'_>,
     scalars: &[(Id, Scalar)],
 ) -> Result<Conflicts, Refusal>
     ensures { GivesUnlessMemory (λ values. values ≡ values_of_roles scalars.now roles.entry) result }
@@ -90,7 +90,7 @@ pub struct EmptyPut {
 
 /// Whether some id has the role of one that put an empty map, or an empty list. It looks at each role, as no order
 /// tells which those are.
-pub fn empty_put(roles: Entries<'_, Role>) -> EmptyPut
+pub fn empty_put(roles: Entries<'_>) -> EmptyPut
     ensures map { result.map ≡ list_any (λ e. showing.is_map e.1) roles.entry }
     ensures list { result.list ≡ list_any (λ e. showing.is_list_role e.1) roles.entry }
 {

@@ -1,4 +1,4 @@
-//! Values by the ids of operations, in blocks, so that one more id moves few others.
+//! The operations that make a place present, in blocks, so that one more id moves few others.
 ghost use Rattle.std.specs.Prelude.{◌≡◌, ◌+◌, ◌<◌, ◌≤◌, ◌↔◌, ◌∷◌, ◌++◌, ℕ, [], true, false, length, map, filter, take};
 ghost use Rattle.std.specs.Prelude.{drop, not, insert, IsTrue, IfSome, OnOk, OnErr, slice_index_or, slice_set};
 ghost use Rattle.lamport_id.specs.declared.id.Id.{Id};
@@ -9,6 +9,7 @@ ghost use Rattle.presence_set.specs.Blocks as Spec;
 
 use crate::ById;
 use crate::lack::Lack;
+use doc_words::Role;
 use lamport_id::Id;
 use op_core::Front;
 use std::alloc::{AllocError, Global};
@@ -17,30 +18,31 @@ use std::marker::Model;
 // How many ids a block takes: so many that there are few blocks, and so few that one more moves little.
 const FULL: usize = 256;
 
-/// At most one value for each id, in id order, in blocks, of which the first may be empty. It knows which block
-/// may lack room, so that making room looks at few of them. Clauses see a pair: the ids with their values, and
-/// whether there is room for one more.
-pub struct InBlocks<X> {
-    first: ById<X>,
-    rest: Vec<ById<X>>,
+/// The operations that make a place present, each with its role: at most one role for each id, in id order, in blocks,
+/// of which the first may be empty. It knows which block may lack room, so that making room looks at few of them.
+/// Clauses see a pair: the ids with their roles, and whether there is room for one more.
+pub struct Presence {
+    first: ById<Role>,
+    rest: Vec<ById<Role>>,
     lack: Lack,
 }
 
-impl<X> Model for InBlocks<X> {
+impl Model for Presence {
     ghost use Rattle.std.specs.Prelude.{List, Bool, ◌++◌};
     ghost use Rattle.lamport_id.specs.declared.id.Id.{Id};
+    ghost use Rattle.doc_words.specs.declared.role.Role.{Role};
     ghost use Rattle.presence_set.specs.Blocks.{pairs_in, is_nowhere, IsInBlocks};
 
-    ghost Value = { List (Id × X) × Bool };
+    ghost Value = { List (Id × Role) × Bool };
 
     ghost view = { λ p. (p.first.0 ++ pairs_in p.rest.items, is_nowhere p.lack) };
 
     ghost invariant = { λ p. IsInBlocks p.first p.rest.items p.lack };
 }
 
-impl<X: Drop> Drop for InBlocks<X> {
+impl Drop for Presence {
     fn drop(self) {
-        let InBlocks {
+        let Presence {
             first: _,
             rest: _,
             lack: _,
@@ -48,12 +50,12 @@ impl<X: Drop> Drop for InBlocks<X> {
     }
 }
 
-impl<X: Drop> InBlocks<X> {
+impl Presence {
     /// No id. It takes no memory yet.
-    pub fn new(alloc: Global) -> InBlocks<X>
+    pub fn new(alloc: Global) -> Presence
         ensures { result.0 ≡ [] }
     {
-        InBlocks {
+        Presence {
             first: ById::new(alloc),
             rest: Vec::new(alloc),
             lack: Lack::Anywhere,
@@ -77,7 +79,7 @@ impl<X: Drop> InBlocks<X> {
     }
 
     /// Gives the id this value, in place of any other. The room for one more is taken by it.
-    pub fn put(&mut self, id: Id, value: X)
+    pub fn put(&mut self, id: Id, value: Role)
         requires { self.old.1 ≡ true }
         ensures { self.new ≡ (put_at_id self.old.0 id value, false) }
     {
@@ -113,7 +115,7 @@ impl<X: Drop> InBlocks<X> {
     }
 
     /// The ids with their values, in id order.
-    pub fn entries(&self) -> Entries<'_, X>
+    pub fn entries(&self) -> Entries<'_>
         ensures value { result ≡ self.now.0 }
         ensures ascending { IsAscending result }
     {
@@ -126,26 +128,27 @@ impl<X: Drop> InBlocks<X> {
 
 /// Ids with their values, one after another in id order, seen as the list of those that are left.
 #[derive(Drop)]
-pub struct Entries<'a, X> {
-    entries: &'a [(Id, X)],
-    blocks: &'a [ById<X>],
+pub struct Entries<'a> {
+    entries: &'a [(Id, Role)],
+    blocks: &'a [ById<Role>],
 }
 
-impl<'a, X> Model for Entries<'a, X> {
+impl<'a> Model for Entries<'a> {
     ghost use Rattle.std.specs.Prelude.{List, ◌++◌};
     ghost use Rattle.lamport_id.specs.declared.id.Id.{Id};
+    ghost use Rattle.doc_words.specs.declared.role.Role.{Role};
     ghost use Rattle.presence_set.specs.Blocks.{pairs_in, AreNonEmpty};
 
-    ghost Value = { List (Id × X) };
+    ghost Value = { List (Id × Role) };
 
     ghost view = { λ e. e.entries.now ++ pairs_in e.blocks.now };
 
     ghost invariant = { λ e. AreNonEmpty e.blocks.now };
 }
 
-impl<'a, X> Entries<'a, X> {
+impl<'a> Entries<'a> {
     /// No id.
-    pub fn none() -> Entries<'a, X>
+    pub fn none() -> Entries<'a>
         ensures { result ≡ [] }
     {
         Entries {
@@ -155,7 +158,7 @@ impl<'a, X> Entries<'a, X> {
     }
 }
 
-impl<'a, X: Drop> Entries<'a, X> {
+impl<'a> Entries<'a> {
     /// Whether none is left.
     pub fn is_empty(&self) -> bool
         ensures { IsTrue result ↔ (self.now ≡ []) }
@@ -164,16 +167,16 @@ impl<'a, X: Drop> Entries<'a, X> {
     }
 }
 
-impl<'a, X: Drop> Iterator for Entries<'a, X> {
+impl<'a> Iterator for Entries<'a> {
     ghost use Rattle.std.specs.Iterator.{YieldsFirstRef, item_count};
 
-    type Item = &'a (Id, X);
+    type Item = &'a (Id, Role);
 
     ghost next_gives = { YieldsFirstRef (λ rest. rest) };
 
     ghost remaining = { item_count (λ rest. rest) };
 
-    fn next(&mut self) -> Option<&'a (Id, X)> {
+    fn next(&mut self) -> Option<&'a (Id, Role)> {
         if let Some((first, rest)) = self.entries.split_first() {
             self.entries = rest;
             return Some(first);
@@ -187,7 +190,7 @@ impl<'a, X: Drop> Iterator for Entries<'a, X> {
 }
 
 // How many blocks, at the front, start with an id that isn't greater: found by bisection.
-fn blocks_by<X: Drop>(blocks: &[ById<X>], id: &Id) -> usize
+fn blocks_by(blocks: &[ById<Role>], id: &Id) -> usize
     requires filled { AreNonEmpty blocks.now }
     requires rising { IsAscending (pairs_in blocks.now) }
     ensures value { result ≡ Spec.blocks_by id.now blocks.now }
@@ -199,14 +202,14 @@ fn blocks_by<X: Drop>(blocks: &[ById<X>], id: &Id) -> usize
         return count;
     }
     blocks.partition_point(
-        |block: &ById<X>| -> bool
+        |block: &ById<Role>| -> bool
             ensures { result ≡ starts_by id.entry.now block.now.0 }
         { starts_by(block.entries(), id) },
     )
 }
 
 // Whether the first id isn't greater.
-fn starts_by<X>(entries: &[(Id, X)], id: &Id) -> bool
+fn starts_by(entries: &[(Id, Role)], id: &Id) -> bool
     ensures { result ≡ starts_by id.now entries.now }
 {
     match entries.split_first() {
@@ -236,7 +239,7 @@ fn settled(lack: Lack) -> Lack
 }
 
 // Puts a value into the block where its id belongs, and returns that this block may lack room then.
-fn put_into<X: Drop>(first: &mut ById<X>, rest: &mut Vec<ById<X>>, id: Id, value: X) -> Lack
+fn put_into(first: &mut ById<Role>, rest: &mut Vec<ById<Role>>, id: Id, value: Role) -> Lack
     requires rising { IsAscending (first.old.0 ++ pairs_in rest.old.items) }
     requires filled { AreNonEmpty rest.old.items }
     requires first { HasSpareRoom first.old }
@@ -261,7 +264,7 @@ fn put_into<X: Drop>(first: &mut ById<X>, rest: &mut Vec<ById<X>>, id: Id, value
 }
 
 // Drops the ids that the front covers from each block.
-fn retain_each<X: Drop>(blocks: &mut Vec<ById<X>>, front: &Front)
+fn retain_each(blocks: &mut Vec<ById<Role>>, front: &Front)
     ensures { blocks.new.items ≡ map (λ b. (uncovered front.now b.0, b.1)) blocks.old.items }
 {
     for at in 0..blocks.len() {
@@ -271,20 +274,20 @@ fn retain_each<X: Drop>(blocks: &mut Vec<ById<X>>, front: &Front)
 }
 
 // Drops the blocks that are empty.
-fn drop_empty<X: Drop>(blocks: &mut Vec<ById<X>>)
+fn drop_empty(blocks: &mut Vec<ById<Role>>)
     ensures { blocks.new.items ≡ filter (λ b. has_pair b.0) blocks.old.items }
 {
     blocks.retain(
-        |block: &ById<X>| -> bool
+        |block: &ById<Role>| -> bool
             ensures { result ≡ has_pair block.now.0 }
         { !block.entries().is_empty() },
     );
 }
 
 // Makes room for one more id in each block that may lack it.
-fn make_room<X: Drop>(
-    first: &mut ById<X>,
-    rest: &mut Vec<ById<X>>,
+fn make_room(
+    first: &mut ById<Role>,
+    rest: &mut Vec<ById<Role>>,
     lack: Lack,
 ) -> Result<(), AllocError>
     requires filled { AreNonEmpty rest.old.items }
@@ -302,10 +305,7 @@ fn make_room<X: Drop>(
 }
 
 // Makes room for one more id in the first block, and in the one that is cut from it.
-fn make_room_in_front<X: Drop>(
-    first: &mut ById<X>,
-    rest: &mut Vec<ById<X>>,
-) -> Result<(), AllocError>
+fn make_room_in_front(first: &mut ById<Role>, rest: &mut Vec<ById<Role>>) -> Result<(), AllocError>
     requires filled { AreNonEmpty rest.old.items }
     requires room { AllHaveRoom rest.old.items }
     ensures same { first.new.0 ++ pairs_in rest.new.items ≡ first.old.0 ++ pairs_in rest.old.items }
@@ -320,10 +320,7 @@ fn make_room_in_front<X: Drop>(
 }
 
 // Makes room for one more id in each block.
-fn make_room_in_each<X: Drop>(
-    first: &mut ById<X>,
-    rest: &mut Vec<ById<X>>,
-) -> Result<(), AllocError>
+fn make_room_in_each(first: &mut ById<Role>, rest: &mut Vec<ById<Role>>) -> Result<(), AllocError>
     requires { AreNonEmpty rest.old.items }
     ensures same { first.new.0 ++ pairs_in rest.new.items ≡ first.old.0 ++ pairs_in rest.old.items }
     ensures filled { AreNonEmpty rest.new.items }
@@ -334,10 +331,7 @@ fn make_room_in_each<X: Drop>(
 }
 
 // Makes room for one more id in the first block: it grows, or is cut in two.
-fn make_room_in_first<X: Drop>(
-    first: &mut ById<X>,
-    rest: &mut Vec<ById<X>>,
-) -> Result<(), AllocError>
+fn make_room_in_first(first: &mut ById<Role>, rest: &mut Vec<ById<Role>>) -> Result<(), AllocError>
     requires { AreNonEmpty rest.old.items }
     ensures same { first.new.0 ++ pairs_in rest.new.items ≡ first.old.0 ++ pairs_in rest.old.items }
     ensures filled { AreNonEmpty rest.new.items }
@@ -368,9 +362,9 @@ fn cut_place(len: usize, is_last: bool) -> Option<usize>
 }
 
 // Cuts the first block in two.
-fn cut_first<X: Drop>(
-    first: &mut ById<X>,
-    rest: &mut Vec<ById<X>>,
+fn cut_first(
+    first: &mut ById<Role>,
+    rest: &mut Vec<ById<Role>>,
     place: usize,
 ) -> Result<(), AllocError>
     requires filled { AreNonEmpty rest.old.items }
@@ -390,7 +384,7 @@ fn cut_first<X: Drop>(
 }
 
 // Makes room for one more id in each of the other blocks, from the last on.
-fn make_room_in_rest<X: Drop>(rest: &mut Vec<ById<X>>) -> Result<(), AllocError>
+fn make_room_in_rest(rest: &mut Vec<ById<Role>>) -> Result<(), AllocError>
     requires { AreNonEmpty rest.old.items }
     ensures same { pairs_in rest.new.items ≡ pairs_in rest.old.items }
     ensures filled { AreNonEmpty rest.new.items }
@@ -405,7 +399,7 @@ fn make_room_in_rest<X: Drop>(rest: &mut Vec<ById<X>>) -> Result<(), AllocError>
 }
 
 // Makes room for one more id in a block: it grows, or is cut in two.
-fn make_room_at<X: Drop>(rest: &mut Vec<ById<X>>, at: usize) -> Result<(), AllocError>
+fn make_room_at(rest: &mut Vec<ById<Role>>, at: usize) -> Result<(), AllocError>
     requires known { at < length rest.old.items }
     requires filled { AreNonEmpty rest.old.items }
     requires later { AllHaveRoom (drop (at + 1) rest.old.items) }
@@ -425,7 +419,7 @@ fn make_room_at<X: Drop>(rest: &mut Vec<ById<X>>, at: usize) -> Result<(), Alloc
 }
 
 // Makes a block grow.
-fn grow_at<X: Drop>(rest: &mut Vec<ById<X>>, at: usize) -> Result<(), AllocError>
+fn grow_at(rest: &mut Vec<ById<Role>>, at: usize) -> Result<(), AllocError>
     requires { at < length rest.old.items }
     ensures same { (n : ℕ) × (rest.new.items
         ≡ slice_set rest.old.items at ((slice_index_or rest.old.items at ([], 0)).0, n)) }
@@ -436,7 +430,7 @@ fn grow_at<X: Drop>(rest: &mut Vec<ById<X>>, at: usize) -> Result<(), AllocError
 }
 
 // Cuts a block in two, each with room for one more id.
-fn cut_at<X: Drop>(rest: &mut Vec<ById<X>>, at: usize, place: usize) -> Result<(), AllocError>
+fn cut_at(rest: &mut Vec<ById<Role>>, at: usize, place: usize) -> Result<(), AllocError>
     requires known { at < length rest.old.items }
     requires filled { AreNonEmpty rest.old.items }
     requires later { AllHaveRoom (drop (at + 1) rest.old.items) }
@@ -453,7 +447,7 @@ fn cut_at<X: Drop>(rest: &mut Vec<ById<X>>, at: usize, place: usize) -> Result<(
 }
 
 // Cuts a block in two.
-fn split_at<X: Drop>(rest: &mut Vec<ById<X>>, at: usize, place: usize) -> Result<(), AllocError>
+fn split_at(rest: &mut Vec<ById<Role>>, at: usize, place: usize) -> Result<(), AllocError>
     requires known { at < length rest.old.items }
     requires inside { place < length (slice_index_or rest.old.items at ([], 0)).0 }
     ensures ok { OnOk result ((n : ℕ) × (place < n) × (m : ℕ) × (rest.new.items

@@ -1,6 +1,4 @@
-use Rattle.std.proofs.Common.{length, ◌+◌, ◌-◌}
-use Rattle.doc_nodes.specs.KeyOrder as KeyOrder
-use Rattle.doc_nodes.specs.Blocks as Blocks
+use Rattle.std.proofs.Common.{length}
 use Rattle.doc_nodes.proofs.children.+open_blocks.Given as goal
 
 -- proposed from what the function passes where it calls itself

@@ -1,4 +1,4 @@
-use Rattle.std.proofs.Common.{◌<◌, ◌+◌, ◌∙◌, length, insert, true, false, ap, arith}
+use Rattle.std.proofs.Common.{◌<◌, ◌+◌, ◌∙◌, length, insert, false, ap, arith}
 use Rattle.std.proofs.lemmas.List.{get_or_default}
 use Rattle.doc_nodes.proofs.Gone.{repeated_past, repeated_inside}
 use Rattle.doc_nodes.proofs.children.repeat.Goals as goal

@@ -1,4 +1,4 @@
-use Rattle.std.proofs.Common.{◌≡◌, ◌<◌, ◌+◌, [], ◌∷◌, ◌++◌, append-nil, append_assoc, false, true, rules, refl, ◌∙◌, inl, inr, ⊎_elim, sym, ap, subst, set, length, get_or, take, Contains, Some, arith}
+use Rattle.std.proofs.Common.{◌≡◌, ◌<◌, ◌+◌, [], ◌∷◌, ◌++◌, append-nil, append_assoc, false, rules, refl, ◌∙◌, inl, inr, ⊎_elim, sym, ap, subst, set, length, get_or, take, Contains, Some, arith}
 use Rattle.std.proofs.lemmas.List.{get_or_default, get_or-set_same, length-set, take_all}
 use Rattle.list_laws.proofs.Reading.{take_read}
 use Rattle.op_core.specs.declared.cursor.Key.TheVariants.{Element, Head}
@@ -7,7 +7,7 @@ use Rattle.crdt_rules.specs.Context.{reference}
 use Rattle.doc_nodes.specs.Blocks.{joined}
 use Rattle.doc_nodes.specs.Nodes.{blank_node, node_of, child_of, cleared, IsPartCleared, ClearsUnder, ClearsFirst}
 use Rattle.doc_nodes.specs.HasPresence.{HavePresenceFrom}
-use Rattle.doc_nodes.specs.ListPresence.{plain, with_list_presence, candidates, ShowsPresence, ShowsPresenceBut, HaveCandidates}
+use Rattle.doc_nodes.specs.ListPresence.{plain, with_list_presence, ShowsPresence, ShowsPresenceBut, HaveCandidates}
 use Rattle.doc_nodes.proofs.Clearing.{none_yet, one_more, each-each, same_children}
 use Rattle.doc_nodes.proofs.Gone.{taken-more}
 use Rattle.doc_nodes.proofs.Plain.{child_of-plain, length-plain, shape_of-plain, write-plain, list_presence-plain, tree_same}

@@ -23,21 +23,23 @@ contains-past {X} [] id rising past = refl
 contains-past {X} (e ∷ entries) id rising past =
     contains-get (e ∷ entries) id ∙ ap is_some (get-missing ids_ordered (e ∷ entries) id e rising (λ within. absurd (omega (arith, past, within))))
 
-pub returns-then-at-len : goal.returns-then-at-len
-returns-then-at-len g c =
-    let items = c.self.inside.entries.items in
+pub returns-then-at-entries : goal.returns-then-at-entries
+returns-then-at-entries g c =
+    let items = c.args.self.now.0 in
     let id = c.args.id in
-    let d = c.index.result.now in
-    let at : c.rank_of-at.result ≡ rank items id = c.rank_of-at.ensures.value ∙ ap (λ l. rank l id) c.as_slice.ensures.value in
-    let within : c.rank_of-at.result < length items = omega (arith, ap length c.as_slice.ensures.value) in
-    let here : c.eq.result ≡ id_eq (get_or items c.rank_of-at.result d).0 id = c.eq.ensures ∙ ap (λ e. id_eq e.0 id) c.index.ensures in
-    rw (← c.self.view_is)
-    (here ∙ ap (λ n. id_eq (get_or items n d).0 id) at ∙ sym (contains-rank items id d c.self.invariant (subst (λ n. n < length items) at within)))
+    let d = c.index-entries-at.result in
+    let rising : IsAscending items = subst IsAscending c.entries-entries.ensures.value c.entries-entries.ensures.ascending in
+    let at : c.rank_of-at.result ≡ rank items id = c.rank_of-at.ensures.value ∙ ap (λ l. rank l id) c.entries-entries.ensures.value in
+    let within : c.rank_of-at.result < length items = omega (arith, ap length c.entries-entries.ensures.value) in
+    let here : c.eq.result ≡ id_eq (get_or items c.rank_of-at.result d).0 id =
+    c.eq.ensures ∙ ap (λ l. id_eq (get_or l c.rank_of-at.result d).0 id) c.entries-entries.ensures.value in
+    here ∙ ap (λ n. id_eq (get_or items n d).0 id) at ∙ sym (contains-rank items id d rising (subst (λ n. n < length items) at within))
 
-pub returns-else-at-len : goal.returns-else-at-len
-returns-else-at-len g c =
-    let items = c.self.inside.entries.items in
+pub returns-else-at-entries : goal.returns-else-at-entries
+returns-else-at-entries g c =
+    let items = c.args.self.now.0 in
     let id = c.args.id in
-    let at : c.rank_of-at.result ≡ rank items id = c.rank_of-at.ensures.value ∙ ap (λ l. rank l id) c.as_slice.ensures.value in
-    let past : length items ≤ rank items id = omega (arith, at, ap length c.as_slice.ensures.value) in
-    rw (← c.self.view_is) (le-ltb c.rank_of-at.result c.len.result c.if-at-len.false ∙ sym (contains-past items id c.self.invariant past))
+    let rising : IsAscending items = subst IsAscending c.entries-entries.ensures.value c.entries-entries.ensures.ascending in
+    let at : c.rank_of-at.result ≡ rank items id = c.rank_of-at.ensures.value ∙ ap (λ l. rank l id) c.entries-entries.ensures.value in
+    let past : length items ≤ rank items id = omega (arith, at, ap length c.entries-entries.ensures.value) in
+    le-ltb c.rank_of-at.result (length c.entries-entries.result.now) c.if-at-entries.false ∙ sym (contains-past items id rising past)

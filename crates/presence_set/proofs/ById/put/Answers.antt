@@ -1,66 +1,10 @@
-use Rattle.std.proofs.Common.{◌≡◌, ◌<◌, ◌∙◌, sym, ap, subst, set, length, get_or, true, false, arith}
-use Rattle.crdt_rules.specs.Same.{id_eq}
-use Rattle.std.specs.Prelude.{insert}
-use Rattle.presence_set.specs.ById.{put_at_id, rank, IsAscending}
+use Rattle.std.proofs.Common.{sym, subst}
+use Rattle.presence_set.specs.ById.{IsAscending}
+use Rattle.presence_set.specs.Kept.{kept_entries}
 use Rattle.presence_set.proofs.Ascending.{put_ascending}
-use Rattle.presence_set.proofs.ByIdLaws.{put-found, put-missing}
-use Rattle.presence_set.proofs.ById.put.Goals.{else-at-len-via-then-at-len+else-eq, else-at-len-via-else-at-len}
 use Rattle.presence_set.proofs.ById.put.Goals as goal
 
-pub invariant_of-self : goal.invariant_of-self
-invariant_of-self g c =
-    let items = c.self.inside.entries.items in
-    let at : c.rank_of-at.result ≡ rank items c.args.id = c.rank_of-at.ensures.value ∙ ap (λ l. rank l c.args.id) c.as_slice.ensures.value in
-    let same : id_eq (get_or items (rank items c.args.id) c.index.result.now).0 c.args.id ≡ true =
-    subst (λ n. id_eq (get_or items n c.index.result.now).0 c.args.id ≡ true) at
-    (subst (λ e. id_eq e.0 c.args.id ≡ true) c.index.ensures (sym c.if-eq.ensures)) in
-    let within : c.rank_of-at.result < length items = omega (arith, ap length c.as_slice.ensures.value) in
-    let changed : set items c.rank_of-at.result (c.args.id, c.args.value) ≡ put_at_id items c.args.id c.args.value =
-    ap (λ n. set items n (c.args.id, c.args.value)) at
-    ∙ sym (put-found items c.args.id c.args.value c.index.result.now (subst (λ n. n < length items) at within) same) in
-    subst IsAscending (sym changed) (put_ascending items c.args.id c.args.value c.self.invariant)
-
-pub invariant_of-self-in-Ok : goal.invariant_of-self-in-Ok
-invariant_of-self-in-Ok g c =
-    let items = c.self.inside.entries.items in
-    let at : c.rank_of-at.result ≡ rank items c.args.id = c.rank_of-at.ensures.value ∙ ap (λ l. rank l c.args.id) c.as_slice.ensures.value in
-    let missing : put_at_id items c.args.id c.args.value ≡ insert items (rank items c.args.id) (c.args.id, c.args.value) =
-    elim c.else-at-len.branch [
-      | else-at-len-via-then-at-len+else-eq w ↦ put-missing items c.args.id c.args.value w.index.result.now
-          (λ within. subst (λ n. id_eq (get_or items n w.index.result.now).0 c.args.id ≡ false) at
-          (subst (λ e. id_eq e.0 c.args.id ≡ false) w.index.ensures (sym w.if-eq.ensures)))
-      | else-at-len-via-else-at-len w ↦ put-missing items c.args.id c.args.value (c.args.id, c.args.value)
-          (λ within. absurd (omega (arith, ap length c.as_slice.ensures.value, at)))
-    ] in
-    let items_are = c.in-Ok.ensures.items ∙ ap (λ n. insert items n (c.args.id, c.args.value)) at ∙ sym missing in
-    subst IsAscending (sym items_are) (put_ascending items c.args.id c.args.value c.self.invariant)
-
-pub returns-then-eq : goal.returns-then-eq
-returns-then-eq g c =
-    let items = c.self.inside.entries.items in
-    let at : c.rank_of-at.result ≡ rank items c.args.id = c.rank_of-at.ensures.value ∙ ap (λ l. rank l c.args.id) c.as_slice.ensures.value in
-    let same : id_eq (get_or items (rank items c.args.id) c.index.result.now).0 c.args.id ≡ true =
-    subst (λ n. id_eq (get_or items n c.index.result.now).0 c.args.id ≡ true) at
-    (subst (λ e. id_eq e.0 c.args.id ≡ true) c.index.ensures (sym c.if-eq.ensures)) in
-    let within : c.rank_of-at.result < length items = omega (arith, ap length c.as_slice.ensures.value) in
-    let changed : set items c.rank_of-at.result (c.args.id, c.args.value) ≡ put_at_id items c.args.id c.args.value =
-    ap (λ n. set items n (c.args.id, c.args.value)) at
-    ∙ sym (put-found items c.args.id c.args.value c.index.result.now (subst (λ n. n < length items) at within) same) in
-    rw (← c.self.view_is) (λ i. (changed i, c.self.inside.entries.cap))
-
-pub returns-in-Ok : goal.returns-in-Ok
-returns-in-Ok g c =
-    let items = c.self.inside.entries.items in
-    let at : c.rank_of-at.result ≡ rank items c.args.id = c.rank_of-at.ensures.value ∙ ap (λ l. rank l c.args.id) c.as_slice.ensures.value in
-    let missing : put_at_id items c.args.id c.args.value ≡ insert items (rank items c.args.id) (c.args.id, c.args.value) =
-    elim c.else-at-len.branch [
-      | else-at-len-via-then-at-len+else-eq w ↦ put-missing items c.args.id c.args.value w.index.result.now
-          (λ within. subst (λ n. id_eq (get_or items n w.index.result.now).0 c.args.id ≡ false) at
-          (subst (λ e. id_eq e.0 c.args.id ≡ false) w.index.ensures (sym w.if-eq.ensures)))
-      | else-at-len-via-else-at-len w ↦ put-missing items c.args.id c.args.value (c.args.id, c.args.value)
-          (λ within. absurd (omega (arith, ap length c.as_slice.ensures.value, at)))
-    ] in
-    let room : length items < c.self.inside.entries.cap = rw (← c.self.view_is) at c.requires in
-    let same_block = c.in-Ok.ensures.in_place (omega (arith, ap length c.as_slice.ensures.value)) in
-    let items_are = c.in-Ok.ensures.items ∙ ap (λ n. insert items n (c.args.id, c.args.value)) at ∙ sym missing in
-    rw (← c.self.view_is) (λ i. (items_are i, same_block.1.0 i))
+pub invariant_of-self-else-has_nothing : goal.invariant_of-self-else-has_nothing
+invariant_of-self-else-has_nothing g c =
+    let rising : IsAscending c.in-Listed.entries.items = subst (λ k. IsAscending (kept_entries k)) c.in-Listed.is c.self.invariant.0 in
+    (subst IsAscending (sym c.put_listed.ensures.items) (put_ascending c.in-Listed.entries.items c.args.id c.args.value rising), tt)

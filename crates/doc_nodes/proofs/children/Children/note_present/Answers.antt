@@ -1,4 +1,4 @@
-use Rattle.std.proofs.Common.{rules, ◌≡◌, ◌<◌, ◌≤◌, [], length, get_or, set, Contains, true, false, if◌then◌else◌, Some, sym, subst, arith}
+use Rattle.std.proofs.Common.{rules, ◌≡◌, ◌<◌, ◌≤◌, [], length, get_or, set, Contains, false, Some, sym, subst, arith}
 use Rattle.std.proofs.lemmas.List.{nil_from_length, get_or_past, get_or-set_same}
 use Rattle.doc_nodes.specs.Blocks.{joined, but_gone}
 use Rattle.doc_nodes.specs.Children.{number_at}

@@ -6,7 +6,7 @@ use Rattle.presence_set.proofs.BlockLaws.{pairs_in-nil, nil_is}
 use Rattle.presence_set.proofs.blocks.Entries.is_empty.Goals as goal
 
 pub returns-then-is_empty : goal.returns-then-is_empty
-returns-then-is_empty g c =
+returns-then-is_empty c =
     let entries = c.self.inside.entries.now in
     let blocks = c.self.inside.blocks.now in
     let first : entries ≡ [] = nil_from_length entries (eqb-true (length entries) 0 (sym c.if-is_empty.ensures)) in
@@ -15,7 +15,7 @@ returns-then-is_empty g c =
     rw (← c.self.view_is) ((λ yes. ap (λ l. l ++ pairs_in blocks) first ∙ ap pairs_in (ends yes)), (λ none. back (pairs_in-nil entries blocks c.self.invariant none).1))
 
 pub returns-else-is_empty : goal.returns-else-is_empty
-returns-else-is_empty g c =
+returns-else-is_empty c =
     let entries = c.self.inside.entries.now in
     let blocks = c.self.inside.blocks.now in
     let no : IsTrue c.is_empty.result → ⊥ = λ yes. true≢false (sym yes ∙ c.if-is_empty.false) in

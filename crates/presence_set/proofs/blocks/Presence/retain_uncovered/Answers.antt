@@ -5,10 +5,10 @@ use Rattle.sorted_lists.proofs.Rising.{rising-filter}
 use Rattle.presence_set.specs.ById.{uncovered, IsAscending}
 use Rattle.presence_set.specs.Blocks.{pairs_in, has_pair, AreNonEmpty, is_nowhere, HasSpareRoom, AllHaveRoom, HaveRoomBut}
 use Rattle.presence_set.proofs.BlockLaws.{uncovered-append, pairs_in-cleared, filled-filled, room-cleared, rooms-cleared, rooms-settled, settled-same}
-use Rattle.presence_set.proofs.blocks.InBlocks.retain_uncovered.Goals as goal
+use Rattle.presence_set.proofs.blocks.Presence.retain_uncovered.Goals as goal
 
 pub invariant_of-self : goal.invariant_of-self
-invariant_of-self g c =
+invariant_of-self c =
     let front = c.args.front.now in
     let first = c.self.inside.first in
     let rest = c.self.inside.rest.items in
@@ -27,7 +27,7 @@ invariant_of-self g c =
     }
 
 pub returns : goal.returns
-returns g c =
+returns c =
     let front = c.args.front.now in
     let first = c.self.inside.first in
     let rest = c.self.inside.rest.items in

@@ -1,5 +1,5 @@
 use Rattle.std.proofs.Common.{not, ap}
-use Rattle.presence_set.proofs.fn.ById.retain_uncovered.retain.Goals as goal
+use Rattle.presence_set.proofs.fn.retain_listed.retain.Goals as goal
 
 pub returns : goal.returns
 returns g c = ap not c.covers.ensures

@@ -4,10 +4,10 @@ use Rattle.std.specs.Bool.{◌==◌}
 use Rattle.std.proofs.lemmas.List.{nil_from_length}
 use Rattle.presence_set.specs.Blocks.{pairs_in}
 use Rattle.presence_set.proofs.BlockLaws.{pairs_in-nil, nil_is}
-use Rattle.presence_set.proofs.blocks.InBlocks.is_empty.Goals as goal
+use Rattle.presence_set.proofs.blocks.Presence.is_empty.Goals as goal
 
 pub returns-then-is_empty : goal.returns-then-is_empty
-returns-then-is_empty g c =
+returns-then-is_empty c =
     let first = c.self.inside.first.0 in
     let rest = c.self.inside.rest.items in
     let counted : (vec_len c.self.inside.rest == 0) ≡ (length rest == 0) = ap (λ n. n == 0) c.self.inside.rest.ok.0 in
@@ -19,7 +19,7 @@ returns-then-is_empty g c =
     )
 
 pub returns-else-is_empty : goal.returns-else-is_empty
-returns-else-is_empty g c =
+returns-else-is_empty c =
     let first = c.self.inside.first.0 in
     let rest = c.self.inside.rest.items in
     let no : IsTrue c.is_empty.result → ⊥ = λ yes. true≢false (sym yes ∙ c.if-is_empty.false) in

@@ -2,10 +2,10 @@ use Rattle.std.proofs.Common.{◌++◌, sym, subst}
 use Rattle.presence_set.specs.ById.{IsAscending}
 use Rattle.presence_set.specs.Blocks.{pairs_in}
 use Rattle.presence_set.proofs.Ascending.{put_ascending}
-use Rattle.presence_set.proofs.blocks.InBlocks.put.Goals as goal
+use Rattle.presence_set.proofs.blocks.Presence.put.Goals as goal
 
 pub invariant_of-self : goal.invariant_of-self
-invariant_of-self g c =
+invariant_of-self c =
     record {
       rising = subst IsAscending (sym c.put_into-self-inside.ensures.same) (put_ascending (c.self.inside.first.0 ++ pairs_in c.self.inside.rest.items) c.args.id c.args.value c.self.invariant.rising);
       filled = c.put_into-self-inside.ensures.filled;

@@ -2,14 +2,14 @@ use Rattle.std.proofs.Common.{◌≡◌, ◌∙◌, suc, rules, sym, ap, subst, 
 use Rattle.presence_set.specs.ById.{contains, IsAscending}
 use Rattle.presence_set.specs.Blocks.{pairs_in, blocks_by}
 use Rattle.presence_set.proofs.BlockLaws.{rising_parts, contains_first, contains_rest}
-use Rattle.presence_set.proofs.blocks.InBlocks.contains.Goals as goal
+use Rattle.presence_set.proofs.blocks.Presence.contains.Goals as goal
 
 pub blocks_by-requires-clause-rising : goal.blocks_by-requires-clause-rising
-blocks_by-requires-clause-rising g c =
+blocks_by-requires-clause-rising c =
     subst (λ l. IsAscending (pairs_in l)) (sym c.as_slice.ensures.value) (rising_parts c.self.inside.first.0 (pairs_in c.self.inside.rest.items) c.self.invariant.rising).1
 
 pub returns-in-None : goal.returns-in-None
-returns-in-None g c =
+returns-in-None c =
     let first = c.self.inside.first in
     let rest = c.self.inside.rest.items in
     let id = c.args.id in
@@ -18,7 +18,7 @@ returns-in-None g c =
     rw (← c.self.view_is) (c.contains.ensures ∙ sym (contains_first first.0 rest id c.self.invariant.rising c.self.invariant.filled at))
 
 pub returns-in-Some : goal.returns-in-Some
-returns-in-Some g c =
+returns-in-Some c =
     let first = c.self.inside.first in
     let rest = c.self.inside.rest.items in
     let id = c.args.id in
