@@ -22,7 +22,8 @@ use Rattle.doc_rules.specs.Shown.{Shown, Fields, Elements, shown, no_map, a_map,
 use Rattle.doc_rules.specs.Sorted.{AreThose}
 use Rattle.doc_rules.proofs.Resolved.{those_from}
 use Rattle.doc_view.specs.Members.{texts_at, texts_in}
-use Rattle.doc_view.specs.Showing.{is_map, is_list_role, field_data, IsShown, IsMapShown, IsListShown, EachField, AreFields, EachElement, AreShown}
+use Rattle.presence_set.specs.EmptyPut.{puts_map, puts_list}
+use Rattle.doc_view.specs.Showing.{field_data, IsShown, IsMapShown, IsListShown, EachField, AreFields, EachElement, AreShown}
 use Rattle.doc_view.specs.TreeValues.{tree_values}
 use Rattle.doc_view.proofs.Presence.{AreRoles, role_of, present_from, entry_from}
 use Rattle.list_laws.proofs.Reading.{take_read}
@@ -31,7 +32,7 @@ use Rattle.doc_view.proofs.Writing.{branch_of}
 
 -- ---- which values are put
 
-put_is_map : (r : Role) (s : Option Scalar) → value_in r s ≡ Some EmptyMap → is_map r ≡ true
+put_is_map : (r : Role) (s : Option Scalar) → value_in r s ≡ Some EmptyMap → puts_map r ≡ true
 put_is_map role.Through s e = cc
 put_is_map role.Map s e = refl
 put_is_map role.List s e = cc
@@ -39,14 +40,14 @@ put_is_map role.Scalar None e = cc
 put_is_map role.Scalar (Some s) e = cc
 put_is_map role.Counter s e = cc
 
-map_is_put : (r : Role) (s : Option Scalar) → is_map r ≡ true → value_in r s ≡ Some EmptyMap
+map_is_put : (r : Role) (s : Option Scalar) → puts_map r ≡ true → value_in r s ≡ Some EmptyMap
 map_is_put role.Through s e = absurd (true≢false (sym e))
 map_is_put role.Map s e = refl
 map_is_put role.List s e = absurd (true≢false (sym e))
 map_is_put role.Scalar s e = absurd (true≢false (sym e))
 map_is_put role.Counter s e = absurd (true≢false (sym e))
 
-put_is_list : (r : Role) (s : Option Scalar) → value_in r s ≡ Some EmptyList → is_list_role r ≡ true
+put_is_list : (r : Role) (s : Option Scalar) → value_in r s ≡ Some EmptyList → puts_list r ≡ true
 put_is_list role.Through s e = cc
 put_is_list role.Map s e = cc
 put_is_list role.List s e = refl
@@ -54,7 +55,7 @@ put_is_list role.Scalar None e = cc
 put_is_list role.Scalar (Some s) e = cc
 put_is_list role.Counter s e = cc
 
-list_is_put : (r : Role) (s : Option Scalar) → is_list_role r ≡ true → value_in r s ≡ Some EmptyList
+list_is_put : (r : Role) (s : Option Scalar) → puts_list r ≡ true → value_in r s ≡ Some EmptyList
 list_is_put role.Through s e = absurd (true≢false (sym e))
 list_is_put role.Map s e = absurd (true≢false (sym e))
 list_is_put role.List s e = refl
@@ -80,12 +81,12 @@ puts_decides tree p k roles are test v puts is_put = (
     seen i o = option_and_then (λ r. value_in r ((tree_facts tree).register p k i)) o
 
 pub puts_map_decides : (tree : TreeValue) (p : List Tagged) (k : Key) (roles : List (Id × Role)) → AreRoles tree p k roles
-    → Decides (list_any (λ (e : Id × Role). is_map e.1) roles) (IsPut (tree_facts tree) (tree_values tree) p k EmptyMap)
-puts_map_decides tree p k roles are = puts_decides tree p k roles are is_map EmptyMap map_is_put put_is_map
+    → Decides (list_any (λ (e : Id × Role). puts_map e.1) roles) (IsPut (tree_facts tree) (tree_values tree) p k EmptyMap)
+puts_map_decides tree p k roles are = puts_decides tree p k roles are puts_map EmptyMap map_is_put put_is_map
 
 pub puts_list_decides : (tree : TreeValue) (p : List Tagged) (k : Key) (roles : List (Id × Role)) → AreRoles tree p k roles
-    → Decides (list_any (λ (e : Id × Role). is_list_role e.1) roles) (IsPut (tree_facts tree) (tree_values tree) p k EmptyList)
-puts_list_decides tree p k roles are = puts_decides tree p k roles are is_list_role EmptyList list_is_put put_is_list
+    → Decides (list_any (λ (e : Id × Role). puts_list e.1) roles) (IsPut (tree_facts tree) (tree_values tree) p k EmptyList)
+puts_list_decides tree p k roles are = puts_decides tree p k roles are puts_list EmptyList list_is_put put_is_list
 
 -- ---- fields
 

@@ -1,11 +1,9 @@
 -- What the parts of a shown element mean, and their JSON.
-use Rattle.std.specs.Prelude.{◌≡◌, ℕ, List, [], ◌∷◌, map, Bool, true, false}
+use Rattle.std.specs.Prelude.{◌≡◌, ℕ, List, [], ◌∷◌, map}
 use Rattle.serde_json.specs.Data.{Data, string}
 use Rattle.doc_words.specs.Words.{Id, Key, Tagged}
 use Rattle.op_core.specs.declared.cursor.Key.TheVariants.{Text, Element}
 use Rattle.op_core.specs.Wire.{list_data}
-use Rattle.doc_words.specs.declared.role.Role.{Role}
-use Rattle.doc_words.specs.declared.role.Role.TheVariants as role
 use Rattle.doc_tree.specs.Nodes.{TreeValue}
 use Rattle.doc_tree.specs.Nodes.{tree_facts}
 use Rattle.doc_rules.specs.Views.{IsPresent}
@@ -13,14 +11,6 @@ use Rattle.doc_rules.specs.Shown.{Shown, MapShown, ListShown, Shows, ShowsMap, S
 use Rattle.doc_rules.specs.Shown.{list_branch}
 use Rattle.doc_rules.specs.Sorted.{AreThose}
 use Rattle.doc_view.specs.TreeValues.{tree_values}
-
-abbrev pub is_map : Role → Bool
-is_map role.Map = true
-is_map _ = false
-
-abbrev pub is_list_role : Role → Bool
-is_list_role role.List = true
-is_list_role _ = false
 
 -- a text and what is shown under it
 abbrev pub field_data : List ℕ × Shown → Data

@@ -69,7 +69,7 @@ fn write_node(
         (λ p k. IsShown tree.now p k d)) text.old text.new) result }
 {
     text.begin_list()?;
-    let put = empty_put(tree.presence_of(at));
+    let put = empty_put(tree.presence_of(at), tree.may_put(at));
     write_map(alloc, text, tree, at, put.map)?;
     write_list(alloc, text, tree, at, put.list)?;
     write_values(text, tree.register_of(at), tree.counter_of(at))?;

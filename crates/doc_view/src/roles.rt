@@ -1,16 +1,16 @@
 //! What operations did at a place.
-ghost use Rattle.std.specs.Prelude.{◌≡◌, ◌++◌, ◌||◌, [], option_map};
+ghost use Rattle.std.specs.Prelude.{◌≡◌, ◌++◌, ◌||◌, ◌&&◌, [], not, option_map};
 ghost use Rattle.json_scalar.specs.declared.scalar.Val.TheVariants.{Scalar as Plain};
 ghost use Rattle.presence_set.specs.ById.{get};
+ghost use Rattle.presence_set.specs.EmptyPut.{CoversPut, puts_map, puts_list};
 ghost use Rattle.doc_tree.specs.Nodes.{tree_facts};
 ghost use Rattle.doc_rules.specs.Views.{AreConflicts};
 ghost use Rattle.doc_rules.specs.Role.{value_in};
 ghost use Rattle.doc_view.specs.Readings.{GivesUnlessMemory, ReadsUnlessMemory};
 ghost use Rattle.std.specs.List.{list_any};
-ghost use Rattle.doc_view.specs.Showing as showing;
 ghost use Rattle.doc_view.specs.TreeValues.{tree_values, values_of_roles, with_value};
 
-use doc_tree::{Entries, Tree};
+use doc_tree::{EmptyPut, Entries, Tree};
 use doc_words::{Conflicts, Role};
 use json_scalar::{Refusal, Scalar, Val};
 use lamport_id::Id;
@@ -81,43 +81,26 @@ fn scalar_of_id(id: &Id, scalars: &[(Id, Scalar)]) -> Result<Option<Val>, Refusa
     Ok(None)
 }
 
-/// Whether an empty map and an empty list are put at a place.
-#[derive(Clone, Copy, Debug)]
-pub struct EmptyPut {
-    pub map: bool,
-    pub list: bool,
-}
-
-/// Whether some id has the role of one that put an empty map, or an empty list. It looks at each role, as no order
-/// tells which those are.
-pub fn empty_put(roles: Entries<'_>) -> EmptyPut
-    ensures map { result.map ≡ list_any (λ e. showing.is_map e.1) roles.entry }
-    ensures list { result.list ≡ list_any (λ e. showing.is_list_role e.1) roles.entry }
+/// Whether some id has the role of one that put an empty map, or an empty list. It looks at roles only until it has
+/// found what may be put.
+pub fn empty_put(roles: Entries<'_>, may: EmptyPut) -> EmptyPut
+    requires { CoversPut may roles }
+    ensures map { result.map ≡ list_any (λ e. puts_map e.1) roles.entry }
+    ensures list { result.list ≡ list_any (λ e. puts_list e.1) roles.entry }
 {
-    let mut put = EmptyPut {
-        map: false,
-        list: false,
-    };
+    let mut put = EmptyPut::none();
     for entry in roles {
-        put = with_role(put, &entry.1);
+        if has_all(put, may) {
+            return put;
+        }
+        put = put.with(entry.1);
     }
     put
 }
 
-// The same of one role more.
-fn with_role(put: EmptyPut, role: &Role) -> EmptyPut
-    ensures map { result.map ≡ (showing.is_map role.now || put.map) }
-    ensures list { result.list ≡ (showing.is_list_role role.now || put.list) }
+// Whether each kind that may be put is.
+fn has_all(put: EmptyPut, may: EmptyPut) -> bool
+    ensures { result ≡ ((put.map || not may.map) && (put.list || not may.list)) }
 {
-    match role {
-        Role::Map => EmptyPut {
-            map: true,
-            list: put.list,
-        },
-        Role::List => EmptyPut {
-            map: put.map,
-            list: true,
-        },
-        Role::Through | Role::Scalar | Role::Counter => put,
-    }
+    (put.map || !may.map) && (put.list || !may.list)
 }

@@ -5,9 +5,11 @@ ghost use Rattle.lamport_id.specs.declared.id.Id.{Id};
 ghost use Rattle.presence_set.specs.ById.{put_at_id, contains, uncovered, IsAscending};
 ghost use Rattle.presence_set.specs.Blocks.{pairs_in, has_pair, starts_by, blocks_by, AreNonEmpty, HasSpareRoom};
 ghost use Rattle.presence_set.specs.Blocks.{AllHaveRoom, HaveRoomBut};
+ghost use Rattle.presence_set.specs.EmptyPut.{CoversPut};
 ghost use Rattle.presence_set.specs.Blocks as Spec;
 
 use crate::ById;
+use crate::empty_put::EmptyPut;
 use crate::lack::Lack;
 use doc_words::Role;
 use lamport_id::Id;
@@ -19,12 +21,14 @@ use std::marker::Model;
 const FULL: usize = 256;
 
 /// The operations that make a place present, each with its role: at most one role for each id, in id order, in blocks,
-/// of which the first may be empty. It knows which block may lack room, so that making room looks at few of them.
-/// Clauses see a pair: the ids with their roles, and whether there is room for one more.
+/// of which the first may be empty. It knows which block may lack room, so that making room looks at few of them, and
+/// whether an empty map or list may be put, so that a reader looks for one only then. Clauses see a pair: the ids with
+/// their roles, and whether there is room for one more.
 pub struct Presence {
     first: ById<Role>,
     rest: Vec<ById<Role>>,
     lack: Lack,
+    may_put: EmptyPut,
 }
 
 impl Model for Presence {
@@ -32,12 +36,14 @@ impl Model for Presence {
     ghost use Rattle.lamport_id.specs.declared.id.Id.{Id};
     ghost use Rattle.doc_words.specs.declared.role.Role.{Role};
     ghost use Rattle.presence_set.specs.Blocks.{pairs_in, is_nowhere, IsInBlocks};
+    ghost use Rattle.presence_set.specs.EmptyPut.{CoversPut};
 
     ghost Value = { List (Id × Role) × Bool };
 
     ghost view = { λ p. (p.first.0 ++ pairs_in p.rest.items, is_nowhere p.lack) };
 
-    ghost invariant = { λ p. IsInBlocks p.first p.rest.items p.lack };
+    ghost invariant = { λ p. IsInBlocks p.first p.rest.items p.lack
+        × CoversPut p.may_put (p.first.0 ++ pairs_in p.rest.items) };
 }
 
 impl Drop for Presence {
@@ -46,6 +52,7 @@ impl Drop for Presence {
             first: _,
             rest: _,
             lack: _,
+            may_put: _,
         } = self;
     }
 }
@@ -59,6 +66,7 @@ impl Presence {
             first: ById::new(alloc),
             rest: Vec::new(alloc),
             lack: Lack::Anywhere,
+            may_put: EmptyPut::none(),
         }
     }
 
@@ -83,6 +91,7 @@ impl Presence {
         requires { self.old.1 ≡ true }
         ensures { self.new ≡ (put_at_id self.old.0 id value, false) }
     {
+        self.may_put = self.may_put.with(value);
         self.lack = put_into(&mut self.first, &mut self.rest, id, value);
     }
 
@@ -94,6 +103,13 @@ impl Presence {
         self.first.retain_uncovered(front);
         retain_each(&mut self.rest, front);
         drop_empty(&mut self.rest);
+    }
+
+    /// Whether an empty map and an empty list may be put: of a kind for which this is false, none is.
+    pub fn may_put(&self) -> EmptyPut
+        ensures { CoversPut result self.now.0 }
+    {
+        self.may_put
     }
 
     /// Whether there is no id.

@@ -10,9 +10,11 @@ ghost use Rattle.presence_set.specs.ById.{put_at_id, contains, uncovered, rank, 
 ghost use Rattle.presence_set.specs.Kept.{kept_entries, is_in_place};
 
 mod blocks;
+mod empty_put;
 mod lack;
 
 pub use crate::blocks::{Entries, Presence};
+pub use crate::empty_put::EmptyPut;
 pub use doc_words::Role;
 use lamport_id::Id;
 use op_core::Front;

@@ -15,7 +15,7 @@ returns-then-is_empty c =
     let back : rest ≡ [] → IsTrue c.is_empty-then-is_empty.result = λ none. c.is_empty-then-is_empty.ensures ∙ counted ∙ nil_is rest none in
     rw (← c.self.view_is) (
       (λ yes. ap (λ l. l ++ pairs_in rest) (c.if-is_empty.ensures.0 refl) ∙ ap pairs_in (ends yes)),
-      (λ none. back (pairs_in-nil first rest c.self.invariant.filled none).1),
+      (λ none. back (pairs_in-nil first rest c.self.invariant.0.filled none).1),
     )
 
 pub returns-else-is_empty : goal.returns-else-is_empty
@@ -25,5 +25,5 @@ returns-else-is_empty c =
     let no : IsTrue c.is_empty.result → ⊥ = λ yes. true≢false (sym yes ∙ c.if-is_empty.false) in
     rw (← c.self.view_is) (
       (λ yes. absurd (no yes)),
-      (λ none. absurd (true≢false (sym (c.if-is_empty.ensures.1 (pairs_in-nil first rest c.self.invariant.filled none).0)))),
+      (λ none. absurd (true≢false (sym (c.if-is_empty.ensures.1 (pairs_in-nil first rest c.self.invariant.0.filled none).0)))),
     )
