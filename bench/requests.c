@@ -1,9 +1,9 @@
 /* A client of one thread that keeps connections busy: requests a second of jcrdt or of Redis over loopback.
 
-   usage: requests jcrdt|redis PORT CONNECTIONS UNDER_WAY TOTAL
+   usage: requests jcrdt|redis PORT CONNECTIONS UNDER_WAY TOTAL DOCUMENTS
 
-   Each connection has UNDER_WAY requests sent and not yet answered. A request sets one of 1,000 keys: ["assign",..] of the
-   document d, or SET. It prints requests a second. */
+   Each connection has UNDER_WAY requests sent and not yet answered. A request sets one of 1,000 keys: ["assign",..] of one of
+   the documents d0, d1 and so on, which the connections take in turn, or SET. It prints requests a second. */
 #include <arpa/inet.h>
 #include <netinet/in.h>
 #include <netinet/tcp.h>
@@ -18,6 +18,7 @@
 enum { ROOM = 1 << 20, KEYS = 1000 };
 
 struct connection {
+    int document; /* none for Redis */
     long sent, answered;
 };
 
@@ -34,28 +35,28 @@ static double now(void) {
     return t.tv_sec + t.tv_nsec / 1e9;
 }
 
-static int connected(int port, int is_jcrdt) {
+static int connected(int port, int document) {
     struct sockaddr_in to = {.sin_family = AF_INET, .sin_port = htons(port), .sin_addr.s_addr = htonl(INADDR_LOOPBACK)};
     int at = socket(AF_INET, SOCK_STREAM, 0), yes = 1;
     if (at < 0 || connect(at, (void *)&to, sizeof to)) stop("connect");
     setsockopt(at, IPPROTO_TCP, TCP_NODELAY, &yes, sizeof yes);
-    if (is_jcrdt) {
-        static const char open[] = "[\"open\",\"d\"]\n";
-        if (write(at, open, strlen(open)) < 0 || read(at, in, ROOM) <= 0) stop("open");
+    if (document >= 0) {
+        int length = sprintf(out, "[\"open\",\"d%d\"]\n", document);
+        if (write(at, out, length) < 0 || read(at, in, ROOM) <= 0) stop("open");
     }
     return at;
 }
 
-static int put_request(char *at, int is_jcrdt, long number) {
+static int put_request(char *at, int document, long number) {
     int key = rand() % KEYS;
-    if (is_jcrdt) return sprintf(at, "[\"assign\",\"d\",[0,\"key%03d\"],%ld]\n", key, number);
+    if (document >= 0) return sprintf(at, "[\"assign\",\"d%d\",[0,\"key%03d\"],%ld]\n", document, key, number);
     return sprintf(at, "*3\r\n$3\r\nSET\r\n$6\r\nkey%03d\r\n$1\r\n1\r\n", key);
 }
 
 /* Sends requests until so many are under way. */
-static void fill(int at, struct connection *it, int is_jcrdt, int under_way, long each) {
+static void fill(int at, struct connection *it, int under_way, long each) {
     int length = 0;
-    while (it->sent < each && it->sent - it->answered < under_way) length += put_request(out + length, is_jcrdt, ++it->sent);
+    while (it->sent < each && it->sent - it->answered < under_way) length += put_request(out + length, it->document, ++it->sent);
     if (length && write(at, out, length) != length) stop("write");
 }
 
@@ -68,14 +69,17 @@ static long answers(int at) {
 }
 
 int main(int count, char **words) {
-    if (count != 6) return fputs("usage: requests jcrdt|redis PORT CONNECTIONS UNDER_WAY TOTAL\n", stderr), 2;
+    if (count != 7) return fputs("usage: requests jcrdt|redis PORT CONNECTIONS UNDER_WAY TOTAL DOCUMENTS\n", stderr), 2;
     int is_jcrdt = !strcmp(words[1], "jcrdt"), connections = atoi(words[3]), under_way = atoi(words[4]);
     long each = atol(words[5]) / connections, done = 0;
     struct pollfd *polled = calloc(connections, sizeof *polled);
     struct connection *all = calloc(connections, sizeof *all);
-    for (int i = 0; i < connections; i++) polled[i] = (struct pollfd){connected(atoi(words[2]), is_jcrdt), POLLIN, 0};
+    for (int i = 0; i < connections; i++) {
+        all[i].document = is_jcrdt ? i % atoi(words[6]) : -1;
+        polled[i] = (struct pollfd){connected(atoi(words[2]), all[i].document), POLLIN, 0};
+    }
     double began = now();
-    for (int i = 0; i < connections; i++) fill(polled[i].fd, all + i, is_jcrdt, under_way, each);
+    for (int i = 0; i < connections; i++) fill(polled[i].fd, all + i, under_way, each);
     while (done < each * connections) {
         poll(polled, connections, -1);
         for (int i = 0; i < connections; i++) {
@@ -83,7 +87,7 @@ int main(int count, char **words) {
             long found = answers(polled[i].fd);
             all[i].answered += found;
             done += found;
-            fill(polled[i].fd, all + i, is_jcrdt, under_way, each);
+            fill(polled[i].fd, all + i, under_way, each);
         }
     }
     printf("%.0f\n", done / (now() - began));
