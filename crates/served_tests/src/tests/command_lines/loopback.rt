@@ -126,12 +126,23 @@ fn two_sessions_over_loopback(rt: HostRuntime) -> Result<(), Fail> {
     Ok(())
 }
 
-// The reply to a client whose line is too long.
+// What a client gets whose line is too long. Once the server has ended, and the client has read all, it sends one byte
+// more, which a connection that was reset refuses.
 fn served_too_long<
     R: Net<Listener = TcpListener, Stream = TcpStream> + Threads + Wait + Sync + Log + Clock,
 >(rt: &R, alloc: Global) -> io::Result<Outcome> {
+    let listener = TcpListener::bind(rt, "127.0.0.1:0")?;
+    let mut stream = TcpStream::connect(rt, listener.local_addr()?)?;
     let line = vec![in alloc; b' '; 66_000]?;
-    served(rt, alloc, &["d", "e"], &[line.as_slice()])
+    stream.write_all(line.as_slice())?;
+    let (status, out) = serve(rt, alloc, &["d", "e"], &listener, 1)?;
+    let reply = io::read_to_string(alloc, &stream)?;
+    stream.write_all(b" ")?;
+    Ok(Outcome {
+        status,
+        out,
+        replies: vec![in alloc; reply]?,
+    })
 }
 
 fn has_too_long_reply<R: Abort>(rt: &R, outcome: &Outcome) {
@@ -147,8 +158,8 @@ fn has_too_long_reply<R: Abort>(rt: &R, outcome: &Outcome) {
     );
 }
 
-// A client whose line is too long, who has sent more than is read of it, and reads nothing until
-// the server has ended, gets its reply, and then the end of the stream: its connection isn't reset.
+// A client whose line is too long, who has sent more than is read of it, and reads nothing until the server has ended,
+// gets its reply, and then the end of the stream: its connection isn't reset.
 #[test]
 fn line_too_long_has_its_reply(rt: HostRuntime) -> Result<(), Fail> {
     has_too_long_reply(&rt, &served_too_long(&rt, rt.alloc())?);
