@@ -5,7 +5,6 @@ ghost use Rattle.crdt_rules.specs.Effect as Effect;
 use crate::holds::no_fault;
 use crate::written::{DEEPEST, operation};
 use doc_tree::{Entries, Tree};
-use doc_words::Role;
 use json_scalar::Refusal;
 use op_core::{Mutation, Operation};
 use std::alloc::Global;
@@ -38,7 +37,7 @@ fn tree_of(alloc: Global, texts: &[&str]) -> Result<Tree, Refusal> {
     Ok(tree)
 }
 
-fn number_of(entries: Entries<'_, Role>) -> usize {
+fn number_of(entries: Entries<'_>) -> usize {
     let mut number: usize = 0;
     for _ in entries {
         number = number.saturating_add(1);
