@@ -3,6 +3,7 @@
 
 mod children;
 mod clear;
+mod counter;
 mod finding;
 mod growth;
 mod list_presence;
@@ -12,8 +13,9 @@ mod write;
 
 pub use children::{Children, EachChild, SearchHint};
 pub use clear::{clear_under, clear_way};
+pub use counter::Counter;
 pub use finding::{find, find_list, keys};
 pub use growth::{prepare_way, reserve_order, reserve_value};
-pub use node::{Counter, Node, NodeNumber, PlaceNodes, ROOT, Register, element_in};
+pub use node::{Node, NodeNumber, PlaceNodes, ROOT, Register, element_in};
 pub use presence::add_presence_along;
 pub use write::{count, enter, link};

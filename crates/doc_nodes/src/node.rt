@@ -3,6 +3,7 @@ ghost use Rattle.std.specs.Prelude.{◌≡◌, []};
 ghost use Rattle.crdt_rules.specs.Context.{reference};
 
 use crate::children::Children;
+use crate::counter::Counter;
 use json_scalar::Scalar;
 use lamport_id::Id;
 use list_order::ListOrder;
@@ -28,9 +29,6 @@ pub struct PlaceNodes {
 
 /// The scalars that operations put at a place.
 pub type Register = ById<Scalar>;
-
-/// The numbers that operations add at a place.
-pub type Counter = ById<i64>;
 
 /// The id of an element's key.
 pub fn element_in(key: &Key) -> Option<Id>

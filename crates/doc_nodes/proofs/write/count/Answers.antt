@@ -10,7 +10,7 @@ pub put-requires : goal.put-requires
 put-requires c =
     let nodes = c.args.nodes.now in
     let is : get_or nodes c.args.at.0 c.index-nodes-at.result ≡ node_of nodes c.args.at = get_or_default nodes c.args.at.0 c.index-nodes-at.result blank_node c.requires.known in
-    (lit< tt, subst (λ (z : Node). length z.counter.0 < z.counter.1) (sym is) c.requires.room)
+    subst (λ (z : Node). length z.counter.0 < z.counter.1) (sym is) c.requires.room
 
 pub returns : goal.returns
 returns c =

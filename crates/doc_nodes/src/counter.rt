@@ -1,0 +1,104 @@
+//! The numbers that operations add at a place.
+ghost use Rattle.std.specs.Prelude.{◌≡◌, ◌<◌, ◌≤◌, [], length, IfOk, OnOk};
+ghost use Rattle.presence_set.specs.ById.{put_at_id, uncovered, IsAscending};
+
+use lamport_id::Id;
+use op_core::Front;
+use presence_set::ById;
+use std::alloc::{AllocError, Global};
+use std::marker::Model;
+
+/// The numbers that operations add at a place, by the operations' ids. Few places of a document are counters, so this
+/// takes memory only from the first reservation on. Clauses see a pair: the ids with their numbers, and how many of them
+/// there is room for.
+pub struct Counter {
+    numbers: Option<Box<ById<i64>>>,
+    alloc: Global,
+}
+
+impl Model for Counter {
+    ghost use Rattle.std.specs.Prelude.{List, ℕ, ℤ};
+    ghost use Rattle.lamport_id.specs.declared.id.Id.{Id};
+    ghost use Rattle.doc_nodes.specs.Counter.{numbers_of};
+
+    ghost Value = { List (Id × ℤ) × ℕ };
+
+    ghost view = { λ c. numbers_of (λ b. b.value) c.numbers };
+}
+
+impl Drop for Counter {
+    fn drop(self) {
+        let Counter {
+            numbers: _,
+            alloc: _,
+        } = self;
+    }
+}
+
+impl Counter {
+    /// No number. It takes no memory yet.
+    pub fn new(alloc: Global) -> Counter
+        ensures { result.0 ≡ [] }
+    {
+        Counter {
+            numbers: None,
+            alloc,
+        }
+    }
+
+    /// Makes room for one more number. Out of memory, the numbers stay as they are.
+    pub fn reserve_one(&mut self) -> Result<(), AllocError>
+        ensures same { self.new.0 ≡ self.old.0 }
+        ensures grows { self.old.1 ≤ self.new.1 }
+        ensures room { OnOk result (length self.new.0 < self.new.1) }
+    {
+        if let Some(numbers) = &mut self.numbers {
+            return numbers.reserve_one();
+        }
+        self.numbers = Some(first_room(self.alloc)?);
+        Ok(())
+    }
+
+    /// Gives the id this number, in place of any other.
+    pub fn put(&mut self, id: Id, number: i64)
+        requires { length self.old.0 < self.old.1 }
+        ensures { self.new ≡ (put_at_id self.old.0 id number, self.old.1) }
+    {
+        match &mut self.numbers {
+            // There is room.
+            None => unreachable!(),
+            Some(numbers) => numbers.put(id, number),
+        }
+    }
+
+    /// Drops the ids that the front covers.
+    pub fn retain_uncovered(&mut self, front: &Front)
+        ensures { self.new ≡ (uncovered front.now self.old.0, self.old.1) }
+    {
+        match &mut self.numbers {
+            None => {}
+            Some(numbers) => numbers.retain_uncovered(front),
+        }
+    }
+
+    /// The ids with their numbers, in id order.
+    pub fn entries(&self) -> &[(Id, i64)]
+        ensures value { result.now ≡ self.now.0 }
+        ensures ascending { IsAscending result.now }
+    {
+        match &self.numbers {
+            None => &[],
+            Some(numbers) => numbers.entries(),
+        }
+    }
+}
+
+// No number, with room for one.
+fn first_room(alloc: Global) -> Result<Box<ById<i64>>, AllocError>
+    ensures none { IfOk result (λ numbers. numbers.value.0 ≡ []) }
+    ensures room { IfOk result (λ numbers. 0 < numbers.value.1) }
+{
+    let mut numbers = ById::new(alloc);
+    numbers.reserve_one()?;
+    Ok(Box::new(alloc, numbers)?)
+}
