@@ -17,7 +17,7 @@ use doc_words::Operations;
 use json_scalar::Refusal;
 use locked_doc::LockedDoc;
 use log_copy::{Fault, LogCopy, MAX_BATCH};
-use server_core::SharedDocuments;
+use server_core::{SharedDocuments, spin_then_lock};
 use share_ledger::Marker;
 use sqlite::Alter;
 use std::sync::Wait;
@@ -48,7 +48,7 @@ fn next_at<M: Marker, R: Wait>(
 ) -> Result<Operations, Refusal>
     requires { doc_index < length shared.now.names.items }
 {
-    let doc = shared.shelf.doc(doc_index).lock(rt);
+    let doc = spin_then_lock(rt, shared.shelf.doc(doc_index));
     next_of(&doc, from)
 }
 
@@ -80,7 +80,7 @@ fn note_at<M: Marker, R: Wait, S: Alter>(
     ensures failed { (result ≡ Err Fault.Store) ↔ (copy.now.has_failed ≡ true) }
     ensures never_else { IfErr result (λ e. e ≡ Fault.Store) }
 {
-    let mut doc = shared.shelf.doc(doc_index).lock(rt);
+    let mut doc = spin_then_lock(rt, shared.shelf.doc(doc_index));
     note_rows(&mut doc, copy, name)
 }
 
