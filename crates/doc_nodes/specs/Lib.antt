@@ -1,6 +1,5 @@
 pub mod KeyOrder
 pub mod Children
-pub mod Counter
 pub mod Blocks
 pub mod Walk
 pub mod Nodes

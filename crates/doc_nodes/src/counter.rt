@@ -17,13 +17,12 @@ pub struct Counter {
 }
 
 impl Model for Counter {
-    ghost use Rattle.std.specs.Prelude.{List, ℕ, ℤ};
+    ghost use Rattle.std.specs.Prelude.{List, ℕ, ℤ, [], unwrap_or, option_map};
     ghost use Rattle.lamport_id.specs.declared.id.Id.{Id};
-    ghost use Rattle.doc_nodes.specs.Counter.{numbers_of};
 
     ghost Value = { List (Id × ℤ) × ℕ };
 
-    ghost view = { λ c. numbers_of (λ b. b.value) c.numbers };
+    ghost view = { λ c. unwrap_or (option_map (λ b. b.value) c.numbers) ([], 0) };
 }
 
 impl Drop for Counter {

@@ -1,6 +1,7 @@
 //! The numbered nodes of a document's tree: how they are found, made, made present, written and cleared.
 #![tactic(auto)]
 
+mod child_blocks;
 mod children;
 mod clear;
 mod counter;
@@ -11,7 +12,8 @@ mod node;
 mod presence;
 mod write;
 
-pub use children::{Children, EachChild, SearchHint};
+pub use child_blocks::{EachChild, SearchHint};
+pub use children::Children;
 pub use clear::{clear_under, clear_way};
 pub use counter::Counter;
 pub use finding::{find, find_list, keys};

@@ -1,5 +1,5 @@
 -- The ids of a list in its order, each with whether it is present.
-use Rattle.std.specs.Prelude.{ℕ, List, [], map, filter, Bool, false, Option, Some, None, if◌then◌else◌}
+use Rattle.std.specs.Prelude.{List, map, filter, Bool, false, Option, Some, None, if◌then◌else◌}
 use Rattle.std.specs.declared.cmp.Ordering.{Ordering}
 use Rattle.doc_words.specs.Words.{Id, id_cmp}
 use Rattle.crdt_rules.specs.Same.{id_eq}
@@ -31,8 +31,3 @@ with_presence entries id is = map (λ e. if id_eq e.0 id then (e.0, is) else e) 
 -- the entries with none present
 abbrev pub all_absent : List (Id × Bool) → List (Id × Bool)
 all_absent entries = map (λ e. absent e.0) entries
-
--- the entries and the room of a list, if it has been given any memory
-abbrev pub order_held : {B : Type 0} → (B → List (Id × Bool) × ℕ) → Option B → List (Id × Bool) × ℕ
-order_held held None = ([], 0)
-order_held held (Some b) = held b
