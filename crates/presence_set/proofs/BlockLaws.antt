@@ -18,9 +18,9 @@ use Rattle.crdt_rules.proofs.WalkLaws.{id_order}
 use Rattle.sorted_lists.proofs.Keys.{is_Less, apart, apart_back, greater_is, not_less_back}
 use Rattle.sorted_lists.proofs.Rising.{IsRising-split}
 use Rattle.presence_set.specs.ById.{put_at_id, contains, uncovered, IsAscending}
-use Rattle.presence_set.specs.Blocks.{pairs_in, has_pair, starts_by, blocks_by, AreNonEmpty, is_nowhere, settled, HasSpareRoom, AllHaveRoom, HaveRoomBut}
+use Rattle.presence_set.specs.Blocks.{pairs_in, has_pair, starts_by, blocks_by, AreNonEmpty, HasSpareRoom, AllHaveRoom, HaveRoomBut, HaveRoomFor}
 use Rattle.presence_set.specs.declared.lack.Lack.{Lack}
-use Rattle.presence_set.specs.declared.lack.Lack.TheVariants.{Nowhere, InFirst, InRest, Anywhere}
+use Rattle.presence_set.specs.declared.lack.Lack.TheVariants.{InRest, Anywhere}
 use Rattle.presence_set.proofs.Ascending.{ids_ordered}
 use Rattle.presence_set.proofs.ByIdLaws.{length-uncovered}
 
@@ -36,12 +36,6 @@ less_le a b c less over = go (is_lt (id_cmp b c)) refl (id_eq b c) refl
 not_true : (b : Bool) → not b ≡ true → b ≡ false
 not_true true e = absurd (true≢false (sym e))
 not_true false e = refl
-
-pub settled-same : (lack : Lack) → is_nowhere (settled lack) ≡ is_nowhere lack
-settled-same Nowhere = refl
-settled-same InFirst = refl
-settled-same (InRest at) = refl
-settled-same Anywhere = refl
 
 module _ {X : Type 0} where
   pub rising_parts : (xs ys : List (Id × X)) → IsAscending (xs ++ ys) → IsAscending xs × IsAscending ys
@@ -395,12 +389,10 @@ module _ {X : Type 0} where
   )
 
   -- where blocks go and others take nothing, room is known as far as it was everywhere
-  pub rooms-settled : (lack : Lack) (first new : List (Id × X) × ℕ) (blocks more : List (List (Id × X) × ℕ)) → HaveRoomBut lack first blocks
-      → (HasSpareRoom first → HasSpareRoom new) → (AllHaveRoom blocks → AllHaveRoom more) → HaveRoomBut (settled lack) new more
-  rooms-settled Nowhere first new blocks more room one all = (one room.0, all room.1)
-  rooms-settled InFirst first new blocks more room one all = tt
-  rooms-settled (InRest at) first new blocks more room one all = tt
-  rooms-settled Anywhere first new blocks more room one all = tt
+  pub rooms-settled : (has_room : Bool) (lack : Lack) (first new : List (Id × X) × ℕ) (blocks more : List (List (Id × X) × ℕ)) → HaveRoomFor has_room lack first blocks
+      → (HasSpareRoom first → HasSpareRoom new) → (AllHaveRoom blocks → AllHaveRoom more) → HaveRoomFor has_room Anywhere new more
+  rooms-settled true lack first new blocks more room one all = (one room.0, all room.1)
+  rooms-settled false lack first new blocks more room one all = tt
 
   -- both parts of a cut have pairs
   pub low_has : (n : ℕ) (xs : List (Id × X)) → 0 < n → n < length xs → has_pair (take n xs) ≡ true

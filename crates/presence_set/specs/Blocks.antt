@@ -1,21 +1,14 @@
 -- Values by ids, in blocks: the pairs of a block, and how many it has room for.
-use Rattle.std.specs.Prelude.{◌≡◌, ◌<◌, ℕ, suc, List, [], ◌∷◌, ◌++◌, length, take, drop, Bool, true, false, not}
+use Rattle.std.specs.Prelude.{◌≡◌, ◌<◌, ℕ, suc, List, [], ◌∷◌, ◌++◌, length, take, drop, Bool, true, false, not, Option, Box}
 use Rattle.std.specs.List.{flat_map, prefix_len}
 use Rattle.std.specs.Ordering.{is_lt}
 use Rattle.doc_words.specs.Words.{Id, id_cmp}
+use Rattle.doc_words.specs.declared.role.Role.{Role}
 use Rattle.presence_set.specs.ById.{IsAscending}
 use Rattle.presence_set.specs.declared.lack.Lack.{Lack}
-use Rattle.presence_set.specs.declared.lack.Lack.TheVariants.{Nowhere, InFirst, InRest, Anywhere}
-
--- no block may lack room
-abbrev pub is_nowhere : Lack → Bool
-is_nowhere Nowhere = true
-is_nowhere _ = false
-
--- what is known of it when blocks have gone
-abbrev pub settled : Lack → Lack
-settled Nowhere = Nowhere
-settled _ = Anywhere
+use Rattle.presence_set.specs.declared.lack.Lack.TheVariants.{InFirst, InRest, Anywhere}
+use Rattle.presence_set.specs.declared.later.LaterBlocks.{LaterBlocks}
+use Rattle.presence_set.specs.Boxed.{boxed_or}
 
 module _ {X : Type 0} where
   -- the pairs of all blocks, one block after another
@@ -51,15 +44,28 @@ module _ {X : Type 0} where
 
   -- the blocks that don't lack room have it
   abbrev pub HaveRoomBut : Lack → List (Id × X) × ℕ → List (List (Id × X) × ℕ) → Type 0
-  HaveRoomBut Nowhere first rest = HasSpareRoom first × AllHaveRoom rest
   HaveRoomBut InFirst first rest = AllHaveRoom rest
   HaveRoomBut (InRest at) first rest =
       HasSpareRoom first × (at < length rest) × AllHaveRoom (take at rest) × AllHaveRoom (drop (suc at) rest)
   HaveRoomBut Anywhere first rest = Unit {0}
 
+  -- each block has room where there is room for one more, and otherwise those that don't lack it
+  abbrev pub HaveRoomFor : Bool → Lack → List (Id × X) × ℕ → List (List (Id × X) × ℕ) → Type 0
+  HaveRoomFor true lack first rest = HasSpareRoom first × AllHaveRoom rest
+  HaveRoomFor false lack first rest = HaveRoomBut lack first rest
+
   -- the ids rise in the first block and from there on, no other block is empty, and each block has room except where it
   -- may lack it
-  pub record IsInBlocks (first : List (Id × X) × ℕ) (rest : List (List (Id × X) × ℕ)) (lack : Lack) : Type 0 where
+  pub record IsInBlocks (first : List (Id × X) × ℕ) (rest : List (List (Id × X) × ℕ)) (has_room : Bool) (lack : Lack) : Type 0 where
     pub rising : IsAscending (first.0 ++ pairs_in rest)
     pub filled : AreNonEmpty rest
-    pub room : HaveRoomBut lack first rest
+    pub room : HaveRoomFor has_room lack first rest
+
+module _ {Z : Type 0} where
+  -- the blocks behind the first: none without their box
+  abbrev pub blocks_in : Option (Box LaterBlocks Z) → List (List (Id × Role) × ℕ)
+  blocks_in = boxed_or [] (λ b. b.value.blocks.items)
+
+  -- which block may lack room: without that box any
+  abbrev pub lack_in : Option (Box LaterBlocks Z) → Lack
+  lack_in = boxed_or Anywhere (λ b. b.value.lack)

@@ -4,13 +4,15 @@ ghost use Rattle.std.specs.Prelude.{drop, not, insert, IsTrue, IfSome, OnOk, OnE
 ghost use Rattle.lamport_id.specs.declared.id.Id.{Id};
 ghost use Rattle.presence_set.specs.ById.{put_at_id, contains, uncovered, IsAscending};
 ghost use Rattle.presence_set.specs.Blocks.{pairs_in, has_pair, starts_by, blocks_by, AreNonEmpty, HasSpareRoom};
-ghost use Rattle.presence_set.specs.Blocks.{AllHaveRoom, HaveRoomBut};
+ghost use Rattle.presence_set.specs.Blocks.{AllHaveRoom, HaveRoomBut, blocks_in, lack_in};
 ghost use Rattle.presence_set.specs.EmptyPut.{CoversPut};
 ghost use Rattle.presence_set.specs.Blocks as Spec;
+ghost use Rattle.presence_set.specs.declared.lack.Lack.TheVariants.{Anywhere};
 
 use crate::ById;
 use crate::empty_put::EmptyPut;
 use crate::lack::Lack;
+use crate::later::LaterBlocks;
 use doc_words::Role;
 use lamport_id::Id;
 use op_core::Front;
@@ -21,38 +23,40 @@ use std::marker::Model;
 const FULL: usize = 256;
 
 /// The operations that make a place present, each with its role: at most one role for each id, in id order, in blocks,
-/// of which the first may be empty. It knows which block may lack room, so that making room looks at few of them, and
-/// whether an empty map or list may be put, so that a reader looks for one only then. Clauses see a pair: the ids with
-/// their roles, and whether there is room for one more.
+/// of which the first may be empty. Nearly every place has one block: the others are in a box that is made with the
+/// second. It knows whether an empty map or list may be put, so that a reader looks for one only then. Clauses see a
+/// pair: the ids with their roles, and whether there is room for one more.
 pub struct Presence {
     first: ById<Role>,
-    rest: Vec<ById<Role>>,
-    lack: Lack,
+    later: Option<Box<LaterBlocks>>,
+    has_room: bool,
     may_put: EmptyPut,
+    alloc: Global,
 }
 
 impl Model for Presence {
     ghost use Rattle.std.specs.Prelude.{List, Bool, ◌++◌};
     ghost use Rattle.lamport_id.specs.declared.id.Id.{Id};
     ghost use Rattle.doc_words.specs.declared.role.Role.{Role};
-    ghost use Rattle.presence_set.specs.Blocks.{pairs_in, is_nowhere, IsInBlocks};
+    ghost use Rattle.presence_set.specs.Blocks.{pairs_in, blocks_in, lack_in, IsInBlocks};
     ghost use Rattle.presence_set.specs.EmptyPut.{CoversPut};
 
     ghost Value = { List (Id × Role) × Bool };
 
-    ghost view = { λ p. (p.first.0 ++ pairs_in p.rest.items, is_nowhere p.lack) };
+    ghost view = { λ p. (p.first.0 ++ pairs_in (blocks_in p.later), p.has_room) };
 
-    ghost invariant = { λ p. IsInBlocks p.first p.rest.items p.lack
-        × CoversPut p.may_put (p.first.0 ++ pairs_in p.rest.items) };
+    ghost invariant = { λ p. IsInBlocks p.first (blocks_in p.later) p.has_room (lack_in p.later)
+        × CoversPut p.may_put (p.first.0 ++ pairs_in (blocks_in p.later)) };
 }
 
 impl Drop for Presence {
     fn drop(self) {
         let Presence {
             first: _,
-            rest: _,
-            lack: _,
+            later: _,
+            has_room: _,
             may_put: _,
+            alloc: _,
         } = self;
     }
 }
@@ -64,9 +68,10 @@ impl Presence {
     {
         Presence {
             first: ById::new(alloc),
-            rest: Vec::new(alloc),
-            lack: Lack::Anywhere,
+            later: None,
+            has_room: false,
             may_put: EmptyPut::none(),
+            alloc,
         }
     }
 
@@ -76,13 +81,11 @@ impl Presence {
         ensures grows { self.old.1 ≡ true → self.new.1 ≡ true }
         ensures room { OnOk result (self.new.1 ≡ true) }
     {
-        let lack = self.lack;
-        if is_nowhere(lack) {
+        if self.has_room {
             return Ok(());
         }
-        self.lack = Lack::Anywhere;
-        make_room(&mut self.first, &mut self.rest, lack)?;
-        self.lack = Lack::Nowhere;
+        make_room_for_one(&mut self.first, &mut self.later, self.alloc)?;
+        self.has_room = true;
         Ok(())
     }
 
@@ -92,17 +95,16 @@ impl Presence {
         ensures { self.new ≡ (put_at_id self.old.0 id value, false) }
     {
         self.may_put = self.may_put.with(value);
-        self.lack = put_into(&mut self.first, &mut self.rest, id, value);
+        self.has_room = false;
+        put_among(&mut self.first, &mut self.later, id, value);
     }
 
     /// Drops the ids that the front covers.
     pub fn retain_uncovered(&mut self, front: &Front)
         ensures { self.new ≡ (uncovered front.now self.old.0, self.old.1) }
     {
-        self.lack = settled(self.lack);
         self.first.retain_uncovered(front);
-        retain_each(&mut self.rest, front);
-        drop_empty(&mut self.rest);
+        retain_later(&mut self.later, front);
     }
 
     /// Whether an empty map and an empty list may be put: of a kind for which this is false, none is.
@@ -116,7 +118,7 @@ impl Presence {
     pub fn is_empty(&self) -> bool
         ensures { IsTrue result ↔ (self.now.0 ≡ []) }
     {
-        self.first.is_empty() && self.rest.is_empty()
+        self.first.is_empty() && later_blocks(&self.later).is_empty()
     }
 
     /// Whether some entry has this id. Its block is found by bisection, and then its place in the block. The program
@@ -124,9 +126,10 @@ impl Presence {
     pub fn contains(&self, id: Id) -> bool
         ensures { result ≡ contains self.now.0 id }
     {
-        match blocks_by(self.rest.as_slice(), &id).checked_sub(1) {
+        let blocks = later_blocks(&self.later);
+        match blocks_by(blocks, &id).checked_sub(1) {
             None => self.first.contains(id),
-            Some(at) => self.rest[at].contains(id),
+            Some(at) => blocks[at].contains(id),
         }
     }
 
@@ -137,7 +140,7 @@ impl Presence {
     {
         Entries {
             entries: self.first.entries(),
-            blocks: self.rest.as_slice(),
+            blocks: later_blocks(&self.later),
         }
     }
 }
@@ -234,23 +237,88 @@ fn starts_by(entries: &[(Id, Role)], id: &Id) -> bool
     }
 }
 
-// Whether no block may lack room.
-fn is_nowhere(lack: Lack) -> bool
-    ensures { result ≡ Spec.is_nowhere lack }
+// The blocks behind the first: none where there is no box.
+fn later_blocks(later: &Option<Box<LaterBlocks>>) -> &[ById<Role>]
+    ensures { result.now ≡ blocks_in later.now }
 {
-    match lack {
-        Lack::Nowhere => true,
-        Lack::InFirst | Lack::InRest(_) | Lack::Anywhere => false,
+    match later {
+        None => &[],
+        Some(later) => later.blocks.as_slice(),
     }
 }
 
-// What is known of the blocks that may lack room, when some have gone.
-fn settled(lack: Lack) -> Lack
-    ensures { result ≡ Spec.settled lack }
+// Makes room for one more id. Where the first block is full and alone, it makes the box for the others.
+fn make_room_for_one(
+    first: &mut ById<Role>,
+    later: &mut Option<Box<LaterBlocks>>,
+    alloc: Global,
+) -> Result<(), AllocError>
+    requires filled { AreNonEmpty (blocks_in later.old) }
+    requires room { HaveRoomBut (lack_in later.old) first.old (blocks_in later.old) }
+    ensures same { first.new.0 ++ pairs_in (blocks_in later.new)
+        ≡ first.old.0 ++ pairs_in (blocks_in later.old) }
+    ensures filled { AreNonEmpty (blocks_in later.new) }
+    ensures lack { lack_in later.new ≡ Anywhere }
+    ensures room { OnOk result (HasSpareRoom first.new × AllHaveRoom (blocks_in later.new)) }
 {
-    match lack {
-        Lack::Nowhere => Lack::Nowhere,
-        Lack::InFirst | Lack::InRest(_) | Lack::Anywhere => Lack::Anywhere,
+    if let Some(later) = later {
+        return make_room_among(first, later);
+    }
+    if first.has_room() || first.entries().len() < FULL {
+        return first.reserve_one();
+    }
+    let mut second = Box::new(alloc, LaterBlocks::none(alloc))?;
+    let made = make_room_among(first, &mut second);
+    *later = Some(second);
+    made
+}
+
+// Makes room for one more id in each block that may lack it.
+fn make_room_among(first: &mut ById<Role>, later: &mut LaterBlocks) -> Result<(), AllocError>
+    requires filled { AreNonEmpty later.old.blocks.items }
+    requires room { HaveRoomBut later.old.lack first.old later.old.blocks.items }
+    ensures same { first.new.0 ++ pairs_in later.new.blocks.items
+        ≡ first.old.0 ++ pairs_in later.old.blocks.items }
+    ensures filled { AreNonEmpty later.new.blocks.items }
+    ensures lack { later.new.lack ≡ Anywhere }
+    ensures room { OnOk result (HasSpareRoom first.new × AllHaveRoom later.new.blocks.items) }
+{
+    let lack = later.lack;
+    later.lack = Lack::Anywhere;
+    make_room(first, &mut later.blocks, lack)
+}
+
+// Puts a value into the block where its id belongs, which may lack room then.
+fn put_among(first: &mut ById<Role>, later: &mut Option<Box<LaterBlocks>>, id: Id, value: Role)
+    requires rising { IsAscending (first.old.0 ++ pairs_in (blocks_in later.old)) }
+    requires filled { AreNonEmpty (blocks_in later.old) }
+    requires first { HasSpareRoom first.old }
+    requires rest { AllHaveRoom (blocks_in later.old) }
+    ensures same { first.new.0 ++ pairs_in (blocks_in later.new)
+        ≡ put_at_id (first.old.0 ++ pairs_in (blocks_in later.old)) id value }
+    ensures filled { AreNonEmpty (blocks_in later.new) }
+    ensures room { HaveRoomBut (lack_in later.new) first.new (blocks_in later.new) }
+{
+    match later {
+        None => first.put(id, value),
+        Some(later) => {
+            let later: &mut LaterBlocks = later;
+            later.lack = put_into(first, &mut later.blocks, id, value);
+        }
+    }
+}
+
+// Drops the ids that the front covers from the blocks behind the first, and those blocks that are empty then.
+fn retain_later(later: &mut Option<Box<LaterBlocks>>, front: &Front)
+    ensures blocks { blocks_in later.new
+        ≡ filter (λ b. has_pair b.0) (map (λ b. (uncovered front.now b.0, b.1)) (blocks_in later.old)) }
+    ensures lack { lack_in later.new ≡ Anywhere }
+{
+    if let Some(later) = later {
+        let later: &mut LaterBlocks = later;
+        later.lack = Lack::Anywhere;
+        retain_each(&mut later.blocks, front);
+        drop_empty(&mut later.blocks);
     }
 }
 
@@ -263,7 +331,6 @@ fn put_into(first: &mut ById<Role>, rest: &mut Vec<ById<Role>>, id: Id, value: R
     ensures same { first.new.0 ++ pairs_in rest.new.items
         ≡ put_at_id (first.old.0 ++ pairs_in rest.old.items) id value }
     ensures filled { AreNonEmpty rest.new.items }
-    ensures taken { Spec.is_nowhere result ≡ false }
     ensures room { HaveRoomBut result first.new rest.new.items }
 {
     match blocks_by(rest.as_slice(), &id).checked_sub(1) {
@@ -313,7 +380,6 @@ fn make_room(
     ensures room { OnOk result (HasSpareRoom first.new × AllHaveRoom rest.new.items) }
 {
     match lack {
-        Lack::Nowhere => Ok(()),
         Lack::InFirst => make_room_in_front(first, rest),
         Lack::InRest(at) => make_room_at(rest, at),
         Lack::Anywhere => make_room_in_each(first, rest),

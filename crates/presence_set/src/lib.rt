@@ -12,6 +12,7 @@ ghost use Rattle.presence_set.specs.Kept.{kept_entries, is_in_place};
 mod blocks;
 mod empty_put;
 mod lack;
+mod later;
 
 pub use crate::blocks::{Entries, Presence};
 pub use crate::empty_put::EmptyPut;

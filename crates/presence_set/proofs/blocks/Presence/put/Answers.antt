@@ -1,6 +1,6 @@
 use Rattle.std.proofs.Common.{◌++◌, sym, subst}
 use Rattle.presence_set.specs.ById.{IsAscending}
-use Rattle.presence_set.specs.Blocks.{pairs_in}
+use Rattle.presence_set.specs.Blocks.{pairs_in, blocks_in}
 use Rattle.presence_set.specs.EmptyPut.{CoversPut}
 use Rattle.presence_set.proofs.Ascending.{put_ascending}
 use Rattle.presence_set.proofs.PutLaws.{covers-put}
@@ -8,12 +8,12 @@ use Rattle.presence_set.proofs.blocks.Presence.put.Goals as goal
 
 pub invariant_of-self : goal.invariant_of-self
 invariant_of-self c =
-    let old = c.self.inside.first.0 ++ pairs_in c.self.inside.rest.items in (
+    let old = c.self.inside.first.0 ++ pairs_in (blocks_in c.self.inside.later) in (
       record {
-        rising = subst IsAscending (sym c.put_into-self-inside.ensures.same) (put_ascending old c.args.id c.args.value c.self.invariant.0.rising);
-        filled = c.put_into-self-inside.ensures.filled;
-        room = c.put_into-self-inside.ensures.room;
+        rising = subst IsAscending (sym c.put_among.ensures.same) (put_ascending old c.args.id c.args.value c.self.invariant.0.rising);
+        filled = c.put_among.ensures.filled;
+        room = c.put_among.ensures.room;
       },
-      subst (CoversPut c.with-self-inside.result) (sym c.put_into-self-inside.ensures.same)
+      subst (CoversPut c.with-self-inside.result) (sym c.put_among.ensures.same)
           (covers-put c.self.inside.may_put c.with-self-inside.result old c.args.id c.args.value c.self.invariant.1 c.with-self-inside.ensures.map c.with-self-inside.ensures.list),
     )

@@ -3,8 +3,8 @@ use Rattle.doc_words.specs.Words.{id_cmp}
 use Rattle.op_core.specs.Front.{covers}
 use Rattle.sorted_lists.proofs.Rising.{rising-filter}
 use Rattle.presence_set.specs.ById.{uncovered, IsAscending}
-use Rattle.presence_set.specs.Blocks.{pairs_in, has_pair, AreNonEmpty, is_nowhere, HasSpareRoom, AllHaveRoom, HaveRoomBut}
-use Rattle.presence_set.proofs.BlockLaws.{uncovered-append, pairs_in-cleared, filled-filled, room-cleared, rooms-cleared, rooms-settled, settled-same}
+use Rattle.presence_set.specs.Blocks.{pairs_in, has_pair, blocks_in, lack_in, AreNonEmpty, HasSpareRoom, AllHaveRoom, HaveRoomFor}
+use Rattle.presence_set.proofs.BlockLaws.{uncovered-append, pairs_in-cleared, filled-filled, room-cleared, rooms-cleared, rooms-settled}
 use Rattle.presence_set.specs.EmptyPut.{CoversPut}
 use Rattle.presence_set.proofs.PutLaws.{covers-uncovered}
 use Rattle.presence_set.proofs.blocks.Presence.retain_uncovered.Goals as goal
@@ -13,17 +13,17 @@ pub invariant_of-self : goal.invariant_of-self
 invariant_of-self c =
     let front = c.args.front.now in
     let first = c.self.inside.first in
-    let rest = c.self.inside.rest.items in
-    let blocks : c.drop_empty.new.blocks.items ≡ filter (λ b. has_pair b.0) (map (λ b. (uncovered front b.0, b.1)) rest) =
-    c.drop_empty.ensures ∙ ap (λ l. filter (λ b. has_pair b.0) l) c.retain_each.ensures in
-    let all : c.retain_uncovered.new.self.0 ++ pairs_in c.drop_empty.new.blocks.items ≡ uncovered front (first.0 ++ pairs_in rest) =
-    ap (λ z. z.0 ++ pairs_in c.drop_empty.new.blocks.items) c.retain_uncovered.ensures ∙ ap (λ l. uncovered front first.0 ++ pairs_in l) blocks
+    let rest = blocks_in c.self.inside.later in
+    let new = blocks_in c.retain_later.new.later in
+    let blocks : new ≡ filter (λ b. has_pair b.0) (map (λ b. (uncovered front b.0, b.1)) rest) = c.retain_later.ensures.blocks in
+    let all : c.retain_uncovered.new.self.0 ++ pairs_in new ≡ uncovered front (first.0 ++ pairs_in rest) =
+    ap (λ z. z.0 ++ pairs_in new) c.retain_uncovered.ensures ∙ ap (λ l. uncovered front first.0 ++ pairs_in l) blocks
     ∙ ap (λ l. uncovered front first.0 ++ l) (pairs_in-cleared front rest) ∙ sym (uncovered-append front first.0 (pairs_in rest)) in (
       record {
         rising = subst IsAscending (sym all) (rising-filter id_cmp (λ e. e.0) (λ e. not (covers front e.0)) (first.0 ++ pairs_in rest) c.self.invariant.0.rising);
         filled = subst AreNonEmpty (sym blocks) (filled-filled (map (λ b. (uncovered front b.0, b.1)) rest));
-        room = subst (λ l. HaveRoomBut l c.retain_uncovered.new.self c.drop_empty.new.blocks.items) (sym c.settled-self-inside.ensures)
-            (rooms-settled c.self.inside.lack first c.retain_uncovered.new.self rest c.drop_empty.new.blocks.items c.self.invariant.0.room
+        room = subst (λ l. HaveRoomFor c.self.inside.has_room l c.retain_uncovered.new.self new) (sym c.retain_later.ensures.lack)
+            (rooms-settled c.self.inside.has_room (lack_in c.self.inside.later) first c.retain_uncovered.new.self rest new c.self.invariant.0.room
             (λ room. subst HasSpareRoom (sym c.retain_uncovered.ensures) (room-cleared front first room))
             (λ room. subst AllHaveRoom (sym blocks) (rooms-cleared front rest room)));
       },
@@ -34,10 +34,10 @@ pub returns : goal.returns
 returns c =
     let front = c.args.front.now in
     let first = c.self.inside.first in
-    let rest = c.self.inside.rest.items in
-    let blocks : c.drop_empty.new.blocks.items ≡ filter (λ b. has_pair b.0) (map (λ b. (uncovered front b.0, b.1)) rest) =
-    c.drop_empty.ensures ∙ ap (λ l. filter (λ b. has_pair b.0) l) c.retain_each.ensures in
-    let all : c.retain_uncovered.new.self.0 ++ pairs_in c.drop_empty.new.blocks.items ≡ uncovered front (first.0 ++ pairs_in rest) =
-    ap (λ z. z.0 ++ pairs_in c.drop_empty.new.blocks.items) c.retain_uncovered.ensures ∙ ap (λ l. uncovered front first.0 ++ pairs_in l) blocks
+    let rest = blocks_in c.self.inside.later in
+    let new = blocks_in c.retain_later.new.later in
+    let blocks : new ≡ filter (λ b. has_pair b.0) (map (λ b. (uncovered front b.0, b.1)) rest) = c.retain_later.ensures.blocks in
+    let all : c.retain_uncovered.new.self.0 ++ pairs_in new ≡ uncovered front (first.0 ++ pairs_in rest) =
+    ap (λ z. z.0 ++ pairs_in new) c.retain_uncovered.ensures ∙ ap (λ l. uncovered front first.0 ++ pairs_in l) blocks
     ∙ ap (λ l. uncovered front first.0 ++ l) (pairs_in-cleared front rest) ∙ sym (uncovered-append front first.0 (pairs_in rest)) in
-    rw (← c.self.view_is) (λ i. (all i, (ap is_nowhere c.settled-self-inside.ensures ∙ settled-same c.self.inside.lack) i))
+    rw (← c.self.view_is) (λ i. (all i, c.self.inside.has_room))
