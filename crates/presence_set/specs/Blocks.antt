@@ -1,5 +1,5 @@
 -- Values by ids, in blocks: the pairs of a block, and how many it has room for.
-use Rattle.std.specs.Prelude.{◌≡◌, ◌<◌, ℕ, suc, List, [], ◌∷◌, ◌++◌, length, take, drop, Bool, true, false, not, Option, Box}
+use Rattle.std.specs.Prelude.{◌≡◌, ◌<◌, ℕ, suc, List, [], ◌∷◌, ◌++◌, length, take, drop, Bool, true, false, not, Option, Box, option_map, unwrap_or}
 use Rattle.std.specs.List.{flat_map, prefix_len}
 use Rattle.std.specs.Ordering.{is_lt}
 use Rattle.doc_words.specs.Words.{Id, id_cmp}
@@ -8,7 +8,6 @@ use Rattle.presence_set.specs.ById.{IsAscending}
 use Rattle.presence_set.specs.declared.lack.Lack.{Lack}
 use Rattle.presence_set.specs.declared.lack.Lack.TheVariants.{InFirst, InRest, Anywhere}
 use Rattle.presence_set.specs.declared.later.LaterBlocks.{LaterBlocks}
-use Rattle.presence_set.specs.Boxed.{boxed_or}
 
 module _ {X : Type 0} where
   -- the pairs of all blocks, one block after another
@@ -64,8 +63,8 @@ module _ {X : Type 0} where
 module _ {Z : Type 0} where
   -- the blocks behind the first: none without their box
   abbrev pub blocks_in : Option (Box LaterBlocks Z) → List (List (Id × Role) × ℕ)
-  blocks_in = boxed_or [] (λ b. b.value.blocks.items)
+  blocks_in later = unwrap_or (option_map (λ b. b.value.blocks.items) later) []
 
   -- which block may lack room: without that box any
   abbrev pub lack_in : Option (Box LaterBlocks Z) → Lack
-  lack_in = boxed_or Anywhere (λ b. b.value.lack)
+  lack_in later = unwrap_or (option_map (λ b. b.value.lack) later) Anywhere
