@@ -94,11 +94,22 @@ fn has_present_child(nodes: &[Node], at: NodeNumber, block: usize) -> bool
         → Contains (slice_index_or (node_of nodes.now at).children.1 block []) e
         → Spec.is_node_present nodes.now (Some e.1) ≡ false }
 {
-    is_any_present(nodes, nodes[at.0].children.block(block))
+    let children = nodes[at.0].children.block(block);
+    // Who deletes one after another, from either end, finds one soon at the other.
+    is_first_present(nodes, children) || is_any_present(nodes, children)
 }
 
-// Whether one of these children is present. It looks from the last one on: who deletes one after another finds one
-// soon.
+// Whether the first of these children is present.
+fn is_first_present(nodes: &[Node], children: &[(Key, NodeNumber)]) -> bool
+    requires { (e : Key × NodeNumber) → Contains children.now e → e.1.0 < length nodes.now }
+{
+    match children.split_first() {
+        None => false,
+        Some((first, _)) => is_present(nodes, first.1),
+    }
+}
+
+// Whether one of these children is present. It looks from the last one on.
 fn is_any_present(nodes: &[Node], children: &[(Key, NodeNumber)]) -> bool
     requires { (e : Key × NodeNumber) → Contains children.now e → e.1.0 < length nodes.now }
     ensures { result ≡ false → (e : Key × NodeNumber) → Contains children.now e
