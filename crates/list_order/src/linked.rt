@@ -12,7 +12,7 @@ ghost use Rattle.list_order.specs.Following.{following};
 
 use crate::marks::{
     Mark, MarkBlock, NextCuts, add_mark, blocks_wanted, first_cuts, lower_least, mark_at,
-    nth_along, recut_if_due, set_presence,
+    nth_along, recut_if_due, recut_if_stale, set_presence,
 };
 use crate::passing::last_passed;
 use crate::present::present_ids;
@@ -137,13 +137,23 @@ impl LinkedOrder {
     {
         match number_of(self.index.as_slice(), &id) {
             None => {}
-            Some(n) => set_presence(
-                &mut self.marks,
-                &mut self.blocks,
-                &mut self.present,
-                n,
-                is_present,
-            ),
+            Some(n) => {
+                set_presence(
+                    &mut self.marks,
+                    &mut self.blocks,
+                    &mut self.present,
+                    n,
+                    is_present,
+                );
+                recut_if_stale(
+                    self.slots.as_slice(),
+                    self.first,
+                    &mut self.marks,
+                    &mut self.blocks,
+                    &mut self.next_cuts,
+                    is_present,
+                );
+            }
         }
     }
 

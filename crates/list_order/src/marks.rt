@@ -10,8 +10,11 @@ ghost use Rattle.list_order.specs.Marks as Spec;
 use crate::slots::{Slot, SlotNumber, slot_at};
 use lamport_id::Id;
 
-// How many slots a block has at least when it is closed.
+// How many slots a block has at least when it is closed, unless it ends in a run of absent ids.
 const LEAST_BLOCK: usize = 64;
+
+// How many absent ids in a row end a block, so that a reading goes from the last present id before them to the next one.
+const LEAST_RUN: usize = 32;
 
 /// Whether the id of a slot is present, and the block that the slot is in.
 #[derive(Clone, Copy)]
@@ -179,6 +182,8 @@ pub fn nth_along(
 struct Open {
     len: usize,
     present: usize,
+    // the absent ids at their end
+    run: usize,
     least_counter: u64,
 }
 
@@ -189,6 +194,7 @@ fn none_open() -> Open
     Open {
         len: 0,
         present: 0,
+        run: 0,
         least_counter: u64::MAX,
     }
 }
@@ -204,17 +210,30 @@ fn set_block(marks: &mut Vec<Mark>, n: SlotNumber, block: usize) -> bool
     marks[n.0].is_present
 }
 
-// Closes a block that has so many slots, where there is room for one.
-fn closed(
-    blocks: &mut Vec<MarkBlock>,
-    rest: Open,
-    end: Option<SlotNumber>,
-    block_len: usize,
-) -> Open
+// How many absent ids are at the end, with one more id behind them.
+fn longer_run(run: usize, is_present: bool) -> usize {
+    if is_present { 0 } else { run.saturating_add(1) }
+}
+
+// Whether the id of a slot is present, if there is one.
+fn is_present_at(marks: &[Mark], at: Option<SlotNumber>) -> bool {
+    match at {
+        Some(n) if n.0 < marks.len() => marks[n.0].is_present,
+        _ => false,
+    }
+}
+
+// Whether a block ends here: it has so many slots, or a present id comes behind a run of absent ones.
+fn is_whole(rest: Open, block_len: usize, is_next_present: bool) -> bool {
+    rest.len >= block_len || (is_next_present && rest.run >= LEAST_RUN)
+}
+
+// Closes a block that is whole, where there is room for one.
+fn closed(blocks: &mut Vec<MarkBlock>, rest: Open, end: Option<SlotNumber>, is_whole: bool) -> Open
     ensures { IsClosed blocks.old.items blocks.new.items rest.present rest.least_counter end
         result.present result.least_counter }
 {
-    if rest.len >= block_len && blocks.len() < blocks.capacity() {
+    if is_whole && blocks.len() < blocks.capacity() {
         let last = blocks.len();
         match blocks.insert(
             last,
@@ -245,7 +264,7 @@ fn behind_blocks(blocks: &[MarkBlock], first: Option<SlotNumber>) -> Option<Slot
     }
 }
 
-// Cuts the slots behind the blocks into blocks of this length, too.
+// Cuts the slots behind the blocks into blocks of this length at most, too.
 fn cut_on(
     slots: &[Slot],
     first: Option<SlotNumber>,
@@ -270,19 +289,28 @@ fn cut_on(
         let longer = Open {
             len: rest.len.saturating_add(1),
             present: rest.present + bit(is_present),
+            run: longer_run(rest.run, is_present),
             least_counter: rest.least_counter.min(slot.id.counter),
         };
-        rest = closed(blocks, longer, at, block_len);
+        let is_next_present = is_present_at(marks.as_slice(), at);
+        rest = closed(
+            blocks,
+            longer,
+            at,
+            is_whole(longer, block_len, is_next_present),
+        );
     }
 }
 
-/// How long a list is to be when its blocks are cut the next time.
+/// When the blocks of a list are cut the next time.
 #[derive(Clone, Copy)]
 pub struct NextCuts {
-    /// All of them.
+    /// How long it is to be for all of them.
     pub whole: usize,
-    /// The slots behind the last of them.
+    /// How long it is to be for the slots behind the last of them.
     pub tail: usize,
+    /// After how many more deletions all of them are cut.
+    pub deletions: usize,
 }
 
 // How long a list is that is cut for the first time.
@@ -293,10 +321,11 @@ pub fn first_cuts() -> NextCuts {
     NextCuts {
         whole: FIRST_CUT,
         tail: FIRST_CUT,
+        deletions: FIRST_CUT,
     }
 }
 
-// How many slots a block has when a list of this length is cut. A longer list has longer blocks, so that there
+// How many slots a block has at most when a list of this length is cut. A longer list has longer blocks, so that there
 // are fewer to go through.
 fn block_len(len: usize) -> usize {
     LEAST_BLOCK.saturating_add(len / 256)
@@ -307,16 +336,40 @@ fn cuts_behind(len: usize) -> NextCuts {
     NextCuts {
         whole: len.saturating_add(64 + len / 64),
         tail: len.saturating_add(LEAST_BLOCK),
+        deletions: 64 + len / 8,
     }
 }
 
 // When a list of this length of which so many slots were put into new blocks at its end is cut again. Those don't make
 // other blocks longer.
-fn cuts_behind_tail(whole: usize, len: usize, cut: usize) -> NextCuts {
+fn cuts_behind_tail(next: NextCuts, len: usize, cut: usize) -> NextCuts {
     NextCuts {
-        whole: whole.saturating_add(cut),
+        whole: next.whole.saturating_add(cut),
         tail: len.saturating_add(LEAST_BLOCK),
+        deletions: next.deletions,
     }
+}
+
+// Cuts the whole list into blocks anew.
+fn recut(
+    slots: &[Slot],
+    first: Option<SlotNumber>,
+    marks: &mut Vec<Mark>,
+    blocks: &mut Vec<MarkBlock>,
+    next: &mut NextCuts,
+)
+    requires walk { LinksEnd slots.now first }
+    requires marked { length marks.old.items ≡ length slots.now }
+    requires counted { IsCounted marks.old.items blocks.old.items (slots_from slots.now first) None }
+    requires above { Along (IsAbove slots.now marks.old.items blocks.old.items) (slots_from slots.now first) }
+    ensures cut { IsRecut marks.old.items marks.new.items blocks.new.items (slots_from slots.now first) }
+    ensures above { Along (IsAbove slots.now marks.new.items blocks.new.items) (slots_from slots.now first) }
+    ensures capacity { vec_capacity marks.new ≡ vec_capacity marks.old }
+{
+    let len = slots.len();
+    blocks.clear();
+    cut_on(slots, first, marks, blocks, block_len(len));
+    *next = cuts_behind(len);
 }
 
 /// Cuts the list into blocks anew, where enough slots are new, and else the slots behind the blocks, where there may
@@ -338,9 +391,7 @@ pub fn recut_if_due(
 {
     let len = slots.len();
     if next.whole < len {
-        blocks.clear();
-        cut_on(slots, first, marks, blocks, block_len(len));
-        *next = cuts_behind(len);
+        recut(slots, first, marks, blocks, next);
     } else if next.tail < len {
         let before = blocks.len();
         cut_on(slots, first, marks, blocks, block_len(len));
@@ -348,13 +399,41 @@ pub fn recut_if_due(
             .len()
             .saturating_sub(before)
             .saturating_mul(block_len(len));
-        *next = cuts_behind_tail(next.whole, len, cut);
+        *next = cuts_behind_tail(*next, len, cut);
+    }
+}
+
+/// Cuts the list into blocks anew after a deletion, where there were enough of them since the last time: a block ends
+/// at a run of absent ids, and a reading passes over it.
+pub fn recut_if_stale(
+    slots: &[Slot],
+    first: Option<SlotNumber>,
+    marks: &mut Vec<Mark>,
+    blocks: &mut Vec<MarkBlock>,
+    next: &mut NextCuts,
+    is_present: bool,
+)
+    requires walk { LinksEnd slots.now first }
+    requires marked { length marks.old.items ≡ length slots.now }
+    requires counted { IsCounted marks.old.items blocks.old.items (slots_from slots.now first) None }
+    requires above { Along (IsAbove slots.now marks.old.items blocks.old.items) (slots_from slots.now first) }
+    ensures cut { IsRecut marks.old.items marks.new.items blocks.new.items (slots_from slots.now first) }
+    ensures above { Along (IsAbove slots.now marks.new.items blocks.new.items) (slots_from slots.now first) }
+    ensures capacity { vec_capacity marks.new ≡ vec_capacity marks.old }
+{
+    if is_present {
+        return;
+    }
+    if next.deletions > 0 {
+        next.deletions -= 1;
+    } else {
+        recut(slots, first, marks, blocks, next);
     }
 }
 
 /// How many more blocks a list of this length is to have room for.
 pub fn blocks_wanted(len: usize, blocks: usize) -> usize {
-    (len / LEAST_BLOCK).saturating_sub(blocks)
+    (len / LEAST_RUN).saturating_sub(blocks)
 }
 
 /// Marks the id of a slot as present or not, and moves the counts.
