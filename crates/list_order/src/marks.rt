@@ -223,9 +223,9 @@ fn is_present_at(marks: &[Mark], at: Option<SlotNumber>) -> bool {
     }
 }
 
-// Whether a block ends here: it has so many slots, or a present id comes behind a run of absent ones.
-fn is_whole(rest: Open, block_len: usize, is_next_present: bool) -> bool {
-    rest.len >= block_len || (is_next_present && rest.run >= LEAST_RUN)
+// Whether a block ends in front of a slot: it is long, or it ends in a run of absent ids and a present one comes.
+fn is_whole(rest: Open, block_len: usize, marks: &[Mark], at: Option<SlotNumber>) -> bool {
+    rest.len >= block_len || (rest.run >= LEAST_RUN && is_present_at(marks, at))
 }
 
 // Closes a block that is whole, where there is room for one.
@@ -292,13 +292,8 @@ fn cut_on(
             run: longer_run(rest.run, is_present),
             least_counter: rest.least_counter.min(slot.id.counter),
         };
-        let is_next_present = is_present_at(marks.as_slice(), at);
-        rest = closed(
-            blocks,
-            longer,
-            at,
-            is_whole(longer, block_len, is_next_present),
-        );
+        let is_whole = is_whole(longer, block_len, marks.as_slice(), at);
+        rest = closed(blocks, longer, at, is_whole);
     }
 }
 
