@@ -23,6 +23,7 @@ use op_core::Operation;
 use op_log::OpLog;
 use slab::Slab;
 use std::alloc::Global;
+use std::collections::VecDeque;
 use std::marker::Model;
 
 /// Operations that wait for others to be logged (a causal buffer). A contract sees the held operations,
@@ -31,8 +32,8 @@ use std::marker::Model;
 #[derive(Debug)]
 pub struct HoldBuffer {
     slots: Slab<Operation>,
-    // by rising id
-    order: Vec<Entry>,
+    // by rising id; a queue, since most come and go at its front
+    order: VecDeque<Entry>,
     // the ids of those that wait for nothing, by rising id
     ready: Vec<Id>,
     waiters: Waiters,
@@ -57,7 +58,7 @@ impl HoldBuffer {
     {
         HoldBuffer {
             slots: Slab::new(alloc),
-            order: Vec::new(alloc),
+            order: VecDeque::new(alloc),
             ready: Vec::new(alloc),
             waiters: Waiters::new(alloc),
         }

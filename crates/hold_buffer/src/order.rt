@@ -1,7 +1,8 @@
 //! The order of the held operations.
-ghost use Rattle.std.specs.Prelude.{◌≡◌, ◌≢◌, ◌<◌, ◌+◌, not, length, filter, map, vec_len, ◌≤◌, ℕ, insert, List, ◌++◌};
+ghost use Rattle.std.specs.Prelude.{◌≡◌, ◌≢◌, ◌<◌, ◌+◌, not, length, filter, map, ◌≤◌, ℕ, insert, List, ◌++◌};
 ghost use Rattle.std.specs.Prelude.{◌∷◌, [], true, OnOk, OnSome, IfOk, IfErr, Ok, Err, MatchResult, Some, Contains};
 ghost use Rattle.std.specs.Vec.{vec_capacity};
+ghost use Rattle.std.specs.VecDeque.{deque_len, deque_capacity};
 ghost use Rattle.std.specs.Option.{option_map};
 ghost use Rattle.slab.specs.Slab.{HasRoomFor, get};
 ghost use Rattle.doc_words.specs.Words.{id_cmp, UnlessMemory, Id, Op};
@@ -26,18 +27,19 @@ use op_core::{Operation, keeps_shape};
 use slab::Slab;
 use std::alloc::{AllocError, Global};
 use std::cmp::Ordering;
+use std::collections::VecDeque;
 
 /// The most operations that are held.
 pub const MAX_HELD: usize = 256;
 
 /// The place of the id in the order, or where it would go.
-pub fn search(order: &[Entry], id: &Id) -> Result<usize, usize>
-    requires { IsRising id_cmp (λ t. t.id) order.now }
-    ensures { MatchResult result (IsPlace id_cmp (λ t. t.id) order.now id.now)
-        (IsGap id_cmp (λ t. t.id) order.now id.now) }
+pub fn search(order: &VecDeque<Entry>, id: &Id) -> Result<usize, usize>
+    requires { IsRising id_cmp (λ t. t.id) order.now.items }
+    ensures { MatchResult result (IsPlace id_cmp (λ t. t.id) order.now.items id.now)
+        (IsGap id_cmp (λ t. t.id) order.now.items id.now) }
 {
     // Usually the id is the least: of an operation that arrives backwards, or that is released.
-    match order.first() {
+    match order.front() {
         None => Err(0),
         Some(least) => match id.cmp(&least.id) {
             Ordering::Less => Err(0),
@@ -48,10 +50,10 @@ pub fn search(order: &[Entry], id: &Id) -> Result<usize, usize>
 }
 
 // The same, by bisection.
-fn bisect(order: &[Entry], id: &Id) -> Result<usize, usize>
-    requires { IsRising id_cmp (λ t. t.id) order.now }
-    ensures { MatchResult result (IsPlace id_cmp (λ t. t.id) order.now id.now)
-        (IsGap id_cmp (λ t. t.id) order.now id.now) }
+fn bisect(order: &VecDeque<Entry>, id: &Id) -> Result<usize, usize>
+    requires { IsRising id_cmp (λ t. t.id) order.now.items }
+    ensures { MatchResult result (IsPlace id_cmp (λ t. t.id) order.now.items id.now)
+        (IsGap id_cmp (λ t. t.id) order.now.items id.now) }
 {
     // `binary_search_by_key` would copy the id of each entry that it compares.
     order.binary_search_by(
@@ -62,8 +64,8 @@ fn bisect(order: &[Entry], id: &Id) -> Result<usize, usize>
 }
 
 /// The ids of the entries.
-pub fn ids_of(alloc: Global, order: &[Entry]) -> Result<Vec<Id>, AllocError>
-    ensures { IfOk result (λ ids. ids.items ≡ map (λ t. t.id) order.now) }
+pub fn ids_of(alloc: Global, order: &VecDeque<Entry>) -> Result<Vec<Id>, AllocError>
+    ensures { IfOk result (λ ids. ids.items ≡ map (λ t. t.id) order.now.items) }
 {
     order.iter().map(|entry| entry.id).collect(alloc)
 }
@@ -71,7 +73,7 @@ pub fn ids_of(alloc: Global, order: &[Entry]) -> Result<Vec<Id>, AllocError>
 /// Where an operation of this id is to be stored, with room for it; or the first cause against it.
 pub fn prepare(
     slots: &mut Slab<Operation>,
-    order: &mut Vec<Entry>,
+    order: &mut VecDeque<Entry>,
     ready: &mut Vec<Id>,
     id: Id,
 ) -> Result<usize, Refusal>
@@ -81,8 +83,8 @@ pub fn prepare(
     ensures ready { (ready.new.items ≡ ready.old.items) × (vec_capacity ready.old ≤ vec_capacity ready.new) }
     ensures gap { IfOk result (IsGap id_cmp (λ t. t.id) order.old.items id) }
     ensures slot { OnOk result (HasRoomFor slots.new 1) }
-    ensures entry { OnOk result (vec_len order.new < vec_capacity order.new) }
-    ensures room { OnOk result (vec_len order.new < vec_capacity ready.new) }
+    ensures entry { OnOk result (deque_len order.new < deque_capacity order.new) }
+    ensures room { OnOk result (deque_len order.new < vec_capacity ready.new) }
     ensures cause { MatchResult result (λ _. hold_cause id (operations_of slots.old order.old.items) ≡ Ok tt)
         (λ e. e ≢ Refusal.NoMemory → hold_cause id (operations_of slots.old order.old.items) ≡ Err e) }
 {
@@ -127,7 +129,7 @@ pub fn admit(
     op: &Operation,
     missing: &Ids,
     slots: &mut Slab<Operation>,
-    order: &mut Vec<Entry>,
+    order: &mut VecDeque<Entry>,
     ready: &mut Vec<Id>,
     waiters: &mut Waiters,
 ) -> Result<(usize, Missing), Refusal>
@@ -143,8 +145,8 @@ pub fn admit(
     ensures noted { OnOk result ((i : Id) → Contains missing.now i
         → Contains (waiters_of waiters.new i) slots.new.vacant_key) }
     ensures slot { OnOk result (HasRoomFor slots.new 1) }
-    ensures entry { OnOk result (vec_len order.new < vec_capacity order.new) }
-    ensures room { OnOk result (vec_len order.new < vec_capacity ready.new) }
+    ensures entry { OnOk result (deque_len order.new < deque_capacity order.new) }
+    ensures room { OnOk result (deque_len order.new < vec_capacity ready.new) }
     ensures cause { MatchResult result (λ _. hold_cause op.now.id (operations_of slots.old order.old.items) ≡ Ok tt)
         (λ e. e ≢ Refusal.NoMemory → hold_cause op.now.id (operations_of slots.old order.old.items) ≡ Err e) }
 {
@@ -161,7 +163,7 @@ pub fn admit(
 /// Stores an operation at its place, with the ids that it waits for.
 pub fn store(
     slots: &mut Slab<Operation>,
-    order: &mut Vec<Entry>,
+    order: &mut VecDeque<Entry>,
     at: usize,
     op: Operation,
     missing: Missing,
@@ -169,7 +171,7 @@ pub fn store(
     requires ordered { IsOrdered slots.old order.old.items }
     requires gap { IsGap id_cmp (λ t. t.id) order.old.items op.id at }
     requires slot { HasRoomFor slots.old 1 }
-    requires entry { vec_len order.old < vec_capacity order.old }
+    requires entry { deque_len order.old < deque_capacity order.old }
     ensures ascending { is_ascending op.front ≡ true }
     ensures ordered { IsOrdered slots.new order.new.items }
     ensures operations { operations_of slots.new order.new.items
@@ -184,7 +186,11 @@ pub fn store(
 }
 
 /// Takes the operation of the entry at a place out.
-pub fn take_at(slots: &mut Slab<Operation>, order: &mut Vec<Entry>, at: usize) -> Option<Operation>
+pub fn take_at(
+    slots: &mut Slab<Operation>,
+    order: &mut VecDeque<Entry>,
+    at: usize,
+) -> Option<Operation>
     requires ordered { IsOrdered slots.old order.old.items }
     requires within { at < length order.old.items }
     ensures ordered { IsOrdered slots.new order.new.items }
@@ -198,18 +204,18 @@ pub fn take_at(slots: &mut Slab<Operation>, order: &mut Vec<Entry>, at: usize) -
     ensures entries { (id : Id) → IsPlace id_cmp (λ t. t.id) order.old.items id at
         → order.new.items ≡ filter (λ t. not (id_eq t.id id)) order.old.items }
 {
-    let entry = order.remove(at);
+    let entry = order.remove(at).unwrap();
     slots.try_remove(entry.key)
 }
 
 /// The ids of the entries, each with those that its operation waits for. The only error is
 /// out of memory.
-pub fn waiting_of(alloc: Global, order: &[Entry]) -> Result<Waiting, Refusal>
-    ensures { UnlessMemory result (Ok (map (λ t. (t.id, t.missing)) order.now)) }
+pub fn waiting_of(alloc: Global, order: &VecDeque<Entry>) -> Result<Waiting, Refusal>
+    ensures { UnlessMemory result (Ok (map (λ t. (t.id, t.missing)) order.now.items)) }
 {
     let mut waiting = Vec::with_capacity(alloc, order.len())?;
-    for entry in order {
-        push_waiting(alloc, &mut waiting, entry)?;
+    for at in 0..order.len() {
+        push_waiting(alloc, &mut waiting, &order[at])?;
     }
     Ok(Waiting::from(waiting))
 }
@@ -225,12 +231,12 @@ fn push_waiting(alloc: Global, waiting: &mut Vec<(Id, Ids)>, entry: &Entry) -> R
 }
 
 /// Takes the key of the entry at a place out of the index.
-pub fn forget_waits(order: &[Entry], waiters: &mut Waiters, at: usize)
-    requires within { at < length order.now }
-    requires apart { (t u : Entry) → Contains order.now t → Contains order.now u → t.key ≡ u.key → t.id ≡ u.id }
-    requires noted { AreNoted order.now waiters.old }
-    ensures { (id : Id) → IsPlace id_cmp (λ t. t.id) order.now id at
-        → AreNoted (filter (λ t. not (id_eq t.id id)) order.now) waiters.new }
+pub fn forget_waits(order: &VecDeque<Entry>, waiters: &mut Waiters, at: usize)
+    requires within { at < length order.now.items }
+    requires apart { (t u : Entry) → Contains order.now.items t → Contains order.now.items u → t.key ≡ u.key → t.id ≡ u.id }
+    requires noted { AreNoted order.now.items waiters.old }
+    ensures { (id : Id) → IsPlace id_cmp (λ t. t.id) order.now.items id at
+        → AreNoted (filter (λ t. not (id_eq t.id id)) order.now.items) waiters.new }
 {
     let entry = &order[at];
     waiters.forget_all(entry.missing.among(), entry.key);

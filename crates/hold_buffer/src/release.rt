@@ -11,12 +11,13 @@ use crate::ready::put;
 use lamport_id::Id;
 use op_core::Operation;
 use slab::Slab;
+use std::collections::VecDeque;
 
 /// Notes that the operation of this id was logged, with those of these keys, which are all that wait for
 /// it. Those that wait for nothing now are ready.
 pub fn release(
     slots: &Slab<Operation>,
-    order: &mut Vec<Entry>,
+    order: &mut VecDeque<Entry>,
     ready: &mut Vec<Id>,
     keys: &[usize],
     id: &Id,
@@ -35,7 +36,7 @@ pub fn release(
 // The same with one operation, if it is still there.
 fn release_one(
     slots: &Slab<Operation>,
-    order: &mut Vec<Entry>,
+    order: &mut VecDeque<Entry>,
     ready: &mut Vec<Id>,
     key: usize,
     id: &Id,
@@ -55,7 +56,7 @@ fn release_one(
 }
 
 // The same with the operation at a place.
-fn release_at(order: &mut Vec<Entry>, ready: &mut Vec<Id>, at: usize, id: &Id)
+fn release_at(order: &mut VecDeque<Entry>, ready: &mut Vec<Id>, at: usize, id: &Id)
     requires within { at < length order.old.items }
     requires rising { IsRising id_cmp (λ t. t.id) order.old.items }
     requires ready { ListsFree order.old.items ready.old }
@@ -73,7 +74,7 @@ fn release_at(order: &mut Vec<Entry>, ready: &mut Vec<Id>, at: usize, id: &Id)
 }
 
 // Takes an id out of those that the operation at a place waits for.
-fn arrive(order: &mut Vec<Entry>, at: usize, id: &Id)
+fn arrive(order: &mut VecDeque<Entry>, at: usize, id: &Id)
     requires { at < length order.old.items }
     ensures { (d : Entry) → order.new.items
         ≡ slice_set order.old.items at (without_id id.now (slice_index_or order.old.items at d)) }

@@ -1,4 +1,5 @@
-use Rattle.std.proofs.Common.{rules}
+use Rattle.std.proofs.Common.{rules, subst}
+use Rattle.std.specs.List.Sorted.{IsSearchInRange}
 use Rattle.lamport_id.specs.Order.{id_cmp}
 use Rattle.std.proofs.lemmas.Fn.{always_returns_same}
 use Rattle.sorted_lists.proofs.Rising.{searched}
@@ -9,4 +10,5 @@ pub returns : goal.returns
 returns c =
     let facts = c.binary_search_by.ensures in
     let by_id = facts.position (λ t. id_cmp t.id c.args.id.now) (always_returns_same _ _ _ (λ a r f k. search rules)) in
-    searched id_order (λ t. t.id) c.args.order.now c.args.id.now _ c.requires facts.bound by_id
+    let bound = subst (IsSearchInRange c.binary_search_by.result) c.args.order.now.ok.0 facts.bound in
+    searched id_order (λ t. t.id) c.args.order.now.items c.args.id.now _ c.requires bound by_id

@@ -6,8 +6,8 @@ use Rattle.hold_buffer.proofs.order.forget_waits.Goals as goal
 
 pub returns : goal.returns
 returns c id place =
-    let order = c.args.order.now in
-    let t = c.index-order-at.result in
-    let among : Contains order t = subst (Contains order) (sym c.index-order-at.is) (Contains-get_or order c.args.at t place.within) in
-    let name : t.id ≡ id = ap (λ (u : Entry). u.id) c.index-order-at.is ∙ place.has_key t in
+    let order = c.args.order.now.items in
+    let t = c.index-entry.result.now in
+    let among : Contains order t = subst (Contains order) (sym c.index-entry.ensures) (Contains-get_or order c.args.at t place.within) in
+    let name : t.id ≡ id = ap (λ (u : Entry). u.id) c.index-entry.ensures ∙ place.has_key t in
     noted-forgotten order c.args.waiters.now c.forget_all.new.self id t c.requires.apart c.requires.noted among name c.forget_all.ensures

@@ -15,14 +15,14 @@ pub returns-clause-ordered : goal.returns-clause-ordered
 returns-clause-ordered c =
     let slots = c.insert_reserved-key.ensures in
     let stored = IsOrdered-insert c.requires.ordered c.args.op c.insert_reserved-key.result c.args.at c.args.missing c.requires.gap slots.was_vacant slots.updates in
-    rw (c.insert.ensures.items, c.unwrap.ensures)
+    rw (rw c.unwrap.ensures at c.insert.ensures.items)
     (subst (λ (id : Id). IsOrdered c.insert_reserved-key.new.self (insert c.args.order.now.items c.args.at (entry id c))) (sym c.id-id.ensures.value) stored)
 
 pub returns-clause-operations : goal.returns-clause-operations
 returns-clause-operations c =
     let slots = c.insert_reserved-key.ensures in
     let stored = operations-insert c.requires.ordered c.args.op c.insert_reserved-key.result c.args.at c.args.missing c.requires.gap slots.was_vacant slots.updates in
-    rw (c.insert.ensures.items, c.unwrap.ensures)
+    rw (rw c.unwrap.ensures at c.insert.ensures.items)
     (subst
     (λ (id : Id). operations_of c.insert_reserved-key.new.self (insert c.args.order.now.items c.args.at (entry id c)) ≡ put_among c.args.op (operations_of c.args.slots.now c.args.order.now.items))
     (sym c.id-id.ensures.value) stored)

@@ -1,10 +1,12 @@
-use Rattle.std.proofs.Common.{refl}
+use Rattle.std.proofs.Common.{◌<◌, length, refl, arith}
 use Rattle.hold_buffer.specs.declared.entry.Entry.{Entry}
 use Rattle.op_core.proofs.Steps.{map_grown}
 use Rattle.hold_buffer.proofs.order.waiting_of.Goals as goal
 
-pub loop-entry-preserved : goal.loop-entry-preserved
-loop-entry-preserved c =
-    let t = c.entry-item.result in
-    map_grown (λ (u : Entry). (u.id, u.missing)) c.args.order.now c.loop-entry.entry-index t _ _ (t.id, t.missing)
-    c.loop-entry-test.true c.entry-item.is refl c.loop-entry.invariant c.in_ok-push_waiting.ensures.ok
+pub loop-at-preserved : goal.loop-at-preserved
+loop-at-preserved c =
+    let order = c.args.order.now.items in
+    let t = c.index.result.now in
+    let within : c.loop-at.at < length order = omega (arith, c.loop-at-test.true, c.len-at-end.ensures, c.args.order.now.ok.0) in
+    map_grown (λ (u : Entry). (u.id, u.missing)) order c.loop-at.at t _ _ (t.id, t.missing)
+    within c.index.ensures refl c.loop-at.invariant c.in_ok-push_waiting.ensures.ok

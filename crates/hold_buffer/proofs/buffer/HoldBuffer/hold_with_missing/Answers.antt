@@ -3,6 +3,7 @@ use Rattle.std.specs.Prelude.{insert}
 use Rattle.lamport_id.specs.Order.{id_cmp}
 use Rattle.lamport_id.specs.declared.id.Id.{Id}
 use Rattle.sorted_lists.specs.Sorted.{IsGap}
+use Rattle.doc_rules.specs.Replica.{put_among}
 use Rattle.hold_buffer.specs.Held.{Buffer, IsCurrent}
 use Rattle.hold_buffer.specs.Order.{operations_of, waits_of, ListsFree, AreNoted}
 use Rattle.hold_buffer.specs.declared.entry.Entry.{Entry}
@@ -66,6 +67,14 @@ invariant_of-self-in-Err c =
       lists = ready-grown {new = c.admit.new.ready} c.self.invariant.lists g.ready.0 g.ready.1 g.order;
       noted = noted-kept c.self.inside.waiters c.admit.new.waiters c.self.invariant.intact.ordered c.self.invariant.noted g.kept g.order;
     }
+
+pub returns-in-Ok-clause-ok : goal.returns-in-Ok-clause-ok
+returns-in-Ok-clause-ok c =
+    let slots = c.admit.ensures.slots in
+    let order = c.admit.ensures.order in
+    c.store.ensures.operations
+    ∙ (λ i. put_among c.args.op (operations_of (slots i) (order i)))
+    ∙ ap (λ (b : Buffer). put_among c.args.op b.held) c.self.view_is
 
 pub returns-in-Ok-clause-current : goal.returns-in-Ok-clause-current
 returns-in-Ok-clause-current c log missed was =

@@ -10,7 +10,7 @@ use Rattle.std.specs.Prelude.{Contains}
 
 pub unreachable-requires : goal.unreachable-requires
 unreachable-requires c =
-    let gap = rw c.deref.ensures.value at c.in-Err.ensures in
+    let gap = c.in-Err.ensures in
     let held = subst (λ (b : Buffer). is_logged b.held c.args.id ≡ true) (sym c.self.view_is) c.requires.held in
     true≢false (sym held ∙ not_held c.self.invariant.intact.ordered c.args.id c.in-Err.field-0 gap)
 
@@ -19,7 +19,7 @@ returns c op found other =
     let log = c.args.log.now.operations in
     let order = c.self.inside.order.items in
     let t = c.index.result.now in
-    let place = rw c.deref.ensures.value at c.in-Ok.ensures in
+    let place = c.in-Ok.ensures in
     let current = subst (λ (b : Buffer). IsCurrent b log) (sym c.self.view_is) c.requires.current in
     let among : Contains order t = subst (Contains order) (sym c.index.ensures) (Contains-get_or order c.in-Ok.at t place.within) in
     let at = found_at c.self.invariant.intact.ordered c.args.id c.in-Ok.at t place c.index.ensures in

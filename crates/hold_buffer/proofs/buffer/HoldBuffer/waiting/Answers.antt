@@ -7,5 +7,5 @@ pub returns : goal.returns
 returns c other =
     let log = c.args.log.now.operations in
     let current = subst (λ (b : Buffer). IsCurrent b log) (sym c.self.view_is) c.requires in
-    let told = rw c.deref.ensures.value at c.waiting_of.ensures in
+    let told = c.waiting_of.ensures in
     rw (← c.self.view_is) (told other ∙ ap Ok (entries_missing c.self.invariant.intact log current))
