@@ -18,6 +18,7 @@ impl<D> FailAfter<D> {
     /// Lets `after` bytes pass, and fails at the call that asks for more.
     pub fn new(device: D, after: usize) -> Self
         ensures device { result.device ≡ device }
+        ensures left { result.left ≡ after }
         ensures works { result.failed ≡ false }
     {
         FailAfter {
@@ -98,6 +99,7 @@ impl<D> InPieces<D> {
     pub fn new(device: D, most: usize) -> Self
         requires { 0 < most }
         ensures device { result.device ≡ device }
+        ensures most { result.most ≡ most }
         ensures unread { result.reads ≡ 0 }
     {
         InPieces {
