@@ -1,7 +1,5 @@
 -- Which ids make a place present, read from what is there.
-use Rattle.std.proofs.Common.{◌≡◌, List, [], ◌∷◌, true, false, true≢false, not, Bool, Decides, ◌⊎◌, inl, inr, Option, Some, None, refl, sym, ap, ◌∙◌, Contains, is_some}
-use Rattle.std.specs.Prelude.{◌↔◌, IsTrue}
-use Rattle.list_laws.proofs.Members.{Contains-nil, Contains-here}
+use Rattle.std.proofs.Common.{◌≡◌, List, [], ◌∷◌, true, false, true≢false, Decides, ◌⊎◌, inl, inr, Option, Some, None, refl, sym, ap, ◌∙◌, Contains, is_some}
 use Rattle.doc_words.specs.Words.{Id, Key, Tagged}
 use Rattle.crdt_rules.proofs.SameLaws.{id_decides}
 use Rattle.doc_words.specs.declared.role.Role.{Role}
@@ -39,14 +37,6 @@ module _ {tree : TreeValue} {p : List Tagged} {k : Key} {roles : List (Id × Rol
       go : (o : Option Role) → get roles i ≡ o → is_some o ≡ true → (role : Role) × Contains roles (i, role)
       go None is some = absurd (cc)
       go (Some role) is some = (role, get-Contains ids_ordered roles i role is)
-
--- a place is present just if some id makes it so
-pub present_decides : (tree : TreeValue) (p : List Tagged) (k : Key) (roles : List (Id × Role)) (none : Bool)
-    → AreRoles tree p k roles → (IsTrue none ↔ (roles ≡ [])) → Decides (not none) (IsPresent (tree_facts tree) p k)
-present_decides tree p k [] true are is = (λ h. absurd (true≢false (sym h)), λ w. absurd (Contains-nil (entry_from are w.0 w.1).1))
-present_decides tree p k [] false are is = absurd (true≢false (sym (is.1 refl)))
-present_decides tree p k (e ∷ roles) true are is = let none = is.0 refl in absurd (cc)
-present_decides tree p k (e ∷ roles) false are is = (λ h. (e.0, present_from are e (Contains-here roles refl)), λ w. refl)
 
 -- some ids and roles are at each place
 roles_there : (tree : TreeValue) (p : List Tagged) (k : Key) → (roles : List (Id × Role)) × ((i : Id) → get roles i ≡ tree_role tree p k i)

@@ -91,5 +91,5 @@ pub fn present_element(
 pub fn is_present(tree: &Tree, at: NodeNumber) -> bool
     ensures { AtNode tree.now at (λ p k. Decides result (IsPresent (tree_facts tree.now) p k)) }
 {
-    !tree.presence_of(at).is_empty()
+    tree.is_node_present(at)
 }

@@ -177,15 +177,6 @@ impl<'a> Entries<'a> {
     }
 }
 
-impl<'a> Entries<'a> {
-    /// Whether none is left.
-    pub fn is_empty(&self) -> bool
-        ensures { IsTrue result ↔ (self.now ≡ []) }
-    {
-        self.entries.is_empty() && self.blocks.is_empty()
-    }
-}
-
 impl<'a> Iterator for Entries<'a> {
     ghost use Rattle.std.specs.Iterator.{YieldsFirstRef, item_count};
 

@@ -1,8 +1,11 @@
-use Rattle.doc_view.proofs.ByNumber.{roles_by_number}
-use Rattle.doc_view.proofs.Presence.{present_decides}
+use Rattle.std.proofs.Common.{Decides, ◌∙◌, sym, ap, subst}
+use Rattle.doc_nodes.specs.ListPresence.{is_node_present}
+use Rattle.doc_rules.specs.Views.{IsPresent}
+use Rattle.doc_tree.specs.Nodes.{tree_facts}
+use Rattle.doc_view.proofs.Presence.{tree_decides}
 use Rattle.doc_view.proofs.elements.is_present.Goals as goal
 
 pub returns : goal.returns
 returns c = λ p k at.
-    present_decides c.args.tree.now p k c.presence_of.result c.is_empty.result
-    (roles_by_number c.args.tree.now p k c.args.at at c.presence_of.result c.presence_of.ensures.value c.presence_of.ensures.ascending) c.is_empty.ensures
+    let tree = c.args.tree.now in
+    subst (λ b. Decides b (IsPresent (tree_facts tree) p k)) (ap (is_node_present tree.0) at ∙ sym c.is_node_present.ensures) (tree_decides tree p k)
