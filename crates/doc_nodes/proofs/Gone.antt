@@ -117,12 +117,6 @@ but_gone-cut gone blocks n h within = let one : n + 1 ≡ suc n = omega arith in
     go (g ∷ fs) (b ∷ bs) zero inside = both g b (joined (but_gone fs bs))
     go (g ∷ fs) (b ∷ bs) (suc m) inside = ap (λ (l : List (Key × NodeNumber)). (if g then [] else b) ++ l) (go fs bs m (omega (arith, inside)))
 
-pub first_open : (gone : List Bool) (block : List (Key × NodeNumber)) (blocks : List (List (Key × NodeNumber))) → get_or gone 0 false ≡ false
-    → joined (but_gone gone (block ∷ blocks)) ≡ block ++ joined (but_gone (drop 1 gone) blocks)
-first_open [] block blocks isnt = refl
-first_open (true ∷ gone) block blocks isnt = absurd (true≢false isnt)
-first_open (false ∷ gone) block blocks isnt = refl
-
 -- what is not gone is there
 pub some_of : (gone : List Bool) (blocks : List (List (Key × NodeNumber))) (e : Key × NodeNumber) → Contains (joined (but_gone gone blocks)) e → Contains (joined blocks) e
 some_of gone blocks e =

@@ -3,7 +3,7 @@ ghost use Rattle.std.specs.Ordering.{is_lt, nat_cmp};
 ghost use Rattle.std.specs.Vec.{vec_len, vec_capacity};
 ghost use Rattle.std.specs.Cmp.Lexicographic.{slice_cmp};
 ghost use Rattle.std.specs.Prelude.{◌≡◌, ◌≢◌, ◌<◌, ◌≤◌, ◌+◌, ◌++◌, ◌∷◌, ◌⊎◌, ℕ, List, Bool, [], length, take, drop};
-ghost use Rattle.std.specs.Prelude.{false};
+ghost use Rattle.std.specs.Prelude.{false, MatchOption};
 ghost use Rattle.std.specs.Prelude.{insert, None, Some};
 ghost use Rattle.std.specs.Prelude.{OnOk, OnErr, IfOk, IfSome, IfNone, Contains, slice_index_or, slice_set};
 ghost use Rattle.crdt_rules.specs.Same.{key_eq};
@@ -270,6 +270,22 @@ impl<'a> EachChild<'a> {
             blocks: &[],
         }
     }
+
+    /// Takes all of the next children that lie side by side in memory, or none if none is left.
+    pub fn next_block(&mut self) -> Option<&'a [(Key, NodeNumber)]>
+        ensures { MatchOption result (self.old ≡ [])
+            (λ block. (0 < length block.now) × (self.old ≡ block.now ++ self.new)) }
+    {
+        let entries = self.entries;
+        if !entries.is_empty() {
+            self.entries = &[];
+            return Some(entries);
+        }
+        let (block, gone, later) = first_block(self.gone, self.blocks)?;
+        self.gone = gone;
+        self.blocks = later;
+        Some(block)
+    }
 }
 
 impl<'a> Iterator for EachChild<'a> {
@@ -286,14 +302,30 @@ impl<'a> Iterator for EachChild<'a> {
             self.entries = rest;
             return Some(first);
         }
-        let (gone, blocks) = open_blocks(self.gone, self.blocks);
-        let (block, later) = blocks.split_first()?;
-        let (first, rest) = block.entries.as_slice().split_first()?;
+        let (block, gone, later) = first_block(self.gone, self.blocks)?;
+        let (first, rest) = block.split_first()?;
         self.entries = rest;
-        self.gone = all_but_first(gone);
+        self.gone = gone;
         self.blocks = later;
         Some(first)
     }
+}
+
+// The children in the first block that isn't gone, with what is noted of the blocks behind it, and those blocks.
+fn first_block<'a>(
+    gone: &'a [bool],
+    blocks: &'a [Block],
+) -> Option<(&'a [(Key, NodeNumber)], &'a [bool], &'a [Block])>
+    requires { AreFilled blocks.now }
+    ensures none { IfNone result (joined (but_gone gone.now blocks.now) ≡ []) }
+    ensures some { IfSome result (λ r. 0 < length r.0.now) }
+    ensures all { IfSome result
+        (λ r. joined (but_gone gone.now blocks.now) ≡ r.0.now ++ joined (but_gone r.1.now r.2.now)) }
+    ensures filled { IfSome result (λ r. AreFilled r.2.now) }
+{
+    let (gone, blocks) = open_blocks(gone, blocks);
+    let (block, later) = blocks.split_first()?;
+    Some((block.entries.as_slice(), all_but_first(gone), later))
 }
 
 // The blocks from the first on that isn't gone, and what is noted of them.

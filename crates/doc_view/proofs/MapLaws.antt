@@ -1,5 +1,6 @@
 -- The present texts among children are the keys of a map.
-use Rattle.std.proofs.Common.{◌≡◌, ℕ, ◌+◌, ◌<◌, List, [], ◌∷◌, ◌++◌, length, get_or, take, append-nil, append_assoc, inl, inr, true, refl, sym, ap, ◌∙◌, subst, Contains}
+use Rattle.std.proofs.Common.{◌≡◌, ℕ, ◌+◌, ◌<◌, List, [], ◌∷◌, ◌++◌, length, get_or, take, append-nil, append_assoc, inl, inr, true, true≢false, refl, sym, ap, ◌∙◌, subst, Contains}
+use Rattle.std.specs.Prelude.{Option, Some, None, is_some}
 use Rattle.std.specs.Ordering.{is_lt}
 use Rattle.std.proofs.lemmas.List.Elements.{Contains-append_left, Contains-append_right}
 use Rattle.doc_words.specs.Words.{Id, name_cmp, Key, Tagged}
@@ -13,7 +14,7 @@ use Rattle.doc_rules.specs.Views.{AreKeys, IsPresent, into_map}
 use Rattle.doc_rules.specs.Sorted.{IsRising, AreThose}
 use Rattle.doc_rules.specs.Sorted.AreThose.{none, keep, skip}
 use Rattle.doc_rules.proofs.Resolved.{those_from}
-use Rattle.doc_view.specs.Members.{texts_at, texts_in}
+use Rattle.doc_view.specs.Members.{listed, texts_at, texts_in}
 use Rattle.op_core.proofs.Fronts.{is_Less}
 use Rattle.list_laws.proofs.Reading.{take_read}
 
@@ -46,17 +47,34 @@ those_rising (skip h rest) rising = those_rising rest rising.1
 
 -- ---- texts among children
 
-pub texts_in-push : (children : List (Key × NodeNumber)) (child : Key × NodeNumber) → texts_in (children ++ child ∷ []) ≡ texts_in children ++ texts_at child.0
-texts_in-push [] child = append-nil (texts_at child.0)
-texts_in-push (c ∷ children) child =
-    ap (λ texts. texts_at c.0 ++ texts) (texts_in-push children child) ∙ sym (append_assoc (texts_at c.0) (texts_in children) (texts_at child.0))
+pub texts_in-append : (children more : List (Key × NodeNumber)) → texts_in (children ++ more) ≡ texts_in children ++ texts_in more
+texts_in-append [] more = refl
+texts_in-append (c ∷ children) more =
+    ap (λ texts. texts_at c.0 ++ texts) (texts_in-append children more) ∙ sym (append_assoc (texts_at c.0) (texts_in children) (texts_in more))
+
+texts_in-push : (children : List (Key × NodeNumber)) (child : Key × NodeNumber) → texts_in (children ++ child ∷ []) ≡ texts_in children ++ texts_at child.0
+texts_in-push children child = texts_in-append children (child ∷ []) ∙ ap (λ texts. texts_in children ++ texts) (append-nil (texts_at child.0))
+
+pub texts_in-next : (children : List (Key × NodeNumber)) (i : ℕ) (child : Key × NodeNumber) → i < length children → child ≡ get_or children i child
+    → texts_in (take (i + 1) children) ≡ texts_in (take i children) ++ texts_at child.0
+texts_in-next children i child within is = ap texts_in (take_read children i child within is) ∙ texts_in-push (take i children) child
 
 pub texts_step : {holds : List ℕ → Type 0} (children : List (Key × NodeNumber)) (i : ℕ) (child : Key × NodeNumber) → {kept more new : List (List ℕ)}
     → i < length children → child ≡ get_or children i child → AreThose holds (texts_in (take i children)) kept → AreThose holds (texts_at child.0) more
     → new ≡ kept ++ more → AreThose holds (texts_in (take (i + 1) children)) new
 texts_step {holds} children i child {kept} {more} {new} within is those one e =
-    subst (λ (ts : List (List ℕ)). AreThose holds ts new) (sym (ap texts_in (take_read children i child within is) ∙ texts_in-push (take i children) child))
+    subst (λ (ts : List (List ℕ)). AreThose holds ts new) (sym (texts_in-next children i child within is))
     (subst (λ (ts : List (List ℕ)). AreThose holds (texts_in (take i children) ++ texts_at child.0) ts) (sym e) (those_append those one))
+
+-- where a text is given, all of the key is
+pub all_of_it : {holds : List ℕ → Type 0} (k : Key) (given : Option (List ℕ)) → is_some given ≡ true → AreThose holds (texts_at k) (listed given)
+    → AreThose holds (texts_at k) (texts_at k)
+all_of_it (Text t) None there those = absurd (true≢false (sym there))
+all_of_it (Text t) (Some x) there (keep h rest) = keep h none
+all_of_it (Text t) (Some x) there (skip h rest) = absurd (Contains-nil (those_from rest x (Contains-here [] refl)))
+all_of_it Doc given there those = none
+all_of_it (Element i) given there those = none
+all_of_it Head given there those = none
 
 text_from : (children : List (Key × NodeNumber)) (t : List ℕ) → Contains (texts_in children) t → (n : NodeNumber) × Contains children (Text t, n)
 text_from [] t c = absurd (Contains-nil c)

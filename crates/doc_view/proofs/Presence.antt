@@ -1,5 +1,5 @@
 -- Which ids make a place present, read from what is there.
-use Rattle.std.proofs.Common.{◌≡◌, List, [], ◌∷◌, true, false, true≢false, Decides, ◌⊎◌, inl, inr, Option, Some, None, refl, sym, ap, ◌∙◌, Contains, is_some}
+use Rattle.std.proofs.Common.{◌≡◌, List, [], ◌∷◌, true, true≢false, Decides, ◌⊎◌, inl, inr, Option, Some, None, refl, sym, ap, ◌∙◌, Contains, is_some}
 use Rattle.doc_words.specs.Words.{Id, Key, Tagged}
 use Rattle.crdt_rules.proofs.SameLaws.{id_decides}
 use Rattle.doc_words.specs.declared.role.Role.{Role}

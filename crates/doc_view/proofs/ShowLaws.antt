@@ -26,8 +26,7 @@ use Rattle.presence_set.specs.EmptyPut.{puts_map, puts_list}
 use Rattle.doc_view.specs.Showing.{field_data, IsShown, IsMapShown, IsListShown, EachField, AreFields, EachElement, AreShown}
 use Rattle.doc_view.specs.TreeValues.{tree_values}
 use Rattle.doc_view.proofs.Presence.{AreRoles, role_of, present_from, entry_from}
-use Rattle.list_laws.proofs.Reading.{take_read}
-use Rattle.doc_view.proofs.MapLaws.{those_append, those_hold, are_keys, texts_in-push}
+use Rattle.doc_view.proofs.MapLaws.{those_append, those_hold, are_keys, texts_in-next}
 use Rattle.doc_view.proofs.Writing.{branch_of}
 
 -- ---- which values are put
@@ -135,7 +134,7 @@ pub fields_step : (tree : TreeValue) (p : List Tagged) (children : List (Key × 
     → i < length children → child ≡ get_or children i child → AreFields tree p (texts_in (take i children)) ds → AreFields tree p (texts_at child.0) es
     → new ≡ ds ++ es → AreFields tree p (texts_in (take (i + 1) children)) new
 fields_step tree p children i child ds es new within is a b e =
-    subst (λ (ts : List (List ℕ)). AreFields tree p ts new) (sym (ap texts_in (take_read children i child within is) ∙ texts_in-push (take i children) child))
+    subst (λ (ts : List (List ℕ)). AreFields tree p ts new) (sym (texts_in-next children i child within is))
     (subst (λ (xs : List Data). AreFields tree p (texts_in (take i children) ++ texts_at child.0) xs) (sym e)
     (fields_append tree p (texts_in (take i children)) (texts_at child.0) ds es a b))
 

@@ -21,6 +21,10 @@ module _ {X : Type 0} (json : X → Data) where
     one_written x (Ok done) h w = (x ∷ [], h, w ∙ ap (λ ts. old ++ ts) (sym (append-nil (data_tokens (json x)))))
     one_written x (Err e) h w = w
 
+    pub all_written : (xs : List X) (r : Result ⊤ Refusal) → holds xs → Puts (all_tokens (map json xs)) old new r → GivesUnlessMemory (λ _. WritesAll json holds old new) r
+    all_written xs (Ok done) h w = (xs, h, w)
+    all_written xs (Err e) h w = w
+
     -- the array of all, and the empty one
     pub array_written : (begins mid : List Token) (xs : List X) (r : Result ⊤ Refusal) → holds xs → begins ≡ old ++ begin_array ∷ []
         → mid ≡ begins ++ all_tokens (map json xs) → Puts (end_array ∷ []) mid new r → GivesUnlessMemory (λ _. WritesArray json holds old new) r

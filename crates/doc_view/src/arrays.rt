@@ -1,5 +1,5 @@
 //! Keys and elements as JSON arrays, written while they are read.
-ghost use Rattle.std.specs.Prelude.{◌≡◌, ◌∷◌, [], List};
+ghost use Rattle.std.specs.Prelude.{◌≡◌, ◌∷◌, [], List, map};
 ghost use Rattle.serde_json.specs.Data.{string};
 ghost use Rattle.op_core.specs.declared.cursor.Tagged.{Tagged};
 ghost use Rattle.op_core.specs.declared.cursor.Key.TheVariants.{Text};
@@ -12,10 +12,11 @@ ghost use Rattle.doc_view.specs.ByNumber.{AreIn, AtNode, HasItems, IsTextAt};
 ghost use Rattle.doc_view.specs.Members.{texts_at, texts_in};
 ghost use Rattle.doc_view.specs.Readings.{GivesUnlessMemory, ReadsUnlessMemory};
 ghost use Rattle.doc_view.specs.Writing.{WritesAll, WritesArray};
+ghost use Rattle.json_text.specs.Tokens.{all_tokens, Puts};
 
 use crate::elements::present_element;
 use crate::json_parts::write_item;
-use crate::maps::present_text;
+use crate::maps::{are_present_texts, present_text};
 use doc_tree::{EachChild, NodeNumber, SearchHint, Tree};
 use doc_words::CompactText;
 use json_scalar::Refusal;
@@ -49,10 +50,62 @@ fn write_keys(text: &mut JsonText, tree: &Tree, path: &Path, key: &Key) -> Resul
 fn write_present_texts(
     text: &mut JsonText,
     tree: &Tree,
-    children: EachChild<'_>,
+    mut children: EachChild<'_>,
 ) -> Result<(), Refusal>
     ensures { GivesUnlessMemory (λ _. WritesAll string (λ names. (map : List Tagged) → AreIn tree.now map children.entry
         → AreThose (λ t. IsPresent (tree_facts tree.now) map (Text t)) (texts_in children.entry) names)
+        text.old text.new) result }
+{
+    while let Some(block) = children.next_block() {
+        write_block(text, tree, block)?;
+    }
+    Ok(())
+}
+
+// The texts of those of these children that are present. Nodes are far apart in memory: to look at
+// those of a block one right behind another takes less time than to write between two looks.
+fn write_block(text: &mut JsonText, tree: &Tree, block: &[(Key, NodeNumber)]) -> Result<(), Refusal>
+    ensures { GivesUnlessMemory (λ _. WritesAll string (λ names. (map : List Tagged) → AreIn tree.now map block.now
+        → AreThose (λ t. IsPresent (tree_facts tree.now) map (Text t)) (texts_in block.now) names)
+        text.old text.new) result }
+{
+    if are_present_texts(tree, block) {
+        write_texts(text, block)
+    } else {
+        write_each_present_text(text, tree, block)
+    }
+}
+
+// The texts of these children, one behind another.
+fn write_texts(text: &mut JsonText, children: &[(Key, NodeNumber)]) -> Result<(), Refusal>
+    ensures { Puts (all_tokens (map string (texts_in children.now))) text.old text.new result }
+{
+    for child in children {
+        write_text(text, &child.0)?;
+    }
+    Ok(())
+}
+
+// The text of a child, if it is a text.
+fn write_text(text: &mut JsonText, key: &Key) -> Result<(), Refusal>
+    ensures { Puts (all_tokens (map string (texts_at key.now))) text.old text.new result }
+{
+    match key {
+        Key::Doc => Ok(()),
+        Key::Text(name) => text.text(name.as_str()),
+        Key::Element(_) => Ok(()),
+        Key::Head => Ok(()),
+    }
+}
+
+// Those of these children that are texts and present, one behind another.
+fn write_each_present_text(
+    text: &mut JsonText,
+    tree: &Tree,
+    children: &[(Key, NodeNumber)],
+) -> Result<(), Refusal>
+    ensures { GivesUnlessMemory (λ _. WritesAll string (λ names. (map : List Tagged) → AreIn tree.now map children.now
+        → AreThose (λ t. IsPresent (tree_facts tree.now) map (Text t)) (texts_in children.now) names)
         text.old text.new) result }
 {
     for child in children {

@@ -1,5 +1,5 @@
 //! Members of maps.
-ghost use Rattle.std.specs.Prelude.{List, option_map};
+ghost use Rattle.std.specs.Prelude.{◌≡◌, true, List, option_map};
 ghost use Rattle.op_core.specs.declared.cursor.Tagged.{Tagged};
 ghost use Rattle.op_core.specs.declared.cursor.Key.TheVariants.{Text};
 ghost use Rattle.doc_tree.specs.Nodes.{tree_facts};
@@ -57,6 +57,19 @@ pub fn present_text<'a>(tree: &Tree, key: &'a Key, at: NodeNumber) -> Option<&'a
         Key::Element(_) => None,
         Key::Head => None,
     }
+}
+
+/// Whether each of these children of a map is a text and present.
+pub fn are_present_texts(tree: &Tree, children: &[(Key, NodeNumber)]) -> bool
+    ensures { result ≡ true → (map : List Tagged) → AreIn tree.now map children.now
+        → AreThose (λ t. IsPresent (tree_facts tree.now) map (Text t)) (texts_in children.now) (texts_in children.now) }
+{
+    for child in children {
+        if present_text(tree, &child.0, child.1).is_none() {
+            return false;
+        }
+    }
+    true
 }
 
 // Adds the text of a child of a map, if it is a text and present.
