@@ -4,7 +4,7 @@ use Rattle.std.specs.Prelude.{option_and_then}
 use Rattle.std.proofs.lemmas.List.{map-append}
 use Rattle.serde_json.specs.Data.{Data}
 use Rattle.doc_words.specs.Words.{Id, Scalar, Key, Tagged}
-use Rattle.op_core.specs.declared.cursor.Key.TheVariants.{Text, Element}
+use Rattle.op_core.specs.declared.cursor.Key.TheVariants.{Doc, Text, Element, Head}
 use Rattle.op_core.specs.declared.cursor.Tagged.TheVariants as tagged
 use Rattle.op_core.specs.Wire.{list_data}
 use Rattle.crdt_rules.specs.Facts.{Facts}
@@ -22,8 +22,10 @@ use Rattle.doc_tree.proofs.Reading.{role_read, role_absent, scalar_read, scalar_
 use Rattle.doc_rules.specs.Views.{AreElements, AreEntries, AreItems, AreTerms, HaveValues, IsPresent, into_map, into_list}
 use Rattle.doc_rules.specs.Shown.{Shown, shown_data, no_map, no_list, total_shown, value_entry_data, count_branch}
 use Rattle.doc_rules.specs.Sorted.{AreThose}
-use Rattle.doc_rules.specs.Sorted.AreThose.{none}
-use Rattle.doc_view.specs.ByNumber.{AtNode, HasItems, IsTextAt, ShowsThose}
+use Rattle.doc_rules.specs.Sorted.AreThose.{none, keep}
+use Rattle.list_laws.proofs.Members.{Contains-here, Contains-there}
+use Rattle.doc_view.specs.Members.{is_present_text, texts_at, texts_in}
+use Rattle.doc_view.specs.ByNumber.{AreIn, AtNode, HasItems, IsTextAt, ShowsThose}
 use Rattle.doc_view.specs.Showing.{EachElement, IsShown, IsMapShown, IsListShown}
 use Rattle.doc_view.proofs.Entries.{are_all}
 use Rattle.list_laws.proofs.Reading.{take_read}
@@ -31,6 +33,23 @@ use Rattle.doc_view.proofs.MapLaws.{those_append}
 use Rattle.doc_view.proofs.Presence.{AreRoles, present_role, tree_decides}
 use Rattle.doc_view.proofs.Lists.{those_filtered}
 use Rattle.doc_view.proofs.ShowLaws.{shown_from}
+
+-- where each of these children is a present text, all texts among them are present
+pub all_present : (tree : TreeValue) (map : List Tagged) (children : List (Key × NodeNumber))
+    → ((e : Key × NodeNumber) → Contains children e → is_present_text tree e ≡ true) → AreIn tree map children
+    → AreThose (λ t. IsPresent (tree_facts tree) map (Text t)) (texts_in children) (texts_in children)
+all_present tree map [] each in_map = none
+all_present tree map ((k, n) ∷ children) each in_map =
+    go k refl (all_present tree map children (λ e c. each e (Contains-there (k, n) children c)) (λ t m c. in_map t m (Contains-there (k, n) children c)))
+  where
+    go : (j : Key) → k ≡ j → AreThose (λ t. IsPresent (tree_facts tree) map (Text t)) (texts_in children) (texts_in children)
+        → AreThose (λ t. IsPresent (tree_facts tree) map (Text t)) (texts_at j ++ texts_in children) (texts_at j ++ texts_in children)
+    go (Text t) is rest =
+        let here : Contains ((k, n) ∷ children) (Text t, n) = Contains-here children (ap (λ (j : Key). (j, n)) is) in
+        keep ((tree_decides tree map (Text t)).0 (ap (is_node_present tree.0) (in_map t n here) ∙ each (Text t, n) here)) rest
+    go Doc is rest = rest
+    go (Element i) is rest = rest
+    go Head is rest = rest
 
 -- where a place has no node it isn't present
 pub absent_place : (tree : TreeValue) (p : List Tagged) (k : Key) → tree_number tree p k ≡ None → ¬ (IsPresent (tree_facts tree) p k)

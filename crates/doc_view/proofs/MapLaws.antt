@@ -1,6 +1,5 @@
 -- The present texts among children are the keys of a map.
-use Rattle.std.proofs.Common.{◌≡◌, ℕ, ◌+◌, ◌<◌, List, [], ◌∷◌, ◌++◌, length, get_or, take, append-nil, append_assoc, inl, inr, true, true≢false, refl, sym, ap, ◌∙◌, subst, Contains}
-use Rattle.std.specs.Prelude.{Option, Some, None, is_some}
+use Rattle.std.proofs.Common.{◌≡◌, ℕ, ◌+◌, ◌<◌, List, [], ◌∷◌, ◌++◌, length, get_or, take, append-nil, append_assoc, inl, inr, true, refl, sym, ap, ◌∙◌, subst, Contains}
 use Rattle.std.specs.Ordering.{is_lt}
 use Rattle.std.proofs.lemmas.List.Elements.{Contains-append_left, Contains-append_right}
 use Rattle.doc_words.specs.Words.{Id, name_cmp, Key, Tagged}
@@ -14,7 +13,7 @@ use Rattle.doc_rules.specs.Views.{AreKeys, IsPresent, into_map}
 use Rattle.doc_rules.specs.Sorted.{IsRising, AreThose}
 use Rattle.doc_rules.specs.Sorted.AreThose.{none, keep, skip}
 use Rattle.doc_rules.proofs.Resolved.{those_from}
-use Rattle.doc_view.specs.Members.{listed, texts_at, texts_in}
+use Rattle.doc_view.specs.Members.{texts_at, texts_in}
 use Rattle.op_core.proofs.Fronts.{is_Less}
 use Rattle.list_laws.proofs.Reading.{take_read}
 
@@ -65,16 +64,6 @@ pub texts_step : {holds : List ℕ → Type 0} (children : List (Key × NodeNumb
 texts_step {holds} children i child {kept} {more} {new} within is those one e =
     subst (λ (ts : List (List ℕ)). AreThose holds ts new) (sym (texts_in-next children i child within is))
     (subst (λ (ts : List (List ℕ)). AreThose holds (texts_in (take i children) ++ texts_at child.0) ts) (sym e) (those_append those one))
-
--- where a text is given, all of the key is
-pub all_of_it : {holds : List ℕ → Type 0} (k : Key) (given : Option (List ℕ)) → is_some given ≡ true → AreThose holds (texts_at k) (listed given)
-    → AreThose holds (texts_at k) (texts_at k)
-all_of_it (Text t) None there those = absurd (true≢false (sym there))
-all_of_it (Text t) (Some x) there (keep h rest) = keep h none
-all_of_it (Text t) (Some x) there (skip h rest) = absurd (Contains-nil (those_from rest x (Contains-here [] refl)))
-all_of_it Doc given there those = none
-all_of_it (Element i) given there those = none
-all_of_it Head given there those = none
 
 text_from : (children : List (Key × NodeNumber)) (t : List ℕ) → Contains (texts_in children) t → (n : NodeNumber) × Contains children (Text t, n)
 text_from [] t c = absurd (Contains-nil c)

@@ -1,12 +1,13 @@
 //! Members of maps.
-ghost use Rattle.std.specs.Prelude.{◌≡◌, true, List, option_map};
+ghost use Rattle.std.specs.Prelude.{◌≡◌, List, option_map};
+ghost use Rattle.std.specs.List.{list_all};
 ghost use Rattle.op_core.specs.declared.cursor.Tagged.{Tagged};
 ghost use Rattle.op_core.specs.declared.cursor.Key.TheVariants.{Text};
 ghost use Rattle.doc_tree.specs.Nodes.{tree_facts};
 ghost use Rattle.doc_rules.specs.Views.{AreKeys, IsPresent};
 ghost use Rattle.doc_rules.specs.Sorted.{AreThose};
 ghost use Rattle.doc_view.specs.ByNumber.{AreIn, IsTextAt};
-ghost use Rattle.doc_view.specs.Members.{Adds, listed, texts_at, texts_in};
+ghost use Rattle.doc_view.specs.Members.{Adds, is_present_text, listed, texts_at, texts_in};
 ghost use Rattle.doc_view.specs.Readings.{GivesUnlessMemory, ReadsUnlessMemory};
 
 use crate::elements::is_present;
@@ -61,15 +62,21 @@ pub fn present_text<'a>(tree: &Tree, key: &'a Key, at: NodeNumber) -> Option<&'a
 
 /// Whether each of these children of a map is a text and present.
 pub fn are_present_texts(tree: &Tree, children: &[(Key, NodeNumber)]) -> bool
-    ensures { result ≡ true → (map : List Tagged) → AreIn tree.now map children.now
-        → AreThose (λ t. IsPresent (tree_facts tree.now) map (Text t)) (texts_in children.now) (texts_in children.now) }
+    ensures { result ≡ list_all (is_present_text tree.now) children.now }
 {
-    for child in children {
-        if present_text(tree, &child.0, child.1).is_none() {
-            return false;
-        }
+    children.iter().all(|child| is_present_text(tree, child))
+}
+
+// Whether a child of a map is a text and present.
+fn is_present_text(tree: &Tree, child: &(Key, NodeNumber)) -> bool
+    ensures { result ≡ is_present_text tree.now child.now }
+{
+    match &child.0 {
+        Key::Doc => false,
+        Key::Text(_) => tree.is_node_present(child.1),
+        Key::Element(_) => false,
+        Key::Head => false,
     }
-    true
 }
 
 // Adds the text of a child of a map, if it is a text and present.
