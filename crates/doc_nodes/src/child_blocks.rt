@@ -273,7 +273,7 @@ impl<'a> EachChild<'a> {
 
     /// Takes all of the next children that lie side by side in memory, or none if none is left.
     pub fn next_block(&mut self) -> Option<&'a [(Key, NodeNumber)]>
-        ensures { MatchOption result (self.old ≡ [])
+        ensures { MatchOption result ((self.old ≡ []) × (self.new ≡ []))
             (λ block. (0 < length block.now) × (self.old ≡ block.now ++ self.new)) }
     {
         let entries = self.entries;

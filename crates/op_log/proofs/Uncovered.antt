@@ -1,5 +1,5 @@
 -- What a front covers of a log, by the chains of its replicas.
-use Rattle.std.proofs.Common.{◌≡◌, ℕ, ◌<◌, ◌≤◌, inl, inr, zero, suc, List, [], ◌∷◌, length, take, drop, get_or, ◌+◌, ◌++◌, take_all, length-drop, true, false, not, rules, Option, Some, None, Contains, if◌then◌else◌, refl, sym, ap, subst, ◌∙◌, arith}
+use Rattle.std.proofs.Common.{◌≡◌, ℕ, ◌<◌, ◌≤◌, inl, inr, zero, suc, List, [], ◌∷◌, length, take, drop, get_or, ◌+◌, ◌++◌, take_all, length-drop, Bool, true, false, not, rules, Option, Some, None, Contains, if◌then◌else◌, refl, sym, ap, subst, ◌∙◌, arith}
 use Rattle.std.specs.List.{slice_get}
 use Rattle.std.proofs.lemmas.List.{drop_all}
 use Rattle.std.proofs.lemmas.Option.{slice_get_read}
@@ -8,7 +8,8 @@ use Rattle.op_core.specs.Front.{covers}
 use Rattle.op_core.specs.Op.{Op}
 use Rattle.crdt_rules.specs.Dependencies.{entry_of}
 use Rattle.crdt_rules.specs.Log.{IsGood}
-use Rattle.crdt_rules.proofs.Fronts.{covers_at, entry_of-Contains}
+use Rattle.crdt_rules.proofs.Fronts.{covers_at, covers_from, entry_of-Contains}
+use Rattle.crdt_rules.proofs.Tests.{some_same}
 use Rattle.doc_rules.specs.Answers.{since}
 use Rattle.op_log.specs.Index.{HasOpAt, AreLasts, IsLast, IsFirstFrom, CoversChain, CoversBetween, IsUncovered}
 use Rattle.list_laws.proofs.Reading.{take_at, drop_read}
@@ -68,6 +69,22 @@ chains_all front log lasts from n are each k op there behind below = by (entry_o
 
 pub covers_none : (front : List (List ℕ × ℕ)) (log : List Op) (from : ℕ) → CoversBetween front log from from
 covers_none front log from k op there behind below = absurd (omega arith)
+
+-- and behind an operation that it doesn't cover, none of its replica
+pub uncovered_behind : (front : List (List ℕ × ℕ)) (log : List Op) → IsGood log → (name : List ℕ) (k n : ℕ) → HasOpAt log name k → HasOpAt log name n → k ≤ n
+    → IsUncovered front log k → IsUncovered front log n
+uncovered_behind front log good name k n before here le uncovered op there = by (covers front op.id) refl
+  where
+    by : (b : Bool) → covers front op.id ≡ b → covers front op.id ≡ false
+    by false is = is
+    by true is =
+        let e = covers_from front op.id is in
+        let same : op ≡ here.op = some_same (sym there ∙ here.there) in
+        let rises : before.op.id.counter ≤ here.op.id.counter = rises_up_to log good name k n before here le in
+        let reached : op.id.counter ≤ (e.0).1 = e.3 in
+        let up_to : before.op.id.counter ≤ (e.0).1 = omega (arith, rises, reached, ap (λ (o : Op). o.id.counter) same) in
+        let one_name : (e.0).0 ≡ before.op.id.replica = e.2 ∙ ap (λ (o : Op). o.id.replica) same ∙ here.made ∙ sym before.made in
+        absurd (search (rules, sym (uncovered before.op before.there) ∙ covers_at front e.0 before.op.id e.1 one_name up_to))
 
 -- what is covered needs no look
 pub since-between : (front : List (List ℕ × ℕ)) (log : List Op) (from n : ℕ) → from ≤ n → CoversBetween front log from n → since front (drop n log) ≡ since front (drop from log)

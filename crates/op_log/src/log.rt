@@ -188,8 +188,10 @@ impl OpLog {
     }
 
     // The place of the first operation from a place on that the front does not cover, or the number of operations.
+    // The one right before that place, if there is one, isn't covered.
     pub(crate) fn next_uncovered(&self, front: &Front, from: usize) -> usize
-        requires { from ≤ length self.now.operations }
+        requires within { from ≤ length self.now.operations }
+        requires before { (k : ℕ) → k + 1 ≡ from → IsUncovered front.now self.now.operations k }
         ensures within { result ≤ length self.now.operations }
         ensures covered { since front.now (drop result self.now.operations)
             ≡ since front.now (drop from self.now.operations) }

@@ -46,7 +46,7 @@ pub returns : goal.returns
 returns c =
     let passed = c.loop-block.invariant.0 in
     let names = c.loop-block.invariant.2 in
-    let whole : passed ≡ c.args.children = sym (append-nil passed) ∙ ap (λ (l : List (Key × NodeNumber)). passed ++ l) (sym (rw c.in_default.is at c.next_block.ensures)) ∙ c.loop-block.invariant.1 in (
+    let whole : passed ≡ c.args.children = sym (append-nil passed) ∙ ap (λ (l : List (Key × NodeNumber)). passed ++ l) (sym (rw c.in_default.is at c.next_block.ensures).0) ∙ c.loop-block.invariant.1 in (
       names.0,
       λ map in_map.
           subst (λ (children : List (Key × NodeNumber)). AreThose (λ t. IsPresent (tree_facts c.args.tree.now) map (Text t)) (texts_in children) names.0) whole

@@ -1,5 +1,6 @@
-use Rattle.std.proofs.Common.{◌<◌, ◌++◌, ◌∷◌, [], List, length, sym, ap, ◌∙◌, arith}
+use Rattle.std.proofs.Common.{ℕ, subst, ◌<◌, ◌++◌, ◌∷◌, [], List, length, sym, ap, ◌∙◌, arith}
 use Rattle.op_core.specs.Op.{Op}
+use Rattle.op_log.specs.Index.{IsUncovered}
 use Rattle.op_log.proofs.Uncovered.{next_told}
 use Rattle.op_log.proofs.clones.first_uncovered.Goals as goal
 
@@ -14,4 +15,5 @@ loop-preserved c =
       c.in_ok-push_clone.ensures.ok ∙ ap (λ (l : List Op). l ++ op ∷ []) c.loop.invariant.0 ∙ sym told.0,
       told.1,
       omega (arith, within),
+      λ k follows. subst (λ (n : ℕ). IsUncovered c.args.front.now log n) (omega (arith, follows)) c.next_uncovered-at.ensures.uncovered,
     )

@@ -1,8 +1,9 @@
-use Rattle.std.proofs.Common.{◌<◌, ◌≤◌, ◌++◌, length, take, map, sym, ap, ◌∙◌, arith}
+use Rattle.std.proofs.Common.{ℕ, subst, ◌<◌, ◌≤◌, ◌++◌, length, take, map, sym, ap, ◌∙◌, arith}
 use Rattle.op_core.specs.Wire.{wire}
 use Rattle.json_text.specs.Tokens.{all_tokens}
 use Rattle.json_text.proofs.Texts.{told_one_more}
 use Rattle.doc_rules.specs.Answers.{since}
+use Rattle.op_log.specs.Index.{IsUncovered}
 use Rattle.op_log.proofs.Uncovered.{next_told, all_told}
 use Rattle.op_log.proofs.encode.put_uncovered.Goals as goal
 
@@ -19,6 +20,7 @@ loop-preserved c =
           ∙ ap (λ os. c.args.text.now ++ all_tokens (map wire os)) (sym told.0),
       told.1,
       omega (arith, within),
+      λ k follows. subst (λ (n : ℕ). IsUncovered c.args.front.now log n) (omega (arith, follows)) c.next_uncovered-at.ensures.uncovered,
     )
 
 pub returns-then-at-len : goal.returns-then-at-len

@@ -1,6 +1,6 @@
 use Rattle.std.proofs.Common.{◌≤◌, ◌-◌, length}
 use Rattle.op_log.specs.Index.{CoversBetween}
-use Rattle.op_log.proofs.index.next_uncovered.Given as goal
+use Rattle.op_log.proofs.index.search_uncovered.Given as goal
 
 abbrev pub invariant-loop-place : goal.invariant-loop-place
 invariant-loop-place l = (l.from ≤ l.place) × (l.place ≤ length l.entries) × CoversBetween l.front l.entries l.from l.place
