@@ -1,13 +1,14 @@
-"""The client's calls, one after the other, with what each gives.
+"""A session's calls, one after the other, with what each gives.
 
 usage: first_steps.py
 """
 
 import json
+import os
 import sys
 
-import jcrdt_client
-from jcrdt_client import Refused
+sys.path.insert(0, os.path.join(os.path.dirname(os.path.abspath(__file__)), "..", "clients", "python"))
+import jcrdt  # noqa: E402
 
 
 def show(title, value):
@@ -15,15 +16,14 @@ def show(title, value):
 
 
 def main():
-    with jcrdt_client.started(["notes"], name="alice") as alice:
+    with jcrdt.started(["notes"], name="alice") as alice:
         alice.open("notes")
         alice.put("notes", [0], {"title": "Trip", "days": [{"place": "Oslo"}, {"place": "Bergen"}], "paid": False})
         show("the whole document", alice.plain("notes", [0]))
         show("keys", alice.keys("notes", [0]))
 
-        alice.append("notes", [0, "days"], {})
-        alice.assign("notes", [0, "days", 3, "place"], "Tromsø")
-        alice.let("notes", "last day", [0, "days", 3])
+        last = alice.append("notes", [0, "days"], {"place": "Tromsø"})
+        alice.bind("notes", "last day", [0, "days"], last)
         alice.delete("notes", [0, "days", 1])
         alice.assign("notes", ["last day", "nights"], 2)
         show("days", alice.plain("notes", [0, "days"]))
@@ -45,15 +45,10 @@ def main():
         for cursor, value in (([0, "rate"], 1.5), ([0, "days", 7], "x"), (["nobody"], 1)):
             try:
                 alice.assign("notes", cursor, value)
-            except Refused as refused:
+            except jcrdt.Refused as refused:
                 show(f"refused {json.dumps(cursor)}", str(refused))
         alice.quit()
 
 
 if __name__ == "__main__":
-    if len(sys.argv) != 1:
-        sys.exit(__doc__)
-    try:
-        main()
-    except (OSError, Refused) as error:
-        sys.exit(f"first_steps: {error}")
+    main()

@@ -1,123 +1,60 @@
-/* Notes that work offline. Each change goes into a file; `sync` exchanges it with a server.
+/* Notes that work offline. Each change goes into a file, and to a server whenever there is one.
 
    run: node examples/notes.mjs FILE [HOST:PORT]
 
-   Reads commands from standard input: add TEXT, edit N TEXT, tick N, delete N, list, undo, sync.
-   The server has a document named `notes`. Each FILE is a replica of it, and is used by one program
-   at a time. */
+   Reads commands from standard input: add TEXT, edit N TEXT, tick N, delete N, list, undo, redo,
+   sync (waits until all is exchanged), state. The server has a document named `notes`. */
 
-import { closeSync, existsSync, fsyncSync, openSync } from "node:fs";
-import { readFileSync, renameSync, writeSync } from "node:fs";
 import { createInterface } from "node:readline";
-import { connected } from "./client.mjs";
-import { Replica, freshName } from "./replica.mjs";
+import { fileStore } from "../clients/js/file_store.mjs";
+import { Provider } from "../clients/js/provider.mjs";
 
 const NOTES = [0, "notes"];
-
-/** The file of a replica: a line for each operation. */
-class Store {
-  constructor(path) {
-    this.path = path;
-    const text = existsSync(path) ? readFileSync(path, "utf8") : "";
-    // A program that was killed while it wrote leaves a last line without an end.
-    const lines = text.split("\n").slice(0, -1);
-    this.replica = lines.length ? Replica.restore(lines) : new Replica(freshName("notes"), "notes");
-    this.writeAll(); // without that line
-    this.replica.listen(({ line, why }) => (why === "remade" ? this.writeAll() : this.write(line)));
-  }
-
-  write(line) {
-    writeSync(this.file, `${line}\n`);
-  }
-
-  /** Writes a new file in place of the old one, and goes on writing to it. */
-  writeAll() {
-    if (this.file !== undefined) closeSync(this.file);
-    this.file = openSync(`${this.path}.new`, "w");
-    for (const line of this.replica.lines()) this.write(line);
-    this.flush();
-    renameSync(`${this.path}.new`, this.path);
-  }
-
-  /** Before a line is sent, it is on the disk: see `sync`. */
-  flush() {
-    fsyncSync(this.file);
-  }
-}
-
-class Notes {
-  constructor(store, address) {
-    this.store = store;
-    this.replica = store.replica;
-    this.address = address;
-  }
-
-  add(text) {
-    const count = this.replica.items(NOTES).length;
-    this.replica.splice(NOTES, count, 0, [{ text, done: false }]);
-  }
-
-  edit(words) {
-    const [number, ...rest] = words.split(" ");
-    this.replica.assign([...NOTES, Number(number), "text"], rest.join(" "));
-  }
-
-  tick(number) {
-    this.replica.assign([...NOTES, Number(number), "done"], true);
-  }
-
-  delete(number) {
-    this.replica.delete([...NOTES, Number(number)]);
-  }
-
-  undo() {
-    if (!this.replica.undo()) console.log("nothing to undo");
-  }
-
-  list() {
-    this.replica.items(NOTES).forEach(([id], at) => {
-      const [texts, done] = ["text", "done"].map((key) => this.replica.values([...NOTES, id, key]));
-      // Two who edited it apart: both texts stay, until somebody edits it once more.
-      console.log(`${at + 1} [${done.includes(true) ? "x" : " "}] ${texts.join("  OR  ")}`);
-    });
-  }
-
-  async sync() {
-    const client = await connected(this.address, 10);
-    const answer = (line) => client.answer(line);
-    this.store.flush();
-    let { taken, given, refused } = await this.replica.sync(answer);
-    if (refused.some(({ own, number }) => own && [14, 15, 16].includes(number))) {
-      const { remade, lost } = await this.replica.remake(freshName("notes"), answer);
-      console.log(`another has this name: made ${remade} changes again, lost ${lost.length}`);
-      ({ taken, given, refused } = await this.replica.sync(answer));
-    }
-    await client.quit();
-    console.log(`took ${taken} changes, gave ${given}`);
-    for (const { number, name, line } of refused) console.log(`refused ${number} ${name}: ${line}`);
-  }
-}
-
-const COMMANDS = ["add", "edit", "tick", "delete", "list", "undo", "sync"];
-
-async function main(path, address) {
-  const notes = new Notes(new Store(path), address);
-  for await (const line of createInterface({ input: process.stdin })) {
-    const [word, ...rest] = line.trim().split(" ");
-    if (word === "") continue;
-    try {
-      if (!COMMANDS.includes(word)) throw new Error(`one of ${COMMANDS.join(", ")}`);
-      if (word === "sync" && !address) throw new Error("no server was named");
-      await notes[word](rest.join(" "));
-    } catch (error) {
-      console.log(error.message);
-    }
-  }
-}
-
-const [path, address] = process.argv.slice(2);
-if (!path) {
+const [file, at] = process.argv.slice(2);
+if (!file) {
   console.error("usage: notes.mjs FILE [HOST:PORT]");
   process.exit(2);
 }
-await main(path, address);
+const provider = await Provider.open({ document: "notes", at, word: "notes", store: fileStore(file) })
+  .catch((error) => {
+    console.error(`notes: ${error.message}`);
+    process.exit(1);
+  });
+const { replica } = provider;
+provider.listen(({ what }) => {
+  if (what === "problem") for (const { words } of provider.problems.values()) console.log(words);
+});
+
+const place = (number) => replica.place([...NOTES, Number(number)]);
+const commands = {
+  add: (text) => void replica.splice(NOTES, replica.items(NOTES).length, 0, [{ text, done: false }]),
+  edit: (text) => void replica.assign([...place(text.split(" ")[0]), "text"], text.replace(/^\S+ /, "")),
+  tick: (number) => void replica.assign([...place(number), "done"], true),
+  delete: (number) => void replica.delete(place(number)),
+  undo: () => (replica.undo() ? undefined : "nothing to undo"),
+  redo: () => (replica.redo() ? undefined : "nothing to redo"),
+  sync: () => provider.synced(),
+  state: () => `${provider.state.word} ${provider.state.why}`.trim(),
+  list: () => replica.items(NOTES).map(([id], index) => {
+    const [texts, done] = ["text", "done"].map((key) => replica.values([...NOTES, id, key]));
+    // Two who edited it apart: both texts stay, until somebody edits it once more.
+    const text = texts.length ? texts.join("  OR  ") : "(deleted by one, ticked by another)";
+    return `${index + 1} [${done.includes(true) ? "x" : " "}] ${text}`;
+  }).join("\n") || undefined,
+};
+
+for await (const line of createInterface({ input: process.stdin })) {
+  const [word, ...rest] = line.trim().split(" ");
+  if (word === "") continue;
+  try {
+    if (!Object.hasOwn(commands, word)) throw new Error(`one of ${Object.keys(commands).join(", ")}`);
+    const told = await commands[word](rest.join(" "));
+    if (told !== undefined) console.log(told);
+  } catch (error) {
+    console.log(error.message);
+  }
+}
+await provider.close().catch((error) => {
+  console.error(`notes: ${error.message}`);
+  process.exitCode = 1;
+});

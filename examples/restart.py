@@ -10,17 +10,16 @@ import subprocess
 import sys
 import tempfile
 
-import jcrdt_client
-from exchange import exchange, pull, verdict
-from jcrdt_client import Refused
+sys.path.insert(0, os.path.join(os.path.dirname(os.path.abspath(__file__)), "..", "clients", "python"))
+import jcrdt  # noqa: E402
+from jcrdt.exchange import exchange, pull, verdict  # noqa: E402
 
-DOCUMENT = "notes"
-COUNT = 200
+DOCUMENT, COUNT = "notes", 200
 
 
 def start(stack, name, room):
     """Starts a server from the file of this name. Returns the program, which is ended with the stack, and its address."""
-    words = [jcrdt_client.PROGRAM, "serve", "--addr", "127.0.0.1:0", "--sessions", "9", "--file", os.path.join(room, f"{name}.db"),
+    words = [jcrdt.program(), "serve", "--addr", "127.0.0.1:0", "--sessions", "9", "--file", os.path.join(room, f"{name}.db"),
              "--name", name, DOCUMENT]
     program = stack.enter_context(subprocess.Popen(words, bufsize=0, stdout=subprocess.PIPE))
     stack.callback(program.kill)
@@ -28,7 +27,7 @@ def start(stack, name, room):
 
 
 def talk(stack, address):
-    server = stack.enter_context(jcrdt_client.connected(address))
+    server = stack.enter_context(jcrdt.connected(address))
     server.open(DOCUMENT)
     return server
 
@@ -53,13 +52,10 @@ def main():
 
         logged, refused = exchange(again, bob, DOCUMENT)
         print(f"bob handed {logged} back", file=sys.stderr)
-        print(f"refused {len(refused)}; {verdict(again, bob, DOCUMENT)}; {kept + logged} notes")
+        print(f"refused {len(refused)}; {verdict(again, bob, DOCUMENT, refused)}; {kept + logged} notes")
         counter, replica = again.assign(DOCUMENT, [0, "note 0"], "made after the kill")
         print(f"the next change is {counter} of {replica}")
 
 
 if __name__ == "__main__":
-    try:
-        main()
-    except (OSError, ValueError, Refused) as error:
-        sys.exit(f"restart: {error}")
+    main()

@@ -5,34 +5,38 @@ usage: shopping_list.py ADDRESS      (a server was started by: ./jcrdt serve --a
 Then line by line: add NAME · bought NUMBER · list · quit
 """
 
+import os
 import sys
 
-import jcrdt_client
-from jcrdt_client import Refused
+sys.path.insert(0, os.path.join(os.path.dirname(os.path.abspath(__file__)), "..", "clients", "python"))
+import jcrdt  # noqa: E402
 
-DOCUMENT = "list"
-ITEMS = [0, "items"]
+DOCUMENT, ITEMS = "list", [0, "items"]
 
 
-def show(server):
-    """Prints the list. Each number is bound to its element, and means it also when another terminal changes the list."""
-    items = server.items(DOCUMENT, ITEMS)
-    for number, (_, names) in enumerate(items[:64], 1):
-        server.let(DOCUMENT, str(number), [*ITEMS, number])
+def show(server, shown):
+    """Prints the list, and remembers which element each number means: it means it also when others change the list."""
+    shown.clear()
+    for number, (element, names) in enumerate(server.items(DOCUMENT, ITEMS), 1):
+        shown[str(number)] = element
         print(f"{number} {' / '.join(map(str, names))}")
-    if not items:
+    if not shown:
         print("nothing to buy")
 
 
-def obey(server, line):
+def obey(server, shown, line):
     """Does what a line says; False ends the terminal."""
     word, _, rest = line.strip().partition(" ")
     if word == "add" and rest:
         server.append(DOCUMENT, ITEMS, rest)
-    elif word == "bought" and rest:
-        server.delete(DOCUMENT, [rest])
+    elif word == "bought" and rest in shown:
+        # The name is bound to that very element, or the element is gone.
+        if server.bind(DOCUMENT, "bought", ITEMS, shown[rest]):
+            server.delete(DOCUMENT, ["bought"])
+    elif word == "bought":
+        print("show the list first: no such number")
     elif word == "list":
-        show(server)
+        show(server, shown)
     elif word == "quit":
         return False
     else:
@@ -41,15 +45,12 @@ def obey(server, line):
 
 
 def main(address):
-    with jcrdt_client.connected(address) as server:
+    with jcrdt.connected(address) as server:
         server.open(DOCUMENT)
+        shown = {}
         for line in sys.stdin:
-            try:
-                if not obey(server, line):
-                    break
-            except Refused as refused:
-                # 8 is no-such-variable: no such number was shown here.
-                print("show the list first: no such number" if refused.number == 8 else f"refused: {refused}")
+            if not obey(server, shown, line):
+                break
             sys.stdout.flush()
         server.quit()
 
@@ -59,5 +60,5 @@ if __name__ == "__main__":
         sys.exit(__doc__)
     try:
         main(sys.argv[1])
-    except (OSError, ValueError, Refused) as error:
+    except (OSError, ValueError, jcrdt.Refused) as error:
         sys.exit(f"shopping_list: {error}")

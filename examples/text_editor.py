@@ -3,12 +3,13 @@
 usage: text_editor.py [COUNT]     (how many characters each types; figures go to standard error)
 """
 
+import os
 import sys
 import time
 
-import jcrdt_client
-from exchange import exchange
-from jcrdt_client import Refused
+sys.path.insert(0, os.path.join(os.path.dirname(os.path.abspath(__file__)), "..", "clients", "python"))
+import jcrdt  # noqa: E402
+from jcrdt.exchange import exchange  # noqa: E402
 
 TEXT = [0, "text"]
 
@@ -30,7 +31,7 @@ def timed(what, count, work):
 
 
 def main(count):
-    with jcrdt_client.started(["page"], "ada") as ada, jcrdt_client.started(["page"], "bob") as bob:
+    with jcrdt.started(["page"], "ada") as ada, jcrdt.started(["page"], "bob") as bob:
         ada.open("page")
         bob.open("page")
         ada.assign("page", TEXT, [])
@@ -60,7 +61,4 @@ def main(count):
 if __name__ == "__main__":
     if len(sys.argv) > 2 or not all(word.isdigit() for word in sys.argv[1:]):
         sys.exit(__doc__)
-    try:
-        main(int(sys.argv[1]) if len(sys.argv) == 2 else 500)
-    except (OSError, Refused) as error:
-        sys.exit(f"text_editor: {error}")
+    main(int(sys.argv[1]) if len(sys.argv) == 2 else 500)

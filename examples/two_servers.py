@@ -9,72 +9,70 @@ import os
 import sys
 import tempfile
 
-import jcrdt_client
-from exchange import exchange, verdict
-from jcrdt_client import Refused
+sys.path.insert(0, os.path.join(os.path.dirname(os.path.abspath(__file__)), "..", "clients", "python"))
+import jcrdt  # noqa: E402
+from jcrdt.exchange import exchange, verdict  # noqa: E402
+
+DOCUMENT = "plan"
 
 
-def over_pipes(stack, document, name, _room):
+def over_pipes(stack, name, _room):
     """Starts a program that serves one client, and keeps nothing."""
-    return stack.enter_context(jcrdt_client.started([document], name))
+    return stack.enter_context(jcrdt.started([DOCUMENT], name))
 
 
-def over_tcp(stack, document, name, room):
+def over_tcp(stack, name, room):
     """Starts a server that listens at a port of its own, starts from its file, and ends with its one session."""
-    address = stack.enter_context(jcrdt_client.serving([document], 1, name, os.path.join(room, f"{name}.db")))
-    return stack.enter_context(jcrdt_client.connected(address))
+    address = stack.enter_context(jcrdt.serving([DOCUMENT], 1, name, os.path.join(room, f"{name}.db")))
+    return stack.enter_context(jcrdt.connected(address))
 
 
-def tell(when, alice, bob, document):
+def tell(when, alice, bob):
     for name, server in (("alice", alice), ("bob", bob)):
-        print(f"{when}, {name}: {json.dumps(server.plain(document, [0]))}")
+        print(f"{when}, {name}: {json.dumps(server.plain(DOCUMENT, [0]))}")
 
 
-def meet(alice, bob, document):
-    logged, refused = exchange(alice, bob, document)
-    print(f"they meet: handed over {logged}, refused {len(refused)}; {verdict(alice, bob, document)}")
+def meet(alice, bob):
+    logged, refused = exchange(alice, bob, DOCUMENT)
+    print(f"they meet: handed over {logged}, refused {len(refused)}; {verdict(alice, bob, DOCUMENT, refused)}")
 
 
 def main(kind):
-    document = "plan"
     with contextlib.ExitStack() as stack:
         start = over_tcp if kind == "tcp" else over_pipes
         room = stack.enter_context(tempfile.TemporaryDirectory())
-        bob = start(stack, document, "bob", room)
+        bob = start(stack, "bob", room)
         until_alice_ends = stack.enter_context(contextlib.ExitStack())
-        alice = start(until_alice_ends, document, "alice", room)
-        alice.open(document)
-        bob.open(document)
-        alice.put(document, [0], {"title": "Plan", "guests": ["Ada"]})
-        meet(alice, bob, document)
+        alice = start(until_alice_ends, "alice", room)
+        alice.open(DOCUMENT)
+        bob.open(DOCUMENT)
+        alice.put(DOCUMENT, [0], {"title": "Plan", "guests": ["Ada"]})
+        meet(alice, bob)
 
         # From here on neither hears of the other.
-        alice.assign(document, [0, "title"], "Party")
-        alice.append(document, [0, "guests"], "Grace")
-        alice.add(document, [0, "cakes"], 2)
-        bob.assign(document, [0, "title"], "Dinner")
-        bob.append(document, [0, "guests"], "Edsger")
-        bob.add(document, [0, "cakes"], 3)
-        tell("apart", alice, bob, document)
-
-        meet(alice, bob, document)
-        tell("together", alice, bob, document)
+        for server, title, guest, cakes in ((alice, "Party", "Grace", 2), (bob, "Dinner", "Edsger", 3)):
+            server.assign(DOCUMENT, [0, "title"], title)
+            server.append(DOCUMENT, [0, "guests"], guest)
+            server.add(DOCUMENT, [0, "cakes"], cakes)
+        tell("apart", alice, bob)
+        meet(alice, bob)
+        tell("together", alice, bob)
 
         # Who sees both titles and assigns once more settles it for all.
-        bob.assign(document, [0, "title"], "Dinner party")
-        meet(alice, bob, document)
-        tell("settled", alice, bob, document)
+        bob.assign(DOCUMENT, [0, "title"], "Dinner party")
+        meet(alice, bob)
+        tell("settled", alice, bob)
 
         # Without a file alice's document ends with her program: under a new name she gets all of it from bob. From her file she
         # has all that she had, and is a new replica of the old name.
         alice.quit()
         until_alice_ends.close()
-        bob.assign(document, [0, "day"], "Friday")
-        again = start(stack, document, "alice" if kind == "tcp" else "alice-again", room)
-        again.open(document)
-        tell("started again", again, bob, document)
-        meet(again, bob, document)
-        print(f"the next change is {again.assign(document, [0, 'hour'], 19)}")
+        bob.assign(DOCUMENT, [0, "day"], "Friday")
+        again = start(stack, "alice" if kind == "tcp" else "alice-again", room)
+        again.open(DOCUMENT)
+        tell("started again", again, bob)
+        meet(again, bob)
+        print(f"the next change is {again.assign(DOCUMENT, [0, 'hour'], 19)}")
         again.quit()
         bob.quit()
 
@@ -82,7 +80,4 @@ def main(kind):
 if __name__ == "__main__":
     if sys.argv[1:] not in (["pipes"], ["tcp"]):
         sys.exit(__doc__)
-    try:
-        main(sys.argv[1])
-    except (OSError, Refused) as error:
-        sys.exit(f"two_servers: {error}")
+    main(sys.argv[1])

@@ -17,22 +17,13 @@ import time
 
 TOP = os.path.dirname(os.path.dirname(os.path.abspath(__file__)))
 PROGRAM = "jcrdt"
+# The static library, and what tools/embed makes of it.
+EMBEDDED = "replica_c"
+EMBEDDED_FILES = {"library": "libjcrdt.a", "shared": "libjcrdt.so", "module": "jcrdt.wasm"}
 PARTS = ("src", "specs", "proofs")
 
 # Memory that a check may need, in bytes: most need 1 to 3 GB, a few up to 5.2.
 NEEDS = 4_000_000_000
-
-# Seconds of a first proof on four processors that had other work too. They only decide which crate starts first.
-SECONDS = {
-    "commands": 498, "jcrdt": 463, "server_core": 399, "served_copy": 381, "run_core": 220,
-    "op_core": 192, "locked_doc": 188, "line_proto": 179, "session_core": 179, "doc_view": 170,
-    "replica_core": 168, "copy_files": 167, "copier": 160, "doc_nodes": 156, "log_copy": 126,
-    "op_log": 124, "doc_ledger": 116, "presence_set": 110, "copy_docs": 109, "doc_tree": 95,
-    "line_feed": 94, "copy_rows": 87, "list_order": 86, "tcp_server": 85, "copy_report": 83,
-    "hold_buffer": 83, "json_text": 65, "copy_schema": 61, "json_scalar": 51, "copy_tables": 43,
-    "doc_words": 37, "crdt_rules": 28, "doc_rules": 25, "lamport_id": 24, "server_notes": 24,
-    "share_ledger": 21, "session_rules": 16, "list_laws": 13, "sorted_lists": 8,
-}
 
 Crate = collections.namedtuple("Crate", "line deps")
 
@@ -56,12 +47,21 @@ def below(crates, name):
     return found
 
 
+def seconds_of(name):
+    """How many seconds the last proof of a crate took here, or a guess by the size of its sources. It only decides which crate starts
+    first."""
+    with contextlib.suppress(OSError, IndexError, ValueError), open(f"{TOP}/crates/{name}/out/built", encoding="utf-8") as it:
+        return int(it.read().split()[1])
+    files = [f"{at}/{it}" for part in PARTS for at, _, its in os.walk(f"{TOP}/crates/{name}/{part}") for it in its]
+    return 20 + sum(os.path.getsize(it) for it in files) // 2000
+
+
 def seconds_to_end(crates, names):
     """For each of these crates the seconds from its start to the end of the longest chain above it."""
     found = {}
     for name in sorted(names, key=lambda it: -len(below(crates, it))):
         above = [found[it] for it in names if name in crates[it].deps]
-        found[name] = SECONDS.get(name, 60) + max(above, default=0)
+        found[name] = seconds_of(name) + max(above, default=0)
     return found
 
 
@@ -93,6 +93,18 @@ def sum_of(file):
 def source_sum(top=TOP):
     """The sum of the sources that the program is built from."""
     return subprocess.run([f"{TOP}/tools/source-sum", top], stdout=subprocess.PIPE, text=True, check=True).stdout.strip()
+
+
+def embedded_sum(top=TOP):
+    """The sum of the sources that the embedded replica is built from: those of its crates, the module's heap, and what builds it."""
+    every, found = read(top), hashlib.sha256()
+    names = sorted([*below(every, EMBEDDED), EMBEDDED])
+    found.update(repr([every[name].line for name in names]).encode())
+    files = [f"{at}/{it}" for name in names for part in PARTS for at, _, its in os.walk(f"{top}/crates/{name}/{part}") for it in its]
+    for file in [*sorted(files), *(f"{top}/{it}" for it in ("HANDLES", "wasm/heap.c", "tools/embed"))]:
+        with open(file, "rb") as it:
+            found.update(repr((os.path.relpath(file, top), it.read())).encode())
+    return found.hexdigest()
 
 
 def opened_anew(path):
@@ -198,6 +210,7 @@ class Proofs:
     def is_proved(self, name):
         out = f"{TOP}/crates/{name}/out"
         made = f"{out}/rlib/{name}.rlib/format" if self.is_library(name) else f"{out}/{name}"
+        made = f"{out}/lib{name}.a" if name == EMBEDDED else made
         with contextlib.suppress(OSError), open(f"{out}/built", encoding="utf-8") as it:
             return os.path.isfile(made) and it.read().split()[:1] == [self.sum(name)]
         return False

@@ -1,56 +1,56 @@
-/* Two who keep notes apart and meet at a server. run: examples/tests/notes PROGRAM */
+/* The notes: apart and together at a server, undo, damaged and copied files.
+   run: examples/tests/notes PROGRAM */
 
-import { equal, match, ok } from "node:assert/strict";
+import { equal, match } from "node:assert/strict";
 import { spawnSync } from "node:child_process";
 import { appendFileSync, copyFileSync, readFileSync } from "node:fs";
+import test from "node:test";
 import { fileURLToPath } from "node:url";
-import { run, startServer } from "./support.mjs";
+import { end, room, startServer } from "../../clients/js/test/serving.mjs";
 
-const NOTES = fileURLToPath(new URL("../notes.mjs", import.meta.url));
-const { address } = await startServer(["notes"]);
+const place = (name) => fileURLToPath(new URL(`../${name}`, import.meta.url));
 
-/** What the program prints for some commands. */
-function notes(file, ...commands) {
-  const words = [NOTES, file, address];
-  const { stdout, stderr } = spawnSync("node", words, { input: commands.join("\n") });
-  equal(stderr.toString(), "");
-  return stdout.toString();
+/** What a program prints, and what it writes to standard error. */
+function run(name, words, input = "") {
+  const { stdout, stderr, status } = spawnSync(process.execPath, [place(name), ...words], { input });
+  return { text: stdout.toString(), errors: stderr.toString(), status };
 }
 
-async function offline_and_together() {
-  equal(notes("ada", "add milk", "add bread", "tick 1", "list"), "1 [x] milk\n2 [ ] bread\n");
-  equal(notes("ada", "sync"), "took 0 changes, gave 7\n");
-  equal(notes("bob", "sync", "edit 2 dark bread", "add tea"), "took 7 changes, gave 0\n");
-  equal(notes("ada", "edit 2 white bread", "sync"), "took 0 changes, gave 1\n");
-  const bread = "(dark bread {2}OR {2}white bread|white bread {2}OR {2}dark bread)";
-  const both = new RegExp(`^took 1 changes, gave 4\\n1 .x. milk\\n2 . . ${bread}\\n3 . . tea\\n$`);
-  match(notes("bob", "sync", "list"), both);
-  equal(notes("bob", "edit 2 rye bread", "delete 1", "sync"), "took 0 changes, gave 2\n");
-  equal(notes("ada", "sync", "list"), "took 6 changes, gave 0\n1 [ ] rye bread\n2 [ ] tea\n");
+function notes(file, address, ...commands) {
+  const { text, errors } = run("notes.mjs", [file, ...(address ? [address] : [])], commands.join("\n"));
+  equal(errors, "");
+  return text;
 }
 
-async function undo_and_refusals() {
-  const said = notes("bob", "add eggs", "undo", "undo", "tick 9", "sing", "list");
-  const list = "1 [ ] rye bread\n2 [ ] tea\n";
-  ok(said.startsWith("nothing to undo\nrefused: 9 index-past-end\none of add, edit,"), said);
-  ok(said.endsWith(list), said);
-}
+test("notes: offline and together", async () => {
+  const { address } = await startServer(["notes"]);
+  const [ada, bob] = ["ada", "bob"].map((name) => `${room()}/${name}`);
+  equal(notes(ada, undefined, "add milk", "add bread", "tick 1", "list"), "1 [x] milk\n2 [ ] bread\n");
+  equal(notes(ada, address, "sync", "state"), "online\n");
+  equal(notes(bob, address, "sync", "list"), "1 [x] milk\n2 [ ] bread\n");
+  notes(bob, undefined, "edit 2 dark bread", "add tea");
+  notes(ada, address, "edit 2 white bread", "sync");
+  match(notes(bob, address, "sync", "list"), /^1 .x. milk\n2 . . (dark|white) bread {2}OR {2}(white|dark) bread\n3 . . tea\n$/);
+  notes(bob, address, "edit 2 rye bread", "delete 1", "sync");
+  equal(notes(ada, address, "sync", "list"), "1 [ ] rye bread\n2 [ ] tea\n");
+  const said = notes(bob, undefined, "add eggs", "undo", "redo", "undo", "tick 9", "sing", "list");
+  equal(said, "refused: 9 index-past-end\none of add, edit, tick, delete, undo, redo, sync, state, list\n"
+    + "1 [ ] rye bread\n2 [ ] tea\n");
+});
 
-async function a_torn_last_line() {
-  const lines = readFileSync("ada", "utf8");
-  appendFileSync("ada", '["op",[99,"no');
-  equal(notes("ada", "list"), "1 [ ] rye bread\n2 [ ] tea\n");
-  equal(readFileSync("ada", "utf8"), lines);
-}
-
-/** A file that was copied, so that two have one name. */
-async function a_copied_file() {
-  copyFileSync("ada", "copied");
-  equal(notes("ada", "add by ada", "sync"), "took 0 changes, gave 3\n");
-  const said = notes("copied", "add by the copy", "add one more", "sync", "list");
-  match(said, /^another has this name: made 4 changes again, lost 0\ntook 0 changes, gave 4\n/);
-  match(said, /3 . . (by ada {2}OR {2}by the copy|by the copy {2}OR {2}by ada)\n4 . . one more\n$/);
-  equal(notes("copied", "sync"), "took 0 changes, gave 0\n");
-}
-
-await run({ offline_and_together, undo_and_refusals, a_torn_last_line, a_copied_file });
+test("notes: no server, a torn line, a copied file", async () => {
+  const server = await startServer(["notes"]);
+  const file = `${room()}/ada`;
+  notes(file, server.address, "add one", "sync");
+  const before = readFileSync(file, "utf8");
+  appendFileSync(file, '["op",[99,"no');
+  equal(notes(file, undefined, "list"), "1 [ ] one\n");
+  equal(readFileSync(file, "utf8"), before);
+  copyFileSync(file, `${file}-copy`);
+  notes(file, server.address, "add by ada", "sync");
+  const said = notes(`${file}-copy`, server.address, "add by the copy", "sync", "list");
+  match(said, /^another had the name of this replica: made \d changes again\n/);
+  match(said, /1 \[ ] one\n2 \[ ] by (ada|the copy)\n3 \[ ] by (ada|the copy)\n$/); // two notes, not one
+  await end(server);
+  match(notes(file, server.address, "add offline", "sync", "list"), /^not exchanged: .*\n1 /);
+});

@@ -8,7 +8,7 @@ import sys
 HERE = os.path.dirname(os.path.abspath(__file__))
 EXAMPLES = os.path.dirname(HERE)
 sys.dont_write_bytecode = True
-sys.path.insert(0, EXAMPLES)
+sys.path.insert(0, os.path.join(os.path.dirname(EXAMPLES), "clients", "python"))
 if len(sys.argv) != 2:
     sys.exit(f"usage: {sys.argv[0]} PROGRAM")
 PROGRAM = os.path.abspath(sys.argv[1])

@@ -11,7 +11,7 @@ use Rattle.lamport_id.specs.Name.{is_name}
 use Rattle.doc_ledger.specs.Numbers.{greatest_number}
 use Rattle.run_core.specs.Limits.{longest_server_name, most_documents}
 use Rattle.run_core.specs.Names.{all_differ, is_good, wanted_by}
-use Rattle.commands.specs.CommandLine.{IsCount, IsServer, WantedServer, asked_of}
+use Rattle.commands.specs.CommandLine.{IsBacklog, IsCount, IsServer, WantedServer, asked_of, is_durable, pace_of}
 
 unwrap_or-map : {A B : Type 0} (f : A → B) (o : Option A) (d : A) → f (unwrap_or o d) ≡ unwrap_or (option_map f o) (f d)
 unwrap_or-map f None d = refl
@@ -40,14 +40,19 @@ wanted_is m name srv o named found default documents none p listed all empty =
     ap₂ wanted_by (text_is m (codes "name") name srv o (codes "srv") named found default) (texts_are m (codes "doc") documents none p listed all empty)
 
 -- the same server, asked for by the same texts
-pub same_server : {name other : Text} {documents others : List Text} {address there count so_many : Text} → name ≡ other → documents ≡ others → address ≡ there → count ≡ so_many
-    → (wanted : WantedServer) → IsServer name documents address count wanted → IsServer other others there so_many wanted
-same_server {name} {other} {documents} {others} {address} {there} {count} {so_many} same_name same_documents same_address same_count wanted asked =
+pub same_server : {name other : Text} {documents others : List Text} {address there count so_many backlog behind durable flag : Text} → name ≡ other → documents ≡ others
+    → address ≡ there → count ≡ so_many → backlog ≡ behind → durable ≡ flag
+    → (wanted : WantedServer) → IsServer name documents address count backlog durable wanted → IsServer other others there so_many behind flag wanted
+same_server {name} {other} {documents} {others} {address} {there} {count} {so_many} {backlog} {behind} {durable} {flag}
+    same_name same_documents same_address same_count same_backlog same_durable wanted asked =
     record {
       named = asked.named ∙ same_name;
       listed = asked.listed ∙ same_documents;
       at = asked.at ∙ same_address;
       sessions = subst (λ t. IsCount t wanted.sessions) same_count asked.sessions;
+      most = asked.most;
+      behind = subst (λ t. IsBacklog t asked.most) same_backlog asked.behind;
+      paced = asked.paced ∙ ap (λ t. pace_of (is_durable t) asked.most) same_durable;
       good = asked.good;
     }
 

@@ -6,11 +6,19 @@ use Rattle.clap.specs.Words.{App, Row, Rule, Text, all_of, fault_of, first_of, f
 use Rattle.clap.specs.Words.{new_app, new_rule, rows_of, with_rule}
 use Rattle.clap.specs.declared.parser.matches.ArgMatches.{ArgMatches}
 use Rattle.run_core.specs.Names.{Wanted, is_good}
-use Rattle.clap.specs.declared.builder.ArgAction.TheVariants.{Append}
-use Rattle.commands.specs.Limits.{most_sessions}
+use Rattle.clap.specs.declared.builder.ArgAction.TheVariants.{Append, SetTrue}
+use Rattle.server_core.specs.declared.progress.Pace.{Pace}
+use Rattle.server_core.specs.declared.progress.Pace.TheVariants.{Behind, Durable}
+use Rattle.commands.specs.Limits.{most_backlog, most_sessions}
 
 abbrev pub name_rule : Rule
 name_rule = record (new_rule (codes "name")) { long = Some (codes "name") }
+
+abbrev pub backlog_rule : Rule
+backlog_rule = record (new_rule (codes "backlog")) { long = Some (codes "backlog") }
+
+abbrev pub durable_rule : Rule
+durable_rule = record (new_rule (codes "durable")) { long = Some (codes "durable"); action = Some SetTrue }
 
 abbrev pub document_rule : Rule
 document_rule = record (new_rule (codes "doc")) { required = true; action = Some Append }
@@ -34,6 +42,22 @@ pub record IsCount (text : Text) (sessions : ℕ) : Type 0 where
   pub some : 1 ≤ sessions
   pub few : sessions ≤ most_sessions
 
+-- the text is a number of operations: decimal digits, before which a plus may stand, for 1 to 100,000
+pub record IsBacklog (text : Text) (backlog : ℕ) : Type 0 where
+  pub digits : IsNumeral 10 (without_leading_plus text)
+  pub value : backlog ≡ digits_value 10 (without_leading_plus text)
+  pub some : 1 ≤ backlog
+  pub few : backlog ≤ most_backlog
+
+-- the text that stands for a flag that was given
+abbrev pub is_durable : Text → Bool
+is_durable text = bytes_eq text (codes "true")
+
+-- a reply to a change goes out once the file has it, or once the file is behind by so many
+abbrev pub pace_of : Bool → ℕ → Pace
+pace_of true backlog = Durable
+pace_of false backlog = Behind backlog
+
 -- the name and the documents of clap's matches
 abbrev pub wanted_of : List Row → Wanted
 wanted_of rows =
@@ -53,30 +77,36 @@ pub record AsksToRun (args : List Text) (wanted : Wanted) : Type 0 where
   pub named : wanted ≡ wanted_of (matches_of run_command args)
   pub good : is_good wanted.name wanted.documents ≡ true
 
--- what a server is to be: its name, those of its documents, the address to listen at, and how many
--- sessions
+-- what a server is to be: its name, those of its documents, the address to listen at, how many
+-- sessions, and when replies to changes go out
 pub record WantedServer : Type 0 where
   pub name : Text
   pub documents : List Text
   pub address : Text
   pub sessions : ℕ
+  pub pace : Pace
 
--- serve --addr A --sessions N --file F [--name NAME] DOC..
+-- serve --addr A --sessions N --file F [--name NAME] [--backlog N] [--durable] DOC..
 abbrev pub serve_command : App
 serve_command =
-    with_rule (with_rule (with_rule (with_rule (with_rule (new_app (codes "serve")) (required_rule (codes "addr")))
-    (required_rule (codes "sessions"))) (required_rule (codes "file"))) name_rule) document_rule
+    with_rule (with_rule (with_rule (with_rule (with_rule (with_rule (with_rule (new_app (codes "serve"))
+    (required_rule (codes "addr"))) (required_rule (codes "sessions"))) (required_rule (codes "file"))) name_rule)
+    backlog_rule) durable_rule) document_rule
 
 abbrev pub is_serve : List Text → Bool
 is_serve [] = false
 is_serve (arg ∷ args) = bytes_eq arg (codes "serve")
 
--- these texts name this server, with good names and a number of sessions
-pub record IsServer (name : Text) (documents : List Text) (address count : Text) (wanted : WantedServer) : Type 0 where
+-- these texts name this server, with good names, a number of sessions and one of operations
+pub record IsServer (name : Text) (documents : List Text) (address count backlog durable : Text)
+    (wanted : WantedServer) : Type 0 where
   pub named : wanted.name ≡ name
   pub listed : wanted.documents ≡ documents
   pub at : wanted.address ≡ address
   pub sessions : IsCount count wanted.sessions
+  pub most : ℕ
+  pub behind : IsBacklog backlog most
+  pub paced : wanted.pace ≡ pace_of (is_durable durable) most
   pub good : is_good wanted.name wanted.documents ≡ true
 
 -- clap's matches name this server
@@ -84,6 +114,7 @@ abbrev pub NamesServer : List Row → WantedServer → Type 0
 NamesServer rows =
     IsServer (unwrap_or (first_of (codes "name") rows) (codes "srv")) (unwrap_or (all_of (codes "doc") rows) [])
     (unwrap_or (first_of (codes "addr") rows) []) (unwrap_or (first_of (codes "sessions") rows) [])
+    (unwrap_or (first_of (codes "backlog") rows) (codes "4096")) (unwrap_or (first_of (codes "durable") rows) [])
 
 -- the arguments are a `serve` that clap takes, and name this server
 pub record AsksToServe (args : List Text) (wanted : WantedServer) : Type 0 where

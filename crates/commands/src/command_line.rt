@@ -1,12 +1,14 @@
 //! The command line.
 ghost use Rattle.std.specs.Prelude.{◌≡◌, ◌≢◌, ℕ, [], false, map, MatchOption, IfOk, IfErr};
 ghost use Rattle.clap.specs.Words.{app_of, fault_of, found_of, kind_of, matches_of, rows_of, rule_of};
-ghost use Rattle.commands.specs.CommandLine.{IsCount, document_rule, is_check, is_run, is_serve, name_rule};
+ghost use Rattle.commands.specs.CommandLine.{IsBacklog, IsCount, backlog_rule, document_rule, durable_rule};
+ghost use Rattle.commands.specs.CommandLine.{is_check, is_durable, is_run, is_serve, name_rule, pace_of};
 ghost use Rattle.commands.specs.CommandLine.{check_command, required_rule, run_command, serve_command};
-ghost use Rattle.commands.specs.Limits.{most_sessions};
+ghost use Rattle.commands.specs.Limits.{most_backlog, most_sessions};
 
 use clap::error::ErrorKind;
 use clap::{Arg, ArgAction, ArgMatches, Command, Error};
+use server_core::Pace;
 use std::alloc::{AllocError, Global};
 
 /// The most sessions of a server.
@@ -15,7 +17,14 @@ pub const MAX_SESSIONS: u16 = 256;
 /// The law that this limit is that of the definitions.
 pub fn limits_as_defined()
     ensures sessions { MAX_SESSIONS ≡ most_sessions }
+    ensures backlog { MAX_BACKLOG ≡ most_backlog }
 {}
+
+/// The greatest number of operations of a document by which the file may be behind.
+pub const MAX_BACKLOG: u64 = 100_000;
+
+/// By how many operations of a document the file may be behind if nothing is said.
+pub const DEFAULT_BACKLOG: &str = "4096";
 
 /// The name of a server that is given none.
 pub const DEFAULT_NAME: &str = "srv";
@@ -34,6 +43,24 @@ fn name_option<'a>(alloc: Global) -> Arg<'a>
     ensures local { result.global ≡ false }
 {
     Arg::new(alloc, "name").long("name")
+}
+
+// `[--backlog N]`.
+fn backlog_option<'a>(alloc: Global) -> Arg<'a>
+    ensures rule { rule_of result ≡ backlog_rule }
+    ensures local { result.global ≡ false }
+{
+    Arg::new(alloc, "backlog").long("backlog")
+}
+
+// `[--durable]`.
+fn durable_option<'a>(alloc: Global) -> Arg<'a>
+    ensures rule { rule_of result ≡ durable_rule }
+    ensures local { result.global ≡ false }
+{
+    Arg::new(alloc, "durable")
+        .long("durable")
+        .action(ArgAction::SetTrue)
 }
 
 // `DOC..`.
@@ -59,7 +86,7 @@ pub fn parse_run<'a>(alloc: Global, args: &'a [&'a str]) -> Result<ArgMatches<'a
     command.try_get_matches_from(args)
 }
 
-// `serve --addr A --sessions N --file F [--name NAME] DOC..`.
+// `serve --addr A --sessions N --file F [--name NAME] [--backlog N] [--durable] DOC..`.
 fn server_command<'a>(alloc: Global) -> Result<Command<'a>, AllocError>
     ensures { IfOk result (λ command. app_of command ≡ serve_command) }
 {
@@ -68,10 +95,12 @@ fn server_command<'a>(alloc: Global) -> Result<Command<'a>, AllocError>
         .arg(required_option(alloc, "sessions"))?
         .arg(required_option(alloc, "file"))?
         .arg(name_option(alloc))?
+        .arg(backlog_option(alloc))?
+        .arg(durable_option(alloc))?
         .arg(documents_argument(alloc))
 }
 
-/// Parses `serve --addr A --sessions N --file F [--name NAME] DOC..`.
+/// Parses `serve --addr A --sessions N --file F [--name NAME] [--backlog N] [--durable] DOC..`.
 pub fn parse_serve<'a>(alloc: Global, args: &'a [&'a str]) -> Result<ArgMatches<'a>, Error>
     ensures taken { IfOk result (λ m. fault_of serve_command (map (λ s. s.now) args.entry.now) ≡ []) }
     ensures rows { IfOk result (λ m.
@@ -121,6 +150,27 @@ pub fn is_check(args: &[&str]) -> bool
     match args {
         [first, ..] => *first == "check",
         [] => false,
+    }
+}
+
+/// The number in the text by which the file may be behind: 1 to 100,000, or none.
+pub fn backlog_of(text: &str) -> Option<u64>
+    ensures { MatchOption result ((n : ℕ) → IsBacklog text.now n → ⊥) (IsBacklog text.now) }
+{
+    match text.parse::<u64>() {
+        Ok(backlog) if backlog >= 1 && backlog <= MAX_BACKLOG => Some(backlog),
+        _ => None,
+    }
+}
+
+/// When replies to changes go out, where the text of `--durable` is this one.
+pub fn pace_of(durable: &str, backlog: u64) -> Pace
+    ensures { result ≡ pace_of (is_durable durable.now) backlog }
+{
+    if durable == "true" {
+        Pace::Durable
+    } else {
+        Pace::Behind(backlog)
     }
 }
 

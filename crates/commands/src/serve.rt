@@ -5,7 +5,9 @@ ghost use Rattle.doc_ledger.specs.Numbers.{greatest_number};
 ghost use Rattle.commands.specs.CommandLine.{AsksToServe, IsServer, NamesServer, WantedServer, is_serve};
 ghost use Rattle.commands.specs.Server.{ServesAt};
 
-use crate::command_line::{DEFAULT_NAME, is_serve, parse_serve, sessions_of};
+use crate::command_line::{
+    DEFAULT_BACKLOG, DEFAULT_NAME, backlog_of, is_serve, pace_of, parse_serve, sessions_of,
+};
 use crate::host::ServerHost;
 use crate::usage::NO_MEMORY;
 use clap::ArgMatches;
@@ -14,6 +16,7 @@ use copy_files::open_copy;
 use log_copy::{Fault, Foldable, LogCopy, message_of};
 use run_core::is_good;
 use served_copy::{Failure, Step, report_fault, serve_stored};
+use server_core::Pace;
 use sqlite::ErrorCode;
 use std::alloc::Global;
 use std::io;
@@ -71,12 +74,14 @@ fn status_of(served: &Result<(), Failure>, closed: &Result<(), ErrorCode>) -> u8
 // be opened. It reports on standard error why it ended with status 1. It is generic over the store:
 // each step at the store of a file would cost its proof much.
 fn listen_and_serve<R: ServerHost, S: Foldable + Drop, W: io::Write>(
+    host: &HostRuntime,
     rt: &R,
     alloc: Global,
     name: &str,
     documents: &[&str],
     address: &str,
     sessions: u16,
+    pace: Pace,
     opened: Result<LogCopy<S>, Fault>,
     out: &mut W,
 ) -> u8
@@ -94,7 +99,7 @@ fn listen_and_serve<R: ServerHost, S: Foldable + Drop, W: io::Write>(
             return 1;
         }
     };
-    let Some(listener) = listen(rt, alloc, address, out) else {
+    let Some(listener) = listen(host, rt, alloc, address, out) else {
         close(rt, copy);
         return 1;
     };
@@ -104,14 +109,14 @@ fn listen_and_serve<R: ServerHost, S: Foldable + Drop, W: io::Write>(
         close(rt, copy);
         return 1;
     };
-    let ended = serve_stored(rt, alloc, name, documents, all, copy, out);
+    let ended = serve_stored(rt, alloc, name, documents, pace, all, copy, out);
     report_causes(rt, &ended.served, &ended.closed);
     status_of(&ended.served, &ended.closed)
 }
 
 // Opens the stored log in the file that clap's matches name, and serves what they ask for. The
-// status is 2 exactly where a name is bad, there are too many documents, or the number of sessions
-// isn't 1 to 256; nothing is written then.
+// status is 2 exactly where a name is bad, there are too many documents, the number of sessions
+// isn't 1 to 256, or that of operations 1 to 100,000; nothing is written then.
 fn validate_and_serve<R: ServerHost, W: io::Write>(
     host: &HostRuntime,
     rt: &R,
@@ -131,15 +136,24 @@ fn validate_and_serve<R: ServerHost, W: io::Write>(
     let documents = matches.get_strs("doc").unwrap_or(&[]);
     let count = matches.get_str("sessions").unwrap_or("");
     let file = matches.get_str("file").unwrap_or("");
+    let behind = matches.get_str("backlog").unwrap_or(DEFAULT_BACKLOG);
+    let durable = matches.get_str("durable").unwrap_or("");
     let sessions = match sessions_of(count) {
         Some(sessions) => sessions,
+        None => return 2,
+    };
+    let backlog = match backlog_of(behind) {
+        Some(backlog) => backlog,
         None => return 2,
     };
     if !is_good(name, documents) {
         return 2;
     }
-    let opened = open_copy(host, file);
-    listen_and_serve(rt, alloc, name, documents, address, sessions, opened, out)
+    let opened = open_copy(host, rt, file);
+    let pace = pace_of(durable, backlog);
+    listen_and_serve(
+        host, rt, alloc, name, documents, address, sessions, pace, opened, out,
+    )
 }
 
 /// Serves what the arguments ask for, and returns the program's status.

@@ -1,6 +1,8 @@
 //! Messages for a command line that asks for nothing. The status says that it does; no clause says
 //! anything of the texts, and `tests/whole-program` has one for each mistake.
-use crate::command_line::{DEFAULT_NAME, parse_check, parse_run, parse_serve, sessions_of};
+use crate::command_line::{
+    DEFAULT_BACKLOG, DEFAULT_NAME, backlog_of, parse_check, parse_run, parse_serve, sessions_of,
+};
 use clap::error::ErrorKind;
 use clap::{ArgMatches, Error};
 use run_core::{MAX_DOCUMENTS, MAX_NAME_BYTES, is_among, is_name};
@@ -8,15 +10,17 @@ use std::alloc::{AllocError, Global};
 
 /// How the program is called.
 pub const USAGE: &str = "usage: jcrdt run [--name NAME] DOC..\n\
-    \x20      jcrdt serve --addr A --sessions N --file F [--name NAME] DOC..\n\
+    \x20      jcrdt serve --addr A --sessions N --file F [--name NAME] [--backlog M] [--durable] DOC..\n\
     \x20      jcrdt check --file F\n\
     \x20 NAME: 1 to 24, DOC: 1 to 32 of a-z, 0-9 and -; 1 to 16 documents of different names\n\
     \x20 A: HOST:PORT to listen at, N: 1 to 256 sessions\n\
     \x20 F: the file of a copy, made where it isn't there\n\
+    \x20 M: 1 to 100000 operations of a document that may be answered and not yet in F; 4096 if not given\n\
+    \x20 --durable: a change is answered once it is in F\n\
     \x20 Lines of JSON in, lines of JSON out: see docs/FORMATS.md.";
 
-/// The program's own line.
-pub const VERSION: &str = "jcrdt, version 2 of its requests and operations";
+/// The program and its version, as in the file VERSION.
+pub const VERSION: &str = "jcrdt 1.0.0";
 
 /// The message where memory runs out before anything was asked for.
 pub const NO_MEMORY: &str = "jcrdt: out of memory while the command line was read";
@@ -111,6 +115,13 @@ fn serve_cause(alloc: Global, args: &[&str]) -> Result<Option<String>, AllocErro
             if sessions_of(sessions).is_none() {
                 let cause = format!(in alloc;
                     "error: {sessions:?} isn't a number of sessions from 1 to 256"
+                )?;
+                return Ok(Some(cause));
+            }
+            let backlog = matches.get_str("backlog").unwrap_or(DEFAULT_BACKLOG);
+            if backlog_of(backlog).is_none() {
+                let cause = format!(in alloc;
+                    "error: {backlog:?} isn't a number of operations from 1 to 100000"
                 )?;
                 return Ok(Some(cause));
             }

@@ -35,9 +35,9 @@ pub record AddsBatches {S : Type 0} (names : List (List ℕ)) (old new : Kept S)
   pub added : AreAdded names old.docs any new.docs
   pub epoch : new.epoch ≡ old.epoch
 
--- What a copier made of a copy, beside documents of these names, and why it ended before all was
--- copied, if it did. Without a fault the copy has more batches, and still works. Where memory ran
--- out it has more batches too. After a database error nothing is known.
+-- What a copier made of a copy, beside documents of these names, and the fault that ended it, if one
+-- did. Without a fault the copy has more batches, and still works: of all operations, or where memory
+-- lacked to the end of some. After a database error nothing is known.
 pub record HasCopied {S : Type 0} (names : List (List ℕ)) (old new : Kept S)
     (fault : Option Fault) : Type 0 where
   pub copied : fault ≡ None → AddsBatches names old new

@@ -1,5 +1,5 @@
 //! Batches: the next entries of a document, from its log into the stored log.
-ghost use Rattle.std.specs.Prelude.{◌≡◌, ◌≢◌, ◌⊎◌, ◌↔◌, ◌<◌, ltb, List, [], length, get_or, Contains};
+ghost use Rattle.std.specs.Prelude.{◌≡◌, ◌≢◌, ◌⊎◌, ◌↔◌, ◌<◌, ◌≤◌, ltb, List, [], length, get_or, Contains};
 ghost use Rattle.std.specs.Prelude.{true, false, IfOk, IfErr, OnOk, Ok, Err};
 ghost use Rattle.json_scalar.specs.Refusal.{UnlessMemory};
 ghost use Rattle.sqlite.specs.Tree.{Trees};
@@ -52,36 +52,35 @@ fn next_at<M: Marker, R: Wait>(
     next_of(&doc, from)
 }
 
-// Notes in the document how many of its entries the copy has.
+// Notes in the document how many of its entries the copy has: so many.
 fn note_rows<M: Marker, S: Alter>(
     doc: &mut LockedDoc<M>,
-    copy: &LogCopy<S>,
-    name: &str,
-) -> Result<(), Fault>
-    ensures noted { OnOk result ((doc.new.number ≡ doc.old.number)
-        × (doc.new.document ≡ copied_to (length (log_of name.now copy.now.docs)) doc.old.document)) }
-    ensures failed { (result ≡ Err Fault.Store) ↔ (copy.now.has_failed ≡ true) }
-    ensures never_else { IfErr result (λ e. (e ≡ Fault.Store) × (doc.new ≡ doc.old)) }
+    _copy: &LogCopy<S>,
+    _name: &str,
+    rows: usize,
+)
+    requires { rows ≡ length (log_of _name.now _copy.now.docs) }
+    ensures { (doc.new.number ≡ doc.old.number)
+        × (doc.new.document ≡ copied_to (length (log_of _name.now _copy.now.docs)) doc.old.document) }
 {
-    doc.note_copied(rows_of(copy, name)? as u64);
-    Ok(())
+    doc.note_copied(rows as u64);
 }
 
-// Notes in the document at this index how many of its entries the copy has. Its lock is held
-// meanwhile.
+// Notes in the document at this index how many of its entries the copy has: so many. Its lock is
+// held meanwhile.
 fn note_at<M: Marker, R: Wait, S: Alter>(
     rt: &R,
     shared: &SharedDocuments<M>,
     doc_index: usize,
     copy: &LogCopy<S>,
     name: &str,
-) -> Result<(), Fault>
-    requires { doc_index < length shared.now.names.items }
-    ensures failed { (result ≡ Err Fault.Store) ↔ (copy.now.has_failed ≡ true) }
-    ensures never_else { IfErr result (λ e. e ≡ Fault.Store) }
+    rows: usize,
+)
+    requires within { doc_index < length shared.now.names.items }
+    requires stored { rows ≡ length (log_of name.now copy.now.docs) }
 {
     let mut doc = spin_then_lock(rt, shared.shelf.doc(doc_index));
-    note_rows(&mut doc, copy, name)
+    note_rows(&mut doc, copy, name, rows);
 }
 
 // Notifies the observer of these entries, which were just added to the document of this name.
@@ -94,18 +93,20 @@ fn notify_added<S: Alter, T: CopyObserver>(
     let Ok(docs) = copy.docs() else {
         return;
     };
-    if let Some(at) = copy_docs::find(docs, name) {
-        observer.added(&docs[at], entries);
+    if let Some(document) = copy_docs::find(docs, name) {
+        observer.added(document, entries);
     }
 }
 
-// Adds these entries to the copy, as the document's next ones.
+// Adds these entries to the copy, behind the `from` entries of the document.
 fn add_next<S: Alter>(
     copy: &mut LogCopy<S>,
     name: &str,
+    from: usize,
     entries: &[op_core::Operation],
 ) -> Result<(), Fault>
-    requires { entries.now ≢ [] }
+    requires some { entries.now ≢ [] }
+    requires behind { from ≡ length (log_of name.now copy.old.docs) }
     ensures some { OnOk result (AddsMany name.now (length entries.now) copy.old.docs copy.new.docs) }
     ensures works { OnOk result ((copy.new.epoch ≡ copy.old.epoch) × (copy.new.has_failed ≡ false)) }
     ensures err { IfErr result (λ e. (e ≡ Fault.Store) ⊎ (copy.new ≡ copy.old)) }
@@ -117,14 +118,46 @@ fn add_next<S: Alter>(
         → Holds (content copy.old.epoch copy.old.docs) db
         ⊎ Holds (content copy.old.epoch (add_batch name.now entries.now copy.old.docs)) db }
 {
-    let from = rows_of(copy, name)?;
     copy.add_batch(name, from, entries)
 }
 
+// Tells waiting sessions that the copy has so many entries of the document at this index.
+fn publish<M: Marker, S: Alter>(
+    shared: &SharedDocuments<M>,
+    doc_index: usize,
+    _copy: &LogCopy<S>,
+    _name: &str,
+    rows: usize,
+)
+    requires stored { rows ≤ length (log_of _name.now _copy.now.docs) }
+{
+    shared.progress.publish(doc_index, rows as u64);
+}
+
+// Notes in the document at this index how many of its entries the copy has, and tells waiting
+// sessions.
+fn note_written<M: Marker, R: Wait, S: Alter>(
+    rt: &R,
+    shared: &SharedDocuments<M>,
+    doc_index: usize,
+    copy: &LogCopy<S>,
+    name: &str,
+) -> Result<(), Fault>
+    requires { doc_index < length shared.now.names.items }
+    ensures failed { (result ≡ Err Fault.Store) ↔ (copy.now.has_failed ≡ true) }
+    ensures never_else { IfErr result (λ e. e ≡ Fault.Store) }
+{
+    let rows = rows_of(copy, name)?;
+    note_at(rt, shared, doc_index, copy, name, rows);
+    publish(shared, doc_index, copy, name, rows);
+    Ok(())
+}
+
 /// Copies the next entries of the document of this name at this index, at most 256. Then it notes
-/// in the document how many of its entries the copy has, and notifies the observer. It returns how
-/// many it copied. The document's lock isn't held while they are written. The error is `Memory`,
-/// with the copy unchanged, or `Store` after a database error; then nothing is noted.
+/// in the document how many of its entries the copy has, tells sessions that wait for them, and
+/// notifies the observer. It returns how many it copied. The document's lock isn't held while they
+/// are written. The error is `Memory`, with the copy unchanged, or `Store` after a database error;
+/// then nothing is noted.
 pub fn copy_some<M: Marker, R: Wait, S: Alter, T: CopyObserver>(
     rt: &R,
     shared: &SharedDocuments<M>,
@@ -143,14 +176,15 @@ pub fn copy_some<M: Marker, R: Wait, S: Alter, T: CopyObserver>(
     ensures alone { copy.new.is_alone ≡ copy.old.is_alone }
 {
     let from = rows_of(copy, name)?;
+    publish(shared, doc_index, copy, name, from);
     let Ok(next) = next_at(rt, shared, doc_index, from) else {
         return Err(Fault::Memory);
     };
     if next.as_slice().is_empty() {
         return Ok(0);
     }
-    add_next(copy, name, next.as_slice())?;
-    note_at(rt, shared, doc_index, copy, name)?;
+    add_next(copy, name, from, next.as_slice())?;
+    note_written(rt, shared, doc_index, copy, name)?;
     notify_added(observer, copy, name, next.as_slice());
     Ok(next.as_slice().len())
 }
@@ -162,6 +196,17 @@ fn name_at<M: Marker>(shared: &SharedDocuments<M>, doc_index: usize) -> &str
     ensures among { Contains shared.entry.now.names.items result.now }
 {
     shared.names[doc_index].as_str()
+}
+
+/// Tells waiting sessions how many entries of each document the copy has. After a database error it
+/// tells them nothing.
+pub(crate) fn publish_all<M: Marker, S: Alter>(shared: &SharedDocuments<M>, copy: &LogCopy<S>) {
+    for doc_index in 0..shared.names.len() {
+        let name = name_at(shared, doc_index);
+        if let Ok(rows) = rows_of(copy, name) {
+            publish(shared, doc_index, copy, name, rows);
+        }
+    }
 }
 
 /// Copies the next entries of each document, at most 256 of each, and returns how many it copied of
@@ -180,6 +225,7 @@ pub fn copy_each<M: Marker, R: Wait, S: Alter, T: CopyObserver>(
         × (copy.old.has_failed ≡ false → copy.new.has_failed ≡ false)) }
     ensures err { IfErr result (λ e. (e ≡ Fault.Store) ⊎ AddsBatches shared.now.names.items copy.old copy.new) }
     ensures failed { result ≡ Err Fault.Store → copy.new.has_failed ≡ true }
+    ensures works_on { (result ≡ Err Fault.Store) ⊎ (copy.old.has_failed ≡ false → copy.new.has_failed ≡ false) }
     ensures alone { copy.new.is_alone ≡ copy.old.is_alone }
 {
     let mut most: usize = 0;

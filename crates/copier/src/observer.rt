@@ -11,6 +11,13 @@ pub trait CopyObserver {
     /// written.
     fn added(&self, document: &KeptDoc, entries: &[Operation]);
 
+    /// Called where memory ran out, and the copier pauses before it tries again. Nobody waits for it
+    /// meanwhile. Called once until it goes on.
+    fn lacks_memory(&self);
+
+    /// Called once the copier goes on after that.
+    fn goes_on(&self);
+
     /// Called once by a copier that an error ends, at once: sessions may still run. The code is the
     /// database's, where it failed.
     fn stopped(&self, why: &Fault, code: Option<ErrorCode>);

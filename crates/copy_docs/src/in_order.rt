@@ -1,6 +1,6 @@
-//! The same of documents that stand in the order of their names, by bisection. The last one is looked at first, since
-//! rows are read in this order.
-ghost use Rattle.std.specs.Prelude.{◌≡◌, ◌≢◌, ◌≤◌, ◌↔◌, ◌++◌, ◌∷◌, [], length, IfErr, OnOk, Err, MatchResult};
+//! Documents in the order of their names, of which one is looked up by bisection. The last one is looked at first,
+//! since rows are read in this order.
+ghost use Rattle.std.specs.Prelude.{◌≡◌, ◌≢◌, ◌≤◌, ◌↔◌, ◌++◌, ◌∷◌, [], length, IfOk, IfErr, IfSome, OnOk, Err, MatchOption, MatchResult};
 ghost use Rattle.std.specs.Prelude.{IsTrue, true, false};
 ghost use Rattle.std.specs.List.Sorted.{IsPartitionPoint};
 ghost use Rattle.std.specs.Ordering.{is_lt};
@@ -11,7 +11,7 @@ ghost use Rattle.crdt_rules.specs.Log.{IsGood};
 ghost use Rattle.copy_docs.specs.Docs.{AreInOrder, log_of, add_log};
 
 use crate::doc::KeptDoc;
-use crate::docs::{is_doc_name, is_less, made, put};
+use crate::docs::{clones, is_doc_name, is_less, made, put};
 use crate::fault::Fault;
 use op_core::Operation;
 use std::alloc::Global;
@@ -51,14 +51,38 @@ fn is_before(doc: &KeptDoc, name: &str) -> bool
     is_less(doc.name(), name)
 }
 
+/// The document of this name, if it has rows.
+pub fn find<'a>(docs: &'a [KeptDoc], name: &str) -> Option<&'a KeptDoc>
+    requires { AreInOrder docs.now }
+    ensures named { IfSome result (λ d. d.now.name ≡ name.now) }
+    ensures log { MatchOption result (log_of name.now docs.now ≡ []) (λ d. d.now.log ≡ log_of name.now docs.now) }
+{
+    match search(docs, name) {
+        Ok(at) => Some(&docs[at]),
+        Err(_) => None,
+    }
+}
+
 /// How many rows the document of this name has.
 pub fn count(docs: &[KeptDoc], name: &str) -> usize
     requires { AreInOrder docs.now }
     ensures { result ≡ length (log_of name.now docs.now) }
 {
-    match search(docs, name) {
-        Ok(at) => docs[at].len(),
-        Err(_) => 0,
+    match find(docs, name) {
+        Some(doc) => doc.len(),
+        None => 0,
+    }
+}
+
+/// Clones of the entries of the document of this name. The only error is out of memory.
+pub fn entries(docs: &[KeptDoc], alloc: Global, name: &str) -> Result<Vec<Operation>, Fault>
+    requires { AreInOrder docs.now }
+    ensures ok { IfOk result (λ ops. ops.items ≡ log_of name.now docs.now) }
+    ensures err { IfErr result (λ e. e ≡ Fault.Memory) }
+{
+    match find(docs, name) {
+        Some(doc) => clones(alloc, doc.entries()),
+        None => Ok(Vec::new(alloc)),
     }
 }
 
@@ -94,9 +118,9 @@ fn sharing(docs: &[KeptDoc], name: &str, op: Operation) -> Operation
     requires { AreInOrder docs.now }
     ensures { result ≡ op }
 {
-    match search(docs, name) {
-        Ok(at) => docs[at].sharing(op),
-        Err(_) => op,
+    match find(docs, name) {
+        Some(doc) => doc.sharing(op),
+        None => op,
     }
 }
 

@@ -30,6 +30,12 @@ pub enum Cause {
     Log,
     /// A rollback journal lies beside it.
     Journal,
+    /// It is a link to a file that is not there.
+    Dangling,
+    /// It is not there or is empty, and its write-ahead log has pages.
+    LogAlone,
+    /// It is not there, and its rollback journal is.
+    JournalAlone,
     /// It does not begin as a SQLite database.
     NoDatabase,
     /// It begins as one, and can't be read as one.
@@ -68,6 +74,11 @@ impl Cause {
             Cause::NoPath => "its path is empty, or :memory:, or begins with file:",
             Cause::Log => "the -wal beside it may not be read and written",
             Cause::Journal => "a rollback journal lies beside it: open it with sqlite3 first",
+            Cause::Dangling => "it is a symbolic link to a file that is not there",
+            Cause::LogAlone =>
+                "it is missing or empty, and the -wal beside it has pages: put the file back, or move the -wal away",
+            Cause::JournalAlone =>
+                "it is missing, and a -journal of it is there: put the file back, or move the -journal away",
             Cause::NoLog(_) => "it is no stored log",
         }
     }

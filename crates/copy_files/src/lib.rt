@@ -6,6 +6,7 @@
 
 mod causes;
 mod paths;
+mod write_ahead;
 mod wrong;
 
 ghost use Rattle.std.specs.Prelude.{◌≡◌, ◌⊎◌, ◌↔◌, false, IfOk, IfErr};
@@ -15,12 +16,16 @@ ghost use Rattle.copy_files.specs.Refusal.{IsRefusal};
 pub use causes::Cause;
 use copy_report::{CheckFailure, check_opened};
 use line_feed::Sink;
+use log::Log;
 use log_copy::{Fault, Foldable, LogCopy, message_of};
-use paths::{Before, look_at, why_no_database, why_not_opened};
-use server_notes::{note_made, note_took_over};
+use paths::{
+    Before, Leftover, look_at, make, real_path, why_alone, why_no_database, why_not_opened,
+};
+use server_notes::{Plain, note_log_unread, note_made, note_took_over};
 use sqlite::{Alter, Connection, Error, ErrorCode, File, FileStore};
 use std::alloc::Global;
 use std::rt::HostRuntime;
+use std::time::Clock;
 use wrong::wrong_of;
 pub use wrong::{Part, Wrong};
 
@@ -78,28 +83,64 @@ pub fn open_file(rt: &HostRuntime, path: &str) -> Result<LogCopy<FileStore<File>
     }
 }
 
-// Notes that the file was created, or that its write-ahead log was not empty.
-fn note_opened(rt: &HostRuntime, path: &str, before: &Before) {
-    if before.is_new {
-        note_made(rt, path);
+// Opens the file, or creates it for its owner alone. A file whose write-ahead log has pages, or whose
+// rollback journal is there, is not created: these hold what a file that is missing lacks.
+fn open_looked_at(
+    rt: &HostRuntime,
+    path: &str,
+    before: &Before,
+) -> Result<LogCopy<FileStore<File>>, Cause>
+    ensures { IfOk result (λ c. c.has_failed ≡ false) }
+{
+    if let Some(cause) = why_alone(rt, path, before) {
+        return Err(cause);
     }
-    if before.has_log {
-        note_took_over(rt, path);
+    if before.is_new {
+        make(rt, path);
+    }
+    open_file(rt, path)
+}
+
+// Notes that the file was created, or what became of a write-ahead log beside it.
+fn note_opened<R: Log + Clock>(notes: &R, path: &str, before: &Before) {
+    if before.is_new {
+        note_made(notes, path);
+    }
+    match before.log {
+        Leftover::Nothing => {}
+        Leftover::Pages => note_took_over(notes, path),
+        Leftover::Noise => note_log_unread(notes, path),
+    }
+}
+
+// Notes it under the path that links lead to.
+fn note_really_opened<R: Log + Clock>(rt: &HostRuntime, notes: &R, path: &str, before: &Before) {
+    match real_path(rt, path) {
+        Ok(real) => note_opened(notes, real.as_str(), before),
+        Err(_) => note_opened(notes, path, before),
     }
 }
 
 // Reports on standard error why a file can't be opened. An error there changes nothing.
 fn report_open_failure(rt: &HostRuntime, path: &str, cause: &Cause) {
-    let _ = rt.eprintln(format_args!("jcrdt: cannot open {path}: {cause}"));
+    let _ = rt.eprintln(format_args!("jcrdt: cannot open {}: {cause}", Plain(path)));
 }
 
-/// Opens the file, or creates it, with a note where it was created or its write-ahead log was not
-/// empty. Where that fails standard error says why. An error of standard error changes nothing.
-pub fn open_copy(rt: &HostRuntime, path: &str) -> Result<LogCopy<FileStore<File>>, Fault> {
+/// Opens the file, or creates it, readable and writable by its owner alone. A note says so where it
+/// was created, and what became of a write-ahead log that was not empty.
+///
+/// Where that fails standard error says why. An error of standard error changes nothing. A file is
+/// not created where its write-ahead log has pages, where its rollback journal is there, or where
+/// its path is a link that leads nowhere.
+pub fn open_copy<R: Log + Clock>(
+    rt: &HostRuntime,
+    notes: &R,
+    path: &str,
+) -> Result<LogCopy<FileStore<File>>, Fault> {
     let before = look_at(rt, path);
-    match open_file(rt, path) {
+    match open_looked_at(rt, path, &before) {
         Ok(copy) => {
-            note_opened(rt, path, &before);
+            note_really_opened(rt, notes, path, &before);
             Ok(copy)
         }
         Err(cause) => {
@@ -152,5 +193,5 @@ pub fn check_file<W: Sink>(rt: &HostRuntime, alloc: Global, path: &str, sink: &m
     ensures reported { result ≡ 0 → Reports (W.contents sink.old) (W.contents sink.new) }
     ensures stopped { result ≡ 1 → StopsShort (W.contents sink.old) (W.contents sink.new) ⊎ (sink.new ≡ sink.old) }
 {
-    report_opened(rt, alloc, open_copy(rt, path), sink)
+    report_opened(rt, alloc, open_copy(rt, rt, path), sink)
 }

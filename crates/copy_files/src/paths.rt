@@ -1,57 +1,149 @@
 //! What is at a path, as far as the file system says. No clause says anything of it.
+ghost use Rattle.std.specs.Prelude.{IfSome};
 ghost use Rattle.copy_files.specs.Refusal.{IsRefusal};
 
 use crate::causes::Cause;
+use crate::write_ahead::has_page;
 use sqlite::ErrorCode;
 use std::fs::{self, OpenOptions};
 use std::io::{self, ErrorKind, Read};
-use std::os::unix::fs::MetadataExt;
+use std::os::unix::fs::{MetadataExt, OpenOptionsExt};
+use std::path::PathBuf;
 use std::rt::HostRuntime;
 
 // What a SQLite database begins with.
 const BEGINNING: &[u8; 16] = b"SQLite format 3\0";
 
-// The bytes of a log's header and of the header of one page in it.
-const LOG_HEADERS: u64 = 32 + 24;
+// The bytes of a write-ahead log without a page: its header, and that of a first page.
+const NO_PAGE: u64 = 32 + 24;
+
+// A write-ahead log beside a file.
+#[derive(Clone, Copy)]
+pub(crate) enum Leftover {
+    // There is none, or it has no page.
+    Nothing,
+    // It begins with a page that a start reads.
+    Pages,
+    // It has something else.
+    Noise,
+}
 
 // What was at a path before it was opened.
 #[derive(Clone, Copy)]
 pub(crate) struct Before {
     // Nothing was.
     pub(crate) is_new: bool,
-    // Beside it was a write-ahead log with pages.
-    pub(crate) has_log: bool,
+    // The write-ahead log beside it.
+    pub(crate) log: Leftover,
 }
 
 // What is at the path.
 pub(crate) fn look_at(rt: &HostRuntime, path: &str) -> Before {
     Before {
         is_new: matches!(fs::exists(rt, path), Ok(false)),
-        has_log: has_pages(rt, path),
+        log: log_beside(rt, path),
     }
 }
 
-// Whether the write-ahead log beside the file has pages. One that was folded into the file is only
-// a header.
-fn has_pages(rt: &HostRuntime, path: &str) -> bool {
-    match beside(rt, path, "-wal") {
-        Ok(found) => found.len() > LOG_HEADERS,
-        Err(_) => false,
+// The write-ahead log beside the file. One that was folded into the file is only a header.
+fn log_beside(rt: &HostRuntime, path: &str) -> Leftover {
+    let Ok(mut log) = open_beside(rt, path, "-wal") else {
+        return Leftover::Nothing;
+    };
+    match has_page(&mut log) {
+        Ok(true) => Leftover::Pages,
+        Ok(false) => Leftover::Noise,
+        // It ends before its first page.
+        Err(_) => Leftover::Nothing,
     }
 }
 
-// What is beside the file that links lead to, under its name with this ending.
+/// The path without links, of a file that is there.
+pub(crate) fn real_path(rt: &HostRuntime, path: &str) -> io::Result<PathBuf> {
+    fs::canonicalize(rt, path)
+}
+
+// The path of what is beside the file that links lead to, under its name with this ending.
+fn path_beside(rt: &HostRuntime, path: &str, ending: &str) -> io::Result<String> {
+    let real = real_path(rt, path)?;
+    Ok(format!(in rt.alloc(); "{}{ending}", real.as_str())?)
+}
+
+fn open_beside(rt: &HostRuntime, path: &str, ending: &str) -> io::Result<fs::File> {
+    let name = path_beside(rt, path, ending)?;
+    fs::File::open(rt, name.as_str())
+}
+
 fn beside(rt: &HostRuntime, path: &str, ending: &str) -> io::Result<fs::Metadata> {
-    let real = fs::canonicalize(rt, path)?;
-    let name = format!(in rt.alloc(); "{}{ending}", real.as_str())?;
+    let name = path_beside(rt, path, ending)?;
     fs::metadata(rt, name.as_str())
+}
+
+// How many bytes there are beside a file that is not there, under its name with this ending.
+fn bytes_without(rt: &HostRuntime, path: &str, ending: &str) -> io::Result<u64> {
+    let name = format!(in rt.alloc(); "{path}{ending}")?;
+    Ok(fs::metadata(rt, name.as_str())?.len())
+}
+
+/// Why a file that would be made, or is empty, is not to be used: what belongs to it is there, or
+/// its path is a link that leads nowhere.
+pub(crate) fn why_alone(rt: &HostRuntime, path: &str, before: &Before) -> Option<Cause>
+    ensures { IfSome result (λ cause. ¬ IsRefusal cause) }
+{
+    if before.is_new {
+        why_not_new(rt, path)
+    } else if is_empty(rt, path) && has_pages(&beside(rt, path, "-wal")) {
+        Some(Cause::LogAlone)
+    } else {
+        None
+    }
+}
+
+fn why_not_new(rt: &HostRuntime, path: &str) -> Option<Cause>
+    ensures { IfSome result (λ cause. ¬ IsRefusal cause) }
+{
+    if fs::symlink_metadata(rt, path).is_ok() {
+        return Some(Cause::Dangling);
+    }
+    if matches!(bytes_without(rt, path, "-wal"), Ok(length) if length > NO_PAGE) {
+        return Some(Cause::LogAlone);
+    }
+    if matches!(bytes_without(rt, path, "-journal"), Ok(length) if length > 0) {
+        return Some(Cause::JournalAlone);
+    }
+    None
+}
+
+fn is_empty(rt: &HostRuntime, path: &str) -> bool {
+    matches!(fs::metadata(rt, path), Ok(found) if found.is_file() && found.len() == 0)
+}
+
+fn has_pages(log: &io::Result<fs::Metadata>) -> bool {
+    matches!(log, Ok(found) if found.len() > NO_PAGE)
+}
+
+/// Makes a file for its owner alone. Where that fails the opening tells why.
+pub(crate) fn make(rt: &HostRuntime, path: &str) {
+    if is_no_path(path) {
+        return;
+    }
+    let _ = OpenOptions::new()
+        .write(true)
+        .create_new(true)
+        .mode(0o600)
+        .open(rt, path);
+}
+
+// Whether the path is none that a database can be at.
+fn is_no_path(path: &str) -> bool {
+    path.is_empty() || path == ":memory:" || path.starts_with("file:")
 }
 
 /// Why a file that the system refused to open can't be opened.
 pub(crate) fn why_not_opened(rt: &HostRuntime, path: &str) -> Cause
     ensures { ¬ IsRefusal result }
 {
-    if path.is_empty() || path == ":memory:" || path.starts_with("file:") {
+    if is_no_path(path) {
         return Cause::NoPath;
     }
     match fs::metadata(rt, path) {

@@ -1,5 +1,5 @@
 //! What is wrong with a database that was refused as a stored log. No clause says anything of it.
-use copy_docs::{Fault, KeptDoc, count, is_doc_name, operation_of};
+use copy_docs::{Fault, KeptDoc, is_doc_name, operation_of};
 use copy_rows::{FORMAT, OLD_FORMAT, meta_in};
 use copy_tables::{Found, find_tables, read_meta};
 use op_core::{Mutation, Operation};
@@ -7,7 +7,7 @@ use sqlite::types::ValueRef;
 use sqlite::{Alter, Connection, Row};
 use sqlite_schema::schema::Schema;
 use std::alloc::Global;
-use std::fmt;
+use std::{fmt, slice};
 
 /// What is wrong with a database as a stored log.
 #[derive(Clone, Copy, Debug)]
@@ -140,12 +140,15 @@ fn wrong_entries<S: Alter>(alloc: Global, conn: &mut Connection<S>, format: u32)
     ) else {
         return Wrong::Unknown;
     };
-    let mut docs = Vec::new(alloc);
+    // No document has this name.
+    let Ok(mut doc) = KeptDoc::new(alloc, "") else {
+        return Wrong::Unknown;
+    };
     for at in 1..u64::MAX {
         let Ok(Some(row)) = rows.next() else {
             return Wrong::Unknown;
         };
-        match wrong_part(&mut docs, alloc, format, row) {
+        match wrong_part(&mut doc, alloc, format, row) {
             Ok(None) => {}
             Ok(Some(part)) => return Wrong::Row(at, part),
             Err(_) => return Wrong::Unknown,
@@ -154,9 +157,10 @@ fn wrong_entries<S: Alter>(alloc: Global, conn: &mut Connection<S>, format: u32)
     Wrong::Unknown
 }
 
-// What is wrong with this row, if anything. Otherwise its operation is added to the documents.
+// What is wrong with this row, if anything. Otherwise its operation is added to its document, which replaces the one of
+// the rows before.
 fn wrong_part(
-    docs: &mut Vec<KeptDoc>,
+    doc: &mut KeptDoc,
     alloc: Global,
     format: u32,
     row: &Row,
@@ -167,31 +171,28 @@ fn wrong_part(
     if !is_doc_name(name) {
         return Ok(Some(Part::Doc));
     }
-    keep_one(docs, name);
-    if !is_next(docs.as_slice(), name, row) {
+    keep_one(doc, alloc, name)?;
+    if !is_next(doc, row) {
         return Ok(Some(Part::Place));
     }
     match operation_at(alloc, format, row) {
-        Ok(entry) => wrong_order(docs, alloc, name, entry),
+        Ok(entry) => wrong_order(doc, entry),
         Err(Fault::Refused) => Ok(Some(Part::Text)),
         Err(fault) => Err(fault),
     }
 }
 
-// Lets other documents go: rows come by document, so none of them gets a further row, and a search has one to look at.
-fn keep_one(docs: &mut Vec<KeptDoc>, name: &str) {
-    let is_other = match docs.last() {
-        Some(last) => last.name() != name,
-        None => false,
-    };
-    if is_other {
-        docs.clear();
+// Lets a document of another name go: rows come by document, so it gets no further row.
+fn keep_one(doc: &mut KeptDoc, alloc: Global, name: &str) -> Result<(), Fault> {
+    if doc.name() != name {
+        *doc = KeptDoc::new(alloc, name)?;
     }
+    Ok(())
 }
 
-fn is_next(docs: &[KeptDoc], name: &str, row: &Row) -> bool {
+fn is_next(doc: &KeptDoc, row: &Row) -> bool {
     match row.get::<u32>(1) {
-        Ok(place) => place != 0 && place as usize - 1 == count(docs, name),
+        Ok(place) => place != 0 && place as usize - 1 == doc.len(),
         Err(_) => false,
     }
 }
@@ -207,13 +208,9 @@ fn operation_at(alloc: Global, format: u32, row: &Row) -> Result<Operation, Faul
     Ok(entry)
 }
 
-fn wrong_order(
-    docs: &mut Vec<KeptDoc>,
-    alloc: Global,
-    name: &str,
-    entry: Operation,
-) -> Result<Option<Part>, Fault> {
-    match copy_docs::add_one(docs, alloc, name, entry) {
+fn wrong_order(doc: &mut KeptDoc, entry: Operation) -> Result<Option<Part>, Fault> {
+    let entry = doc.sharing(entry);
+    match doc.add(slice::from_ref(&entry)) {
         Ok(()) => Ok(None),
         Err(Fault::Refused) => Ok(Some(Part::Order)),
         Err(fault) => Err(fault),

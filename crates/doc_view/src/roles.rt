@@ -1,7 +1,11 @@
 //! What operations did at a place.
-ghost use Rattle.std.specs.Prelude.{◌≡◌, ◌++◌, ◌||◌, ◌&&◌, [], not, option_map};
+ghost use Rattle.std.specs.Prelude.{◌≡◌, ◌↔◌, ◌++◌, ◌||◌, ◌&&◌, [], not, option_map, IsTrue};
 ghost use Rattle.json_scalar.specs.declared.scalar.Val.TheVariants.{Scalar as Plain};
-ghost use Rattle.presence_set.specs.ById.{get};
+ghost use Rattle.presence_set.specs.ById.{get, rank, IsAscending};
+ghost use Rattle.sorted_lists.specs.Sorted.{IsPlace};
+ghost use Rattle.lamport_id.specs.Order.{id_cmp};
+ghost use Rattle.lamport_id.specs.declared.id.Id.{Id as AnId};
+ghost use Rattle.json_scalar.specs.declared.scalar.Scalar.{Scalar as AScalar};
 ghost use Rattle.presence_set.specs.EmptyPut.{CoversPut, puts_map, puts_list};
 ghost use Rattle.doc_tree.specs.Nodes.{tree_facts};
 ghost use Rattle.doc_rules.specs.Views.{AreConflicts};
@@ -15,6 +19,7 @@ use doc_words::{Conflicts, Role};
 use json_scalar::{Refusal, Scalar, Val};
 use lamport_id::Id;
 use op_core::Cursor;
+use presence_set::rank_of;
 use std::alloc::Global;
 
 /// The ids whose operations put a value at the very place of a cursor and are not covered since, in
@@ -34,11 +39,13 @@ fn values_of_roles(
     roles: Entries<'_>,
     scalars: &[(Id, Scalar)],
 ) -> Result<Conflicts, Refusal>
+    requires { IsAscending scalars.now }
     ensures { GivesUnlessMemory (λ values. values ≡ values_of_roles scalars.now roles.entry) result }
 {
     let mut values = Vec::new(alloc);
+    let mut next = 0;
     for entry in roles {
-        push_value(&mut values, entry, scalars)?;
+        push_value(&mut values, entry, scalars, &mut next)?;
     }
     Ok(Conflicts::from(values))
 }
@@ -47,38 +54,68 @@ fn push_value(
     values: &mut Vec<(Id, Val)>,
     entry: &(Id, Role),
     scalars: &[(Id, Scalar)],
+    next: &mut usize,
 ) -> Result<(), Refusal>
+    requires { IsAscending scalars.now }
     ensures { GivesUnlessMemory (λ _. values.new.items ≡ values.old.items
         ++ with_value entry.now.0 (value_in entry.now.1 (get scalars.now entry.now.0)) []) result }
 {
-    if let Some(value) = value_of_role(&entry.1, &entry.0, scalars)? {
+    if let Some(value) = value_of_role(&entry.1, &entry.0, scalars, next)? {
         values.push((entry.0, value))?;
     }
     Ok(())
 }
 
 // The value that the operation of an id put where it has this role.
-fn value_of_role(role: &Role, id: &Id, scalars: &[(Id, Scalar)]) -> Result<Option<Val>, Refusal>
+fn value_of_role(
+    role: &Role,
+    id: &Id,
+    scalars: &[(Id, Scalar)],
+    next: &mut usize,
+) -> Result<Option<Val>, Refusal>
+    requires { IsAscending scalars.now }
     ensures { GivesUnlessMemory (λ value. value ≡ value_in role.now (get scalars.now id.now)) result }
 {
     match role {
         Role::Through => Ok(None),
         Role::Map => Ok(Some(Val::EmptyMap)),
         Role::List => Ok(Some(Val::EmptyList)),
-        Role::Scalar => scalar_of_id(id, scalars),
+        Role::Scalar => scalar_of_id(id, scalars, next),
         Role::Counter => Ok(None),
     }
 }
 
-fn scalar_of_id(id: &Id, scalars: &[(Id, Scalar)]) -> Result<Option<Val>, Refusal>
+// The scalar that the operation of an id put. Ids are asked for in their order, so the one that comes next is looked
+// at first.
+fn scalar_of_id(id: &Id, scalars: &[(Id, Scalar)], next: &mut usize) -> Result<Option<Val>, Refusal>
+    requires { IsAscending scalars.now }
     ensures { GivesUnlessMemory (λ value. value ≡ option_map Plain (get scalars.now id.now)) result }
 {
-    for entry in scalars {
-        if entry.0 == *id {
-            return Ok(Some(Val::Scalar(entry.1.try_clone()?)));
-        }
+    let at = place_of(id, scalars, *next);
+    if !is_at(id, scalars, at) {
+        return Ok(None);
     }
-    Ok(None)
+    *next = at + 1;
+    Ok(Some(Val::Scalar(scalars[at].1.try_clone()?)))
+}
+
+// How many scalars are of a lesser id.
+fn place_of(id: &Id, scalars: &[(Id, Scalar)], next: usize) -> usize
+    requires { IsAscending scalars.now }
+    ensures { result ≡ rank scalars.now id.now }
+{
+    if is_at(id, scalars, next) {
+        next
+    } else {
+        rank_of(scalars, id)
+    }
+}
+
+// Whether the scalar of an id is at this place.
+fn is_at(id: &Id, scalars: &[(Id, Scalar)], place: usize) -> bool
+    ensures { IsTrue result ↔ IsPlace id_cmp (λ (e : AnId × AScalar). e.0) scalars.now id.now place }
+{
+    place < scalars.len() && scalars[place].0 == *id
 }
 
 /// Whether some id has the role of one that put an empty map, or an empty list. It looks at roles only until it has

@@ -2,7 +2,7 @@
 ghost use Rattle.std.specs.Prelude.{◌≡◌, ◌<◌, ◌||◌, ◌+◌, ℕ, true, false};
 
 use crate::DeviceFault;
-use crate::sink::{Sink, Unbuffered};
+use crate::sink::Sink;
 use crate::source::Source;
 
 /// A source or a sink over another one that fails once so many bytes have passed.
@@ -79,10 +79,6 @@ impl<W: Sink> Sink for FailAfter<W> {
     }
 }
 
-impl<W: Unbuffered> Unbuffered for FailAfter<W> {
-    ghost keeps_none = { λ s. W.keeps_none s.device };
-}
-
 /// A source or a sink over another one that gives or takes at most so many bytes at once, and counts its reads.
 #[derive(Debug, Drop)]
 pub struct InPieces<D> {
@@ -147,8 +143,4 @@ impl<W: Sink> Sink for InPieces<W> {
     fn failed(&self) -> bool {
         Sink::failed(&self.device)
     }
-}
-
-impl<W: Unbuffered> Unbuffered for InPieces<W> {
-    ghost keeps_none = { λ s. W.keeps_none s.device };
 }

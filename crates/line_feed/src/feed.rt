@@ -1,10 +1,10 @@
 //! The lines of a source, one at a time.
-ghost use Rattle.std.specs.Prelude.{◌≡◌, ◌-◌, ℕ, Bool, true, false, List, [], ◌++◌, ◌+◌, ◌<◌, ◌≤◌, ◌↔◌, length, take};
-ghost use Rattle.std.specs.Prelude.{IsTrue, IfOk, MatchResult, is_err, position, slice_range, vec_len};
+ghost use Rattle.std.specs.Prelude.{◌≡◌, ◌≢◌, ◌-◌, ℕ, Bool, true, false, List, [], ◌++◌, ◌+◌, ◌<◌, ◌≤◌, ◌↔◌, length};
+ghost use Rattle.std.specs.Prelude.{take, IsTrue, IfOk, MatchResult, is_err, position, slice_range, vec_len};
 ghost use Rattle.std.specs.List.{list_any};
 ghost use Rattle.std.specs.Io.KnownBytes.{Consumes, IsAtEnd, Keeps};
 ghost use Rattle.line_feed.specs.Lines.{is_newline, HasNoNewline};
-ghost use Rattle.line_feed.specs.Feed.{Advances, Gives, Stops};
+ghost use Rattle.line_feed.specs.Feed.{Advances, Gives, IsFirstNewline, Stops};
 ghost use Rattle.line_feed.specs.Limits.{line_room, longest_line};
 
 use crate::DeviceFault;
@@ -53,9 +53,22 @@ struct Filled {
     stop: Stop,
 }
 
+// Where reading stopped at a newline, its index.
+fn newline_of(stop: &Stop) -> Option<usize>
+    ensures { (bytes : List ℕ) (room : ℕ) → Stops bytes room stop.now → IsFirstNewline bytes result }
+{
+    match stop {
+        Stop::Newline(at) => Some(*at),
+        Stop::Full => None,
+        Stop::End => None,
+        Stop::Fault => None,
+    }
+}
+
 // The index of the first newline byte.
 fn newline_at(bytes: &[u8]) -> Option<usize>
-    ensures { result ≡ position is_newline bytes.now }
+    ensures place { result ≡ position is_newline bytes.now }
+    ensures first { IsFirstNewline bytes.now result }
 {
     memchr(b'\n', bytes)
 }
@@ -67,9 +80,7 @@ fn move_to_start(buffer: &mut Vec<u8>, start: usize, end: usize)
     ensures len { vec_len buffer.new ≡ vec_len buffer.old }
     ensures prefix { take (end - start) buffer.new.items ≡ slice_range buffer.old.items start end }
 {
-    if start < end {
-        buffer.rotate_left(start);
-    }
+    buffer.copy_within(start..end, 0);
 }
 
 // One read into the buffer after its first `len` bytes.
@@ -149,12 +160,14 @@ pub struct LineFeed {
     // what was read after it
     start: usize,
     end: usize,
+    // where the first newline is in that
+    newline: Option<usize>,
     ended: bool,
 }
 
 impl Model for LineFeed {
     ghost use Rattle.std.specs.Prelude.{◌≡◌, ◌-◌, ◌≤◌, true, slice_range, vec_len};
-    ghost use Rattle.line_feed.specs.Feed.{Feed, IsSpan};
+    ghost use Rattle.line_feed.specs.Feed.{Feed, IsFirstNewline, IsSpan};
     ghost use Rattle.line_feed.specs.Limits.{line_room};
 
     ghost Value = { Feed };
@@ -166,7 +179,8 @@ impl Model for LineFeed {
     } };
 
     ghost invariant = { λ f. (vec_len f.buffer ≡ line_room)
-        × IsSpan f.line_start f.line_end × IsSpan f.start f.end × (f.ended ≡ true → f.start ≡ f.end) };
+        × IsSpan f.line_start f.line_end × IsSpan f.start f.end × (f.ended ≡ true → f.start ≡ f.end)
+        × IsFirstNewline (slice_range f.buffer.items f.start f.end) f.newline };
 }
 
 impl LineFeed {
@@ -180,6 +194,7 @@ impl LineFeed {
             line_end: 0,
             start: 0,
             end: 0,
+            newline: None,
             ended: false,
         })
     }
@@ -196,7 +211,7 @@ impl LineFeed {
     pub fn has_line(&self) -> bool
         ensures { result ≡ list_any is_newline self.now.held }
     {
-        newline_at(&self.buffer[self.start..self.end]).is_some()
+        self.newline.is_some()
     }
 
     /// Looks for the next line, with at most 65,537 reads, each of as much as the source gives. Once the source has
@@ -206,10 +221,14 @@ impl LineFeed {
     /// - `End`: the source came to its end with nothing after the last line.
     /// - `TooLong`: the line has more than 65,536 bytes. They stay buffered.
     /// - `Fault`: the source failed before the line's end. What it gave before stays buffered.
+    ///
+    /// Where there is no line, all that was read and not returned is still held (`stays`).
     pub fn next<R: Source>(&mut self, source: &mut R) -> Outcome
         requires works { R.has_failed source.old ≡ false }
         ensures gives { (read : List ℕ) × Consumes (R.remaining source.old) (R.remaining source.new) read
             × Gives self.old read result self.new }
+        ensures stays { result ≢ Outcome.Line → (read : List ℕ)
+            × Consumes (R.remaining source.old) (R.remaining source.new) read × (self.new.held ≡ self.old.held ++ read) }
         ensures held { list_any is_newline self.old.held ≡ true → result ≡ Outcome.Line }
         ensures stays_ended { self.old.ended ≡ true → result ≡ Outcome.End }
         ensures at_end { (self.old.ended ≡ true → IsAtEnd (R.remaining source.old))
@@ -236,13 +255,14 @@ impl LineFeed {
         ensures failed { IsTrue (R.has_failed source.new) ↔ (result ≡ Stop.Fault) }
         ensures reads { R.reads source.new ≤ R.reads source.old + line_room }
     {
-        if let Some(at) = newline_at(&self.buffer[self.start..self.end]) {
+        if let Some(at) = self.newline {
             return Stop::Newline(at);
         }
         move_to_start(&mut self.buffer, self.start, self.end);
         let Filled { len, stop } = fill(source, &mut self.buffer, self.end - self.start);
         self.start = 0;
         self.end = len;
+        self.newline = newline_of(&stop);
         stop
     }
 
@@ -251,6 +271,7 @@ impl LineFeed {
         requires open { self.old.ended ≡ false }
         requires stops { Stops self.old.held line_room stop }
         ensures advances { Advances self.old.held result self.new }
+        ensures stays { result ≢ Outcome.Line → self.new.held ≡ self.old.held }
         ensures ended { self.new.ended ≡ true → stop ≡ Stop.End }
         ensures fault { (result ≡ Outcome.Fault) ↔ (stop ≡ Stop.Fault) }
     {
@@ -259,6 +280,7 @@ impl LineFeed {
                 self.line_start = self.start;
                 self.line_end = self.start + at;
                 self.start = self.line_end + 1;
+                self.newline = newline_at(&self.buffer[self.start..self.end]);
                 Outcome::Line
             }
             Stop::Full => Outcome::TooLong,
@@ -267,6 +289,7 @@ impl LineFeed {
                 self.line_start = self.start;
                 self.line_end = self.end;
                 self.start = self.end;
+                self.newline = None;
                 if self.line_start == self.line_end {
                     Outcome::End
                 } else {

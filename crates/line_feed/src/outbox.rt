@@ -5,7 +5,7 @@ ghost use Rattle.std.specs.Io.KnownBytes.{Appends};
 ghost use Rattle.std.specs.Option.{option_map};
 
 use crate::DeviceFault;
-use crate::sink::{Sink, Unbuffered};
+use crate::sink::Sink;
 use std::alloc::Global;
 
 // Bytes for which an outbox has room.
@@ -90,7 +90,7 @@ impl<W: Sink> Outbox<W> {
     }
 }
 
-impl<W: Unbuffered> Sink for Outbox<W> {
+impl<W: Sink> Sink for Outbox<W> {
     ghost contents = { λ s. option_map (λ taken. taken ++ drop s.sent s.kept.items) (W.contents s.sink) };
 
     ghost has_failed = { λ s. W.has_failed s.sink };
@@ -107,7 +107,7 @@ impl<W: Unbuffered> Sink for Outbox<W> {
 
     fn flush(&mut self) -> Result<(), DeviceFault> {
         match self.send_kept() {
-            Ok(()) => Ok(()),
+            Ok(()) => self.sink.flush(),
             Err(fault) => {
                 // At least the last byte counts as not taken.
                 let _lost = self.kept.pop();

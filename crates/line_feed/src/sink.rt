@@ -1,9 +1,10 @@
 //! Sinks: devices that take bytes.
-ghost use Rattle.std.specs.Prelude.{◌≡◌, ℕ, Bool, false, List, [], Option, ◌<◌, length, is_err, IfOk, OnOk, OnErr};
-ghost use Rattle.std.specs.Prelude.{refl};
+ghost use Rattle.std.specs.Prelude.{◌≡◌, ℕ, Bool, false, List, [], Option, ◌<◌, ◌||◌, length, is_err, if◌then◌else◌};
+ghost use Rattle.std.specs.Prelude.{IfOk, OnOk, OnErr};
 ghost use Rattle.std.specs.Io.{WritesAtMost};
 ghost use Rattle.std.specs.Io.KnownBytes.{Appends, Keeps, WriteAppends};
-ghost use Rattle.line_feed.specs.Cut.{AppendsCut, LosesLast};
+ghost use Rattle.std.specs.Option.{unwrap_or};
+ghost use Rattle.line_feed.specs.Cut.{AppendsCut, LosesLast, taken};
 
 use crate::DeviceFault;
 use std::io::Write;
@@ -16,7 +17,7 @@ pub trait Sink {
     /// Whether it has failed. It isn't written to from then on.
     ghost has_failed: { Self → Bool };
 
-    /// What it has taken and its device hasn't yet. Empty for a sink without a buffer.
+    /// What it has taken and its device may not have yet: nothing after a flush.
     ghost kept: { Self → List ℕ } = { λ _. [] };
 
     /// Takes a prefix of `bytes`, of at least one byte, and returns its length. It calls the device once, and doesn't
@@ -29,8 +30,8 @@ pub trait Sink {
         ensures bytes { WriteAppends (contents self.old) (contents self.new) result bytes.now }
         ensures failed { has_failed self.new ≡ is_err result };
 
-    /// Writes to the device what the sink still keeps. `DeviceFault` if the device fails before it has taken all
-    /// of that; then at least the last byte counts as not taken, and the sink has failed.
+    /// Writes to the device what the sink and all below it still keep. `DeviceFault` if the device fails before it has
+    /// taken all of that; then at least the last byte counts as not taken, and the sink has failed.
     fn flush(&mut self) -> Result<(), DeviceFault>
         requires works { has_failed self.old ≡ false }
         ensures bytes { OnOk result (Keeps (contents self.old) (contents self.new)) }
@@ -43,66 +44,76 @@ pub trait Sink {
         ensures { result ≡ has_failed self.now };
 }
 
-/// A sink that keeps nothing back: its device has all that it has taken.
-pub trait Unbuffered: Sink {
-    /// The law that it keeps nothing.
-    ghost keeps_none: { (sink : Self) → Self.kept sink ≡ [] };
-}
-
 /// A sink over any writer of std. A write of 0 bytes and an interrupted write are failures.
 #[derive(Debug, Drop)]
 pub struct Writer<W> {
     writer: W,
-    failed: bool,
+    // it took bytes since it was flushed last
+    unflushed: bool,
+    write_failed: bool,
+    flush_failed: bool,
 }
 
 impl<W: Write> Writer<W> {
     /// A sink that writes to the writer, and hasn't failed.
     pub fn new(writer: W) -> Self
         ensures writer { result.writer ≡ writer }
-        ensures works { result.failed ≡ false }
+        ensures flushed { result.unflushed ≡ false }
+        ensures flushes { result.flush_failed ≡ false }
+        ensures works { (result.write_failed || result.flush_failed) ≡ false }
     {
         Writer {
             writer,
-            failed: false,
+            unflushed: false,
+            write_failed: false,
+            flush_failed: false,
         }
     }
 
     /// The writer, with what it has taken.
     pub fn into_inner(self) -> W
-        ensures { result ≡ self.writer }
+        ensures writer { result ≡ self.writer }
+        // Where no call has failed, it has all that counts as taken.
+        ensures bytes { (self.write_failed || self.flush_failed) ≡ false
+            → Keeps (taken (W.contents self.writer) self.unflushed self.flush_failed) (W.contents result) }
     {
-        let Writer { writer, failed: _ } = self;
+        let Writer { writer, .. } = self;
         writer
     }
 }
 
 impl<W: Write> Sink for Writer<W> {
-    ghost contents = { λ s. W.contents s.writer };
+    ghost contents = { λ s. taken (W.contents s.writer) s.unflushed s.flush_failed };
 
-    ghost has_failed = { λ s. s.failed };
+    ghost has_failed = { λ s. s.write_failed || s.flush_failed };
+
+    ghost kept = { λ s. if s.unflushed then unwrap_or (W.contents s.writer) [] else [] };
 
     fn write_some(&mut self, bytes: &[u8]) -> Result<usize, DeviceFault> {
         match self.writer.write(bytes) {
-            Ok(n) if n > 0 => Ok(n),
+            Ok(n) if n > 0 => {
+                self.unflushed = true;
+                Ok(n)
+            }
             _ => {
-                self.failed = true;
+                self.write_failed = true;
                 Err(DeviceFault)
             }
         }
     }
 
     fn flush(&mut self) -> Result<(), DeviceFault> {
+        if self.unflushed && self.writer.flush().is_err() {
+            self.flush_failed = true;
+            return Err(DeviceFault);
+        }
+        self.unflushed = false;
         Ok(())
     }
 
     fn failed(&self) -> bool {
-        self.failed
+        self.write_failed || self.flush_failed
     }
-}
-
-impl<W: Write> Unbuffered for Writer<W> {
-    ghost keeps_none = { λ _. refl };
 }
 
 /// Writes all the bytes, in as many calls of the device as it needs. `DeviceFault` if the sink fails before it has

@@ -4,6 +4,7 @@ ghost use Rattle.std.specs.Io.{ReadsAtMost};
 ghost use Rattle.std.specs.Io.KnownBytes.{ReadConsumes};
 
 use crate::DeviceFault;
+use crate::counted::Counted;
 use std::io::Read;
 
 /// A device that gives bytes.
@@ -36,27 +37,29 @@ pub trait Source {
 /// A source over any reader of std. An interrupted read is a failure.
 #[derive(Debug, Drop)]
 pub struct Reader<R> {
-    reader: R,
+    reader: Counted<R>,
     failed: bool,
 }
 
 impl<R: Read> Reader<R> {
     /// A source of what the reader gives, which hasn't failed.
     pub fn new(reader: R) -> Self
-        ensures reader { result.reader ≡ reader }
+        ensures reader { result.reader.reader ≡ reader }
         ensures works { result.failed ≡ false }
     {
         Reader {
-            reader,
+            reader: Counted::new(reader),
             failed: false,
         }
     }
 }
 
 impl<R: Read> Source for Reader<R> {
-    ghost remaining = { λ s. R.remaining s.reader };
+    ghost remaining = { λ s. R.remaining s.reader.reader };
 
     ghost has_failed = { λ s. s.failed };
+
+    ghost reads = { λ s. s.reader.reads };
 
     fn read_some(&mut self, buf: &mut [u8]) -> Result<usize, DeviceFault> {
         match self.reader.read(buf) {

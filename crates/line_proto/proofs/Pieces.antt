@@ -31,6 +31,11 @@ pub cut-longer : (a b : Option (List ℕ)) (s t : List ℕ) → AppendsCut a b s
 cut-longer a b s t (written, appended, (rest, some, whole)) =
     (written, appended, (rest ++ t, omega (arith, some, length-append rest t), sym (append_assoc written rest t) ∙ ap (λ w. w ++ t) whole))
 
+-- what comes behind a text that was written is cut short
+pub cut-behind : (a b c : Option (List ℕ)) (s t : List ℕ) → Appends a b s → AppendsCut b c t → AppendsCut a c (s ++ t)
+cut-behind a b c s t before (more, after, (rest, some, whole)) =
+    (s ++ more, Appends-trans a b c s more before after, (rest, some, append_assoc s more rest ∙ ap (λ w. s ++ w) whole))
+
 pub puts-cut : (a b c : Option (List ℕ)) (p q t u : List ℕ) → WritesText a b p q t → AppendsCut b c (q ++ u) → AppendsCut a c (p ++ (t ++ u))
 puts-cut a b c p q t u (written, before, e) (more, after, (rest, some, whole)) = (
   written ++ more,

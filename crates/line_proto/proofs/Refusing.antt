@@ -293,3 +293,12 @@ pub refuses_line : (line : List ℕ) (answer : Result Request Refusal) → Unles
 refuses_line line (Ok r) h = tt
 refuses_line line (Err NoMemory) h = memory_may_lack (line_data line)
 refuses_line line (Err e) h = is_line_refused_for (line_data line) e (sym (h (λ k. cc)))
+
+never_memory : (found : Option Data) → and_then (ok_or found NotJson) request_from ≢ Err NoMemory
+never_memory None is = cc
+never_memory (Some d) is = request_from-caused d NoMemory is
+
+-- what the definition refuses it refuses for a cause that the rules name
+pub request_of-caused : (line : List ℕ) (e : Refusal) → request_of line ≡ Err e → (e ≢ NoMemory) × IsLineRefusedFor (line_data line) e
+request_of-caused line e is =
+    ((λ same. never_memory (line_data line) (is ∙ ap Err same)), is_line_refused_for (line_data line) e is)

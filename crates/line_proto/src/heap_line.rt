@@ -1,19 +1,16 @@
 //! Lines that are built on the heap before they are written.
 ghost use Rattle.std.specs.Prelude.{◌≡◌, [], ◌∷◌, true, IfOk};
 ghost use Rattle.line_feed.specs.Cut.{line_of};
-ghost use Rattle.line_proto.specs.Replies.{line_text, worded, around, reply_text};
+ghost use Rattle.line_proto.specs.Replies.{line_text, worded, reply_text};
 ghost use Rattle.line_proto.specs.Writing.{needs_heap};
 
-use doc_words::{CompactText, Reply};
+use doc_words::Reply;
 use json_scalar::Refusal;
 use json_text::{AsJson, JsonText};
 use std::alloc::Global;
 
 // Room at first, in bytes. Most lines have less.
 const FIRST_ROOM: usize = 256;
-
-// Bytes of a line around its text, at most.
-const AROUND: usize = 11;
 
 /// The line of a reply of many parts. A refusal is `NoMemory`.
 pub(crate) fn heap_line(alloc: Global, reply: &Reply) -> Result<Vec<u8>, Refusal>
@@ -22,16 +19,13 @@ pub(crate) fn heap_line(alloc: Global, reply: &Reply) -> Result<Vec<u8>, Refusal
 {
     match reply {
         Reply::Resolved(cursor) => tagged_line(alloc, "cursor", cursor),
-        Reply::Keys(text) => text_line(alloc, "[\"keys\",", text),
         Reply::Values(scalars) => tagged_line(alloc, "values", scalars),
-        Reply::Items(text) => text_line(alloc, "[\"items\",", text),
         Reply::Conflicts(values) => tagged_line(alloc, "conflicts", values),
-        Reply::Show(text) => text_line(alloc, "[\"show\",", text),
         Reply::Sum(total) => tagged_line(alloc, "sum", total),
-        Reply::Operations(text) => text_line(alloc, "[\"ops\",", text),
         Reply::Front(front) => tagged_line(alloc, "front", front),
         Reply::Applied { .. } | Reply::Known | Reply::Held(_) => unreachable!(),
         Reply::Waiting(_) => unreachable!(),
+        Reply::Keys(_) | Reply::Items(_) | Reply::Show(_) | Reply::Operations(_) => unreachable!(),
         Reply::Forgotten | Reply::Account(_) | Reply::Refused(_) => unreachable!(),
     }
 }
@@ -43,18 +37,5 @@ fn tagged_line<X: AsJson>(alloc: Global, word: &str, part: &X) -> Result<Vec<u8>
     text.tagged(word, part)?;
     let mut line = text.into_bytes();
     line.push(b'\n')?;
-    Ok(line)
-}
-
-// `prefix` comes before the text.
-#[tactic(auto, using(crate::proofs::Texts::around))]
-fn text_line(alloc: Global, prefix: &str, text: &CompactText) -> Result<Vec<u8>, Refusal>
-    ensures { IfOk result (λ line. line.items ≡ line_of (around prefix.now text.now)) }
-{
-    let text = text.as_str();
-    let mut line = Vec::with_capacity(alloc, text.len() + AROUND)?;
-    line.extend_from_slice(prefix.as_bytes())?;
-    line.extend_from_slice(text.as_bytes())?;
-    line.extend_from_slice(b"]\n")?;
     Ok(line)
 }

@@ -9,6 +9,7 @@ mod parse;
 mod pending;
 mod request;
 mod stack_line;
+mod text_line;
 mod write;
 
 pub use line_reply::{LineReply, VERSION};

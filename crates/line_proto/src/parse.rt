@@ -26,7 +26,7 @@ use std::str;
 const MAX_LIMIT: u64 = 64;
 
 impl Request {
-    ghost use Rattle.std.specs.Prelude.{◌≢◌, Some, Ok, Err, IfOk, IfErr, IsTrue};
+    ghost use Rattle.std.specs.Prelude.{◌≢◌, ℕ, List, Some, Ok, Err, IfOk, IfErr, IsTrue};
     ghost use Rattle.json_scalar.specs.declared.refusal.Refusal.{Refusal};
     ghost use Rattle.line_proto.specs.Written.{request_data, is_request};
     ghost use Rattle.line_proto.specs.Refused.{IsLineRefusedFor};
@@ -57,6 +57,19 @@ impl Request {
     pub fn one_form_each()
         ensures { (r other : Request) → IsTrue (is_request r) → IsTrue (is_request other)
             → request_data r ≡ request_data other → r ≡ other }
+    {}
+
+    /// The law that `request_of`, by which a session is defined, is what the written forms say: a line is the request
+    /// that has its JSON, or is refused for the cause that no request has it.
+    pub fn read_as_written()
+        ensures reads { (line : List ℕ) (r : Request) → request_of line ≡ Ok r
+            → (line_data line ≡ Some (request_data r)) × IsTrue (is_request r) }
+        ensures complete { (line : List ℕ) (r : Request) → IsTrue (is_request r)
+            → line_data line ≡ Some (request_data r) → request_of line ≡ Ok r }
+        ensures refuses { (line : List ℕ) (cause : Refusal) → request_of line ≡ Err cause
+            → (cause ≢ NoMemory) × IsLineRefusedFor (line_data line) cause }
+        ensures due { (line : List ℕ) (cause : Refusal) → cause ≢ NoMemory
+            → IsLineRefusedFor (line_data line) cause → request_of line ≡ Err cause }
     {}
 }
 

@@ -13,6 +13,7 @@ use crate::heap_line::heap_line;
 use crate::line_reply::{LineReply, VERSION};
 use crate::pending::{write_held, write_waiting};
 use crate::stack_line::{Line, applied, fixed, no, numbered};
+use crate::text_line::write_text_line;
 use doc_words::Reply;
 use line_feed::{DeviceFault, Sink, write_all};
 use std::alloc::Global;
@@ -41,8 +42,9 @@ impl LineReply {
     /// Writes the reply as a line, with its newline.
     ///
     /// - `Device`: the sink failed. It has taken a proper prefix of the line.
-    /// - `NoMemory`: nothing was written. It can come only for what was read of a document, its operations and its
-    ///   front: their lines are built on the heap before the first byte is written. All others allocate nothing.
+    /// - `NoMemory`: nothing was written. It can come only for a cursor, values, conflicts, a sum and a front: their
+    ///   lines are built on the heap before the first byte is written. All others allocate nothing. A text that was
+    ///   read of a document, which may have megabytes, is not copied.
     pub fn write<W: Sink>(&self, alloc: Global, sink: &mut W) -> Result<(), WriteFault>
         requires works { W.has_failed sink.old ≡ false }
         ensures ok { OnOk result (Appends (W.contents sink.old) (W.contents sink.new) (reply_line self.now)) }
@@ -101,6 +103,10 @@ fn write_reply<W: Sink>(alloc: Global, reply: &Reply, sink: &mut W) -> Result<()
     match reply {
         Reply::Held(missing) => Ok(write_held(missing.as_slice(), sink)?),
         Reply::Waiting(waiting) => Ok(write_waiting(waiting.as_slice(), sink)?),
+        Reply::Keys(text) => Ok(write_text_line("[\"keys\",", text, sink)?),
+        Reply::Items(text) => Ok(write_text_line("[\"items\",", text, sink)?),
+        Reply::Show(text) => Ok(write_text_line("[\"show\",", text, sink)?),
+        Reply::Operations(text) => Ok(write_text_line("[\"ops\",", text, sink)?),
         _ => write_whole(alloc, reply, sink),
     }
 }

@@ -3,12 +3,10 @@
 ghost use Rattle.std.specs.Prelude.{◌≡◌, false};
 
 use line_feed::doubles::{FailAfter, InPieces};
-use line_feed::{
-    DeviceFault, LineFeed, Outbox, Outcome, Reader, Sink, Source, Unbuffered, Writer, write_all,
-};
+use line_feed::{DeviceFault, LineFeed, Outbox, Outcome, Reader, Sink, Source, Writer, write_all};
 use std::alloc::{AllocError, Global};
 use std::io;
-use std::io::{ErrorKind, Read, Write};
+use std::io::{BufWriter, ErrorKind, Read, Write};
 use std::test::Fail;
 
 // ---- sources
@@ -67,6 +65,37 @@ fn a_source_that_fails_within_a_line_gives_a_fault(rt: HostRuntime) -> Result<()
     assert!(rt; gives(rt.alloc(), &mut source, b"ab|", Outcome::Fault)?);
     assert!(rt; source.failed());
     Ok(())
+}
+
+// A reader that counts its calls, and gives one byte a call.
+#[derive(Drop)]
+struct OneByOne {
+    calls: u8,
+}
+
+impl Read for OneByOne {
+    fn read(&mut self, buf: &mut [u8]) -> io::Result<usize> {
+        self.calls = self.calls.saturating_add(1);
+        if buf.is_empty() {
+            return Ok(0);
+        }
+        buf[0] = b'a';
+        Ok(1)
+    }
+}
+
+// How many bytes one read of the source gives. None if it fails.
+fn read_once<R: Source>(source: &mut R) -> Option<usize>
+    requires { R.has_failed source.old ≡ false }
+{
+    source.read_some(&mut [0; 4]).ok()
+}
+
+#[test]
+fn a_source_reads_its_reader_once_a_call(rt: HostRuntime) {
+    let mut device = OneByOne { calls: 0 };
+    assert_eq!(rt; read_once(&mut Reader::new(&mut device)), Some(1));
+    assert_eq!(rt; device.calls, 1);
 }
 
 // ---- sinks
@@ -128,10 +157,52 @@ fn a_write_of_no_bytes_is_a_failure(rt: HostRuntime) {
     assert!(rt; fails_to_write(&mut Writer::new(Interrupted { calls: 1 }), b"a"));
 }
 
+// Whether the bytes are taken and flushed.
+fn flushes<W: Sink>(sink: &mut W, bytes: &[u8]) -> bool
+    requires { W.has_failed sink.old ≡ false }
+{
+    write_all(sink, bytes).is_ok() && sink.flush().is_ok()
+}
+
+#[test]
+fn a_flush_goes_through_a_buffered_writer(rt: HostRuntime) -> Result<(), Fail> {
+    let mut buffered = BufWriter::new(rt.alloc(), Vec::<u8>::new(rt.alloc()))?;
+    assert!(rt; flushes(&mut Writer::new(&mut buffered), b"reply\n"));
+    assert!(rt; buffered.get_ref().as_slice() == b"reply\n".as_slice());
+    Ok(())
+}
+
+// A writer that takes all and can't be flushed.
+#[derive(Drop)]
+struct Clogged;
+
+impl Write for Clogged {
+    fn write(&mut self, buf: &[u8]) -> io::Result<usize> {
+        Ok(buf.len())
+    }
+
+    fn flush(&mut self) -> io::Result<()> {
+        Err(io::Error::from(ErrorKind::BrokenPipe))
+    }
+}
+
+// Whether only the flush fails, and `failed` says so.
+fn fails_to_flush<W: Sink>(sink: &mut W, bytes: &[u8]) -> bool
+    requires { W.has_failed sink.old ≡ false }
+{
+    write_all(sink, bytes).is_ok() && sink.flush().is_err() && sink.failed()
+}
+
+#[test]
+fn a_flush_that_fails_is_a_failure(rt: HostRuntime) {
+    assert!(rt; fails_to_flush(&mut Writer::new(Clogged), b"a"));
+    assert!(rt; fails_to_flush(&mut Outbox::new(rt.alloc(), Writer::new(Clogged)), b"a"));
+}
+
 // ---- an outbox
 
 // Three short lines through an outbox, which is flushed then.
-fn three_lines<W: Unbuffered + Drop>(alloc: Global, sink: W) -> Result<(), DeviceFault>
+fn three_lines<W: Sink + Drop>(alloc: Global, sink: W) -> Result<(), DeviceFault>
     requires { W.has_failed sink ≡ false }
 {
     let mut outbox = Outbox::new(alloc, sink);
@@ -142,11 +213,7 @@ fn three_lines<W: Unbuffered + Drop>(alloc: Global, sink: W) -> Result<(), Devic
 }
 
 // Writes the bytes to an outbox.
-fn write_through<W: Unbuffered + Drop>(
-    alloc: Global,
-    sink: W,
-    bytes: &[u8],
-) -> Result<(), DeviceFault>
+fn write_through<W: Sink + Drop>(alloc: Global, sink: W, bytes: &[u8]) -> Result<(), DeviceFault>
     requires { W.has_failed sink ≡ false }
 {
     write_all(&mut Outbox::new(alloc, sink), bytes)
@@ -179,6 +246,14 @@ fn an_outbox_flushes_with_one_write(rt: HostRuntime) {
     let flushed = three_lines(rt.alloc(), Writer::new(&mut device));
     assert!(rt; flushed.is_ok() && device.calls == 1);
     assert!(rt; device.bytes.as_slice() == b"ab\ncd\nef\n".as_slice());
+}
+
+#[test]
+fn an_outbox_flushes_the_writer_below_it(rt: HostRuntime) -> Result<(), Fail> {
+    let mut buffered = BufWriter::new(rt.alloc(), Vec::<u8>::new(rt.alloc()))?;
+    assert!(rt; three_lines(rt.alloc(), Writer::new(&mut buffered)).is_ok());
+    assert!(rt; buffered.get_ref().as_slice() == b"ab\ncd\nef\n".as_slice());
+    Ok(())
 }
 
 #[test]

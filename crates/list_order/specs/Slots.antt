@@ -1,5 +1,5 @@
 -- Linked slots: what the links lead through, and what an insertion makes of them.
-use Rattle.std.specs.Prelude.{◌≡◌, ◌<◌, ℕ, zero, suc, List, [], ◌∷◌, ◌++◌, map, length, Option, Some, None}
+use Rattle.std.specs.Prelude.{◌≡◌, ◌<◌, ◌+◌, ℕ, Bool, zero, suc, List, [], ◌∷◌, ◌++◌, map, length, Option, Some, None}
 use Rattle.std.specs.Prelude.{slice_index_or, slice_set, if◌then◌else◌}
 use Rattle.std.specs.Ordering.{is_lt}
 use Rattle.doc_words.specs.Words.{Id, id_cmp}
@@ -46,6 +46,10 @@ number_along slots (n ∷ path) id = if id_eq (slot_at slots n).id id then Some 
 abbrev pub number_for : List (Id × SlotNumber) → Option Id → Option SlotNumber
 number_for index None = None
 number_for index (Some id) = get index id
+
+-- how many ids the index has room for: those that it has, and one more where there is room for it
+abbrev pub room_in : List (Id × SlotNumber) × Bool → ℕ
+room_in index = length index.0 + (if index.1 then 1 else 0)
 
 -- the last slot that is not less than id, from the front on, or previous
 abbrev pub passed : List Slot → Id → Option SlotNumber → List SlotNumber → Option SlotNumber

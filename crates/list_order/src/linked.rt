@@ -17,19 +17,21 @@ use crate::marks::{
 use crate::passing::last_passed;
 use crate::present::present_ids;
 use crate::slots::{
-    Slot, SlotNumber, add_entry, behind, ids_from, link, number_for, number_of, slot_at,
+    Slot, SlotNumber, add_entry, behind, ids_from, link, number_for, number_of, reserve_entry,
+    slot_at,
 };
 use lamport_id::Id;
+use presence_set::IdBlocks;
 use std::alloc::{AllocError, Global};
 use std::marker::Model;
 
 /// The ids of a list in its order, deleted ones included, each with whether it is present: linked slots with marks, an
-/// index from id to slot, and blocks that count the present ids. Clauses see a pair: the entries, and how many of them
+/// index from id to slot in blocks, and blocks that count the present ids. Clauses see a pair: the entries, and how many of them
 /// the reserved memory can hold.
 pub struct LinkedOrder {
     slots: Vec<Slot>,
     first: Option<SlotNumber>,
-    index: Vec<(Id, SlotNumber)>,
+    index: IdBlocks<SlotNumber>,
     marks: Vec<Mark>,
     blocks: Vec<MarkBlock>,
     present: usize,
@@ -39,17 +41,17 @@ pub struct LinkedOrder {
 impl Model for LinkedOrder {
     ghost use Rattle.std.specs.Prelude.{List, ℕ, Bool, min, vec_capacity};
     ghost use Rattle.lamport_id.specs.declared.id.Id.{Id};
-    ghost use Rattle.list_order.specs.Slots.{slots_from};
+    ghost use Rattle.list_order.specs.Slots.{room_in, slots_from};
     ghost use Rattle.list_order.specs.Marks.{entries_along, IsMarkedOrder};
 
     ghost Value = { List (Id × Bool) × ℕ };
 
     ghost view = { λ o. (
       entries_along o.slots.items o.marks.items (slots_from o.slots.items o.first),
-      min (vec_capacity o.slots) (min (vec_capacity o.index) (vec_capacity o.marks)),
+      min (vec_capacity o.slots) (min (room_in o.index) (vec_capacity o.marks)),
     ) };
 
-    ghost invariant = { λ o. IsMarkedOrder o.slots.items o.first o.index.items o.marks.items o.blocks.items o.present };
+    ghost invariant = { λ o. IsMarkedOrder o.slots.items o.first o.index.0 o.marks.items o.blocks.items o.present };
 }
 
 impl Drop for LinkedOrder {
@@ -74,7 +76,7 @@ impl LinkedOrder {
         LinkedOrder {
             slots: Vec::new(alloc),
             first: None,
-            index: Vec::new(alloc),
+            index: IdBlocks::new(alloc),
             marks: Vec::new(alloc),
             blocks: Vec::new(alloc),
             present: 0,
@@ -89,7 +91,7 @@ impl LinkedOrder {
         ensures room { OnOk result (length self.new.0 < self.new.1) }
     {
         self.slots.reserve(1)?;
-        self.index.reserve(1)?;
+        reserve_entry(&mut self.index)?;
         self.blocks
             .reserve(blocks_wanted(self.slots.len(), self.blocks.len()))?;
         self.marks.reserve(1)
@@ -103,7 +105,7 @@ impl LinkedOrder {
         requires new { ¬ (Contains (ids_of self.old.0) id) }
         ensures { self.new ≡ (insert_after entry_cmp self.old.0 (entry_of_reference after) (absent id), self.old.1) }
     {
-        let reference = number_for(self.index.as_slice(), after);
+        let reference = number_for(&self.index, after);
         let previous = last_passed(
             self.slots.as_slice(),
             self.first,
@@ -135,7 +137,7 @@ impl LinkedOrder {
     pub fn set_present(&mut self, id: Id, is_present: bool)
         ensures { self.new ≡ (with_presence self.old.0 id is_present, self.old.1) }
     {
-        match number_of(self.index.as_slice(), &id) {
+        match number_of(&self.index, &id) {
             None => {}
             Some(n) => {
                 set_presence(
@@ -196,7 +198,7 @@ impl LinkedOrder {
         requires { ForSome after (Contains (ids_of self.now.0)) }
         ensures { result ≡ following (ids_of self.now.0) after }
     {
-        let reference = number_for(self.index.as_slice(), after);
+        let reference = number_for(&self.index, after);
         match behind(self.slots.as_slice(), self.first, reference) {
             None => None,
             Some(n) => Some(slot_at(self.slots.as_slice(), n).id),
@@ -207,7 +209,7 @@ impl LinkedOrder {
     pub fn contains(&self, id: Id) -> bool
         ensures { result ≡ list_any (λ e. id_eq e.0 id) self.now.0 }
     {
-        number_of(self.index.as_slice(), &id).is_some()
+        number_of(&self.index, &id).is_some()
     }
 
     /// The ids of the list in its order. The error is out of memory.
@@ -216,6 +218,7 @@ impl LinkedOrder {
     {
         ids_from(alloc, self.slots.as_slice(), self.first)
     }
+
     /// The present ids of the list in its order. The error is out of memory.
     pub fn present_ids(&self, alloc: Global) -> Result<Vec<Id>, AllocError>
         ensures { IfOk result (λ ids. ids.items ≡ present_of self.now.0) }

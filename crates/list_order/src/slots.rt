@@ -1,16 +1,15 @@
 //! Linked slots, and an index from id to slot.
-ghost use Rattle.std.specs.Prelude.{◌≡◌, ◌+◌, ◌<◌, ◌≤◌, length, None, Some, IfOk, vec_capacity};
+ghost use Rattle.std.specs.Prelude.{◌≡◌, ◌+◌, ◌<◌, ◌≤◌, length, true, None, Some, IfOk, OnOk, vec_capacity};
 ghost use Rattle.std.specs.Option.{ForSome};
 ghost use Rattle.std.specs.Ordering.{is_lt};
 ghost use Rattle.lamport_id.specs.Order.{id_cmp};
-ghost use Rattle.presence_set.specs.ById.{get, put_at_id, rank, IsAscending};
-ghost use Rattle.list_order.specs.Slots.{ids_along, linked, linked_first, passed, slots_from, LinksEnd};
+ghost use Rattle.presence_set.specs.ById.{get, put_at_id};
+ghost use Rattle.list_order.specs.Slots.{ids_along, linked, linked_first, passed, room_in, slots_from, LinksEnd};
 ghost use Rattle.list_order.specs.Slots as Spec;
 
 use lamport_id::Id;
-use presence_set::rank_of;
+use presence_set::IdBlocks;
 use std::alloc::{AllocError, Global};
-use std::cmp::Ordering;
 
 /// The number of a slot.
 #[derive(Clone, Copy)]
@@ -91,40 +90,19 @@ pub fn ids_from(
     Ok(ids)
 }
 
-// How many entries have a lesser id. The last entry is looked at first: what is typed is asked for next.
-fn rank_near_end(index: &[(Id, SlotNumber)], id: &Id) -> usize
-    requires { IsAscending index.now }
-    ensures value { result ≡ rank index.now id.now }
-    ensures within { result ≤ length index.now }
-{
-    if index.is_empty() {
-        return 0;
-    }
-    let last = index.len() - 1;
-    match index[last].0.cmp(id) {
-        Ordering::Less => index.len(),
-        Ordering::Equal => last,
-        Ordering::Greater => rank_of(index, id),
-    }
-}
-
 /// The slot of an id.
-pub fn number_of(index: &[(Id, SlotNumber)], id: &Id) -> Option<SlotNumber>
-    requires { IsAscending index.now }
-    ensures { result ≡ get index.now id.now }
+pub fn number_of(index: &IdBlocks<SlotNumber>, id: &Id) -> Option<SlotNumber>
+    ensures { result ≡ get index.now.0 id.now }
 {
-    let at = rank_near_end(index, id);
-    if at < index.len() && index[at].0 == *id {
-        Some(index[at].1)
-    } else {
-        None
+    match index.get(id) {
+        None => None,
+        Some(number) => Some(*number),
     }
 }
 
 /// The slot of the id that a new one comes after, if that is not the head.
-pub fn number_for(index: &[(Id, SlotNumber)], after: Option<Id>) -> Option<SlotNumber>
-    requires { IsAscending index.now }
-    ensures { result ≡ Spec.number_for index.now after }
+pub fn number_for(index: &IdBlocks<SlotNumber>, after: Option<Id>) -> Option<SlotNumber>
+    ensures { result ≡ Spec.number_for index.now.0 after }
 {
     match after {
         None => None,
@@ -132,18 +110,22 @@ pub fn number_for(index: &[(Id, SlotNumber)], after: Option<Id>) -> Option<SlotN
     }
 }
 
-/// Adds a new id to the index.
-pub fn add_entry(index: &mut Vec<(Id, SlotNumber)>, id: &Id, number: SlotNumber)
-    requires ascending { IsAscending index.old.items }
-    requires room { length index.old.items < vec_capacity index.old }
-    requires new { get index.old.items id.now ≡ None }
-    ensures items { index.new.items ≡ put_at_id index.old.items id.now number }
-    ensures len { length index.new.items ≡ length index.old.items + 1 }
-    ensures capacity { vec_capacity index.new ≡ vec_capacity index.old }
+/// Makes room for one more id in the index.
+pub fn reserve_entry(index: &mut IdBlocks<SlotNumber>) -> Result<(), AllocError>
+    ensures same { index.new.0 ≡ index.old.0 }
+    ensures grows { room_in index.old ≤ room_in index.new }
+    ensures room { OnOk result (length index.new.0 < room_in index.new) }
 {
-    let at = rank_near_end(index.as_slice(), id);
-    match index.insert(at, (*id, number)) {
-        Ok(()) => {}
-        Err(_) => unreachable!(),
-    }
+    index.reserve_one()
+}
+
+/// Adds a new id to the index.
+pub fn add_entry(index: &mut IdBlocks<SlotNumber>, id: &Id, number: SlotNumber)
+    requires room { index.old.1 ≡ true }
+    requires new { get index.old.0 id.now ≡ None }
+    ensures items { index.new.0 ≡ put_at_id index.old.0 id.now number }
+    ensures len { length index.new.0 ≡ length index.old.0 + 1 }
+    ensures room { room_in index.new ≡ room_in index.old }
+{
+    index.put(*id, number);
 }

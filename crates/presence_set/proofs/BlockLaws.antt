@@ -1,6 +1,6 @@
 -- Laws of pairs in blocks: which block takes an id, and what a cut and a clearing leave.
-use Rattle.std.proofs.Common.{◌≡◌, inl, inr, ℕ, zero, suc, ◌<◌, ◌≤◌, ◌+◌, List, [], ◌∷◌, ◌++◌, append_assoc, append-nil, length, get_or, set, take, drop, map, filter, Bool, true, false, not, ◌||◌, if◌then◌else◌, Contains, refl, sym, ap, ◌∙◌, subst, true≢false, arith, Less}
-use Rattle.std.specs.Prelude.{insert}
+use Rattle.std.proofs.Common.{◌≡◌, inl, inr, ℕ, zero, suc, ◌<◌, ◌≤◌, ◌+◌, List, [], ◌∷◌, ◌++◌, append_assoc, append-nil, length, get_or, set, take, drop, map, filter, Bool, true, false, not, if◌then◌else◌, Some, Contains, refl, sym, ap, ◌∙◌, subst, true≢false, arith, Less}
+use Rattle.std.specs.Prelude.{insert, is_some}
 use Rattle.std.specs.Ordering.{is_lt}
 use Rattle.std.specs.Bool.{◌==◌}
 use Rattle.std.specs.List.Sorted.{IsPartitionedBy, IsPartitionPoint}
@@ -17,12 +17,12 @@ use Rattle.crdt_rules.proofs.SameLaws.{id_decides}
 use Rattle.crdt_rules.proofs.WalkLaws.{id_order}
 use Rattle.sorted_lists.proofs.Keys.{is_Less, apart, apart_back, greater_is, not_less_back}
 use Rattle.sorted_lists.proofs.Rising.{IsRising-split}
-use Rattle.presence_set.specs.ById.{put_at_id, contains, uncovered, IsAscending}
+use Rattle.presence_set.specs.ById.{put_at_id, get, contains, uncovered, IsAscending}
 use Rattle.presence_set.specs.Blocks.{pairs_in, has_pair, starts_by, blocks_by, AreNonEmpty, HasSpareRoom, AllHaveRoom, HaveRoomBut, HaveRoomFor}
 use Rattle.presence_set.specs.declared.lack.Lack.{Lack}
 use Rattle.presence_set.specs.declared.lack.Lack.TheVariants.{InRest, Anywhere}
 use Rattle.presence_set.proofs.Ascending.{ids_ordered}
-use Rattle.presence_set.proofs.ByIdLaws.{length-uncovered}
+use Rattle.presence_set.proofs.ByIdLaws.{contains-get, length-uncovered}
 
 -- less than one that isn't greater
 less_le : (a b c : Id) → id_cmp a b ≡ Less → is_lt (id_cmp c b) ≡ false → id_cmp a c ≡ Less
@@ -38,6 +38,10 @@ not_true true e = absurd (true≢false (sym e))
 not_true false e = refl
 
 module _ {X : Type 0} where
+  -- a block with room for so many
+  abbrev pub a_block : List (Id × X) → ℕ → List (Id × X) × ℕ
+  a_block entries room = (entries, room)
+
   pub rising_parts : (xs ys : List (Id × X)) → IsAscending (xs ++ ys) → IsAscending xs × IsAscending ys
   rising_parts [] ys rising = (tt, rising)
   rising_parts (x ∷ xs) ys rising =
@@ -127,24 +131,24 @@ module _ {X : Type 0} where
 
   -- ---- which block has an id
 
-  contains-past : (xs ys : List (Id × X)) (id : Id) → ((e : Id × X) → Contains xs e → id_cmp e.0 id ≡ Less) → contains (xs ++ ys) id ≡ contains ys id
-  contains-past [] ys id below = refl
-  contains-past (e ∷ xs) ys id below =
-      rw (apart ids_ordered e.0 id (below e (Contains-here xs refl))) (contains-past xs ys id (λ y c. below y (Contains-there e xs c)))
+  get-past : (xs ys : List (Id × X)) (id : Id) → ((e : Id × X) → Contains xs e → id_cmp e.0 id ≡ Less) → get (xs ++ ys) id ≡ get ys id
+  get-past [] ys id below = refl
+  get-past (e ∷ xs) ys id below =
+      rw (apart ids_ordered e.0 id (below e (Contains-here xs refl))) (get-past xs ys id (λ y c. below y (Contains-there e xs c)))
 
-  contains-before : (xs ys : List (Id × X)) (id : Id) → ((e : Id × X) → Contains ys e → id_cmp id e.0 ≡ Less) → contains (xs ++ ys) id ≡ contains xs id
-  contains-before [] [] id above = refl
-  contains-before [] (e ∷ ys) id above =
-      rw (apart_back ids_ordered id e.0 (above e (Contains-here ys refl))) (contains-before [] ys id (λ y c. above y (Contains-there e ys c)))
-  contains-before (e ∷ xs) ys id above = ap (λ b. id_eq e.0 id || b) (contains-before xs ys id above)
+  get-before : (xs ys : List (Id × X)) (id : Id) → ((e : Id × X) → Contains ys e → id_cmp id e.0 ≡ Less) → get (xs ++ ys) id ≡ get xs id
+  get-before [] [] id above = refl
+  get-before [] (e ∷ ys) id above =
+      rw (apart_back ids_ordered id e.0 (above e (Contains-here ys refl))) (get-before [] ys id (λ y c. above y (Contains-there e ys c)))
+  get-before (e ∷ xs) ys id above = ap (λ o. if id_eq e.0 id then Some e.1 else o) (get-before xs ys id above)
 
-  -- an id that some block has is in the first, or in the last of those that start with an id that isn't greater
-  pub contains_first : (xs : List (Id × X)) (rest : List (List (Id × X) × ℕ)) (id : Id) → IsAscending (xs ++ pairs_in rest) → AreNonEmpty rest
-      → blocks_by id rest ≡ 0 → contains (xs ++ pairs_in rest) id ≡ contains xs id
-  contains_first xs [] id rising filled none = contains-before xs [] id (λ e c. absurd (Contains-nil c))
-  contains_first xs (([], n) ∷ rest) id rising filled none = absurd (true≢false (sym filled.0))
-  contains_first xs ((e ∷ es, n) ∷ rest) id rising filled none =
-      contains-before xs (e ∷ es ++ pairs_in rest) id (λ y c. elim (Contains-cases e (es ++ pairs_in rest) c) [
+  -- what stands at an id stands in the first, or in the last of those that start with an id that isn't greater
+  pub get_first : (xs : List (Id × X)) (rest : List (List (Id × X) × ℕ)) (id : Id) → IsAscending (xs ++ pairs_in rest) → AreNonEmpty rest
+      → blocks_by id rest ≡ 0 → get (xs ++ pairs_in rest) id ≡ get xs id
+  get_first xs [] id rising filled none = get-before xs [] id (λ e c. absurd (Contains-nil c))
+  get_first xs (([], n) ∷ rest) id rising filled none = absurd (true≢false (sym filled.0))
+  get_first xs ((e ∷ es, n) ∷ rest) id rising filled none =
+      get-before xs (e ∷ es ++ pairs_in rest) id (λ y c. elim (Contains-cases e (es ++ pairs_in rest) c) [
         | inl first ↦ subst (λ (z : Id × X). id_cmp id z.0 ≡ Less) first less
         | inr later ↦ transitive id_order {x = id} {y = e.0} {z = y.0} less (next.0 y later)
       ])
@@ -159,30 +163,42 @@ module _ {X : Type 0} where
       less : id_cmp id e.0 ≡ Less
       less = is_Less (id_cmp id e.0) (go (is_lt (id_cmp id e.0)) none)
 
-  pub contains_rest : (xs : List (Id × X)) (rest : List (List (Id × X) × ℕ)) (id : Id) (k : ℕ) (d : List (Id × X) × ℕ)
+  pub get_rest : (xs : List (Id × X)) (rest : List (List (Id × X) × ℕ)) (id : Id) (k : ℕ) (d : List (Id × X) × ℕ)
       → IsAscending (xs ++ pairs_in rest) → AreNonEmpty rest → blocks_by id rest ≡ suc k
-      → contains (xs ++ pairs_in rest) id ≡ contains (get_or rest k d).0 id
-  contains_rest xs [] id k d rising filled some = absurd (omega (arith, some))
-  contains_rest xs (([], n) ∷ rest) id k d rising filled some = absurd (true≢false (sym filled.0))
-  contains_rest xs ((e ∷ es, n) ∷ rest) id k d rising filled some =
-      go (is_lt (id_cmp id e.0)) refl some (λ j there. contains_rest (e ∷ es) rest id j d next filled.1 there)
+      → get (xs ++ pairs_in rest) id ≡ get (get_or rest k d).0 id
+  get_rest xs [] id k d rising filled some = absurd (omega (arith, some))
+  get_rest xs (([], n) ∷ rest) id k d rising filled some = absurd (true≢false (sym filled.0))
+  get_rest xs ((e ∷ es, n) ∷ rest) id k d rising filled some =
+      go (is_lt (id_cmp id e.0)) refl some (λ j there. get_rest (e ∷ es) rest id j d next filled.1 there)
     where
       next : IsAscending (e ∷ es ++ pairs_in rest)
       next = (rising_parts xs (e ∷ es ++ pairs_in rest) rising).1
 
       in_this : (m : ℕ) → blocks_by id rest ≡ m
-          → ((j : ℕ) → blocks_by id rest ≡ suc j → contains (e ∷ es ++ pairs_in rest) id ≡ contains (get_or rest j d).0 id)
-          → contains (e ∷ es ++ pairs_in rest) id ≡ contains (get_or ((e ∷ es, n) ∷ rest) m d).0 id
-      in_this zero here ih = contains_first (e ∷ es) rest id next filled.1 here
+          → ((j : ℕ) → blocks_by id rest ≡ suc j → get (e ∷ es ++ pairs_in rest) id ≡ get (get_or rest j d).0 id)
+          → get (e ∷ es ++ pairs_in rest) id ≡ get (get_or ((e ∷ es, n) ∷ rest) m d).0 id
+      in_this zero here ih = get_first (e ∷ es) rest id next filled.1 here
       in_this (suc j) there ih = ih j there
 
       go : (b : Bool) → is_lt (id_cmp id e.0) ≡ b → (if not b then 1 + blocks_by id rest else 0) ≡ suc k
-          → ((j : ℕ) → blocks_by id rest ≡ suc j → contains (e ∷ es ++ pairs_in rest) id ≡ contains (get_or rest j d).0 id)
-          → contains (xs ++ (e ∷ es ++ pairs_in rest)) id ≡ contains (get_or ((e ∷ es, n) ∷ rest) k d).0 id
+          → ((j : ℕ) → blocks_by id rest ≡ suc j → get (e ∷ es ++ pairs_in rest) id ≡ get (get_or rest j d).0 id)
+          → get (xs ++ (e ∷ es ++ pairs_in rest)) id ≡ get (get_or ((e ∷ es, n) ∷ rest) k d).0 id
       go true is h ih = absurd (omega (arith, h))
       go false is h ih =
           let behind : blocks_by id rest ≡ k = omega (arith, h) in
-          contains-past xs (e ∷ es ++ pairs_in rest) id (below_start xs e (es ++ pairs_in rest) id rising is) ∙ in_this k behind ih
+          get-past xs (e ∷ es ++ pairs_in rest) id (below_start xs e (es ++ pairs_in rest) id rising is) ∙ in_this k behind ih
+
+  -- so is an id that some block has
+  pub contains_first : (xs : List (Id × X)) (rest : List (List (Id × X) × ℕ)) (id : Id) → IsAscending (xs ++ pairs_in rest) → AreNonEmpty rest
+      → blocks_by id rest ≡ 0 → contains (xs ++ pairs_in rest) id ≡ contains xs id
+  contains_first xs rest id rising filled none =
+      contains-get (xs ++ pairs_in rest) id ∙ ap is_some (get_first xs rest id rising filled none) ∙ sym (contains-get xs id)
+
+  pub contains_rest : (xs : List (Id × X)) (rest : List (List (Id × X) × ℕ)) (id : Id) (k : ℕ) (d : List (Id × X) × ℕ)
+      → IsAscending (xs ++ pairs_in rest) → AreNonEmpty rest → blocks_by id rest ≡ suc k
+      → contains (xs ++ pairs_in rest) id ≡ contains (get_or rest k d).0 id
+  contains_rest xs rest id k d rising filled some =
+      contains-get (xs ++ pairs_in rest) id ∙ ap is_some (get_rest xs rest id k d rising filled some) ∙ sym (contains-get (get_or rest k d).0 id)
 
   start_above : (blocks : List (List (Id × X) × ℕ)) (id i : Id) (j : ℕ) (d : List (Id × X) × ℕ) → AreNonEmpty blocks
       → ((y : Id × X) → Contains (pairs_in blocks) y → id_cmp i y.0 ≡ Less) → j < length blocks

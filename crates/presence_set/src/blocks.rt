@@ -1,6 +1,6 @@
 //! The operations that make a place present, in blocks, so that one more id moves few others.
 ghost use Rattle.std.specs.Prelude.{◌≡◌, ◌+◌, ◌<◌, ◌≤◌, ◌↔◌, ◌∷◌, ◌++◌, ℕ, [], true, false, length, map, filter, take};
-ghost use Rattle.std.specs.Prelude.{drop, not, insert, IsTrue, IfSome, OnOk, OnErr, slice_index_or, slice_set};
+ghost use Rattle.std.specs.Prelude.{drop, not, insert, IsOk, IsTrue, IfSome, OnOk, OnErr, slice_index_or, slice_set};
 ghost use Rattle.lamport_id.specs.declared.id.Id.{Id};
 ghost use Rattle.presence_set.specs.ById.{put_at_id, contains, uncovered, IsAscending};
 ghost use Rattle.presence_set.specs.Blocks.{pairs_in, has_pair, starts_by, blocks_by, AreNonEmpty, HasSpareRoom};
@@ -75,11 +75,12 @@ impl Presence {
         }
     }
 
-    /// Makes room for one more id. Out of memory, the entries stay as they are.
+    /// Makes room for one more id. It never fails where there is room. Out of memory, the entries stay as they are.
     pub fn reserve_one(&mut self) -> Result<(), AllocError>
         ensures same { self.new.0 ≡ self.old.0 }
         ensures grows { self.old.1 ≡ true → self.new.1 ≡ true }
         ensures room { OnOk result (self.new.1 ≡ true) }
+        ensures succeeds { self.old.1 ≡ true → IsOk result }
     {
         if self.has_room {
             return Ok(());
@@ -200,7 +201,7 @@ impl<'a> Iterator for Entries<'a> {
 }
 
 // How many blocks, at the front, start with an id that isn't greater: found by bisection.
-fn blocks_by(blocks: &[ById<Role>], id: &Id) -> usize
+pub fn blocks_by<X: Drop>(blocks: &[ById<X>], id: &Id) -> usize
     requires filled { AreNonEmpty blocks.now }
     requires rising { IsAscending (pairs_in blocks.now) }
     ensures value { result ≡ Spec.blocks_by id.now blocks.now }
@@ -212,14 +213,14 @@ fn blocks_by(blocks: &[ById<Role>], id: &Id) -> usize
         return count;
     }
     blocks.partition_point(
-        |block: &ById<Role>| -> bool
+        |block: &ById<X>| -> bool
             ensures { result ≡ starts_by id.entry.now block.now.0 }
         { starts_by(block.entries(), id) },
     )
 }
 
 // Whether the first id isn't greater.
-fn starts_by(entries: &[(Id, Role)], id: &Id) -> bool
+fn starts_by<X: Drop>(entries: &[(Id, X)], id: &Id) -> bool
     ensures { result ≡ starts_by id.now entries.now }
 {
     match entries.split_first() {
@@ -314,7 +315,7 @@ fn retain_later(later: &mut Option<Box<LaterBlocks>>, front: &Front)
 }
 
 // Puts a value into the block where its id belongs, and returns that this block may lack room then.
-fn put_into(first: &mut ById<Role>, rest: &mut Vec<ById<Role>>, id: Id, value: Role) -> Lack
+pub fn put_into<X: Drop>(first: &mut ById<X>, rest: &mut Vec<ById<X>>, id: Id, value: X) -> Lack
     requires rising { IsAscending (first.old.0 ++ pairs_in rest.old.items) }
     requires filled { AreNonEmpty rest.old.items }
     requires first { HasSpareRoom first.old }
@@ -338,7 +339,7 @@ fn put_into(first: &mut ById<Role>, rest: &mut Vec<ById<Role>>, id: Id, value: R
 }
 
 // Drops the ids that the front covers from each block.
-fn retain_each(blocks: &mut Vec<ById<Role>>, front: &Front)
+fn retain_each<X: Drop>(blocks: &mut Vec<ById<X>>, front: &Front)
     ensures { blocks.new.items ≡ map (λ b. (uncovered front.now b.0, b.1)) blocks.old.items }
 {
     for at in 0..blocks.len() {
@@ -348,20 +349,20 @@ fn retain_each(blocks: &mut Vec<ById<Role>>, front: &Front)
 }
 
 // Drops the blocks that are empty.
-fn drop_empty(blocks: &mut Vec<ById<Role>>)
+fn drop_empty<X: Drop>(blocks: &mut Vec<ById<X>>)
     ensures { blocks.new.items ≡ filter (λ b. has_pair b.0) blocks.old.items }
 {
     blocks.retain(
-        |block: &ById<Role>| -> bool
+        |block: &ById<X>| -> bool
             ensures { result ≡ has_pair block.now.0 }
         { !block.entries().is_empty() },
     );
 }
 
 // Makes room for one more id in each block that may lack it.
-fn make_room(
-    first: &mut ById<Role>,
-    rest: &mut Vec<ById<Role>>,
+pub fn make_room<X: Drop>(
+    first: &mut ById<X>,
+    rest: &mut Vec<ById<X>>,
     lack: Lack,
 ) -> Result<(), AllocError>
     requires filled { AreNonEmpty rest.old.items }
@@ -378,7 +379,10 @@ fn make_room(
 }
 
 // Makes room for one more id in the first block, and in the one that is cut from it.
-fn make_room_in_front(first: &mut ById<Role>, rest: &mut Vec<ById<Role>>) -> Result<(), AllocError>
+fn make_room_in_front<X: Drop>(
+    first: &mut ById<X>,
+    rest: &mut Vec<ById<X>>,
+) -> Result<(), AllocError>
     requires filled { AreNonEmpty rest.old.items }
     requires room { AllHaveRoom rest.old.items }
     ensures same { first.new.0 ++ pairs_in rest.new.items ≡ first.old.0 ++ pairs_in rest.old.items }
@@ -393,7 +397,10 @@ fn make_room_in_front(first: &mut ById<Role>, rest: &mut Vec<ById<Role>>) -> Res
 }
 
 // Makes room for one more id in each block.
-fn make_room_in_each(first: &mut ById<Role>, rest: &mut Vec<ById<Role>>) -> Result<(), AllocError>
+fn make_room_in_each<X: Drop>(
+    first: &mut ById<X>,
+    rest: &mut Vec<ById<X>>,
+) -> Result<(), AllocError>
     requires { AreNonEmpty rest.old.items }
     ensures same { first.new.0 ++ pairs_in rest.new.items ≡ first.old.0 ++ pairs_in rest.old.items }
     ensures filled { AreNonEmpty rest.new.items }
@@ -404,7 +411,10 @@ fn make_room_in_each(first: &mut ById<Role>, rest: &mut Vec<ById<Role>>) -> Resu
 }
 
 // Makes room for one more id in the first block: it grows, or is cut in two.
-fn make_room_in_first(first: &mut ById<Role>, rest: &mut Vec<ById<Role>>) -> Result<(), AllocError>
+fn make_room_in_first<X: Drop>(
+    first: &mut ById<X>,
+    rest: &mut Vec<ById<X>>,
+) -> Result<(), AllocError>
     requires { AreNonEmpty rest.old.items }
     ensures same { first.new.0 ++ pairs_in rest.new.items ≡ first.old.0 ++ pairs_in rest.old.items }
     ensures filled { AreNonEmpty rest.new.items }
@@ -435,9 +445,9 @@ fn cut_place(len: usize, is_last: bool) -> Option<usize>
 }
 
 // Cuts the first block in two.
-fn cut_first(
-    first: &mut ById<Role>,
-    rest: &mut Vec<ById<Role>>,
+fn cut_first<X: Drop>(
+    first: &mut ById<X>,
+    rest: &mut Vec<ById<X>>,
     place: usize,
 ) -> Result<(), AllocError>
     requires filled { AreNonEmpty rest.old.items }
@@ -457,7 +467,7 @@ fn cut_first(
 }
 
 // Makes room for one more id in each of the other blocks, from the last on.
-fn make_room_in_rest(rest: &mut Vec<ById<Role>>) -> Result<(), AllocError>
+fn make_room_in_rest<X: Drop>(rest: &mut Vec<ById<X>>) -> Result<(), AllocError>
     requires { AreNonEmpty rest.old.items }
     ensures same { pairs_in rest.new.items ≡ pairs_in rest.old.items }
     ensures filled { AreNonEmpty rest.new.items }
@@ -472,7 +482,7 @@ fn make_room_in_rest(rest: &mut Vec<ById<Role>>) -> Result<(), AllocError>
 }
 
 // Makes room for one more id in a block: it grows, or is cut in two.
-fn make_room_at(rest: &mut Vec<ById<Role>>, at: usize) -> Result<(), AllocError>
+fn make_room_at<X: Drop>(rest: &mut Vec<ById<X>>, at: usize) -> Result<(), AllocError>
     requires known { at < length rest.old.items }
     requires filled { AreNonEmpty rest.old.items }
     requires later { AllHaveRoom (drop (at + 1) rest.old.items) }
@@ -492,7 +502,7 @@ fn make_room_at(rest: &mut Vec<ById<Role>>, at: usize) -> Result<(), AllocError>
 }
 
 // Makes a block grow.
-fn grow_at(rest: &mut Vec<ById<Role>>, at: usize) -> Result<(), AllocError>
+fn grow_at<X: Drop>(rest: &mut Vec<ById<X>>, at: usize) -> Result<(), AllocError>
     requires { at < length rest.old.items }
     ensures same { (n : ℕ) × (rest.new.items
         ≡ slice_set rest.old.items at ((slice_index_or rest.old.items at ([], 0)).0, n)) }
@@ -503,7 +513,7 @@ fn grow_at(rest: &mut Vec<ById<Role>>, at: usize) -> Result<(), AllocError>
 }
 
 // Cuts a block in two, each with room for one more id.
-fn cut_at(rest: &mut Vec<ById<Role>>, at: usize, place: usize) -> Result<(), AllocError>
+fn cut_at<X: Drop>(rest: &mut Vec<ById<X>>, at: usize, place: usize) -> Result<(), AllocError>
     requires known { at < length rest.old.items }
     requires filled { AreNonEmpty rest.old.items }
     requires later { AllHaveRoom (drop (at + 1) rest.old.items) }
@@ -520,7 +530,7 @@ fn cut_at(rest: &mut Vec<ById<Role>>, at: usize, place: usize) -> Result<(), All
 }
 
 // Cuts a block in two.
-fn split_at(rest: &mut Vec<ById<Role>>, at: usize, place: usize) -> Result<(), AllocError>
+fn split_at<X: Drop>(rest: &mut Vec<ById<X>>, at: usize, place: usize) -> Result<(), AllocError>
     requires known { at < length rest.old.items }
     requires inside { place < length (slice_index_or rest.old.items at ([], 0)).0 }
     ensures ok { OnOk result ((n : ℕ) × (place < n) × (m : ℕ) × (rest.new.items

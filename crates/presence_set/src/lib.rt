@@ -1,25 +1,28 @@
 //! Values by the ids of operations at a place: the roles in which they make it present, their scalars, their numbers.
 #![tactic(auto)]
 
-ghost use Rattle.std.specs.Prelude.{◌≡◌, ◌+◌, ◌<◌, ◌≤◌, ◌↔◌, [], length, take, drop, max, not, true, IsTrue, IfOk, OnOk, OnErr};
+ghost use Rattle.std.specs.Prelude.{◌≡◌, ◌+◌, ◌<◌, ◌≤◌, ◌↔◌, [], length, take, drop, max, not, true, IsTrue, IfOk, IsOk, MatchOption, None, Some, OnOk, OnErr};
 ghost use Rattle.std.specs.Vec.{vec_capacity};
 ghost use Rattle.std.specs.Ordering.{is_lt};
 ghost use Rattle.op_core.specs.Front.{covers};
 ghost use Rattle.lamport_id.specs.Order.{id_cmp};
-ghost use Rattle.presence_set.specs.ById.{put_at_id, contains, uncovered, rank, IsAscending};
+ghost use Rattle.presence_set.specs.ById.{put_at_id, get, contains, uncovered, rank, IsAscending};
 ghost use Rattle.presence_set.specs.Kept.{kept_entries, is_in_place};
 
 mod blocks;
 mod empty_put;
+mod id_blocks;
 mod lack;
 mod later;
 
 pub use crate::blocks::{Entries, Presence};
 pub use crate::empty_put::EmptyPut;
+pub use crate::id_blocks::IdBlocks;
 pub use doc_words::Role;
 use lamport_id::Id;
 use op_core::Front;
 use std::alloc::{AllocError, Global};
+use std::cmp::Ordering;
 use std::marker::Model;
 use std::mem;
 
@@ -69,11 +72,12 @@ impl<X: Drop> ById<X> {
         }
     }
 
-    /// Makes room for one more id. Out of memory, the entries stay as they are.
+    /// Makes room for one more id. It never fails where there is room. Out of memory, the entries stay as they are.
     pub fn reserve_one(&mut self) -> Result<(), AllocError>
         ensures same { self.new.0 ≡ self.old.0 }
         ensures grows { self.old.1 ≤ self.new.1 }
         ensures room { OnOk result (length self.new.0 < self.new.1) }
+        ensures succeeds { length self.old.0 < self.old.1 → IsOk result }
     {
         match &mut self.kept {
             Kept::One(_) => {
@@ -179,6 +183,19 @@ impl<X: Drop> ById<X> {
         let at = rank_of(entries, &id);
         at < entries.len() && entries[at].0 == id
     }
+
+    /// The value of an id. It is found by bisection.
+    pub fn get(&self, id: &Id) -> Option<&X>
+        ensures { MatchOption result (get self.now.0 id.now ≡ None) (λ x. get self.now.0 id.now ≡ Some x.now) }
+    {
+        let entries = self.entries();
+        let at = rank_of(entries, id);
+        if at < entries.len() && entries[at].0 == *id {
+            Some(&entries[at].1)
+        } else {
+            None
+        }
+    }
 }
 
 // The entry that stood in place, in memory that has room for it.
@@ -203,6 +220,7 @@ fn reserve_behind<X: Drop>(entries: &mut Vec<(Id, X)>) -> Result<(), AllocError>
     ensures same { entries.new.items ≡ entries.old.items }
     ensures grows { vec_capacity entries.old ≤ vec_capacity entries.new }
     ensures room { OnOk result (length entries.new.items < max 1 (vec_capacity entries.new)) }
+    ensures succeeds { length entries.old.items < max 1 (vec_capacity entries.old) → IsOk result }
 {
     if entries.is_empty() {
         return Ok(());
@@ -253,10 +271,14 @@ pub fn rank_of<X>(entries: &[(Id, X)], id: &Id) -> usize
     ensures value { result ≡ rank entries.now id.now }
     ensures within { result ≤ length entries.now }
 {
-    // Most ids come behind all others.
-    let count = entries.len();
-    if count > 0 && entries[count - 1].0 < *id {
-        return count;
+    // Most ids come behind all others, or are the last.
+    if entries.is_empty() {
+        return 0;
     }
-    entries.partition_point(|entry| entry.0 < *id)
+    let last = entries.len() - 1;
+    match entries[last].0.cmp(id) {
+        Ordering::Less => entries.len(),
+        Ordering::Equal => last,
+        Ordering::Greater => entries.partition_point(|entry| entry.0 < *id),
+    }
 }

@@ -67,7 +67,7 @@ impl<M: Marker> Document for Seated<M> {
 }
 
 impl<M: Marker> Seated<M> {
-    ghost use Rattle.std.specs.Prelude.{◌≡◌, ◌∷◌, [], IfErr, IfOk};
+    ghost use Rattle.std.specs.Prelude.{◌≡◌, ◌⊎◌, ◌∷◌, [], IfErr, IfOk};
     ghost use Rattle.doc_rules.specs.Seats as seats;
     ghost use Rattle.doc_rules.specs.Seats.{AreEndsOf, totals_of};
     ghost use Rattle.locked_doc.specs.Sums.{totals_view};
@@ -79,7 +79,9 @@ impl<M: Marker> Seated<M> {
     pub fn gather(self, alloc: Global, ends: Vec<SeatEnd<M>>) -> Result<Totals, Gathering<M>>
         ensures ok { IfOk result (λ t. AreEndsOf self.locked.number self.locked.document ends.items
             × (totals_view t ≡ totals_of self.locked.document ends.items)) }
-        ensures err { IfErr result (λ g. (g.doc ≡ self.locked) × (g.ends.items ≡ ends.items)) }
+        ensures err { IfErr result (λ g. (g.doc ≡ self.locked) × (g.ends.items ≡ ends.items)
+            × ((g.refusal ≡ Refusal.NoMemory)
+            ⊎ ((g.refusal ≡ Refusal.ListsDiffer) × ¬ AreEndsOf self.locked.number self.locked.document ends.items))) }
         ensures given_back { IfErr result (λ g. (end : seats.Seat) → ends.items ≡ end ∷ []
             → HasTold self.locked.number self.locked.document end
             → g.refusal ≡ Refusal.NoMemory) }

@@ -2,17 +2,12 @@
 use Rattle.std.specs.Prelude.{◌≡◌, ◌<◌, ℕ, Bool, false, List, ◌++◌, codes}
 use Rattle.std.specs.Fmt.{decimal}
 use Rattle.std.specs.List.{list_any}
-use Rattle.std.specs.Str.{bytes_eq}
-use Rattle.doc_words.specs.Words.{Op}
-use Rattle.copy_docs.specs.Docs.{Doc, log_of}
+use Rattle.copy_docs.specs.Docs.{Doc, is_by, log_of}
 use Rattle.log_copy.specs.Kept.{Kept}
 
 -- NAME-E, the name of the replica that a server is at the start of this number
 abbrev pub replica_name : List ℕ → ℕ → List ℕ
 replica_name name epoch = name ++ (codes "-" ++ decimal epoch)
-
-abbrev pub is_by : List ℕ → Op → Bool
-is_by replica op = bytes_eq op.id.replica replica
 
 -- the replica has made operations in one of the documents of these names
 abbrev pub is_known : List ℕ → List Doc → List (List ℕ) → Bool

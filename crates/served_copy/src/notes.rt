@@ -7,7 +7,10 @@ use log::Log;
 use log_copy::{Fault, LogCopy};
 use op_core::Operation;
 use op_log::{MAX_OPERATIONS, MAX_REPLICAS};
-use server_notes::{Fill, note_nearly_full, note_restored, note_stopped};
+use server_core::Pace;
+use server_notes::{
+    Fill, note_ending, note_going_on, note_lacking, note_nearly_full, note_restored, note_stopped,
+};
 use sqlite::{Alter, ErrorCode};
 use std::time::Clock;
 
@@ -63,7 +66,7 @@ pub(crate) fn note_documents<R: Log + Clock, S: Alter>(rt: &R, copy: &LogCopy<S>
     };
     for name in names {
         match find(docs, name) {
-            Some(at) => note_document(rt, &docs[at]),
+            Some(document) => note_document(rt, document),
             None => note_restored(rt, name, operations(0), replicas(0)),
         }
     }
@@ -78,10 +81,12 @@ fn is_first(operation: &Operation) -> bool {
     !operation.front().covers(first)
 }
 
-// Writes notes about the copying: documents that become nearly full, and why it stopped.
+// Writes notes about the copying: documents that become nearly full, pauses for lack of memory, and
+// why it stopped.
 #[derive(Drop)]
 pub(crate) struct CopyLogger<'a, R> {
     pub(crate) rt: &'a R,
+    pub(crate) pace: Pace,
 }
 
 impl<R: Log + Clock> CopyObserver for CopyLogger<'_, R> {
@@ -104,7 +109,19 @@ impl<R: Log + Clock> CopyObserver for CopyLogger<'_, R> {
         }
     }
 
+    fn lacks_memory(&self) {
+        note_lacking(self.rt);
+    }
+
+    fn goes_on(&self) {
+        note_going_on(self.rt);
+    }
+
     fn stopped(&self, why: &Fault, code: Option<ErrorCode>) {
-        note_stopped(self.rt, &message_of_stop(why, code));
+        let why = message_of_stop(why, code);
+        match self.pace {
+            Pace::Behind(_) => note_stopped(self.rt, &why),
+            Pace::Durable => note_ending(self.rt, &why),
+        }
     }
 }

@@ -6,15 +6,14 @@ ghost use Rattle.sqlite.specs.Held.{state};
 ghost use Rattle.sqlite.specs.State.{HasCleanDisk};
 ghost use Rattle.lamport_id.specs.Name.{is_name};
 ghost use Rattle.copy_schema.specs.Content.{Holds};
-ghost use Rattle.copy_docs.specs.Docs.{log_of};
+ghost use Rattle.copy_docs.specs.Docs.{AreInOrder, is_by, log_of};
 ghost use Rattle.copy_rows.specs.Limits.{last_epoch};
 ghost use Rattle.log_copy.specs.Kept.{content};
-ghost use Rattle.served_copy.specs.Named.{IsRaised, is_by, is_known, replica_name};
+ghost use Rattle.served_copy.specs.Named.{IsRaised, is_known, replica_name};
 
 use copy_docs::{KeptDoc, find};
 use lamport_id::ReplicaName;
 use log_copy::{Fault, LogCopy};
-use op_core::Operation;
 use sqlite::Alter;
 use std::alloc::Global;
 
@@ -33,32 +32,20 @@ fn replica_at(alloc: Global, name: &str, epoch: u64) -> Result<ReplicaName, Faul
     }
 }
 
-// Whether the replica made the operation.
-fn is_by(op: &Operation, replica: &ReplicaName) -> bool
-    ensures { result ≡ is_by replica.now op.now }
-{
-    op.id().replica == *replica
-}
-
-// Whether one of the operations is the replica's.
-fn is_maker(ops: &[Operation], replica: &ReplicaName) -> bool
-    ensures { result ≡ list_any (is_by replica.now) ops.now }
-{
-    ops.iter().any(|op| is_by(op, replica))
-}
-
 // Whether the copy has operations of the replica in the document of this name.
 fn is_known_in(docs: &[KeptDoc], name: &str, replica: &ReplicaName) -> bool
+    requires { AreInOrder docs.now }
     ensures { result ≡ list_any (is_by replica.now) (log_of name.now docs.now) }
 {
     match find(docs, name) {
-        Some(at) => is_maker(docs[at].entries(), replica),
+        Some(doc) => doc.is_maker(replica),
         None => false,
     }
 }
 
 // Whether the copy has operations of the replica in one of these documents.
 fn is_known(docs: &[KeptDoc], names: &[&str], replica: &ReplicaName) -> bool
+    requires { AreInOrder docs.now }
     ensures { result ≡ is_known replica.now docs.now (map (λ s. s.now) names.now) }
 {
     for name in names {

@@ -11,7 +11,7 @@ use lamport_id::ReplicaName;
 use line_proto::Name;
 use locked_doc::{LockedDoc, Shelf};
 use log_copy::{Fault, LogCopy};
-use server_core::{SharedDocuments, Signal};
+use server_core::{Pace, Progress, SharedDocuments, Signal};
 use share_ledger::Marker;
 use sqlite::Alter;
 use std::alloc::Global;
@@ -127,15 +127,21 @@ pub fn restore_documents<M: Marker, S: Alter>(
     Ok(RestoredDocuments { names: made, docs })
 }
 
-/// Puts the documents behind locks, in order. The one error is `NoMemory`.
+/// Puts the documents behind locks, in order. Replies to changes of them go out at this pace. The one
+/// error is `NoMemory`.
 pub fn share_documents<M: Marker>(
     alloc: Global,
     restored: RestoredDocuments<M>,
+    pace: Pace,
 ) -> Result<SharedDocuments<M>, Refusal>
     ensures names { IfOk result (λ shared. shared.names.items ≡ restored.names.items) }
+    ensures pace { IfOk result (λ shared. shared.progress.pace ≡ pace) }
     ensures memory { IfErr result (λ cause. cause ≡ Refusal.NoMemory) }
 {
     let RestoredDocuments { names, docs } = restored;
+    let Ok(progress) = Progress::new(alloc, names.len(), pace) else {
+        return Err(Refusal::NoMemory);
+    };
     let mut shelf = Shelf::new(alloc);
     for doc in docs {
         if shelf.put(doc).is_err() {
@@ -146,5 +152,6 @@ pub fn share_documents<M: Marker>(
         names,
         shelf,
         signal: Signal::new(),
+        progress,
     })
 }

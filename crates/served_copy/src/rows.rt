@@ -1,5 +1,6 @@
 //! Whether the stored log has all operations that sessions logged.
 ghost use Rattle.std.specs.Prelude.{◌≡◌, ◌↔◌, length, map, IsTrue};
+ghost use Rattle.copy_docs.specs.Docs.{AreInOrder};
 ghost use Rattle.served_copy.specs.Totals.{AreStored, IsStored};
 
 use copy_docs::{KeptDoc, count};
@@ -9,6 +10,7 @@ use sqlite::Alter;
 
 // Whether all operations of the document of this name are stored, and are counted as copied.
 fn is_stored(docs: &[KeptDoc], name: &str, totals: &Totals) -> bool
+    requires { AreInOrder docs.now }
     ensures { IsTrue result ↔ IsStored docs.now name.now totals.now }
 {
     let rows = count(docs, name) as u64;
@@ -17,7 +19,8 @@ fn is_stored(docs: &[KeptDoc], name: &str, totals: &Totals) -> bool
 
 // Whether that holds of each document, in order.
 fn are_stored(docs: &[KeptDoc], names: &[&str], totals: &[Totals]) -> bool
-    requires { length totals.now ≡ length names.now }
+    requires order { AreInOrder docs.now }
+    requires each { length totals.now ≡ length names.now }
     ensures { IsTrue result ↔ AreStored docs.now (map (λ s. s.now) names.now) totals.now }
 {
     for i in 0..names.len() {

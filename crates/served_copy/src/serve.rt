@@ -25,7 +25,7 @@ use lamport_id::ReplicaName;
 use locked_doc::Totals;
 use log::Log;
 use log_copy::{Fault, LogCopy};
-use server_core::{Connect, Gathered, OpenGate, SharedDocuments, run_sessions};
+use server_core::{Connect, Gathered, OpenGate, Pace, SharedDocuments, run_sessions};
 use server_notes::{note_ended, note_serving};
 use share_ledger::{Blank, Marker};
 use sqlite::Alter;
@@ -103,7 +103,8 @@ fn serve_with_copier<
     ensures each { IfOk result.0 (λ g. vec_len g.totals ≡ length shared.names.items) }
     ensures left { (OnOk result.0 ⊥ × (copy.new ≡ copy.old)) ⊎ HasCopied shared.names.items copy.old copy.new result.1 }
 {
-    let logger = CopyLogger { rt };
+    let pace = shared.progress.pace();
+    let logger = CopyLogger { rt, pace };
     let copier = Copier::new(copy, &logger);
     let mut ran = Err(Failure::Memory(Step::Begin));
     let copier = run_beside_copier(rt, alloc, shared, connections, copier, &mut ran);
@@ -149,6 +150,7 @@ fn serve_documents<
     alloc: Global,
     restored: RestoredDocuments<M>,
     names: &[&str],
+    pace: Pace,
     connections: Vec<C>,
     copy: &mut LogCopy<S>,
     out: &mut W,
@@ -163,7 +165,7 @@ fn serve_documents<
     ensures grown { copy.new.has_failed ≡ false → AddsBatches (map (λ s. s.now) names.now) copy.old copy.new }
     ensures alone { copy.new.is_alone ≡ copy.old.is_alone }
 {
-    let Ok(shared) = share_documents(alloc, restored) else {
+    let Ok(shared) = share_documents(alloc, restored, pace) else {
         return Err(Failure::Memory(Step::Restore));
     };
     let (ran, fault) = serve_with_copier(rt, alloc, shared, connections, copy);
@@ -192,6 +194,7 @@ pub(crate) fn restore_and_serve<
     name: &[u8],
     replica: &ReplicaName,
     documents: &[&str],
+    pace: Pace,
     connections: Vec<C>,
     copy: &mut LogCopy<S>,
     out: &mut W,
@@ -214,7 +217,7 @@ pub(crate) fn restore_and_serve<
     match restore_documents(alloc, &mut ledger, copy, replica, documents, seats) {
         Ok(restored) => {
             note_documents(rt, copy, documents);
-            serve_documents(rt, alloc, restored, documents, connections, copy, out)
+            serve_documents(rt, alloc, restored, documents, pace, connections, copy, out)
         }
         Err(fault) => Err(Failure::of_restoring(fault, copy)),
     }
@@ -222,7 +225,7 @@ pub(crate) fn restore_and_serve<
 
 /// Starts a new epoch of the copy, restores the documents of these names from it, serves the
 /// connections over them, one session each, stores what they log meanwhile, and writes the totals
-/// at the end.
+/// at the end. Replies to changes go out at this pace.
 ///
 /// The failure says why it did not. If the copy was refused (no epoch is left, or the name is too
 /// long), it also writes the refusal. If the copy fails while sessions run, they go on, and the
@@ -232,6 +235,7 @@ pub fn start_and_serve<R: Threads + Wait + Sync + Log + Clock, C: Connect, S: Al
     alloc: Global,
     name: &str,
     documents: &[&str],
+    pace: Pace,
     connections: Vec<C>,
     copy: &mut LogCopy<S>,
     out: &mut W,
@@ -252,6 +256,7 @@ pub fn start_and_serve<R: Threads + Wait + Sync + Log + Clock, C: Connect, S: Al
             name.as_bytes(),
             &replica,
             documents,
+            pace,
             connections,
             copy,
             out,
@@ -270,6 +275,7 @@ pub fn serve_over<R: Threads + Wait + Sync + Log + Clock, C: Connect, S: Alter, 
     alloc: Global,
     name: &str,
     documents: &[&str],
+    pace: Pace,
     connections: Vec<C>,
     copy: &mut LogCopy<S>,
     out: &mut W,
@@ -282,7 +288,7 @@ pub fn serve_over<R: Threads + Wait + Sync + Log + Clock, C: Connect, S: Alter, 
     ensures kept { copy.new.has_failed ≡ false → KeepsRows (map (λ s. s.now) documents.now) copy.old copy.new }
     ensures alone { copy.new.is_alone ≡ copy.old.is_alone }
 {
-    match start_and_serve(rt, alloc, name, documents, connections, copy, out) {
+    match start_and_serve(rt, alloc, name, documents, pace, connections, copy, out) {
         Ok(()) => 0,
         Err(_) => 1,
     }

@@ -14,7 +14,7 @@ use crate::serve::restore_and_serve;
 use lamport_id::ReplicaName;
 use log::Log;
 use log_copy::{Foldable, LogCopy};
-use server_core::Connect;
+use server_core::{Connect, Pace};
 use share_ledger::Blank;
 use sqlite::{Alter, ErrorCode};
 use std::alloc::Global;
@@ -84,6 +84,7 @@ fn fold_and_serve<
     name: &str,
     replica: &ReplicaName,
     documents: &[&str],
+    pace: Pace,
     connections: Vec<C>,
     copy: LogCopy<S>,
     out: &mut W,
@@ -108,6 +109,7 @@ fn fold_and_serve<
                 name.as_bytes(),
                 replica,
                 documents,
+                pace,
                 connections,
                 &mut copy,
                 out,
@@ -125,7 +127,7 @@ fn fold_and_serve<
 
 /// Starts a new epoch of the stored log and folds it into the database file. Then it restores the
 /// documents of these names, serves the connections over them, one session each, stores what they
-/// log meanwhile, and writes the totals at the end. However it ends, it closes the log. So the
+/// log meanwhile, and writes the totals at the end. Replies to changes go out at this pace. However it ends, it closes the log. So the
 /// database file alone has the epoch before anything is served, and all of the log at the end.
 pub fn serve_stored<
     R: Threads + Wait + Sync + Log + Clock,
@@ -137,6 +139,7 @@ pub fn serve_stored<
     alloc: Global,
     name: &str,
     documents: &[&str],
+    pace: Pace,
     connections: Vec<C>,
     copy: LogCopy<S>,
     out: &mut W,
@@ -151,7 +154,17 @@ pub fn serve_stored<
 {
     let mut copy = copy;
     match next_replica_name(alloc, &mut copy, name, documents) {
-        Ok(replica) => fold_and_serve(rt, alloc, name, &replica, documents, connections, copy, out),
+        Ok(replica) => fold_and_serve(
+            rt,
+            alloc,
+            name,
+            &replica,
+            documents,
+            pace,
+            connections,
+            copy,
+            out,
+        ),
         Err(fault) => {
             // Where the writer fails nothing more can be written.
             let _ = report_fault(fault, out);

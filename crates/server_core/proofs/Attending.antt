@@ -1,10 +1,16 @@
 -- What became of connections, one after another.
-use Rattle.std.proofs.Common.{◌≡◌, ℕ, List, [], ◌∷◌, ◌++◌, map, Option, Some, None, IfSome, MatchOption, refl, sym, ap, ◌∙◌, subst, append_assoc, append-nil}
+use Rattle.std.proofs.Common.{◌≡◌, ℕ, List, [], ◌∷◌, ◌++◌, map, Option, Some, None, Result, IfOk, IfSome, MatchOption, refl, sym, ap, ◌∙◌, subst, append_assoc, append-nil}
 use Rattle.std.proofs.lemmas.List.{map-append}
 use Rattle.std.specs.List.{AllZip}
 use Rattle.doc_rules.specs.Seats as seats
 use Rattle.session_rules.specs.declared.Ending.{Ending}
-use Rattle.server_core.specs.Attended.{AreAttended, Bytes, IsAttended}
+use Rattle.std.specs.Option.{option_map}
+use Rattle.std.proofs.lemmas.Result.{IfOk-weaker}
+use Rattle.session_rules.specs.Session.{OpenDocument}
+use Rattle.session_rules.specs.Shelf.{begins_at_shelf, shared}
+use Rattle.session_core.specs.Ended.{Ends}
+use Rattle.server_core.specs.Ends.{AreSeatEnds}
+use Rattle.server_core.specs.Attended.{AreAttended, Bytes, IsAttended, IsEndedSession}
 
 -- one more behind them
 pub one_attended : (names : List (List ℕ)) (all : List (Bytes)) (endings : List (Option Ending)) (sessions : List (List (Option seats.Seat)))
@@ -110,3 +116,23 @@ all_joined {C} {B} bytes_of R names all rest endings sessions so_far none = by s
     by : (left : List C) → all ≡ so_far.done ++ left → AllZip R left [] → AreAttended names (map bytes_of all) endings sessions
     by [] parts promised = subst (λ xs. AreAttended names (map bytes_of xs) endings sessions) (sym (parts ∙ append-nil so_far.done)) so_far.attended
     by (c ∷ left) parts promised = absurd promised
+
+-- what an outbox has taken at first: what its device has
+pub outbox_begins : (o p : Option (List ℕ)) (kept : List ℕ) → kept ≡ [] → o ≡ p → option_map (λ taken. taken ++ kept) o ≡ p
+outbox_begins None p kept none same = same
+outbox_begins (Some xs) p kept none same = ap (λ ys. Some (xs ++ ys)) none ∙ ap Some (append-nil xs) ∙ same
+
+-- a session over a sink that begins with what the device of its connection has
+pub ended_over : {X E : Type 0} (names : List (List ℕ)) (source has held holds sink : Option (List ℕ)) (why_of : X → Ending) (ends_of : X → List (Option seats.Seat)) (r : Result X E)
+    → held ≡ sink
+    → IfOk r (λ x. (opened : List OpenDocument) × Ends (shared names) begins_at_shelf source has held holds (why_of x) (record { documents = tt; opened = opened })
+    × AreSeatEnds names opened (ends_of x))
+    → IfOk r (λ x. IsEndedSession names (record { source = source; sink = sink }) (why_of x) (ends_of x))
+ended_over names source has held holds sink why_of ends_of r same is =
+    IfOk-weaker r _ _ (λ x ended. record {
+      has = has;
+      holds = holds;
+      opened = ended.0;
+      session = subst (λ b. Ends (shared names) begins_at_shelf source has b holds (why_of x) (record { documents = tt; opened = ended.0 })) same ended.1;
+      given_back = ended.2;
+    }) is

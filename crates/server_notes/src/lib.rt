@@ -1,15 +1,23 @@
 //! Notes of a server on standard error: one line each, with the time.
 //!
-//! A lost note changes nothing: no call here answers anything, and none allocates.
+//! A lost note changes nothing: no call here answers anything, and none allocates. `Notes` never
+//! waits for standard error.
 #![tactic(auto)]
+
+mod notes;
+mod plain;
+mod standard_error;
 
 use jiff::Timestamp;
 use log::{Level, Log, log};
+pub use notes::Notes;
+pub use plain::{Plain, PlainLines};
+pub use standard_error::StandardError;
 use std::fmt::Display;
 use std::time::Clock;
 
 // The time of a clock in whole seconds, if it has one.
-fn time_of<R: Clock>(rt: &R) -> Option<Timestamp> {
+pub(crate) fn time_of<R: Clock>(rt: &R) -> Option<Timestamp> {
     let now = Timestamp::now(rt).ok()?;
     Timestamp::from_second(now.as_second()).ok()
 }
@@ -23,13 +31,40 @@ fn note<R: Log + Clock, W: Display>(rt: &R, level: Level, what: &W) {
 
 /// Notes that a file was made, since there was none.
 pub fn note_made<R: Log + Clock>(rt: &R, path: &str) {
-    note(rt, Level::Info, &format_args!("made a new file {path}"));
+    note(
+        rt,
+        Level::Info,
+        &format_args!("made a new file {}", Plain(path)),
+    );
 }
 
 /// Notes that a start has folded what another run left in the write-ahead log of the file at this
 /// path.
 pub fn note_took_over<R: Log + Clock>(rt: &R, path: &str) {
-    note(rt, Level::Info, &format_args!("took over {path}-wal"));
+    note(
+        rt,
+        Level::Info,
+        &format_args!("took over {}-wal", Plain(path)),
+    );
+}
+
+/// Warns that the write-ahead log beside the file at this path held nothing that could be read: the
+/// start has not read it, and writes over it.
+pub fn note_log_unread<R: Log + Clock>(rt: &R, path: &str) {
+    let what = format_args!(
+        "{}-wal held no changes of the file: it was not read",
+        Plain(path)
+    );
+    note(rt, Level::Warn, &what);
+}
+
+/// Warns of the most bytes that a file may have. The system ends a process that writes more, unless
+/// it ignores the signal SIGXFSZ.
+pub fn note_file_limit<R: Log + Clock>(rt: &R, bytes: u64) {
+    let what = format_args!(
+        "a file may have at most {bytes} bytes here (ulimit -f): the system ends a server that writes more"
+    );
+    note(rt, Level::Warn, &what);
 }
 
 /// Notes where the server listens.
@@ -88,12 +123,42 @@ pub fn note_unconnected<R: Log + Clock, E: Display>(rt: &R, begun: u64, sessions
     note(rt, Level::Warn, &what);
 }
 
+/// Warns that so many sessions have no thread, of how many. They count as ones that have ended.
+pub fn note_no_thread<R: Log + Clock>(rt: &R, without: u64, sessions: u16) {
+    let what = format_args!(
+        "{without} of {sessions} sessions have no thread: memory or the limit of threads is used up"
+    );
+    note(rt, Level::Warn, &what);
+}
+
 /// Warns that copying has stopped, and why. Sessions go on.
 pub fn note_stopped<R: Log + Clock, F: Display>(rt: &R, why: &F) {
     let what = format_args!(
         "copying stopped: {why}; what is accepted from now on is in memory only: exchange with a peer before you stop"
     );
     note(rt, Level::Warn, &what);
+}
+
+/// Warns that copying has stopped, and why, where no change is answered that isn't in the file.
+pub fn note_ending<R: Log + Clock, F: Display>(rt: &R, why: &F) {
+    let what = format_args!(
+        "copying stopped: {why}; a session with --durable ends at its next change, which is not answered"
+    );
+    note(rt, Level::Warn, &what);
+}
+
+/// Warns that copying pauses for lack of memory, and is tried again.
+pub fn note_lacking<R: Log + Clock>(rt: &R) {
+    note(
+        rt,
+        Level::Warn,
+        &"copying pauses: out of memory; it is tried again",
+    );
+}
+
+/// Notes that copying goes on after such a pause.
+pub fn note_going_on<R: Log + Clock>(rt: &R) {
+    note(rt, Level::Info, &"copying goes on");
 }
 
 /// Notes that all sessions have ended.

@@ -2,10 +2,10 @@
 ghost use Rattle.std.specs.Prelude.{◌≡◌, length, IfOk};
 
 use crate::keep_alive::keep_alive;
-use line_feed::{DeviceFault, Outbox, Reader, Writer};
+use line_feed::{DeviceFault, Reader, Writer};
 use log::Log;
 use server_core::Connect;
-use server_notes::{note_begun, note_unconnected};
+use server_notes::{note_begun, note_no_thread, note_unconnected};
 use std::alloc::{AllocError, Global};
 use std::io;
 use std::io::Read;
@@ -58,6 +58,9 @@ pub struct Entrance<'a, R> {
     listener: &'a TcpListener,
     sessions: u16,
     begun: AtomicU64,
+    // How many were dropped before they began, and how many of these a note has told.
+    without_thread: AtomicU64,
+    told: AtomicU64,
 }
 
 impl<'a, R: Log + Clock> Entrance<'a, R> {
@@ -68,6 +71,24 @@ impl<'a, R: Log + Clock> Entrance<'a, R> {
             listener,
             sessions,
             begun: AtomicU64::new(0),
+            without_thread: AtomicU64::new(0),
+            told: AtomicU64::new(0),
+        }
+    }
+
+    // Counts a session that was dropped before it began. A note tells of the first at once: threads
+    // are started one after the other, so most that follow have none either.
+    fn count_without_thread(&self) {
+        if self.without_thread.fetch_add(1, Ordering::SeqCst) == 0 {
+            self.tell_without_thread();
+        }
+    }
+
+    // Notes how many sessions have no thread, if they are more than a note has told.
+    fn tell_without_thread(&self) {
+        let without = self.without_thread.load(Ordering::SeqCst);
+        if self.told.swap(without, Ordering::SeqCst) != without {
+            note_no_thread(self.rt, without, self.sessions);
         }
     }
 
@@ -78,7 +99,9 @@ impl<'a, R: Log + Clock> Entrance<'a, R> {
 
     // Waits for the next connection, which begins a session. A note says so, or why there is none.
     fn accept(&self) -> Option<TcpStream> {
-        match self.listener.accept() {
+        let accepted = self.listener.accept();
+        self.tell_without_thread();
+        match accepted {
             Ok((stream, from)) => {
                 note_begun(self.rt, self.begin(), self.sessions, &from);
                 Some(stream)
@@ -91,22 +114,27 @@ impl<'a, R: Log + Clock> Entrance<'a, R> {
     }
 }
 
-/// The next connection of a listener that sessions share.
-#[derive(Drop)]
-pub struct Accepting<'a, R> {
-    /// Where it comes from.
-    pub entrance: &'a Entrance<'a, R>,
-    /// Allocates the buffer of its replies.
-    pub alloc: Global,
+/// The next connection of a listener that sessions share. One that is dropped before it is opened
+/// counts as a session without a thread.
+pub struct Accepting<'a, R: Log + Clock> {
+    entrance: &'a Entrance<'a, R>,
+}
+
+impl<R: Log + Clock> Drop for Accepting<'_, R> {
+    fn drop(self) {
+        self.entrance.count_without_thread();
+        let Accepting { entrance: _ } = self;
+    }
 }
 
 impl<R: Log + Clock + Sync> Connect for Accepting<'_, R> {
     type Source = Reader<Sent>;
 
-    type Sink = Outbox<Writer<TcpStream>>;
+    type Sink = Writer<TcpStream>;
 
-    fn open(self) -> Result<(Reader<Sent>, Outbox<Writer<TcpStream>>), DeviceFault> {
-        let Some(stream) = self.entrance.accept() else {
+    fn open(self) -> Result<(Reader<Sent>, Writer<TcpStream>), DeviceFault> {
+        let Accepting { entrance } = self;
+        let Some(stream) = entrance.accept() else {
             return Err(DeviceFault);
         };
         keep_alive(&stream);
@@ -116,8 +144,7 @@ impl<R: Log + Clock + Sync> Connect for Accepting<'_, R> {
         let Ok(other) = stream.try_clone() else {
             return Err(DeviceFault);
         };
-        let sink = Outbox::new(self.alloc, Writer::new(other));
-        Ok((Reader::new(Sent { stream }), sink))
+        Ok((Reader::new(Sent { stream }), Writer::new(other)))
     }
 }
 
@@ -129,9 +156,10 @@ pub fn connections<'a, R: Log + Clock>(
 ) -> Result<Vec<Accepting<'a, R>>, AllocError>
     ensures { IfOk result (λ all. length all.items ≡ sessions) }
 {
-    let mut all = Vec::new(alloc);
+    // All room at once: none is dropped for want of memory when others are made already.
+    let mut all = Vec::with_capacity(alloc, usize::from(sessions))?;
     for _ in 0..sessions {
-        all.push(Accepting { entrance, alloc })?;
+        all.push(Accepting { entrance })?;
     }
     Ok(all)
 }

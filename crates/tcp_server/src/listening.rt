@@ -4,7 +4,7 @@ ghost use Rattle.std.specs.IoError.{error_kind};
 ghost use Rattle.tcp_server.specs.Listening.{WritesAddress, hint};
 
 use log::Log;
-use server_notes::note_listening;
+use server_notes::{Plain, note_listening};
 use std::alloc::Global;
 use std::io;
 use std::io::ErrorKind;
@@ -34,6 +34,7 @@ pub fn hint_of(error: &io::Error) -> &'static str
 // Reports on standard error why the address can't be listened at. An error there changes nothing.
 fn report_bind_error<R: Eprint>(rt: &R, address: &str, error: &io::Error) {
     let hint = hint_of(error);
+    let address = Plain(address);
     let _ = rt.eprintln(format_args!("jcrdt: cannot listen at {address}: {error}{hint}"));
 }
 
@@ -46,11 +47,12 @@ fn report_write_error<R: Eprint>(rt: &R, error: &io::Error) {
 }
 
 // A listener at the address, and where it listens. Standard error says why there is none.
-fn bind<R: Net<Listener = TcpListener, Stream = TcpStream> + Eprint>(
+fn bind<N: Net<Listener = TcpListener, Stream = TcpStream>, R: Eprint>(
+    net: &N,
     rt: &R,
     address: &str,
 ) -> Option<(TcpListener, SocketAddr)> {
-    match TcpListener::bind(rt, address) {
+    match TcpListener::bind(net, address) {
         Ok(listener) => match listener.local_addr() {
             Ok(at) => Some((listener, at)),
             Err(error) => {
@@ -67,14 +69,15 @@ fn bind<R: Net<Listener = TcpListener, Stream = TcpStream> + Eprint>(
 
 /// Listens at the address, and writes where. None where it can't be listened at, where the writer
 /// fails, or where memory runs out; standard error says why. No clause can say that it listens at
-/// this address.
+/// this address. `net` is the host itself: one with notes of its own looks no name up.
 pub fn listen<
-    R: Net<Listener = TcpListener, Stream = TcpStream> + Eprint + Log + Clock,
+    N: Net<Listener = TcpListener, Stream = TcpStream>,
+    R: Eprint + Log + Clock,
     W: io::Write,
->(rt: &R, alloc: Global, address: &str, out: &mut W) -> Option<TcpListener>
+>(net: &N, rt: &R, alloc: Global, address: &str, out: &mut W) -> Option<TcpListener>
     ensures { IfSome result (λ listener. WritesAddress (W.contents out.old) (W.contents out.new)) }
 {
-    let (listener, at) = bind(rt, address)?;
+    let (listener, at) = bind(net, rt, address)?;
     match write_address(alloc, at, out) {
         Ok(()) => {
             note_listening(rt, &at);

@@ -14,7 +14,7 @@ fn is_no_address<R: Net<Listener = TcpListener, Stream = TcpStream> + Eprint + L
     address: &str,
 ) -> bool {
     let mut out = Vec::<u8>::new(alloc);
-    let listener = listen(rt, alloc, address, &mut out);
+    let listener = listen(rt, rt, alloc, address, &mut out);
     let hint = match TcpListener::bind(rt, address) {
         Ok(_) => "",
         Err(error) => hint_of(&error),

@@ -3,12 +3,13 @@
 use super::checks::{bytes_are, counts, holds};
 use super::disks::new_files;
 use super::files::done_in_files;
-use super::serving::{Start, started};
+use super::serving::{Start, started, started_at};
 use super::watched::faults_seen;
 use copy_report::check_over;
 use line_feed::Writer;
 use log::Log;
 use log_copy::LogCopy;
+use server_core::Pace;
 use sqlite::{Alter, Connection};
 use std::alloc::{AllocError, Global};
 use std::process::Abort;
@@ -21,6 +22,8 @@ use std::time::Clock;
 pub enum Deed<'a> {
     /// A server starts, serves, and ends.
     Serves(Start<'a>),
+    /// The same, and a change is answered once it is in the copy.
+    ServesDurably(Start<'a>),
     /// A check of it prints this.
     Holds(&'a [u8]),
     /// A copier copies a document to it beside so many sessions, none of which ends, and reports
@@ -67,6 +70,17 @@ fn done<R: Threads + Wait + Abort + Sync + Log + Clock, S: Alter>(
 ) -> Result<(), AllocError> {
     match deed {
         Deed::Serves(start) => started(rt, alloc, case.name, case.documents, start, copy)?,
+        Deed::ServesDurably(start) => {
+            started_at(
+                rt,
+                alloc,
+                case.name,
+                case.documents,
+                start,
+                Pace::Durable,
+                copy,
+            )?;
+        }
         Deed::Holds(report) => prints(rt, alloc, case.name, copy, report),
         Deed::Copies(sessions, faults) => {
             let found = faults_seen(rt, alloc, *sessions, copy)?;

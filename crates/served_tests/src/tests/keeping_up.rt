@@ -33,6 +33,10 @@ impl CopyObserver for CountsRows<'_> {
         self.rows.fetch_add(entries.len() as u64, Ordering::SeqCst);
     }
 
+    fn lacks_memory(&self) {}
+
+    fn goes_on(&self) {}
+
     fn stopped(&self, _why: &Fault, _code: Option<ErrorCode>) {}
 }
 

@@ -2,8 +2,9 @@
 use log::sink::Memory;
 use log::{Level, Log, Logged};
 use server_notes::{
-    Fill, note_begun, note_ended, note_listening, note_made, note_nearly_full, note_restored,
-    note_serving, note_stopped, note_took_over, note_unconnected,
+    Fill, Plain, PlainLines, note_begun, note_ended, note_ending, note_file_limit, note_going_on,
+    note_lacking, note_listening, note_log_unread, note_made, note_nearly_full, note_no_thread,
+    note_restored, note_serving, note_stopped, note_took_over, note_unconnected,
 };
 use std::alloc::{Alloc, AllocError};
 use std::io;
@@ -30,9 +31,11 @@ impl Clock for Stopped {
 }
 
 // What each note says, in the order in which they are written below.
-const NOTES: [&str; 11] = [
+const NOTES: [&str; 17] = [
     "[INFO  jcrdt] 2025-11-24T16:00:00Z made a new file a.db",
-    "[INFO  jcrdt] 2025-11-24T16:00:00Z took over a.db-wal",
+    "[INFO  jcrdt] 2025-11-24T16:00:00Z took over a\\u{1b}.db-wal",
+    "[WARN  jcrdt] 2025-11-24T16:00:00Z a.db-wal held no changes of the file: it was not read",
+    "[WARN  jcrdt] 2025-11-24T16:00:00Z a file may have at most 4096 bytes here (ulimit -f): the system ends a server that writes more",
     "[INFO  jcrdt] 2025-11-24T16:00:00Z listening at 127.0.0.1:7001",
     "[INFO  jcrdt] 2025-11-24T16:00:00Z serving as srv-2",
     "[INFO  jcrdt] 2025-11-24T16:00:00Z restored d: 12 of 100000 operations, 3 of 256 replicas",
@@ -40,14 +43,20 @@ const NOTES: [&str; 11] = [
     "[WARN  jcrdt] 2025-11-24T16:00:00Z d is nearly full: 231 of 256 replicas",
     "[INFO  jcrdt] 2025-11-24T16:00:00Z session 3 of 16 begins, from 127.0.0.1:50123",
     "[WARN  jcrdt] 2025-11-24T16:00:00Z session 4 of 16 has no connection: too many open files",
+    "[WARN  jcrdt] 2025-11-24T16:00:00Z 5 of 16 sessions have no thread: memory or the limit of threads is used up",
     "[WARN  jcrdt] 2025-11-24T16:00:00Z copying stopped: the disk is full; what is accepted from now on is in memory only: exchange with a peer before you stop",
+    "[WARN  jcrdt] 2025-11-24T16:00:00Z copying stopped: the disk is full; a session with --durable ends at its next change, which is not answered",
+    "[WARN  jcrdt] 2025-11-24T16:00:00Z copying pauses: out of memory; it is tried again",
+    "[INFO  jcrdt] 2025-11-24T16:00:00Z copying goes on",
     "[INFO  jcrdt] 2025-11-24T16:00:00Z all sessions have ended",
 ];
 
 // Notes of a start.
 fn note_start<R: Log + Clock>(rt: &R) {
     note_made(rt, "a.db");
-    note_took_over(rt, "a.db");
+    note_took_over(rt, "a\u{1b}.db");
+    note_log_unread(rt, "a.db");
+    note_file_limit(rt, 4096);
     note_listening(rt, &"127.0.0.1:7001");
     note_serving(rt, "srv-2");
     note_restored(rt, "d", fill(12, 100_000), fill(3, 256));
@@ -59,7 +68,11 @@ fn note_start<R: Log + Clock>(rt: &R) {
 fn note_sessions<R: Log + Clock>(rt: &R) {
     note_begun(rt, 3, 16, &"127.0.0.1:50123");
     note_unconnected(rt, 4, 16, &"too many open files");
+    note_no_thread(rt, 5, 16);
     note_stopped(rt, &"the disk is full");
+    note_ending(rt, &"the disk is full");
+    note_lacking(rt);
+    note_going_on(rt);
     note_ended(rt);
 }
 
@@ -74,6 +87,16 @@ fn notes_have_the_time(rt: HostRuntime) -> Result<(), AllocError> {
     for (line, want) in lines.iter().zip(NOTES.iter()) {
         assert_eq!(rt; line.as_str(), *want);
     }
+    Ok(())
+}
+
+#[test]
+fn control_characters_are_escaped(rt: HostRuntime) -> Result<(), AllocError> {
+    let text = "a\u{1b}[2J\n\u{9b}é";
+    let line = format!(in rt.alloc(); "{}", Plain(text))?;
+    assert_eq!(rt; line.as_str(), "a\\u{1b}[2J\\n\\u{9b}é");
+    let lines = format!(in rt.alloc(); "{}", PlainLines(text))?;
+    assert_eq!(rt; lines.as_str(), "a\\u{1b}[2J\n\\u{9b}é");
     Ok(())
 }
 

@@ -4,6 +4,7 @@ use super::checks::{bytes_are, counts};
 use log::Log;
 use log_copy::LogCopy;
 use served_copy::serve_over;
+use server_core::Pace;
 use server_core::doubles::Script;
 use sqlite::Alter;
 use std::alloc::{AllocError, Global};
@@ -87,6 +88,7 @@ pub fn serve_scripts<R: Threads + Wait + Sync + Log + Clock, S: Alter>(
     alloc: Global,
     name: &str,
     documents: &[&str],
+    pace: Pace,
     scripts: Vec<Script<'_, R>>,
     copy: &mut LogCopy<S>,
 ) -> (u8, Vec<u8>) {
@@ -94,7 +96,7 @@ pub fn serve_scripts<R: Threads + Wait + Sync + Log + Clock, S: Alter>(
     if documents.len() > 16 {
         return (2, totals);
     }
-    let status = serve_over(rt, alloc, name, documents, scripts, copy, &mut totals);
+    let status = serve_over(rt, alloc, name, documents, pace, scripts, copy, &mut totals);
     (status, totals)
 }
 
@@ -104,11 +106,12 @@ fn serve<R: Threads + Wait + Sync + Log + Clock, S: Alter>(
     alloc: Global,
     documents: &[&str],
     start: &Start<'_>,
+    pace: Pace,
     copy: &mut LogCopy<S>,
 ) -> Result<Served, AllocError> {
     let replies = Mutex::new(Vec::new(alloc));
     let scripts = scripts_of(rt, alloc, start.sessions, &replies)?;
-    let (status, totals) = serve_scripts(rt, alloc, start.server, documents, scripts, copy);
+    let (status, totals) = serve_scripts(rt, alloc, start.server, documents, pace, scripts, copy);
     Ok(Served {
         status,
         totals,
@@ -131,7 +134,22 @@ fn did<R: Abort>(rt: &R, case: &str, served: &Served, start: &Start<'_>) {
     }
 }
 
-/// Starts a server over the copy, which does what is expected.
+/// Starts a server of this pace over the copy, which does what is expected.
+pub fn started_at<R: Threads + Wait + Abort + Sync + Log + Clock, S: Alter>(
+    rt: &R,
+    alloc: Global,
+    case: &str,
+    documents: &[&str],
+    start: &Start<'_>,
+    pace: Pace,
+    copy: &mut LogCopy<S>,
+) -> Result<(), AllocError> {
+    let served = serve(rt, alloc, documents, start, pace, copy)?;
+    did(rt, case, &served, start);
+    Ok(())
+}
+
+/// The same of a server that replies at once.
 pub fn started<R: Threads + Wait + Abort + Sync + Log + Clock, S: Alter>(
     rt: &R,
     alloc: Global,
@@ -140,7 +158,5 @@ pub fn started<R: Threads + Wait + Abort + Sync + Log + Clock, S: Alter>(
     start: &Start<'_>,
     copy: &mut LogCopy<S>,
 ) -> Result<(), AllocError> {
-    let served = serve(rt, alloc, documents, start, copy)?;
-    did(rt, case, &served, start);
-    Ok(())
+    started_at(rt, alloc, case, documents, start, Pace::Behind(4096), copy)
 }

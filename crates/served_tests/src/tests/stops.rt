@@ -25,7 +25,7 @@ const THREE_REPLIES: &[u8] = br#"["opened",1]
 ["applied",1,0,[3,"srv-1"]]
 "#;
 
-static STOPS: [Stop; 3] = [
+static STOPS: [Stop; 5] = [
     // The start takes 28 calls, and the first batch ten or so more.
     Stop {
         calls: 30,
@@ -48,6 +48,37 @@ static STOPS: [Stop; 3] = [
             name: "disk_that_never_stops",
             documents: &["d"],
             deeds: &[Deed::Serves(Start {
+                server: "srv",
+                sessions: &[THREE_WHOLE],
+                status: 0,
+                totals: b"[\"total\",\"d\",3,3,3]\n",
+                replies: Some(THREE_REPLIES),
+            })],
+        },
+        after: &[Deed::Holds(b"[\"doc\",\"d\",3,[[\"srv-1\",3]]]\n[\"epoch\",1]\n")],
+    },
+    // What isn't in the file is not answered, and nothing behind it.
+    Stop {
+        calls: 30,
+        case: Case {
+            name: "disk_that_stops_while_serving_durably",
+            documents: &["d"],
+            deeds: &[Deed::ServesDurably(Start {
+                server: "srv",
+                sessions: &[THREE_WHOLE],
+                status: 1,
+                totals: b"[\"total\",\"d\",3,3,0]\n",
+                replies: Some(b""),
+            })],
+        },
+        after: &[Deed::Holds(b"[\"epoch\",1]\n")],
+    },
+    Stop {
+        calls: u64::MAX,
+        case: Case {
+            name: "disk_that_never_stops_serving_durably",
+            documents: &["d"],
+            deeds: &[Deed::ServesDurably(Start {
                 server: "srv",
                 sessions: &[THREE_WHOLE],
                 status: 0,

@@ -4,6 +4,7 @@ use super::checks::{bytes_are, counts, holds};
 use super::deeds::adopted;
 use super::serving::serve_scripts;
 use log::Log;
+use server_core::Pace;
 use server_core::doubles::Script;
 use sqlite::Connection;
 use std::alloc::{AllocError, Global};
@@ -90,7 +91,15 @@ fn serve_both<R: Threads + Wait + Sync + Log + Clock>(
         Script::new(rt, TWO, &second),
     ]?;
     let mut copy = adopted(alloc, Connection::open_in_memory(alloc)?)?;
-    let (status, totals) = serve_scripts(rt, alloc, "srv", &["d"], scripts, &mut copy);
+    let (status, totals) = serve_scripts(
+        rt,
+        alloc,
+        "srv",
+        &["d"],
+        Pace::Behind(4096),
+        scripts,
+        &mut copy,
+    );
     Ok(Served {
         status,
         totals,

@@ -12,7 +12,7 @@ use log::Log;
 use log_copy::{Fault, KeptDoc, LogCopy};
 use op_core::Operation;
 use served_copy::{restore_documents, share_documents};
-use server_core::{SharedDocuments, Side};
+use server_core::{Pace, SharedDocuments, Side};
 use share_ledger::{Blank, Marker};
 use sqlite::{Alter, Connection, ErrorCode, MemStore};
 use std::alloc::{AllocError, Global};
@@ -31,6 +31,10 @@ struct Counting<'a, R: Wait> {
 
 impl<R: Wait> CopyObserver for Counting<'_, R> {
     fn added(&self, _document: &KeptDoc, _entries: &[Operation]) {}
+
+    fn lacks_memory(&self) {}
+
+    fn goes_on(&self) {}
 
     fn stopped(&self, _why: &Fault, _code: Option<ErrorCode>) {
         let mut times = self.times.lock(self.rt);
@@ -77,7 +81,7 @@ pub fn shared_documents<M: Marker, S: Alter>(
     let Ok(restored) = restore_documents(alloc, &mut ledger, copy, &replica, documents, 1) else {
         return Err(AllocError);
     };
-    match share_documents(alloc, restored) {
+    match share_documents(alloc, restored, Pace::Behind(1)) {
         Ok(shared) => Ok(shared),
         Err(_) => Err(AllocError),
     }

@@ -8,7 +8,7 @@ use doc_words::{Command, Look, Place, Query, Reply, Steps};
 use json_scalar::{Refusal, Scalar, Val};
 use locked_doc::{LockedDoc, Seat, SeatEnd};
 use op_core::{Cursor, Key, Mutation, Path};
-use server_core::{OnShelf, OpenGate, SharedDocuments};
+use server_core::{Debts, OnShelf, OpenGate, SharedDocuments};
 use session_core::DocAccess;
 use share_ledger::{Blank, Marker};
 use std::alloc::Global;
@@ -35,11 +35,13 @@ fn opens<M: Marker, R: Wait>(
 ) -> Result<Seat<M>, Refusal>
     requires { number < length shared.now.names.items }
 {
+    let debts = Debts::none(*shared.names.allocator());
     let mut access = OnShelf {
         rt,
         shared,
         gate: &OpenGate,
         session: 1,
+        debts: &debts,
     };
     access.open(number)
 }
@@ -54,11 +56,13 @@ fn assigns<M: Marker, R: Wait>(
 ) -> Reply
     requires { number < length shared.now.names.items }
 {
+    let debts = Debts::none(alloc);
     let mut access = OnShelf {
         rt,
         shared,
         gate: &OpenGate,
         session: 1,
+        debts: &debts,
     };
     let assignment = Mutation::Assign(Val::Scalar(Scalar::Int(7)));
     let command = Command::Change(whole(alloc), assignment);
@@ -75,11 +79,13 @@ fn reads<M: Marker, R: Wait>(
 ) -> Reply
     requires { number < length shared.now.names.items }
 {
+    let debts = Debts::none(alloc);
     let mut access = OnShelf {
         rt,
         shared,
         gate: &OpenGate,
         session: 1,
+        debts: &debts,
     };
     let query = Query::Look(Look::Values, whole(alloc));
     access.read(number, seat, query).into_reply()

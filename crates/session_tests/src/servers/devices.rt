@@ -44,10 +44,11 @@ static ROWS: [Row; 3] = [
             write_after: 20,
             ..NO_FAULT
         },
-        done: 1,
+        // Replies go out once no whole line is held, so all lines are answered before.
+        done: 2,
         why: Some(Ending::WriteFault),
-        seated_first: &[1, 2],
-        seated_second: &[2, 1],
+        seated_first: &[2, 2],
+        seated_second: &[2, 2],
     },
     Row {
         name: "connection_cannot_be_opened",

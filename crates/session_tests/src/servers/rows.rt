@@ -8,7 +8,7 @@ use crate::checks::{holds, replies_are};
 use crate::shopping::{SHOPPED, SHOPPING};
 use json_scalar::Refusal;
 use line_feed::{DeviceFault, Reader, Sink, Source, Writer};
-use server_core::{OpenGate, SharedDocuments, serve_session};
+use server_core::{Debts, OpenGate, SharedDocuments, serve_session};
 use session_rules::Ending;
 use share_ledger::{Blank, Marker};
 use std::alloc::Global;
@@ -161,7 +161,17 @@ fn looks<M: Marker, R: Wait>(
         device: Writer::new(Vec::new(alloc)),
         found: false,
     };
-    let served = serve_session(rt, alloc, &shared, &OpenGate, 1, &mut source, &mut sink)?;
+    let debts = Debts::none(alloc);
+    let served = serve_session(
+        rt,
+        alloc,
+        &shared,
+        &OpenGate,
+        1,
+        &debts,
+        &mut source,
+        &mut sink,
+    )?;
     Ok((served.why, source.found, sink.found))
 }
 

@@ -10,7 +10,9 @@ use lamport_id::ReplicaName;
 use line_proto::Name;
 use locked_doc::{Shelf, Totals};
 use server_core::doubles::Script;
-use server_core::{Gate, Gathered, Idle, OpenGate, SharedDocuments, Side, Signal, run_sessions};
+use server_core::{
+    Gate, Gathered, Idle, OpenGate, Progress, SharedDocuments, Side, Signal, run_sessions,
+};
 use share_ledger::{Blank, Marker};
 use std::alloc::Global;
 use std::marker::Brand;
@@ -86,6 +88,7 @@ pub fn shared_documents<M: Marker>(
         names,
         shelf,
         signal: Signal::new(),
+        progress: Progress::none(alloc),
     })
 }
 

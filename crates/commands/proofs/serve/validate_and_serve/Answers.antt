@@ -12,17 +12,32 @@ returns-in-None-clause-refused g c = λ two wanted asked.
     let count_is = text_is c.args.matches.now (codes "sessions") c.unwrap_or-count.result _ c.get_str-3.result [] c.unwrap_or-count.ensures c.get_str-3.ensures refl in
     let name_is = text_is c.args.matches.now (codes "name") c.unwrap_or-name.result _ c.get_str.result (codes "srv") c.unwrap_or-name.ensures c.get_str.ensures refl in
     let address_is = text_is c.args.matches.now (codes "addr") c.unwrap_or-address.result _ c.get_str-2.result [] c.unwrap_or-address.ensures c.get_str-2.ensures refl in
+    let backlog_is = text_is c.args.matches.now (codes "backlog") c.unwrap_or-behind.result _ c.get_str-5.result (codes "4096") c.unwrap_or-behind.ensures c.get_str-5.ensures refl in
+    let durable_is = text_is c.args.matches.now (codes "durable") c.unwrap_or-durable.result _ c.get_str-6.result [] c.unwrap_or-durable.ensures c.get_str-6.ensures refl in
     let documents_are = texts_are c.args.matches.now (codes "doc") c.unwrap_or-documents.result _ c.get_strs.result c.unwrap_or-documents.ensures c.get_strs.ensures refl in
-    let here = same_server (sym name_is) (sym documents_are) (sym address_is) (sym count_is) wanted asked in
+    let here = same_server (sym name_is) (sym documents_are) (sym address_is) (sym count_is) (sym backlog_is) (sym durable_is) wanted asked in
     c.in-None.ensures wanted.sessions here.sessions
+
+pub returns-in-None-backlog_of-clause-refused : goal.returns-in-None-backlog_of-clause-refused
+returns-in-None-backlog_of-clause-refused g c = λ two wanted asked.
+    let count_is = text_is c.args.matches.now (codes "sessions") c.unwrap_or-count.result _ c.get_str-3.result [] c.unwrap_or-count.ensures c.get_str-3.ensures refl in
+    let name_is = text_is c.args.matches.now (codes "name") c.unwrap_or-name.result _ c.get_str.result (codes "srv") c.unwrap_or-name.ensures c.get_str.ensures refl in
+    let address_is = text_is c.args.matches.now (codes "addr") c.unwrap_or-address.result _ c.get_str-2.result [] c.unwrap_or-address.ensures c.get_str-2.ensures refl in
+    let backlog_is = text_is c.args.matches.now (codes "backlog") c.unwrap_or-behind.result _ c.get_str-5.result (codes "4096") c.unwrap_or-behind.ensures c.get_str-5.ensures refl in
+    let durable_is = text_is c.args.matches.now (codes "durable") c.unwrap_or-durable.result _ c.get_str-6.result [] c.unwrap_or-durable.ensures c.get_str-6.ensures refl in
+    let documents_are = texts_are c.args.matches.now (codes "doc") c.unwrap_or-documents.result _ c.get_strs.result c.unwrap_or-documents.ensures c.get_strs.ensures refl in
+    let here = same_server (sym name_is) (sym documents_are) (sym address_is) (sym count_is) (sym backlog_is) (sym durable_is) wanted asked in
+    c.in-None-backlog_of.ensures here.most here.behind
 
 pub returns-then-not-is_good-clause-refused : goal.returns-then-not-is_good-clause-refused
 returns-then-not-is_good-clause-refused g c = λ two wanted asked.
     let count_is = text_is c.args.matches.now (codes "sessions") c.unwrap_or-count.result _ c.get_str-3.result [] c.unwrap_or-count.ensures c.get_str-3.ensures refl in
     let name_is = text_is c.args.matches.now (codes "name") c.unwrap_or-name.result _ c.get_str.result (codes "srv") c.unwrap_or-name.ensures c.get_str.ensures refl in
     let address_is = text_is c.args.matches.now (codes "addr") c.unwrap_or-address.result _ c.get_str-2.result [] c.unwrap_or-address.ensures c.get_str-2.ensures refl in
+    let backlog_is = text_is c.args.matches.now (codes "backlog") c.unwrap_or-behind.result _ c.get_str-5.result (codes "4096") c.unwrap_or-behind.ensures c.get_str-5.ensures refl in
+    let durable_is = text_is c.args.matches.now (codes "durable") c.unwrap_or-durable.result _ c.get_str-6.result [] c.unwrap_or-durable.ensures c.get_str-6.ensures refl in
     let documents_are = texts_are c.args.matches.now (codes "doc") c.unwrap_or-documents.result _ c.get_strs.result c.unwrap_or-documents.ensures c.get_strs.ensures refl in
-    let here = same_server (sym name_is) (sym documents_are) (sym address_is) (sym count_is) wanted asked in
+    let here = same_server (sym name_is) (sym documents_are) (sym address_is) (sym count_is) (sym backlog_is) (sym durable_is) wanted asked in
     let good : c.is_good.result ≡ true =
     c.is_good.ensures ∙ ap (λ n. is_good n (map (λ s. s.now) c.unwrap_or-documents.result.now)) (sym here.named) ∙ ap (is_good wanted.name) (sym here.listed) ∙ here.good in
     let bad : c.is_good.result ≡ false = search rules in
@@ -33,15 +48,18 @@ returns-clause-asked g c = λ other.
     let count_is = text_is c.args.matches.now (codes "sessions") c.unwrap_or-count.result _ c.get_str-3.result [] c.unwrap_or-count.ensures c.get_str-3.ensures refl in
     let name_is = text_is c.args.matches.now (codes "name") c.unwrap_or-name.result _ c.get_str.result (codes "srv") c.unwrap_or-name.ensures c.get_str.ensures refl in
     let address_is = text_is c.args.matches.now (codes "addr") c.unwrap_or-address.result _ c.get_str-2.result [] c.unwrap_or-address.ensures c.get_str-2.ensures refl in
+    let backlog_is = text_is c.args.matches.now (codes "backlog") c.unwrap_or-behind.result _ c.get_str-5.result (codes "4096") c.unwrap_or-behind.ensures c.get_str-5.ensures refl in
+    let durable_is = text_is c.args.matches.now (codes "durable") c.unwrap_or-durable.result _ c.get_str-6.result [] c.unwrap_or-durable.ensures c.get_str-6.ensures refl in
     let documents_are = texts_are c.args.matches.now (codes "doc") c.unwrap_or-documents.result _ c.get_strs.result c.unwrap_or-documents.ensures c.get_strs.ensures refl in (
       record {
         name = c.unwrap_or-name.result.now;
         documents = map (λ s. s.now) c.unwrap_or-documents.result.now;
         address = c.unwrap_or-address.result.now;
         sessions = c.in-Some.sessions;
+        pace = c.pace_of-pace.result;
       },
-      same_server name_is documents_are address_is count_is _
-          (record { named = refl; listed = refl; at = refl; sessions = c.in-Some.ensures; good = search rules }),
+      same_server name_is documents_are address_is count_is backlog_is durable_is _
+          (record { named = refl; listed = refl; at = refl; sessions = c.in-Some.ensures; most = c.in-Some-backlog_of.backlog; behind = c.in-Some-backlog_of.ensures; paced = c.pace_of-pace.ensures; good = search rules }),
     )
 
 pub returns-clause-served : goal.returns-clause-served
@@ -49,14 +67,17 @@ returns-clause-served g c = λ zero.
     let count_is = text_is c.args.matches.now (codes "sessions") c.unwrap_or-count.result _ c.get_str-3.result [] c.unwrap_or-count.ensures c.get_str-3.ensures refl in
     let name_is = text_is c.args.matches.now (codes "name") c.unwrap_or-name.result _ c.get_str.result (codes "srv") c.unwrap_or-name.ensures c.get_str.ensures refl in
     let address_is = text_is c.args.matches.now (codes "addr") c.unwrap_or-address.result _ c.get_str-2.result [] c.unwrap_or-address.ensures c.get_str-2.ensures refl in
+    let backlog_is = text_is c.args.matches.now (codes "backlog") c.unwrap_or-behind.result _ c.get_str-5.result (codes "4096") c.unwrap_or-behind.ensures c.get_str-5.ensures refl in
+    let durable_is = text_is c.args.matches.now (codes "durable") c.unwrap_or-durable.result _ c.get_str-6.result [] c.unwrap_or-durable.ensures c.get_str-6.ensures refl in
     let documents_are = texts_are c.args.matches.now (codes "doc") c.unwrap_or-documents.result _ c.get_strs.result c.unwrap_or-documents.ensures c.get_strs.ensures refl in (
       record {
         name = c.unwrap_or-name.result.now;
         documents = map (λ s. s.now) c.unwrap_or-documents.result.now;
         address = c.unwrap_or-address.result.now;
         sessions = c.in-Some.sessions;
+        pace = c.pace_of-pace.result;
       },
-      same_server name_is documents_are address_is count_is _
-          (record { named = refl; listed = refl; at = refl; sessions = c.in-Some.ensures; good = search rules }),
+      same_server name_is documents_are address_is count_is backlog_is durable_is _
+          (record { named = refl; listed = refl; at = refl; sessions = c.in-Some.ensures; most = c.in-Some-backlog_of.backlog; behind = c.in-Some-backlog_of.ensures; paced = c.pace_of-pace.ensures; good = search rules }),
       c.listen_and_serve.ensures.served zero,
     )

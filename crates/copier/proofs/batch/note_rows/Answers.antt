@@ -2,6 +2,5 @@ use Rattle.std.proofs.Common.{ap, ◌∙◌}
 use Rattle.doc_rules.specs.Document.{copied_to}
 use Rattle.copier.proofs.batch.note_rows.Goals as goal
 
-pub returns-clause-noted : goal.returns-clause-noted
-returns-clause-noted g c =
-    (c.note_copied.ensures.0, c.note_copied.ensures.1 ∙ ap (λ n. copied_to n c.args.doc.now.document) c.in_ok-rows_of.ensures.rows)
+pub returns : goal.returns
+returns g c = (c.note_copied.ensures.0, c.note_copied.ensures.1 ∙ ap (λ n. copied_to n c.args.doc.now.document) c.requires)

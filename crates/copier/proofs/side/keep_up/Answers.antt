@@ -1,4 +1,4 @@
-use Rattle.std.proofs.Common.{◌∙◌, refl, false, ltb}
+use Rattle.std.proofs.Common.{◌∙◌, refl, false}
 use Rattle.copier.specs.Batches.AreAdded.{none}
 use Rattle.copier.proofs.Adding.{grows_all, grows_until}
 use Rattle.copier.proofs.side.keep_up.Goals as goal
@@ -11,8 +11,8 @@ loop-preserved g c =
     let now = c.in-Ok.ensures in
     let before = c.loop.invariant in record {
       waits = (tt, tt);
-      grown = grows_all before.grown (record { any = ltb 0 c.in-Ok.most; added = now.ok; epoch = now.works.0 });
-      works = λ h. now.works.1 (before.works h);
+      grown = grows_all before.grown now.ok;
+      works = λ h. now.works (before.works h);
       alone = now.alone ∙ before.alone;
     }
 
@@ -24,3 +24,6 @@ returns-in-Err-clause-works g c = tt
 
 pub returns-in-Err-clause-err : goal.returns-in-Err-clause-err
 returns-in-Err-clause-err g c = grows_until c.loop.invariant.grown c.in-Err.ensures.err
+
+pub returns-in-None-wait_after-clause-ok : goal.returns-in-None-wait_after-clause-ok
+returns-in-None-wait_after-clause-ok g c = grows_all c.loop.invariant.grown c.in-Ok.ensures.ok

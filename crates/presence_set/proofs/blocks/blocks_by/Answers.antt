@@ -17,14 +17,14 @@ all_start {X} blocks id i last filled rising end starts =
     ((λ k d from below. starts_first blocks id filled rising k i d (omega (arith, end)) (omega (arith, end)) (at d)), (λ k d from below. absurd (omega arith)))
 
 pub returns-clause-value : goal.returns-clause-value
-returns-clause-value c =
+returns-clause-value g c =
     let blocks = c.args.blocks.now in
     let id = c.args.id.now in
     blocks_by_is blocks id c.partition_point.result c.partition_point.ensures.bound
     (c.partition_point.ensures.partitioned (λ b. starts_by id b.0) (always_returns_same _ _ _ (λ a r f k. search rules)) (starts_first blocks id c.requires.filled c.requires.rising))
 
 pub returns-then-starts_by-clause-value : goal.returns-then-starts_by-clause-value
-returns-then-starts_by-clause-value c =
+returns-then-starts_by-clause-value g c =
     let blocks = c.args.blocks.now in
     let id = c.args.id.now in
     let some = c.if-count-gt0.true in

@@ -5,7 +5,7 @@ use Rattle.presence_set.specs.Blocks.{pairs_in}
 use Rattle.presence_set.proofs.blocks.cut_first.Goals as goal
 
 pub returns-clause-same : goal.returns-clause-same
-returns-clause-same c =
+returns-clause-same g c =
     let first = c.args.first.now.0 in
     let rest = c.args.rest.now.items in
     let low = c.split_off.new.self.0 in

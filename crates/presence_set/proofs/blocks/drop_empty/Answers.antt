@@ -4,4 +4,4 @@ use Rattle.presence_set.specs.Blocks.{has_pair}
 use Rattle.presence_set.proofs.blocks.drop_empty.Goals as goal
 
 pub returns : goal.returns
-returns c = filter_same _ (λ b. has_pair b.0) _ (λ x b f' h. search rules) _ _ c.retain.ensures.filtered
+returns g c = filter_same _ (λ b. has_pair b.0) _ (λ x b f' h. search rules) _ _ c.retain.ensures.filtered

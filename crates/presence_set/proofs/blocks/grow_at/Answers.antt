@@ -3,7 +3,7 @@ use Rattle.std.proofs.lemmas.List.{get_or_default}
 use Rattle.presence_set.proofs.blocks.grow_at.Goals as goal
 
 pub returns-clause-same : goal.returns-clause-same
-returns-clause-same c =
+returns-clause-same g c =
     let rest = c.args.rest.now.items in
     let new = c.reserve_one.new.self in
     let block = c.index_mut-block.result.now in

@@ -5,7 +5,7 @@ use Rattle.presence_set.proofs.BlockLaws.{rooms-whole}
 use Rattle.presence_set.proofs.blocks.make_room.Goals as goal
 
 pub returns-in-InRest-clause-room : goal.returns-in-InRest-clause-room
-returns-in-InRest-clause-room c =
+returns-in-InRest-clause-room g c =
     let but = rw c.in-InRest.is at c.requires.room in
     on_ok_weaker c.make_room_at.result
     (λ room. (but.0, rooms-whole c.in-InRest.at c.make_room_at.new.rest.items (subst AllHaveRoom (sym c.make_room_at.ensures.earlier) but.2) room))

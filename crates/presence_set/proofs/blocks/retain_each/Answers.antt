@@ -4,10 +4,10 @@ use Rattle.presence_set.proofs.BlockLaws.{mapped-next, mapped-all}
 use Rattle.presence_set.proofs.blocks.retain_each.Goals as goal
 
 pub loop-at-init : goal.loop-at-init
-loop-at-init c = refl
+loop-at-init g c = refl
 
 pub loop-at-preserved : goal.loop-at-preserved
-loop-at-preserved c =
+loop-at-preserved g c =
     let front = c.args.front.now in
     let old = c.args.blocks.now.items in
     let at = c.loop-at.at in
@@ -21,7 +21,7 @@ loop-at-preserved c =
     ∙ ap (λ n. map (λ b. (uncovered front b.0, b.1)) (take n old) ++ drop n old) one
 
 pub returns : goal.returns
-returns c =
+returns g c =
     let front = c.args.front.now in
     let old = c.args.blocks.now.items in
     let past : length old ≤ c.loop-at.at = search rules in

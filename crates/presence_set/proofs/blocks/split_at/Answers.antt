@@ -4,7 +4,7 @@ use Rattle.std.proofs.lemmas.List.{get_or_default}
 use Rattle.presence_set.proofs.blocks.split_at.Goals as goal
 
 pub returns-clause-ok : goal.returns-clause-ok
-returns-clause-ok c =
+returns-clause-ok g c =
     let rest = c.args.rest.now.items in
     let at = c.args.at in
     let place = c.args.place in

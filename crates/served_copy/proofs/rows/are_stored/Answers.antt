@@ -8,7 +8,7 @@ pub returns-then-not-is_stored : goal.returns-then-not-is_stored
 returns-then-not-is_stored c =
     let at = c.loop-i in
     let none : Bor (List ℕ) = record { ref_ptr = (0, 0); now = [] } in
-    let there : at.i < length c.args.totals.now = omega (arith, c.requires, c.loop-i-test.true) in
+    let there : at.i < length c.args.totals.now = omega (arith, c.requires.each, c.loop-i-test.true) in
     let step = stored_step c.args.docs.now c.args.names.now c.args.totals.now at.i none c.index-totals-i.result c.loop-i-test.true there in
     let entry : get_or c.args.totals.now at.i c.index-totals-i.result ≡ c.index-totals-i.result = search rules in (
       (λ yes. absurd (true≢false (sym yes))),
@@ -19,7 +19,7 @@ pub loop-i-preserved : goal.loop-i-preserved
 loop-i-preserved c =
     let at = c.loop-i in
     let none : Bor (List ℕ) = record { ref_ptr = (0, 0); now = [] } in
-    let there : at.i < length c.args.totals.now = omega (arith, c.requires, c.loop-i-test.true) in
+    let there : at.i < length c.args.totals.now = omega (arith, c.requires.each, c.loop-i-test.true) in
     let step = stored_step c.args.docs.now c.args.names.now c.args.totals.now at.i none c.index-totals-i.result c.loop-i-test.true there in
     let entry : get_or c.args.totals.now at.i c.index-totals-i.result ≡ c.index-totals-i.result = search rules in (
       (λ all. (step.0 (at.invariant.0 all)).1),
@@ -30,5 +30,5 @@ pub returns : goal.returns
 returns c =
     let at = c.loop-i in
     let past : length c.args.names.now ≤ at.i = search rules in
-    let over : length c.args.totals.now ≤ at.i = omega (arith, c.requires, past) in
+    let over : length c.args.totals.now ≤ at.i = omega (arith, c.requires.each, past) in
     ((λ yes. at.invariant.1 (stored_end c.args.docs.now c.args.names.now c.args.totals.now at.i past over)), (λ all. refl))

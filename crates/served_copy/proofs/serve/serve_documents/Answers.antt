@@ -40,3 +40,6 @@ returns-in-Ok-write_totals-clause-grown g c = grown_beside _ (c.in-Ok.ensures.na
 
 pub returns-in-Ok-write_totals-clause-alone : goal.returns-in-Ok-write_totals-clause-alone
 returns-in-Ok-write_totals-clause-alone g c = alone_beside _ c.serve_with_copier-ran.ensures.left
+
+pub returns-clause-grown : goal.returns-clause-grown
+returns-clause-grown g c = grown_beside _ (c.in-Ok.ensures.names ∙ c.requires.names) c.serve_with_copier-ran.ensures.left

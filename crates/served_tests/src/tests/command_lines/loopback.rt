@@ -4,6 +4,7 @@ use super::super::deeds::adopted;
 use super::super::two_sessions::{THREE, TOTALS, TWO, have_replies};
 use log::Log;
 use served_copy::serve_over;
+use server_core::Pace;
 use sqlite::Connection;
 use std::alloc::{AllocError, Global};
 use std::io;
@@ -93,7 +94,16 @@ fn serve<R: Threads + Wait + Sync + Log + Clock>(
     let mut copy = adopted(alloc, Connection::open_in_memory(alloc)?)?;
     let entrance = Entrance::new(rt, listener, sessions);
     let all = connections(alloc, &entrance, sessions)?;
-    let status = serve_over(rt, alloc, "srv", documents, all, &mut copy, &mut out);
+    let status = serve_over(
+        rt,
+        alloc,
+        "srv",
+        documents,
+        Pace::Behind(4096),
+        all,
+        &mut copy,
+        &mut out,
+    );
     Ok((status, out))
 }
 

@@ -2,7 +2,6 @@ use Rattle.std.proofs.Common.{◌∙◌, ap}
 use Rattle.std.specs.Prelude.{is_some}
 use Rattle.std.specs.List.{list_any}
 use Rattle.crdt_rules.specs.Same.{id_eq}
-use Rattle.presence_set.specs.ById.{get}
 use Rattle.list_order.specs.Slots.{slots_from}
 use Rattle.list_order.proofs.Placing.{is_some-number_along}
 use Rattle.list_order.proofs.linked.LinkedOrder.contains.Goals as goal
@@ -11,6 +10,6 @@ pub returns : goal.returns
 returns c =
     let slots = c.self.inside.slots.items in
     c.is_some.ensures
-    ∙ ap is_some (c.number_of.ensures ∙ ap (λ l. get l c.args.id) c.as_slice.ensures.value ∙ c.self.invariant.order.exact c.args.id)
+    ∙ ap is_some (c.number_of.ensures ∙ c.self.invariant.order.exact c.args.id)
     ∙ is_some-number_along slots c.self.inside.marks.items (slots_from slots c.self.inside.first) c.args.id
     ∙ ap (λ v. list_any (λ e. id_eq e.0 c.args.id) v.0) c.self.view_is

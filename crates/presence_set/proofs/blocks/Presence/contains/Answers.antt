@@ -1,12 +1,17 @@
-use Rattle.std.proofs.Common.{◌≡◌, ◌∙◌, suc, rules, sym, ap, subst, get_or}
+use Rattle.std.proofs.Common.{◌≡◌, ◌∙◌, suc, rules, lit<, sym, ap, subst, get_or}
 use Rattle.presence_set.specs.ById.{contains, IsAscending}
-use Rattle.presence_set.specs.Blocks.{pairs_in, blocks_by, blocks_in}
+use Rattle.presence_set.specs.Blocks.{pairs_in, blocks_by, blocks_in, AreNonEmpty}
 use Rattle.presence_set.proofs.BlockLaws.{rising_parts, contains_first, contains_rest}
 use Rattle.presence_set.proofs.blocks.Presence.contains.Goals as goal
 
-pub blocks_by-requires-clause-rising : goal.blocks_by-requires-clause-rising
-blocks_by-requires-clause-rising c =
-    subst (λ l. IsAscending (pairs_in l)) (sym c.later_blocks-blocks.ensures) (rising_parts c.self.inside.first.0 (pairs_in (blocks_in c.self.inside.later)) c.self.invariant.0.rising).1
+pub blocks_by-requires : goal.blocks_by-requires
+blocks_by-requires c = (
+  lit< tt,
+  (
+    subst AreNonEmpty (sym c.later_blocks-blocks.ensures) c.self.invariant.0.filled,
+    subst (λ l. IsAscending (pairs_in l)) (sym c.later_blocks-blocks.ensures) (rising_parts c.self.inside.first.0 (pairs_in (blocks_in c.self.inside.later)) c.self.invariant.0.rising).1,
+  ),
+)
 
 pub returns-in-None : goal.returns-in-None
 returns-in-None c =

@@ -20,4 +20,4 @@ pub returns-clause-ok : goal.returns-clause-ok
 returns-clause-ok g c = c.gather.ensures.ok
 
 pub returns-clause-err : goal.returns-clause-err
-returns-clause-err g c = MatchResult-weaker c.gather.result c.gather.ensures.err (λ totals p. tt) (λ back p. (p.0, p.1))
+returns-clause-err g c = c.gather.ensures.err

@@ -1,0 +1,115 @@
+/* The hub as a part of another program. `hub.mjs` is the program. */
+
+import { Figures } from "./lib/figures.mjs";
+import { StoredFronts } from "./lib/file.mjs";
+import { addressParts } from "./lib/jcrdt.mjs";
+import { openLines } from "./lib/lines.mjs";
+import { notes } from "./lib/notes.mjs";
+import { Pool } from "./lib/pool.mjs";
+import { Presence } from "./lib/presence.mjs";
+import { dropIdle } from "./lib/serve.mjs";
+import { Storage } from "./lib/storage.mjs";
+import { Unread } from "./lib/unread.mjs";
+import { Watches } from "./lib/watches.mjs";
+import { openWeb } from "./lib/web.mjs";
+
+/** @typedef {import("./index.js").HubOptions} HubOptions */
+
+const MEGABYTE = 2 ** 20;
+const UNREAD_BYTES = 256 * MEGABYTE; // of all clients together
+const SECOND = 1000;
+const QUIT_MS = 200; // so that the server reads `quit`
+
+/** The bounds of options that are numbers, and what they are if they aren't given. */
+const BOUNDS = /** @type {const} */ ({
+  sessions: [1, 254, 5],
+  poll: [10, 3_600_000, 200],
+  patience: [1, 86_400, 30],
+  idle: [1, 31_536_000, 3600],
+  replyLimit: [5, 256, 8],
+  linesPerSession: [100, 990_000, 990_000],
+});
+
+/** @param {HubOptions} options */
+function numbersOf(options) {
+  const checked = Object.entries(BOUNDS).map(([name, [least, most, usual]]) => {
+    const number = options[/** @type {keyof typeof BOUNDS} */ (name)] ?? usual;
+    if (number >= least && number <= most) return [name, number];
+    throw new RangeError(`${name} is ${least} to ${most}`);
+  });
+  return /** @type {Record<keyof typeof BOUNDS, number>} */ (Object.fromEntries(checked));
+}
+
+/** What the parts of a hub share.
+ *  @param {HubOptions} options
+ *  @returns {import("./lib/state.mjs").State} */
+function stateOf(options) {
+  const { sessions, poll, patience, idle, replyLimit, linesPerSession } = numbersOf(options);
+  const { server, durable = false, file, admit, note = notes() } = options;
+  const replyBytes = replyLimit * MEGABYTE;
+  const pool = new Pool({ server, sessions, replyBytes, linesPerSession, note });
+  return {
+    pool,
+    watches: new Watches(pool, poll),
+    presence: new Presence(),
+    storage: new Storage(durable, file === undefined ? undefined : new StoredFronts(file, note)),
+    figures: new Figures(),
+    unread: new Unread(UNREAD_BYTES, note),
+    documents: new Set(),
+    guests: { lines: new Set(), web: new Set() },
+    guestCount: 0,
+    patience: patience * SECOND,
+    idle: idle * SECOND,
+    ...(admit && { admit }),
+    note,
+  };
+}
+
+/** Starts a hub.
+ *  @type {typeof import("./index.js").hub} */
+export async function hub(options) {
+  for (const address of [options.server, options.lines, options.web]) {
+    if (address !== undefined) addressParts(address); // throws where it is none
+  }
+  if (!options.lines && !options.web) throw new TypeError("neither lines nor web is given");
+  const state = stateOf(options);
+  try {
+    return await opened(state, options);
+  } catch (error) {
+    end(state);
+    throw error;
+  }
+}
+
+/** @param {import("./lib/state.mjs").State} state @param {HubOptions} options */
+async function opened(state, { lines, web, origins = [] }) {
+  const overTcp = lines === undefined ? undefined : await openLines(state, lines);
+  const opening = web === undefined ? undefined : openWeb(state, web, origins);
+  opening?.catch(() => overTcp?.server.close());
+  const overHttp = await opening;
+  const timer = setInterval(() => dropIdle(state), SECOND);
+  const stop = async () => {
+    end(state);
+    clearInterval(timer);
+    overTcp?.server.close();
+    overHttp?.server.close();
+    overHttp?.end();
+    for (const guest of [...state.guests.lines, ...state.guests.web]) guest.drop();
+    overHttp?.server.closeAllConnections();
+    await new Promise((resume) => setTimeout(resume, QUIT_MS));
+  };
+  return {
+    ...(overTcp && { lines: overTcp.at }),
+    ...(overHttp && { page: `http://${overHttp.at}/` }),
+    health: () => state.figures.health(state),
+    metrics: () => state.figures.metrics(state),
+    stop,
+  };
+}
+
+/** @param {import("./lib/state.mjs").State} state */
+function end({ pool, watches, storage }) {
+  pool.stop();
+  watches.stop();
+  storage.stop();
+}

@@ -1,0 +1,27 @@
+/* Where the package jcrdt is: installed beside this one, or in the repository. */
+
+import { existsSync } from "node:fs";
+
+/** Where a module of the package jcrdt is.
+ *  @param {string} part as `wire`
+ *  @returns {string} a URL */
+function placeOf(part) {
+  try {
+    // Since Node 18.19 it returns a text at once.
+    return /** @type {any} */ (import.meta).resolve(`jcrdt/${part}`);
+  } catch {
+    return new URL(`../../js/${part}.mjs`, import.meta.url).href;
+  }
+}
+
+/** The folder of the package jcrdt, as a URL: what browsers get is there. */
+export const FOLDER = new URL(".", placeOf("wire"));
+
+/** The module jcrdt.wasm: in that folder, and in the repository in its release. */
+const packed = new URL("jcrdt.wasm", FOLDER);
+export const MODULE = existsSync(packed) ? packed : new URL("../../release/jcrdt.wasm", FOLDER);
+
+/** @type {typeof import("../../js/wire.mjs")} */
+const wire = await import(placeOf("wire"));
+export const { addressParts, covers, frontPairs, isId, MOST } = wire;
+

@@ -1,0 +1,275 @@
+/* The hub's sessions of the server: got one after the other, watched, renewed, and got again. */
+
+import { Link } from "./link.mjs";
+import { pause } from "./notes.mjs";
+
+const TICK_MS = 1000;
+const PING_TICKS = 4; // a session that is silent for so long is asked something
+const REPLY_TICKS = 9; // nothing from the server for so long, with a request due: it hangs
+const LONG_TICKS = 60; // of a request, while the server answers others
+const UNSERVED_TICKS = 5; // accepted for so long, without a reply
+const MOST_UNSERVED_TICKS = 60; // then another connection is tried
+const ALONE_TICKS = 2; // clients of a session that ended so long ago get another one
+const AWAY_MS = 5_000; // so long a request waits for a server that restarts
+const RETRY_MS = [100, 200, 500, 1000, 2000]; // the pauses between attempts to connect
+const HARD_LINES = 9_900; // so many lines more than at the renewal does a session take
+const UNSERVED = "no reply for a minute"; // why a connection is ended, which is noted before
+const AWAY = 10_000; // as many clients more has a session that isn't connected, when one is chosen
+
+/** @typedef {import("./guest.mjs").Guest} Guest */
+/** @typedef {{ server: string, sessions: number, replyBytes: number, linesPerSession: number,
+ *    note: import("./notes.mjs").Note }} PoolOptions */
+
+/** A place for a link, and the clients that it carries, or that have a variable there. */
+export class Session {
+  /** @type {Link | undefined} */
+  #link;
+  /** @type {Set<Guest>} */
+  clients = new Set();
+  /** By the clock of the pool. */
+  endedAt = 0;
+
+  /** The link, if it takes lines. */
+  get link() {
+    return this.#link?.over ? undefined : this.#link;
+  }
+
+  set link(link) {
+    this.#link = link;
+  }
+
+  /** How many clients it has, to choose the one with the fewest. */
+  get load() {
+    return this.clients.size + (this.link ? 0 : AWAY);
+  }
+}
+
+/** The sessions that the hub has at the server: some that carry clients, and one that watches. */
+export class Pool {
+  /** Since when the number of sessions has been 0, or not. */
+  since = new Date();
+  /** Why there isn't the number of sessions that is wanted; empty while there is. */
+  trouble = "not connected yet";
+  /** @type {Session[]} */
+  sessions;
+  #options;
+  #stopped = false;
+  #ticks = 0; // stands still with the process, so that nothing is too late after a pause of it
+  #isAway = true;
+  #awaySince = performance.now();
+  /** @type {Link | undefined} the one that the server doesn't serve yet */
+  #pending;
+  #pendingSince = 0;
+  #version = "";
+  #next = new Signal(); // of a link more
+  #fewer = new Signal(); // of a link less
+  #timer;
+
+  /** @param {PoolOptions} options */
+  constructor(options) {
+    this.#options = options;
+    this.sessions = Array.from({ length: options.sessions + 1 }, () => new Session());
+    this.#timer = setInterval(() => this.#tick(), TICK_MS);
+    this.#keep();
+  }
+
+  /** @returns {Link[]} */
+  get links() {
+    return this.sessions.flatMap(({ link }) => (link ? [link] : []));
+  }
+
+  /** Where clients are carried: the session that watches is one where there is no other. */
+  get carrying() {
+    const [first, , ...others] = this.sessions;
+    const carrying = [/** @type {Session} */ (first), ...others];
+    return carrying.some(({ link }) => link) ? carrying : this.sessions;
+  }
+
+  /** The session with the fewest clients. */
+  get leastLoaded() {
+    return this.carrying.reduce((a, b) => (b.load < a.load ? b : a));
+  }
+
+  /** The link that watches documents, or any other.
+   *  @returns {Link | undefined} */
+  get watching() {
+    return this.sessions[1]?.link ?? this.links[0];
+  }
+
+  /** The server's reply to `["version"]`, while a session of it answers. */
+  get version() {
+    return this.links.length > 0 ? this.#version : undefined;
+  }
+
+  /** The link that carries a client. `undefined` where there is none for some seconds.
+   *  @param {Guest} guest
+   *  @returns {Promise<Link | undefined>} */
+  async linkOf(guest) {
+    while (!guest.isGone) {
+      if (guest.home.link) return guest.home.link;
+      this.#lookIfAway();
+      if (!this.#isAway) guest.move(this.leastLoaded);
+      else {
+        const left = this.#awaySince + AWAY_MS - performance.now();
+        if (left <= 0 || this.#stopped) return undefined;
+        await Promise.race([this.#next.promise, pause(left)]);
+      }
+    }
+    return undefined;
+  }
+
+  stop() {
+    this.#stopped = true;
+    clearInterval(this.#timer);
+    this.#pending?.destroy("the hub ends");
+    for (const link of this.links) link.quit();
+    this.#next.give();
+    this.#fewer.give();
+  }
+
+  /** Gets sessions one after the other, while some are missing or worn out. */
+  async #keep() {
+    for (let failures = 0; !this.#stopped; ) {
+      if (!this.#wanting) {
+        await this.#fewer.promise;
+        continue;
+      }
+      const link = await this.#connected();
+      if (this.#stopped) return;
+      if (link instanceof Link) {
+        failures = 0;
+        this.#take(link);
+      } else {
+        if (link !== UNSERVED) this.#notes(this.#explained(link));
+        await pause(RETRY_MS[Math.min(failures++, RETRY_MS.length - 1)] ?? 0);
+      }
+    }
+  }
+
+  /** @param {string} cause why there is no connection */
+  #explained(cause) {
+    const isFull = this.links.length > 0 && cause.includes("ECONNREFUSED");
+    const why = isFull ? "it has no session left" : "trying again";
+    return `${this.#options.server}: ${cause}: ${why}`;
+  }
+
+  /** The first session without a link, or with one that is worn out. */
+  get #wanting() {
+    const isWorn = (/** @type {Link} */ link) => link.lines >= this.#options.linesPerSession;
+    return this.sessions.find(({ link }) => !link) ??
+      this.sessions.find(({ link }) => link && isWorn(link));
+  }
+
+  async #connected() {
+    const { server, replyBytes } = this.#options;
+    this.#pending = new Link({ server, replyBytes, clock: () => this.#ticks });
+    this.#pendingSince = this.#ticks;
+    const link = await this.#pending.begun();
+    this.#pending = undefined;
+    return link;
+  }
+
+  /** @param {Link} link */
+  #take(link) {
+    const session = this.#wanting;
+    if (!session) return link.quit();
+    session.link?.quit();
+    session.link = link;
+    this.#version = link.version;
+    this.#lookIfAway();
+    link.closed.then((cause) => this.#ended(session, cause));
+    const [got, wanted] = [this.links.length, this.sessions.length];
+    if (got === wanted) this.trouble = "";
+    if (got === 1 || got === wanted) {
+      this.#options.note(`connected with ${this.#options.server}: ${got} of ${wanted} sessions`);
+    }
+    this.#next.give();
+    // One that was renewed, or is back, has none of the variables that its clients had.
+    for (const guest of session.clients) guest.reopen();
+  }
+
+  /** @param {Session} session @param {string} cause */
+  #ended(session, cause) {
+    if (session.link || this.#stopped) return; // it was renewed
+    session.endedAt = this.#ticks;
+    this.#lookIfAway();
+    this.#notes(cause);
+    this.#fewer.give();
+  }
+
+  #lookIfAway() {
+    if (this.#isAway === (this.links.length === 0)) return;
+    this.#isAway = !this.#isAway;
+    this.since = new Date();
+    if (this.#isAway) this.#awaySince = performance.now();
+  }
+
+  /** @param {string} trouble */
+  #notes(trouble) {
+    this.trouble = trouble;
+    const [got, wanted] = [this.links.length, this.sessions.length];
+    this.#options.note(`${trouble} (${got} of ${wanted} sessions)`);
+  }
+
+  #tick() {
+    this.#ticks++;
+    this.#endSilent();
+    this.#lookAtPending();
+    this.#lookIfAway();
+    for (const session of this.sessions) {
+      const { link, clients, endedAt } = session;
+      if (link && link.lines >= this.#options.linesPerSession) this.#fewer.give();
+      if (link && link.lines >= this.#options.linesPerSession + HARD_LINES) link.quit();
+      const isAlone = !link && clients.size > 0 && this.#ticks - endedAt >= ALONE_TICKS;
+      if (isAlone && this.links.length > 0) {
+        for (const guest of [...clients]) guest.move(this.leastLoaded, session);
+      }
+    }
+  }
+
+  /** Ends the links at which the server hangs. One reply may take long while others come. */
+  #endSilent() {
+    const heardAt = Math.max(...this.links.map((link) => link.heardAt));
+    const isSilent = this.#ticks - heardAt >= REPLY_TICKS;
+    for (const link of this.links) {
+      const { oldest } = link;
+      const waits = oldest ? this.#ticks - oldest.sentAt : 0;
+      const silence = this.#ticks - link.heardAt;
+      const isLate = waits >= (isSilent || oldest?.isPing ? REPLY_TICKS : LONG_TICKS);
+      if (isLate && silence >= REPLY_TICKS) link.destroy(`no reply for ${waits} seconds`);
+      else if (!oldest && silence >= PING_TICKS) link.ping();
+    }
+  }
+
+  #lookAtPending() {
+    const pending = this.#pending;
+    const ticks = this.#ticks - this.#pendingSince;
+    if (!pending || pending.heardAt > this.#pendingSince) return;
+    if (ticks === UNSERVED_TICKS) {
+      const why = this.links.length > 0 ? "has no session left" : "has no session left, or hangs";
+      this.#notes(`${this.#options.server} accepts and doesn't reply: it ${why}`);
+    }
+    if (ticks >= MOST_UNSERVED_TICKS) pending.destroy(UNSERVED);
+  }
+}
+
+/** Wakes all that wait for it, each time that it is given. */
+class Signal {
+  #give = () => {};
+  /** @type {Promise<void>} */
+  promise = Promise.resolve();
+
+  constructor() {
+    this.#arm();
+  }
+
+  give() {
+    const give = this.#give;
+    this.#arm();
+    give();
+  }
+
+  #arm() {
+    this.promise = new Promise((resolve) => (this.#give = resolve));
+  }
+}

@@ -1,0 +1,197 @@
+/* What clients send and what they don't read has limits, and none ends the hub. */
+
+import { deepEqual, equal, match, ok } from "node:assert/strict";
+import { readdirSync, readFileSync } from "node:fs";
+import net from "node:net";
+import { test } from "node:test";
+import {
+  atEnd, hubWithin, joinLines, pause, Raw, startHub, startServer, suite, until, webSockets, within,
+} from "./support.mjs";
+
+/** A connection that sends some bytes, with how long it lives. */
+function held(address, text = "") {
+  const [host, port] = address.replace(/^http:\/\/|\/$/g, "").split(":");
+  const socket = net.connect({ host, port: Number(port) });
+  atEnd(() => socket.destroy());
+  socket.on("error", () => {}).resume();
+  if (text) socket.write(text);
+  const closed = new Promise((resolve) => socket.on("close", resolve));
+  return { socket, closed };
+}
+
+/** How many files and connections a process has open. */
+const openFiles = ({ pid }) => readdirSync(`/proc/${pid}/fd`).length;
+
+const UPGRADE = "GET /lines HTTP/1.1\r\nHost: x\r\nConnection: Upgrade\r\nUpgrade: websocket\r\n"
+  + "Sec-WebSocket-Version: 13\r\nSec-WebSocket-Key: dGhlIHNhbXBsZSBub25jZQ==\r\n";
+
+suite("limits", { concurrency: false }, () => {
+  test("a last line without a newline is answered, as by the server", async () => {
+    const server = await startServer(["d"]);
+    const hub = await startHub(server.address);
+    const lines = ['["open","d"]\n["version"]', '["open","d"]\n["version"]\n', '["quit"]', "[", ""];
+    for (const text of [...lines, "?".repeat(65_537)]) {
+      const answers = [server.address, hub.lines].map(async (address) => {
+        const raw = new Raw(address);
+        raw.socket.end(text);
+        await within(30, "its end", raw.ended);
+        return raw.lines.map((line) => line.replace(/^\["opened",\d+\]$/, '["opened"]'));
+      });
+      const [ofServer, ofHub] = await Promise.all(answers);
+      deepEqual(ofHub, ofServer, text.slice(0, 80));
+    }
+  });
+
+  test("a line of 65,536 bytes is answered, one more is refused, over both ways", async () => {
+    const server = await startServer(["d"]);
+    const hub = await startHub(server.address);
+    const line = (size) => `["open","${"x".repeat(size - 11)}"]`;
+    equal(line(65_536).length, 65_536);
+    const raw = new Raw(hub.lines);
+    equal(await raw.ask(line(65_536)), '["no",4,"no-such-document"]');
+    equal(await raw.ask(line(65_537)), '["no",3,"line-too-long"]');
+    await within(30, "its end", raw.ended);
+    const web = new (webSockets().WebSocket)(`${hub.page.replace("http", "ws")}lines`);
+    const came = [];
+    const closed = new Promise((resolve) => web.on("message", (data) => came.push(`${data}`)).on("close", resolve));
+    await new Promise((open) => web.on("open", open));
+    web.send(line(65_536));
+    web.send(line(65_537));
+    web.send('["version"]');
+    await within(30, "its end", closed);
+    deepEqual(came, ['["no",4,"no-such-document"]', '["no",3,"line-too-long"]']);
+  });
+
+  test("a reply that is too long is refused, and the hub goes on", async () => {
+    const server = await startServer(["d"]);
+    const hub = await startHub(server.address, "--reply-limit", "5");
+    const ada = await joinLines(hub.lines, "d");
+    const insert = () => ada.insert("d", [0, "list", 0], "\u0001".repeat(4000)); // 24,000 bytes shown
+    for (let at = 0; at < 200; at++) insert();
+    equal(JSON.stringify(await ada.show("d", [0])).length > 200 * 24_000, true); // 4.8 MB
+    for (let at = 0; at < 50; at++) insert();
+    await ada.version();
+    const replies = [["show", "d", [0]], ["version"], ["show", "d", [0, "list"]], ["sum", "d", [0, "n"]]];
+    deepEqual(await Promise.all(replies.map((it) => ada.answer(JSON.stringify(it)))), [
+      '["no",102,"reply-too-long"]', '["version",2]', '["no",102,"reply-too-long"]', '["sum","0"]']);
+    equal(hub.child.exitCode, null);
+    ada.end();
+  });
+
+  test("a reply beyond what a text can have is refused, in little memory", async () => {
+    const pieces = 2700; // of 200,000 bytes: 540 MB
+    const replies = { version: '["version",2]', open: '["opened",1]', sum: '["sum","0"]' };
+    const fake = net.createServer((socket) => {
+      const write = (text) => new Promise((resolve) => socket.write(text, resolve));
+      let turn = Promise.resolve();
+      socket.on("error", () => {}).on("data", (bytes) => {
+        for (const [, word] of `${bytes}`.matchAll(/^\["([a-z]+)"/gm)) {
+          turn = turn.then(async () => {
+            for (let at = 0; word === "show" && at < pieces; at++) await write("x".repeat(200_000));
+            await write(`${replies[word] ?? ""}\n`);
+          });
+        }
+      });
+    });
+    await new Promise((open) => fake.listen(0, "127.0.0.1", open));
+    atEnd(() => fake.close());
+    const hub = await startHub(`127.0.0.1:${fake.address().port}`, "--sessions", "1");
+    const ada = new Raw(hub.lines);
+    ada.send(["open", "d"], ["show", "d", [0]], ["sum", "d", [0, "n"]]);
+    await until("all is answered", () => ada.lines.length === 3, 90);
+    deepEqual(ada.lines, ['["opened",1]', '["no",102,"reply-too-long"]', '["sum","0"]']);
+    const status = readFileSync(`/proc/${hub.child.pid}/status`, "utf8");
+    const peak = Number(/VmHWM:\s*(\d+) kB/.exec(status)[1]) / 1024;
+    ok(peak < 300, `${peak} MB`);
+    ada.end();
+  });
+
+  test("who sends nothing doesn't keep others out", async () => {
+    const server = await startServer(["d"]);
+    const hub = await startHub(server.address, "--patience", "2", "--idle", "4");
+    const watching = new Raw(hub.lines);
+    await watching.ask(["open", "d"]);
+    await watching.ask(["watch", "d"]);
+    const silent = Array.from({ length: 50 }, () => held(hub.lines));
+    const asked = held(hub.lines, '["version"]\n');
+    const from = performance.now();
+    await within(20, "the silent are dropped", Promise.all(silent.map(({ closed }) => closed)));
+    await within(20, "so is the one that asked", asked.closed);
+    ok(performance.now() - from > 3500);
+    equal(watching.isEnded, false);
+    equal(await watching.ask(["unwatch", "d"]).then(() => true), true);
+    await within(20, "now it is, too", watching.ended);
+  });
+
+  test("2,001 idle clients: the one that was idle for longest makes room", async () => {
+    const server = await startServer(["d"]);
+    const hub = await startHub(server.address, "--patience", "3");
+    const idle = [];
+    for (let at = 0; at < 2000; at++) {
+      idle.push(held(hub.lines, '["version"]\n'));
+      if (at % 100 === 0) await pause(20);
+    }
+    await until("each was answered", () => idle.every(({ socket }) => socket.bytesRead > 0), 60);
+    await pause(4000);
+    const ada = await within(20, "another client is served", joinLines(hub.lines, "d"));
+    equal(await ada.add("d", [0, "n"], 1).then((id) => id[0]), 1);
+    equal(idle.filter(({ socket }) => socket.destroyed).length, 1);
+    idle.forEach(({ socket }) => socket.destroy());
+    ada.end();
+  });
+
+  test("half-sent requests are closed in time", async () => {
+    const server = await startServer(["d"]);
+    const hub = await startHub(server.address);
+    const half = Array.from({ length: 300 }, () => held(hub.page, "GET /web/ HTTP/1.1\r\n"));
+    half.push(held(hub.page)); // nothing at all
+    await pause(500);
+    equal((await fetch(`${hub.page}web/`)).status, 200);
+    await within(25, "all are closed", Promise.all(half.map(({ closed }) => closed)));
+  });
+
+  test("refused upgrades are closed at once, also where the other side stays", async () => {
+    const server = await startServer(["d"]);
+    const hub = await startHub(server.address);
+    await fetch(`${hub.page}health`, { headers: { connection: "close" } });
+    const before = openFiles(hub.child);
+    for (let at = 0; at < 200; at++) {
+      const { socket } = held(hub.page);
+      socket.allowHalfOpen = true;
+      socket.write(`${UPGRADE}Origin: http://evil.example\r\n\r\n`);
+    }
+    await until("all came", async () => {
+      const text = await (await fetch(`${hub.page}metrics`)).text();
+      return text.includes("connections_refused_total 200");
+    });
+    await until("all are closed", () => openFiles(hub.child) <= before + 6, 3);
+  });
+
+  test("the page can't be framed, and says what it may load", async () => {
+    const server = await startServer(["d"]);
+    const hub = await startHub(server.address);
+    const { headers } = await fetch(`${hub.page}web/`);
+    match(headers.get("content-security-policy"), /default-src 'self'.*frame-ancestors 'none'/);
+    equal(headers.get("x-content-type-options"), "nosniff");
+  });
+
+  test("what many don't read has a limit of memory", async () => {
+    const server = await startServer(["d"]);
+    const notes = [];
+    const hub = await hubWithin({
+      server: server.address, lines: "127.0.0.1:0", note: (text) => notes.push(text),
+    });
+    const ada = await joinLines(hub.lines, "d");
+    for (let at = 0; at < 300; at++) ada.insert("d", [0, "list", 0], "\u0001".repeat(4000));
+    await ada.version(); // a reply of 7.2 MB
+    const deaf = Array.from({ length: 60 }, () => {
+      const found = held(hub.lines, '["open","d"]\n["show","d",[0]]\n["show","d",[0]]\n');
+      found.socket.pause();
+      return found;
+    });
+    await until("some are dropped", () => notes.some((it) => it.includes("doesn't read")), 60);
+    equal(await ada.version(), 2);
+    deaf.forEach(({ socket }) => socket.destroy());
+    ada.end();
+  });
+});

@@ -1,0 +1,714 @@
+/* The page in headless Chromium, as a person uses it: apart and together, typing at once, offline,
+   in two tabs, with a full store, behind a proxy with TLS, by keyboard alone.
+   Screenshots are written to the folder SHOTS, if that is set. */
+
+import { deepEqual, equal, match, ok } from "node:assert/strict";
+import { execFileSync } from "node:child_process";
+import { mkdirSync, readFileSync, readdirSync } from "node:fs";
+import http from "node:http";
+import https from "node:https";
+import net from "node:net";
+import node from "node:test";
+import { networkInterfaces } from "node:os";
+import { Browser, missing, pause, until } from "../../js/test/chromium.mjs";
+import { end, room, startHub, startServer } from "../../js/test/serving.mjs";
+import { connected } from "../../js/session.mjs";
+
+const SHOTS = process.env.SHOTS;
+const ONLINE = `["ada", "bob"].every((side) =>
+  document.getElementById(side)?.dataset.state === "online")`;
+const skip = missing() || false;
+const test = (name, work, why = skip, seconds = 600) =>
+  node(name, { timeout: seconds * 1000, skip: why }, async (context) => {
+    try {
+      await work(context);
+    } finally {
+      await (await shared)?.browser.closeTabs();
+    }
+  });
+
+/** One server with a document for each test, a hub and a browser, for all tests that end none. */
+let shared;
+let count = 0;
+
+async function sharedParts() {
+  const documents = Array.from({ length: 16 }, (_, at) => `d${at}`);
+  const server = await startServer(documents);
+  return { server, hub: await startHub(server.address), browser: await Browser.open() };
+}
+
+node.after(async () => (await shared)?.browser.close());
+
+/** The page with a document and a profile of its own, once both sides are online. */
+async function page({ quota } = {}) {
+  shared ??= sharedParts();
+  const { server, hub, browser } = await shared;
+  const document = `d${count++}`;
+  const profile = await browser.profile();
+  const url = `${hub.page}web/?doc=${document}`;
+  const tab = await browser.tab(`${hub.page}health`, { profile });
+  const { origin } = new URL(url);
+  if (quota) await tab.send("Storage.overrideQuotaForOrigin", { origin, quotaSize: quota });
+  await tab.go(url);
+  await tab.until(ONLINE);
+  return { server, hub, browser, tab, document, profile, url };
+}
+
+/** The same with a hub and a server that the test may end. */
+async function ownPage(browser, profile) {
+  const server = await startServer(["page"]);
+  const hub = await startHub(server.address);
+  const tab = await browser.tab(hub.page, { profile });
+  await tab.until(ONLINE);
+  return { server, hub, tab };
+}
+
+/** A session of the server. */
+async function sessionOf({ server, document }) {
+  const client = await connected(server.address);
+  await client.open(document);
+  return client;
+}
+
+const sides = ["ada", "bob"];
+const both = async (tab, selector) =>
+  Promise.all(sides.map((side) => tab.textOf(`#${side} ${selector}`)));
+const same = (tab, what, selector, expected) => until(what, async () => {
+  const [ada, bob] = (await both(tab, selector)).map((it) => JSON.stringify(it));
+  return ada === bob && (!expected || ada === JSON.stringify(expected));
+});
+
+async function addItem(tab, side, item) {
+  await tab.type(`#${side} .add-item input`, item);
+  await tab.press("Enter");
+}
+
+async function setTitle(tab, side, title) {
+  await tab.evaluate(`document.querySelector("#${side} .title").select()`);
+  await tab.focus(`#${side} .title`);
+  await tab.insert(title);
+  await tab.press("Enter");
+}
+
+const shot = async (tab, name) => {
+  if (!SHOTS) return;
+  mkdirSync(SHOTS, { recursive: true });
+  await tab.shot(`${SHOTS}/${name}.png`);
+};
+
+test("apart and together: both edit at once, a conflict is shown and settled", async () => {
+  const here = await page();
+  const { tab, document } = here;
+  for (const item of ["eggs", "cheese"]) await addItem(tab, "ada", item);
+  await tab.type("#ada .text", "Dear , how are you?");
+  await same(tab, "bob has ada's text", ".text", ["Dear , how are you?"]);
+  await same(tab, "bob has ada's items", ".item", ["eggs", "cheese"]);
+  for (const side of sides) await tab.click(`#${side} .online`);
+  await setTitle(tab, "ada", "Plan");
+  await setTitle(tab, "bob", "Trip");
+  await addItem(tab, "ada", "milk");
+  await addItem(tab, "bob", "bread");
+  for (const side of ["ada", "bob", "bob"]) await tab.click(`#${side} .up`);
+  await tab.type("#ada .text", "Grace", 5);
+  await tab.type("#bob .text", " Fine, I hope.");
+  deepEqual(await both(tab, ".title"), [["Plan"], ["Trip"]]);
+  for (const state of await tab.textOf(".state")) match(state, /^offline since \d\d:\d\d: it is/);
+  for (const side of sides) await tab.click(`#${side} .online`);
+  await same(tab, "the text has both", ".text", ["Dear Grace, how are you? Fine, I hope."]);
+  await same(tab, "all votes count", ".votes", ["3"]);
+  await same(tab, "both items are there", ".item");
+  equal((await tab.textOf("#ada .item")).length, 4);
+  await same(tab, "both titles are there", ".field .choice b");
+  deepEqual((await tab.textOf("#ada .choice b")).sort(), ["Plan", "Trip"]);
+  await same(tab, "the fronts agree", ".own-front .name");
+  await pause(600); // the last ones are marked as they come
+  await shot(tab, "replicas");
+  await tab.click("#bob .choice");
+  await same(tab, "it is settled", ".choice b", []);
+  const [title] = await tab.textOf("#ada .title");
+  await same(tab, "both have it", ".title", [title]);
+  const client = await sessionOf(here);
+  deepEqual(await client.values(document, [0, "title"]), [title]);
+  await client.quit();
+  deepEqual(tab.faults, []);
+});
+
+test("focus, caret, selection and half-typed text stay when others type", async () => {
+  const here = await page();
+  const { tab, document } = here;
+  for (const item of ["eggs", "milk"]) await addItem(tab, "ada", item);
+  await same(tab, "bob has them", ".item", ["eggs", "milk"]);
+  // An item, while the other side adds one.
+  await tab.type("#ada .item", " (12");
+  await addItem(tab, "bob", "bread"); // moves the focus: it is put back as it was
+  await tab.type("#ada .item", " pcs)");
+  equal(await tab.evaluate("document.activeElement.closest('section').id"), "ada");
+  const client = await sessionOf(here);
+  await client.insert(document, [0, "shopping", 0], "first");
+  await until("ada has it", async () => (await tab.textOf("#ada .item")).length === 4);
+  equal(await tab.focused(), "ada: item");
+  await tab.insert("!");
+  await tab.press("Enter");
+  await same(tab, "it was stored", ".item", ["first", "eggs (12 pcs)!", "milk", "bread"]);
+  // A title, half typed, while another session puts one.
+  await tab.focus("#ada .title");
+  await tab.insert("My long title being ty");
+  await client.assign(document, [0, "title"], "Another's");
+  await until("it is said", async () =>
+    /Another has put “Another's” here/.test((await tab.textOf("#ada .field .note"))[0]));
+  await tab.insert("ped");
+  equal((await tab.textOf("#ada .title"))[0], "My long title being typed");
+  equal(await tab.focused(), "ada: title");
+  await tab.press("Escape");
+  equal((await tab.textOf("#ada .title"))[0], "Another's");
+  equal((await tab.textOf("#ada .field .note"))[0], "");
+  // The caret and a selection of the text.
+  await tab.type("#ada .text", "Hello world");
+  await same(tab, "both have it", ".text", ["Hello world"]);
+  await tab.evaluate(`document.querySelector("#ada .text").setSelectionRange(2, 8, "backward")`);
+  for (const character of "😀yM") await client.insert(document, [0, "text", 0], character);
+  await same(tab, "all have it", ".text", ["My😀Hello world"]);
+  const range = await tab.evaluate(`(() => { const it = document.querySelector("#ada .text");
+    return [it.selectionStart, it.selectionEnd, it.selectionDirection]; })()`);
+  deepEqual(range, [6, 12, "backward"]);
+  await tab.insert("LLO WO");
+  await same(tab, "it was replaced", ".text", ["My😀HeLLO WOrld"]);
+  await client.quit();
+  deepEqual(tab.faults, []);
+});
+
+test("what is deleted by another while it is typed into stays, and can be added again", async () => {
+  const here = await page();
+  const { tab, document } = here;
+  for (const item of ["eggs", "milk", "tea"]) await addItem(tab, "ada", item);
+  await same(tab, "both have them", ".item", ["eggs", "milk", "tea"]);
+  await tab.type("#ada .item", " (12)");
+  const client = await sessionOf(here);
+  await client.delete(document, [0, "shopping", 1]);
+  await until("bob has two", async () => (await tab.textOf("#bob .item")).length === 2);
+  equal(await tab.focused(), "ada: item");
+  await until("it is said", async () =>
+    /Another has deleted this item/.test((await tab.textOf("#ada .items .note")).join("")));
+  await tab.press("Enter");
+  await same(tab, "it was added again", ".item", ["milk", "tea", "eggs (12)"]);
+  await client.quit();
+  // By keyboard: the focus goes on to the next one.
+  await tab.focus("#ada .remove");
+  await tab.press("Enter");
+  await same(tab, "it is gone", ".item", ["tea", "eggs (12)"]);
+  equal(await tab.focused(), "delete tea");
+  deepEqual(tab.faults, []);
+});
+
+test("a refused edit is said in words beside its field, and what was typed stays", async () => {
+  const { tab } = await page();
+  await setTitle(tab, "ada", "é".repeat(3000));
+  equal((await tab.textOf("#ada .title"))[0].length, 3000);
+  match((await tab.textOf("#ada .field .note"))[0], /^Not stored\. A text has at most 4,096 bytes/);
+  equal(await tab.evaluate(`document.querySelector("#ada .title").getAttribute("aria-invalid")`),
+    "true");
+  equal((await tab.textOf("#bob .title"))[0], "");
+  await addItem(tab, "bob", "x".repeat(5000));
+  match((await tab.textOf("#bob .add-item .note"))[0], /at most 4,096 bytes/);
+  equal((await tab.textOf("#bob .add-item input"))[0].length, 5000);
+  await shot(tab, "refused");
+  await tab.focus("#ada .title");
+  await tab.press("Escape");
+  deepEqual(await both(tab, ".title"), [[""], [""]]);
+  deepEqual(tab.faults, []);
+});
+
+test("an item that is a map, and values of several kinds, aren't replaced silently", async () => {
+  const here = await page();
+  const { tab, document } = here;
+  const client = await sessionOf(here);
+  await client.put(document, [0, "shopping"], [{ note: "a note in a map" }, 12, "text", null]);
+  const markup = `<img src=x onerror="window.hurt=1">`;
+  await client.assign(document, [0, "title"], markup);
+  await same(tab, "they are shown", ".item", ["a map", "12", "text", "null"]);
+  await same(tab, "markup is text", ".title", [markup]);
+  equal(await tab.evaluate("window.hurt ?? 0"), 0);
+  await tab.type("#ada .item", "typed");
+  await tab.press("Enter");
+  match((await tab.textOf("#ada .items .note"))[0], /There is a map, which can't be edited here/);
+  await pause(500);
+  const { note } = (await client.plain(document, [0, "shopping", 1]));
+  equal(note, "a note in a map");
+  // A scalar beside it: keeping that one deletes what is in the map, so it asks.
+  const operation = (await client.operations(document).next()).value;
+  ok(operation);
+  await client.quit();
+  deepEqual(tab.faults, []);
+});
+
+test("a wrong ?doc= is said in words", async () => {
+  shared ??= sharedParts();
+  const { hub, browser } = await shared;
+  const tab = await browser.tab(`${hub.page}web/?doc=Trip`);
+  await until("it is said", async () =>
+    /“Trip” can't be the name of a document/.test((await tab.textOf("#notice"))[0] ?? ""));
+  await shot(tab, "wrong-name");
+  await tab.go(`${hub.page}web/?doc=none`);
+  await until("it is said", async () =>
+    (await tab.textOf("#bob .notice")).join("").includes("the server has no document none"));
+  for (const state of await tab.textOf(".state")) match(state, /^offline since/);
+  await shot(tab, "no-document");
+  deepEqual(tab.faults, []);
+});
+
+test("what is typed offline is there after a reload, and meets the others later", async () => {
+  shared ??= sharedParts();
+  const { browser } = await shared;
+  const { tab, server, hub } = await ownPage(browser, await browser.profile());
+  await tab.type("#ada .text", "one ");
+  await same(tab, "both have it", ".text", ["one "]);
+  await end(hub);
+  await until("it says so", async () =>
+    (await tab.textOf(".state")).every((it) => it.startsWith("offline since")), 10);
+  await tab.type("#ada .text", "offline");
+  await tab.type("#bob .text", "also ", 0);
+  await startHub(server.address, { web: hub.web }); // the page comes from there too
+  await tab.reload();
+  await tab.until(ONLINE);
+  await same(tab, "both have all", ".text", ["also one offline"]);
+  equal((await tab.textOf("#server-front .name")).length, 2); // no name is new
+  // And with no hub at all: the page was loaded before, and is offline.
+  await tab.click("#ada .online");
+  await tab.type("#ada .text", "!");
+  await pause(1500); // it is being stored
+  await tab.reload();
+  await tab.until(ONLINE);
+  await same(tab, "both have it", ".text", ["also one offline!"]);
+  deepEqual(tab.faults, []);
+});
+
+test("two tabs: each has its replica, and sees what the other stored; nothing of a closed one is lost", async () => {
+  const { tab, browser, profile, url } = await page();
+  const second = await browser.tab(url, { profile });
+  await second.until(ONLINE);
+  const nameOf = (it) => it.evaluate(`document.querySelector("#ada h2").title`);
+  ok((await nameOf(tab)) !== (await nameOf(second)));
+  for (const it of [tab, second]) await it.click("#ada .online");
+  await setTitle(second, "ada", "offline in the second tab");
+  await until("the first one has it", async () =>
+    (await tab.textOf("#ada .title"))[0] === "offline in the second tab");
+  equal((await tab.textOf("#bob .title"))[0], ""); // nobody has sent it
+  await addItem(second, "ada", "from the second tab");
+  await second.close();
+  await tab.reload();
+  await tab.until(ONLINE);
+  await same(tab, "it was sent", ".title", ["offline in the second tab"]);
+  await same(tab, "all of it", ".item", ["from the second tab"]);
+  deepEqual(tab.faults, []);
+  // Names are used again: five visits are no ten replicas.
+  for (let visit = 0; visit < 5; visit++) {
+    await setTitle(tab, "ada", `visit ${visit}`);
+    await same(tab, "both have it", ".title", [`visit ${visit}`]);
+    await tab.reload();
+    await tab.until(ONLINE);
+  }
+  ok((await tab.textOf("#server-front .name")).length <= 4);
+});
+
+test("screenshots at 320, 768 and 1300 wide: nothing is cut off", async () => {
+  const here = await page();
+  const { tab, document } = here;
+  const client = await sessionOf(here);
+  const long = "Donaudampfschifffahrtsgesellschaftskapitaen".repeat(3);
+  await client.put(document, [0, "shopping"], ["eggs", long]);
+  await client.quit();
+  await same(tab, "both have them", ".item", ["eggs", long]);
+  for (const side of sides) await tab.click(`#${side} .online`);
+  await setTitle(tab, "ada", long);
+  await setTitle(tab, "bob", "Trip");
+  await tab.type("#bob .item", " (12)");
+  await tab.press("Enter");
+  await tab.type("#ada .item", " and ham");
+  await tab.press("Enter");
+  await tab.type("#ada .text", `Dear ${long}`);
+  for (const side of sides) await tab.click(`#${side} .online`);
+  await same(tab, "titles", ".field .choice b");
+  await until("conflicts", async () => (await tab.textOf("#ada .choice")).length === 4)
+    .catch(async (error) => { await shot(tab, "failed"); throw error; });
+  await setTitle(tab, "ada", "é".repeat(3000)); // refused
+  for (const width of [320, 768, 1300]) {
+    await tab.size(width, 900);
+    await pause(300);
+    const wide = await tab.evaluate(`[document.documentElement.scrollWidth, innerWidth]`);
+    ok(wide[0] <= wide[1], `${wide[0]} of ${width}`);
+    const cut = await tab.evaluate(`[...document.querySelectorAll(
+      "main :is(button, input, textarea, output, .name, .choice, .note)")]
+      .filter((it) => it.checkVisibility() && it.getBoundingClientRect().right > innerWidth + 1)
+      .map((it) => it.className)`);
+    deepEqual(cut, []);
+    await shot(tab, `width-${width}`);
+  }
+  deepEqual(tab.faults, []);
+});
+
+test("by keyboard alone", async () => {
+  const { tab } = await page();
+  const seen = [];
+  const to = async (label) => {
+    for (let count = 0; count < 40; count++) {
+      if ((await tab.focused()) === label) return;
+      await tab.press("Tab");
+      const outline = await tab.evaluate(`(() => { const it = document.activeElement;
+        const shown = it.matches(".online") ? it.nextElementSibling : it;
+        return it === document.body ? "body" : getComputedStyle(shown).outlineStyle; })()`);
+      if (outline !== "body") seen.push([await tab.focused(), outline]);
+    }
+    throw new Error(`no way by Tab to ${label}: ${JSON.stringify(seen.slice(-40))}`);
+  };
+  await to("ada: title");
+  await tab.insert("By keyboard");
+  await tab.press("Enter");
+  await same(tab, "the title", ".title", ["By keyboard"]);
+  await to("ada: new item");
+  for (const item of ["eggs", "tea"]) {
+    await tab.insert(item);
+    await tab.press("Enter");
+  }
+  await same(tab, "the items", ".item", ["eggs", "tea"]);
+  await to("ada: votes: one more");
+  await tab.press(" ");
+  await same(tab, "the votes", ".votes", ["1"]);
+  await to("ada: text");
+  for (const text of ["Hello", " world"]) await tab.insert(text);
+  await tab.press("z", 2);
+  await same(tab, "the text", ".text", ["Hello"]);
+  await to("bob: undo");
+  await to("bob: online");
+  await tab.press(" ");
+  await until("bob is offline", async () => (await tab.textOf("#bob .state"))[0].startsWith("off"));
+  await to("New replicas");
+  await to("ada: undo");
+  await tab.press("Enter"); // the text's own step was the last but one
+  await to("delete eggs");
+  await tab.press("Enter");
+  equal(await tab.focused(), "delete tea");
+  deepEqual(seen.filter(([, outline]) => outline === "none"), []);
+  deepEqual(tab.faults, []);
+});
+
+test("what a screen reader hears: each part has a name of its own, errors are live", async () => {
+  const { tab } = await page();
+  for (const item of ["eggs", "tea"]) await addItem(tab, "ada", item);
+  await same(tab, "both have them", ".item", ["eggs", "tea"]);
+  await tab.send("Accessibility.enable");
+  const { nodes } = await tab.send("Accessibility.getFullAXTree");
+  const named = nodes.filter(({ ignored }) => !ignored)
+    .map(({ role, name }) => `${role?.value} ${name?.value ?? ""}`.trim());
+  for (const due of ["region Ada", "region Bob", "region Server", "switch ada: online",
+    "switch bob: online", "textbox ada: title", "textbox bob: text", "button delete eggs",
+    "button bob: undo"]) ok(named.includes(due), `${due} of ${named}`);
+  const controls = named.filter((it) => /^(switch|textbox) /.test(it) && !it.endsWith(": item"));
+  equal(new Set(controls).size, controls.length);
+  equal(named.filter((it) => /^(switch|textbox|button)$/.test(it)).length, 0); // without a name
+  ok((await tab.evaluate(`document.querySelectorAll("[role=alert], [role=status]").length`)) > 8);
+});
+
+test("a hub that is frozen: it isn't called online, and all arrives later", async () => {
+  shared ??= sharedParts();
+  const { browser } = await shared;
+  const { tab, hub } = await ownPage(browser, await browser.profile());
+  process.kill(hub.child.pid, "SIGSTOP");
+  await addItem(tab, "ada", "while it is frozen");
+  await until("it is said", async () =>
+    (await tab.textOf(".state")).every((it) => /^offline since .*doesn't reply/.test(it)), 10);
+  await shot(tab, "frozen");
+  deepEqual(await both(tab, ".item"), [["while it is frozen"], []]);
+  process.kill(hub.child.pid, "SIGCONT");
+  await same(tab, "bob has it", ".item", ["while it is frozen"]);
+  await tab.until(ONLINE);
+  deepEqual(tab.faults, []);
+});
+
+/** Pastes a text into ada's field, and answers the question that follows. */
+async function paste(tab, text, answer) {
+  await tab.evaluate(`{ const field = document.querySelector("#ada .text");
+    field.focus();
+    const end = field.value.length;
+    field.setRangeText(${JSON.stringify(text)}, end, end, "end");
+    field.dispatchEvent(new Event("input")); }`);
+  await until("it asks", () => tab.evaluate(`document.querySelector("#question").open`));
+  const [words] = await tab.textOf("#question p");
+  await tab.evaluate(`[...document.querySelectorAll("#question button")]
+    .find((it) => it.textContent === ${JSON.stringify(answer)}).click()`);
+  return words;
+}
+
+/** How many operations a side has stored. */
+const storedBy = (tab, document, side) => tab.evaluate(`new Promise((done, failed) => {
+  const request = indexedDB.open("jcrdt ${document} ${side}");
+  request.onerror = () => failed(request.error);
+  request.onsuccess = () => {
+    const rows = request.result.transaction("operations").objectStore("operations").count();
+    rows.onsuccess = () => { request.result.close(); done(rows.result); };
+  };
+})`);
+
+// More than localStorage held, and a third of what a document takes: JCRDT_SLOW=1 pastes so many.
+const LINES = process.env.JCRDT_SLOW ? 1800 : 150;
+const SLOW_SECONDS = 1500; // for the browser at one processor of many
+
+test(`${LINES * 20} characters pasted offline: all are there after a reload, and reach everybody`, async (context) => {
+  const here = await page();
+  const { tab, url, browser, document } = here;
+  await tab.type("#ada .text", "short");
+  const words = await paste(tab, "x".repeat(3000), "Don't insert");
+  match(words, /^This text has 3,000 characters\. Each is one of the 100,000 changes/);
+  deepEqual(await tab.textOf("#ada .text"), ["short"]);
+  await same(tab, "bob has no more", ".text", ["short"]);
+  await tab.click("#ada .online");
+  const long = Array.from({ length: LINES }, (_, at) => `${at}: `.padEnd(19, "abcdefghi")).join("\n");
+  const [pasted, due] = [`${long}\n`, `short${long}\n`];
+  await paste(tab, pasted, "Insert");
+  await until("it is stored", async () => (await storedBy(tab, document, "ada")) === due.length, 300);
+  deepEqual(await tab.textOf("#ada .notice"), [""]);
+  await tab.click("#ada .online"); // not online before the reload: it has to send all
+  await tab.reload();
+  await until("ada's text is there again", async () => (await tab.textOf("#ada .text"))[0] === due, 120);
+  // Bob sees it grow, in the order in which it was typed, and then has all of it.
+  let [seen, parts] = ["", 0];
+  await until("bob has it", async () => {
+    const [text = ""] = await tab.textOf("#bob .text");
+    ok(due.startsWith(text) && text.startsWith(seen), `${text.length} behind ${seen.length}`);
+    if (text !== seen) parts++;
+    seen = text;
+    await pause(500);
+    return text === due;
+  }, SLOW_SECONDS).catch((error) => { throw new Error(`${error.message}, but ${seen.length}`); });
+  context.diagnostic(`${due.length} characters came in ${parts} parts or more`);
+  await tab.until(ONLINE, SLOW_SECONDS);
+  const client = await sessionOf(here);
+  equal((await client.items(document, [0, "text"])).map(([, [it]]) => it).join(""), due);
+  await client.quit();
+  await until("both have stored all", async () =>
+    (await Promise.all(sides.map((side) => storedBy(tab, document, side))))
+      .every((count) => count === due.length), 300);
+  // Another browser opens it: what isn't all there isn't called online.
+  const fresh = await browser.tab(url, { profile: await browser.profile() });
+  await until("it has all once it is online", async () => {
+    const [state, text] = await fresh.evaluate(`[document.querySelector("#ada")?.dataset.state,
+      document.querySelector("#ada .text")?.value]`);
+    if (state !== "online") return false;
+    await until("it is shown", async () => (await fresh.textOf("#ada .text"))[0] === due, 5);
+    return text !== undefined;
+  }, SLOW_SECONDS);
+  await shot(fresh, "long-text");
+  deepEqual([...tab.faults, ...fresh.faults], []);
+}, skip, 3 * SLOW_SECONDS);
+
+test("a full store: what is there is kept, it is said, and edits go on once there is room", async () => {
+  const { tab, browser, profile } = await page({ quota: 300_000 });
+  await addItem(tab, "ada", "stored");
+  await same(tab, "both have it", ".item", ["stored"]);
+  await tab.click("#ada .online");
+  const origin = await tab.evaluate("location.origin");
+  await paste(tab, "z".repeat(2500), "Insert");
+  const notice = () => tab.textOf("#ada .notice").then(([text]) => text);
+  await until("it is said", async () => /^2500 changes aren't stored: the store is full/.test(await notice()));
+  await addItem(tab, "ada", "refused");
+  match((await tab.textOf("#ada .add-item .note"))[0], /Nothing more can be edited until they are/);
+  deepEqual(await tab.textOf("#ada .item"), ["stored"]);
+  equal((await tab.textOf("#ada .add-item input"))[0], "refused");
+  await shot(tab, "full-store");
+  // What can be saved: all of it, as a file.
+  const folder = room();
+  const place = { behavior: "allow", downloadPath: folder, browserContextId: profile };
+  await browser.send("Browser.setDownloadBehavior", place);
+  await tab.click("#ada .notice button");
+  const saved = await until("it is saved", () => readdirSync(folder).find((it) => /\.jcrdt$/.test(it)));
+  await pause(500);
+  equal(readFileSync(`${folder}/${saved}`, "utf8").trimEnd().split("\n").length, 1 + 1 + 2500);
+  // Room again: all is stored by itself.
+  await tab.send("Storage.overrideQuotaForOrigin", { origin });
+  await until("it is stored", async () => (await notice()) === "");
+  await tab.press("Enter");
+  await until("edits go on", async () => (await tab.textOf("#ada .item")).length === 2);
+  await pause(1500);
+  await tab.reload();
+  await tab.until(ONLINE);
+  await same(tab, "all of it is there", ".item", ["stored", "refused"]);
+  equal((await tab.textOf("#bob .text"))[0].length, 2500);
+  deepEqual(tab.faults, []);
+});
+
+test("New replicas: what no server has is asked for first", async () => {
+  const { tab } = await page();
+  await setTitle(tab, "ada", "at the server");
+  await same(tab, "both have it", ".title", ["at the server"]);
+  const name = await tab.evaluate(`document.querySelector("#ada h2").title`);
+  await tab.click("#ada .online");
+  await addItem(tab, "ada", "nowhere else");
+  await pause(1000);
+  const forget = async (answer) => {
+    await tab.click("#forget");
+    await until("it asks", () => tab.evaluate(`document.querySelector("#question").open`));
+    equal((await tab.textOf("#question p"))[0],
+      "1 change of this browser may be at no server, and would be lost.");
+    if (answer) await tab.evaluate(`[...document.querySelectorAll("#question button")]
+      .find((it) => it.textContent === "${answer}").click()`);
+    else await tab.press("Escape");
+  };
+  await forget("Keep them");
+  await forget(undefined);
+  await pause(500);
+  await shot(tab, "kept");
+  deepEqual(await tab.textOf("#ada .item"), ["nowhere else"]);
+  await forget("Lose them");
+  await tab.until(`document.querySelector("#ada h2")?.title !== "${name}"`);
+  await tab.until(ONLINE);
+  await same(tab, "the server's is there", ".title", ["at the server"]);
+  deepEqual(await both(tab, ".item"), [[], []]);
+  // Nothing would be lost now: it doesn't ask.
+  const next = await tab.evaluate(`document.querySelector("#ada h2").title`);
+  await tab.click("#forget");
+  await tab.until(`document.querySelector("#ada h2")?.title !== "${next}"`);
+  deepEqual(tab.faults, []);
+});
+
+test("a store with a row that can't be read: the others are used, and it can be saved", async () => {
+  const { tab, document } = await page();
+  for (const item of ["one", "two"]) await addItem(tab, "ada", item);
+  await same(tab, "both have them", ".item", ["one", "two"]);
+  await pause(1500);
+  await tab.evaluate(`new Promise((done) => {
+    const request = indexedDB.open("jcrdt ${document} ada");
+    request.onsuccess = () => {
+      const transaction = request.result.transaction("operations", "readwrite");
+      transaction.objectStore("operations").put("scrambled", ["zoe", 1]);
+      transaction.oncomplete = done;
+    };
+  })`);
+  await tab.reload();
+  await tab.until(ONLINE);
+  match((await tab.textOf("#ada .notice"))[0], /^1 of 3 stored lines couldn't be read or used/);
+  await same(tab, "the others are there", ".item", ["one", "two"]);
+  deepEqual(tab.faults, []);
+});
+
+test("a browser that is killed: what was edited is there", async () => {
+  const server = await startServer(["page"]);
+  const hub = await startHub(server.address);
+  const first = await Browser.open();
+  const tab = await first.tab(hub.page);
+  await tab.until(ONLINE);
+  for (const item of ["one", "two"]) await addItem(tab, "ada", item);
+  await same(tab, "both have them", ".item", ["one", "two"]);
+  const { length } = await tab.textOf("#server-front .name");
+  await tab.click("#ada .online");
+  await addItem(tab, "ada", "three");
+  await pause(700);
+  first.kill();
+  await first.ended;
+  const second = await Browser.open({ folder: first.folder });
+  try {
+    const again = await second.tab(hub.page);
+    await again.until(ONLINE);
+    await same(again, "all are there", ".item", ["one", "two", "three"]);
+    equal((await again.textOf("#server-front .name")).length, length); // under the old names
+    deepEqual(await again.textOf(".notice"), ["", "", ""]);
+  } finally {
+    await second.close();
+  }
+});
+
+test("the text pad: two browsers type into one text", async () => {
+  shared ??= sharedParts();
+  const { hub, browser } = await shared;
+  const url = `${hub.page}web/pad.html?doc=d${count++}`;
+  const [ada, bob] = await Promise.all([0, 1].map(async () =>
+    browser.tab(url, { profile: await browser.profile() })));
+  for (const tab of [ada, bob]) await tab.until(`document.querySelector("#state").textContent === "online "`);
+  const textOf = async (tab) => (await tab.textOf("#text"))[0];
+  const both = (text) => until(`both have ${text}`, async () =>
+    (await textOf(ada)) === text && (await textOf(bob)) === text);
+  await ada.type("#text", "Hello 😀");
+  await both("Hello 😀");
+  await bob.type("#text", "Dear ", 0);
+  await ada.insert("!");
+  await both("Dear Hello 😀!");
+  await ada.press("z", 2);
+  await both("Dear Hello 😀");
+  await pause(1000);
+  await ada.reload();
+  await both("Dear Hello 😀");
+  deepEqual([...ada.faults, ...bob.faults], []);
+});
+
+test("behind a proxy with TLS, below a path", async () => {
+  const folder = room();
+  execFileSync("openssl", ["req", "-x509", "-newkey", "ec", "-pkeyopt", "ec_paramgen_curve:P-256",
+    "-nodes", "-days", "2", "-subj", "/CN=localhost", "-keyout", `${folder}/key.pem`,
+    "-out", `${folder}/cert.pem`], { stdio: "ignore" });
+  const [key, cert] = ["key", "cert"].map((it) => readFileSync(`${folder}/${it}.pem`));
+  const proxy = https.createServer({ key, cert }).listen(0, "127.0.0.1");
+  await new Promise((listens) => proxy.on("listening", listens));
+  const origin = `https://localhost:${proxy.address().port}`;
+  const server = await startServer(["page"]);
+  const hub = await startHub(server.address, { more: ["--origin", origin] });
+  const { hostname, port } = new URL(hub.page);
+  const inner = (path) => path.replace(/^\/notes/, "");
+  proxy.on("request", ({ url, method, headers }, response) => {
+    http.get({ hostname, port, path: inner(url), method, headers }, (reply) => {
+      response.writeHead(reply.statusCode, reply.headers);
+      reply.pipe(response);
+    });
+  });
+  proxy.on("upgrade", ({ url, rawHeaders }, socket, head) => {
+    const up = net.connect(port, hostname, () => {
+      const lines = rawHeaders.reduce((text, it, at) => text + it + (at % 2 ? "\r\n" : ": "), "");
+      up.write(`GET ${inner(url)} HTTP/1.1\r\n${lines}\r\n`);
+      up.write(head);
+      socket.pipe(up).pipe(socket);
+    });
+    for (const it of [up, socket]) it.on("error", () => {});
+  });
+  shared ??= sharedParts();
+  const { browser } = await shared;
+  await browser.send("Security.setIgnoreCertificateErrors", { ignore: true }).catch(() => {});
+  const tab = await browser.tab("about:blank", { profile: await browser.profile() });
+  await tab.send("Security.setIgnoreCertificateErrors", { ignore: true });
+  await tab.go(`${origin}/notes/web/`);
+  await tab.until(ONLINE);
+  await setTitle(tab, "ada", "by TLS");
+  await same(tab, "both have it", ".title", ["by TLS"]);
+  deepEqual(tab.faults, []);
+  proxy.close();
+  proxy.closeAllConnections();
+});
+
+test("by plain http from another machine, where there are no locks", async () => {
+  const address = Object.values(networkInterfaces()).flat()
+    .find(({ family, internal }) => family === "IPv4" && !internal)?.address;
+  const server = await startServer(["page"]);
+  const at = address ?? "127.0.0.1";
+  const hub = await startHub(server.address, { web: `${at}:0`, more: [] });
+  shared ??= sharedParts();
+  const { browser } = await shared;
+  const profile = await browser.profile();
+  const tab = await browser.tab(hub.page, { profile });
+  await tab.until(ONLINE);
+  if (address) equal(await tab.evaluate("navigator.locks === undefined"), true);
+  const second = await browser.tab(hub.page, { profile });
+  await second.until(ONLINE);
+  const nameOf = (it) => it.evaluate(`document.querySelector("#ada h2").title`);
+  ok((await nameOf(tab)) !== (await nameOf(second)));
+  await second.close();
+  for (let visit = 0; visit < 3; visit++) {
+    await setTitle(tab, "ada", `visit ${visit}`);
+    await same(tab, "both have it", ".title", [`visit ${visit}`]);
+    await tab.reload();
+    await tab.until(ONLINE);
+  }
+  await tab.click("#ada .online");
+  await setTitle(tab, "ada", "an offline edit");
+  await pause(300);
+  await tab.reload();
+  await tab.until(ONLINE);
+  await same(tab, "it is there", ".title", ["an offline edit"]);
+  ok((await tab.textOf("#server-front .name")).length <= 2);
+  deepEqual(tab.faults, []);
+});

@@ -1,0 +1,166 @@
+/* What the hub sends without being asked: only to who asked for it. Presence, too. */
+
+import { deepEqual, equal, ok } from "node:assert/strict";
+import { existsSync } from "node:fs";
+import { test } from "node:test";
+import { fileURLToPath } from "node:url";
+import { kill, launch, pause, Raw, startHub, startServer, suite, until } from "./support.mjs";
+
+const PYTHON = fileURLToPath(new URL("../../python", import.meta.url));
+
+/** A server, a hub before it, and how the server is started again. */
+async function both(...options) {
+  let server = await startServer(["d", "e"]);
+  const hub = await startHub(server.address, "--poll", "20", ...options);
+  const again = async () => {
+    await pause(300); // what was logged is stored
+    await kill(server.child);
+    await pause(300);
+    server = await startServer(["d", "e"], server);
+  };
+  return { hub, again, stop: () => kill(server.child) };
+}
+
+/** A client that has opened a document. */
+async function opened({ lines }, document = "d") {
+  const client = new Raw(lines);
+  const reply = await client.ask(["open", document]);
+  ok(reply.startsWith('["opened",'), reply);
+  return client;
+}
+
+suite("pushes", { concurrency: true }, () => {
+  test("a plain client gets replies alone, also after a restart", async () => {
+    const { hub, again } = await both();
+    const client = await opened(hub);
+    for (const key of ["a", "b"]) await client.ask(["assign", "d", [0, key], key]);
+    await again();
+    for (const key of ["a", "b", "a", "b"]) {
+      equal(await client.ask(["values", "d", [0, key]]), `["values",["${key}"]]`);
+    }
+    deepEqual(client.lines, []);
+    client.end();
+  });
+
+  test("a client that came while the server was away gets replies alone", async () => {
+    const { hub, again } = await both("--sessions", "1");
+    const coming = again();
+    await pause(700);
+    const client = new Raw(hub.lines);
+    client.send(["open", "d"], ["front", "d"]);
+    await coming;
+    ok((await client.next()).startsWith('["opened",'));
+    ok((await client.next()).startsWith('["front",'));
+    await pause(1000);
+    deepEqual(client.lines, []);
+    client.end();
+  });
+
+  test("who has bound a name or watches is told of a restart", async () => {
+    const { hub, again } = await both();
+    const [binds, watches, both_] = [await opened(hub), await opened(hub), await opened(hub)];
+    for (const client of [binds, both_]) {
+      equal(await client.ask(["let", "d", "it", [0, "k"]]), '["bound"]');
+    }
+    for (const client of [watches, both_]) {
+      equal(await client.ask(["watch", "d"]), '["watching"]');
+      equal(await client.next(), '["changed","d",[]]');
+    }
+    await again();
+    equal(await binds.next(), '["reopened",[["d","it"]]]');
+    equal(await watches.next(), '["reopened",[]]');
+    equal(await both_.next(), '["reopened",[["d","it"]]]');
+    equal(await binds.ask(["values", "d", ["it"]]), '["no",8,"no-such-variable"]');
+    [binds, watches, both_].forEach((client) => client.end());
+  });
+
+  test("a watch ends", async () => {
+    const { hub } = await both();
+    const [ada, bob] = [await opened(hub), await opened(hub)];
+    equal(await ada.ask(["watch", "d"]), '["watching"]');
+    equal(await ada.next(), '["changed","d",[]]');
+    await bob.ask(["assign", "d", [0, "k"], 1]);
+    equal(await ada.next(), '["changed","d",[["srv-1",1]]]');
+    equal(await ada.ask(["unwatch", "d"]), '["unwatched","d"]');
+    equal(await ada.ask(["unwatch", "d"]), '["unwatched","d"]');
+    await bob.ask(["assign", "d", [0, "k"], 2]);
+    await pause(300);
+    deepEqual(ada.lines, []);
+    equal(await ada.ask(["watch", "none"]), '["no",5,"not-open"]');
+    equal(await ada.ask(["unwatch", "d", 1]), '["no",2,"bad-request"]');
+    [ada, bob].forEach((client) => client.end());
+  });
+
+  test("presence: what one says others hear, and that it has left", async () => {
+    const { hub } = await both();
+    const [ada, bob, eve] = [await opened(hub), await opened(hub), await opened(hub, "e")];
+    equal(await ada.ask(["hear", "d"]), '["hearing","d"]');
+    equal(await eve.ask(["hear", "e"]), '["hearing","e"]');
+    equal(await eve.ask(["hear", "d"]), '["no",5,"not-open"]');
+    // Integers beyond 2^53 and blanks are as they were said.
+    equal(await bob.ask('["say", "d",  {"caret":[5,"x"], "n":9007199254740993} ]'), '["said"]');
+    const heard = JSON.parse(await ada.next());
+    deepEqual([heard[0], heard[1], heard[3].caret], ["heard", "d", [5, "x"]]);
+    equal(await bob.ask(["say", "d", "again"]), '["said"]');
+    equal(await ada.next(), `["heard","d","${heard[2]}","again"]`);
+    // Who comes later hears what is said already; nobody hears oneself.
+    const late = await opened(hub);
+    equal(await late.ask(["hear", "d"]), '["hearing","d"]');
+    equal(await late.next(), `["heard","d","${heard[2]}","again"]`);
+    equal(await late.ask(["say", "d", 9]), '["said"]');
+    const second = JSON.parse(await ada.next());
+    ok(second[2] !== heard[2]);
+    bob.end();
+    for (const client of [ada, late]) equal(await client.next(), `["heard","d","${heard[2]}",null]`);
+    equal(await late.ask(["say", "d", null]), '["said"]');
+    equal(await ada.next(), `["heard","d","${second[2]}",null]`);
+    equal(await late.ask(["say", "d", "x".repeat(4095)]), '["no",6,"bad-value"]');
+    equal(await late.ask(["unhear", "d"]), '["unheard","d"]');
+    equal(await ada.ask(["say", "d", 1]), '["said"]');
+    await pause(200);
+    deepEqual([late.lines, eve.lines, ada.lines], [[], [], []]);
+    [ada, eve, late].forEach((client) => client.end());
+  });
+
+  test("who doesn't read what others say gets the last of it", async () => {
+    const { hub } = await both("--patience", "20");
+    const [ada, bob] = [await opened(hub), await opened(hub)];
+    await ada.ask(["hear", "d"]);
+    ada.socket.pause();
+    const text = "x".repeat(4000);
+    for (let at = 0; at < 3000; at++) bob.send(["say", "d", `${at} ${text}`]);
+    await until("all is said", () => bob.lines.length >= 3000);
+    bob.lines.length = 0;
+    const memory = await bob.ask(["version"]);
+    equal(memory, '["version",2]');
+    ada.socket.resume();
+    await until("the last one is heard", () => ada.lines.at(-1)?.includes('"2999 '));
+    ok(ada.lines.length < 3000, `${ada.lines.length} of 3000 were kept`);
+    [ada, bob].forEach((client) => client.end());
+  });
+
+  const isMissing = !existsSync(`${PYTHON}/jcrdt/session.py`) && "clients/python isn't there";
+  test("a Python client gets its own answers, also after a restart", { skip: isMissing }, async () => {
+    const { hub, again } = await both();
+    const script = `
+import sys
+sys.path.insert(0, ${JSON.stringify(PYTHON)})
+from jcrdt import session
+with session.connected(${JSON.stringify(hub.lines)}) as client:
+    client.open("d")
+    for key in "abc": client.assign("d", [0, key], key * 3)
+    print("ready", flush=True)
+    sys.stdin.readline()
+    print([client.values("d", [0, key]) for key in "abcabc"], client.keys("d", [0]), flush=True)
+`;
+    const child = launch("python3", ["-B", "-c", script], { stdio: ["pipe", "pipe", "pipe"] });
+    let out = "";
+    child.stdout.on("data", (text) => (out += text));
+    await until("it has written", () => out.startsWith("ready"));
+    await again();
+    child.stdin.end("\n");
+    await child.ended;
+    const values = ["aaa", "bbb", "ccc"].map((it) => `['${it}']`).join(", ");
+    equal(out, `ready\n[${values}, ${values}] ['a', 'b', 'c']\n`, child.notes);
+  });
+});

@@ -1,0 +1,33 @@
+/* What keeps the documents of a page, and copies of the page's files for the time without network. */
+
+import { load } from "../js/jcrdt.mjs";
+import { open } from "../js/rules.mjs";
+
+const COPIES = "jcrdt"; // as in offline.mjs
+const ROOM = 50_000_000; // bytes that a browser has to leave for documents
+
+/** The proved replica, jcrdt.wasm, where this browser runs it, and else rules.mjs; and which it is,
+ *  in words. */
+export async function engine() {
+  let words = "jcrdt.wasm, the proved replica";
+  const say = (/** @type {string} */ why) => (words = why);
+  const made = await load({ say }).catch((error) => {
+    say(`rules.mjs, since jcrdt.wasm can't be had: ${error.message}`);
+    return open;
+  });
+  return { open: made, words };
+}
+
+/** Lets this page open without the network from now on, where the browser keeps copies of files:
+ *  not over plain http from another machine, and not where it has little room. */
+export async function keepCopies() {
+  const { serviceWorker, storage } = navigator;
+  if (!serviceWorker || !storage) return;
+  const { quota = 0, usage = 0 } = await storage.estimate();
+  if (quota - usage < ROOM) return;
+  await serviceWorker.register("offline.mjs");
+  const loaded = performance.getEntriesByType("resource").map(({ name }) => name);
+  const files = [location.href, ...loaded].map((name) => name.replace(/[?#].*$/s, ""));
+  const own = files.filter((name) => /\/(web|js)\/[^/]*$/.test(name));
+  await (await caches.open(COPIES)).addAll(new Set(own));
+}

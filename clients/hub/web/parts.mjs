@@ -1,0 +1,123 @@
+/* Small parts of the page. */
+
+/** @typedef {[number, string]} Id */
+
+/** An element of the page with a class, and with text or other elements in it.
+ *  @param {string} tag
+ *  @param {string} className
+ *  @param {string | (string | Node)[]} content
+ *  @returns {HTMLElement} */
+export function element(tag, className, content) {
+  const made = document.createElement(tag);
+  made.className = className;
+  made.append(...[content].flat());
+  return made;
+}
+
+/** The element of a selector, which is there.
+ *  @param {ParentNode} root
+ *  @param {string} selector
+ *  @returns {HTMLElement} */
+export function find(root, selector) {
+  const found = root.querySelector(selector);
+  if (!(found instanceof HTMLElement)) throw new Error(`the page has no ${selector}`);
+  return found;
+}
+
+/** The field of a selector.
+ *  @param {ParentNode} root
+ *  @param {string} selector
+ *  @returns {HTMLInputElement} */
+export function findField(root, selector) {
+  return /** @type {HTMLInputElement} */ (find(root, selector));
+}
+
+/** A replica's name without what makes it unique; the tooltip has all of it.
+ *  @param {string} name */
+const shortName = (name) => name.replace(/-[a-z2-7]{10}$/, "");
+
+/** @param {string} name
+ *  @param {string} text */
+function nameOf(name, text) {
+  const made = element("span", `name ${shortName(name)}`, text);
+  made.title = name;
+  return made;
+}
+
+/** An id as it is shown: `3 ada`.
+ *  @param {Id} id */
+export const idOf = ([counter, name]) => nameOf(name, `${counter} ${shortName(name)}`);
+
+/** A value as it is shown.
+ *  @param {unknown} value
+ *  @returns {string} */
+export function textOf(value) {
+  if (Array.isArray(value)) return "a list";
+  if (typeof value === "object" && value !== null) return "a map";
+  return typeof value === "string" ? value : String(value);
+}
+
+/** An operation as it is shown: its id, and `insert "eggs" shopping[3 ada]`.
+ *  @param {any} operation
+ *  @returns {HTMLElement[]} */
+export function describe([, id, , [path, key], [word, value]]) {
+  const keys = [...path.map((/** @type {any} */ item) => item[1]), key].slice(1).map((it) => {
+    if (Array.isArray(it)) return `[${it[0]} ${shortName(it[1])}]`;
+    return it === 1 ? "[head]" : it;
+  });
+  const what = value === undefined ? "" : typeof value === "bigint" ? value : JSON.stringify(value);
+  return [idOf(id), element("span", "what", `${word} ${what} ${keys.join("")}`)];
+}
+
+/** @param {HTMLElement} place
+ *  @param {[string, number][]} front */
+export function showFront(place, front) {
+  const names = front.map(([name, counter]) => nameOf(name, `${shortName(name)} ${counter}`));
+  place.replaceChildren(...names);
+}
+
+/** Asks a question in a dialog. Resolves with the answer, or with the first one if it is closed.
+ *  @param {string} words
+ *  @param {string[]} answers
+ *  @returns {Promise<string>} */
+export function ask(words, answers) {
+  const dialog = /** @type {HTMLDialogElement} */ (find(document, "#question"));
+  find(dialog, "p").textContent = words;
+  const buttons = answers.map((answer) => {
+    const button = element("button", "", answer);
+    button.addEventListener("click", () => dialog.close(answer));
+    return button;
+  });
+  find(dialog, ".answers").replaceChildren(...buttons);
+  dialog.returnValue = answers[0];
+  dialog.showModal();
+  return new Promise((resolve) => {
+    dialog.addEventListener("close", () => resolve(dialog.returnValue), { once: true });
+  });
+}
+
+/** Has the browser save a text as a file.
+ *  @param {string} name
+ *  @param {string} text */
+export function save(name, text) {
+  const url = URL.createObjectURL(new Blob([text], { type: "text/plain" }));
+  const link = document.createElement("a");
+  Object.assign(link, { href: url, download: name });
+  link.click();
+  setTimeout(() => URL.revokeObjectURL(url), 60_000);
+}
+
+const REFUSALS = new Map([
+  [6, "A text has at most 4,096 bytes, which is as many plain letters, and a number 64 bits."],
+  [9, "Another has deleted that place."],
+  [7, "Another has deleted that place."],
+  [18, "The document is full: it takes 100,000 changes."],
+  [19, "The document is full: it takes 256 replicas, and this would be one more."],
+]);
+
+/** Why an edit was refused, in words.
+ *  @param {unknown} error */
+export function wordsOf(error) {
+  const { number = 0, message = String(error) } = /** @type {any} */ (error);
+  return REFUSALS.get(number) ?? message;
+}

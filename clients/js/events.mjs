@@ -1,0 +1,194 @@
+/* What listeners of a replica hear: one event for all that was logged together, one at a time. */
+
+import { endOf, isPrefix, textsOf } from "./places.mjs";
+
+/** @typedef {import("./wire.mjs").Cursor} Cursor */
+/** @typedef {import("./wire.mjs").Id} Id */
+/** @typedef {import("./wire.mjs").Operation} Operation */
+/** @typedef {import("./rules.mjs").Splice} Splice */
+/** @typedef {"own" | "undo" | "taken" | "remade"} Why */
+
+/** @typedef {object} Change Where an operation ended, by ids, and what it was.
+ *  @property {Id} id
+ *  @property {"assign" | "insert" | "delete" | "add"} word
+ *  @property {Cursor} place
+ *  @property {any} [value] */
+
+/** @typedef {object} Event
+ *  @property {Why} why
+ *  @property {string[]} lines The operations, as they are stored. None with "remade".
+ *  @property {Id[]} ids
+ *  @property {Change[]} changes */
+
+/** @typedef {(event: Event) => any} Heard */
+/** @typedef {(splices: Splice[], why: Why) => any} Changed */
+
+/** What a watch asks for splices: the operations are those at, under or above its place.
+ *  @typedef {{take: (ops: Operation[]) => Splice[], end: () => void}} Source */
+
+/** @typedef {object} Watch
+ *  @property {Cursor} place
+ *  @property {string[]} texts Of the place.
+ *  @property {Source} source
+ *  @property {number} length Of the list, as the splices made it.
+ *  @property {Changed} changed */
+
+/** @typedef {{line: string, op: Operation, texts: string[]}} Logged */
+
+export class Events {
+  /** @type {Set<Heard>} */
+  #listeners = new Set();
+  /** @type {Set<Watch>} */
+  #watches = new Set();
+  /** @type {(() => void)[]} Calls that wait for the one under way. */
+  #queue = [];
+  #isCalling = false;
+  #depth = 0; // of batches
+  /** @type {Logged[]} What the batch has logged. */
+  #logged = [];
+  /** @type {Why} */
+  #why = "own";
+  #failed;
+
+  /** @param {(error: any) => any} failed Is called with what a listener has thrown. */
+  constructor(failed) {
+    this.#failed = failed;
+  }
+
+  get hasWatches() { return this.#watches.size > 0; }
+
+  /** @param {Heard} heard */
+  listen(heard) {
+    this.#listeners.add(heard);
+    return () => void this.#listeners.delete(heard);
+  }
+
+  /** @param {Cursor} place
+   *  @param {Source} source
+   *  @param {number} length
+   *  @param {Changed} changed */
+  watch(place, source, length, changed) {
+    const watch = { place, texts: textsOf(place), source, length, changed };
+    this.#watches.add(watch);
+    return () => {
+      if (this.#watches.delete(watch)) watch.source.end();
+    };
+  }
+
+  /** All that is logged within `work` is one event, at its end.
+   *  @template T
+   *  @param {() => T} work
+   *  @returns {T} */
+  batch(work) {
+    this.#depth++;
+    try {
+      return work();
+    } finally {
+      if (--this.#depth === 0) this.#close();
+    }
+  }
+
+  /** @param {string} line
+   *  @param {Operation} op
+   *  @param {Why} why */
+  log(line, op, why) {
+    if (why !== this.#why) this.#close(false);
+    this.#why = why;
+    this.#logged.push({ line, op, texts: this.#watches.size > 0 ? textsOf(endOf(op)) : [] });
+  }
+
+  /** Makes an event of what was logged. */
+  #close(isCalled = true) {
+    const [why, logged] = [this.#why, this.#logged.splice(0)];
+    if (logged.length > 0) {
+      const event = eventOf(why, logged);
+      this.#queue.push(() => this.#call(this.#listeners, event));
+      for (const watch of this.#watches) this.#look(watch, why, logged);
+    }
+    if (isCalled) this.#drain();
+  }
+
+  /** @param {Watch} watch
+   *  @param {Why} why
+   *  @param {Logged[]} logged */
+  #look(watch, why, logged) {
+    const found = logged.filter(({ op, texts }) => isPrefix(watch.texts, texts) ||
+      (clears(op) && isPrefix(texts, watch.texts)));
+    if (found.length === 0) return;
+    this.#queueSplices(watch, watch.source.take(found.map(({ op }) => op)), why);
+  }
+
+  /** @param {Watch} watch
+   *  @param {Splice[]} splices
+   *  @param {Why} why */
+  #queueSplices(watch, splices, why) {
+    for (const { remove, insert } of splices) watch.length += insert.length - remove;
+    this.#queue.push(() => this.#watches.has(watch) && this.#guard(watch.changed, splices, why));
+  }
+
+  /** @param {Set<Heard>} listeners
+   *  @param {Event} event */
+  #call(listeners, event) {
+    for (const heard of [...listeners]) if (listeners.has(heard)) this.#guard(heard, event);
+  }
+
+  /** @param {(...items: any[]) => any} callback
+   *  @param {...any} items */
+  #guard(callback, ...items) {
+    try {
+      callback(...items);
+    } catch (error) {
+      this.#failed(error);
+    }
+  }
+
+  /** Makes the calls in their order. Those that a call brings about come behind it. */
+  #drain() {
+    if (this.#isCalling) return;
+    this.#isCalling = true;
+    try {
+      for (let call; (call = this.#queue.shift()); ) call();
+    } finally {
+      this.#isCalling = false;
+    }
+  }
+
+  /** Everything is another: watches go on at the places of now.
+   *  @param {(place: Cursor) => {place: Cursor, source: Source, values: any[]} | undefined} again */
+  remade(again) {
+    const event = eventOf("remade", []);
+    this.#queue.push(() => this.#call(this.#listeners, event));
+    for (const watch of this.#watches) {
+      watch.source.end();
+      const now = again(watch.place);
+      const insert = now?.values ?? [];
+      const splice = { index: 0, remove: watch.length, insert };
+      if (now) Object.assign(watch, { ...now, texts: textsOf(now.place) });
+      else Object.assign(watch, { source: { take: () => [], end() {} }, texts: ["gone"] });
+      this.#queueSplices(watch, splice.remove || insert.length > 0 ? [splice] : [], "remade");
+    }
+    this.#drain();
+  }
+}
+
+/** Whether an operation can change what is under its place.
+ *  @param {Operation} op */
+const clears = (op) => op[4][0] === "assign" || op[4][0] === "delete";
+
+/** @param {Why} why
+ *  @param {Logged[]} logged
+ *  @returns {Event} */
+function eventOf(why, logged) {
+  /** @type {Change[] | undefined} */
+  let changes;
+  return {
+    why,
+    lines: logged.map(({ line }) => line),
+    ids: logged.map(({ op }) => op[1]),
+    get changes() { return (changes ??= logged.map(({ op }) => changeOf(op))); },
+  };
+}
+
+/** @param {Operation} op
+ *  @returns {Change} */
+const changeOf = (op) => ({ id: op[1], word: op[4][0], place: endOf(op), value: op[4][1] });

@@ -1,0 +1,202 @@
+/* A provider's store in a file, for Node: a line for the names, then one for each operation.
+
+     import { fileStore } from "jcrdt/file_store";
+     const provider = await Provider.open({ document: "notes", store: fileStore("my.notes") });
+
+   The file beside it, PATH.lock, says which process has it open. A second program is refused. */
+
+import * as fs from "node:fs";
+import { dirname } from "node:path";
+import { codeOf, locked } from "./file_lock.mjs";
+
+/** @typedef {import("./stores.mjs").Store} Store */
+
+/** A store in the file at a path, which is made where there is none.
+ *  @param {string} path
+ *  @returns {Store} */
+export const fileStore = (path) => new FileStore(path);
+
+/** @implements {Store} */
+class FileStore {
+  #path;
+  #file = -1;
+  #size = 0; // of what is stored, in bytes
+  #hasMore = false; // behind that is what a failed write left
+  #document = "";
+  #unlock = () => {};
+
+  /** @param {string} path */
+  constructor(path) {
+    this.#path = path;
+  }
+
+  /** @param {string} document
+   *  @param {() => string} fresh */
+  open(document, fresh) {
+    this.#document = document;
+    this.#unlock = locked(`${this.#path}.lock`);
+    try {
+      return this.#read(document, fresh);
+    } catch (error) {
+      this.close();
+      throw error;
+    }
+  }
+
+  /** @param {string} document
+   *  @param {() => string} fresh */
+  #read(document, fresh) {
+    const bytes = fs.existsSync(this.#path) ? fs.readFileSync(this.#path) : Buffer.alloc(0);
+    const { head, lines, unread, size } = parts(bytes);
+    if (head && head[2] !== document) {
+      throw new TypeError(`${this.#path} has the document ${head[2]}, not ${document}`);
+    }
+    if (size > 0 && !head && lines.length === 0) {
+      throw new TypeError(`${this.#path} is no file of a replica`);
+    }
+    const name = head?.[1] ?? fresh();
+    if (head) this.#goOn(size);
+    else this.#replace(name, lines, size > 0);
+    return { name, lines, unread };
+  }
+
+  /** Opens the file to write behind so many bytes. What was cut off in writing goes.
+   *  @param {number} size */
+  #goOn(size) {
+    this.#file = fs.openSync(this.#path, "r+");
+    this.#size = size;
+    this.#hasMore = true;
+    this.#cut();
+  }
+
+  #cut() {
+    if (this.#hasMore) fs.ftruncateSync(this.#file, this.#size);
+    this.#hasMore = false;
+  }
+
+  /** @param {string[]} lines */
+  append(lines) {
+    this.#cut();
+    const bytes = Buffer.from(lines.map((line) => `${line}\n`).join(""));
+    this.#hasMore = true;
+    try {
+      writeAll(this.#file, bytes, this.#size);
+    } catch (error) {
+      this.#cut();
+      throw error;
+    }
+    this.#hasMore = false;
+    this.#size += bytes.length;
+  }
+
+  flush() {
+    fs.fdatasyncSync(this.#file);
+  }
+
+  /** @param {string} name
+   *  @param {string[]} lines */
+  rename(name, lines) {
+    this.#replace(name, lines, true);
+  }
+
+  /** Puts a new file in the old one's place. The old one stays as PATH.old where it is wanted.
+   *  @param {string} name
+   *  @param {string[]} lines
+   *  @param {boolean} keepsOld */
+  #replace(name, lines, keepsOld) {
+    const head = JSON.stringify(["replica", name, this.#document]);
+    const bytes = Buffer.from([head, ...lines].map((line) => `${line}\n`).join(""));
+    const file = fs.openSync(`${this.#path}.new`, "w");
+    try {
+      writeAll(file, bytes, 0);
+      fs.fsyncSync(file);
+      if (keepsOld && fs.existsSync(this.#path)) keepOld(this.#path);
+      fs.renameSync(`${this.#path}.new`, this.#path);
+    } catch (error) {
+      fs.closeSync(file);
+      fs.rmSync(`${this.#path}.new`, { force: true });
+      throw error;
+    }
+    if (this.#file >= 0) fs.closeSync(this.#file);
+    [this.#file, this.#size, this.#hasMore] = [file, bytes.length, false];
+    syncFolder(this.#path);
+  }
+
+  clear() {
+    fs.rmSync(this.#path, { force: true });
+    this.close();
+  }
+
+  close() {
+    if (this.#file >= 0) fs.closeSync(this.#file);
+    this.#file = -1;
+    this.#unlock();
+  }
+}
+
+/** The parts of a file: its first line, the lines of operations, other lines, and the size of all of
+ *  them. A last line without an end was cut off in writing, and was never stored.
+ *  @param {Buffer} bytes */
+function parts(bytes) {
+  const size = bytes.lastIndexOf("\n") + 1;
+  const pieces = bytes.subarray(0, size).toString().split("\n");
+  const head = headOf(pieces[0]);
+  const rest = (head ? pieces.slice(1) : pieces).filter((line) => line !== "");
+  const lines = rest.filter(isOperation);
+  const unread = rest.filter((line) => !isOperation(line));
+  return { head, lines, unread, size };
+}
+
+/** @param {string} line
+ *  @returns {[string, string, string] | undefined} */
+function headOf(line) {
+  const value = readJson(line);
+  return Array.isArray(value) && value[0] === "replica" && value.length === 3
+    ? /** @type {[string, string, string]} */ (value) : undefined;
+}
+
+/** @param {string} line */
+const isOperation = (line) => line.startsWith('["op",') && readJson(line) !== undefined;
+
+/** @param {string} text
+ *  @returns {unknown} */
+function readJson(text) {
+  try {
+    return JSON.parse(text);
+  } catch {
+    return undefined;
+  }
+}
+
+/** Writes all bytes at a place of a file. A disk that is nearly full takes a part of them at first.
+ *  @param {number} file
+ *  @param {Buffer} bytes
+ *  @param {number} at */
+function writeAll(file, bytes, at) {
+  for (let done = 0; done < bytes.length; ) {
+    done += fs.writeSync(file, bytes, done, bytes.length - done, at + done);
+  }
+}
+
+/** Gives the old file a further name, PATH.old, PATH.old-2 and so on.
+ *  @param {string} path */
+function keepOld(path) {
+  for (let number = 1; ; number++) {
+    const place = number === 1 ? `${path}.old` : `${path}.old-${number}`;
+    try {
+      return fs.linkSync(path, place);
+    } catch (error) {
+      if (codeOf(error) !== "EEXIST") throw error;
+    }
+  }
+}
+
+/** @param {string} path */
+function syncFolder(path) {
+  const folder = fs.openSync(dirname(path), "r");
+  try {
+    fs.fsyncSync(folder);
+  } finally {
+    fs.closeSync(folder);
+  }
+}

@@ -1,0 +1,575 @@
+/* A replica for Node and browsers: it has the document, reads and edits it offline, and exchanges
+   operations with servers.
+
+     import { Replica, freshName } from "jcrdt";
+     const me = new Replica(freshName("ada"), "notes");
+     me.put([0], { title: "Plan", steps: ["ask", "build"] }); // needs no server
+     await me.sync(answer); // answer(line) sends a request line and resolves its reply's line
+
+   The caller sees to two things: one replica alone ever uses a name, and lines that `listen`
+   reports are stored before `sync`. (provider.mjs does both.)
+
+   A cursor is an array, as in requests: 0 for the document, then texts (down into maps) and
+   indices (into lists: 0 is the head, 1 the first element). A step can also be an element's id,
+   [counter,replica]. Integers beyond 2^53 are BigInt, in both directions.
+
+   Log and tree are the engine's: rules.mjs, or another one that answers the same requests. */
+
+import { Events } from "./events.mjs";
+import { Exchange, reading } from "./exchange.mjs";
+import { indexAt, operationsOf, placeAt, sourceOf } from "./followers.mjs";
+import { History } from "./history.mjs";
+import { endOf, requestOf, writtenOf } from "./places.mjs";
+import { remakeIn } from "./renewal.mjs";
+import { open } from "./rules.mjs";
+import {
+  Counter, MOST, Refused, bare, checkValue, checkedInteger, frontPairs, isArray,
+  isGiven, isId, isMap, isName, parse, pieces, print, refusalOf,
+} from "./wire.mjs";
+
+/** @typedef {import("./events.mjs").Changed} Changed */
+/** @typedef {import("./events.mjs").Heard} Heard */
+/** @typedef {import("./events.mjs").Why} Why */
+/** @typedef {import("./exchange.mjs").Answer} Answer */
+/** @typedef {import("./exchange.mjs").Remade} Remade */
+/** @typedef {import("./exchange.mjs").Report} Report */
+/** @typedef {import("./exchange.mjs").Taken} Taken */
+/** @typedef {import("./rules.mjs").Engine} Engine */
+/** @typedef {import("./rules.mjs").Open} Open */
+/** @typedef {import("./wire.mjs").Cursor} Cursor */
+/** @typedef {import("./wire.mjs").Id} Id */
+/** @typedef {import("./wire.mjs").Operation} Operation */
+/** @typedef {import("./wire.mjs").Scalar} Scalar */
+
+/** @typedef {object} Options
+ *  @property {Open} [engine] What makes the engine: `open` of rules.mjs if it isn't given. */
+
+/** @typedef {{line: string, number: number, name: string}} Unread A line that couldn't be taken. */
+
+export class Replica {
+  /** @type {Unread[]} After `restore`: the lines that couldn't be taken, and why. */
+  unread = [];
+  /** Whether others may send own operations for this replica, as tabs that share a store. If not,
+   *  an own operation at a server that wasn't sent from here shows that another has the name. */
+  isShared = false;
+  /** Called with what a listener has thrown. The others go on.
+   *  @type {(error: any) => any} */
+  failed = (error) => console.error(error);
+  #name;
+  #doc;
+  /** @type {Open} */
+  #open;
+  /** @type {Engine} */
+  #engine;
+  #count = 0;
+  /** @type {Map<string, number>} */
+  #front = new Map();
+  #mayHold = false; // whether operations may be held
+  #events = new Events((error) => this.failed(error));
+  #history;
+  #exchange;
+
+  /** A new replica, without operations. Throws TypeError for a name or document that can't be one:
+   *  both have 1 to 32 of a-z, 0-9, -.
+   *  @param {string} name That no other replica of the document ever has.
+   *  @param {string} doc
+   *  @param {Options} [options] */
+  constructor(name, doc, options = {}) {
+    if (![name, doc].every(isName)) throw new TypeError(`${name}, ${doc}: 1 to 32 of a-z, 0-9, -`);
+    this.#name = name;
+    this.#doc = doc;
+    this.#open = options.engine ?? open;
+    this.#engine = this.#open(name, []);
+    this.#history = new History((request) => this.#engine.ask(request), this.#read,
+      (word, place, ...value) => this.#edit(word, place, ...value));
+    this.#exchange = this.#newExchange(0);
+  }
+
+  /** @param {number} stored */
+  #newExchange(stored) {
+    return new Exchange({
+      name: () => this.#name, doc: this.#doc, read: this.#read, front: () => this.#front,
+      take: (operations) => this.deliverAll(operations), isShared: () => this.isShared,
+    }, stored);
+  }
+
+  get name() { return this.#name; }
+  get doc() { return this.#doc; }
+  /** How many operations are logged: at most 100,000. */
+  get count() { return this.#count; }
+
+  /** The lines to store: the names, and below them the log.
+   *  @returns {string[]} */
+  lines() {
+    const names = print(["replica", this.#name, this.#doc]);
+    return [names, ...[...operationsOf(this.#read, [])].map(print)];
+  }
+
+  /** The logged operations that a front doesn't cover, in log order. They aren't to be changed.
+   *  @param {Iterable<[string, number]>} [front]
+   *  @returns {Iterable<Operation>} */
+  operations(front = []) { return operationsOf(this.#read, front); }
+
+  /** A replica from its lines. It takes what it can: `unread` has the others, as a line that is
+   *  there twice, isn't an operation, or depends on one that is missing. Throws TypeError if the
+   *  first line doesn't name a replica.
+   *  @param {string[]} lines
+   *  @param {Options} [options]
+   *  @returns {Replica} */
+  static restore([first, ...lines], options) {
+    const [word, name, doc] = parsedLine(first) ?? [];
+    if (word !== "replica") throw new TypeError(`the first line names no replica: ${first}`);
+    const replica = new Replica(name, doc, options);
+    const engine = refusalOf(() => replica.#open(name, lines));
+    if (engine instanceof Refused) replica.#restoreSome(lines);
+    else replica.#use(engine, lines.length);
+    replica.#exchange = replica.#newExchange(replica.#front.get(name) ?? 0);
+    return replica;
+  }
+
+  /** @param {string[]} lines */
+  #restoreSome(lines) {
+    const scratch = this.#open("scratch", []);
+    /** @type {Map<string, string>} */
+    const held = new Map();
+    for (const line of lines) {
+      const op = parsedLine(line);
+      const { reply } = op ? scratch.ask(["deliver", op]) : { reply: ["no", 1, "not-json"] };
+      if (reply[0] === "held") held.set(String(op?.[1]), line);
+      const [number, name] = reply[0] === "known" ? [15, "id-conflict"] : reply.slice(1);
+      if (reply[0] === "no" || reply[0] === "known") this.unread.push({ line, number, name });
+    }
+    for (const [id] of scratch.ask(["held"]).reply[1]) {
+      this.unread.push({ line: held.get(String(id)) ?? "", number: 13, name: "bad-front" });
+    }
+    const good = [...operationsOf(reading(scratch), [])].map(print);
+    scratch.free();
+    this.#use(this.#open(this.#name, good), good.length);
+  }
+
+  /** @param {Engine} engine
+   *  @param {number} count */
+  #use(engine, count) {
+    this.#engine.free();
+    this.#engine = engine;
+    this.#count = count;
+    this.#front = new Map(this.#read("front"));
+    this.#mayHold = false;
+    this.#history.clear();
+  }
+
+  /** Gives up the engine's memory. The replica isn't used any more. */
+  free() { this.#engine.free(); }
+
+  /** Asks the engine, and returns what is behind the word.
+   *  @type {import("./followers.mjs").Read} */
+  #read = (word, ...items) => reading(this.#engine)(word, ...items);
+
+  /** The cursor as the engine takes it.
+   *  @param {Cursor} cursor */
+  #request(cursor) {
+    return requestOf(cursor, (it) => placeAt(this.#engine, this.#read, it));
+  }
+
+  // ---- Changes. Each returns the id of the new operation. A refused one changes nothing.
+
+  /** Assigns a scalar, {} or [].
+   *  @param {Cursor} cursor
+   *  @param {any} value
+   *  @returns {Id} */
+  assign(cursor, value) { return this.#edit("assign", cursor, checkedOperand(value)); }
+  /** Inserts behind the element or head at the cursor.
+   *  @param {Cursor} cursor
+   *  @param {any} value
+   *  @returns {Id} */
+  insert(cursor, value) { return this.#edit("insert", cursor, checkedOperand(value)); }
+  /** @param {Cursor} cursor @returns {Id} */
+  delete(cursor) { return this.#edit("delete", cursor); }
+  /** Adds an integer of 64 bits to the counter at the cursor.
+   *  @param {Cursor} cursor
+   *  @param {number | bigint} number
+   *  @returns {Id} */
+  add(cursor, number) { return this.#edit("add", cursor, checkedInteger(number)); }
+
+  /** Puts a nested value, as `plain` gives it: {} or [] first, and then what is in it, one operation
+   *  each. It is one step of undo and one event. The whole value is checked before: a refusal
+   *  changes nothing. Counters are added; `undefined` in objects and arrays is left out.
+   *  @param {Cursor} cursor
+   *  @param {any} value
+   *  @returns {Id[]} */
+  put(cursor, value) {
+    this.#checkRoom(checkValue(value, cursor.length - 1));
+    return this.group(() => this.#put(cursor, value));
+  }
+
+  /** @param {Cursor} cursor
+   *  @param {any} value
+   *  @returns {Id[]} */
+  #put(cursor, value) {
+    if (!(value instanceof Counter)) {
+      const id = this.#edit("assign", cursor, bare(value));
+      return [id, ...this.#fill(this.#lastPlace, value)];
+    }
+    const ids = value.value === undefined ? [] : this.#put(cursor, value.value);
+    return [...ids, ...this.#addAll(cursor, value.sum)];
+  }
+
+  /** Where the last own operation ended.
+   *  @type {Cursor} */
+  #lastPlace = [0];
+
+  /** @param {Cursor} place
+   *  @param {number | bigint} sum */
+  #addAll(place, sum) { return pieces(sum).map((number) => this.#edit("add", place, number)); }
+
+  /** @param {Cursor} place
+   *  @param {any} value
+   *  @returns {Id[]} */
+  #fill(place, value) {
+    if (isArray(value)) return this.#insertAll(place, 0, value.filter(isGiven)).all;
+    if (!isMap(value)) return [];
+    const fields = Object.entries(value).filter(([, inner]) => isGiven(inner));
+    return fields.flatMap(([key, inner]) => this.#put([...place, key], inner));
+  }
+
+  /** Inserts behind an element or head, one after another.
+   *  @param {Cursor} list
+   *  @param {0 | Id} reference
+   *  @param {any[]} values */
+  #insertAll(list, reference, values) {
+    /** @type {[ids: Id[], all: Id[]]} */
+    const [ids, all] = [[], []];
+    let before = reference;
+    for (const value of values) {
+      const isCounter = value instanceof Counter;
+      const inner = isCounter ? value.value ?? null : value;
+      before = this.#edit("insert", [...list, before], bare(inner));
+      ids.push(before);
+      all.push(before);
+      for (const id of this.#fill([...list, before], inner)) all.push(id);
+      if (isCounter) all.push(...this.#addAll([...list, before], value.sum));
+    }
+    return { ids, all };
+  }
+
+  /** As Array.splice: behind the first `index` elements it inserts the values, nested or not, and
+   *  deletes `count` others. A string counts as its characters. Returns the ids of the new
+   *  elements. It is one step of undo and one event; a refusal changes nothing.
+   *  @param {Cursor} cursor
+   *  @param {number} index
+   *  @param {number} count
+   *  @param {Iterable<any>} values
+   *  @returns {Id[]} */
+  splice(cursor, index, count, values) {
+    const list = this.place(cursor);
+    const all = [...values];
+    const operations = all.map((value) => checkElement(value, list.length));
+    if (![index, count].every((it) => Number.isSafeInteger(it) && it >= 0)) throw new Refused(9);
+    const near = this.#elements(list, index, count);
+    this.#checkRoom(operations.reduce((sum, it) => sum + it, count));
+    return this.group(() => {
+      const { ids } = this.#insertAll(list, index > 0 ? near[0] : 0, all);
+      for (const id of near.slice(index > 0 ? 1 : 0)) this.delete([...list, id]);
+      return ids;
+    });
+  }
+
+  /** The ids of the element before an index, if there is one, and of `count` behind it.
+   *  @param {Cursor} list
+   *  @param {number} index
+   *  @param {number} count
+   *  @returns {Id[]} */
+  #elements(list, index, count) {
+    const from = index > 0 ? index : 1;
+    const length = count + (index > 0 ? 1 : 0);
+    if (length <= 16 && this.#engine.place) {
+      return Array.from({ length }, (_, at) => /** @type {Id} */ (
+        placeAt(this.#engine, this.#read, [writtenOf(list), from + at]).pop()));
+    }
+    /** @type {Id[]} */
+    const ids = this.#read("items", [writtenOf(list)]).map((/** @type {[Id]} */ [id]) => id);
+    const found = ids.slice(from - 1, from - 1 + length);
+    if (found.length !== length) throw new Refused(9);
+    return found;
+  }
+
+  /** Refuses what would need more operations than are left.
+   *  @param {number} operations */
+  #checkRoom(operations) {
+    if (operations === 0) return;
+    const held = this.#mayHold ? this.#read("held").length : 0;
+    if (this.#count + operations + held > MOST.log) throw new Refused(18);
+    const isKnown = this.#front.has(this.#name);
+    if (!isKnown && this.#front.size >= MOST.replicas) throw new Refused(19);
+  }
+
+  /** @param {"assign" | "insert" | "delete" | "add"} word
+   *  @param {Cursor} cursor
+   *  @param {...any} value
+   *  @returns {Id} */
+  #edit(word, cursor, ...value) {
+    return this.#events.batch(() => {
+      const request = this.#request(cursor);
+      const before = this.#history.before(word, request);
+      const { reply, line = "" } = this.#engine.ask([word, request, ...value]);
+      if (reply[0] === "no") throw new Refused(reply[1], reply[2], reply[3]);
+      const op = parse(line);
+      const isTurning = this.#history.isTurning;
+      this.#history.after(op, before);
+      this.#log(op, line, reply[1], isTurning ? "undo" : "own");
+      this.#lastPlace = endOf(op);
+      return op[1];
+    });
+  }
+
+  /** Notes what one call has logged: the operation, and held ones that it released.
+   *  @param {Operation} op
+   *  @param {string} line
+   *  @param {number} count
+   *  @param {Why} why */
+  #log(op, line, count, why) {
+    this.#note(op, line, why);
+    if (count === 1) return;
+    const released = [...operationsOf(this.#read, this.#front)];
+    for (const it of released) this.#note(it, print(it), "taken");
+  }
+
+  /** @param {Operation} op
+   *  @param {string} line
+   *  @param {Why} why */
+  #note(op, line, why) {
+    this.#count++;
+    this.#front.set(op[1][1], op[1][0]);
+    this.#history.note(op);
+    this.#events.log(line, op, why);
+  }
+
+  /** The same place by ids: it goes on to mean that element when the list moves.
+   *  @param {Cursor} cursor
+   *  @returns {Cursor} */
+  place(cursor) { return placeAt(this.#engine, this.#read, this.#request(cursor)); }
+
+  /** The index of an element or head; of a deleted element, that of the present one before it.
+   *  @param {Cursor} place
+   *  @returns {number} */
+  indexOf(place) { return indexAt(this.#engine, this.#read, this.place(place)); }
+
+  // ---- Undo and redo, by new operations
+
+  /** All edits within `work` are one step of undo and one event. If it throws, what it has edited
+   *  before stays.
+   *  @template T
+   *  @param {() => T} work
+   *  @returns {T} */
+  group(work) { return this.#events.batch(() => this.#history.group(work)); }
+
+  /** Takes back one's own last step, but for what has changed since. Returns if there was one.
+   *  Refused with 18 if the document has no room for it; the step stays then.
+   *
+   *  Places that it made vanish, if there is nothing else in them. A counter beside a value stays,
+   *  as 0: only a new assignment clears it. */
+  undo() { return this.#turn("undo"); }
+  redo() { return this.#turn("redo"); }
+
+  /** @param {"undo" | "redo"} from */
+  #turn(from) {
+    return this.#events.batch(() => this.#history.turn(from, (count) => this.#checkRoom(count)));
+  }
+
+  // ---- Readings: what a server answers. Refused as there.
+
+  /** `plain` of wire.mjs makes a plain value of it.
+   *  @param {Cursor} cursor
+   *  @returns {any[][]} */
+  show(cursor) { return this.#read("show", this.#request(cursor)); }
+  /** @param {Cursor} cursor @returns {string[]} */
+  keys(cursor) { return this.#read("keys", this.#request(cursor)); }
+  /** @param {Cursor} cursor @returns {Scalar[]} */
+  values(cursor) { return this.#read("values", this.#request(cursor)); }
+  /** @param {Cursor} cursor @returns {[Id, Scalar[]][]} */
+  items(cursor) { return this.#read("items", this.#request(cursor)); }
+  /** @param {Cursor} cursor @returns {[Id, any][]} */
+  conflicts(cursor) { return this.#read("conflicts", this.#request(cursor)); }
+  /** In decimal digits.
+   *  @param {Cursor} cursor
+   *  @returns {string} */
+  sum(cursor) { return this.#read("sum", this.#request(cursor)); }
+  /** @returns {[string, number][]} */
+  front() { return frontPairs(this.#front); }
+  /** The held operations, each with what is missing.
+   *  @returns {[Id, Id[]][]} */
+  held() { return this.#read("held"); }
+
+  /** The strings of a list as one text; of several values of an element, the last.
+   *  @param {Cursor} cursor
+   *  @returns {string} */
+  text(cursor) {
+    const values = this.items(cursor).map(([, found]) => found[found.length - 1]);
+    return values.filter((value) => typeof value === "string").join("");
+  }
+
+  // ---- Events. Each call returns a function that ends it.
+
+  /** Calls `heard({ why, lines, ids, changes })` for what was logged together: an edit, a `put`, a
+   *  page of a server. `why` is "own", "undo" or "taken". `lines` are to be stored. After `remake`
+   *  it calls `heard({ why: "remade", .. })`; then all of `lines()` is.
+   *
+   *  Listeners are called one after another. What one of them throws goes to `failed`, and what it
+   *  edits is heard after this. When one is called, the replica may already be further on.
+   *  @param {Heard} heard */
+  listen(heard) { return this.#events.listen(heard); }
+
+  /** Calls `changed(splices, why)` when something has changed at the place or under it. `splices`
+   *  are [{ index, remove, insert }, ..]: they do to an array of the last values of the list's
+   *  elements what happened to the list. They are empty if none came, went or got another value. It
+   *  may be called though nothing differs, when something above the place was assigned.
+   *  @param {Cursor} cursor
+   *  @param {Changed} changed */
+  watch(cursor, changed) {
+    const place = this.place(cursor);
+    const { length } = this.#read("items", [writtenOf(place)]); // refuses a head
+    const source = sourceOf(this.#engine, this.#read, place);
+    return this.#events.watch(place, source, length, changed);
+  }
+
+  // ---- Operations of others
+
+  /** Takes a line, or an operation that `parse` read. Returns what a server answers:
+   *  ["applied",count,dropped,id], ["known"] or ["held",[id,..]].
+   *  @param {string | Operation} operation
+   *  @returns {any[]} */
+  deliver(operation) {
+    return this.#events.batch(() => {
+      const op = typeof operation === "string" ? parse(operation) : operation;
+      const { reply, line } = this.#engine.ask(["deliver", op]);
+      if (reply[0] === "no") throw new Refused(reply[1], reply[2], reply[3]);
+      if (reply[0] === "held") this.#mayHold = true;
+      if (reply[0] === "applied") this.#log(op, line ?? print(op), reply[1], "taken");
+      return reply;
+    });
+  }
+
+  /** Takes operations, as lines or read, as one event. Goes on behind one that is refused.
+   *  @param {(string | Operation)[]} operations
+   *  @returns {Taken} */
+  deliverAll(operations) {
+    return this.#events.batch(() => {
+      /** @type {Taken} */
+      const report = { taken: 0, refused: [] };
+      for (const op of operations) {
+        const line = () => (typeof op === "string" ? op : refusedText(op));
+        const reply = refusalOf(() => this.deliver(typeof op === "string" ? readLine(op) : op));
+        if (reply instanceof Refused) report.refused.push({ line: line(), refusal: reply });
+        else if (reply[0] === "applied") report.taken += reply[1];
+      }
+      return report;
+    });
+  }
+
+  /** Drops a held operation.
+   *  @param {Id} id */
+  forget(id) { this.#read("forget", id); }
+
+  // ---- Exchange with a server
+
+  /** Takes what the server has, and gives it what it lacks. Sends requests before earlier ones are
+   *  answered; replies come in their order. Resolves { taken, given, refused }, where `refused`
+   *  has { line, number, name, own } for each operation that was refused, here or there. If one
+   *  of the own name was, by 14, 15 or 16, another replica has that name: see `remake`.
+   *
+   *  One goes on at a time; a call with the same `answer` as one that waits is one with it. Throws
+   *  what `answer` throws, and TypeError for a reply that no server gives.
+   *  @param {Answer} answer
+   *  @returns {Promise<Report>} */
+  sync(answer) { return this.#exchange.sync(answer); }
+
+  /** Goes on under a new name, after the server refused an operation of one's own since another
+   *  has its id. Takes the server's log, the operations of others that it lacks, and those of
+   *  one's own that it lacks: under the new name, with what they knew. Own ones that were never
+   *  stored or sent from here aren't taken for the server's, however alike. Watches go on. Then
+   *  store all lines, and sync.
+   *  @param {string} name
+   *  @param {Answer} answer
+   *  @returns {Promise<Remade>} */
+  async remake(name, answer) {
+    if (!isName(name)) throw new TypeError(`${name}: 1 to 32 of a-z, 0-9, -`);
+    const { lines, ids, ...report } = await this.#exchange.remade(name, answer, this.#open);
+    const engine = this.#open(name, lines);
+    this.#name = name;
+    this.#use(engine, lines.length);
+    this.#exchange = this.#newExchange(0);
+    this.#events.remade((place) => this.#watchAgain(place, ids));
+    return report;
+  }
+
+  /** @param {Cursor} old
+   *  @param {Map<string, Id>} ids */
+  #watchAgain(old, ids) {
+    const place = old.map((step) => (isId(step) ? ids.get(String(step)) ?? step : step));
+    const source = refusalOf(() => sourceOf(this.#engine, this.#read, place));
+    if (source instanceof Refused) return undefined;
+    const values = this.items(place).map(([id]) =>
+      this.conflicts([...place, id]).pop()?.[1] ?? null);
+    return { place, source, values };
+  }
+
+  /** Makes own edits that the old document's server refused again in a new one, whose content
+   *  `python -m jcrdt renew` made of the old one's. `map` has the lines that it writes, or pairs of
+   *  ids: see renewal.mjs. All are one event and one step of undo of `other`.
+   *  @param {Replica} other The replica of the new document, synced.
+   *  @param {Iterable<string | [Id, Id]>} map
+   *  @param {string[]} [lines] The edits: the own operations that no server has.
+   *  @returns {{remade: number, lost: string[]}} */
+  remakeIn(other, map, lines = this.#unsent()) {
+    return other.group(() => remakeIn(this, other, map, lines));
+  }
+
+  #unsent() {
+    const { confirmed } = this.#exchange;
+    if (confirmed === undefined) throw new TypeError("sync with the old document's server first");
+    const front = new Map(this.#front).set(this.#name, confirmed);
+    return [...operationsOf(this.#read, front)].map(print);
+  }
+}
+
+/** @param {any} value */
+function checkedOperand(value) {
+  if (checkValue(value) !== 1 || value instanceof Counter) throw new Refused(6);
+  return typeof value === "number" || typeof value === "bigint" ? checkedInteger(value) : bare(value);
+}
+
+/** How many operations an element of a list takes.
+ *  @param {any} value
+ *  @param {number} depth */
+function checkElement(value, depth) {
+  const isLone = value instanceof Counter && value.value === undefined;
+  return checkValue(value, depth) + (isLone ? 1 : 0);
+}
+
+/** @param {string} line
+ *  @returns {any[] | undefined} */
+function parsedLine(line) {
+  try {
+    const value = parse(line);
+    return isArray(value) ? value : undefined;
+  } catch {
+    return undefined;
+  }
+}
+
+/** @param {string} line */
+function readLine(line) {
+  const op = parsedLine(line);
+  if (!op) throw new Refused(12);
+  return /** @type {Operation} */ (op);
+}
+
+/** What was delivered as a text, also if it is no operation.
+ *  @param {any} op */
+function refusedText(op) {
+  try {
+    return print(op);
+  } catch {
+    return String(op);
+  }
+}

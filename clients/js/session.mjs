@@ -1,0 +1,591 @@
+/* A session of a server, for Node and browsers: over TCP, or through the hub.
+
+     import { connected } from "jcrdt";
+     const alice = await connected("127.0.0.1:7001");
+     await alice.open("d");
+     await alice.put("d", [0], { title: "Plan", steps: ["ask", "build"] });
+     console.log(await alice.plain("d", [0]));
+     await alice.quit();
+
+   A cursor is an array: first 0 for the document or the name of a variable, then texts (down into
+   maps) and indices (into lists: 0 is the head, 1 the first element).
+
+   Every call sends its request at once and returns a promise. The server answers a session in
+   order, so calls may be made without waiting for the one before (pipelining):
+
+     await Promise.all(names.map((name) => alice.insert("d", [0, "list", 0], name)));
+
+   A call fails with one of three errors. `Refused`: nothing was changed. `Away`: it wasn't sent, or
+   the hub has no server. `Lost`: the connection ended before the reply, so whether it was carried
+   out is unknown. Integers beyond 2^53 are BigInt, in both directions. */
+
+import { Filling, lengthOf } from "./filling.mjs";
+import {
+  Away, LineCutter, Lost, MOST, Refused, addressParts, byteLength, checkedInteger, checkedScalar,
+  covers, errorOf, bare, frontPairs, integer, isMap, parse, plain, print, checkValue,
+} from "./wire.mjs";
+
+/** @typedef {import("./wire.mjs").Cursor} Cursor */
+/** @typedef {import("./wire.mjs").Id} Id */
+/** @typedef {import("./wire.mjs").Operation} Operation */
+/** @typedef {import("./wire.mjs").Scalar} Scalar */
+/** @typedef {(front: Map<string, number>) => any} Changed */
+/** @typedef {(value: any, guest: string) => any} Heard */
+
+/** @typedef {object} Options
+ *  @property {number} [seconds] How long the oldest request may wait for its reply (60).
+ *  @property {number} [connectSeconds] How long until the session has begun (10).
+ *  @property {number} [ping] Over WebSocket: after so many seconds without a request, `version` is
+ *    asked (15).
+ *  @property {number} [most] Of a reply, in bytes (256 MiB). */
+
+const PUSHES = new Set(["changed", "reopened", "heard"]); // lines of the hub that answer no request
+
+/** The first words of the replies to a request, but "no". */
+const REPLIES = /** @type {Record<string, string[]>} */ ({
+  open: ["opened"], let: ["bound"], held: ["waiting"], forget: ["forgotten"], quit: ["bye"],
+  assign: ["applied"], insert: ["applied"], delete: ["applied"], add: ["applied"],
+  deliver: ["applied", "known", "held"], watch: ["watching"], unwatch: ["unwatched"],
+  hear: ["hearing"], unhear: ["unheard"], say: ["said"],
+});
+
+/** @param {string} line */
+const firstWord = (line) => /^\s*\[\s*"([a-z]+)"/.exec(line)?.[1] ?? "";
+
+/** @typedef {object} Waiting
+ *  @property {string} word
+ *  @property {(line: string) => void} answered
+ *  @property {(error: Error) => void} failed */
+
+/** @typedef {object} Watch
+ *  @property {Set<Changed>} watchers
+ *  @property {string} last The front that they were called with.
+ *  @property {boolean} isPushed Whether the hub pushes it.
+ *  @property {Promise<void>} begun */
+
+/** One session: see `connected`. */
+export class Client {
+  /** @type {(line: string) => void} */
+  #sent;
+  /** @type {() => void} */
+  #ended;
+  #seconds;
+  #asked = 0;
+  #answered = 0;
+  /** @type {Map<number, Waiting>} The number of a request: who waits for its reply. */
+  #waiting = new Map();
+  #since = 0; // when the oldest of them became the oldest, in ms
+  /** @type {ReturnType<typeof setTimeout> | undefined} */
+  #timer;
+  /** @type {Map<string, Watch>} By document. */
+  #watches = new Map();
+  /** @type {Map<string, Set<Heard>>} By document. */
+  #hearers = new Map();
+  /** @type {Map<string, number>} A list: how many elements it had when one was appended. */
+  #lengths = new Map();
+  /** @type {Promise<any>} The nested values that are being put, one after another. */
+  #filling = Promise.resolve();
+  /** @type {Lost | undefined} */
+  #lost;
+  /** @type {(lost: Lost) => void} */
+  #resolveClosed = () => {};
+
+  /** @type {Promise<Lost>} Resolves with the cause when the connection has ended. */
+  closed = new Promise((resolve) => (this.#resolveClosed = resolve));
+
+  /** Called when the hub has a new session, with the variables that are gone.
+   *  @type {(gone: [document: string, name: string][]) => any} */
+  reopened = () => {};
+
+  /** Called with what a callback of the caller has thrown. The session goes on.
+   *  @type {(error: any) => any} */
+  failed = (error) => console.error(error);
+
+  /** @param {(line: string) => void} sent Sends a line.
+   *  @param {() => void} ended Ends the connection.
+   *  @param {{seconds?: number}} [options] */
+  constructor(sent, ended, options = {}) {
+    this.#sent = sent;
+    this.#ended = ended;
+    this.#seconds = options.seconds ?? 60;
+  }
+
+  // ---- The connection
+
+  /** The connection calls this for each line that came.
+   *  @param {string} line */
+  receive(line) {
+    if (this.#lost) return;
+    const word = firstWord(line);
+    if (PUSHES.has(word)) return this.#push(line);
+    const waits = this.#waiting.get(this.#answered);
+    const due = waits && (REPLIES[waits.word] ?? [waits.word]);
+    // Behind a line that answers nothing each reply would be taken for that of another request.
+    if (!waits || !due || (word !== "no" && waits.word && !due.includes(word))) {
+      return this.breakOff(`this line answers no request: ${line.slice(0, 80)}`);
+    }
+    this.#waiting.delete(this.#answered++);
+    this.#since = performance.now();
+    waits.answered(line);
+  }
+
+  /** Ends the connection for a cause of this side.
+   *  @param {string} cause */
+  breakOff(cause) {
+    this.lose(cause);
+    this.#ended();
+  }
+
+  /** The connection calls this when it has ended.
+   *  @param {string} cause */
+  lose(cause) {
+    if (this.#lost) return;
+    this.#lost = new Lost(cause);
+    clearTimeout(this.#timer);
+    for (const waits of this.#waiting.values()) waits.failed(this.#lost);
+    this.#waiting.clear();
+    this.#watches.clear();
+    this.#hearers.clear();
+    this.#resolveClosed(this.#lost);
+  }
+
+  /** How many requests wait for their replies. */
+  waiting = () => this.#waiting.size;
+
+  /** Ends the connection without a word. */
+  end() {
+    this.breakOff("this client has ended the session");
+  }
+
+  /** Sends a line of text, and returns the line of its reply.
+   *  @param {string} line
+   *  @returns {Promise<string>} */
+  answer(line) {
+    if (this.#lost) return Promise.reject(new Away(`not sent, as the session has ended: ${this.#lost.message}`));
+    return new Promise((answered, failed) => {
+      if (this.#waiting.size === 0) this.#since = performance.now();
+      this.#waiting.set(this.#asked++, { word: firstWord(line), answered, failed });
+      this.#timer ??= this.#check(this.#seconds * 1000);
+      this.#sent(line);
+    });
+  }
+
+  /** Looks at the oldest request after so many milliseconds.
+   *  @param {number} after
+   *  @returns {ReturnType<typeof setTimeout>} */
+  #check(after) {
+    const timer = setTimeout(() => {
+      const left = this.#since + this.#seconds * 1000 - performance.now();
+      this.#timer = undefined;
+      if (this.#waiting.size === 0) return;
+      if (left > 0) this.#timer = this.#check(left);
+      else this.breakOff(`no reply for ${this.#seconds} seconds`);
+    }, after);
+    // The socket keeps a program of Node alive, and not the timer.
+    /** @type {any} */ (timer).unref?.();
+    return timer;
+  }
+
+  /** Sends one request, and returns the items of its reply behind the word. Throws RangeError, and
+   *  sends nothing, if the request has more than 65,536 bytes.
+   *  @param {string} word
+   *  @param {...any} items
+   *  @returns {Promise<any[]>} */
+  async ask(word, ...items) {
+    const line = print([word, ...items]);
+    if (line.length * 3 > MOST.line && byteLength(line) > MOST.line) {
+      throw new RangeError(`the request has more than ${MOST.line} bytes, and wasn't sent`);
+    }
+    const text = await this.answer(line);
+    const reply = parsedReply(text);
+    if (!reply) this.breakOff(`this reply isn't JSON: ${text.slice(0, 80)}`);
+    if (!reply) throw this.#lost;
+    if (reply[0] === "no") throw errorOf(reply, word);
+    return reply.slice(1);
+  }
+
+  /** @param {string} document */
+  open = async (document) => (await this.ask("open", document))[0];
+
+  // ---- Changes. Each returns the id of its operation.
+
+  /** Assigns a scalar, {} or []. What is in them is put by `put`.
+   *  @param {string} document
+   *  @param {Cursor} place
+   *  @param {any} value
+   *  @returns {Promise<Id>} */
+  assign = async (document, place, value) =>
+    (await this.ask("assign", document, place, operand(value)))[2];
+
+  /** Inserts behind the element at the place. Index 0 is the place before the first.
+   *  @param {string} document
+   *  @param {Cursor} place
+   *  @param {any} value
+   *  @returns {Promise<Id>} */
+  insert = async (document, place, value) =>
+    (await this.ask("insert", document, place, operand(value)))[2];
+
+  /** @param {string} document
+   *  @param {Cursor} place
+   *  @returns {Promise<Id>} */
+  delete = async (document, place) => (await this.ask("delete", document, place))[2];
+
+  /** @param {string} document
+   *  @param {Cursor} place
+   *  @param {number | bigint} number
+   *  @returns {Promise<Id>} */
+  add = async (document, place, number) =>
+    (await this.ask("add", document, place, checkedInteger(number)))[2];
+
+  /** Binds a name to a place. It goes on to mean that element when the list moves.
+   *  @param {string} document
+   *  @param {string} name
+   *  @param {Cursor} cursor */
+  let = (document, name, cursor) => this.ask("let", document, name, cursor);
+
+  /** Inserts a value, nested or not, behind the last element of the list at the cursor. Returns the
+   *  element's id. What is in the value goes into that very element, as by `put`.
+   *  @param {string} document
+   *  @param {Cursor} cursor
+   *  @param {any} value
+   *  @returns {Promise<Id>} */
+  append(document, cursor, value) {
+    checkValue(value, depthOf(cursor) + 1);
+    const key = print([document, cursor]);
+    return this.#inTurn(async () => {
+      const length = await lengthOf(this, document, cursor, this.#lengths.get(key) ?? 0);
+      const { id, index } = await new Filling(this, document).append(cursor, value, length);
+      this.#lengths.set(key, index);
+      return id;
+    });
+  }
+
+  /** Puts a nested value, as `plain` gives it: {} or [] first, then what is in it. Returns the ids.
+   *  The whole value is checked before. Others may read it half done. An element that somebody
+   *  deletes or assigns meanwhile isn't filled. A refusal ends it there.
+   *
+   *  A conflict isn't put: `settled` helps. A counter as an element of a list gets null beside it.
+   *  `undefined` in an object or array is left out. Names that begin with "put:" are bound.
+   *  @param {string} document
+   *  @param {Cursor} cursor
+   *  @param {any} value
+   *  @returns {Promise<Id[]>} */
+  async put(document, cursor, value) {
+    checkValue(value, depthOf(cursor));
+    return this.#inTurn(() => new Filling(this, document).put(cursor, value));
+  }
+
+  /** The names that `put` binds are those of one call at a time.
+   *  @template T
+   *  @param {() => Promise<T>} work
+   *  @returns {Promise<T>} */
+  #inTurn(work) {
+    const done = this.#filling.then(work, work);
+    this.#filling = done.catch(() => {});
+    return done;
+  }
+
+  // ---- Readings
+
+  /** @param {string} document @param {Cursor} cursor @returns {Promise<string[]>} */
+  keys = async (document, cursor) => (await this.ask("keys", document, cursor))[0];
+  /** @param {string} document @param {Cursor} cursor @returns {Promise<Scalar[]>} */
+  values = async (document, cursor) => (await this.ask("values", document, cursor))[0];
+  /** @param {string} document @param {Cursor} cursor @returns {Promise<[Id, Scalar[]][]>} */
+  items = async (document, cursor) => (await this.ask("items", document, cursor))[0];
+  /** @param {string} document @param {Cursor} cursor @returns {Promise<[Id, any][]>} */
+  conflicts = async (document, cursor) => (await this.ask("conflicts", document, cursor))[0];
+  /** @param {string} document @param {Cursor} cursor @returns {Promise<number | bigint>} */
+  sum = async (document, cursor) => integer((await this.ask("sum", document, cursor))[0]);
+  /** @param {string} document @param {Cursor} cursor @returns {Promise<any[][]>} */
+  show = async (document, cursor) => (await this.ask("show", document, cursor))[0];
+  /** The value at the cursor: see `plain` of wire.mjs.
+   *  @param {string} document
+   *  @param {Cursor} cursor
+   *  @returns {Promise<any>} */
+  plain = async (document, cursor) => plain(await this.show(document, cursor));
+
+  // ---- What servers exchange
+
+  /** Returns how many operations were logged: 0 where it is known, or held until others come.
+   *  @param {string} document
+   *  @param {Operation} operation
+   *  @returns {Promise<number>} */
+  async deliver(document, operation) {
+    const reply = await this.ask("deliver", document, operation);
+    return reply.length === 3 ? reply[0] : 0;
+  }
+
+  /** What the server has: a Map from each replica to its last counter.
+   *  @param {string} document
+   *  @returns {Promise<Map<string, number>>} */
+  front = async (document) => new Map((await this.ask("front", document))[0]);
+
+  /** In log order, the operations that the front doesn't cover: `for await (const op of ..)`. Ends
+   *  also if the server repeats itself.
+   *  @param {string} document
+   *  @param {ReadonlyMap<string, number>} [front] */
+  async *operations(document, front = new Map()) {
+    const known = new Map(front);
+    for (;;) {
+      const [page] = await this.ask("ops", document, frontPairs(known), MOST.page);
+      const before = print(frontPairs(known));
+      for (const operation of page) {
+        const [counter, replica] = operation[1];
+        known.set(replica, Math.max(counter, known.get(replica) ?? 0));
+        yield /** @type {Operation} */ (operation);
+      }
+      if (page.length < MOST.page || print(frontPairs(known)) === before) return;
+    }
+  }
+
+  /** Which of these ids of one's own operations this server doesn't have. After connecting to a
+   *  server that was started again: these are lost, and have to be made again.
+   *  @param {string} document
+   *  @param {Id[]} ids */
+  async unsaved(document, ids) {
+    const front = await this.front(document);
+    return ids.filter((id) => !covers(front, id));
+  }
+
+  /** At the hub: resolves once the operation of this id is in the server's file. Refused with 104,
+   *  `not-kept`, if the hub can't know, and with 2 by a server, which has no such request.
+   *  @param {string} document
+   *  @param {Id} id */
+  stored = async (document, id) => void (await this.ask("stored", document, id));
+
+  /** @param {string} document @returns {Promise<[Id, Id[]][]>} */
+  held = async (document) => (await this.ask("held", document))[0];
+  /** @param {string} document @param {Id} id */
+  forget = (document, id) => this.ask("forget", document, id);
+  /** @param {string} document @returns {Promise<number>} */
+  account = async (document) => (await this.ask("account", document))[0];
+  /** @returns {Promise<number>} */
+  version = async () => (await this.ask("version"))[0];
+
+  async quit() {
+    await this.ask("quit");
+    this.end();
+  }
+
+  // ---- What others change and say
+
+  /** Calls `changed(front)` now and whenever the document changed, until the connection ends or the
+   *  returned function is called. The hub says when; a server is asked every so many milliseconds.
+   *  Refused if the document isn't open.
+   *  @param {string} document
+   *  @param {Changed} changed
+   *  @param {number} [every]
+   *  @returns {Promise<() => void>} */
+  async watch(document, changed, every = 500) {
+    const front = await this.front(document);
+    const watch = this.#watches.get(document) ?? this.#beginWatch(document, every);
+    watch.watchers.add(changed);
+    await watch.begun;
+    this.#run(changed, front);
+    return () => this.unwatch(document, changed);
+  }
+
+  /** @param {string} document
+   *  @param {Changed} changed */
+  unwatch(document, changed) {
+    const watch = this.#watches.get(document);
+    if (!watch?.watchers.delete(changed) || watch.watchers.size > 0) return;
+    this.#watches.delete(document);
+    if (watch.isPushed) this.ask("unwatch", document).catch(() => {}); // an older hub has no such word
+  }
+
+  /** @param {string} document
+   *  @param {number} every
+   *  @returns {Watch} */
+  #beginWatch(document, every) {
+    /** @type {Watch} */
+    const watch = { watchers: new Set(), last: "", isPushed: true, begun: Promise.resolve() };
+    this.#watches.set(document, watch);
+    watch.begun = this.ask("watch", document).then(() => {}, (refused) => {
+      if (refused.number !== 2) throw refused; // 2, bad-request: a server, which has no such word
+      watch.isPushed = false;
+      this.#poll(document, watch, every);
+    });
+    watch.begun.catch(() => this.#watches.delete(document));
+    return watch;
+  }
+
+  /** @param {string} document
+   *  @param {Watch} watch
+   *  @param {number} every */
+  async #poll(document, watch, every) {
+    while (this.#watches.get(document) === watch) {
+      const front = await this.front(document).catch(() => undefined);
+      if (front) this.#tell(watch, front);
+      await new Promise((resume) => setTimeout(resume, every));
+    }
+  }
+
+  /** @param {Watch} watch
+   *  @param {Map<string, number>} front */
+  #tell(watch, front) {
+    const pairs = print(frontPairs(front));
+    if (pairs === watch.last) return;
+    watch.last = pairs;
+    for (const changed of [...watch.watchers]) this.#run(changed, new Map(front));
+  }
+
+  /** Through the hub: calls `heard(value, guest)` for what others `say` of the document, until the
+   *  returned function is called. The hub keeps nothing of it.
+   *  @param {string} document
+   *  @param {Heard} heard
+   *  @returns {Promise<() => void>} */
+  async hear(document, heard) {
+    const hearers = this.#hearers.get(document) ?? new Set();
+    this.#hearers.set(document, hearers.add(heard));
+    await this.ask("hear", document);
+    return () => {
+      if (!hearers.delete(heard) || hearers.size > 0) return;
+      this.#hearers.delete(document);
+      this.ask("unhear", document).catch(() => {});
+    };
+  }
+
+  /** Through the hub: says a value to those who `hear` the document.
+   *  @param {string} document
+   *  @param {any} value */
+  say = async (document, value) => void (await this.ask("say", document, value));
+
+  /** @param {string} line */
+  #push(line) {
+    const [word, ...rest] = parsedReply(line) ?? [];
+    if (word === "reopened") this.#run(this.reopened, rest[0]);
+    const [document, first, second] = rest;
+    const watch = word === "changed" && this.#watches.get(document);
+    if (watch && Array.isArray(first)) this.#tell(watch, new Map(first));
+    if (word !== "heard") return;
+    for (const heard of [...(this.#hearers.get(document) ?? [])]) this.#run(heard, second, first);
+  }
+
+  /** Calls what the caller gave, and reports what it throws, also later.
+   *  @param {(...items: any[]) => any} callback
+   *  @param {...any} items */
+  #run(callback, ...items) {
+    try {
+      Promise.resolve(callback(...items)).catch((error) => this.failed(error));
+    } catch (error) {
+      this.failed(error);
+    }
+  }
+}
+
+/** @param {string} line
+ *  @returns {any[] | undefined} */
+function parsedReply(line) {
+  try {
+    const reply = parse(line);
+    return Array.isArray(reply) ? reply : undefined;
+  } catch {
+    return undefined;
+  }
+}
+
+/** What one request can assign or insert. Refused with 6, as a server would, before it is sent.
+ *  @param {any} value */
+function operand(value) {
+  const isBare = Array.isArray(value) ? value.length === 0 : isMap(value) && isEmpty(value);
+  return isBare ? bare(value) : checkedScalar(value);
+}
+
+/** @param {object} value */
+const isEmpty = (value) => checkValue(value) === 1 && Object.keys(value).length === 0;
+
+/** How many keys lead to a cursor, as far as it says.
+ *  @param {Cursor} cursor */
+const depthOf = (cursor) => cursor.length - 1;
+
+/** @param {number | Options | undefined} options */
+const settings = (options) => ({
+  seconds: 60, connectSeconds: 10, ping: 15, most: MOST.reply,
+  ...(typeof options === "number" ? { seconds: options } : options),
+});
+
+/** Connects to a server or the hub at HOST:PORT, from Node, and resolves once the session has
+ *  begun. Fails with `Away` if it doesn't within 10 seconds: a server with no session left accepts
+ *  connections and never replies. A request whose reply takes more than 60 seconds ends the
+ *  session. A number in place of the options is its seconds.
+ *  @param {string} address
+ *  @param {number | Options} [options]
+ *  @returns {Promise<Client>} */
+export async function connected(address, options) {
+  const { seconds, connectSeconds, most } = settings(options);
+  const { connect } = await import("node:net");
+  const alive = { noDelay: true, keepAlive: true, keepAliveInitialDelay: 30_000 };
+  const socket = connect({ ...addressParts(address), ...alive });
+  // What is asked at once goes out at once, so that little comes between at the server.
+  const send = (/** @type {string} */ line) => {
+    if (socket.writableCorked === 0) {
+      socket.cork();
+      queueMicrotask(() => socket.uncork());
+    }
+    socket.write(`${line}\n`);
+  };
+  const client = new Client(send, () => socket.destroySoon(), { seconds });
+  const decoder = new TextDecoder("utf-8", { ignoreBOM: true });
+  const lines = new LineCutter((line) => client.receive(decoder.decode(line)), most);
+  socket.on("data", (/** @type {Uint8Array} */ bytes) => {
+    try {
+      lines.take(bytes);
+    } catch (error) {
+      client.breakOff(`${address}: ${/** @type {Error} */ (error).message}`);
+      socket.destroy();
+    }
+  });
+  socket.on("error", (/** @type {Error} */ error) => client.lose(`${address}: ${error.message}`));
+  socket.on("close", () => client.lose(`${address}: the server has ended the session`));
+  client.closed.then(() => socket.destroySoon());
+  return begun(client, address, connectSeconds, () => socket.destroy());
+}
+
+/** Connects to the hub over WebSocket, and resolves once the session has begun: see `connected`. In
+ *  Node the second argument is the class of `ws`. Every 15 seconds without a request it asks for
+ *  the version, so that a hub that is frozen is noticed.
+ *  @param {string | URL} url
+ *  @param {any} [WebSocket]
+ *  @param {Options} [options]
+ *  @returns {Promise<Client>} */
+export async function connectedToHub(url, WebSocket = globalThis.WebSocket, options = undefined) {
+  const { seconds, connectSeconds, most, ping } = settings(options);
+  const socket = new WebSocket(url);
+  const open = new Promise((opened) => socket.addEventListener("open", () => opened(undefined)));
+  const send = (/** @type {string} */ line) =>
+    socket.readyState === 0 ? open.then(() => socket.send(line)) : socket.send(line);
+  const client = new Client(send, () => socket.close(), { seconds });
+  socket.addEventListener("message", (/** @type {{data: any}} */ { data }) => {
+    if (typeof data === "string" && data.length <= most) client.receive(data);
+    else client.breakOff(`${url}: a message that is no line of at most ${most} bytes`);
+  });
+  socket.addEventListener("error", () => client.lose(`${url}: no connection`));
+  socket.addEventListener("close", () => client.lose(`${url}: the connection has ended`));
+  const timer = setInterval(() => {
+    if (client.waiting() === 0) client.version().catch(() => {});
+  }, ping * 1000);
+  client.closed.then(() => clearInterval(timer));
+  return begun(client, String(url), connectSeconds, () => socket.terminate?.());
+}
+
+/** @param {Client} client
+ *  @param {string} address
+ *  @param {number} seconds
+ *  @param {() => void} destroy
+ *  @returns {Promise<Client>} */
+async function begun(client, address, seconds, destroy) {
+  const timer = setTimeout(() => {
+    client.breakOff(`${address}: no session within ${seconds} seconds`);
+    destroy();
+  }, seconds * 1000);
+  try {
+    await client.answer('["version"]'); // the first reply shows that there is a session
+    return client;
+  } catch (error) {
+    throw new Away(/** @type {Error} */ (error).message);
+  } finally {
+    clearTimeout(timer);
+  }
+}

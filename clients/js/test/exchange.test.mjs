@@ -1,0 +1,329 @@
+/* The exchange of replicas with servers: real ones, and ones that lie. */
+
+import { deepEqual, equal, ok, rejects, throws } from "node:assert/strict";
+import { test } from "node:test";
+import { Replica, connected, freshName, parse, plain, print } from "../index.mjs";
+import { engines } from "./engines.mjs";
+import { startServer } from "./support.mjs";
+
+const LIMIT = { timeout: 60_000 };
+
+/** @param {import("../session.mjs").Client} client
+ *  @returns {(line: string) => Promise<string>} */
+const answerOf = (client) => (line) => client.answer(line);
+
+/** A server in this program: a replica that answers as one. `lies` may answer in its place.
+ *  @param {(request: any[], replica: Replica) => any} [lies] */
+function fakeServer(lies = () => undefined) {
+  const replica = new Replica("srv-1", "d");
+  /** @type {any[][]} */
+  const requests = [];
+  /** @param {string} line */
+  const answer = async (line) => {
+    await null;
+    const request = parse(line);
+    requests.push(request);
+    if (requests.length > 5000) throw new Error("asked without end");
+    const lie = await lies(request, replica);
+    if (lie !== undefined) return typeof lie === "string" ? lie : print(lie);
+    const [word, , first, second] = request;
+    if (word === "open") return '["opened",1]';
+    if (word === "front") return print(["front", replica.front()]);
+    if (word === "ops") return print(["ops", [...replica.operations(first)].slice(0, second)]);
+    try {
+      return print(replica.deliver(first));
+    } catch (/** @type {any} */ refused) {
+      return print(refused.reply);
+    }
+  };
+  return { replica, requests, answer };
+}
+
+for (const [title, engine] of engines) {
+  /** @param {string} name */
+  const replicaOf = (name) => new Replica(name, "d", { engine });
+
+  test(`${title}: apart, together, stored and restored`, LIMIT, async () => {
+    const { address } = await startServer(["d"]);
+    const [one, two] = await Promise.all([connected(address), connected(address)]);
+    const ada = replicaOf(freshName("ada"));
+    const stored = ada.lines();
+    ada.listen(({ lines }) => stored.push(...lines));
+    const bob = replicaOf(freshName("bob"));
+    ada.put([0], { text: Array.from({ length: 300 }, (_, at) => `${at}`), big: 2n ** 62n });
+    deepEqual(await ada.sync(answerOf(one)), { taken: 0, given: 303, refused: [] });
+    deepEqual(await bob.sync(answerOf(two)), { taken: 303, given: 0, refused: [] });
+    ada.assign([0, "title"], "Plan");
+    bob.assign([0, "title"], "Trip");
+    bob.delete([0, "text"]);
+    ada.splice([0, "text"], 300, 0, "new");
+    ada.add([0, "big"], 2n ** 62n);
+    await two.open("d");
+    await two.assign("d", [0, "by request"], true);
+    const again = Replica.restore(stored, { engine });
+    for (const replica of [again, bob, again]) {
+      deepEqual((await replica.sync(answerOf(replica === bob ? two : one))).refused, []);
+    }
+    for (const [word, cursor] of [["show", [0]], ["items", [0, "text"]], ["sum", [0, "big"]]]) {
+      const reply = await one.answer(print([word, "d", cursor]));
+      for (const it of [again, bob]) {
+        equal(print([word, /** @type {any} */ (it)[/** @type {string} */ (word)](cursor)]), reply);
+      }
+    }
+    equal(print(["front", bob.front()]), await one.answer('["front","d"]'));
+    equal(again.text([0, "text"]), "new");
+    one.end();
+    two.end();
+  });
+
+  test(`${title}: three replicas and a session edit at once`, LIMIT, async () => {
+    const { address } = await startServer(["d"]);
+    const clients = await Promise.all(Array.from({ length: 4 }, () => connected(address)));
+    const below = (/** @type {number} */ limit) => Math.floor(Math.random() * limit);
+    /** @type {((it: Replica) => any)[]} */
+    const edits = [
+      (it) => it.assign([0, "map", `${below(9)}`], below(100)),
+      (it) => it.splice([0, "text"], below(it.items([0, "text"]).length + 1), 0, "xy"),
+      (it) => it.add([0, "n"], below(9)),
+      (it) => it.delete([0, "map"]),
+      (it) => it.undo(),
+      (it) => it.redo(),
+    ];
+    const replicas = ["ada", "bob", "cy"].map((word) => replicaOf(freshName(word)));
+    const [client, ...others] = clients;
+    await client.open("d");
+    const live = async (/** @type {Replica} */ replica, /** @type {any} */ with_) => {
+      for (let round = 0; round < 15; round++) {
+        const exchanged = replica.sync(answerOf(with_));
+        for (let count = below(10); count > 0; count--) edits[below(edits.length)](replica);
+        deepEqual((await exchanged).refused, []);
+      }
+    };
+    const requests = async () => {
+      for (let at = 0; at < 150; at++) await client.assign("d", [0, "map", `${at % 9}`], at);
+    };
+    await Promise.all([requests(), ...replicas.map((replica, at) => live(replica, others[at]))]);
+    for (const replica of [...replicas, ...replicas]) await replica.sync(answerOf(client));
+    for (const replica of replicas) {
+      equal(print(["show", replica.show([0])]), await client.answer('["show","d",[0]]'));
+      equal(print(["front", replica.front()]), await client.answer('["front","d"]'));
+    }
+    clients.forEach((it) => it.end());
+  });
+
+  test(`${title}: a name that two have used`, LIMIT, async () => {
+    const { address } = await startServer(["d"]);
+    const client = await connected(address);
+    const answer = answerOf(client);
+    const first = replicaOf("ada");
+    first.put([0], { list: ["a"], title: "first" });
+    await first.sync(answer);
+    const second = replicaOf("ada");
+    second.put([0], { list: ["b", "c"] });
+    second.splice([0, "list"], 1, 0, ["between"]);
+    second.assign([0, "title"], "second");
+    second.assign([0, "day"], "Friday");
+    const { refused } = await second.sync(answer);
+    ok(refused.length > 0 && refused.every(({ own, number }) => own && [14, 15, 16].includes(number)));
+    equal(await client.answer('["held","d"]'), '["waiting",[]]');
+    /** @type {any[]} */
+    const heard = [];
+    second.listen(({ why }) => heard.push(why));
+    /** @type {any[]} */
+    const model = second.items([0, "list"]).map(([, [value]]) => value);
+    second.watch([0, "list"], (splices) => {
+      for (const { index, remove, insert } of splices) model.splice(index, remove, ...insert);
+    });
+    const { remade, lost, melted } = await second.remake("ada-again", answer);
+    deepEqual([remade, lost, melted, second.name, heard], [7, [], [], "ada-again", ["remade"]]);
+    deepEqual((await second.sync(answer)).refused, []);
+    equal(print(["show", second.show([0])]), await client.answer('["show","d",[0]]'));
+    deepEqual(second.items([0, "list"]).map(([, values]) => values[0]), ["b", "between", "c", "a"]);
+    deepEqual(model, ["b", "between", "c", "a"]);
+    deepEqual(second.values([0, "title"]), ["first", "second"]);
+    // Who has lost what he stored is refused his own operations, and goes on under a new name.
+    const third = replicaOf("ada-again");
+    ok((await third.sync(answer)).refused.some(({ own, number }) => own && number === 16));
+    equal((await third.remake("ada-third", answer)).remade, 0);
+    equal(print(third.show([0])), print(second.show([0])));
+    client.end();
+  });
+
+  test(`${title}: an older store that was put back melts nothing`, LIMIT, async () => {
+    const { address } = await startServer(["d"]);
+    const client = await connected(address);
+    const answer = answerOf(client);
+    const note = (/** @type {Replica} */ replica, /** @type {string} */ text) =>
+      replica.splice([0, "notes"], replica.items([0, "notes"]).length, 0, [{ text, done: false }]);
+    const me = replicaOf("me");
+    note(me, "one");
+    await me.sync(answer);
+    const old = me.lines();
+    note(me, "buy milk");
+    me.add([0, "count"], 1);
+    await me.sync(answer);
+    const again = Replica.restore(old, { engine });
+    note(again, "call mum");
+    again.add([0, "count"], 1); // the very same operation, byte for byte
+    const before = await client.answer('["front","d"]');
+    const { refused } = await again.sync(answer);
+    ok(refused.some(({ own, number }) => own && number === 16), print(refused));
+    equal(await client.answer('["front","d"]'), before, "nothing was sent");
+    const { lost, melted } = await again.remake("me-again", answer);
+    deepEqual([lost, melted], [[], []]);
+    await again.sync(answer);
+    const notes = plain(again.show([0, "notes"])).map((/** @type {any} */ it) => it.text);
+    deepEqual(notes.sort(), ["buy milk", "call mum", "one"]);
+    equal(again.sum([0, "count"]), "2");
+    equal(print(["show", again.show([0])]), await client.answer('["show","d",[0]]'));
+    client.end();
+  });
+
+  test(`${title}: two programs with one store melt nothing`, LIMIT, async () => {
+    const server = fakeServer();
+    const both = replicaOf("me");
+    both.put([0, "list"], ["x"]);
+    const stored = both.lines();
+    const [one, two] = [stored, stored].map((lines) => Replica.restore(lines, { engine }));
+    await one.sync(server.answer);
+    await two.sync(server.answer);
+    one.splice([0, "list"], 1, 0, [{ who: "one" }]);
+    two.splice([0, "list"], 1, 0, [{ who: "two" }]);
+    await one.sync(server.answer);
+    ok((await two.sync(server.answer)).refused.some(({ own }) => own));
+    await two.remake("me-2", server.answer);
+    await two.sync(server.answer);
+    deepEqual(plain(server.replica.show([0, "list"])), ["x", { who: "two" }, { who: "one" }]);
+  });
+
+  test(`${title}: a reply that was lost isn't taken for a name used twice`, LIMIT, async () => {
+    let isBroken = false;
+    const server = fakeServer(([word, , op], replica) => {
+      if (word !== "deliver" || !isBroken) return undefined;
+      replica.deliver(op);
+      throw new Error("broken");
+    });
+    const me = replicaOf("me");
+    me.put([0, "list"], [{ a: 1 }, { a: 2 }]);
+    isBroken = true;
+    await rejects(me.sync(server.answer), /broken/);
+    isBroken = false;
+    me.splice([0, "list"], 2, 0, [{ a: 3 }]);
+    deepEqual((await me.sync(server.answer)).refused, []);
+    const again = Replica.restore(me.lines(), { engine });
+    deepEqual(await again.sync(server.answer), { taken: 0, given: 0, refused: [] });
+    equal(print(server.replica.show([0])), print(me.show([0])));
+  });
+
+  test(`${title}: another tab may send own operations, if it is said`, LIMIT, async () => {
+    const server = fakeServer();
+    const [me, tab] = [replicaOf("me"), replicaOf("tab")];
+    me.isShared = true;
+    me.listen(({ lines }) => tab.deliverAll(lines));
+    me.put([0], { list: ["a"] });
+    await tab.sync(server.answer);
+    deepEqual((await me.sync(server.answer)).refused, []);
+  });
+
+  test(`${title}: calls of sync at once`, LIMIT, async () => {
+    const server = fakeServer();
+    const me = replicaOf("me");
+    me.put([0, "list"], Array.from({ length: 200 }, (_, at) => at));
+    const first = me.sync(server.answer);
+    while (server.requests.length < 2) await null;
+    const all = [first, ...Array.from({ length: 20 }, () => me.sync(server.answer))];
+    me.assign([0, "late"], 1);
+    const reports = await Promise.all(all);
+    equal(reports[0].given + reports[1].given, 202);
+    const delivered = server.requests.filter(([word]) => word === "deliver").length;
+    ok(delivered <= 203, `${delivered} deliveries`);
+    equal(server.requests.filter(([word]) => word === "front").length, 2);
+    equal(print(server.replica.front()), print(me.front()));
+    // Two servers at once are two exchanges.
+    const other = fakeServer();
+    me.assign([0, "later"], 1);
+    await Promise.all([me.sync(server.answer), me.sync(other.answer)]);
+    equal(print(other.replica.front()), print(server.replica.front()));
+  });
+
+  test(`${title}: servers that lie`, LIMIT, async () => {
+    const page = Array.from({ length: 64 }, (_, at) =>
+      ["op", [at + 1, "p"], at ? [["p", at]] : [], [[["m", 0]], "k"], ["assign", at]]);
+    const repeated = fakeServer(([word]) => (word === "ops" ? ["ops", page] : undefined));
+    equal((await replicaOf("me").sync(repeated.answer)).taken, 64);
+    ok(repeated.requests.length < 80);
+    let names = 0;
+    const endless = fakeServer(([word]) => word === "ops" ? ["ops", page.map((op) =>
+      ["op", [5, `x${names++}`], [["gone", 4]], op[3], op[4]])] : undefined);
+    await rejects(replicaOf("me").sync(endless.answer), TypeError);
+    for (const reply of ["nonsense", "5", "{}", "[]", '["front",5]', '["front",[[1,2]]]',
+      print(["front", Array.from({ length: 300 }, (_, at) => [`r${1000 + at}`, 1])])]) {
+      const server = fakeServer(([word]) => (word === "front" ? reply : undefined));
+      await rejects(replicaOf("me").sync(server.answer), (error) => error instanceof TypeError || error instanceof SyntaxError);
+    }
+    for (const ops of [[5], [["op"]], [null], [["op", [1, "p"], null, 3, 4]], "x", { a: 1 }]) {
+      const server = fakeServer(([word]) => (word === "ops" ? ["ops", ops] : undefined));
+      const me = replicaOf("me");
+      me.assign([0, "k"], 1);
+      const report = await me.sync(server.answer).catch((error) => error);
+      ok(report instanceof TypeError || (report.refused.length === 1 && report.given === 1));
+    }
+    const bad = Array.from({ length: 64 }, (_, at) => ["op", [7, "p"], [["q", 6]], [[], 0], ["assign", "z".repeat(4096) + at]]);
+    let count = 0;
+    const flood = fakeServer(([word]) => word === "ops" && count++ < 100
+      ? ["ops", bad.map((op) => ["op", [count + 7, "p"], [["q", 6]], op[3], op[4]])] : undefined);
+    ok((await replicaOf("me").sync(flood.answer)).refused.length <= 1000);
+  });
+
+  test(`${title}: own edits that are refused bar what depends on them`, LIMIT, async () => {
+    const server = fakeServer(([word, , op]) =>
+      (word === "deliver" && op[1][0] === 3 ? ["no", 19, "too-many-replicas"] : undefined));
+    const [me, other] = [replicaOf("me"), replicaOf("other")];
+    for (let at = 0; at < 6; at++) me.assign([0, "k"], at);
+    other.assign([0, "o"], 1);
+    me.deliverAll(other.lines().slice(1));
+    const { given, refused } = await me.sync(server.answer);
+    deepEqual([given, refused.map(({ number, own }) => [number, own])], [3, [[19, true]]]);
+    // A full server is sent no more than one page.
+    const full = fakeServer(([word]) => (word === "deliver" ? ["no", 18, "log-full"] : undefined));
+    const many = replicaOf("many");
+    many.put([0, "l"], Array.from({ length: 500 }, () => 1));
+    equal((await many.sync(full.answer)).refused.length, 1);
+  });
+
+  test(`${title}: refused own edits are made again in the new document`, LIMIT, async () => {
+    const full = fakeServer();
+    const old = replicaOf("ada");
+    old.put([0], { list: ["a", { text: "b" }, "c"], title: "x", n: 1 });
+    await old.sync(full.answer);
+    throws(() => replicaOf("ada").remakeIn(old, []), TypeError);
+    const refusing = fakeServer(([word, , op]) => word === "deliver" && op[1][1] === "ada" && op[1][0] > old.count - 9
+      ? ["no", 18, "log-full"] : undefined);
+    refusing.replica.deliverAll(old.lines().slice(1));
+    const [a, b, c] = old.items([0, "list"]).map(([id]) => id);
+    old.assign([0, "list", b, "text"], "b2");
+    const [d] = old.splice([0, "list"], 3, 0, [{ text: "d" }]);
+    old.assign([0, "list", d, "text"], "d2");
+    old.delete([0, "list", a]);
+    old.insert([0, "list", a], "behind a");
+    old.add([0, "n"], 5);
+    old.assign([0, "list", c], "c2");
+    // The new document has the content, but for c, which another had deleted by then.
+    const renewed = new Replica("renewer", "d2", { engine });
+    renewed.put([0], { list: ["a", { text: "b" }], title: "x", n: 1 });
+    const now = renewed.items([0, "list"]).map(([id]) => id);
+    const me = new Replica("ada-2", "d2", { engine });
+    me.deliverAll(renewed.lines().slice(1));
+    const map = [`${print([a, now[0]])}`, print([b, now[1]]), ""];
+    await old.sync(refusing.answer);
+    /** @type {any[]} */
+    const events = [];
+    me.listen(({ lines }) => events.push(lines.length));
+    const { remade, lost } = old.remakeIn(me, map);
+    deepEqual([remade, lost.map((line) => parse(line)[4])], [7, [["assign", "c2"]]]);
+    deepEqual(plain(me.show([0])).list, ["behind a", { text: "b2" }, { text: "d2" }]);
+    equal(me.sum([0, "n"]), "5");
+    deepEqual(events, [7]);
+  });
+}
+

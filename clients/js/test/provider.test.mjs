@@ -1,0 +1,315 @@
+/* A provider before real servers and hubs: kills, freezes, restarts, names used twice. */
+
+import { deepEqual, equal, match, ok, rejects } from "node:assert/strict";
+import { copyFileSync } from "node:fs";
+import { createServer } from "node:net";
+import node from "node:test";
+import { pause, until, webSockets } from "./chromium.mjs";
+import { end, room, start, startHub, startServer } from "./serving.mjs";
+import { Provider } from "../provider.mjs";
+import { fileStore } from "../file_store.mjs";
+import { Away } from "../wire.mjs";
+
+const WebSocket = webSockets()?.WebSocket;
+const TRUE_SECONDS = 10; // so soon a state is true
+const providers = new Set();
+
+const test = (name, work, options = {}) => node(name, { timeout: 120_000, ...options }, async (t) => {
+  try {
+    await work(t);
+  } finally {
+    await Promise.allSettled([...providers].map((provider) => provider.close()));
+    providers.clear();
+  }
+});
+
+async function opened(at, options = {}) {
+  const provider = await Provider.open({ document: "d", at, WebSocket, ...options });
+  providers.add(provider);
+  return provider;
+}
+
+const valueOf = ({ replica }, key) => replica.values([0, key])[0];
+const online = (provider) => until("online", () => provider.state.word === "online");
+
+test("two providers at a server: each sees what the other edits", async () => {
+  const server = await startServer(["d"]);
+  const [ada, bob] = [await opened(server.address), await opened(server.address)];
+  const words = [];
+  ada.listen(({ what }) => what === "state" && words.push(ada.state.word));
+  equal(ada.state.word, "connecting");
+  ada.replica.assign([0, "title"], "Plan");
+  await until("bob has it", () => valueOf(bob, "title") === "Plan");
+  bob.replica.assign([0, "title"], "Trip");
+  await until("ada has it", () => valueOf(ada, "title") === "Trip");
+  deepEqual(words, ["online"]);
+  equal(ada.unsent.length, 0);
+});
+
+test("what came at once is one event", async () => {
+  const server = await startServer(["d"]);
+  const ada = await opened(server.address);
+  const bob = await opened(server.address, { isOnline: false });
+  const events = [];
+  ada.listen(({ what, why, lines }) => what === "changed" && events.push([why, lines.length]));
+  bob.replica.splice([0, "text"], 0, 0, "a text of many characters ".repeat(40)); // 17 pages
+  await online(ada);
+  equal(bob.unsent.length, 1040);
+  bob.goOnline();
+  await bob.synced(100);
+  equal(bob.unsent.length, 0);
+  await until("ada has all", () => ada.replica.items([0, "text"]).length === 1040);
+  // The last of what came is told once the exchange that took it has ended.
+  await until("ada was told", () => events.reduce((sum, [, count]) => sum + count, 0) >= 1040);
+  ok(events.length < 12, `${events.length} events`);
+  equal(events.reduce((sum, [, count]) => sum + count, 0), 1040);
+  const late = await opened(server.address);
+  const heard = [];
+  late.listen(({ what, lines }) => what === "changed" && heard.push(lines.length));
+  await online(late); // it isn't before all is here
+  deepEqual(heard, [1040]);
+});
+
+test("what is sent was flushed before, once for all that was written", async () => {
+  const server = await startServer(["d"]);
+  const store = fileStore(`${room()}/notes`);
+  const flush = store.flush.bind(store);
+  let [count, sent] = [0, 0];
+  store.flush = () => { count++; return flush(); };
+  const onReply = (line) => {
+    if (!line.startsWith('["deliver",')) return;
+    if (sent++ === 0) ok(count > 0, "nothing is sent before");
+  };
+  const ada = await opened(server.address, { store, isOnline: false, onReply });
+  ada.replica.splice([0, "text"], 0, 0, "x".repeat(3000));
+  ada.goOnline();
+  await ada.synced(100);
+  equal(sent, 3000);
+  ok(count < 5, `${count} flushes`); // a disk has some hundred in a second
+  ada.replica.assign([0, "title"], "Plan");
+  await ada.synced(100);
+  ok(count < 10 && sent === 3001, `${count} flushes, ${sent} sent`);
+});
+
+test("a program that is held up doesn't take that for silence of the server", async () => {
+  const server = await startServer(["d"]);
+  const ada = await opened(server.address);
+  await ada.synced(60);
+  const words = [];
+  ada.listen(({ what }) => what === "state" && words.push(ada.state.word));
+  ada.replica.assign([0, "title"], "Plan");
+  await pause(1); // it was asked for, and the reply waits
+  for (const end = Date.now() + 6000; Date.now() < end; ); // as while a page is laid out
+  await pause(1500);
+  deepEqual(words, []);
+  equal(ada.state.word, "online");
+});
+
+test("a server that isn't there yet, and one that is started again", async () => {
+  const first = await startServer(["d"]);
+  const { address, folder } = first;
+  await end(first);
+  const ada = await opened(address);
+  await until("offline", () => ada.state.word === "offline", TRUE_SECONDS);
+  match(ada.state.why, /ECONNREFUSED/);
+  const { since } = ada.state;
+  ok(Date.now() - since < 5000);
+  ada.replica.assign([0, "title"], "Plan");
+  await rejects(ada.synced(0.5), (error) => error instanceof Away && /ECONNREFUSED/.test(error.message));
+  await pause(1500);
+  equal(ada.state.since, since);
+  const second = await startServer(["d"], { address, folder });
+  await online(ada);
+  await ada.synced();
+  const bob = await opened(address);
+  await bob.synced();
+  equal(valueOf(bob, "title"), "Plan");
+  await end(second);
+  await until("both are offline", () => [ada, bob].every(({ state }) => state.word === "offline"));
+  ada.replica.assign([0, "title"], "Plan B");
+  await startServer(["d"], { address, folder });
+  await until("bob has it", () => valueOf(bob, "title") === "Plan B", 30);
+});
+
+test("long offline, a server that is there again is met at once by `synced`", async () => {
+  const first = await startServer(["d"]);
+  const { address, folder } = first;
+  await end(first);
+  const all = await Promise.all(Array.from({ length: 6 }, () => opened(address)));
+  await pause(15_000); // from here on the pauses between two tries are several seconds long
+  const waits = all.map((provider) => provider.synced(TRUE_SECONDS + 5));
+  await pause(1500); // the try of that moment fails
+  await startServer(["d"], { address, folder });
+  const begin = Date.now();
+  await Promise.all(waits);
+  ok(Date.now() - begin < 5000, `${Date.now() - begin} ms`);
+});
+
+test("a program ends once it has closed its provider", async () => {
+  const server = await startServer(["d"]);
+  const gone = await startServer(["d"]);
+  await end(gone);
+  const module = JSON.stringify(new URL("../provider.mjs", import.meta.url).href);
+  const program = `const { Provider } = await import(${module});
+    const [there, gone] = await Promise.all(process.argv.slice(1)
+      .map((at) => Provider.open({ document: "d", at })));
+    await there.synced(60);
+    const isAway = await gone.synced(3).then(() => false, () => true);
+    await Promise.all([there.close(), gone.close()]);
+    console.log(JSON.stringify(isAway));`;
+  const words = ["--input-type=module", "-e", program, server.address, gone.address];
+  const { child, lines } = await start(process.execPath, words, 1);
+  const begin = Date.now();
+  deepEqual(lines, [true]);
+  equal(await child.ended, 0);
+  ok(Date.now() - begin < 8000, `${Date.now() - begin} ms`);
+});
+
+test("a hub that is killed and started again", async () => {
+  const server = await startServer(["d"]);
+  const hub = await startHub(server.address);
+  const [ada, bob] = [await opened(hub.lines), await opened(hub.lines)];
+  ada.replica.add([0, "votes"], 1);
+  await until("bob has it", () => bob.replica.sum([0, "votes"]) === "1");
+  await end(hub);
+  await until("offline", () => ada.state.word === "offline", TRUE_SECONDS);
+  ada.replica.add([0, "votes"], 1);
+  bob.replica.add([0, "votes"], 1);
+  await startHub(server.address, { web: hub.web });
+  await until("both have three", () =>
+    [ada, bob].every(({ replica }) => replica.sum([0, "votes"]) === "3"), 30);
+  equal(ada.state.word, "online");
+});
+
+test("a hub that is frozen", async () => {
+  const server = await startServer(["d"]);
+  const hub = await startHub(server.address);
+  const [ada, bob] = [await opened(hub.lines), await opened(server.address)];
+  await Promise.all([online(ada), online(bob)]);
+  process.kill(hub.child.pid, "SIGSTOP");
+  await until("it says so", () => ada.state.word === "offline", TRUE_SECONDS);
+  equal(ada.state.why, "the server doesn't reply");
+  ada.replica.assign([0, "title"], "while it was frozen");
+  await pause(1000);
+  equal(ada.state.word, "offline");
+  equal(bob.state.word, "online");
+  process.kill(hub.child.pid, "SIGCONT");
+  await online(ada);
+  await until("bob has it", () => valueOf(bob, "title") === "while it was frozen");
+});
+
+test("a hub whose server is killed, and started again", async () => {
+  const server = await startServer(["d"]);
+  const hub = await startHub(server.address);
+  const ada = await opened(hub.lines);
+  await ada.synced();
+  await end(server);
+  await until("it says so", () => ada.state.word === "offline", TRUE_SECONDS);
+  ada.replica.assign([0, "title"], "meanwhile");
+  await startServer(["d"], server);
+  await until("online again", () => ada.state.word === "online", 30);
+  await ada.synced();
+  const bob = await opened(server.address);
+  await bob.synced();
+  equal(valueOf(bob, "title"), "meanwhile");
+});
+
+test("a server that accepts connections and never replies", async () => {
+  const silent = createServer(() => {}).listen(0, "127.0.0.1");
+  await new Promise((open) => silent.on("listening", open));
+  const ada = await opened(`127.0.0.1:${silent.address().port}`);
+  await until("it says so", () => ada.state.word === "offline", TRUE_SECONDS);
+  ok(ada.state.why !== "");
+  await ada.close();
+  silent.close();
+});
+
+test("a document that the server doesn't have", async () => {
+  const server = await startServer(["other"]);
+  const ada = await opened(server.address);
+  await until("it says so", () => ada.problems.has("server"), TRUE_SECONDS);
+  equal(ada.problems.get("server").words, "the server has no document d");
+  equal(ada.state.word, "offline");
+  equal(ada.state.why, "the server has no document d");
+});
+
+test("switched off and on, and closed", async () => {
+  const server = await startServer(["d"]);
+  const [ada, bob] = [await opened(server.address), await opened(server.address)];
+  await Promise.all([online(ada), online(bob)]);
+  ada.goOffline();
+  equal(ada.state.word, "offline");
+  equal(ada.state.why, "it is switched off");
+  ada.replica.assign([0, "title"], "offline");
+  await pause(700);
+  equal(valueOf(bob, "title"), undefined);
+  ada.goOnline();
+  await until("bob has it", () => valueOf(bob, "title") === "offline");
+  const told = [];
+  ada.listen(({ what }) => told.push(what));
+  await ada.close();
+  bob.replica.assign([0, "title"], "later");
+  await pause(700);
+  equal(valueOf(ada, "title"), "offline");
+  equal(ada.state.word, "offline");
+});
+
+test("a listener that throws, and one that edits", async () => {
+  const store = { file: `${room()}/notes` };
+  const ada = await opened(undefined, { store: fileStore(store.file) });
+  const heard = [];
+  ada.listen(() => { throw new Error("a mistake of the program"); });
+  ada.listen(({ what, lines }) => {
+    if (what !== "changed") return;
+    heard.push(...lines);
+    if (ada.replica.sum([0, "n"]) === "0") ada.replica.add([0, "n"], 1);
+  });
+  ada.replica.assign([0, "title"], "Plan");
+  equal(heard.length, 2);
+  deepEqual(heard, ada.replica.lines().slice(1)); // in the order of the log
+  equal(ada.problems.get("listener").words, "a mistake of the program");
+  await ada.close();
+  const again = await opened(undefined, { store: fileStore(store.file) });
+  equal(valueOf(again, "title"), "Plan");
+  equal(again.replica.sum([0, "n"]), "1");
+});
+
+test("an old file that was put back: nothing is lost, no two elements are one", async () => {
+  const server = await startServer(["d"]);
+  const file = `${room()}/notes`;
+  const at = server.address;
+  const session = async (text) => {
+    const notes = await opened(at, { store: fileStore(file) });
+    notes.replica.splice([0, "notes"], notes.replica.items([0, "notes"]).length, 0, [{ text }]);
+    await notes.synced();
+    const found = notes.problems.get("remade")?.words;
+    await notes.close();
+    return found;
+  };
+  equal(await session("one"), undefined);
+  copyFileSync(file, `${file}-copy`);
+  equal(await session("buy milk"), undefined);
+  copyFileSync(`${file}-copy`, file);
+  match(await session("call mum"), /^another had the name of this replica: made \d changes again$/);
+  const bob = await opened(at);
+  await bob.synced();
+  const { replica } = bob;
+  const texts = replica.items([0, "notes"]).map(([id]) => replica.values([0, "notes", id, "text"]));
+  deepEqual(texts.sort(), [["buy milk"], ["call mum"], ["one"]]);
+});
+
+test("the server's disk took changes back: they are given again", async () => {
+  const first = await startServer(["d"]);
+  const { address, folder } = first;
+  const ada = await opened(address);
+  ada.replica.assign([0, "title"], "Plan");
+  await ada.synced();
+  await end(first);
+  await startServer(["d"], { address, folder: room() }); // an empty one in its place
+  await until("it was given again", () => ada.state.word === "online", 30);
+  await ada.synced();
+  const bob = await opened(address);
+  await bob.synced();
+  equal(valueOf(bob, "title"), "Plan");
+  ok(folder);
+});

@@ -1,0 +1,264 @@
+/* A text field of a page that several people type into: a list of characters at a place.
+
+     import { bindText } from "jcrdt/text_field";
+     bindText(provider, [0, "text"], document.querySelector("textarea"));
+
+   Caret and selection stay at their characters while others type, and Ctrl+Z takes back one's own
+   typing alone. Each character is an operation, of the 100,000 that a document takes. What others
+   type is shown soon: a long text that comes in parts leaves the browser time for other things. */
+
+import { paced } from "./pace.mjs";
+
+/** @typedef {import("./provider.mjs").Provider} Provider */
+/** @typedef {HTMLTextAreaElement | HTMLInputElement} Field */
+/** @typedef {[number, string]} Id */
+/** @typedef {{ id: Id, text: string }} Character */
+
+/**
+ * @typedef {object} TextOptions
+ * @property {(error: unknown) => void} [refused] is called when an edit was refused; the field
+ *   shows the text as it is then. And with `undefined` when the next one wasn't.
+ * @property {number} [long] how many characters at once are asked for: 2,000 unless it is said
+ * @property {(count: number) => Promise<boolean>} [confirm] asks whether so many are to come in;
+ *   they do where there is none
+ */
+
+/** Shows the text at a place in a field, and takes what is typed there. What this returns ends it.
+ *  @param {Provider} provider
+ *  @param {(0 | string | number | Id)[]} place a list, or where one is to be
+ *  @param {Field} field
+ *  @param {TextOptions} [options]
+ *  @returns {() => void} */
+export function bindText(provider, place, field, options = {}) {
+  const bound = new BoundText(provider, place, field, options);
+  return () => bound.end();
+}
+
+class BoundText {
+  /** @type {Character[]} what the field shows */
+  #shown = [];
+  #isBusy = false; // a character is being composed, or a question is open
+  #isOwn = false;
+  #isEnded = false;
+  #provider;
+  #place;
+  #field;
+  #options;
+  #unlisten = () => {};
+  #showSoon = paced(() => this.#isEnded || this.#show());
+
+  /** @param {Provider} provider
+   *  @param {(0 | string | number | Id)[]} place
+   *  @param {Field} field
+   *  @param {TextOptions} options */
+  constructor(provider, place, field, options) {
+    this.#provider = provider;
+    this.#place = place;
+    this.#field = field;
+    this.#options = options;
+    field.addEventListener("compositionstart", this);
+    field.addEventListener("compositionend", this);
+    field.addEventListener("beforeinput", this);
+    field.addEventListener("input", this);
+    field.addEventListener("keydown", this);
+    this.#unlisten = provider.listen(({ what }) => {
+      if (what === "changed" && !this.#isOwn) this.#showSoon();
+    });
+    this.#show();
+  }
+
+  end() {
+    this.#isEnded = true;
+    this.#unlisten();
+    for (const name of ["compositionstart", "compositionend", "beforeinput", "input", "keydown"]) {
+      this.#field.removeEventListener(name, this);
+    }
+  }
+
+  /** @param {any} event */
+  handleEvent(event) {
+    if (event.type === "keydown") return this.#takeKey(event);
+    if (event.type === "beforeinput") return this.#takeUndo(event);
+    if (event.type === "compositionstart") this.#isBusy = true;
+    if (event.type === "compositionend") this.#isBusy = false;
+    if (!this.#isBusy) this.#takeInput();
+  }
+
+  /** @param {KeyboardEvent} event */
+  #takeKey(event) {
+    if (!(event.ctrlKey || event.metaKey) || event.altKey) return;
+    const key = event.key.toLowerCase();
+    const isRedo = key === "y" || (key === "z" && event.shiftKey);
+    if (key !== "z" && !isRedo) return;
+    event.preventDefault(); // the browser's own takes back what others typed
+    this.#turn(isRedo);
+  }
+
+  /** @param {InputEvent} event */
+  #takeUndo(event) {
+    if (!["historyUndo", "historyRedo"].includes(event.inputType)) return;
+    event.preventDefault();
+    this.#turn(event.inputType === "historyRedo");
+  }
+
+  /** @param {boolean} isRedo */
+  #turn(isRedo) {
+    const { replica } = this.#provider;
+    this.#try(() => (isRedo ? replica.redo() : replica.undo()));
+  }
+
+  /** @param {() => void} act */
+  #try(act) {
+    try {
+      act();
+      this.#options.refused?.(undefined);
+    } catch (error) {
+      this.#options.refused?.(error);
+      this.#show();
+    }
+  }
+
+  /** Makes what was typed into the field as edits. They name characters by their ids, so they have
+   *  their places whatever others have typed since. */
+  async #takeInput() {
+    const { index, remove, insert } = this.#difference();
+    const { confirm, long = 2000 } = this.#options;
+    if (insert.length > long && confirm) {
+      this.#isBusy = true;
+      const isWanted = await confirm(insert.length).catch(() => false);
+      this.#isBusy = false;
+      if (this.#isEnded) return;
+      if (!isWanted) return this.#showAgain();
+    }
+    if (remove > 0 || insert.length > 0) this.#edit(index, remove, insert);
+    this.#showSoon(); // what came while the field was busy
+  }
+
+  #showAgain() {
+    this.#shown = [];
+    this.#field.value = "";
+    this.#show();
+  }
+
+  /** @param {number} index
+   *  @param {number} remove
+   *  @param {string[]} insert */
+  #edit(index, remove, insert) {
+    const { replica } = this.#provider;
+    const gone = new Set(this.#shown.slice(index, index + remove).map(({ id }) => id));
+    /** @type {Character[]} */
+    const added = [];
+    this.#isOwn = true;
+    try {
+      replica.group(() => {
+        const before = index === 0 ? 0 : this.#shown[index - 1].id;
+        for (const text of insert) {
+          const id = replica.insert([...this.#place, added.at(-1)?.id ?? before], text);
+          added.push({ id, text });
+        }
+        for (const id of gone) replica.delete([...this.#place, id]);
+      });
+      this.#shown.splice(index, remove, ...added);
+      this.#options.refused?.(undefined);
+    } catch (error) {
+      this.#options.refused?.(error);
+    }
+    this.#isOwn = false;
+  }
+
+  /** How the field differs from what was shown in it, in characters: whole ones of the list. */
+  #difference() {
+    const now = [...this.#field.value];
+    const old = this.#shown;
+    const most = Math.min(old.length, now.length);
+    const caret = [...this.#field.value.slice(0, this.#field.selectionEnd ?? 0)].length;
+    const isSameFromEnd = (/** @type {number} */ at) =>
+      old[old.length - 1 - at].text === now[now.length - 1 - at];
+    // What is behind the caret wasn't typed: so of equal characters the right one is found.
+    let behind = 0;
+    while (behind < Math.min(most, now.length - caret) && isSameFromEnd(behind)) behind++;
+    let before = 0;
+    while (before < most - behind && old[before].text === now[before]) before++;
+    while (behind < most - before && isSameFromEnd(behind)) behind++;
+    const isCut = (/** @type {number} */ at) => old[at - 1]?.id === old[at]?.id;
+    while (before > 0 && before < old.length && isCut(before)) before--;
+    while (behind > 0 && behind < old.length && isCut(old.length - behind)) behind--;
+    const remove = old.length - behind - before;
+    return { index: before, remove, insert: now.slice(before, now.length - behind) };
+  }
+
+  // ---- What others typed
+
+  #read() {
+    /** @type {Character[]} */
+    const characters = [];
+    for (const [id, values] of this.#provider.replica.items(this.#place)) {
+      const value = values.at(-1);
+      if (typeof value !== "string") continue;
+      // A field has no carriage returns.
+      for (const text of value.replaceAll("\r", "")) characters.push({ id, text });
+    }
+    return characters;
+  }
+
+  /** Shows the text as it is, with caret and selection at the characters where they were. */
+  #show() {
+    if (this.#isBusy) return;
+    const [old, now] = [this.#shown, this.#read()];
+    const field = this.#field;
+    const text = now.map((character) => character.text).join("");
+    this.#shown = now;
+    if (field.value === text) return;
+    const { selectionStart, selectionEnd, selectionDirection, scrollTop } = field;
+    const moved = movedBy(old, now);
+    const places = [selectionStart, selectionEnd].map((offset) => moved(offset ?? 0));
+    field.value = text;
+    if (field.ownerDocument.activeElement === field || selectionStart !== selectionEnd) {
+      field.setSelectionRange(places[0], places[1], selectionDirection ?? "none");
+    }
+    field.scrollTop = scrollTop;
+  }
+}
+
+/** @param {Id} a
+ *  @param {Id} b */
+const isSame = (a, b) => a[0] === b[0] && a[1] === b[1];
+
+/** Where a place of the old text is in the new one, in UTF-16 units: behind the same character, or
+ *  behind the last one before it that is still there.
+ *  @param {Character[]} old
+ *  @param {Character[]} now
+ *  @returns {(offset: number) => number} */
+function movedBy(old, now) {
+  const most = Math.min(old.length, now.length);
+  let before = 0;
+  while (before < most && isSame(old[before].id, now[before].id)) before++;
+  let behind = 0;
+  const isSameFromEnd = (/** @type {number} */ at) =>
+    isSame(old[old.length - 1 - at].id, now[now.length - 1 - at].id);
+  while (behind < most - before && isSameFromEnd(behind)) behind++;
+  const changed = now.slice(before, now.length - behind);
+  return (offset) => {
+    let count = countTo(old, offset);
+    if (count > old.length - behind) return offsetOf(now, count - old.length + now.length);
+    for (; count > before; count--) {
+      const at = changed.findIndex(({ id }) => isSame(id, old[count - 1].id));
+      if (at >= 0) return offsetOf(now, before + at + 1);
+    }
+    return offsetOf(now, count);
+  };
+}
+
+/** How many characters begin before an offset.
+ *  @param {Character[]} characters
+ *  @param {number} offset */
+function countTo(characters, offset) {
+  let [count, at] = [0, 0];
+  while (count < characters.length && at < offset) at += characters[count++].text.length;
+  return count;
+}
+
+/** @param {Character[]} characters
+ *  @param {number} count */
+const offsetOf = (characters, count) =>
+  characters.slice(0, count).reduce((sum, { text }) => sum + text.length, 0);

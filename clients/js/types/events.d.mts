@@ -1,0 +1,105 @@
+/** @typedef {import("./wire.mjs").Cursor} Cursor */
+/** @typedef {import("./wire.mjs").Id} Id */
+/** @typedef {import("./wire.mjs").Operation} Operation */
+/** @typedef {import("./rules.mjs").Splice} Splice */
+/** @typedef {"own" | "undo" | "taken" | "remade"} Why */
+/** @typedef {object} Change Where an operation ended, by ids, and what it was.
+ *  @property {Id} id
+ *  @property {"assign" | "insert" | "delete" | "add"} word
+ *  @property {Cursor} place
+ *  @property {any} [value] */
+/** @typedef {object} Event
+ *  @property {Why} why
+ *  @property {string[]} lines The operations, as they are stored. None with "remade".
+ *  @property {Id[]} ids
+ *  @property {Change[]} changes */
+/** @typedef {(event: Event) => any} Heard */
+/** @typedef {(splices: Splice[], why: Why) => any} Changed */
+/** What a watch asks for splices: the operations are those at, under or above its place.
+ *  @typedef {{take: (ops: Operation[]) => Splice[], end: () => void}} Source */
+/** @typedef {object} Watch
+ *  @property {Cursor} place
+ *  @property {string[]} texts Of the place.
+ *  @property {Source} source
+ *  @property {number} length Of the list, as the splices made it.
+ *  @property {Changed} changed */
+/** @typedef {{line: string, op: Operation, texts: string[]}} Logged */
+export class Events {
+    /** @param {(error: any) => any} failed Is called with what a listener has thrown. */
+    constructor(failed: (error: any) => any);
+    get hasWatches(): boolean;
+    /** @param {Heard} heard */
+    listen(heard: Heard): () => undefined;
+    /** @param {Cursor} place
+     *  @param {Source} source
+     *  @param {number} length
+     *  @param {Changed} changed */
+    watch(place: import("./wire.mjs").Cursor, source: Source, length: number, changed: Changed): () => void;
+    /** All that is logged within `work` is one event, at its end.
+     *  @template T
+     *  @param {() => T} work
+     *  @returns {T} */
+    batch<T>(work: () => T): T;
+    /** @param {string} line
+     *  @param {Operation} op
+     *  @param {Why} why */
+    log(line: string, op: import("./wire.mjs").Operation, why: Why): void;
+    /** Everything is another: watches go on at the places of now.
+     *  @param {(place: Cursor) => {place: Cursor, source: Source, values: any[]} | undefined} again */
+    remade(again: (place: import("./wire.mjs").Cursor) => {
+        place: import("./wire.mjs").Cursor;
+        source: Source;
+        values: any[];
+    } | undefined): void;
+    #private;
+}
+export type Cursor = import("./wire.mjs").Cursor;
+export type Id = import("./wire.mjs").Id;
+export type Operation = import("./wire.mjs").Operation;
+export type Splice = import("./rules.mjs").Splice;
+export type Why = "own" | "undo" | "taken" | "remade";
+/**
+ * Where an operation ended, by ids, and what it was.
+ */
+export type Change = {
+    id: import("./wire.mjs").Id;
+    word: "assign" | "insert" | "delete" | "add";
+    place: import("./wire.mjs").Cursor;
+    value?: any;
+};
+export type Event = {
+    why: Why;
+    /**
+     * The operations, as they are stored. None with "remade".
+     */
+    lines: string[];
+    ids: import("./wire.mjs").Id[];
+    changes: Change[];
+};
+export type Heard = (event: Event) => any;
+export type Changed = (splices: Splice[], why: Why) => any;
+/**
+ * What a watch asks for splices: the operations are those at, under or above its place.
+ */
+export type Source = {
+    take: (ops: import("./wire.mjs").Operation[]) => Splice[];
+    end: () => void;
+};
+export type Watch = {
+    place: import("./wire.mjs").Cursor;
+    /**
+     * Of the place.
+     */
+    texts: string[];
+    source: Source;
+    /**
+     * Of the list, as the splices made it.
+     */
+    length: number;
+    changed: Changed;
+};
+export type Logged = {
+    line: string;
+    op: ["op", import("./wire.mjs").Id, import("./wire.mjs").Front, [import("./wire.mjs").Path, import("./wire.mjs").Key], import("./wire.mjs").Mutation];
+    texts: string[];
+};

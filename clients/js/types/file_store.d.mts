@@ -1,0 +1,2 @@
+export function fileStore(path: string): Store;
+export type Store = import("./stores.mjs").Store;

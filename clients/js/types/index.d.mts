@@ -1,0 +1,3 @@
+export * from "./wire.mjs";
+export { Replica } from "./replica.mjs";
+export { Client, connected, connectedToHub } from "./session.mjs";

@@ -1,0 +1,216 @@
+/** @typedef {import("./events.mjs").Changed} Changed */
+/** @typedef {import("./events.mjs").Heard} Heard */
+/** @typedef {import("./events.mjs").Why} Why */
+/** @typedef {import("./exchange.mjs").Answer} Answer */
+/** @typedef {import("./exchange.mjs").Remade} Remade */
+/** @typedef {import("./exchange.mjs").Report} Report */
+/** @typedef {import("./exchange.mjs").Taken} Taken */
+/** @typedef {import("./rules.mjs").Engine} Engine */
+/** @typedef {import("./rules.mjs").Open} Open */
+/** @typedef {import("./wire.mjs").Cursor} Cursor */
+/** @typedef {import("./wire.mjs").Id} Id */
+/** @typedef {import("./wire.mjs").Operation} Operation */
+/** @typedef {import("./wire.mjs").Scalar} Scalar */
+/** @typedef {object} Options
+ *  @property {Open} [engine] What makes the engine: `open` of rules.mjs if it isn't given. */
+/** @typedef {{line: string, number: number, name: string}} Unread A line that couldn't be taken. */
+export class Replica {
+    /** A replica from its lines. It takes what it can: `unread` has the others, as a line that is
+     *  there twice, isn't an operation, or depends on one that is missing. Throws TypeError if the
+     *  first line doesn't name a replica.
+     *  @param {string[]} lines
+     *  @param {Options} [options]
+     *  @returns {Replica} */
+    static restore([first, ...lines]: string[], options?: Options | undefined): Replica;
+    /** A new replica, without operations. Throws TypeError for a name or document that can't be one:
+     *  both have 1 to 32 of a-z, 0-9, -.
+     *  @param {string} name That no other replica of the document ever has.
+     *  @param {string} doc
+     *  @param {Options} [options] */
+    constructor(name: string, doc: string, options?: Options | undefined);
+    /** @type {Unread[]} After `restore`: the lines that couldn't be taken, and why. */
+    unread: Unread[];
+    /** Whether others may send own operations for this replica, as tabs that share a store. If not,
+     *  an own operation at a server that wasn't sent from here shows that another has the name. */
+    isShared: boolean;
+    /** Called with what a listener has thrown. The others go on.
+     *  @type {(error: any) => any} */
+    failed: (error: any) => any;
+    get name(): string;
+    get doc(): string;
+    /** How many operations are logged: at most 100,000. */
+    get count(): number;
+    /** The lines to store: the names, and below them the log.
+     *  @returns {string[]} */
+    lines(): string[];
+    /** The logged operations that a front doesn't cover, in log order. They aren't to be changed.
+     *  @param {Iterable<[string, number]>} [front]
+     *  @returns {Iterable<Operation>} */
+    operations(front?: Iterable<[string, number]> | undefined): Iterable<import("./wire.mjs").Operation>;
+    /** Gives up the engine's memory. The replica isn't used any more. */
+    free(): void;
+    /** Assigns a scalar, {} or [].
+     *  @param {Cursor} cursor
+     *  @param {any} value
+     *  @returns {Id} */
+    assign(cursor: import("./wire.mjs").Cursor, value: any): import("./wire.mjs").Id;
+    /** Inserts behind the element or head at the cursor.
+     *  @param {Cursor} cursor
+     *  @param {any} value
+     *  @returns {Id} */
+    insert(cursor: import("./wire.mjs").Cursor, value: any): import("./wire.mjs").Id;
+    /** @param {Cursor} cursor @returns {Id} */
+    delete(cursor: import("./wire.mjs").Cursor): import("./wire.mjs").Id;
+    /** Adds an integer of 64 bits to the counter at the cursor.
+     *  @param {Cursor} cursor
+     *  @param {number | bigint} number
+     *  @returns {Id} */
+    add(cursor: import("./wire.mjs").Cursor, number: number | bigint): import("./wire.mjs").Id;
+    /** Puts a nested value, as `plain` gives it: {} or [] first, and then what is in it, one operation
+     *  each. It is one step of undo and one event. The whole value is checked before: a refusal
+     *  changes nothing. Counters are added; `undefined` in objects and arrays is left out.
+     *  @param {Cursor} cursor
+     *  @param {any} value
+     *  @returns {Id[]} */
+    put(cursor: import("./wire.mjs").Cursor, value: any): import("./wire.mjs").Id[];
+    /** As Array.splice: behind the first `index` elements it inserts the values, nested or not, and
+     *  deletes `count` others. A string counts as its characters. Returns the ids of the new
+     *  elements. It is one step of undo and one event; a refusal changes nothing.
+     *  @param {Cursor} cursor
+     *  @param {number} index
+     *  @param {number} count
+     *  @param {Iterable<any>} values
+     *  @returns {Id[]} */
+    splice(cursor: import("./wire.mjs").Cursor, index: number, count: number, values: Iterable<any>): import("./wire.mjs").Id[];
+    /** The same place by ids: it goes on to mean that element when the list moves.
+     *  @param {Cursor} cursor
+     *  @returns {Cursor} */
+    place(cursor: import("./wire.mjs").Cursor): import("./wire.mjs").Cursor;
+    /** The index of an element or head; of a deleted element, that of the present one before it.
+     *  @param {Cursor} place
+     *  @returns {number} */
+    indexOf(place: import("./wire.mjs").Cursor): number;
+    /** All edits within `work` are one step of undo and one event. If it throws, what it has edited
+     *  before stays.
+     *  @template T
+     *  @param {() => T} work
+     *  @returns {T} */
+    group<T>(work: () => T): T;
+    /** Takes back one's own last step, but for what has changed since. Returns if there was one.
+     *  Refused with 18 if the document has no room for it; the step stays then.
+     *
+     *  Places that it made vanish, if there is nothing else in them. A counter beside a value stays,
+     *  as 0: only a new assignment clears it. */
+    undo(): boolean;
+    redo(): boolean;
+    /** `plain` of wire.mjs makes a plain value of it.
+     *  @param {Cursor} cursor
+     *  @returns {any[][]} */
+    show(cursor: import("./wire.mjs").Cursor): any[][];
+    /** @param {Cursor} cursor @returns {string[]} */
+    keys(cursor: import("./wire.mjs").Cursor): string[];
+    /** @param {Cursor} cursor @returns {Scalar[]} */
+    values(cursor: import("./wire.mjs").Cursor): Scalar[];
+    /** @param {Cursor} cursor @returns {[Id, Scalar[]][]} */
+    items(cursor: import("./wire.mjs").Cursor): [import("./wire.mjs").Id, Scalar[]][];
+    /** @param {Cursor} cursor @returns {[Id, any][]} */
+    conflicts(cursor: import("./wire.mjs").Cursor): [import("./wire.mjs").Id, any][];
+    /** In decimal digits.
+     *  @param {Cursor} cursor
+     *  @returns {string} */
+    sum(cursor: import("./wire.mjs").Cursor): string;
+    /** @returns {[string, number][]} */
+    front(): [string, number][];
+    /** The held operations, each with what is missing.
+     *  @returns {[Id, Id[]][]} */
+    held(): [import("./wire.mjs").Id, import("./wire.mjs").Id[]][];
+    /** The strings of a list as one text; of several values of an element, the last.
+     *  @param {Cursor} cursor
+     *  @returns {string} */
+    text(cursor: import("./wire.mjs").Cursor): string;
+    /** Calls `heard({ why, lines, ids, changes })` for what was logged together: an edit, a `put`, a
+     *  page of a server. `why` is "own", "undo" or "taken". `lines` are to be stored. After `remake`
+     *  it calls `heard({ why: "remade", .. })`; then all of `lines()` is.
+     *
+     *  Listeners are called one after another. What one of them throws goes to `failed`, and what it
+     *  edits is heard after this. When one is called, the replica may already be further on.
+     *  @param {Heard} heard */
+    listen(heard: Heard): () => undefined;
+    /** Calls `changed(splices, why)` when something has changed at the place or under it. `splices`
+     *  are [{ index, remove, insert }, ..]: they do to an array of the last values of the list's
+     *  elements what happened to the list. They are empty if none came, went or got another value. It
+     *  may be called though nothing differs, when something above the place was assigned.
+     *  @param {Cursor} cursor
+     *  @param {Changed} changed */
+    watch(cursor: import("./wire.mjs").Cursor, changed: Changed): () => void;
+    /** Takes a line, or an operation that `parse` read. Returns what a server answers:
+     *  ["applied",count,dropped,id], ["known"] or ["held",[id,..]].
+     *  @param {string | Operation} operation
+     *  @returns {any[]} */
+    deliver(operation: string | import("./wire.mjs").Operation): any[];
+    /** Takes operations, as lines or read, as one event. Goes on behind one that is refused.
+     *  @param {(string | Operation)[]} operations
+     *  @returns {Taken} */
+    deliverAll(operations: (string | import("./wire.mjs").Operation)[]): Taken;
+    /** Drops a held operation.
+     *  @param {Id} id */
+    forget(id: import("./wire.mjs").Id): void;
+    /** Takes what the server has, and gives it what it lacks. Sends requests before earlier ones are
+     *  answered; replies come in their order. Resolves { taken, given, refused }, where `refused`
+     *  has { line, number, name, own } for each operation that was refused, here or there. If one
+     *  of the own name was, by 14, 15 or 16, another replica has that name: see `remake`.
+     *
+     *  One goes on at a time; a call with the same `answer` as one that waits is one with it. Throws
+     *  what `answer` throws, and TypeError for a reply that no server gives.
+     *  @param {Answer} answer
+     *  @returns {Promise<Report>} */
+    sync(answer: Answer): Promise<Report>;
+    /** Goes on under a new name, after the server refused an operation of one's own since another
+     *  has its id. Takes the server's log, the operations of others that it lacks, and those of
+     *  one's own that it lacks: under the new name, with what they knew. Own ones that were never
+     *  stored or sent from here aren't taken for the server's, however alike. Watches go on. Then
+     *  store all lines, and sync.
+     *  @param {string} name
+     *  @param {Answer} answer
+     *  @returns {Promise<Remade>} */
+    remake(name: string, answer: Answer): Promise<Remade>;
+    /** Makes own edits that the old document's server refused again in a new one, whose content
+     *  `python -m jcrdt renew` made of the old one's. `map` has the lines that it writes, or pairs of
+     *  ids: see renewal.mjs. All are one event and one step of undo of `other`.
+     *  @param {Replica} other The replica of the new document, synced.
+     *  @param {Iterable<string | [Id, Id]>} map
+     *  @param {string[]} [lines] The edits: the own operations that no server has.
+     *  @returns {{remade: number, lost: string[]}} */
+    remakeIn(other: Replica, map: Iterable<string | [import("./wire.mjs").Id, import("./wire.mjs").Id]>, lines?: string[] | undefined): {
+        remade: number;
+        lost: string[];
+    };
+    #private;
+}
+export type Changed = import("./events.mjs").Changed;
+export type Heard = import("./events.mjs").Heard;
+export type Why = import("./events.mjs").Why;
+export type Answer = import("./exchange.mjs").Answer;
+export type Remade = import("./exchange.mjs").Remade;
+export type Report = import("./exchange.mjs").Report;
+export type Taken = import("./exchange.mjs").Taken;
+export type Engine = import("./rules.mjs").Engine;
+export type Open = import("./rules.mjs").Open;
+export type Cursor = import("./wire.mjs").Cursor;
+export type Id = import("./wire.mjs").Id;
+export type Operation = import("./wire.mjs").Operation;
+export type Scalar = import("./wire.mjs").Scalar;
+export type Options = {
+    /**
+     * What makes the engine: `open` of rules.mjs if it isn't given.
+     */
+    engine?: import("./rules.mjs").Open | undefined;
+};
+/**
+ * A line that couldn't be taken.
+ */
+export type Unread = {
+    line: string;
+    number: number;
+    name: string;
+};

@@ -1,0 +1,226 @@
+/** Connects to a server or the hub at HOST:PORT, from Node, and resolves once the session has
+ *  begun. Fails with `Away` if it doesn't within 10 seconds: a server with no session left accepts
+ *  connections and never replies. A request whose reply takes more than 60 seconds ends the
+ *  session. A number in place of the options is its seconds.
+ *  @param {string} address
+ *  @param {number | Options} [options]
+ *  @returns {Promise<Client>} */
+export function connected(address: string, options?: number | Options | undefined): Promise<Client>;
+/** Connects to the hub over WebSocket, and resolves once the session has begun: see `connected`. In
+ *  Node the second argument is the class of `ws`. Every 15 seconds without a request it asks for
+ *  the version, so that a hub that is frozen is noticed.
+ *  @param {string | URL} url
+ *  @param {any} [WebSocket]
+ *  @param {Options} [options]
+ *  @returns {Promise<Client>} */
+export function connectedToHub(url: string | URL, WebSocket?: any, options?: Options | undefined): Promise<Client>;
+/** @typedef {object} Waiting
+ *  @property {string} word
+ *  @property {(line: string) => void} answered
+ *  @property {(error: Error) => void} failed */
+/** @typedef {object} Watch
+ *  @property {Set<Changed>} watchers
+ *  @property {string} last The front that they were called with.
+ *  @property {boolean} isPushed Whether the hub pushes it.
+ *  @property {Promise<void>} begun */
+/** One session: see `connected`. */
+export class Client {
+    /** @param {(line: string) => void} sent Sends a line.
+     *  @param {() => void} ended Ends the connection.
+     *  @param {{seconds?: number}} [options] */
+    constructor(sent: (line: string) => void, ended: () => void, options?: {
+        seconds?: number | undefined;
+    } | undefined);
+    /** @type {Promise<Lost>} Resolves with the cause when the connection has ended. */
+    closed: Promise<Lost>;
+    /** Called when the hub has a new session, with the variables that are gone.
+     *  @type {(gone: [document: string, name: string][]) => any} */
+    reopened: (gone: [document: string, name: string][]) => any;
+    /** Called with what a callback of the caller has thrown. The session goes on.
+     *  @type {(error: any) => any} */
+    failed: (error: any) => any;
+    /** The connection calls this for each line that came.
+     *  @param {string} line */
+    receive(line: string): void;
+    /** Ends the connection for a cause of this side.
+     *  @param {string} cause */
+    breakOff(cause: string): void;
+    /** The connection calls this when it has ended.
+     *  @param {string} cause */
+    lose(cause: string): void;
+    /** How many requests wait for their replies. */
+    waiting: () => number;
+    /** Ends the connection without a word. */
+    end(): void;
+    /** Sends a line of text, and returns the line of its reply.
+     *  @param {string} line
+     *  @returns {Promise<string>} */
+    answer(line: string): Promise<string>;
+    /** Sends one request, and returns the items of its reply behind the word. Throws RangeError, and
+     *  sends nothing, if the request has more than 65,536 bytes.
+     *  @param {string} word
+     *  @param {...any} items
+     *  @returns {Promise<any[]>} */
+    ask(word: string, ...items: any[]): Promise<any[]>;
+    /** @param {string} document */
+    open: (document: string) => Promise<any>;
+    /** Assigns a scalar, {} or []. What is in them is put by `put`.
+     *  @param {string} document
+     *  @param {Cursor} place
+     *  @param {any} value
+     *  @returns {Promise<Id>} */
+    assign: (document: string, place: import("./wire.mjs").Cursor, value: any) => Promise<import("./wire.mjs").Id>;
+    /** Inserts behind the element at the place. Index 0 is the place before the first.
+     *  @param {string} document
+     *  @param {Cursor} place
+     *  @param {any} value
+     *  @returns {Promise<Id>} */
+    insert: (document: string, place: import("./wire.mjs").Cursor, value: any) => Promise<import("./wire.mjs").Id>;
+    /** @param {string} document
+     *  @param {Cursor} place
+     *  @returns {Promise<Id>} */
+    delete: (document: string, place: import("./wire.mjs").Cursor) => Promise<import("./wire.mjs").Id>;
+    /** @param {string} document
+     *  @param {Cursor} place
+     *  @param {number | bigint} number
+     *  @returns {Promise<Id>} */
+    add: (document: string, place: import("./wire.mjs").Cursor, number: number | bigint) => Promise<import("./wire.mjs").Id>;
+    /** Binds a name to a place. It goes on to mean that element when the list moves.
+     *  @param {string} document
+     *  @param {string} name
+     *  @param {Cursor} cursor */
+    let: (document: string, name: string, cursor: import("./wire.mjs").Cursor) => Promise<any[]>;
+    /** Inserts a value, nested or not, behind the last element of the list at the cursor. Returns the
+     *  element's id. What is in the value goes into that very element, as by `put`.
+     *  @param {string} document
+     *  @param {Cursor} cursor
+     *  @param {any} value
+     *  @returns {Promise<Id>} */
+    append(document: string, cursor: import("./wire.mjs").Cursor, value: any): Promise<import("./wire.mjs").Id>;
+    /** Puts a nested value, as `plain` gives it: {} or [] first, then what is in it. Returns the ids.
+     *  The whole value is checked before. Others may read it half done. An element that somebody
+     *  deletes or assigns meanwhile isn't filled. A refusal ends it there.
+     *
+     *  A conflict isn't put: `settled` helps. A counter as an element of a list gets null beside it.
+     *  `undefined` in an object or array is left out. Names that begin with "put:" are bound.
+     *  @param {string} document
+     *  @param {Cursor} cursor
+     *  @param {any} value
+     *  @returns {Promise<Id[]>} */
+    put(document: string, cursor: import("./wire.mjs").Cursor, value: any): Promise<import("./wire.mjs").Id[]>;
+    /** @param {string} document @param {Cursor} cursor @returns {Promise<string[]>} */
+    keys: (document: string, cursor: import("./wire.mjs").Cursor) => Promise<string[]>;
+    /** @param {string} document @param {Cursor} cursor @returns {Promise<Scalar[]>} */
+    values: (document: string, cursor: import("./wire.mjs").Cursor) => Promise<Scalar[]>;
+    /** @param {string} document @param {Cursor} cursor @returns {Promise<[Id, Scalar[]][]>} */
+    items: (document: string, cursor: import("./wire.mjs").Cursor) => Promise<[import("./wire.mjs").Id, Scalar[]][]>;
+    /** @param {string} document @param {Cursor} cursor @returns {Promise<[Id, any][]>} */
+    conflicts: (document: string, cursor: import("./wire.mjs").Cursor) => Promise<[import("./wire.mjs").Id, any][]>;
+    /** @param {string} document @param {Cursor} cursor @returns {Promise<number | bigint>} */
+    sum: (document: string, cursor: import("./wire.mjs").Cursor) => Promise<number | bigint>;
+    /** @param {string} document @param {Cursor} cursor @returns {Promise<any[][]>} */
+    show: (document: string, cursor: import("./wire.mjs").Cursor) => Promise<any[][]>;
+    /** The value at the cursor: see `plain` of wire.mjs.
+     *  @param {string} document
+     *  @param {Cursor} cursor
+     *  @returns {Promise<any>} */
+    plain: (document: string, cursor: import("./wire.mjs").Cursor) => Promise<any>;
+    /** Returns how many operations were logged: 0 where it is known, or held until others come.
+     *  @param {string} document
+     *  @param {Operation} operation
+     *  @returns {Promise<number>} */
+    deliver(document: string, operation: import("./wire.mjs").Operation): Promise<number>;
+    /** What the server has: a Map from each replica to its last counter.
+     *  @param {string} document
+     *  @returns {Promise<Map<string, number>>} */
+    front: (document: string) => Promise<Map<string, number>>;
+    /** In log order, the operations that the front doesn't cover: `for await (const op of ..)`. Ends
+     *  also if the server repeats itself.
+     *  @param {string} document
+     *  @param {ReadonlyMap<string, number>} [front] */
+    operations(document: string, front?: ReadonlyMap<string, number> | undefined): AsyncGenerator<import("./wire.mjs").Operation, void, unknown>;
+    /** Which of these ids of one's own operations this server doesn't have. After connecting to a
+     *  server that was started again: these are lost, and have to be made again.
+     *  @param {string} document
+     *  @param {Id[]} ids */
+    unsaved(document: string, ids: import("./wire.mjs").Id[]): Promise<import("./wire.mjs").Id[]>;
+    /** At the hub: resolves once the operation of this id is in the server's file. Refused with 104,
+     *  `not-kept`, if the hub can't know, and with 2 by a server, which has no such request.
+     *  @param {string} document
+     *  @param {Id} id */
+    stored: (document: string, id: import("./wire.mjs").Id) => Promise<undefined>;
+    /** @param {string} document @returns {Promise<[Id, Id[]][]>} */
+    held: (document: string) => Promise<[import("./wire.mjs").Id, import("./wire.mjs").Id[]][]>;
+    /** @param {string} document @param {Id} id */
+    forget: (document: string, id: import("./wire.mjs").Id) => Promise<any[]>;
+    /** @param {string} document @returns {Promise<number>} */
+    account: (document: string) => Promise<number>;
+    /** @returns {Promise<number>} */
+    version: () => Promise<number>;
+    quit(): Promise<void>;
+    /** Calls `changed(front)` now and whenever the document changed, until the connection ends or the
+     *  returned function is called. The hub says when; a server is asked every so many milliseconds.
+     *  Refused if the document isn't open.
+     *  @param {string} document
+     *  @param {Changed} changed
+     *  @param {number} [every]
+     *  @returns {Promise<() => void>} */
+    watch(document: string, changed: Changed, every?: number | undefined): Promise<() => void>;
+    /** @param {string} document
+     *  @param {Changed} changed */
+    unwatch(document: string, changed: Changed): void;
+    /** Through the hub: calls `heard(value, guest)` for what others `say` of the document, until the
+     *  returned function is called. The hub keeps nothing of it.
+     *  @param {string} document
+     *  @param {Heard} heard
+     *  @returns {Promise<() => void>} */
+    hear(document: string, heard: Heard): Promise<() => void>;
+    /** Through the hub: says a value to those who `hear` the document.
+     *  @param {string} document
+     *  @param {any} value */
+    say: (document: string, value: any) => Promise<undefined>;
+    #private;
+}
+export type Cursor = import("./wire.mjs").Cursor;
+export type Id = import("./wire.mjs").Id;
+export type Operation = import("./wire.mjs").Operation;
+export type Scalar = import("./wire.mjs").Scalar;
+export type Changed = (front: Map<string, number>) => any;
+export type Heard = (value: any, guest: string) => any;
+export type Options = {
+    /**
+     * How long the oldest request may wait for its reply (60).
+     */
+    seconds?: number | undefined;
+    /**
+     * How long until the session has begun (10).
+     */
+    connectSeconds?: number | undefined;
+    /**
+     * Over WebSocket: after so many seconds without a request, `version` is
+     * asked (15).
+     */
+    ping?: number | undefined;
+    /**
+     * Of a reply, in bytes (256 MiB).
+     */
+    most?: number | undefined;
+};
+export type Waiting = {
+    word: string;
+    answered: (line: string) => void;
+    failed: (error: Error) => void;
+};
+export type Watch = {
+    watchers: Set<Changed>;
+    /**
+     * The front that they were called with.
+     */
+    last: string;
+    /**
+     * Whether the hub pushes it.
+     */
+    isPushed: boolean;
+    begun: Promise<void>;
+};
+import { Lost } from "./wire.mjs";

@@ -1,0 +1,95 @@
+/** A store that lasts as long as the program.
+ *  @returns {Store} */
+export function memoryStore(): Store;
+/**
+ * What a store had when it was opened.
+ * @typedef {object} Stored
+ * @property {string} name the replica's name, which this program alone uses while it is open
+ * @property {string[]} lines the operations as lines, each behind those it depends on
+ * @property {string[]} unread what is there and is no line of an operation, as text
+ */
+/**
+ * Where a provider keeps the operations of a replica. A method may return a promise or not.
+ * @typedef {object} Store
+ * @property {(document: string, fresh: () => string) => Stored | Promise<Stored>} open
+ *   Reads what is stored, and takes it for this program alone. `fresh` makes a name for a store
+ *   that has none. Throws Busy where another program has it, and TypeError where it has something
+ *   else than this document; nothing is changed then.
+ * @property {(lines: string[]) => void | Promise<void>} append
+ *   Stores operations behind the others: all of them, or none if it throws.
+ * @property {() => void | Promise<void>} flush
+ *   Returns once what was appended survives a power cut. Throws where that isn't sure.
+ * @property {(name: string, lines: string[], gone: string[]) => void | Promise<void>} rename
+ *   Goes on under another name, with these lines in place of `gone` and of its own: all or nothing.
+ * @property {() => void | Promise<void>} clear
+ *   Deletes everything. It is open no more.
+ * @property {() => void | Promise<void>} close
+ *   Lets others open it.
+ * @property {(heard: Heard) => void} [follow]
+ *   Calls `heard` when another tab stored or cleared something. Only of a store that is shared.
+ */
+/**
+ * @callback Heard
+ * @param {string[] | undefined} lines operations of others; `undefined` once all was deleted
+ * @returns {void}
+ */
+/** Another program has the store open. Nothing was changed. */
+export class Busy extends Error {
+}
+/** An edit that wasn't made, since what was edited before couldn't be stored. Nothing was changed.
+ *  `cause` is the error of the store. */
+export class Unstored extends Error {
+}
+/**
+ * What a store had when it was opened.
+ */
+export type Stored = {
+    /**
+     * the replica's name, which this program alone uses while it is open
+     */
+    name: string;
+    /**
+     * the operations as lines, each behind those it depends on
+     */
+    lines: string[];
+    /**
+     * what is there and is no line of an operation, as text
+     */
+    unread: string[];
+};
+/**
+ * Where a provider keeps the operations of a replica. A method may return a promise or not.
+ */
+export type Store = {
+    /**
+     *   Reads what is stored, and takes it for this program alone. `fresh` makes a name for a store
+     *   that has none. Throws Busy where another program has it, and TypeError where it has something
+     *   else than this document; nothing is changed then.
+     */
+    open: (document: string, fresh: () => string) => Stored | Promise<Stored>;
+    /**
+     *   Stores operations behind the others: all of them, or none if it throws.
+     */
+    append: (lines: string[]) => void | Promise<void>;
+    /**
+     *   Returns once what was appended survives a power cut. Throws where that isn't sure.
+     */
+    flush: () => void | Promise<void>;
+    /**
+     *   Goes on under another name, with these lines in place of `gone` and of its own: all or nothing.
+     */
+    rename: (name: string, lines: string[], gone: string[]) => void | Promise<void>;
+    /**
+     *   Deletes everything. It is open no more.
+     */
+    clear: () => void | Promise<void>;
+    /**
+     *   Lets others open it.
+     */
+    close: () => void | Promise<void>;
+    /**
+     * Calls `heard` when another tab stored or cleared something. Only of a store that is shared.
+     */
+    follow?: ((heard: Heard) => void) | undefined;
+};
+export type Heard = (lines: string[] | undefined) => void;

@@ -1,0 +1,42 @@
+/** @typedef {import("./provider.mjs").Provider} Provider */
+/** @typedef {HTMLTextAreaElement | HTMLInputElement} Field */
+/** @typedef {[number, string]} Id */
+/** @typedef {{ id: Id, text: string }} Character */
+/**
+ * @typedef {object} TextOptions
+ * @property {(error: unknown) => void} [refused] is called when an edit was refused; the field
+ *   shows the text as it is then. And with `undefined` when the next one wasn't.
+ * @property {number} [long] how many characters at once are asked for: 2,000 unless it is said
+ * @property {(count: number) => Promise<boolean>} [confirm] asks whether so many are to come in;
+ *   they do where there is none
+ */
+/** Shows the text at a place in a field, and takes what is typed there. What this returns ends it.
+ *  @param {Provider} provider
+ *  @param {(0 | string | number | Id)[]} place a list, or where one is to be
+ *  @param {Field} field
+ *  @param {TextOptions} [options]
+ *  @returns {() => void} */
+export function bindText(provider: Provider, place: (0 | string | number | Id)[], field: Field, options?: TextOptions | undefined): () => void;
+export type Provider = import("./provider.mjs").Provider;
+export type Field = HTMLTextAreaElement | HTMLInputElement;
+export type Id = [number, string];
+export type Character = {
+    id: [number, string];
+    text: string;
+};
+export type TextOptions = {
+    /**
+     * is called when an edit was refused; the field
+     * shows the text as it is then. And with `undefined` when the next one wasn't.
+     */
+    refused?: ((error: unknown) => void) | undefined;
+    /**
+     * how many characters at once are asked for: 2,000 unless it is said
+     */
+    long?: number | undefined;
+    /**
+     * asks whether so many are to come in;
+     * they do where there is none
+     */
+    confirm?: ((count: number) => Promise<boolean>) | undefined;
+};

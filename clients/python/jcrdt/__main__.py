@@ -1,0 +1,65 @@
+"""Tools for a server of shared JSON documents.
+
+usage: python3 -m jcrdt TOOL ..     (with --help: what the tool does)
+
+talk ADDRESS                        a terminal for a server
+exchange ADDRESS ADDRESS DOC        two servers deliver to each other what the other lacks
+relay ADDRESS.. --doc DOC           keeps servers in agreement for as long as it runs
+save ADDRESS DOC FILE               a document as lines, one operation each
+load ADDRESS DOC FILE               such lines into a server of another name
+log FILE                            what a stored log has; how full it is; what is on disk
+renew count|put|since ..            a document that fills up into a new one
+stop ADDRESS                        stops a server so that its file has everything
+
+ADDRESS is HOST:PORT of a running server or a hub. The status is 0 if all went well, 1 if not, 2 for a wrong
+command line; `log --status` and `renew count` have their own.
+"""
+
+import importlib
+import os
+import sqlite3
+import sys
+from typing import List
+
+from .terminal import say_error
+from .wire import Refused
+
+TOOLS = ("talk", "exchange", "relay", "save", "load", "log", "renew", "stop")
+# Where two tools are one module.
+MODULES = {"save": "lines", "load": "lines"}
+
+
+def run(words: List[str]) -> int:
+    """Runs a tool, and returns its exit status."""
+    if not words or words[0] not in TOOLS:
+        usage = __doc__ or ""
+        if words and words[0] in ("help", "--help", "-h"):
+            print(usage)
+            return 0
+        print(usage, file=sys.stderr)
+        return 2
+    if words[0] == "relay":
+        from .relay import main as relay
+        relay(words[1:])
+    tool = importlib.import_module(f".{MODULES.get(words[0], words[0])}", __package__)
+    return int(tool.main(words if words[0] in MODULES else words[1:]))
+
+
+def main() -> int:
+    try:
+        code = run(sys.argv[1:])
+        sys.stdout.flush()
+        return code
+    except KeyboardInterrupt:
+        return 130
+    except BrokenPipeError:
+        # Who reads the output has enough, as `head` does.
+        os.dup2(os.open(os.devnull, os.O_WRONLY), sys.stdout.fileno())
+        return 0
+    except (OSError, ValueError, Refused, sqlite3.Error) as error:
+        say_error(f"{sys.argv[1]}: {error}")
+        return 1
+
+
+if __name__ == "__main__":
+    sys.exit(main())

@@ -1,0 +1,129 @@
+"""Two servers deliver to each other what the other lacks, until neither has news.
+
+usage: exchange ADDRESS ADDRESS DOC     (HOST:PORT of two running servers, with different names)
+
+This is a single meeting; `relay` keeps servers in agreement for as long as it runs. The status is 0 if nothing
+was refused, and both show the same document.
+"""
+
+import argparse
+from typing import Dict, List, Sequence, Tuple
+
+from . import wire
+from .session import Session, connected
+from .terminal import say
+from .wire import Front, Id, Operation, Refused
+
+# How many operations are delivered before their replies are read.
+BATCH = 256
+# How often both documents are compared, if somebody edits them meanwhile.
+LOOKS = 5
+
+RefusedId = Tuple[Id, Refused]
+
+
+class Pull:
+    """What a target lacks of a source."""
+
+    def __init__(self, source: Session, target: Session, document: str) -> None:
+        self.source, self.target, self.document = source, target, document
+        self.logged = 0
+        self.refused: List[RefusedId] = []
+        # The least refused counter of each replica: what depends on one would wait for ever.
+        self.stopped: Front = {}
+
+    def run(self) -> None:
+        part: List[Operation] = []
+        for operation in self.source.operations(self.document, self.target.front(self.document)):
+            part.append(operation)
+            if len(part) == BATCH:
+                self.deliver(part)
+                part = []
+        self.deliver(part)
+
+    def deliver(self, operations: List[Operation]) -> None:
+        part = [it for it in operations if not self.is_stopped(it)]
+        waiting: List[Id] = []
+        for operation, reply in zip(part, self.target.ask_all([["deliver", self.document, it] for it in part])):
+            counter, replica = operation[1]
+            if isinstance(reply, Refused):
+                self.refused.append((operation[1], reply))
+                self.stopped[replica] = min(counter, self.stopped.get(replica, counter))
+            elif isinstance(reply, Exception):
+                raise reply
+            elif len(reply) == 3:
+                self.logged += reply[0]
+            elif reply and self.is_stopped(operation):
+                waiting.append(operation[1])
+        self.target.ask_all([["forget", self.document, it] for it in waiting])
+
+    def is_stopped(self, operation: Operation) -> bool:
+        """Whether it was refused, or depends on one that was."""
+        if not self.stopped:
+            return False
+        counter, replica = operation[1]
+        return any(number >= self.stopped.get(name, number + 1) for name, number in [*operation[2], (replica, counter)])
+
+
+def pull(source: Session, target: Session, document: str) -> Tuple[int, List[RefusedId]]:
+    """Delivers to the target what it lacks of the source. Returns how many it logged, and what it refused."""
+    work = Pull(source, target, document)
+    work.run()
+    return work.logged, work.refused
+
+
+def exchange(one: Session, other: Session, document: str) -> Tuple[int, List[RefusedId]]:
+    """Pulls both ways until a round logs nothing. Returns how many were logged, and what was refused last."""
+    total = 0
+    while True:
+        to_other, refused_there = pull(one, other, document)
+        to_one, refused_here = pull(other, one, document)
+        total += to_other + to_one
+        if to_other + to_one == 0:
+            return total, refused_there + refused_here
+
+
+def verdict(one: Session, other: Session, document: str, refused: Sequence[RefusedId] = ()) -> str:
+    """What came of an exchange. Servers of one name may have equal fronts and different documents."""
+    for _ in range(LOOKS):
+        (front, shown), (front_there, shown_there) = looked_at(one, document), looked_at(other, document)
+        if one.front(document) == front:
+            break
+    if front != front_there:
+        return "the fronts differ"
+    if shown != shown_there:
+        return "the fronts agree, and the documents differ"
+    return "the fronts agree, and some were refused" if refused else "the fronts agree"
+
+
+def looked_at(server: Session, document: str) -> Tuple[Front, object]:
+    """The front, and what is shown with it."""
+    while True:
+        front, shown = server.front(document), server.show(document, [0])
+        if server.front(document) == front:
+            return front, shown
+
+
+def main(words: Sequence[str]) -> int:
+    parser = argparse.ArgumentParser(prog="exchange", description=__doc__, formatter_class=argparse.RawDescriptionHelpFormatter)
+    parser.add_argument("addresses", nargs=2, metavar="ADDRESS")
+    parser.add_argument("document", metavar="DOC")
+    asked = parser.parse_args(words)
+    with connected(asked.addresses[0]) as one, connected(asked.addresses[1]) as other:
+        for server in (one, other):
+            server.open(asked.document)
+        total, refused = exchange(one, other, asked.document)
+        kinds: Dict[str, List[RefusedId]] = {}
+        for it in refused:
+            kinds.setdefault(str(it[1]), []).append(it)
+        for cause, found in kinds.items():
+            counter, replica = found[0][0]
+            more = f", and {len(found) - 1} more" if len(found) > 1 else ""
+            say(f"refused: {counter} of {replica}: {cause}{more}")
+        result = verdict(one, other, asked.document, refused)
+        say(f"handed over {total}, refused {len(refused)}; {result}")
+        if result.endswith("documents differ") or any(cause.number in wire.NAME_USED_TWICE for _, cause in refused):
+            say("two starts of a server had one name: start one of them again, under a new name")
+        for server in (one, other):
+            server.quit()
+    return 0 if result == "the fronts agree" else 1

@@ -1,0 +1,141 @@
+"""A document as lines, one operation each: saved from a server, loaded into one of another name.
+
+usage: save ADDRESS DOC FILE     (HOST:PORT of a running server; `-` for standard output)
+       load ADDRESS DOC FILE     (`-` for standard input)
+
+save writes a new file and puts it in the place of FILE once all is written. load delivers each line. What the
+server has already is known, and isn't loaded again. The status is 1 if a line was refused, or waits for
+operations that the server doesn't have.
+"""
+
+import argparse
+import contextlib
+import os
+import sys
+import tempfile
+from typing import BinaryIO, Dict, Iterator, List, Sequence, Tuple
+
+from . import wire
+from .session import Session, connected
+from .terminal import say
+from .wire import Id, Refused, encoded
+
+# How many lines are delivered before their replies are read.
+BATCH = 256
+
+
+def save(server: Session, document: str, file: BinaryIO) -> int:
+    """Writes each logged operation as a line, in an order in which they can be delivered. Returns how many."""
+    count = 0
+    for operation in server.operations(document):
+        file.write(encoded(operation) + b"\n")
+        count += 1
+    return count
+
+
+class Loaded:
+    """What came of a load: how many operations were logged, how many the server had, which lines were refused, and
+    which operations of the file wait for others."""
+
+    def __init__(self) -> None:
+        self.logged, self.known = 0, 0
+        self.refused: List[Tuple[int, Exception]] = []
+        self.waiting: List[Tuple[Id, List[Id]]] = []
+
+
+def load(server: Session, document: str, file: BinaryIO) -> Loaded:
+    """Delivers each line of a file. Blank lines are left out."""
+    result, came = Loaded(), set()
+    for part in _parts(file):
+        good: List[Tuple[int, wire.Operation]] = []
+        for number, line in part:
+            try:
+                good.append((number, wire.checked_operation(wire.decoded(line))))
+                came.add(tuple(good[-1][1][1]))
+            except (ValueError, Refused) as error:
+                result.refused.append((number, error))
+        for (number, _), reply in zip(good, server.ask_all([["deliver", document, it] for _, it in good])):
+            if isinstance(reply, Refused):
+                result.refused.append((number, reply))
+            elif isinstance(reply, Exception):
+                raise reply
+            elif len(reply) == 3:
+                result.logged += reply[0]
+            else:
+                result.known += not reply
+    result.waiting = [(waiting, missing) for waiting, missing in server.held(document) if tuple(waiting) in came]
+    result.refused.sort(key=lambda it: it[0])
+    return result
+
+
+def _parts(file: BinaryIO) -> Iterator[List[Tuple[int, bytes]]]:
+    """The lines with their numbers, some at once."""
+    part: List[Tuple[int, bytes]] = []
+    for number, line in enumerate(file, 1):
+        if line.strip():
+            part.append((number, line.rstrip(b"\r\n")))
+        if len(part) == BATCH:
+            yield part
+            part = []
+    yield part
+
+
+@contextlib.contextmanager
+def replaced(path: str) -> Iterator[BinaryIO]:
+    """A new file that takes the place of another one when all is written, and is removed if that fails. What is no
+    file, as a pipe, is written to."""
+    if path == "-":
+        yield sys.stdout.buffer
+        sys.stdout.buffer.flush()
+        return
+    path = os.path.realpath(path)
+    if os.path.exists(path) and not os.path.isfile(path):
+        with open(path, "wb") as other:
+            yield other
+        return
+    descriptor, new = tempfile.mkstemp(prefix=os.path.basename(path) + ".", dir=os.path.dirname(path))
+    try:
+        with open(descriptor, "wb") as file:
+            yield file
+            file.flush()
+            os.fsync(file.fileno())
+        mask = os.umask(0)
+        os.umask(mask)
+        os.chmod(new, 0o666 & ~mask)
+        os.replace(new, path)
+    except BaseException:
+        with contextlib.suppress(FileNotFoundError):
+            os.remove(new)
+        raise
+
+
+def report(result: Loaded) -> int:
+    """Prints what came of a load. Returns the exit status."""
+    say(f"loaded {result.logged} operations, {len(result.refused)} refused, {len(result.waiting)} waiting; "
+        f"{result.known} were known")
+    for number, cause in result.refused[:1]:
+        say(f"line {number}: {cause}")
+    if any(isinstance(cause, Refused) and cause.number in wire.NAME_USED_TWICE for _, cause in result.refused):
+        say("these were made under the name of this server: start it again, under a new name, and load them then")
+    for (counter, replica), missing in result.waiting[:1]:
+        lacking = ", ".join(f"{number} of {name}" for number, name in missing)
+        say(f"{counter} of {replica} waits for {lacking}: load a file that has it, or have the server `forget` "
+            f"what waits, since a document holds {wire.HELD_LIMIT}")
+    return 1 if result.refused or result.waiting else 0
+
+
+def main(words: Sequence[str]) -> int:
+    parser = argparse.ArgumentParser(prog=words[0], description=__doc__, formatter_class=argparse.RawDescriptionHelpFormatter)
+    for name in ("address", "document", "file"):
+        parser.add_argument(name, metavar={"document": "DOC"}.get(name, name.upper()))
+    asked = parser.parse_args(words[1:])
+    with connected(asked.address) as server:
+        server.open(asked.document)
+        if words[0] == "save":
+            with replaced(asked.file) as file:
+                count = save(server, asked.document, file)
+            if asked.file != "-":
+                say(f"saved {count} operations")
+            return 0
+        with open(0 if asked.file == "-" else asked.file, "rb", closefd=asked.file != "-") as lines:
+            return report(load(server, asked.document, lines))

@@ -1,0 +1,216 @@
+"""Stops a server so that its file has everything: uses up the sessions that it has left, and waits for its end.
+
+usage: stop ADDRESS [--file F]     (HOST:PORT of a running server, not of a hub)
+
+A server ends once all its sessions have ended and the file has all of it. This opens one session after another
+and quits each, until none is left. Sessions that run go on until their clients leave: end hubs and relays first.
+With --file, that of `serve --file`, it says how many operations aren't in the file yet, and it ends once the
+server has closed the file.
+
+Status 0: the server has ended. 1: no server listens there, or it is a hub, or no server of jcrdt. 2: a wrong
+command line.
+"""
+
+import argparse
+import contextlib
+import select
+import socket
+import sqlite3
+import time
+from typing import Dict, List, Optional, Sequence
+
+from . import wire
+from .log import StoredLog, is_open
+from .session import REPLY_SECONDS, Session
+from .stream import Stream
+from .terminal import say
+from .wire import Id, Refused, covers
+
+# A server that has a session left answers within this time, in seconds. Only the lines printed depend on it.
+PATIENCE = 2.0
+# How often the file is looked at, and how often a line says so, in seconds.
+LOOK_SECONDS, SAY_SECONDS = 0.2, 2.0
+# No server has more sessions.
+MOST_SESSIONS = 256
+# What a server answers, and a hub doesn't.
+QUESTIONS = b'["version"]\n["watch","a"]\n'
+ANSWERS = (b'["version",', b'["no",2,')
+
+
+class NoServer(ValueError):
+    """Something else listens at the address."""
+
+
+class Caller:
+    """One connection, which becomes a session or waits for the end of the server."""
+
+    def __init__(self, host: str, port: int) -> None:
+        self.connection = socket.create_connection((host, port))
+        self.connection.sendall(QUESTIONS)
+        self.heard = b""
+
+    def has_session(self, seconds: float) -> Optional[bool]:
+        """Whether a session has begun; None if the server doesn't answer within so many seconds. Raises
+        ConnectionError if the server has ended, NoServer if it is none."""
+        until = time.monotonic() + seconds
+        while self.heard.count(b"\n") < 2:
+            if not select.select([self.connection], [], [], max(0.0, until - time.monotonic()))[0]:
+                return None
+            data = self.connection.recv(1 << 16)
+            if not data:
+                raise ConnectionError("the server has ended")
+            self.heard += data
+            self._check()
+        return True
+
+    def _check(self) -> None:
+        for line, due in zip(self.heard.split(b"\n"), ANSWERS):
+            if not (line.startswith(due) or due.startswith(line)):
+                what = "it is a hub: end it, and stop the server behind it" if due == ANSWERS[1] else "no server of jcrdt"
+                raise NoServer(f"{what} (it answers {line[:60]!r})")
+        if len(self.heard) > 1 << 16:
+            raise NoServer("no server of jcrdt")
+
+    def session(self) -> Session:
+        descriptor = self.connection.fileno()
+        return Session(Stream(descriptor, descriptor, self.connection.close, wire.REPLY_LIMIT), REPLY_SECONDS)
+
+    def quit(self) -> None:
+        """Ends the session, and waits for the server to say so."""
+        with contextlib.suppress(OSError):
+            self.connection.settimeout(PATIENCE)
+            self.connection.sendall(b'["quit"]\n')
+            self.connection.recv(64)
+        self.connection.close()
+
+
+class Backlog:
+    """The operations that aren't in the file yet, as far as they are known. A file that can't be read, as where the
+    folder for temporary files is full, stops nothing."""
+
+    def __init__(self, path: str) -> None:
+        self.path = path
+        self.log: Optional[StoredLog] = None
+        self.epoch: Optional[int] = None
+        self.is_asked = False
+        self.left: Dict[str, List[Id]] = {}
+        self.said = 0.0
+        self.read()
+
+    def read(self) -> None:
+        try:
+            if self.log is None:
+                self.log = StoredLog(self.path)
+                self.epoch = self.log.epoch
+            self.log.refresh()
+        except (ValueError, OSError, sqlite3.Error) as error:
+            if self.log is None and not self.said:
+                say(f"{self.path} can't be read, so what is left isn't known: {error}")
+                self.said = time.monotonic()
+
+    def close(self) -> None:
+        if self.log:
+            self.log.close()
+
+    def note(self, session: Session) -> None:
+        """Asks what the server has beyond the file, of the documents that the file has."""
+        self.is_asked = True
+        for document in sorted(self.log.fronts) if self.log else []:
+            with contextlib.suppress(Refused):
+                session.open(document)
+                front = self.log.front(document) if self.log else {}
+                self.left[document] = [it[1] for it in session.operations(document, front)]
+
+    def look(self) -> None:
+        """Says how many are left, if some are, now and then."""
+        self.read()
+        if self.log is None:
+            return
+        for document, ids in self.left.items():
+            self.left[document] = [it for it in ids if not covers(self.log.front(document), it)]
+        count = sum(map(len, self.left.values()))
+        if count and time.monotonic() >= self.said + SAY_SECONDS:
+            say(f"the file is being written: {count} operations left")
+            self.said = time.monotonic()
+
+    def wait(self) -> None:
+        """Waits until the server has closed the file."""
+        while is_open(self.path):
+            self.look()
+            if self.log and self.log.epoch != self.epoch:
+                raise ValueError(f"{self.path}: it was started again meanwhile: end the loop that does so first")
+            time.sleep(LOOK_SECONDS)
+
+
+class Stop:
+    """What was done so far. With a backlog one session is kept for questions until all others are used up."""
+
+    def __init__(self, address: str, backlog: Optional[Backlog]) -> None:
+        self.host, self.port = wire.host_and_port(address)
+        self.backlog = backlog
+        self.kept: Optional[Caller] = None
+        self.used, self.waited = 0, False
+
+    def run(self) -> None:
+        """Returns once the server has ended. Raises NoServer if there is none."""
+        try:
+            while self.used <= MOST_SESSIONS:
+                self.use_up(Caller(self.host, self.port))
+        except NoServer:
+            raise
+        except ConnectionError as error:
+            # One that has no session left and writes its file may listen no more.
+            if not (self.used or self.waited or self.backlog and is_open(self.backlog.path)):
+                raise NoServer("no server listens there" if isinstance(error, ConnectionRefusedError)
+                               else f"no server of jcrdt: {error}") from None
+            if self.backlog:
+                self.backlog.wait()
+            return
+        raise NoServer(f"no server of jcrdt: it has more than {MOST_SESSIONS} sessions")
+
+    def use_up(self, caller: Caller) -> None:
+        """Ends a session, or waits for the end of the server."""
+        if not caller.has_session(PATIENCE):
+            say("no session is left: waiting for the clients of those that run" if self.backlog
+                else "no session is left: waiting for the clients of those that run, and for the file")
+            self.waited = True
+            self.let_go()
+            while not caller.has_session(LOOK_SECONDS):
+                if self.backlog:
+                    self.backlog.look()
+        self.used += 1
+        if self.backlog and not self.kept and not self.backlog.is_asked:
+            self.kept = caller
+        else:
+            caller.quit()
+
+    def let_go(self) -> None:
+        """Ends the session that was kept, and notes before what isn't in the file yet."""
+        if self.kept and self.backlog:
+            with contextlib.suppress(ConnectionError, Refused):
+                self.backlog.note(self.kept.session())
+            self.kept.connection.setblocking(True)
+            self.kept.quit()
+            self.kept = None
+
+
+def main(words: Sequence[str]) -> int:
+    parser = argparse.ArgumentParser(prog="stop", description=__doc__, formatter_class=argparse.RawDescriptionHelpFormatter)
+    parser.add_argument("address", metavar="ADDRESS")
+    parser.add_argument("--file", metavar="F")
+    asked = parser.parse_args(words)
+    try:
+        wire.host_and_port(asked.address)
+    except ValueError as error:
+        parser.error(str(error))
+    backlog = Backlog(asked.file) if asked.file else None
+    stop = Stop(asked.address, backlog)
+    try:
+        stop.run()
+    except NoServer as error:
+        raise ValueError(f"{asked.address}: {error}") from None
+    finally:
+        if backlog:
+            backlog.close()
+    say(f"the server has ended: {stop.used} of its sessions were used up here")
+    return 0

@@ -1,0 +1,172 @@
+"""Writes that survive a kill of the server."""
+
+import time
+from collections import deque
+from typing import Any, Deque, List, Optional, Tuple
+
+from . import wire
+from .log import StoredLog
+from .session import Session
+from .wire import Away, Cursor, Front, Id, Lost, Refused
+
+# How often `flush` looks into the file, and how often it asks the server for a sign of life, in seconds.
+LOOK_SECONDS, SIGN_SECONDS = 0.02, 1.0
+# Sent twice, they do the same.
+REPEATABLE = ("assign", "delete")
+
+
+class Write:
+    """A request, and the id of its operation once it has a reply."""
+
+    def __init__(self, request: List[Any]) -> None:
+        self.request = request
+        self.id: Optional[Id] = None
+        self.refused: Optional[Refused] = None
+
+
+class Writes:
+    """The writes of one document by this client, kept so that none is lost when the server is killed.
+
+        writes = Writes("d")
+        writes.send(server, "assign", [0, "title"], "Plan")     # as often as one likes, until the connection fails
+        writes.flush(server, file="trip.db")                    # now they are on disk
+        writes.send_again(server)                               # in the first session after a Lost, behind open("d")
+
+    A refused write is dropped: nothing was changed. One whose reply is missing (Lost) stays in `waiting`, as does
+    one that reached no server (Away). What the server has isn't sent again, since that would be a second
+    operation. A write without a reply is sent again: an `insert` or `add` may then be there twice, an `assign` or
+    `delete` does the same once more. `unknown` is that write; `drop_unknown` takes it for done. An index in a
+    cursor means what is there at that time. If servers exchange, a peer may deliver what was lost: let it do so
+    before `send_again`. Writes with replies are kept until `flush`, or until another start of the server has them.
+    """
+
+    def __init__(self, document: str) -> None:
+        self.document = document
+        # The writes with replies that may not be on disk yet, and those without replies.
+        self.answered: Deque[Write] = deque()
+        self.waiting: Deque[Write] = deque()
+        self.unknown: Optional[Write] = None
+
+    def send(self, server: Session, word: str, cursor: Cursor, *value: Any) -> Id:
+        """Sends what waits and then this request, and returns the id of its operation. Raises Refused if it is
+        refused, Lost or Away if it or one before it isn't answered: it stays."""
+        write = Write([word, self.document, cursor, *value])
+        self.waiting.append(write)
+        self._send_waiting(server)
+        if write.refused:
+            raise write.refused
+        assert write.id is not None
+        return write.id
+
+    def send_again(self, server: Session) -> Tuple[int, List[Refused]]:
+        """Sends what the server lacks, in its order. Returns how many writes that were, and the Refused among
+        them."""
+        self.waiting.extendleft(reversed(self._take_lost(server)))
+        count = len(self.waiting)
+        return count, self._send_waiting(server)
+
+    def drop_unknown(self) -> Optional[List[Any]]:
+        """Takes the write whose reply is missing for done, and returns its request."""
+        dropped, self.unknown = self.unknown, None
+        if dropped is None:
+            return None
+        self.waiting.remove(dropped)
+        return dropped.request
+
+    def flush(self, server: Session, file: Optional[str] = None, seconds: float = 60.0) -> int:
+        """Sends what waits, waits until all is on disk, and returns how many writes that are. With `file`, the
+        server's file on this machine, it reads that; without it asks a hub.
+
+        Raises TimeoutError after so many seconds. Raises Lost if the server has ended or lost some: `send_again`
+        in the next session, and flush again. Raises Refused without a file if no hub answers (2) or it can't
+        know (104), and for a waiting write that is refused."""
+        refused = self._send_waiting(server)
+        last = self._last()
+        self._check_all_there(server, last)
+        if file is not None:
+            self._await_file(server, file, last, seconds)
+        else:
+            self._await_hub(server, last)
+        count = len(self.answered)
+        self.answered.clear()
+        if refused:
+            raise refused[0]
+        return count
+
+    def _last(self) -> Front:
+        """The greatest counter of each replica among what was answered."""
+        last: Front = {}
+        for write in self.answered:
+            assert write.id is not None
+            counter, replica = write.id
+            last[replica] = max(counter, last.get(replica, 0))
+        return last
+
+    def _check_all_there(self, server: Session, last: Front) -> None:
+        if not _has_all(server.front(self.document), last):
+            raise Lost(f"{self.document}: the server was started again and lacks writes: send them again")
+
+    def _await_hub(self, server: Session, last: Front) -> None:
+        try:
+            for replica, counter in last.items():
+                server.stored(self.document, [counter, replica])
+        except Refused:
+            # It says the same of what was lost meanwhile.
+            self._check_all_there(server, last)
+            raise
+
+    def _await_file(self, server: Session, file: str, last: Front, seconds: float) -> None:
+        until, sign = time.monotonic() + seconds, time.monotonic() + SIGN_SECONDS
+        with StoredLog(file) as log:
+            while not _has_all(log.front(self.document), last):
+                now = time.monotonic()
+                if now >= until:
+                    raise TimeoutError(f"{file} doesn't have all of {self.document} after {seconds:g} s")
+                if now >= sign:
+                    self._check_all_there(server, last)
+                    sign = now + SIGN_SECONDS
+                time.sleep(LOOK_SECONDS)
+                log.refresh()
+
+    def _take_lost(self, server: Session) -> List[Write]:
+        """Those of the answered writes that the server lacks. The others stay."""
+        front = server.front(self.document)
+        lost = [write for write in self.answered if write.id and not wire.covers(front, write.id)]
+        self.answered = deque(write for write in self.answered if write.id and wire.covers(front, write.id))
+        return lost
+
+    def _send_waiting(self, server: Session) -> List[Refused]:
+        refused: List[Refused] = []
+        while self.waiting:
+            write = self.waiting[0]
+            # Until it has its reply.
+            self.unknown = write
+            try:
+                write.id = server.ask(*write.request)[2]
+            except Refused as cause:
+                write.refused = cause
+                refused.append(cause)
+            except Away:
+                self.unknown = None
+                raise
+            self.unknown = None
+            self.waiting.popleft()
+            if not write.refused:
+                self._note_answered(server, write)
+        return refused
+
+    def _note_answered(self, server: Session, write: Write) -> None:
+        """Keeps an answered write. If another start of the server answered it, as may be behind a hub, what is
+        left of the one before was in its file, and what isn't is sent again."""
+        assert write.id is not None
+        if self.answered and (self.answered[-1].id or [0, ""])[1] != write.id[1]:
+            lost = self._take_lost(server)
+            self.answered.clear()
+            # The older ones come behind this one now. What it assigned is to stay.
+            again = [write] if lost and write.request[0] in REPEATABLE else []
+            self.waiting.extendleft(reversed(lost + again))
+        self.answered.append(write)
+
+
+def _has_all(front: Front, last: Front) -> bool:
+    return all(wire.covers(front, [counter, replica]) for replica, counter in last.items())

@@ -1,0 +1,81 @@
+"""What the tests share: the program, and a server that is ended with the test."""
+
+import json
+import os
+import subprocess
+import sys
+from pathlib import Path
+from typing import IO, Any, Callable, Iterator, List, Optional
+
+import pytest
+
+PACKAGE = Path(__file__).resolve().parent.parent
+TOP = PACKAGE.parent.parent
+PROGRAM = os.environ.get("JCRDT") or str(TOP / "release" / "jcrdt")
+os.environ["JCRDT"] = PROGRAM
+os.environ["PYTHONDONTWRITEBYTECODE"] = "1"
+sys.dont_write_bytecode = True
+sys.path.insert(0, str(PACKAGE))
+# The longest that a test waits for a process.
+SECONDS = 120
+
+
+class Server:
+    """`jcrdt serve` over a file, which may be killed and started again at the same port."""
+
+    def __init__(self, folder: Path, documents: List[str], name: str = "srv", sessions: int = 64) -> None:
+        self.file, self.documents, self.name, self.sessions = str(folder / f"{name}.db"), documents, name, sessions
+        self.address = "127.0.0.1:0"
+        self.program: "Optional[subprocess.Popen[bytes]]" = None
+        self.start()
+
+    def start(self) -> None:
+        words = [PROGRAM, "serve", "--addr", self.address, "--sessions", str(self.sessions), "--file", self.file,
+                 "--name", self.name, *self.documents]
+        self.program = subprocess.Popen(words, bufsize=0, stdout=subprocess.PIPE, stderr=subprocess.DEVNULL)
+        self.address = json.loads(self.out.readline())[1]
+
+    @property
+    def out(self) -> IO[bytes]:
+        assert self.program is not None and self.program.stdout is not None
+        return self.program.stdout
+
+    @property
+    def process(self) -> "subprocess.Popen[bytes]":
+        assert self.program is not None
+        return self.program
+
+    def kill(self) -> None:
+        if not self.out.closed:
+            self.process.kill()
+            self.process.communicate()
+
+    def end(self) -> str:
+        """Waits for the end of a server whose sessions are used up, and returns its totals."""
+        return self.process.communicate(timeout=SECONDS)[0].decode()
+
+    def restart(self) -> None:
+        self.kill()
+        self.start()
+
+
+@pytest.fixture
+def serve(tmp_path: Path) -> Iterator[Callable[..., Server]]:
+    servers: List[Server] = []
+
+    def start(*documents: str, **options: Any) -> Server:
+        servers.append(Server(tmp_path, list(documents), **options))
+        return servers[-1]
+
+    yield start
+    for server in servers:
+        server.kill()
+
+
+def tool(*words: str, text: str = "", status: int = 0) -> str:
+    """What `python -m jcrdt` prints, its errors too. Its status is to be this one."""
+    run = subprocess.run([sys.executable, "-m", "jcrdt", *words], input=text.encode(), stdout=subprocess.PIPE,
+                         stderr=subprocess.STDOUT, timeout=SECONDS, env={**os.environ, "PYTHONPATH": str(PACKAGE)})
+    told = run.stdout.decode()
+    assert run.returncode == status, told
+    return told

@@ -1,0 +1,208 @@
+"""A stored log as a list, as a document of before, as fronts of what is on disk while a server writes, and for a
+monitor."""
+
+import contextlib
+import json
+import os
+import shutil
+import subprocess
+import sys
+import threading
+import time
+from pathlib import Path
+from typing import Any, Callable, Iterator, List
+
+import pytest
+from conftest import PACKAGE, SECONDS, Server, tool
+
+import jcrdt
+from jcrdt import StoredLog, front_on_disk, log
+from jcrdt.wire import Front, covers, pairs_of
+
+Serve = Callable[..., Server]
+LISTED = """\
+     1  1@alice-1        assign / = {}
+     2  2@alice-1        assign /title = "Plan"
+     3  3@alice-1        assign /steps = []
+     4  4@alice-1        insert /steps first: "build"
+     5  5@alice-1        insert /steps first: "ask"
+     6  1@bob-1          assign /title = "Trip"
+     7  6@alice-1        assign /title = "Trip plan"    (knows bob-1 to 1)
+     8  7@alice-1        add    /votes + 2
+     9  8@alice-1        delete /steps/5@alice-1
+"""
+
+
+@pytest.fixture
+def file(tmp_path: Path) -> str:
+    """The file of a server that has ended."""
+    path = str(tmp_path / "log.db")
+    with jcrdt.serving(["d", "e"], 1, "alice", path) as address:
+        with jcrdt.connected(address) as alice:
+            alice.open("d")
+            alice.put("d", [0], {"title": "Plan", "steps": ["ask", "build"]})
+            alice.deliver("d", ["op", [1, "bob-1"], [], [[["m", 0]], "title"], ["assign", "Trip"]])
+            alice.assign("d", [0, "title"], "Trip plan")
+            alice.add("d", [0, "votes"], 2)
+            alice.delete("d", [0, "steps", 1])
+    return path
+
+
+def test_a_list_and_the_document_as_it_was(file: str) -> None:
+    assert tool("log", file) == LISTED
+    for at, shown in (("0", None), ("4", {"title": "Plan", "steps": ["build"]}),
+                      ("6", {"title": {"conflict": ["Trip", "Plan"]}, "steps": ["ask", "build"]}),
+                      ('[["alice-1",4]]', {"title": "Plan", "steps": ["build"]}),
+                      ("9", {"title": "Trip plan", "steps": ["build"], "votes": {"counter": 2}})):
+        assert json.loads(tool("log", file, "--at", at)) == shown
+    assert "nobody has had this front" in tool("log", file, "--at", '[["alice-1",6]]', status=1)
+    for wrong in ("-1", "x", "1.5", "true", '[["b-1",1],["a-1",1]]'):
+        assert "neither a number of operations nor a front" in tool("log", file, f"--at={wrong}", status=2)
+    assert "no operations of e" in tool("log", file, "--doc", "e", status=1)
+    assert "isn't there" in tool("log", "nothing.db", status=1)
+    assert tool("log", file, "--front") == '["front","d",[["alice-1",8],["bob-1",1]]]\n'
+
+
+def test_who_reads_the_head_alone(file: str) -> None:
+    """`log FILE | head -1` ends well, with nothing on standard error."""
+    words = f"{sys.executable} -m jcrdt log {file} | head -1; exit ${{PIPESTATUS[0]}}"
+    for _ in range(5):
+        run = subprocess.run(["bash", "-c", words], env={**os.environ, "PYTHONPATH": str(PACKAGE), "PYTHONUNBUFFERED": "1"},
+                             stdout=subprocess.PIPE, stderr=subprocess.PIPE, timeout=SECONDS)
+        assert run.stdout.decode().count("\n") == 1 and run.stderr == b"" and run.returncode == 0
+
+
+def test_control_characters_are_escaped(tmp_path: Path) -> None:
+    path, evil = str(tmp_path / "log.db"), "\x1b[2J\r\n\x9b\u202etxt"
+    with jcrdt.serving(["d"], 1, "alice", path) as address:
+        with jcrdt.connected(address) as alice:
+            alice.open("d")
+            alice.assign("d", [0, evil], evil)
+    told = tool("log", path)
+    assert told.count("\n") == 1 and told[:-1].isprintable()
+
+
+def test_a_link_to_the_file(serve: Serve, tmp_path: Path) -> None:
+    """The -wal lies beside the file that a link leads to."""
+    server = serve("d")
+    (tmp_path / "link.db").symlink_to(server.file)
+    with jcrdt.connected(server.address) as session:
+        session.open("d")
+        session.assign("d", [0, "k"], 1)
+        wait_until(lambda: front_on_disk(str(tmp_path / "link.db"), "d") == {"srv-1": 1})
+        assert "served" in tool("log", "--status", str(tmp_path / "link.db"))
+    server.kill()
+    assert tool("log", str(tmp_path / "link.db")) == "     1  1@srv-1          assign /k = 1\n"
+
+
+def wait_until(holds: Callable[[], bool], seconds: float = 30) -> None:
+    until = time.monotonic() + seconds
+    while not holds():
+        assert time.monotonic() < until
+        time.sleep(0.02)
+
+
+@contextlib.contextmanager
+def writing(address: str, documents: List[str]) -> Iterator[None]:
+    """Changes as fast as they are answered, meanwhile."""
+    stop = threading.Event()
+
+    def work(document: str) -> None:
+        with contextlib.suppress(ConnectionError), jcrdt.connected(address) as session:
+            session.open(document)
+            number = 0
+            while not stop.is_set() and number < 90_000:
+                number += 50
+                session.ask_all([["assign", document, [0, f"k{number % 1000}"], "x" * 200]] * 50)
+
+    threads = [threading.Thread(target=work, args=(document,)) for document in documents]
+    for thread in threads:
+        thread.start()
+    try:
+        yield
+    finally:
+        stop.set()
+        for thread in threads:
+            thread.join()
+
+
+def test_what_is_on_disk_while_a_server_writes(serve: Serve, tmp_path: Path) -> None:
+    """Each front that is told is in the file at that time: a copy of it, as a kill leaves it, has it."""
+    server = serve("d", "e")
+    fronts: List[Front] = []
+    with writing(server.address, ["d", "e"]):
+        wait_until(lambda: os.path.exists(server.file) and bool(front_on_disk(server.file, "d")))
+        with StoredLog(server.file) as stored:
+            began = time.monotonic()
+            while time.monotonic() < began + 3 or len({it["srv-1"] for it in fronts}) <= 5:
+                assert time.monotonic() < began + 60, fronts
+                stored.refresh()
+                fronts.append(dict(stored.front("d")))
+        server.kill()
+    server.start()
+    with jcrdt.connected(server.address) as session:
+        session.open("d")
+        front = session.front("d")
+    counters = [it["srv-1"] for it in fronts]
+    assert counters == sorted(counters) and counters[-1] <= front["srv-1"]
+
+
+def test_fronts_are_followed(serve: Serve) -> None:
+    server = serve("d", "e")
+    words = [sys.executable, "-m", "jcrdt", "log", server.file, "--front", "--follow"]
+    with subprocess.Popen(words, stdout=subprocess.PIPE, env={**os.environ, "PYTHONPATH": str(PACKAGE)}) as follower:
+        try:
+            assert follower.stdout is not None
+            with jcrdt.connected(server.address) as session:
+                for document in ("d", "e"):
+                    session.open(document)
+                for number in range(1, 6):
+                    for document in ("d", "e"):
+                        session.assign(document, [0, "k"], number)
+                        due = ["front", document, [["srv-1", number]]]
+                        assert json.loads(follower.stdout.readline()) == due
+                follower.stdout.close()
+                # Nobody reads it any more.
+                assert follower.wait(20) == 0
+        finally:
+            follower.kill()
+
+
+def test_a_file_that_comes_later_and_is_replaced(serve: Serve, tmp_path: Path) -> None:
+    path, lines = str(tmp_path / "later.db"), []
+    followed = log.follow(path, 0.01)
+    assert next(followed) == []
+    for name in ("one", "two"):
+        other = str(tmp_path / f"{name}.db")
+        with jcrdt.serving(["d"], 1, name, other) as address, jcrdt.connected(address) as session:
+            session.open("d")
+            session.assign("d", [0, "k"], 1)
+        os.replace(other, path)
+        shutil.rmtree(f"{path}-wal", ignore_errors=True)
+        for found in followed:
+            lines += found
+            if found:
+                break
+    assert lines == ['["front","d",[["one-1",1]]]', '["front","d",[["two-1",1]]]']
+
+
+def test_status(serve: Serve, file: str, tmp_path: Path) -> None:
+    told = tool("log", "--status", file)
+    assert told.startswith("OK: not served, epoch 1, 9 rows, written ") and "d: 9 operations of 100000, 2 replicas of 256\n" in told
+    os.utime(file, (1, 1))
+    os.utime(file + "-wal", (1, 1))
+    assert "WARNING" in tool("log", "--status", file, "--max-age", "60", status=1)
+    server = serve("d")
+    with jcrdt.connected(server.address) as session:
+        session.open("d")
+        for count, word, status in ((231, "WARNING", 1), (256, "CRITICAL", 2)):
+            for number in range(count):
+                session.deliver("d", ["op", [1, f"r{number}"], [], [[["m", 0]], "k"], ["assign", number]])
+            wait_until(lambda: len(front_on_disk(server.file, "d")) == count)
+            told = tool("log", "--status", server.file, status=status)
+            assert told.startswith(f"{word}: served") and f"{count} replicas of 256" in told
+    (tmp_path / "noise").write_bytes(b"no stored log" * 1000)
+    for path in (str(tmp_path / "noise"), str(tmp_path), "nothing.db", "\x1b[2J"):
+        told = tool("log", "--status", path, status=2)
+        assert told.startswith("CRITICAL: ") and told[:-1].isprintable()
+    assert [log.level(it, 100_000) for it in (89_999, 90_000, 99_999, 100_000)] == [0, 1, 1, 2]

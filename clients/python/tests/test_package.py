@@ -1,0 +1,103 @@
+"""The package: its version, its wheel in an empty folder, its types, and the oldest Python that is here."""
+
+import glob
+import json
+import os
+import re
+import shutil
+import subprocess
+import sys
+from pathlib import Path
+from typing import Callable, List
+
+import pytest
+from conftest import PACKAGE, PROGRAM, SECONDS, TOP, Server
+
+import jcrdt
+
+Serve = Callable[..., Server]
+
+SMOKE = """
+import sys
+import jcrdt
+from jcrdt import log, stop
+with jcrdt.started(["d"], "alice") as session:
+    session.open("d")
+    session.put("d", [0], {"list": [{"a": 1}, "x"], "votes": jcrdt.Counter(2**70)})
+    assert session.plain("d", [0]) == {"list": [{"a": 1}, "x"], "votes": {"counter": 2**70}}
+print(jcrdt.__file__)
+"""
+
+
+def test_one_version() -> None:
+    version = (TOP / "VERSION").read_text().strip()
+    assert jcrdt.__version__ == version
+    assert re.search(r'(?m)^version = "(.*)"$', (PACKAGE / "pyproject.toml").read_text())[1] == version  # type: ignore[index]
+
+
+def copied(folder: Path) -> Path:
+    """A copy of what is under version control, and of what a build needs: a build leaves nothing here."""
+    shutil.copytree(PACKAGE, folder / "source", ignore=shutil.ignore_patterns("__pycache__", ".*_cache", "tests", "build", "*.egg-info"))
+    return folder / "source"
+
+
+def test_the_wheel_in_an_empty_folder(tmp_path: Path) -> None:
+    """Built and installed without a network, it runs against `jcrdt` in PATH and by the variable JCRDT."""
+    if subprocess.run([sys.executable, "-c", "import pip"], stderr=subprocess.DEVNULL).returncode:
+        pytest.skip("pip isn't installed")
+    pip = [sys.executable, "-m", "pip", "--disable-pip-version-check", "-q"]
+    environment = {**os.environ, "PIP_NO_INDEX": "1"}
+    subprocess.run([*pip, "wheel", "-w", str(tmp_path), str(copied(tmp_path))], check=True,
+                   env=environment, timeout=SECONDS, cwd=tmp_path)
+    [wheel] = tmp_path.glob("*.whl")
+    listed = subprocess.run(["unzip", "-Z1", str(wheel)] if shutil.which("unzip") else
+                            [sys.executable, "-m", "zipfile", "-l", str(wheel)], stdout=subprocess.PIPE, check=True).stdout.decode()
+    assert "jcrdt/py.typed" in listed and "cache" not in listed and "tests" not in listed
+    subprocess.run([*pip, "install", "--target", str(tmp_path / "site"), str(wheel)], check=True, env=environment,
+                   timeout=SECONDS, cwd=tmp_path)
+    (tmp_path / "bin").mkdir()
+    (tmp_path / "empty").mkdir()
+    (tmp_path / "bin" / "jcrdt").symlink_to(PROGRAM)
+    for more in ({"PATH": f"{tmp_path}/bin:{os.environ['PATH']}"}, {"JCRDT": PROGRAM}):
+        clean = {name: value for name, value in os.environ.items() if name not in ("JCRDT", "PYTHONPATH")}
+        run = subprocess.run([sys.executable, "-c", SMOKE], env={**clean, **more, "PYTHONPATH": str(tmp_path / "site")},
+                             stdout=subprocess.PIPE, check=True, cwd=tmp_path / "empty", timeout=SECONDS)
+        assert run.stdout.decode().startswith(str(tmp_path / "site"))
+        told = subprocess.run([sys.executable, "-m", "jcrdt", "--help"], env={**clean, **more, "PYTHONPATH": str(tmp_path / "site")},
+                              stdout=subprocess.PIPE, check=True, cwd=tmp_path / "empty", timeout=SECONDS).stdout
+        assert b"python3 -m jcrdt TOOL" in told
+
+
+def other_pythons() -> List[str]:
+    """Other Pythons from 3.8 on, the oldest first."""
+    found = []
+    for path in glob.glob(os.path.expanduser("~/.pyenv/versions/3.*/bin/python3")) + glob.glob("/usr/bin/python3.*[0-9]"):
+        version = re.search(r"3\.(\d+)", path)
+        if version and int(version[1]) >= 8:
+            found.append((int(version[1]), path))
+    return [path for _, path in sorted(found)]
+
+
+def test_the_oldest_python(serve: Serve, tmp_path: Path) -> None:
+    """A session, the log of a served file, and a stop while a client is connected."""
+    pythons = other_pythons()
+    if not pythons:
+        pytest.skip("no other Python is here")
+    clean = {**os.environ, "PYTHONPATH": str(PACKAGE), "PYTHONDONTWRITEBYTECODE": "1"}
+    for python in {pythons[0], pythons[-1]}:
+        subprocess.run([python, "-c", SMOKE], env=clean, stdout=subprocess.DEVNULL, check=True, timeout=SECONDS)
+        server = serve("d", name=f"s{len(python)}-{pythons.index(python)}", sessions=4)
+        with jcrdt.connected(server.address) as session:
+            session.open("d")
+            session.assign("d", [0, "k"], 1)
+            words = [python, "-m", "jcrdt", "log", server.file, "--front"]
+            told = subprocess.run(words, env=clean, stdout=subprocess.PIPE, check=True, timeout=SECONDS).stdout
+            assert not told.strip() or json.loads(told)[1] == "d"
+            with subprocess.Popen([python, "-m", "jcrdt", "stop", server.address, "--file", server.file], env=clean,
+                                  stdout=subprocess.PIPE, stderr=subprocess.STDOUT) as stop:
+                assert stop.stdout is not None
+                assert stop.stdout.readline().startswith(b"no session is left")
+                session.quit()
+                rest = stop.communicate(timeout=SECONDS)[0].decode()
+                assert stop.returncode == 0 and "the server has ended" in rest, rest
+        assert server.end() == '["total","d",1,1,1]\n'

@@ -1,0 +1,444 @@
+"""The relay between real servers, and peers that lie, freeze or never end a line."""
+
+import contextlib
+import json
+import os
+import shutil
+import signal
+import socket
+import subprocess
+import sys
+import threading
+import time
+from pathlib import Path
+from typing import Any, Callable, Dict, Iterator, List, Union
+
+import pytest
+
+from conftest import PACKAGE, SECONDS, TOP, Server
+
+Serve = Callable[..., Server]
+# What a peer answers to a word: bytes of a line, or what writes to the connection.
+Answer = Union[bytes, Callable[[socket.socket], None]]
+OPERATION = b'["op",[1,"z"],[],[[["m",0]],"z"],["assign",1]]'
+GOOD: Dict[str, Answer] = {
+    "open": b'["opened",1]', "front": b'["front",[]]', "ops": b'["ops",[]]', "deliver": b'["known"]',
+    "show": b'["show",[]]', "forget": b'["forgotten"]', "version": b'["version",2]', "quit": b'["bye"]'}
+# Replies that no server gives: the word of the request, and the line.
+BAD_REPLIES = [
+    ("ops", b'["ops",[5]]'), ("ops", b'["ops",5]'), ("ops", b'["ops"]'), ("ops", b'5'), ("ops", b'null'), ("ops", b'[]'),
+    ("ops", b'{"a":1}'), ("ops", b'["ops",["\xff"]]'), ("ops", b"[" * 100_000), ("ops", b'["no"]'), ("ops", b'["no","x","y"]'),
+    ("ops", b'["ops",[["op",["1","z"],[],[[],0],["delete"]]]]'),
+    ("ops", b'["ops",[["op",[1,"z"],null,[[],0],["delete"]]]]'),
+    ("ops", b'["ops",[["op",[1,"z"],[5],[[],0],["delete"]]]]'),
+    ("ops", b'["ops",[["op",[1,"z"],[["q","w"]],[[],0],["delete"]]]]'),
+    ("ops", b'["ops",[["op",[100000,"alice-1"],[["alice-1",99999]],[[],0],["delete"]]]]'),
+    ("ops", b'["ops",[["op",[1,"z"],[],[[["m",0]],"z"],["assign",' + b"[" * 900 + b"]" * 900 + b']]]]'),
+    ("ops", b'["ops",[["op",[1,"\\ud800"],[],[[],0],["delete"]]]]'),
+    ("front", b'["front"]'), ("front", b'["front",7]'), ("front", b'5'), ("front", b'["front",[["a"]]]'),
+    ("front", b'["front",[["a","b"]]]'), ("front", b'["front",[["a",1e400]]]'), ("front", b'["front",[["a",NaN]]]'),
+    ("front", b'["front",[["alice-1",18446744073709551615]]]'), ("front", b'["front",[["alice-1",100000]]]'),
+    ("front", b'["front",%s]' % json.dumps([[f"z{n:05}", 1] for n in range(5_000)]).encode()),
+    ("open", b'hello'), ("open", b'["no",99,"what is that\x1b[2J"]'),
+    ("open", b"[" * 100_000),
+]
+
+
+class Peer:
+    """Takes connections and answers each word of a request by a fixed line."""
+
+    def __init__(self, answers: Dict[str, Answer]) -> None:
+        self.answers = {**GOOD, **answers}
+        self.listener = socket.create_server(("127.0.0.1", 0))
+        self.address = f"127.0.0.1:{self.listener.getsockname()[1]}"
+        self.connections = 0
+        threading.Thread(target=self._accept, daemon=True).start()
+
+    def _accept(self) -> None:
+        with contextlib.suppress(OSError):
+            while True:
+                connection, _ = self.listener.accept()
+                self.connections += 1
+                threading.Thread(target=self._serve, args=(connection,), daemon=True).start()
+
+    def _serve(self, connection: socket.socket) -> None:
+        with contextlib.suppress(OSError, ValueError), connection, connection.makefile("rb") as lines:
+            for line in lines:
+                answer = self.answers[json.loads(line)[0]]
+                if callable(answer):
+                    answer(connection)
+                else:
+                    connection.sendall(answer + b"\n")
+
+
+class Relay:
+    """`python -m jcrdt relay`, by the module alone."""
+
+    def __init__(self, folder: Path, *words: str, python: str = sys.executable) -> None:
+        self.told, self.said = folder / "relay.err", folder / "relay.out"
+        command = [python, "-B", "-c", "from jcrdt import relay; relay.main()", *words, "--doc", "d"]
+        with open(self.told, "ab") as errors, open(self.said, "ab") as output:
+            self.process = subprocess.Popen(command, stdout=output, stderr=errors,
+                                            env={**os.environ, "PYTHONPATH": str(PACKAGE)})
+
+    def errors(self) -> str:
+        return self.told.read_text()
+
+    def output(self) -> str:
+        return self.said.read_text()
+
+    def end(self, most: float = 20) -> int:
+        """SIGTERM ends it with a status, within a few seconds."""
+        self.process.send_signal(signal.SIGTERM)
+        return self.process.wait(most)
+
+    def memory(self) -> int:
+        """The memory that it has, in MB."""
+        with open(f"/proc/{self.process.pid}/status", encoding="utf-8") as status:
+            return int(next(line for line in status if line.startswith("VmRSS")).split()[1]) >> 10
+
+
+@pytest.fixture
+def relay(tmp_path: Path) -> Iterator[Callable[..., Relay]]:
+    relays: List[Relay] = []
+
+    def start(*words: str, **options: Any) -> Relay:
+        folder = tmp_path / f"relay{len(relays)}"
+        folder.mkdir()
+        relays.append(Relay(folder, *words, **options))
+        return relays[-1]
+
+    yield start
+    for it in relays:
+        if it.process.poll() is None:
+            it.process.kill()
+            it.process.wait()
+
+
+class Session:
+    """One session of a server that has opened d."""
+
+    def __init__(self, address: str) -> None:
+        host, port = address.rsplit(":", 1)
+        self.connection = socket.create_connection((host, int(port)), timeout=SECONDS)
+        self.lines = self.connection.makefile("rwb")
+        self.ask(["open", "d"])
+
+    def ask(self, *requests: List[Any]) -> List[Any]:
+        """The replies to some requests that are sent at once."""
+        self.lines.write(b"".join(json.dumps(request).encode() + b"\n" for request in requests))
+        self.lines.flush()
+        return [json.loads(self.lines.readline()) for _ in requests]
+
+    def __enter__(self) -> "Session":
+        return self
+
+    def __exit__(self, *_: Any) -> None:
+        self.lines.close()
+        self.connection.close()
+
+
+def asked(address: str, *requests: List[Any]) -> List[Any]:
+    """The replies to some requests in a session of its own."""
+    with Session(address) as session:
+        return session.ask(*requests)
+
+
+def write(server: Server, key: str, count: int = 1) -> None:
+    replies = asked(server.address, *(["assign", "d", [0, key], number] for number in range(count)))
+    assert all(it[0] == "applied" for it in replies), replies[-1]
+
+
+def wait_for(what: Callable[[], Any], seconds: float = 60) -> float:
+    """Waits until it holds. Returns how long that took."""
+    start = time.monotonic()
+    while not what():
+        assert time.monotonic() - start < seconds, "not so in time"
+        time.sleep(0.02)
+    return time.monotonic() - start
+
+
+def comes(server: Server, key: str, seconds: float = 60, last: Any = None) -> float:
+    """Waits until a key has a value, or this one. Returns how long that took."""
+    with Session(server.address) as session:
+        def is_there() -> bool:
+            found = session.ask(["values", "d", [0, key]])[0][1]
+            return bool(found) and last in (None, found[-1])
+        return wait_for(is_there, seconds)
+
+
+def test_servers_agree(serve: Serve, relay: Callable[..., Relay]) -> None:
+    """Two servers that write, one of which is killed in between."""
+    alice, bob = serve("d", name="alice"), serve("d", name="bob")
+    write(alice, "a", 300)
+    kept = relay(alice.address, bob.address)
+    comes(bob, "a")
+    wait_for(lambda: kept.output() == "d: all 2 agree\n")
+    bob.kill()
+    wait_for(lambda: f"{bob.address}: not connected" in kept.errors())
+    write(alice, "b")
+    bob.start()
+    comes(bob, "b")
+    write(bob, "c", 100)
+    comes(alice, "c")
+    wait_for(lambda: kept.output() == "d: all 2 agree\n" * 2)
+    assert kept.end() == 0
+    assert kept.errors().count("\n") == 4, kept.errors()
+    assert asked(alice.address, ["show", "d", [0]]) == asked(bob.address, ["show", "d", [0]])
+
+
+def test_bad_replies_harm_nobody_else(serve: Serve, relay: Callable[..., Relay]) -> None:
+    """Each kind of bad reply by a peer of its own, all in one relay: each is named once, and left out."""
+    alice, bob = serve("d", name="alice"), serve("d", name="bob")
+    peers = [Peer({word: line}) for word, line in BAD_REPLIES]
+    kept = relay(alice.address, bob.address, *(peer.address for peer in peers))
+    for number in range(4):
+        write(alice, f"k{number}", 100)
+        comes(bob, f"k{number}", 12)
+        time.sleep(0.5)
+    assert kept.process.poll() is None
+    for peer, (word, line) in zip(peers, BAD_REPLIES):
+        named = [it for it in kept.errors().split("\n") if peer.address in it and "connected" not in it]
+        assert len(named) == 1, (word, line[:80], named)
+        assert peer.connections < 8
+    assert "\x1b" not in kept.errors()
+    assert "agree" not in kept.output()
+    assert kept.end() == 1
+
+
+@pytest.mark.parametrize("reply", [b'["applied"]', b'["applied","x",0,[1,"z"]]', b'[]', b'hello', b'["held"]', b'["opened",1]'])
+def test_bad_replies_to_deliveries(serve: Serve, relay: Callable[..., Relay], reply: bytes) -> None:
+    alice, bob, peer = serve("d", name="alice"), serve("d", name="bob"), Peer({"deliver": reply})
+    write(alice, "a")
+    kept = relay(alice.address, bob.address, peer.address)
+    comes(bob, "a")
+    wait_for(lambda: f"{peer.address}: left out" in kept.errors())
+    write(bob, "b")
+    comes(alice, "b")
+    assert kept.end() == 1
+
+
+def test_a_line_without_an_end(serve: Serve, relay: Callable[..., Relay]) -> None:
+    """Bytes without a newline, and a line that goes on for ever within what is shown, fill no memory."""
+    def flood(connection: socket.socket) -> None:
+        while True:
+            connection.sendall(b"x" * (1 << 20))
+
+    alice, bob = serve("d", name="alice"), serve("d", name="bob")
+    peers = [Peer({"front": flood}), Peer({"open": flood}), Peer({"ops": flood})]
+    kept = relay(alice.address, bob.address, *(peer.address for peer in peers))
+    most, until = 0, time.monotonic() + 6
+    while time.monotonic() < until:
+        most = max(most, kept.memory())
+        time.sleep(0.1)
+    assert most < 250, most
+    write(alice, "a")
+    comes(bob, "a", 12)
+    for peer in peers:
+        assert kept.errors().count(f"{peer.address}: left out") == 1, kept.errors()
+    kept.end()
+
+
+def test_a_server_that_freezes_in_mid_pull(serve: Serve, relay: Callable[..., Relay]) -> None:
+    """The others go on at once, also with bursts of more than a page."""
+    servers = [serve("d", name=it) for it in ("alice", "bob", "carol")]
+    alice, bob, carol = servers
+    for _ in range(3):
+        write(alice, "k", 12_000)
+    kept = relay(*(it.address for it in servers))
+    wait_for(lambda: f"{alice.address}: connected" in kept.errors())
+    time.sleep(0.15)
+    alice.process.send_signal(signal.SIGSTOP)
+    try:
+        for number, burst in enumerate((1, 100, 500, 1)):
+            write(bob, f"b{number}", burst)
+            comes(carol, f"b{number}", 8, burst - 1)
+    finally:
+        alice.process.send_signal(signal.SIGCONT)
+    wait_for(lambda: "agree" in kept.output(), 60)
+    assert "Traceback" not in kept.errors() and "never retrieved" not in kept.errors()
+    assert kept.end() == 0
+
+
+def forged(number: int, front: List[Any], replica: str = "alice-1", key: str = "forged") -> List[Any]:
+    return ["op", [number, replica], front, [[["m", 0]], key], ["assign", "FORGED"]]
+
+
+FORGERIES = {
+    "its first operation": [forged(1, [])],
+    "a later one after a chain of another": [forged(1, [], "mallory-1"), forged(2, [["mallory-1", 1]], "mallory-1"),
+                                             forged(3, [["mallory-1", 2]])],
+}
+
+
+@pytest.mark.parametrize("what", FORGERIES)
+def test_made_up_operations_silence_nobody(serve: Serve, relay: Callable[..., Relay], what: str) -> None:
+    """A peer makes up operations of alice, before she makes one or later. What she makes reaches carol, who
+    had her first one; and nobody says that all agree."""
+    page = FORGERIES[what]
+    alice, bob, carol = (serve("d", name=it) for it in ("alice", "bob", "carol"))
+    write(alice, "first")
+    first = asked(alice.address, ["ops", "d", [], 1])[0][1][0]
+    assert asked(carol.address, ["deliver", "d", first])[0][0] == "applied"
+    made = {name: counter for _, (counter, name), *_ in page}
+    served = threading.Event()
+
+    def operations(connection: socket.socket) -> None:
+        connection.sendall(json.dumps(["ops", [] if served.is_set() else page]).encode() + b"\n")
+        served.set()
+
+    peer = Peer({"front": json.dumps(["front", sorted(made.items())]).encode(), "ops": operations})
+    early = relay(bob.address, peer.address)
+    wait_for(served.is_set)
+    time.sleep(0.5)
+    early.end()
+    served.clear()
+    kept = relay(peer.address, bob.address, carol.address, alice.address)
+    wait_for(served.is_set)
+    for number in range(6):
+        write(alice, f"real{number}", 20)
+        comes(carol, f"real{number}")
+    write(carol, "of carol", 3)
+    comes(alice, "of carol")
+    comes(bob, "of carol")
+    assert "agree" not in kept.output()
+    assert kept.end() == 1
+
+
+def test_equal_fronts_and_other_documents(serve: Serve, relay: Callable[..., Relay]) -> None:
+    """A peer with the front of the others that shows something else: nobody says that all agree."""
+    alice = serve("d", name="alice")
+    write(alice, "a", 3)
+    peer = Peer({"front": b'["front",[["alice-1",3]]]', "show": b'["show",[["map",[]]]]'})
+    kept = relay(alice.address, peer.address)
+    wait_for(lambda: "the documents differ" in kept.errors())
+    time.sleep(1)
+    assert kept.errors().count("the documents differ") == 1
+    assert "agree" not in kept.output()
+    # Asked for all it has, it shows that it has nothing.
+    wait_for(lambda: f"{peer.address}: left out: it sends a front of operations" in kept.errors())
+    assert kept.end() == 1
+
+
+def test_a_refusal_is_no_agreement(serve: Serve, relay: Callable[..., Relay]) -> None:
+    """Two servers of one name have one front and refuse each other's operation."""
+    one, other = serve("d", name="same"), None
+    folder = Path(one.file).parent / "other"
+    folder.mkdir()
+    other = Server(folder, ["d"], "same")
+    try:
+        write(one, "a")
+        write(other, "b")
+        kept = relay(one.address, other.address)
+        wait_for(lambda: kept.errors().count("15 id-conflict") == 2)
+        time.sleep(0.5)
+        assert "agree" not in kept.output()
+        assert kept.end() == 1
+    finally:
+        other.kill()
+
+
+def test_it_ends_within_seconds(serve: Serve, relay: Callable[..., Relay]) -> None:
+    """SIGTERM ends it though a server is frozen; a second Ctrl-C ends it at once."""
+    alice, bob = serve("d", name="alice"), serve("d", name="bob")
+    write(alice, "a")
+    for second in (False, True):
+        kept = relay(alice.address, bob.address)
+        comes(bob, "a")
+        wait_for(lambda: kept.output() == "d: all 2 agree\n")
+        bob.process.send_signal(signal.SIGSTOP)
+        try:
+            write(alice, "b")
+            time.sleep(0.5)
+            start = time.monotonic()
+            kept.process.send_signal(signal.SIGINT)
+            time.sleep(0.5)
+            if second:
+                kept.process.send_signal(signal.SIGINT)
+                kept.process.wait(4)
+            else:
+                assert kept.process.wait(14) == 1
+                assert f"d: {bob.address} lacks" in kept.output()
+            print(time.monotonic() - start)
+        finally:
+            bob.process.send_signal(signal.SIGCONT)
+
+
+def test_lines_that_nobody_reads(serve: Serve, tmp_path: Path) -> None:
+    """Standard error and output are full pipes: the relay goes on, and ends."""
+    servers = [serve("d", name=it) for it in ("alice", "bob", "carol")]
+    reading, writing = os.pipe()
+    os.set_blocking(writing, False)
+    with contextlib.suppress(BlockingIOError):
+        while True:
+            os.write(writing, b"x" * 4096)
+    os.set_blocking(writing, True)
+    command = [sys.executable, "-B", "-c", "from jcrdt import relay; relay.main()", *(it.address for it in servers), "--doc", "d"]
+    kept = subprocess.Popen(command, stdout=writing, stderr=writing, env={**os.environ, "PYTHONPATH": str(PACKAGE)})
+    try:
+        write(servers[0], "a")
+        comes(servers[1], "a")
+        servers[2].kill()
+        write(servers[0], "b")
+        comes(servers[1], "b")
+        kept.send_signal(signal.SIGTERM)
+        assert kept.wait(20) == 1
+    finally:
+        kept.kill()
+        kept.wait()
+        os.close(reading)
+        os.close(writing)
+
+
+@pytest.mark.parametrize("words, why", [
+    (["127.0.0.1"], "127.0.0.1 isn't HOST:PORT"), (["127.0.0.1:1", "127.0.0.1:1"], "named twice"),
+    (["127.0.0.1:1", "--every", "0"], "--every takes seconds"), (["127.0.0.1:1", "--every", "nan"], "--every takes seconds"),
+    (["127.0.0.1:1", "--redis", "x"], "x isn't HOST:PORT")])
+def test_command_lines(relay: Callable[..., Relay], words: List[str], why: str) -> None:
+    kept = relay(*words)
+    assert kept.process.wait(SECONDS) == 2
+    assert why in kept.errors()
+
+
+def test_without_the_package_redis(tmp_path: Path) -> None:
+    script = "import sys; sys.modules['redis'] = None; from jcrdt import relay; relay.main()"
+    run = subprocess.run([sys.executable, "-c", script, "127.0.0.1:1", "--doc", "d", "--redis", "127.0.0.1:2"],
+                         env={**os.environ, "PYTHONPATH": str(PACKAGE)}, stderr=subprocess.PIPE, timeout=SECONDS)
+    assert run.returncode == 2
+    assert b"--redis needs the package redis: pip install" in run.stderr and b"Traceback" not in run.stderr
+
+
+def test_documents_that_are_missing(serve: Serve, relay: Callable[..., Relay]) -> None:
+    """A server without the document is named once; the others exchange."""
+    alice, bob, other = serve("d", name="alice"), serve("d", name="bob"), serve("e", name="carol")
+    kept = relay(alice.address, bob.address, other.address)
+    write(alice, "a")
+    comes(bob, "a")
+    assert kept.errors().count(f"{other.address}: d: 4 no-such-document: start the server") == 1
+    assert kept.end() == 1
+    assert f"d: not reached: {other.address}" in kept.output()
+
+
+def test_a_hub_whose_server_is_killed(serve: Serve, relay: Callable[..., Relay]) -> None:
+    """A relay at a hub of alice and at bob, while alice is away for a moment."""
+    if not shutil.which("node"):
+        pytest.skip("node isn't installed")
+    alice, bob = serve("d", name="alice"), serve("d", name="bob")
+    command = ["node", str(TOP / "clients" / "hub" / "hub.mjs"), alice.address, "--lines", "127.0.0.1:0"]
+    with subprocess.Popen(command, stdout=subprocess.PIPE, stderr=subprocess.DEVNULL) as hub:
+        try:
+            assert hub.stdout is not None
+            kept = relay(json.loads(hub.stdout.readline())[1], bob.address)
+            write(alice, "a", 50)
+            comes(bob, "a", last=49)
+            alice.kill()
+            write(bob, "b", 70)
+            time.sleep(1)
+            alice.start()
+            comes(alice, "b", last=69)
+            write(alice, "c", 70)
+            comes(bob, "c", last=69)
+            wait_for(lambda: "agree" in kept.output())
+            assert kept.end() == 0, kept.errors()
+        finally:
+            hub.kill()

@@ -1,0 +1,105 @@
+"""The replica in this process, over libjcrdt.so: JCRDT_LIBRARY, or the release's. Skipped where the library is in neither place."""
+
+import os
+import subprocess
+import sys
+from pathlib import Path
+from typing import Any, Iterator
+
+import pytest
+
+import jcrdt
+from jcrdt import replica as replica_module
+from jcrdt.replica import Replica, RefusedLine
+from jcrdt.wire import Refused
+
+FIRST = '["op",[1,"ada-1"],[],[[["m",0]],"t"],["assign","Plan"]]'
+TOP = Path(__file__).resolve().parents[3]
+
+pytestmark = pytest.mark.skipif(not any(map(os.path.isfile, replica_module.library_paths())), reason="libjcrdt.so isn't here")
+
+
+@pytest.fixture(name="ada")
+def _ada() -> Iterator[Replica]:
+    with Replica("ada-1") as made:
+        yield made
+
+
+def test_changes_are_made_without_a_server(ada: Replica) -> None:
+    assert ada.assign([0, "title"], "Oslo") == [1, "ada-1"]
+    ada.put([0, "days"], [{"at": 1}, [], jcrdt.Counter(2**64), "x"])
+    assert ada.plain() == {"title": "Oslo", "days": [{"at": 1}, [], {"counter": 2**64}, "x"]}
+    assert ada.made() == ada.lines()
+    assert ada.made() == []
+    with Replica("ada-1", ada.lines()) as again:
+        assert again.plain() == ada.plain()
+        assert again.front() == ada.front()
+
+
+def test_a_caret_stays_at_its_element(ada: Replica) -> None:
+    ada.put([0, "l"], ["a", "b"])
+    caret = ada.place([0, "l", 2])
+    ada.insert([0, "l", 0], "before")
+    ada.insert([caret], "after b")
+    ada.assign([caret], "B")
+    assert ada.plain([0, "l"]) == ["before", "a", "B", "after b"]
+
+
+def test_two_replicas_show_the_same(ada: Replica) -> None:
+    with Replica("bob-1") as bob:
+        ada.assign([0, "t"], 2**63 - 1)
+        bob.assign([0, "t"], "b")
+        for operation in ada.operations():
+            assert bob.deliver(operation) == 1
+            assert bob.deliver(operation) == 0
+        for operation in bob.operations(ada.front()):
+            ada.deliver(operation)
+        assert ada.plain() == bob.plain() == {"t": jcrdt.Conflict([2**63 - 1, "b"])}
+
+
+def test_what_is_refused_changes_nothing(ada: Replica) -> None:
+    with pytest.raises(Refused) as refused:
+        ada.delete([0, "l", 4])
+    assert (refused.value.number, refused.value.name) == (9, "index-past-end")
+    with pytest.raises(ValueError):
+        ada.put([0, "x"], 1.5)
+    assert ada.operations() == []
+
+
+@pytest.mark.parametrize("lines, number, place, last", [
+    ([FIRST, FIRST], 15, 1, None), ([FIRST, "{"], 1, 1, None), (["[]"], 12, 0, None),
+    ([FIRST, FIRST.replace("[1,", "[2,", 1).replace("[],", '[["ada-1",1]],', 1),
+      '["op",[1,"b"],[],[[],0],["delete"]]', '["op",[2,"b"],[["ada-1",1]],[[],0],["delete"]]'], 14, 3, 1)])
+def test_lines_that_do_not_fit(lines: Any, number: int, place: int, last: Any) -> None:
+    with pytest.raises(RefusedLine) as refused:
+        Replica("ada-1", lines)
+    assert (refused.value.number, refused.value.place, refused.value.last_counter) == (number, place, last)
+
+
+def test_names_and_closed_replicas(ada: Replica) -> None:
+    for name in ("", "Ada", "a" * 33):
+        with pytest.raises(ValueError):
+            Replica(name)
+    ada.close()
+    ada.close()
+    with pytest.raises(ValueError):
+        ada.ask("front")
+    with pytest.raises(OSError):
+        replica_module.load("/nowhere/libjcrdt.so")
+
+
+def test_long_answers_come_whole(ada: Replica) -> None:
+    ada.put([0, "l"], ["x" * 4096] * 40)
+    assert len(ada.plain([0, "l"])) == 40
+    assert len(ada.operations()) == 41
+
+
+def test_notes_work_offline(tmp_path: Path) -> None:
+    def notes(*words: str) -> str:
+        done = subprocess.run([sys.executable, TOP / "examples/notes.py", tmp_path / "notes", *words], stdout=subprocess.PIPE, text=True, check=True, timeout=60)
+        return done.stdout
+    notes("add", "buy", "milk")
+    notes("add", "call Ada")
+    assert notes() == "1. buy milk\n2. call Ada\n"
+    notes("strike", "1")
+    assert notes() == "1. call Ada\n"

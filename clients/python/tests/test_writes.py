@@ -1,0 +1,316 @@
+"""Writes of which none is lost, however often the server is killed, and what is on disk."""
+
+import contextlib
+import os
+import random
+import shutil
+import subprocess
+import threading
+import time
+from pathlib import Path
+from typing import Any, Callable, Iterator, List
+
+import pytest
+from conftest import TOP, Server
+from test_session import answering, freeze
+
+import jcrdt
+from jcrdt import Away, Lost, Refused, Writes, followed, followed_file, front_on_disk
+
+Serve = Callable[..., Server]
+
+
+@pytest.mark.parametrize("seed", range(3))
+def test_no_write_is_lost(serve: Serve, seed: int) -> None:
+    """Kills behind bursts, in the middle of a request, or before one."""
+    server, source, writes, number = serve("d"), random.Random(seed), Writes("d"), 0
+    for _ in range(8):
+        with contextlib.suppress(ConnectionError), jcrdt.connected(server.address) as session:
+            session.open("d")
+            assert not writes.send_again(session)[1]
+            until = number + source.randrange(20, 200)
+            killer = threading.Timer(source.uniform(0, 0.05), server.kill)
+            killer.start()
+            while True:
+                number += 1
+                writes.send(session, "assign", [0, f"k{number}"], number)
+                if number == until:
+                    killer.join()
+        killer.join()
+        server.start()
+    with jcrdt.connected(server.address) as session:
+        session.open("d")
+        assert not writes.send_again(session)[1]
+        assert set(session.keys("d", [0])) == {f"k{it}" for it in range(1, number + 1)}
+
+
+def test_flush_means_on_disk(serve: Serve) -> None:
+    """What was flushed is there after a kill, from the file alone."""
+    server = serve("d")
+    for round_number in range(1, 6):
+        writes = Writes("d")
+        with jcrdt.connected(server.address) as session:
+            session.open("d")
+            for number in range(300):
+                writes.send(session, "assign", [0, f"k{round_number}-{number}"], number)
+            assert writes.flush(session, file=server.file) == 300
+            server.kill()
+            with pytest.raises(ConnectionError):
+                writes.send(session, "assign", [0, "k"], 1)
+        server.start()
+        with jcrdt.connected(server.address) as session:
+            session.open("d")
+            assert len([it for it in session.keys("d", [0]) if it != "k"]) == 300 * round_number
+            with pytest.raises(Refused, match="bad-request"):
+                writes.send_again(session)
+                writes.flush(session)
+
+
+def test_what_is_unknown_is_kept() -> None:
+    """A hub's 100 says that a change may have been made; 101 that it wasn't; 103 and others that nothing was."""
+    replies = [b'["version",2]\n', b'["no",100,"server-lost"]\n', b'["no",101,"server-away"]\n', b'["applied",1,0,[1,"a-1"]]\n',
+               b'["no",103,"not-allowed"]\n', b'["no",102,"reply-too-long"]\n', b'["applied",1,0,[2,"a-1"]]\n']
+    with answering(*replies) as address, jcrdt.connected(address) as session:
+        writes = Writes("d")
+        with pytest.raises(Lost):
+            writes.send(session, "add", [0, "n"], 1)
+        assert writes.unknown is not None and writes.unknown.request == ["add", "d", [0, "n"], 1]
+        with pytest.raises(Away):
+            writes._send_waiting(session)
+        assert writes.unknown is None and len(writes.waiting) == 1
+        assert writes._send_waiting(session) == [] and len(writes.answered) == 1
+        with pytest.raises(Refused, match="not-allowed"):
+            writes.send(session, "assign", [0, "n"], 1)
+        assert not writes.waiting
+        with pytest.raises(Lost):
+            writes.send(session, "add", [0, "n"], 2)
+        assert writes.drop_unknown() == ["add", "d", [0, "n"], 2] and not writes.waiting
+        assert writes.send(session, "add", [0, "n"], 3) == [2, "a-1"]
+
+
+def test_a_flush_that_ends(serve: Serve, tmp_path: Path) -> None:
+    """The server writes to another file than the one that is named; it is killed while it is waited for."""
+    server, writes = serve("d"), Writes("d")
+    other = serve("d", name="other")
+    with jcrdt.connected(server.address) as session:
+        session.open("d")
+        writes.send(session, "assign", [0, "k"], 1)
+        with pytest.raises(TimeoutError):
+            writes.flush(session, file=other.file, seconds=0.5)
+        threading.Timer(0.3, server.kill).start()
+        with pytest.raises(Lost):
+            writes.flush(session, file=other.file, seconds=20)
+    assert len(writes.answered) == 1
+
+
+@contextlib.contextmanager
+def hub(server: Server, *words: str) -> Iterator[str]:
+    """A hub before a server, and its address."""
+    import json
+    if shutil.which("node") is None:
+        pytest.skip("node isn't installed")
+    command = ["node", str(TOP / "clients" / "hub" / "hub.mjs"), server.address, "--lines", "127.0.0.1:0", "--sessions", "2", *words]
+    with subprocess.Popen(command, stdout=subprocess.PIPE, stderr=subprocess.DEVNULL) as running:
+        try:
+            assert running.stdout is not None
+            yield str(json.loads(running.stdout.readline())[1])
+        finally:
+            running.terminate()
+
+
+def eventually(ask: Callable[[], Any], seconds: float = 20) -> Any:
+    """What it gives once the hub has its server again."""
+    until = time.monotonic() + seconds
+    while True:
+        try:
+            return ask()
+        except Away:
+            assert time.monotonic() < until
+            time.sleep(0.1)
+
+
+def test_a_session_at_the_hub_over_a_restart(serve: Serve) -> None:
+    """Each question has its own answer, also where the hub says that documents were opened again."""
+    server = serve("d")
+    with hub(server) as address, jcrdt.connected(address) as session:
+        session.open("d")
+        for key in "abc":
+            session.assign("d", [0, key], key * 3)
+        session.let("d", "it", [0, "a"])
+        session.ask("watch", "d")
+        front_there = {"srv-1": 3}
+        until = time.monotonic() + 20
+        while front_on_disk(server.file, "d") != front_there and time.monotonic() < until:
+            time.sleep(0.02)
+        server.restart()
+        for key in "abcabc":
+            assert eventually(lambda: session.values("d", [0, key])) == [key * 3]
+        assert session.assign("d", [0, "z"], "Z")[1] == "srv-2"
+        assert session.keys("d", [0]) == ["a", "b", "c", "z"]
+        words = []
+        while True:
+            push = session.next_push(0.5)
+            if push is None:
+                break
+            words.append(push[0])
+        assert "reopened" in words and "changed" in words
+
+
+def test_a_change_whose_reply_is_missing_at_the_hub(serve: Serve) -> None:
+    """The server is frozen while a change is under way: `Lost`, since it is made later."""
+    server = serve("d")
+    with hub(server) as address, jcrdt.connected(address) as session:
+        session.open("d")
+        session.add("d", [0, "n"], 1)
+        freeze(server)
+        with pytest.raises(ConnectionError) as raised:
+            session.add("d", [0, "n"], 10)
+        server.process.send_signal(18)
+        assert raised.type is Lost
+
+
+def test_writes_over_the_hub(serve: Serve) -> None:
+    """The server is killed behind the hub; the session goes on. None is lost, and `flush` means on disk."""
+    server, writes, number = serve("d"), Writes("d"), 0
+    with hub(server, "--file", server.file) as address:
+        with jcrdt.connected(address) as session:
+            session.open("d")
+            for _ in range(4):
+                for _ in range(100):
+                    number += 1
+                    send_through(writes, session, number)
+                server.restart()
+            flushed(writes, session)
+            server.restart()
+    with jcrdt.connected(server.address) as session:
+        session.open("d")
+        assert set(session.keys("d", [0])) == {f"k{it}" for it in range(1, number + 1)}
+        assert all(session.values("d", [0, f"k{it}"]) == [it] for it in range(1, number + 1))
+
+
+def flushed(writes: Writes, session: jcrdt.Session) -> None:
+    """Sends again what a kill has lost, until all is on disk."""
+    until = time.monotonic() + 30
+    while True:
+        try:
+            writes.send_again(session)
+            writes.flush(session)
+            return
+        except ConnectionError:
+            assert time.monotonic() < until
+            time.sleep(0.05)
+
+
+def send_through(writes: Writes, session: jcrdt.Session, number: int) -> None:
+    with contextlib.suppress(ConnectionError):
+        writes.send(session, "assign", [0, f"k{number}"], number)
+        return
+    until = time.monotonic() + 20
+    while writes.waiting:
+        assert time.monotonic() < until
+        with contextlib.suppress(ConnectionError):
+            writes.send_again(session)
+        time.sleep(0.05)
+
+
+def test_a_follower_sees_each_change_once(serve: Serve) -> None:
+    """From the file: nothing that a kill takes back, and nothing twice, while writes are sent again after kills."""
+    server, writes, seen, number = serve("d"), Writes("d"), [], 0
+    ended = threading.Event()
+
+    def follow() -> None:
+        for operation in followed_file(server.file, "d"):
+            seen.append(operation[4][1])
+            if operation[4][1] == "end":
+                break
+        ended.set()
+
+    thread = threading.Thread(target=follow, daemon=True)
+    thread.start()
+    for _ in range(3):
+        with contextlib.suppress(ConnectionError), jcrdt.connected(server.address) as session:
+            session.open("d")
+            writes.send_again(session)
+            for _ in range(300):
+                number += 1
+                writes.send(session, "assign", [0, f"k{number}"], number)
+        server.restart()
+    with jcrdt.connected(server.address) as session:
+        session.open("d")
+        writes.send_again(session)
+        writes.send(session, "assign", [0, "k"], "end")
+        writes.flush(session, file=server.file)
+        assert ended.wait(30)
+    assert sorted(seen[:-1]) == list(range(1, number + 1))
+
+
+def test_a_follower_of_a_server(serve: Serve) -> None:
+    server = serve("d")
+    seen: List[Any] = []
+
+    def follow() -> None:
+        for operation in followed(server.address, "d", {"srv-1": 1}, every=0.02):
+            seen.append(operation[4][1])
+
+    thread = threading.Thread(target=follow, daemon=True)
+    with jcrdt.connected(server.address) as session:
+        session.open("d")
+        writes = Writes("d")
+        for number in range(10):
+            writes.send(session, "assign", [0, "k"], number)
+        thread.start()
+        writes.flush(session, file=server.file)
+    until = time.monotonic() + 20
+    while len(seen) < 9 and time.monotonic() < until:
+        time.sleep(0.02)
+    server.restart()
+    with jcrdt.connected(server.address) as session:
+        session.open("d")
+        session.assign("d", [0, "k"], "after")
+        while len(seen) < 10 and time.monotonic() < until:
+            time.sleep(0.02)
+    assert seen == [*range(1, 10), "after"]
+
+
+def test_a_follower_at_the_hub(serve: Serve) -> None:
+    """A hub that knows the file: nothing that a kill takes back, and nothing twice."""
+    server, writes, seen, number = serve("d"), Writes("d"), [], 0
+
+    def follow(address: str) -> None:
+        for operation in followed(address, "d"):
+            seen.append(operation[4][1])
+
+    with hub(server, "--file", server.file) as address:
+        threading.Thread(target=follow, args=(address,), daemon=True).start()
+        for _ in range(3):
+            with contextlib.suppress(ConnectionError), jcrdt.connected(server.address) as session:
+                session.open("d")
+                writes.send_again(session)
+                for _ in range(200):
+                    number += 1
+                    writes.send(session, "assign", [0, f"k{number}"], number)
+            server.restart()
+        with jcrdt.connected(server.address) as session:
+            session.open("d")
+            writes.send_again(session)
+        until = time.monotonic() + 60
+        while len(seen) < number and time.monotonic() < until:
+            time.sleep(0.05)
+        assert sorted(seen) == list(range(1, number + 1))
+
+
+def test_a_hub_without_its_server(serve: Serve) -> None:
+    """A session begins at the hub; what is asked for wasn't done, until the server is there again."""
+    server = serve("d")
+    with hub(server) as address:
+        with jcrdt.connected(address) as session:
+            session.open("d")
+        server.kill()
+        with jcrdt.connected(address) as session:
+            until = time.monotonic() + 20
+            with pytest.raises(Away):
+                while time.monotonic() < until:
+                    session.open("d")
+            server.start()
+            eventually(lambda: session.open("d"))
+            assert session.keys("d", [0]) == []

@@ -1,0 +1,4 @@
+pub mod Paths
+pub mod Cutting
+pub mod Opening
+pub mod Telling

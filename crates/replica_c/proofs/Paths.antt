@@ -1,0 +1,61 @@
+-- The keys of a path, and the items after a word, as they are read.
+use Rattle.std.proofs.Common.{◌≡◌, ◌≢◌, ℕ, ◌+◌, ◌-◌, ◌<◌, ◌≤◌, List, [], ◌∷◌, ◌++◌, length, take, drop, get_or, Option, Some, None, option_map, Result, Ok, Err, refl, sym, ap, ◌∙◌, append_assoc, arith}
+use Rattle.std.proofs.lemmas.List.{at_drop_more, take_rest}
+use Rattle.std.specs.Option.{ok_or}
+use Rattle.serde_json.specs.View.{view, items_view}
+use Rattle.serde_json.specs.declared.value.Value.{Value}
+use Rattle.json_scalar.specs.Refusal.{UnlessMemory}
+use Rattle.json_scalar.specs.declared.refusal.Refusal.{Refusal}
+use Rattle.json_scalar.specs.declared.refusal.Refusal.TheVariants.{BadRequest, NoMemory}
+use Rattle.op_core.specs.Reading.{◌>>=◌}
+use Rattle.op_core.specs.declared.cursor.Tagged.{Tagged}
+use Rattle.op_core.specs.declared.cursor.Cursor.{Cursor}
+use Rattle.serde_json.specs.Data.{item}
+use Rattle.doc_words.specs.declared.place.Step.{Step}
+use Rattle.line_proto.specs.Reading.{steps_from}
+use Rattle.replica_c.specs.Places.{place_items, place_start, start_tagged, start_path}
+use Rattle.replica_c.specs.Asking.{ask_by}
+
+-- one more key of a path is read
+pub start_path-more : (vs : List Value) (i : ℕ) (d : Value) (keys : List Tagged) (t : Tagged) → i < length vs
+    → start_path (items_view vs) ≡ option_map (λ rest. keys ++ rest) (start_path (items_view (drop i vs)))
+    → start_tagged (view (get_or vs i d)) ≡ Some t
+    → start_path (items_view vs) ≡ option_map (λ rest. (keys ++ t ∷ []) ++ rest) (start_path (items_view (drop (i + 1) vs)))
+start_path-more vs i d keys t h before is =
+    rw (before, at_drop_more (λ rest. option_map (λ rest. keys ++ rest) (start_path (items_view rest))) vs i d h, is) (after (start_path (items_view (drop (i + 1) vs))))
+  where
+    after : (o : Option (List Tagged)) → option_map (λ rest. keys ++ rest) (o >>= (λ rest. Some (t ∷ rest))) ≡ option_map (λ rest. (keys ++ t ∷ []) ++ rest) o
+    after None = refl
+    after (Some rest) = ap Some (sym (append_assoc keys (t ∷ []) rest))
+
+pub start_path-none : (vs : List Value) (i : ℕ) (d : Value) (keys : List Tagged) → i < length vs
+    → start_path (items_view vs) ≡ option_map (λ rest. keys ++ rest) (start_path (items_view (drop i vs)))
+    → start_tagged (view (get_or vs i d)) ≡ None
+    → start_path (items_view vs) ≡ None
+start_path-none vs i d keys h before is =
+    rw (before, at_drop_more (λ rest. option_map (λ rest. keys ++ rest) (start_path (items_view rest))) vs i d h, is) refl
+
+pub ask_by-many : (verb : List ℕ) (vs : List Value) → 3 ≤ length vs → ask_by verb (items_view vs) ≡ Err BadRequest
+ask_by-many verb [] h = absurd (omega arith)
+ask_by-many verb (a ∷ []) h = absurd (omega arith)
+ask_by-many verb (a ∷ b ∷ []) h = absurd (omega arith)
+ask_by-many verb (a ∷ b ∷ c ∷ vs) h = refl
+
+-- what a part of a place is, by how it was read
+pub part_Ok : {A : Type 0} (o : Option A) (r : Result A Refusal) (x : A) → UnlessMemory r (ok_or o BadRequest) → r ≡ Ok x → o ≡ Some x
+part_Ok None r x h is = let due : r ≡ Err BadRequest = h (λ e. cc) in cc
+part_Ok (Some y) r x h is = let due : r ≡ Ok y = h (λ e. cc) in cc
+
+pub part_Err : {A : Type 0} (o : Option A) (r : Result A Refusal) (e : Refusal) → UnlessMemory r (ok_or o BadRequest) → r ≡ Err e → e ≢ NoMemory → (o ≡ None) × (e ≡ BadRequest)
+part_Err None r e h is other = let due : r ≡ Err BadRequest = h (λ f. other (let same : Err e ≡ Err NoMemory = sym is ∙ f in cc)) in (refl, cc)
+part_Err (Some y) r e h is other = let due : r ≡ Ok y = h (λ f. other (let same : Err e ≡ Err NoMemory = sym is ∙ f in cc)) in (cc, cc)
+
+-- the first item is the start, and the others are steps
+pub place_items-by : (vs : List Value) (a : Value) → 1 ≤ length vs → a ≡ get_or vs 0 a → (start : Option Cursor) (steps : Option (List Step))
+    → place_start (view a) ≡ start → steps_from (items_view (take (length vs - 1) (drop 1 vs))) ≡ steps
+    → place_items (items_view vs) ≡ (start >>= (λ s. steps >>= (λ t. Some (record { start = s; steps = t }))))
+place_items-by [] a some first start steps e d = absurd (omega (arith, some))
+place_items-by (x ∷ vs) a some first start steps e d =
+    let whole : place_items (item (view a) (items_view (take (length (x ∷ vs) - 1) (drop 1 (x ∷ vs))))) ≡ place_items (items_view (x ∷ vs)) =
+    λ i. place_items (item (view (first i)) (items_view (take_rest (x ∷ vs) 1 i))) in
+    sym whole ∙ (λ i. e i >>= (λ s. d i >>= (λ t. Some (record { start = s; steps = t }))))

@@ -1,0 +1,7 @@
+use Rattle.std.proofs.Common.{inr, refl}
+use Rattle.doc_words.specs.Words.{NoMemory}
+use Rattle.doc_words.specs.declared.reply.Reply.TheVariants.{Refused}
+use Rattle.replica_c.proofs.open.OpenReplica.look.Goals as goal
+
+pub returns-else-tell-clause-told : goal.returns-else-tell-clause-told
+returns-else-tell-clause-told c = (Refused NoMemory, inr refl, c.tell-else-tell.ensures.told)

@@ -1,0 +1,7 @@
+pub mod Places
+pub mod Asking
+pub mod Serving
+pub mod Stored
+pub mod Handles
+pub mod Calls
+pub mod Opening

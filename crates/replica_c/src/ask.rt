@@ -1,0 +1,11 @@
+//! What a line asks of a replica.
+use doc_words::{Command, Query};
+
+/// What a line asks of a replica.
+#[derive(Drop)]
+pub enum Ask {
+    /// Something that may change it.
+    Act(Command),
+    /// Something that changes nothing.
+    Read(Query),
+}

@@ -1,0 +1,280 @@
+//! An open replica, and what it tells.
+ghost use Rattle.std.specs.Prelude.{◌≡◌, ◌≢◌, ◌⊎◌, ◌<◌, ◌++◌, ◌∷◌, [], ℕ, List, Some, false, length, MatchResult, IfOk, IfErr, OnOk};
+ghost use Rattle.line_feed.specs.Lines.{lines};
+ghost use Rattle.line_proto.specs.Replies.{reply_line};
+ghost use Rattle.line_proto.specs.declared.line_reply.LineReply.TheVariants.{Answered};
+ghost use Rattle.doc_words.specs.declared.ask.Command.TheVariants as command;
+ghost use Rattle.doc_words.specs.declared.reply.Reply.{Reply};
+ghost use Rattle.op_core.specs.Op.{Op};
+ghost use Rattle.doc_words.specs.Words.{NoMemory};
+ghost use Rattle.op_core.specs.Wire.{wire};
+ghost use Rattle.serde_json.specs.Written.{compact_text};
+ghost use Rattle.crdt_rules.specs.Log.{IsGood};
+ghost use Rattle.doc_rules.specs.Answers.{MayAnswer};
+ghost use Rattle.doc_rules.specs.Events.{Event};
+ghost use Rattle.doc_rules.specs.Replica.{find_id};
+ghost use Rattle.replica_core.specs.Misfits.{IsMisfitOf};
+ghost use Rattle.replica_c.specs.Serving.{TellsLine, IsTold, op_line, own_after, own_by, own_of};
+ghost use Rattle.replica_c.specs.Stored.{AreWritten, IsUnfit, IsUnopened, IsUnread, OpensAs};
+ghost use Rattle.replica_c.specs.declared.ask.Ask.TheVariants.{Act};
+
+use crate::ask::Ask;
+use crate::read::{read_ask, read_operation};
+use doc_words::{Command, Place, Query, Reply};
+use json_scalar::Refusal;
+use json_text::{AsJson, JsonText};
+use lamport_id::{Id, ReplicaName};
+use line_feed::Writer;
+use line_proto::LineReply;
+use memchr::memchr;
+use op_core::{Mutation, Operation};
+use op_log::OpLog;
+use replica_core::{Misfit, Replica};
+use std::alloc::Global;
+use std::mem;
+
+// Room for the answer to any command and for the line of any operation, in bytes.
+const ROOM: usize = 65_536;
+
+/// A replica, and the text that it told last.
+#[derive(Drop)]
+pub struct OpenReplica {
+    pub(crate) replica: Replica,
+    pub(crate) text: Vec<u8>,
+    alloc: Global,
+}
+
+/// Why no replica is opened.
+#[derive(Drop)]
+pub enum Unopened {
+    /// Its name isn't 1 to 32 of `a-z`, `0-9` and `-`.
+    Name,
+    /// The first line that doesn't fit, or out of memory.
+    Unfit(Misfit),
+}
+
+// Appends a reply's line, and tells whether it could. Only the lines of readings take memory of their own.
+fn told(alloc: Global, reply: &LineReply, text: Vec<u8>) -> (Vec<u8>, bool)
+    ensures { IsTold result.1 (text.items ++ reply_line reply.now) result.0.items }
+{
+    let mut sink = Writer::new(text);
+    let is_told = reply.write(alloc, &mut sink).is_ok();
+    (sink.into_inner(), is_told)
+}
+
+fn op_text(words: JsonText, op: &Operation) -> Result<Vec<u8>, Refusal>
+    requires { words ≡ [] }
+    ensures { IfOk result (λ text. text.items ≡ compact_text (wire op.now)) }
+{
+    let mut words = words;
+    match op.put_in(&mut words) {
+        Ok(()) => Ok(words.into_bytes()),
+        Err(cause) => Err(cause),
+    }
+}
+
+// Appends an operation's line.
+fn put_op(words: JsonText, op: &Operation, text: &mut Vec<u8>) -> Result<(), Refusal>
+    requires { words ≡ [] }
+    ensures { OnOk result (text.new.items ≡ text.old.items ++ op_line (Some op.now)) }
+{
+    let line = op_text(words, op)?;
+    text.extend_from_slice(line.as_slice())?;
+    text.push(b'\n')?;
+    Ok(())
+}
+
+// Appends the line of the operation of this id, if there is one.
+fn put_logged(words: JsonText, log: &OpLog, id: Id, text: &mut Vec<u8>) -> Result<(), Refusal>
+    requires { words ≡ [] }
+    ensures { OnOk result (text.new.items ≡ text.old.items ++ op_line (find_id log.now.operations id)) }
+{
+    match log.get(id) {
+        Some(op) => put_op(words, op, text),
+        None => Ok(()),
+    }
+}
+
+// The id of the operation that was applied.
+fn applied_id(reply: &Reply) -> Option<Id>
+    ensures { (log : List Op) → own_after reply.now log ≡ own_by result log }
+{
+    match reply {
+        Reply::Applied { id, .. } => Some(*id),
+        _ => None,
+    }
+}
+
+impl OpenReplica {
+    /// The replica of this name whose log is what the lines write, one operation each.
+    pub(crate) fn open(alloc: Global, name: &[u8], text: &[u8]) -> Result<OpenReplica, Unopened>
+        ensures ok { IfOk result (λ o. OpensAs name.now text.now o.replica) }
+        ensures err { IfErr result (IsUnopened name.now text.now) }
+    {
+        let Some(name) = ReplicaName::read(name) else {
+            return Err(Unopened::Name);
+        };
+        let Ok(room) = Vec::with_capacity(alloc, ROOM) else {
+            return Err(Unopened::Unfit(Misfit::NoMemory));
+        };
+        match restored(alloc, name, text) {
+            Ok(replica) => Ok(OpenReplica {
+                replica,
+                text: room,
+                alloc,
+            }),
+            Err(misfit) => Err(Unopened::Unfit(misfit)),
+        }
+    }
+
+    /// Answers a line, and keeps the text of the answer. `false` if memory lacked for that text.
+    pub(crate) fn ask(&mut self, line: &[u8]) -> bool
+        ensures { TellsLine self.old.replica line.now result self.new.replica self.new.text.items }
+    {
+        match read_ask(self.alloc, line) {
+            Ok(Ask::Act(command)) => self.act(command),
+            Ok(Ask::Read(query)) => self.look(query),
+            Err(cause) => self.tell(Reply::Refused(cause)),
+        }
+    }
+
+    fn act(&mut self, command: Command) -> bool
+        ensures { (reply : Reply) × Event self.old.replica command reply self.new.replica
+            × IsTold result (reply_line (Answered reply) ++ own_of (Act command) reply self.new.replica.log)
+            self.new.text.items }
+    {
+        match command {
+            Command::Change(place, mutation) => self.change(place, mutation),
+            Command::Deliver(op) => {
+                let reply = self.replica.act(Command::Deliver(op));
+                self.tell(reply)
+            }
+            Command::Forget(id) => {
+                let reply = self.replica.act(Command::Forget(id));
+                self.tell(reply)
+            }
+        }
+    }
+
+    // Room for the operation's line is made before the change.
+    fn change(&mut self, place: Place, mutation: Mutation) -> bool
+        ensures { (reply : Reply) × Event self.old.replica (command.Change place mutation) reply self.new.replica
+            × IsTold result (reply_line (Answered reply) ++ own_after reply self.new.replica.log) self.new.text.items }
+    {
+        let Ok(words) = JsonText::with_room(self.alloc, ROOM) else {
+            return self.tell(Reply::Refused(Refusal::NoMemory));
+        };
+        let reply = self.replica.act(Command::Change(place, mutation));
+        self.tell_change(reply, words)
+    }
+
+    fn tell_change(&mut self, reply: Reply, words: JsonText) -> bool
+        requires { words ≡ [] }
+        ensures replica { self.new.replica ≡ self.old.replica }
+        ensures told { IsTold result (reply_line (Answered reply) ++ own_after reply self.old.replica.log)
+            self.new.text.items }
+    {
+        let applied = applied_id(&reply);
+        if !self.tell(reply) {
+            return false;
+        }
+        match applied {
+            Some(id) => put_logged(words, self.replica.log(), id, &mut self.text).is_ok(),
+            None => true,
+        }
+    }
+
+    // Tells the answer to a command, or a refusal.
+    fn tell(&mut self, reply: Reply) -> bool
+        ensures replica { self.new.replica ≡ self.old.replica }
+        ensures told { IsTold result (reply_line (Answered reply)) self.new.text.items }
+    {
+        let mut text = mem::replace(&mut self.text, Vec::new(self.alloc));
+        text.clear();
+        let (text, is_told) = told(self.alloc, &LineReply::Answered(reply), text);
+        self.text = text;
+        is_told
+    }
+
+    // Tells the answer to a query, or out of memory in its place.
+    fn look(&mut self, query: Query) -> bool
+        ensures replica { self.new.replica ≡ self.old.replica }
+        ensures told { (reply : Reply) × MayAnswer self.old.replica 0 query reply
+            × IsTold result (reply_line (Answered reply)) self.new.text.items }
+    {
+        let reply = self.replica.read(0, query);
+        self.tell(reply) || self.tell(Reply::Refused(Refusal::NoMemory))
+    }
+}
+
+// The replica of this name whose log is what the lines write.
+fn restored(alloc: Global, name: ReplicaName, text: &[u8]) -> Result<Replica, Misfit>
+    ensures { MatchResult result (OpensAs name text.now) (IsUnfit (lines text.now)) }
+{
+    let mut operations = Vec::new(alloc);
+    match read_all(alloc, text, &mut operations) {
+        Ok(()) => Replica::restore(alloc, name, operations.as_slice()),
+        Err(cause) => Err(unread(alloc, name, operations.as_slice(), cause)),
+    }
+}
+
+// Whether it is for lack of memory.
+fn is_memory(cause: &Refusal) -> bool
+    ensures { result ≡ false → cause.now ≢ NoMemory }
+{
+    cause.number() == 22
+}
+
+// Why a text opens nothing, of which these operations stand before a line that writes none.
+fn unread(alloc: Global, name: ReplicaName, operations: &[Operation], cause: Refusal) -> Misfit
+    ensures { (all : List (List ℕ)) → (cause ≢ NoMemory → IsUnread all operations.now cause) → IsUnfit all result }
+{
+    if is_memory(&cause) {
+        return Misfit::NoMemory;
+    }
+    match checked(alloc, name, operations) {
+        Ok(()) => Misfit::At {
+            place: operations.len(),
+            cause,
+        },
+        Err(misfit) => misfit,
+    }
+}
+
+// Whether these operations make a log.
+fn checked(alloc: Global, name: ReplicaName, operations: &[Operation]) -> Result<(), Misfit>
+    ensures ok { OnOk result (IsGood operations.now) }
+    ensures err { IfErr result (IsMisfitOf operations.now) }
+{
+    match Replica::restore(alloc, name, operations) {
+        Ok(_) => Ok(()),
+        Err(misfit) => Err(misfit),
+    }
+}
+
+// Appends the operations that the lines write, up to the first line that writes none.
+fn read_all(alloc: Global, text: &[u8], operations: &mut Vec<Operation>) -> Result<(), Refusal>
+    requires empty { operations.old.items ≡ [] }
+    ensures ok { OnOk result (AreWritten (lines text.now) operations.new.items) }
+    ensures err { IfErr result (λ e. e ≢ Refusal.NoMemory → IsUnread (lines text.now) operations.new.items e) }
+{
+    let mut rest = text;
+    while !rest.is_empty() {
+        let (line, later) = cut(rest);
+        operations.push(read_operation(alloc, line)?)?;
+        rest = later;
+    }
+    Ok(())
+}
+
+// The first line of a text that isn't empty, and the text after it.
+fn cut(text: &[u8]) -> (&[u8], &[u8])
+    requires { 0 < length text.now }
+    ensures lines { lines text.now ≡ result.0.now ∷ lines result.1.now }
+    ensures shorter { length result.1.now < length text.now }
+{
+    match memchr(b'\n', text) {
+        Some(at) => (&text[..at], &text[at + 1..]),
+        None => (text, &text[text.len()..]),
+    }
+}

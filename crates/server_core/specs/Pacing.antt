@@ -1,0 +1,24 @@
+-- When the reply to a change may go out.
+use Rattle.std.specs.Prelude.{ℕ, ◌+◌, ◌≤◌, Option, Some, None, length, if◌then◌else◌}
+use Rattle.doc_rules.specs.Document.{Document}
+use Rattle.doc_words.specs.declared.reply.Reply.{Reply}
+use Rattle.locked_doc.specs.Locked.{says_logged}
+use Rattle.server_core.specs.declared.progress.Pace.{Pace}
+use Rattle.server_core.specs.declared.progress.Pace.TheVariants.{Behind, Durable}
+
+-- so many accepted operations of a document need not be in the file
+abbrev pub allowed : Pace → ℕ
+allowed (Behind most) = most
+allowed Durable = 0
+
+-- The reply to a change at this place of the log may go out, where the file has so many of the
+-- document's operations; or nothing copies.
+abbrev pub MayGo : Pace → Option ℕ → ℕ → Type 0
+MayGo pace (Some stored) place = place ≤ stored + allowed pace
+MayGo (Behind most) None place = Unit {0}
+MayGo Durable None place = ⊥
+
+-- How many of the document's operations the file must have before this reply is durable: all that
+-- are logged, where it says of an operation that it is logged; else none.
+abbrev pub owed_place : Reply → Document → ℕ
+owed_place reply d = if says_logged reply then length d.replica.log else 0

@@ -1,0 +1,135 @@
+//! Replies wait for the file.
+ghost use Rattle.std.specs.Prelude.{◌≡◌, ◌<◌, ◌||◌, false, length, is_err, IfOk};
+ghost use Rattle.std.specs.Io.{WritesAtMost};
+ghost use Rattle.std.specs.Io.KnownBytes.{WriteAppends};
+
+use crate::progress::Progress;
+use crate::signal::Signal;
+use line_feed::{DeviceFault, Sink};
+use std::alloc::{AllocError, Global};
+use std::sync::Wait;
+use std::sync::atomic::{AtomicU64, Ordering};
+
+/// What a session waits for before its next reply goes out: of each document, up to which place of
+/// its log the file must have it. The session's two halves share it: the documents owe, the sink
+/// settles.
+#[derive(Drop)]
+pub struct Debts {
+    places: Vec<AtomicU64>,
+}
+
+// That nothing is owed. Only `Debts::settle` makes one.
+#[derive(Drop)]
+struct Settled;
+
+impl Debts {
+    /// Of so many documents. It owes nothing.
+    pub fn new(alloc: Global, documents: usize) -> Result<Debts, AllocError> {
+        let mut places = Vec::new(alloc);
+        for _ in 0..documents {
+            places.push(AtomicU64::new(0))?;
+        }
+        Ok(Debts { places })
+    }
+
+    /// Of no documents: it never owes anything. It takes no memory.
+    pub fn none(alloc: Global) -> Debts {
+        Debts {
+            places: Vec::new(alloc),
+        }
+    }
+
+    /// The file must have the document of this number up to this place. 0 changes nothing.
+    pub fn owe(&self, document: usize, place: u64) {
+        if place > 0 {
+            if let Some(owed) = self.places.get(document) {
+                owed.store(place, Ordering::SeqCst);
+            }
+        }
+    }
+
+    // Waits until the replies to all changes may go out, and then owes nothing. None where they
+    // never may.
+    fn settle<R: Wait>(&self, rt: &R, signal: &Signal, progress: &Progress) -> Option<Settled> {
+        for document in 0..self.places.len() {
+            let place = self.places[document].swap(0, Ordering::SeqCst);
+            if place > 0 && !progress.wait_for(rt, signal, document, place) {
+                return None;
+            }
+        }
+        Some(Settled)
+    }
+}
+
+/// A sink over a device: it writes nothing before the replies to all changes of its session may go
+/// out. Where they never may, it fails, and its device gets nothing.
+#[derive(Drop)]
+pub struct Settling<'a, R, W> {
+    rt: &'a R,
+    signal: &'a Signal,
+    progress: &'a Progress,
+    debts: &'a Debts,
+    device: W,
+    failed: bool,
+}
+
+impl<'a, R: Wait, W: Sink> Settling<'a, R, W> {
+    /// A sink over the device, for the session that owes this.
+    pub fn new(
+        rt: &'a R,
+        signal: &'a Signal,
+        progress: &'a Progress,
+        debts: &'a Debts,
+        device: W,
+    ) -> Settling<'a, R, W>
+        ensures device { result.device ≡ device }
+        ensures works { result.failed ≡ false }
+    {
+        Settling {
+            rt,
+            signal,
+            progress,
+            debts,
+            device,
+            failed: false,
+        }
+    }
+}
+
+// Has the device take a prefix of the bytes, where nothing is owed.
+fn send<W: Sink>(device: &mut W, _settled: Settled, bytes: &[u8]) -> Result<usize, DeviceFault>
+    requires works { W.has_failed device.old ≡ false }
+    requires some { 0 < length bytes.now }
+    ensures at_least { IfOk result (λ n. 0 < n) }
+    ensures bound { WritesAtMost result bytes.now }
+    ensures bytes { WriteAppends (W.contents device.old) (W.contents device.new) result bytes.now }
+    ensures failed { W.has_failed device.new ≡ is_err result }
+{
+    device.write_some(bytes)
+}
+
+impl<R: Wait, W: Sink> Sink for Settling<'_, R, W> {
+    ghost contents = { λ s. W.contents s.device };
+
+    ghost has_failed = { λ s. s.failed || W.has_failed s.device };
+
+    ghost kept = { λ s. W.kept s.device };
+
+    fn write_some(&mut self, bytes: &[u8]) -> Result<usize, DeviceFault> {
+        match self.debts.settle(self.rt, self.signal, self.progress) {
+            Some(settled) => send(&mut self.device, settled, bytes),
+            None => {
+                self.failed = true;
+                Err(DeviceFault)
+            }
+        }
+    }
+
+    fn flush(&mut self) -> Result<(), DeviceFault> {
+        self.device.flush()
+    }
+
+    fn failed(&self) -> bool {
+        self.failed || Sink::failed(&self.device)
+    }
+}

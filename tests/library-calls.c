@@ -1,0 +1,116 @@
+/* Calls of the library that go wrong: each allocation of a session refused in turn, handles that own nothing or something already, rooms
+   that are too small, and lines that don't fit. Prints one line, or what went wrong, with status 1. */
+
+#include "jcrdt.h"
+#include <stdio.h>
+#include <stdlib.h>
+#include <string.h>
+
+static size_t left; /* so many allocations from now one is refused; 0: none is */
+
+static int refused(void) { return left && --left == 0; }
+
+/* What the library calls, in place of its own three over malloc. */
+typedef struct { size_t ok; void *at; } answer;
+
+answer rattle_alloc(size_t size, size_t align) {
+  void *at = refused() ? NULL : malloc(size ? size : align);
+  return (answer){at != NULL, at ? at : (void *)16};
+}
+
+answer rattle_realloc(void *old, size_t was, size_t size, size_t align) {
+  (void)was;
+  void *at = refused() ? NULL : realloc(old, size ? size : align);
+  return (answer){at != NULL, at ? at : (void *)16};
+}
+
+void rattle_dealloc(void *at) { free(at); }
+
+static const char *requests[] = {
+  "[\"assign\",[0,\"l\"],[]]", "[\"insert\",[0,\"l\",0],\"a text that has no room in a scalar by itself\"]",
+  "[\"insert\",[0,\"l\",1],{}]", "[\"assign\",[0,\"l\",2,\"a key that has no room in place of its own\"],9]",
+  "[\"deliver\",[\"op\",[1,\"bob\"],[],[[[\"m\",0]],\"b\"],[\"add\",5]]]",
+  "[\"deliver\",[\"op\",[9,\"eve\"],[[\"eve\",8]],[[[\"m\",0]],\"b\"],[\"add\",5]]]",
+  "[\"show\",[0]]", "[\"cursor\",[0,\"l\",1]]", "[\"items\",[0,\"l\"]]", "[\"conflicts\",[0,\"b\"]]", "[\"sum\",[0,\"b\"]]",
+  "[\"ops\",[],64]", "[\"front\"]", "[\"held\"]", "[\"forget\",[9,\"eve\"]]", "[\"delete\",[0,\"l\",1]]", "[\"keys\",[0]]",
+};
+enum { REQUESTS = sizeof requests / sizeof *requests, ROOM = 1 << 16 };
+static char due[REQUESTS][ROOM], text[ROOM];
+
+static void stop(const char *why, const char *what) {
+  printf("%s: %s\n", why, what);
+  exit(1);
+}
+
+static size_t ask(jcrdt *replica, const char *request, char *out) {
+  size_t length = jcrdt_ask(replica, request, strlen(request), out, ROOM - 1);
+  if (length >= ROOM) stop("too long", request);
+  out[length] = 0;
+  return length;
+}
+
+/* The session with the n-th allocation refused. Returns whether one was. A request that is refused for it is asked again, and then it
+   must answer what it does with ample memory: nothing was changed. */
+static int session(size_t n) {
+  jcrdt replica = JCRDT_CLOSED;
+  jcrdt_fault fault = {0, 0, 0};
+  const char *lines = "[\"op\",[1,\"ada\"],[],[[[\"m\",0]],\"t\"],[\"assign\",\"Plan\"]]\n";
+  left = n;
+  if (jcrdt_open(&replica, "ada", 3, lines, strlen(lines), &fault) != 0) {
+    if (fault.number != 22 || replica.is_open) stop("opened", "neither 0 nor 22");
+    if (jcrdt_open(&replica, "ada", 3, lines, strlen(lines), &fault) != 0) stop("opened", "not the second time");
+  }
+  for (int at = 0; at < REQUESTS; at++) {
+    if (!ask(&replica, requests[at], text)) stop("no text", requests[at]);
+    if (strcmp(text, "[\"no\",22,\"no-memory\"]\n") == 0) ask(&replica, requests[at], text);
+    if (n == 0) strcpy(due[at], text);
+    else if (strcmp(text, due[at]) != 0) stop(requests[at], text);
+  }
+  jcrdt_close(&replica);
+  int was_refused = n != 0 && left == 0;
+  left = 0;
+  return was_refused;
+}
+
+static void opens(const char *name, const char *lines, uint64_t number, uint64_t last, uint64_t place) {
+  jcrdt replica = JCRDT_CLOSED;
+  jcrdt_fault fault = {0, 0, 0};
+  uint64_t found = jcrdt_open(&replica, name, strlen(name), lines, strlen(lines), &fault);
+  int is_right = found == number && (number == 0 || (fault.number == number && fault.last == last && fault.place == place));
+  if (!is_right || replica.is_open != (number == 0)) stop("opened otherwise", lines);
+  jcrdt_close(&replica);
+}
+
+int main(void) {
+  size_t n = 0;
+  while (session(n) || n == 0) n++;
+
+  /* names, and the first line that doesn't fit */
+  opens("Ada", "", 2, 0, 0);
+  opens("", "", 2, 0, 0);
+#define OP(id, front, what) "[\"op\"," id "," front ",[[[\"m\",0]],\"a\"]," what "]\n"
+#define FIRST OP("[1,\"p\"]", "[]", "[\"delete\"]")
+  opens("ada", FIRST "[\"op\"", 1, 0, 1);
+  opens("ada", FIRST "\n", 1, 0, 1);
+  opens("ada", FIRST "[]\n", 12, 0, 1);
+  opens("ada", FIRST FIRST, 15, 0, 1);
+  opens("ada", OP("[2,\"p\"]", "[[\"p\",1]]", "[\"delete\"]") FIRST, 13, 0, 0);
+  opens("ada", FIRST OP("[2,\"p\"]", "[[\"p\",1]]", "[\"delete\"]") OP("[2,\"p\"]", "[[\"p\",1]]", "[\"add\",1]"), 15, 0, 2);
+  opens("ada", FIRST OP("[2,\"p\"]", "[[\"p\",1]]", "[\"delete\"]") OP("[1,\"q\"]", "[]", "[\"delete\"]") "[\"op\",[2,\"q\"],[[\"p\",1]],[[],0],[\"delete\"]]", 14, 1, 3);
+  opens("ada", FIRST OP("[2,\"p\"]", "[[\"p\",1]]", "[\"delete\"]"), 0, 0, 0);
+
+  /* a handle that owns none, one that owns one, and rooms that are too small */
+  jcrdt none = JCRDT_CLOSED, replica = JCRDT_CLOSED;
+  jcrdt_fault fault = {7, 7, 7};
+  jcrdt_close(&none);
+  if (jcrdt_ask(&none, "[\"front\"]", 9, text, ROOM) != 0 || jcrdt_again(&none, text, ROOM) != 0) stop("a closed handle", "answers");
+  jcrdt_open(&replica, "ada", 3, "", 0, &fault);
+  if (jcrdt_open(&replica, "ada", 3, "", 0, &fault) != 2 || fault.number != 7 || !replica.is_open) stop("a second open", "isn't 2");
+  size_t whole = jcrdt_ask(&replica, "[\"assign\",[0,\"a\"],1]", 20, text, 3);
+  if (whole != 75 || memcmp(text, "[\"a", 3) != 0) stop("a small room", text);
+  if (jcrdt_again(&replica, text, ROOM) != whole || memcmp(text + whole - 2, "]\n", 2) != 0) stop("again", text);
+  jcrdt_close(&replica);
+  jcrdt_close(&replica);
+  printf("the library answers alike with each of %zu allocations refused, and misuse as its header says\n", n - 1);
+  return 0;
+}
