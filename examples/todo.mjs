@@ -34,7 +34,7 @@ try {
   await exchange();
   if (isNumbered && textsOf(todo).length === 0) throw new Error("another has deleted it");
   commands[word](todo);
-  await exchange();
+  if (provider.state.word === "online") await exchange(); // else it was waited for just now
 } catch (error) {
   say(error.message);
   process.exitCode = 1;

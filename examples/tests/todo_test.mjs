@@ -1,6 +1,6 @@
 /* The todo list, by two people, also offline. run: examples/tests/todo PROGRAM */
 
-import { deepEqual, equal, match } from "node:assert/strict";
+import { deepEqual, equal, match, ok } from "node:assert/strict";
 import { spawnSync } from "node:child_process";
 import test from "node:test";
 import { fileURLToPath } from "node:url";
@@ -32,6 +32,8 @@ test("todos: by two people, also offline", async () => {
   deepEqual(todo(bob, address, "done", "1"),
     { text: "", errors: "todo: another has deleted it\n", status: 1 });
   equal(todo(bob, "done", "7").status, 1);
-  match(todo(bob, "127.0.0.1:1", "add", "offline").errors, /^todo: not exchanged: /);
+  const begin = performance.now();
+  match(todo(bob, "127.0.0.1:1", "add", "offline").errors, /^todo: not exchanged: .*\n$/);
+  ok(performance.now() - begin < 9000, "a server that is away is waited for once: 5 s");
   equal(todo(bob, address).text, "1 [ ] offline\n");
 });
