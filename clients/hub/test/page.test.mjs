@@ -12,6 +12,7 @@ import node from "node:test";
 import { networkInterfaces } from "node:os";
 import { Browser, missing, pause, until } from "../../js/test/chromium.mjs";
 import { end, room, startHub, startServer } from "../../js/test/serving.mjs";
+import { Provider } from "../../js/provider.mjs";
 import { connected } from "../../js/session.mjs";
 
 const SHOTS = process.env.SHOTS;
@@ -612,6 +613,30 @@ test("a browser that is killed: what was edited is there", async () => {
     deepEqual(await again.textOf(".notice"), ["", "", ""]);
   } finally {
     await second.close();
+  }
+});
+
+test("replicas of others that have one word for a name are told apart", async () => {
+  const { server, tab, document } = await page();
+  await setTitle(tab, "ada", "of this page");
+  const others = await Promise.all(["ada", "ada", "replica", "replica"].map((word) =>
+    Provider.open({ document, at: server.address, word })));
+  try {
+    await Promise.all(others.map((other) => other.synced(60)));
+    for (const { replica } of others) replica.assign([0, "title"], "of another");
+    await Promise.all(others.map((other) => other.synced(60)));
+    const labels = () => tab.textOf("#server-front .name");
+    await until("all are there", async () => (await labels()).length === 5);
+    const shown = (await labels()).map((label) => label.replace(/ \d+$/, ""));
+    equal(new Set(shown).size, 5, shown.join(", "));
+    // The side of this page has its own name and colour, and nobody else has.
+    deepEqual(shown.filter((label) => !/^(ada|replica)·[a-z2-7]{3,}$/.test(label)), ["ada"]);
+    deepEqual(await tab.textOf("#server-front .name.ada"), ["ada 1"]);
+    await same(tab, "in the fields, too", ".field .choice .name");
+    const choices = await tab.textOf("#ada .field .choice .name");
+    equal(new Set(choices).size, choices.length, choices.join(", "));
+  } finally {
+    await Promise.all(others.map((other) => other.close()));
   }
 });
 

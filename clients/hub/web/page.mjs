@@ -5,7 +5,7 @@ import { paced } from "../js/pace.mjs";
 import { Provider, memoryStore } from "../js/provider.mjs";
 import { parse } from "../js/wire.mjs";
 import { Panel } from "./panel.mjs";
-import { ask, describe, element, find, save, showFront } from "./parts.mjs";
+import { ask, describe, element, find, nameSide, save, showFront } from "./parts.mjs";
 import { engine, keepCopies } from "./engine.mjs";
 
 const DOCUMENT = new URLSearchParams(location.search).get("doc") ?? "page";
@@ -65,6 +65,7 @@ async function providerOf(side) {
     document: DOCUMENT,
     at: LINES,
     word: side,
+    isOnline: false,
     engine: ENGINE.open,
     onReply: (/** @type {string} */ line, /** @type {string} */ reply) =>
       showExchange(side, line, reply),
@@ -117,6 +118,11 @@ async function begin() {
   for (const side of SIDES) {
     const provider = await providerOf(side);
     providers.push(provider);
+    nameSide(side, provider.replica.name);
+  }
+  for (const [at, provider] of providers.entries()) {
+    provider.goOnline(); // both have their names by now
+    const side = SIDES[at];
     const root = find(document, `#${side}`);
     root.append(new Panel(side, provider).root);
     provider.listen(({ what }) => {

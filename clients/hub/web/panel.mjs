@@ -4,7 +4,9 @@ import { paced } from "../js/pace.mjs";
 import { bindText } from "../js/text_field.mjs";
 import { parse } from "../js/wire.mjs";
 import { ValueField } from "./value_field.mjs";
-import { ask, describe, element, find, findField, save, showFront, wordsOf } from "./parts.mjs";
+import {
+  ask, describe, element, find, findField, nameSide, save, showFront, wordsOf,
+} from "./parts.mjs";
 
 /** @typedef {import("../js/provider.mjs").Provider} Provider */
 
@@ -127,6 +129,7 @@ export class Panel {
     if (what === "problem") this.#showProblems();
     if (what !== "changed") return;
     if (why === "remade") [this.#log, this.#count] = [[], 0];
+    if (why === "remade") nameSide(this.#side, this.#provider.replica.name);
     const [, ...all] = why === "remade" ? this.#provider.replica.lines() : ["", ...lines];
     this.#addToLog(all);
     if (why === "remade") this.#name();

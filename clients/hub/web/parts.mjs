@@ -32,14 +32,43 @@ export function findField(root, selector) {
   return /** @type {HTMLInputElement} */ (find(root, selector));
 }
 
-/** A replica's name without what makes it unique; the tooltip has all of it.
+/** What the names of replicas are shown as: no two alike.
+ *  @type {Map<string, string>} */
+const labels = new Map();
+/** The sides of this page, by the names of their replicas.
+ *  @type {Map<string, string>} */
+const sides = new Map();
+
+/** A side of this page is this replica from now on: it is shown as `ada`, in the side's colour.
+ *  @param {string} side
  *  @param {string} name */
-const shortName = (name) => name.replace(/-[a-z2-7]{10}$/, "");
+export function nameSide(side, name) {
+  for (const [old] of [...sides].filter(([, it]) => it === side)) {
+    sides.delete(old);
+    labels.delete(old);
+  }
+  sides.set(name, side);
+  labels.set(name, side);
+}
+
+/** A replica's name as it is shown: that of another browser as `ada·x7k`, with as much of what makes
+ *  it unique as tells it from those that were shown before.
+ *  @param {string} name */
+function shortName(name) {
+  const known = labels.get(name);
+  if (known) return known;
+  const [, word = "", unique = ""] = /^(.+)-([a-z2-7]{10})$/.exec(name) ?? [];
+  const taken = new Set(labels.values());
+  const parts = Array.from(unique, (_, at) => `${word}·${unique.slice(0, at + 1)}`).slice(2);
+  const label = [...parts, name].find((it) => !taken.has(it)) ?? `“${name}”`;
+  labels.set(name, label);
+  return label;
+}
 
 /** @param {string} name
  *  @param {string} text */
 function nameOf(name, text) {
-  const made = element("span", `name ${shortName(name)}`, text);
+  const made = element("span", `name ${sides.get(name) ?? ""}`.trim(), text);
   made.title = name;
   return made;
 }
