@@ -9,10 +9,10 @@ import { FOLDER, MODULE, MOST } from "./jcrdt.mjs";
 import { admitted, hasRoom, listening, MOST_CLIENTS, serve } from "./serve.mjs";
 
 /** @typedef {import("./state.mjs").State} State */
-/** @typedef {import("ws").WebSocket & { isAlive?: boolean }} Socket */
+/** @typedef {import("ws").WebSocket & { silence?: number }} Socket */
 
 const HALF_SENT_MS = 10_000; // so long a request may take to be sent
-const PING_MS = 10_000; // who hasn't answered the ping before is dropped
+const PING_SECONDS = 10; // who is silent for so long is asked for a sign of life
 const MOST_MESSAGE = 2 ** 20; // bytes; longer ones end the connection without a reply
 const SPARE = 100; // connections for monitors, beside those of clients
 
@@ -58,8 +58,8 @@ export async function openWeb(hub, address, origins) {
       sockets.handleUpgrade(request, socket, head, (ws) => welcome(hub, ws, rights));
     }, () => socket.destroy());
   });
-  const every = Math.min(PING_MS, hub.patience);
-  const timer = setInterval(() => sockets.clients.forEach(pingOrDrop), every);
+  const patience = hub.patience / 1000;
+  const timer = setInterval(() => sockets.clients.forEach((ws) => pingOrDrop(ws, patience)), 1000);
   server.on("close", () => clearInterval(timer));
   return { server, at, end: () => sockets.clients.forEach((ws) => ws.terminate()) };
 }
@@ -98,8 +98,7 @@ function welcome(hub, ws, rights) {
     hub.guests.web.delete(guest);
     guest.leave();
   });
-  ws.on("pong", () => (ws.isAlive = true));
-  ws.isAlive = true;
+  ws.on("pong", () => (ws.silence = 0));
   // A message is a line: a text. Bytes are none.
   serve(hub, guest, stream, {
     take: (data) => [typeof data === "string" ? data : "bytes"],
@@ -107,11 +106,16 @@ function welcome(hub, ws, rights) {
   });
 }
 
-/** @param {Socket} ws */
-function pingOrDrop(ws) {
-  if (!ws.isAlive) return ws.terminate();
-  ws.isAlive = false;
-  ws.ping();
+/** Pings who is silent, and drops who doesn't answer for as many seconds as the hub is patient. They
+ *  are counted, not taken from a clock: none pass while this process stands still, or while the hub
+ *  doesn't read, since the answer would wait as well. Is called each second.
+ *  @param {Socket} ws @param {number} patience */
+function pingOrDrop(ws, patience) {
+  if (ws.isPaused) return;
+  const pingAt = Math.min(PING_SECONDS, patience);
+  ws.silence = (ws.silence ?? 0) + 1;
+  if (ws.silence === pingAt) ws.ping();
+  if (ws.silence > pingAt + patience) ws.terminate();
 }
 
 /** Answers a request: health, metrics, and the files of the page, below any path.

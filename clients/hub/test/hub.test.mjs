@@ -23,7 +23,7 @@ const status = (method, url) => new Promise((resolve, failed) => {
 suite("the hub", { concurrency: false }, () => {
   before(async () => {
     server = await startServer(DOCUMENTS);
-    hub = await startHub(server.address, "--patience", "2", "--poll", "50");
+    hub = await startHub(server.address, "--poll", "50");
   });
 
   test("requests are answered as by the server", async () => {
@@ -185,15 +185,18 @@ suite("the hub", { concurrency: false }, () => {
   });
 
   test("who doesn't read is dropped", async () => {
+    // The others aren't before this one: on a busy machine a client of theirs is held up for longer.
+    const hasty = await startHub(server.address, "--patience", "2");
     const ada = await join("d");
     for (let at = 0; at < 20; at++) await ada.insert("d", [0, "long", 0], "x".repeat(4000));
-    const deaf = net.connect({ port: Number(hub.lines.split(":")[1]), host: "127.0.0.1" });
+    const deaf = net.connect({ port: Number(hasty.lines.split(":")[1]), host: "127.0.0.1" });
     const closed = new Promise((close) => deaf.on("error", () => {}).on("close", close));
     deaf.write('["open","d"]\n');
     const asking = setInterval(() => deaf.write('["show","d",[0,"long"]]\n'.repeat(100)), 5);
     await within(20, "it is dropped", closed);
     clearInterval(asking);
-    equal(await ada.version(), 2);
+    equal(await (await joinLines(hasty.lines)).version(), 2);
+    await kill(hasty.child);
     ada.end();
   });
 

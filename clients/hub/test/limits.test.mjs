@@ -106,6 +106,38 @@ suite("limits", { concurrency: false }, () => {
     ada.end();
   });
 
+  test("a client that is held up, or whose requests wait, isn't dropped before its time", async () => {
+    const server = await startServer(["d"]);
+    const [hub, hasty] = await Promise.all([
+      startHub(server.address), startHub(server.address, "--patience", "3")]);
+    const opened = async ({ page }) => {
+      const web = new (webSockets().WebSocket)(`${page.replace("http", "ws")}lines`);
+      atEnd(() => web.terminate());
+      await new Promise((open) => web.on("open", open));
+      web.replies = 0;
+      web.on("message", () => web.replies++);
+      web.send('["version"]');
+      await until("it is answered", () => web.replies === 1);
+      return web;
+    };
+    const [held, asking, gone] = [await opened(hub), await opened(hasty), await opened(hasty)];
+    held._socket.pause(); // as a program that does something else for 22 s
+    gone._socket.pause();
+    process.kill(server.child.pid, "SIGSTOP");
+    for (let at = 0; at < 40; at++) asking.send('["open","d"]'); // more than the hub reads ahead
+    await pause(7000);
+    process.kill(server.child.pid, "SIGCONT");
+    await until("all is answered", () => asking.replies === 41 || asking.readyState !== 1);
+    equal(asking.replies, 41);
+    await pause(15_000);
+    held._socket.resume();
+    held.send('["version"]');
+    await until("it is answered", () => held.replies === 2 || held.readyState !== 1);
+    equal(held.replies, 2);
+    gone._socket.resume();
+    await until("who was silent for long is dropped", () => gone.readyState === 3);
+  });
+
   test("who sends nothing doesn't keep others out", async () => {
     const server = await startServer(["d"]);
     const hub = await startHub(server.address, "--patience", "2", "--idle", "4");

@@ -152,7 +152,8 @@ export async function joinWeb(page, options, path = "lines") {
       super(url, options);
     }
   };
-  const client = await connectedToHub(`${page.replace("http", "ws")}${path}`, Browser, { seconds: 120 });
+  const url = `${page.replace("http", "ws")}${path}`;
+  const client = await connectedToHub(url, Browser, { seconds: 120, connectSeconds: 60 });
   atEnd(() => client.end());
   return client;
 }
