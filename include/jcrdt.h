@@ -33,6 +33,19 @@
        return 0;
      }
 
+   What to store is the log: in its order, each operation's line once, on disk before it is sent. It
+   grows by these lines:
+
+     the reply                      what was logged
+     ["applied",1,..] to a change   the second line of the answer
+     ["applied",1,..] to a deliver  the operation that was delivered
+     ["applied",N,..], N above 1    besides, N - 1 operations that were held: ["ops",FRONT,64] has them,
+                                    with the front from before
+     any other                      nothing
+
+   An operation is held if it comes before one that its maker had seen. Who delivers another log in
+   its order has none held. examples/trip.c is a program with files that does all this.
+
    A request is JSON: within a text a quote is \" and a backslash \\, and no character below 32 stands
    in it as it is.
 

@@ -37,6 +37,8 @@ import { open as openByHand } from "./rules.mjs";
 
 /** A module that has nothing but a memory of 64 bits. */
 const SMALLEST = new Uint8Array([0, 97, 115, 109, 1, 0, 0, 0, 5, 3, 1, 4, 1]);
+const HINT = typeof process === "object" && /^2[0-3]\./.test(process.versions?.node) ?
+  " (node --experimental-wasm-memory64 has them)" : "";
 const HANDLE = 16; // bytes of a handle
 const FAULT = 24; // bytes of a fault: three numbers
 const ROOM = 65_536; // bytes, at first, for a line and for a text
@@ -54,7 +56,7 @@ export const hasMemory64 = () =>
 export async function load(options = {}) {
   const { module, say = console.warn } = options;
   if (!hasMemory64()) {
-    say("jcrdt: no WebAssembly memories of 64 bits here, so rules.mjs serves in place of jcrdt.wasm");
+    say(`jcrdt: no WebAssembly memories of 64 bits here${HINT}, so rules.mjs serves in place of jcrdt.wasm`);
     return openByHand;
   }
   return opener(module ? await compiled(module) : await found());

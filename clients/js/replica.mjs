@@ -24,7 +24,7 @@ import { remakeIn } from "./renewal.mjs";
 import { open } from "./rules.mjs";
 import {
   Counter, MOST, Refused, bare, checkValue, checkedInteger, frontPairs, isArray,
-  isGiven, isId, isMap, isName, parse, pieces, print, refusalOf,
+  isGiven, isId, isMap, isName, parse, pieces, plain, print, refusalOf,
 } from "./wire.mjs";
 
 /** @typedef {import("./events.mjs").Changed} Changed */
@@ -378,10 +378,13 @@ export class Replica {
 
   // ---- Readings: what a server answers. Refused as there.
 
-  /** `plain` of wire.mjs makes a plain value of it.
-   *  @param {Cursor} cursor
+  /** @param {Cursor} cursor
    *  @returns {any[][]} */
   show(cursor) { return this.#read("show", this.#request(cursor)); }
+  /** What `show` gives as a plain value: see `plain` of wire.mjs.
+   *  @param {Cursor} cursor
+   *  @returns {any} */
+  plain(cursor) { return plain(this.show(cursor)); }
   /** @param {Cursor} cursor @returns {string[]} */
   keys(cursor) { return this.#read("keys", this.#request(cursor)); }
   /** @param {Cursor} cursor @returns {Scalar[]} */

@@ -1,7 +1,8 @@
 """Builds the wheel of this package with the standard library alone, so that it needs no network and no other package.
 
 `pip install` and `pip wheel` call it (PEP 517). What it writes is said by pyproject.toml: name, version, description,
-Python and the extra redis. The same sources give the same bytes.
+Python and the extra redis. The same sources give the same bytes. On x86-64 Linux the wheel has libjcrdt.so, by which
+`jcrdt.replica` works, and is for such machines alone; elsewhere, and where there is no release, it is for all.
 """
 
 import base64
@@ -9,6 +10,7 @@ import hashlib
 import io
 import os
 import re
+import sysconfig
 import tarfile
 import zipfile
 from pathlib import Path
@@ -18,6 +20,8 @@ HERE = Path(__file__).resolve().parent
 PYPROJECT = (HERE / "pyproject.toml").read_text(encoding="utf-8")
 # The earliest time that a zip file can have.
 TIME = (1980, 1, 1, 0, 0, 0)
+# The library, in a checkout and in a source distribution.
+LIBRARIES = (HERE.parent.parent / "release" / "libjcrdt.so", HERE / "jcrdt" / "libjcrdt.so")
 
 
 def _said(key: str) -> str:
@@ -29,6 +33,7 @@ def _said(key: str) -> str:
 
 NAME, VERSION = _said("name"), _said("version")
 DIST_INFO = f"{NAME}-{VERSION}.dist-info"
+EVERYWHERE = "py3-none-any"
 
 
 def _metadata() -> str:
@@ -46,16 +51,23 @@ def _sources() -> List[Tuple[str, bytes]]:
     return [(f"{NAME}/{path.name}", path.read_bytes()) for path in paths]
 
 
-def _dist_info() -> List[Tuple[str, bytes]]:
+def _library() -> List[Tuple[str, bytes]]:
+    """The library as a file of the package, if it is here."""
+    return [(f"{NAME}/{path.name}", path.read_bytes()) for path in LIBRARIES if path.is_file()][:1]
+
+
+def _dist_info(tag: str) -> List[Tuple[str, bytes]]:
     scripts = re.findall(r'(?m)^([\w-]+) = "([\w.]+:\w+)"$', PYPROJECT)
-    texts = {"METADATA": _metadata(), "WHEEL": "Wheel-Version: 1.0\nGenerator: jcrdt\nRoot-Is-Purelib: true\nTag: py3-none-any\n",
-             "entry_points.txt": "[console_scripts]\n" + "".join(f"{name} = {target}\n" for name, target in scripts)}
+    wheel = f"Wheel-Version: 1.0\nGenerator: jcrdt\nRoot-Is-Purelib: {str(tag == EVERYWHERE).lower()}\nTag: {tag}\n"
+    texts = {"METADATA": _metadata(), "WHEEL": wheel, "entry_points.txt": "[console_scripts]\n" + "".join(f"{name} = {target}\n" for name, target in scripts)}
     return [(f"{DIST_INFO}/{name}", text.encode()) for name, text in texts.items()]
 
 
 def build_wheel(wheel_directory: str, config_settings: Optional[Dict[str, Any]] = None,
                 metadata_directory: Optional[str] = None) -> str:
-    name, files, record = f"{NAME}-{VERSION}-py3-none-any.whl", _sources() + _dist_info(), ""
+    library = _library() if sysconfig.get_platform() == "linux-x86_64" else []
+    tag = "py3-none-linux_x86_64" if library else EVERYWHERE
+    name, files, record = f"{NAME}-{VERSION}-{tag}.whl", _sources() + library + _dist_info(tag), ""
     for path, content in files:
         digest = base64.urlsafe_b64encode(hashlib.sha256(content).digest()).rstrip(b"=").decode()
         record += f"{path},sha256={digest},{len(content)}\n"
@@ -73,7 +85,7 @@ def build_sdist(sdist_directory: str, config_settings: Optional[Dict[str, Any]] 
     name = f"{NAME}-{VERSION}"
     kept = [(path, (HERE / path).read_bytes()) for path in ("pyproject.toml", "README.md", "build_backend.py")]
     with tarfile.open(os.path.join(sdist_directory, f"{name}.tar.gz"), "w:gz") as archive:
-        for path, content in [("PKG-INFO", _metadata().encode()), *kept, *_sources()]:
+        for path, content in [("PKG-INFO", _metadata().encode()), *kept, *_sources(), *_library()]:
             entry = tarfile.TarInfo(f"{name}/{path}")
             entry.size, entry.mode = len(content), 0o644
             archive.addfile(entry, io.BytesIO(content))

@@ -3,13 +3,16 @@
 
 import { deepEqual, equal, match } from "node:assert/strict";
 import { spawnSync } from "node:child_process";
-import { mkdirSync, readFileSync, readdirSync, writeFileSync } from "node:fs";
+import { existsSync, mkdirSync, readFileSync, readdirSync, writeFileSync } from "node:fs";
 import { join } from "node:path";
 import { test } from "node:test";
 import { fileURLToPath } from "node:url";
+import { hasMemory64 } from "../jcrdt.mjs";
 import { folder, startServer } from "./support.mjs";
 
 const PACKAGE = fileURLToPath(new URL("..", import.meta.url));
+const MODULE = new URL("../../../release/jcrdt.wasm", import.meta.url);
+const EMBEDDED = new URL("../../../docs/EMBEDDED.md", import.meta.url);
 const read = (/** @type {string} */ name) => readFileSync(join(PACKAGE, name), "utf8");
 
 /** @param {string} command
@@ -64,6 +67,16 @@ test("packed and installed in an empty folder", { skip: lacks("npm"), timeout: 2
   for (const part of Object.keys(exports).filter((it) => it !== "./package.json")) {
     const name = `jcrdt${part.slice(1)}`;
     run("node", ["-e", `import("${name}").then((it) => Object.keys(it).length || process.exit(1))`], room);
+  }
+  if (existsSync(MODULE)) {
+    const page = readFileSync(EMBEDDED, "utf8");
+    writeFileSync(join(room, "offline.mjs"), /```js\n([^]*?)```/.exec(page)?.[1] ?? "");
+    const due = /It prints `([^`]*)`/.exec(page)?.[1];
+    const words = hasMemory64() ? process.execArgv.filter((it) => it.includes("memory64")) : [];
+    for (let time = 0; time < 2; time++) { // the second time it has what the first one stored
+      const { status, stdout, stderr } = spawnSync("node", [...words, "offline.mjs"], { cwd: room, encoding: "utf8" });
+      deepEqual([status, stdout.trimEnd(), stderr.includes("rules.mjs")], [0, due, !hasMemory64()], stderr);
+    }
   }
   if (lacks("tsc")) return context.diagnostic("tsc isn't installed: the types weren't used");
   writeFileSync(join(room, "use.ts"), USE);

@@ -99,6 +99,7 @@ for (const [title, engine] of engines) {
     };
     me.put([0], { ...value, nothing: undefined });
     deepEqual(plain(me.show([0])), { ...value, votes: new Counter(3) });
+    deepEqual(me.plain([0]), plain(me.show([0])));
     me.put([0, "again"], plain(me.show([0])));
     deepEqual(plain(me.show([0, "again"])), value);
     me.put([0, "keys"], JSON.parse('{"__proto__":{"x":1},"constructor":2}'));

@@ -103,10 +103,13 @@ export class Replica {
      *  as 0: only a new assignment clears it. */
     undo(): boolean;
     redo(): boolean;
-    /** `plain` of wire.mjs makes a plain value of it.
-     *  @param {Cursor} cursor
+    /** @param {Cursor} cursor
      *  @returns {any[][]} */
     show(cursor: import("./wire.mjs").Cursor): any[][];
+    /** What `show` gives as a plain value: see `plain` of wire.mjs.
+     *  @param {Cursor} cursor
+     *  @returns {any} */
+    plain(cursor: import("./wire.mjs").Cursor): any;
     /** @param {Cursor} cursor @returns {string[]} */
     keys(cursor: import("./wire.mjs").Cursor): string[];
     /** @param {Cursor} cursor @returns {Scalar[]} */

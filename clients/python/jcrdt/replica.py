@@ -1,10 +1,10 @@
 """A replica in this process: the proved one, in libjcrdt.so, by ctypes alone.
 
-    me = Replica("ada-1", stored_operations)     # no server is needed
+    me = Replica("ada-1", stored_lines)          # no server is needed
     me.put([0, "title"], "Plan")
-    for line in me.made():                       # to be stored before they are sent
-        ...
+    store(me.logged())                           # append the lines, and flush: before they are sent
     me.sync(connected("127.0.0.1:7000"), "notes")
+    store(me.logged())                           # those that came
 
 The library is found by the environment's JCRDT_LIBRARY, beside this file, in a checkout's release/, or by the system's loader.
 """
@@ -41,6 +41,9 @@ class RefusedLine(Refused):
     def __init__(self, number: int, name: str, last_counter: Optional[int], place: int) -> None:
         super().__init__(number, name, last_counter)
         self.place = place
+
+    def __str__(self) -> str:
+        return f"{super().__str__()}: the stored line {self.place}, counted from 0, doesn't fit those before it"
 
 
 def library_paths() -> List[str]:
@@ -84,6 +87,7 @@ class Replica:
         self._lock = threading.Lock()
         self._made: List[str] = []
         self._open(name.encode(), "".join(f"{line}\n" for line in operations).encode())
+        self._listing, self._listed = threading.Lock(), self.front()
 
     def _open(self, name: bytes, lines: bytes) -> None:
         fault = _Fault()
@@ -138,8 +142,19 @@ class Replica:
             raise Refused(*reply[1:])
         return reply[1:]
 
+    def logged(self) -> List[str]:
+        """The lines of all operations that were logged since it was last called, or since the replica was opened: its own and
+        those of others, in log order. Append them to the stored lines before `sync`, and after it. Where that fails, `lines`
+        has all."""
+        with self._listing:
+            found = self.operations(self._listed)
+            for operation in found:
+                self._listed[operation[1][1]] = operation[1][0]
+        return [wire.encoded(operation).decode() for operation in found]
+
     def made(self) -> List[str]:
-        """The lines of the operations that were made here since it was last called: to be stored before they are sent."""
+        """The lines of the operations that were made here since it was last called. To be opened again, a replica needs those of
+        others too: `logged` has both."""
         lines, self._made = self._made, []
         return lines
 
@@ -236,8 +251,9 @@ class Replica:
         return int(reply[1]) if reply[0] == "applied" else 0
 
     def sync(self, client: Session, document: str) -> Tuple[int, int]:
-        """Exchanges operations with a server's document, both ways. Returns how many came and how many went. Store what `made` gives
-        before. Raises what `Session` raises; what was exchanged by then stays, and a later call goes on."""
+        """Exchanges operations with a server's document, both ways. Returns how many came and how many went. Store what `logged`
+        gives before: a replica that sent operations and lost them can't use its name again. Raises what `Session` raises; what was
+        exchanged by then stays, and a later call goes on."""
         client.open(document)
         front = client.front(document)
         came = sum(self.deliver(operation) for operation in client.operations(document, self.front()))

@@ -7,6 +7,7 @@ import re
 import shutil
 import subprocess
 import sys
+import sysconfig
 from pathlib import Path
 from typing import Callable, List
 
@@ -66,6 +67,46 @@ def test_the_wheel_in_an_empty_folder(tmp_path: Path) -> None:
         told = subprocess.run([sys.executable, "-m", "jcrdt", "--help"], env={**clean, **more, "PYTHONPATH": str(tmp_path / "site")},
                               stdout=subprocess.PIPE, check=True, cwd=tmp_path / "empty", timeout=SECONDS).stdout
         assert b"python3 -m jcrdt TOOL" in told
+
+
+OFFLINE = """
+from jcrdt.replica import Replica, library_paths
+import os
+with Replica("ada-1") as me:
+    me.put([0, "days"], [{"at": "Oslo"}])
+    lines = me.logged()
+with Replica("ada-1", lines) as again:
+    assert again.plain() == {"days": [{"at": "Oslo"}]}
+print(next(filter(os.path.isfile, library_paths())))
+"""
+
+
+def test_the_wheel_has_the_library(tmp_path: Path) -> None:
+    """Built in a checkout, and from the source distribution of one: installed, it opens a replica without a checkout and a server."""
+    library = TOP / "release" / "libjcrdt.so"
+    if sysconfig.get_platform() != "linux-x86_64" or not library.is_file():
+        pytest.skip("libjcrdt.so isn't here")
+    (tmp_path / "release").mkdir()
+    shutil.copy(library, tmp_path / "release")
+    source = tmp_path / "clients" / "python"
+    shutil.copytree(copied(tmp_path), source)
+    build = "import build_backend, sys; print(getattr(build_backend, sys.argv[1])(sys.argv[2]))"
+
+    def built(what: str, folder: Path) -> str:
+        run = subprocess.run([sys.executable, "-B", "-c", build, what, str(tmp_path)], cwd=folder, stdout=subprocess.PIPE, check=True, timeout=SECONDS)
+        return run.stdout.decode().strip()
+
+    archive, wheel = built("build_sdist", source), built("build_wheel", source)
+    assert wheel.endswith("-py3-none-linux_x86_64.whl")
+    content = (tmp_path / wheel).read_bytes()
+    shutil.unpack_archive(str(tmp_path / archive), str(tmp_path / "unpacked"))
+    assert built("build_wheel", tmp_path / "unpacked" / archive[:-len(".tar.gz")]) == wheel
+    assert (tmp_path / wheel).read_bytes() == content
+    shutil.unpack_archive(str(tmp_path / wheel), str(tmp_path / "site"), "zip")
+    clean = {name: value for name, value in os.environ.items() if name not in ("JCRDT_LIBRARY", "PYTHONPATH")}
+    run = subprocess.run([sys.executable, "-c", OFFLINE], env={**clean, "PYTHONPATH": str(tmp_path / "site")}, cwd=tmp_path,
+                         stdout=subprocess.PIPE, check=True, timeout=SECONDS)
+    assert run.stdout.decode().strip() == str(tmp_path / "site" / "jcrdt" / "libjcrdt.so")
 
 
 def other_pythons() -> List[str]:

@@ -57,6 +57,34 @@ def test_two_replicas_show_the_same(ada: Replica) -> None:
         assert ada.plain() == bob.plain() == {"t": jcrdt.Conflict([2**63 - 1, "b"])}
 
 
+def test_what_is_stored_after_an_exchange_opens_again(ada: Replica) -> None:
+    """Also where an operation waited for another, and one of one's own has seen both."""
+    stored = ada.logged()
+    assert stored == []
+    with Replica("bob-1") as bob:
+        bob.assign([0, "a"], 1)
+        bob.assign([0, "b"], 2)
+        first, second = bob.operations()
+    ada.assign([0, "own"], 0)
+    stored += ada.logged()
+    assert ada.deliver(second) == 0
+    assert ada.logged() == []
+    assert ada.deliver(first) == 2
+    ada.assign([0, "own"], 3)
+    stored += ada.logged()
+    assert ada.logged() == []
+    with Replica("ada-1", stored) as again:
+        assert again.plain() == ada.plain() == {"a": 1, "b": 2, "own": 3}
+        assert again.logged() == []
+        again.assign([0, "own"], 4)
+        assert again.logged() == again.made()
+
+
+def test_a_refused_line_is_named() -> None:
+    with pytest.raises(RefusedLine, match="^15 id-conflict: the stored line 1, counted from 0, doesn't fit"):
+        Replica("ada-1", [FIRST, FIRST])
+
+
 def test_what_is_refused_changes_nothing(ada: Replica) -> None:
     with pytest.raises(Refused) as refused:
         ada.delete([0, "l", 4])
