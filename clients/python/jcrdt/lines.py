@@ -13,7 +13,7 @@ import contextlib
 import os
 import sys
 import tempfile
-from typing import BinaryIO, Dict, Iterator, List, Sequence, Tuple
+from typing import BinaryIO, Iterator, List, Sequence, Tuple
 
 from . import wire
 from .session import Session, connected

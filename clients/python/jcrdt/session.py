@@ -14,13 +14,12 @@ and after an exception in the middle of a reply (Ctrl-C), the session can't be u
 request raises Lost. Threads may share a session: each request has its reply before the next is sent.
 """
 
-import contextlib
 import socket
 import threading
 import time
 from collections import deque
 from types import TracebackType
-from typing import Any, Callable, Deque, Dict, Iterable, Iterator, List, Optional, Sequence, Tuple, Type, Union
+from typing import Any, Deque, Dict, Iterable, Iterator, List, Optional, Sequence, Tuple, Type, Union
 
 from . import wire
 from .stream import Stream, lines_of

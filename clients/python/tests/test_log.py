@@ -10,14 +10,14 @@ import sys
 import threading
 import time
 from pathlib import Path
-from typing import Any, Callable, Iterator, List
+from typing import Callable, Iterator, List
 
 import pytest
 from conftest import PACKAGE, SECONDS, Server, tool
 
 import jcrdt
 from jcrdt import StoredLog, front_on_disk, log
-from jcrdt.wire import Front, covers, pairs_of
+from jcrdt.wire import Front
 
 Serve = Callable[..., Server]
 LISTED = """\

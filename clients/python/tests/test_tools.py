@@ -6,17 +6,16 @@ import json
 import os
 import pty
 import select
-import signal
 import socket
 import subprocess
 import sys
 import threading
 import time
 from pathlib import Path
-from typing import Any, Callable, Iterator, List, Optional
+from typing import Callable, Iterator, List
 
 import pytest
-from conftest import PACKAGE, PROGRAM, SECONDS, Server, tool
+from conftest import PACKAGE, SECONDS, Server, tool
 from test_session import answering
 
 import jcrdt

@@ -1,7 +1,6 @@
 """Writes of which none is lost, however often the server is killed, and what is on disk."""
 
 import contextlib
-import os
 import random
 import shutil
 import subprocess

@@ -2,7 +2,7 @@
 //! one for each session of several. One table of them all would take too long to prove.
 //!
 //! `tests/whole-program/rows` has the same rows for the built program:
-//! `tools/check-rows-once --write` makes them from these.
+//! `tools/check rows-once --write` makes them from these.
 use super::causes::CAUSES;
 use super::{Row, Run, give_all, run_of, writes};
 use crate::shopping::{SHOPPED, SHOPPING};

@@ -1,21 +1,18 @@
-#!/usr/bin/env python3
-"""Checks how README.md and docs/*.md are written: the length of pages, lines and table cells, links, and words not to be used.
-
-usage: tools/check-pages [PAGE..]     (default: README.md and each page of docs/)
+"""How README.md and docs/*.md are written: the length of pages, lines and table cells, links, and words not to be used.
 
 A line has at most 100 columns and a cell of a table at most 120 characters, both outside ``` blocks; a table's row has no limit
 of its own. A link to a file of the repository leads somewhere. The words are looked for outside code."""
 
+import argparse
 import glob
 import os
 import re
-import sys
+from typing import Dict, Iterator, List
 
-TOP = os.path.dirname(os.path.dirname(os.path.abspath(__file__)))
 COLUMNS, CELL = 100, 120
 
 # The most lines that a page may have; 0 for a reference, which has what it needs.
-LINES = {
+LINES: Dict[str, int] = {
     "README.md": 200,
     "docs/ARCHITECTURE.md": 170,
     "docs/CRATES.md": 140,
@@ -56,22 +53,22 @@ ALLOWED = [
 ]
 
 
-def blank(pattern, text):
+def blank(pattern: str, text: str) -> str:
     """The text with blanks in place of what the pattern finds, so that each line keeps its number."""
     return re.sub(pattern, lambda it: re.sub(r"[^\n]", " ", it[0]), text)
 
 
-def phrase(words):
+def phrase(words: str) -> str:
     return rf"(?i)\b(?:{words})\b".replace(" ", r"\s+")
 
 
-def cells(line):
+def cells(line: str) -> List[str]:
     return [it.strip() for it in re.split(r"(?<!\\)\|", line.strip().strip("|"))]
 
 
-def faults(page):
+def faults(top: str, page: str) -> Iterator[str]:
     """What is wrong with a page, as texts that begin with its name and a line's number."""
-    name = os.path.relpath(page, TOP)
+    name = os.path.relpath(page, top)
     with open(page, encoding="utf-8") as it:
         text = it.read()
     length = text.count("\n")
@@ -88,28 +85,23 @@ def faults(page):
             if "://" not in target and not os.path.exists(os.path.join(os.path.dirname(page), target)):
                 yield f"{at}: the link {target} leads nowhere"
     text = blank(r"`[^`]*`|\]\([^)]*\)", text)
-    for it in ALLOWED:
-        text = blank(phrase(it), text)
+    for allowed in ALLOWED:
+        text = blank(phrase(allowed), text)
     for words, wanted in WORDS:
         for found in re.finditer(phrase(words), text):
             yield f"{name}:{text.count(chr(10), 0, found.start()) + 1}: '{' '.join(found[0].split())}': write {wanted}"
 
 
-def main(pages):
+def check(words: argparse.Namespace) -> int:
     bad = 0
-    if not pages:
-        for name in LINES:
-            if not os.path.isfile(f"{TOP}/{name}"):
-                print(f"{name} is missing")
-                bad += 1
-        pages = [f"{TOP}/README.md", *sorted(glob.glob(f"{TOP}/docs/*.md"))]
-    for page in pages:
-        for fault in dict.fromkeys(faults(os.path.abspath(page))):
+    for name in LINES:
+        if not os.path.isfile(f"{words.top}/{name}"):
+            print(f"{name} is missing")
+            bad += 1
+    pages = [f"{words.top}/README.md", *sorted(glob.glob(f"{words.top}/docs/*.md"))]
+    for page in filter(os.path.isfile, pages):
+        for fault in dict.fromkeys(faults(words.top, page)):
             print(fault)
             bad += 1
     print(f"{len(pages)} pages, {bad} faults")
-    return 1 if bad else 0
-
-
-if __name__ == "__main__":
-    sys.exit(main(sys.argv[1:]))
+    return bad

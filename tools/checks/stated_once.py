@@ -1,23 +1,22 @@
-#!/usr/bin/env python3
-"""Checks that nothing is stated twice: lists lemmas of one statement in two places, and definitions in `specs/` that are one but for
-their names.
-
-usage: tools/check-stated-once [TOP]     (default: the repository that this file stands in)
+"""Nothing is stated twice: lists lemmas of one statement in two places, and definitions in specs/ that are one but for their names.
 
 Statements are compared as text, with bound names renamed, `suc n` as `n + 1`, and an equation at the end read either way, so two that
 are worded differently otherwise aren't found. What a function of the code has to meet (`goal.`) counts for nothing, and neither do
-definitions without parameters, as those of worked rows, and what stands within a module or a `where`."""
+definitions without parameters, as those of worked rows, and what is within a module or a `where`."""
 
+import argparse
 import collections
 import glob
 import os
 import re
-import sys
+from typing import Any, Dict, Iterable, List, Tuple
 
-HERE = os.path.dirname(os.path.dirname(os.path.abspath(__file__)))
+import antt
 
-# What may stand twice, each with the reason.
-ALLOWED = {
+Place = Tuple[str, str, str]
+
+# What may be there twice, each with the reason.
+ALLOWED: Dict[Tuple[str, ...], str] = {
     ("line_feed", "or_false", "replica_c", "neither"): "line_feed's isn't public",
     ("op_core", "tagged_from", "replica_c", "start_tagged"): "a key of a start may be a text of any length",
     ("op_core", "path_from", "replica_c", "start_path"): "as above",
@@ -27,45 +26,23 @@ ALLOWED = {
     ("copy_schema", "same_value", "doc_rules", "ok_same"): "no crate is below both",
 }
 
-HEAD = re.compile(r"(?:(?:abbrev|unfoldable|opaque|pub) )*([^\s:(){};]+) : (.*)$")
 RELATION = re.compile(r"≡|≢|≤|<|↔|⊥|\b(?:Is|Are|Has|Fits|Reads|On|If)[A-Z]?[a-z]*\b")
 
 
-def renamed(text, names):
+def renamed(text: str, names: Iterable[str]) -> str:
     """The text with each of these names replaced by its number; a field that is set keeps its name."""
     for at, name in enumerate(dict.fromkeys(names)):
         text = re.sub(rf"(?<![\w.'-]){re.escape(name)}(?![\w'-])(?! = )", f"#{at}", text)
     return text
 
 
-def bound(text):
+def bound(text: str) -> List[str]:
     """The names that a type or a term binds."""
     names = [name for words in re.findall(r"[({]([^(){}:]+?) : ", text) for name in words.split()]
     return names + [name for words in re.findall(r"λ ([^.]*)\.", text) for name in re.findall(r"[\w'-]+", words)]
 
 
-def statements(path):
-    """Each statement of a file at the left edge: its line, name, type and definition."""
-    with open(path, encoding="utf-8") as file:
-        lines = file.read().split("\n")
-    at = 0
-    while at < len(lines):
-        head = HEAD.match(lines[at])
-        begun = at
-        at += 1
-        if not head:
-            continue
-        told, body = head[2], []
-        while at < len(lines) and lines[at].startswith(" "):
-            told += " " + lines[at].strip()
-            at += 1
-        while at < len(lines) and lines[at].strip() and not HEAD.match(lines[at]) and not lines[at].startswith("--"):
-            body.append(lines[at].strip())
-            at += 1
-        yield begun + 1, head[1], told, body
-
-
-def meaning(name, told, body):
+def meaning(name: str, told: str, body: List[str]) -> Tuple[str, Tuple[str, ...]]:
     """A definition's type and clauses, without its own name and those of what it binds."""
     clauses = []
     for clause in body:
@@ -75,7 +52,7 @@ def meaning(name, told, body):
     return renamed(told, bound(told)), tuple(clauses)
 
 
-def statement(told):
+def statement(told: str) -> str:
     """A lemma's type with its names numbered, `suc n` as `n + 1`, and the sides of a last equation in one order."""
     text = re.sub(r"\bsuc (#\d+)", r"\1 + 1", renamed(told, bound(told)))
     *given, last = text.split(" → ")
@@ -85,12 +62,14 @@ def statement(told):
     return " → ".join([*given, last])
 
 
-def main(top):
-    lemmas, definitions = collections.defaultdict(list), collections.defaultdict(list)
-    for path in sorted(glob.glob(f"{top}/crates/*/specs/**/*.antt", recursive=True) + glob.glob(f"{top}/crates/*/proofs/**/*.antt", recursive=True)):
-        crate = os.path.relpath(path, f"{top}/crates").split(os.sep)[0]
-        for line, name, told, body in statements(path):
-            where = (crate, name, f"{os.path.relpath(path, top)}:{line}")
+def check(words: argparse.Namespace) -> int:
+    lemmas: Dict[Any, List[Place]] = collections.defaultdict(list)
+    definitions: Dict[Any, List[Place]] = collections.defaultdict(list)
+    files = [glob.glob(f"{words.top}/crates/*/{part}/**/*.antt", recursive=True) for part in ("specs", "proofs")]
+    for path in sorted(sum(files, [])):
+        crate = os.path.relpath(path, f"{words.top}/crates").split(os.sep)[0]
+        for line, name, told, body in antt.statements(antt.read(path)):
+            where = (crate, name, f"{os.path.relpath(path, words.top)}:{line}")
             if "/specs/" in path and body and "→" in told and not told.endswith("Type 0"):
                 definitions[meaning(name, told, body)].append(where)
             if "/proofs/" in path and not re.match(r"\w+\.", told) and RELATION.search(told) and len(told) > 25:
@@ -102,8 +81,4 @@ def main(top):
                 faults += 1
                 print(f"one {kind}: " + ", ".join(f"{name} ({where})" for _, name, where in places))
     print(f"{sum(map(len, lemmas.values()))} lemmas and {sum(map(len, definitions.values()))} definitions; {faults} stated twice")
-    return 1 if faults else 0
-
-
-if __name__ == "__main__":
-    sys.exit(main(os.path.realpath(sys.argv[1]) if len(sys.argv) > 1 else HERE))
+    return faults

@@ -1,95 +1,35 @@
-#!/usr/bin/env python3
-"""Checks the edits: each applies, and each of crates/*/must-fail names the clause that it breaks.
+"""Each edit applies, and each of crates/*/must-fail names the clause that it breaks. --refused FILE: it was refused there.
 
-usage: tools/check-edits [TOP]                (default: the repository that this file stands in)
-       tools/check-edits --refused FILE [TOP]
-
-Edits are those of crates/*/must-fail, tests/mutations and tests/refused-by-tests. An edit applies if each `old:` stands exactly
-once in its file, after the edit's earlier pairs. An edit of must-fail has, and others may have, a line `breaks: FUNCTION: CLAUSE`,
+Edits are those of crates/*/must-fail, tests/mutations and tests/refused-by-tests. An edit applies if each `old:` is exactly
+once in its file, after the edit's earlier changes. An edit of must-fail has, and others may have, a line `breaks: FUNCTION: CLAUSE`,
 or `breaks: FUNCTION` if that function's only clause has no name. `requires` is what the function asks of its callers. A list at the
 end has the edits of functions that neither `main` nor the embedded replica reaches.
 
 FILE has what `rt must-fail` or the gate printed. Then the edits are listed that another function or clause refused than they name,
-and those that were refused only because a proof file names what they took away. The status is 1 if there are any."""
+and those that were refused only because a proof file names what they removed."""
 
-import collections
-import glob
+import argparse
 import os
 import re
-import sys
+from typing import Iterator, List, Optional, Set, Tuple
 
-sys.dont_write_bytecode = True
 import crates
+import edits
 import rattle
+from edits import Edit
+from rattle import Function
 
-HERE = os.path.dirname(os.path.dirname(os.path.abspath(__file__)))
 ROOTS = ("jcrdt", "replica_c")
 
-Edit = collections.namedtuple("Edit", "path folder crate breaks pairs")
 
-
-def read_edit(path, crate):
-    """An edit: the crate that it changes, what it breaks, and its triples of file, old and new text."""
-    pairs, file, old, breaks = [], None, None, None
-    with open(path, encoding="utf-8") as it:
-        lines = it.read().split("\n")
-    for line in lines:
-        word, colon, text = line.partition(":")
-        text = text[1:] if text.startswith(" ") else text
-        if colon and word == "crate":
-            crate = text
-        elif colon and word == "breaks":
-            breaks = text
-        elif colon and word == "file":
-            file = text
-        elif colon and word == "old":
-            old = text
-        elif colon and word == "new":
-            pairs.append((file, old, text))
-    return Edit(path, f"crates/{crate}", crate, breaks, pairs)
-
-
-def read_edits(top):
-    """All edits, by their paths."""
-    found = [(it, it.split("/")[-3]) for it in glob.glob(f"{top}/crates/*/must-fail/*.edit")]
-    found += [(it, it.split("/")[-2]) for it in glob.glob(f"{top}/tests/mutations/*/*.edit")]
-    found += [(it, "replica_core") for it in glob.glob(f"{top}/tests/refused-by-tests/*.edit")]
-    return [read_edit(path, crate) for path, crate in sorted(found)]
-
-
-def applied(top, edit):
-    """The texts that the edit makes, by their files, and what keeps it from being applied."""
-    texts, faults = {}, []
-    if not edit.pairs:
-        faults.append("it changes nothing: there is no line new:")
-    for file, old, new in edit.pairs:
-        path = f"{top}/{edit.folder}/{file}"
-        if file not in texts:
-            if not os.path.isfile(path):
-                return texts, [*faults, f"there is no file {edit.folder}/{file}"]
-            with open(path, encoding="utf-8") as it:
-                texts[file] = it.read()
-        count = texts[file].count(old) if old else 0
-        if count != 1:
-            return texts, [*faults, f"in {edit.folder}/{file} its old text stands {count} times: {old}"]
-        if old == new:
-            faults.append(f"old and new text are one: {old}")
-        texts[file] = texts[file].replace(old, new)
-    return texts, faults
-
-
-def is_of_gate(edit):
-    return "/must-fail/" in edit.path
-
-
-def parts(breaks):
+def parts(breaks: str) -> Tuple[str, str, List[str]]:
     """The owner, the name and the clauses of a line `breaks:`."""
     function, _, clauses = breaks.partition(": ")
     owner, _, name = function.rpartition("::")
     return owner, name, [it for it in clauses.split(", ") if it]
 
 
-def names_no_clause(edit, functions):
+def names_no_clause(edit: Edit, functions: List[Function]) -> Optional[str]:
     """What is wrong with the edit's line `breaks:`, or nothing."""
     if not edit.breaks:
         return "it has no line breaks:"
@@ -104,9 +44,9 @@ def names_no_clause(edit, functions):
     return f"{edit.breaks.partition(': ')[0]} ensures no clause {wrong[0] or 'without a name'}" if wrong else None
 
 
-def changed_function(top, edit, functions):
+def changed_function(top: str, edit: Edit, functions: List[Function]) -> Optional[Function]:
     """The function that the edit's first old text is in, or nothing where it is in none."""
-    file, old, _ = edit.pairs[0]
+    file, old, _ = edit.changes[0]
     path = f"{top}/{edit.folder}/{file}"
     if not file.startswith("src/") or not os.path.isfile(path):
         return None
@@ -116,29 +56,29 @@ def changed_function(top, edit, functions):
     return inside[-1] if inside else None
 
 
-def unreached(top, edits, functions):
+def unreached(top: str, every: List[Edit], functions: List[Function]) -> Iterator[Tuple[Edit, Function]]:
     """The edits of functions that no root reaches."""
     listed = crates.read(top)
     below = {it for root in ROOTS for it in [*crates.below(listed, root), root]}
     roots = [it for it in functions if it.crate in ROOTS and (it.name == "main" or 'extern "C" fn' in it.body)]
     found = rattle.reached([it for it in functions if it.crate in below], roots)
-    for edit in filter(is_of_gate, edits):
+    for edit in (it for it in every if it.is_of_gate):
         function = changed_function(top, edit, functions)
         if function and function[:6] not in found:
             yield edit, function
 
 
-def refused_at(top, edit, told):
+def refused_at(top: str, edit: Edit, told: str) -> Tuple[str, str]:
     """The function and the goal that the prover refused first: from a place in an edited source, or a proof file's path."""
-    goal = re.search(r"`([^`]*)`?", told)
-    goal = goal[1] if goal else ""
+    named = re.search(r"`([^`]*)`?", told)
+    goal = named[1] if named else ""
     proof = re.match(r"(?:note: )?(?:\./)?proofs/(.*)/(\w+)/(?:Answers|Invariants|Proof)\.antt:", told)
     if proof:
         return proof[2], goal
     place = re.match(r"(?:note: )?(?:\./)?(src/\S+?):(\d+):", told)
     if not place:
         return "", goal
-    text = applied(top, edit)[0].get(place[1])
+    text = edits.applied(top, edit)[0].get(place[1])
     if text is None:
         with open(f"{top}/{edit.folder}/{place[1]}", encoding="utf-8") as it:
             text = it.read()
@@ -146,19 +86,20 @@ def refused_at(top, edit, told):
     return (inside[-1] if inside else ""), goal
 
 
-def differs(edit, function, goal):
+def differs(edit: Edit, function: str, goal: str) -> bool:
     """Whether the prover refused something else than what the edit names."""
-    _, name, clauses = parts(edit.breaks)
+    _, name, clauses = parts(edit.breaks or "")
     if clauses == ["requires"]:
         return not goal.startswith((f"{name}-requires", f"{name}_requires")) and f"{name}-" not in goal
     found = re.search(r"-clause-(\w+)", goal)
     return function != name or bool(found and clauses and found[1] not in clauses)
 
 
-def check_refused(top, edits, printed):
+def check_refused(top: str, every: List[Edit], printed: str) -> int:
     """Lists the edits that were refused in another way than they name."""
-    by_name = {f"{it.crate}/{os.path.basename(it.path)}": it for it in edits if it.breaks}
-    seen, bad = set(), 0
+    by_name = {f"{it.crate}/{os.path.basename(it.path)}": it for it in every if it.breaks}
+    seen: Set[str] = set()
+    bad = 0
     for name, said in re.findall(r"(?m)must-fail (\S+/\S+\.edit): (.*)", printed):
         edit = by_name.get(name)
         if not edit or name in seen:
@@ -171,40 +112,33 @@ def check_refused(top, edits, printed):
         else:
             told = said.partition("refused, as it must be: ")[2]
             function, goal = refused_at(top, edit, told)
-            why = differs(edit, function, goal) and f"refused at {function or 'a lemma'} `{goal}`, and names {edit.breaks}"
+            why = f"refused at {function or 'a lemma'} `{goal}`, and names {edit.breaks}" if differs(edit, function, goal) else ""
         if why:
             bad += 1
             print(f"{name}: {why}")
     print(f"{len(seen)} edits were tried, {bad} of which are listed")
-    return 1 if bad else 0
+    return bad
 
 
-def check_all(top, edits):
+def check_all(top: str, every: List[Edit]) -> int:
     """Lists what is wrong with the edits, and those of functions that nothing reaches."""
     functions, bad = list(rattle.all_functions(top)), 0
-    for edit in edits:
-        faults = applied(top, edit)[1]
-        if (is_of_gate(edit) or edit.breaks) and not faults:
+    for edit in every:
+        faults = edits.applied(top, edit)[1]
+        if (edit.is_of_gate or edit.breaks) and not faults:
             faults += filter(None, [names_no_clause(edit, functions)])
         for fault in faults:
             bad += 1
             print(f"{os.path.relpath(edit.path, top)}: {fault}")
-    for edit, function in unreached(top, edits, functions):
+    for edit, function in unreached(top, every, functions):
         print(f"not reached by the program or the embedded replica: {function.name}, of {os.path.relpath(edit.path, top)}")
-    print(f"{len(edits)} edits, {bad} faults")
-    return 1 if bad or not edits else 0
+    print(f"{len(every)} edits, {bad} faults")
+    return bad if every else 1
 
 
-def main(words):
-    printed = None
-    if words[:1] == ["--refused"] and len(words) > 1:
-        with open(words[1], encoding="utf-8", errors="replace") as it:
-            printed = it.read()
-        words = words[2:]
-    top = os.path.realpath(words[0]) if words else HERE
-    edits = read_edits(top)
-    return check_all(top, edits) if printed is None else check_refused(top, edits, printed)
-
-
-if __name__ == "__main__":
-    sys.exit(main(sys.argv[1:]))
+def check(words: argparse.Namespace) -> int:
+    every = edits.read_edits(words.top)
+    if not words.refused:
+        return check_all(words.top, every)
+    with open(words.refused, encoding="utf-8", errors="replace") as it:
+        return check_refused(words.top, every, it.read())
