@@ -35,8 +35,14 @@ import { open as openByHand } from "./rules.mjs";
  *  @property {(handle: bigint, out: bigint, room: bigint) => bigint} jcrdt_again
  *  @property {(handle: bigint) => void} jcrdt_close */
 
-/** A module that has nothing but a memory of 64 bits. */
-const SMALLEST = new Uint8Array([0, 97, 115, 109, 1, 0, 0, 0, 5, 3, 1, 4, 1]);
+/** A module with a memory of 64 bits, and one function: it loads a lane of a vector from an address
+ *  there. Node 18 has such memories, and not such loads. */
+const SMALLEST = new Uint8Array([
+  0, 97, 115, 109, 1, 0, 0, 0, // its head
+  1, 4, 1, 96, 0, 0, 3, 2, 1, 0, 5, 3, 1, 4, 1, // a type, a function of it, the memory
+  10, 30, 1, 28, 0, 66, 0, 253, 12, ...new Uint8Array(16), // i64.const 0, v128.const 0
+  253, 86, 2, 0, 0, 26, 11, // v128.load32_lane, drop, end
+]);
 const HINT = typeof process === "object" && /^2[0-3]\./.test(process.versions?.node) ?
   " (node --experimental-wasm-memory64 has them)" : "";
 const HANDLE = 16; // bytes of a handle
@@ -45,7 +51,7 @@ const ROOM = 65_536; // bytes, at first, for a line and for a text
 const encoder = new TextEncoder();
 const decoder = new TextDecoder();
 
-/** Whether this engine of JavaScript has memories of 64 bits. */
+/** Whether this engine of JavaScript has memories of 64 bits, with all that the module does there. */
 export const hasMemory64 = () =>
   typeof WebAssembly === "object" && WebAssembly.validate(SMALLEST);
 

@@ -29,6 +29,7 @@ const STORE_RETRY_MS = 1000;
 const TELL_MS = 500; // so often, at most, is said what a long exchange has taken
 const EDITS = ["assign", "insert", "delete", "add", "put", "splice", "undo", "redo"];
 const NAME_USED_TWICE = [14, 15, 16]; // refusals: forked, id-conflict, own-name
+const FULL = [18, 19]; // refusals for good: log-full, too-many-replicas
 
 /** @typedef {import("./stores.mjs").Store} Store */
 /** @typedef {import("./session.mjs").Client} Client */
@@ -674,7 +675,9 @@ export class Provider {
   #reportRefused(own) {
     const [{ number, name }] = own;
     const many = own.length === 1 ? "1 change" : `${own.length} changes`;
-    const words = `the server refuses ${many} of this replica: ${number} ${name}`;
+    const advice = FULL.includes(number)
+      ? ". The document is full: its content has to be put into a new one (renew)" : "";
+    const words = `the server refuses ${many} of this replica: ${number} ${name}${advice}`;
     this.#report({ kind: "refused", words, lines: own.map(({ line }) => line) });
   }
 

@@ -140,8 +140,9 @@ const REFUSALS = new Map([
   [6, "A text has at most 4,096 bytes, which is as many plain letters, and a number 64 bits."],
   [9, "Another has deleted that place."],
   [7, "Another has deleted that place."],
-  [18, "The document is full: it takes 100,000 changes."],
-  [19, "The document is full: it takes 256 replicas, and this would be one more."],
+  [18, "The document is full: it takes 100,000 changes. Its content has to be put into a new one."],
+  [19, "The document is full: it takes 256 replicas, and this would be one more. Its content has to"
+    + " be put into a new one."],
 ]);
 
 /** Why an edit was refused, in words.

@@ -1,6 +1,6 @@
 /* A provider before real servers and hubs: kills, freezes, restarts, names used twice. */
 
-import { deepEqual, equal, match, ok, rejects } from "node:assert/strict";
+import { deepEqual, equal, match, ok, rejects, throws } from "node:assert/strict";
 import { copyFileSync } from "node:fs";
 import { createServer } from "node:net";
 import node from "node:test";
@@ -8,6 +8,7 @@ import { pause, until, webSockets } from "./chromium.mjs";
 import { end, room, start, startHub, startServer } from "./serving.mjs";
 import { Provider } from "../provider.mjs";
 import { fileStore } from "../file_store.mjs";
+import { connected } from "../session.mjs";
 import { Away } from "../wire.mjs";
 
 const WebSocket = webSockets()?.WebSocket;
@@ -231,6 +232,33 @@ test("a document that the server doesn't have", async () => {
   equal(ada.problems.get("server").words, "the server has no document d");
   equal(ada.state.word, "offline");
   equal(ada.state.why, "the server has no document d");
+});
+
+test("a document that has 256 replicas: it is said that it is full, and what to do", async () => {
+  const server = await startServer(["d"]);
+  const client = await connected(server.address);
+  await client.open("d");
+  const early = await opened(server.address, { word: "early", isOnline: false });
+  await early.goOnline();
+  await early.synced(60);
+  early.goOffline();
+  await Promise.all(Array.from({ length: 256 }, (_, at) =>
+    client.deliver("d", ["op", [1, `r${at}`], [], [[["m", 0]], `k${at}`], ["assign", at]])));
+  // It was edited before this was known here: the server refuses it, and it stays here.
+  early.replica.assign([0, "title"], "Plan");
+  early.goOnline();
+  await until("it is said", () => early.problems.has("refused"), 30);
+  const { words, lines } = early.problems.get("refused");
+  equal(words, "the server refuses 1 change of this replica: 19 too-many-replicas."
+    + " The document is full: its content has to be put into a new one (renew)");
+  equal(lines.length, 1);
+  equal(valueOf(early, "title"), "Plan");
+  // Who knows all 256 refuses it at once, and readings go on.
+  const late = await opened(server.address, { word: "late" });
+  await late.synced(60);
+  throws(() => late.replica.assign([0, "title"], "Plan"), { number: 19 });
+  equal(late.replica.keys([0]).length, 256);
+  await client.quit();
 });
 
 test("switched off and on, and closed", async () => {

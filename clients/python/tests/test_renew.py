@@ -3,6 +3,7 @@
 import json
 import re
 import threading
+import time
 from pathlib import Path
 from typing import Any, Callable, Dict, List
 
@@ -10,7 +11,7 @@ import pytest
 from conftest import Server, tool
 
 import jcrdt
-from jcrdt import Session, renew, settled
+from jcrdt import Refused, Session, renew, settled
 from jcrdt.wire import Operation
 
 Serve = Callable[..., Server]
@@ -222,6 +223,38 @@ def test_values_of_too_many_replicas(server: Server) -> None:
         session.open("kept")
         assert session.plain("kept", [0]) == {"k": session_last(200)}
         session.assign("kept", [0, "k"], "settled")
+
+
+def test_the_replicas_are_used_up_by_a_restart(serve: Serve) -> None:
+    """At 256 replicas the server's own name still takes changes, and after a restart nobody does: count has warned
+    since half of them, and a new document goes on with what this one shows."""
+    server = serve("old", "new")
+    with jcrdt.connected(server.address) as session:
+        session.open("old")
+        session.assign("old", [0, "title"], "Plan")
+        for number in range(255):
+            session.deliver("old", ["op", [1, f"r{number}"], [], [[["m", 0]], f"k{number}"], ["assign", number]])
+        last = session.assign("old", [0, "title"], "Plan B")
+        assert last[1] == "srv-1"
+        with pytest.raises(Refused, match="19 too-many-replicas"):
+            session.deliver("old", ["op", [1, "one-more"], [], [[["m", 0]], "k"], ["assign", 1]])
+        while not jcrdt.covers(jcrdt.front_on_disk(server.file, "old"), last):
+            time.sleep(0.1)  # the file follows
+    server.restart()
+    with jcrdt.connected(server.address) as session:
+        session.open("old")
+        with pytest.raises(Refused, match="19 too-many-replicas"):
+            session.assign("old", [0, "title"], "Plan C")
+        assert session.values("old", [0, "title"]) == ["Plan B"]
+        before = session.plain("old", [0])
+    told = tool("renew", "count", server.address, "--doc", "old", status=3)
+    assert "256 replicas of 256 (FULL)" in told and "it is time to put it into a new document: renew put" in told
+    assert "1 replicas" in put(server, "new")
+    server.restart()
+    with jcrdt.connected(server.address) as session:
+        session.open("new")
+        assert session.plain("new", [0]) == before
+        session.assign("new", [0, "title"], "Plan C")
 
 
 def session_last(count: int) -> int:
