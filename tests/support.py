@@ -1,69 +1,96 @@
-"""What the tests of the whole program share: a program that is started, a client of lines, and a table of cases.
+"""What the tests of the whole program share: a server and a run that are started, a client of lines, the file as SQLite reads it,
+options, and a table of cases.
 
-A test is a function without arguments but the program's path and a folder of its own. It raises `Differs` where the program did
-what it may not do."""
+A case is a function of the program's path and a folder of its own. It raises `Differs` where the program did what it may not do."""
 
+from __future__ import annotations
+
+import argparse
 import contextlib
 import json
 import os
+import shutil
 import socket
 import sqlite3
 import subprocess
 import tempfile
 import threading
 import time
+from typing import IO, Any, Callable, Dict, Iterator, List, Mapping, Optional, Sequence, Tuple
 
+TOP = os.path.dirname(os.path.dirname(os.path.abspath(__file__)))
 SECONDS = 120
 NO_MEMORY = ["no", 22, "no-memory"]
+# Standard error of a server whose notes are kept for `said`.
+KEPT = -100
+
+Case = Callable[[str, str], Optional[str]]
 
 
 class Differs(Exception):
     """A run that did what it may not do."""
 
 
-def wanted(what, got, due):
+def wanted(what: str, got: object, due: object) -> None:
     """Raises Differs unless the value is the due one."""
     if got != due:
         raise Differs(f"{what}: got {shortened(got)}, due {shortened(due)}")
 
 
-def at_most(what, got, most):
+def at_most(what: str, got: float, most: float) -> None:
     """Raises Differs if the figure is beyond its bound."""
     if got > most:
         raise Differs(f"{what}: {got:g}, at most {most:g} is wanted")
 
 
-def shortened(value):
-    text = json.dumps(value) if not isinstance(value, str) else value
+def shortened(value: object) -> str:
+    text = json.dumps(value, default=repr) if not isinstance(value, str) else value
     return text if len(text) < 200 else f"{text[:200]}.. ({len(text)} characters)"
 
 
-def line_of(request):
+def wait_until(what: str, test: Callable[[], object], seconds: float = 20.0) -> float:
+    """Waits until the test holds, and returns how many seconds that took."""
+    began = time.monotonic()
+    while not test():
+        if time.monotonic() - began > seconds:
+            raise Differs(f"{what}: not within {seconds:g} s")
+        time.sleep(0.005)
+    return time.monotonic() - began
+
+
+# Lines.
+
+
+def line_of(request: object) -> bytes:
     return json.dumps(request, separators=(",", ":"), ensure_ascii=False).encode() + b"\n"
+
+
+def operation(counter: int, replica: str, front: List[Any], path: List[Any], key: object, mutation: List[Any]) -> List[Any]:
+    return ["op", [counter, replica], front, [path, key], mutation]
 
 
 class Lines:
     """A client of lines over two streams: one request at a time, or many at once, which are written while replies are read."""
 
-    def __init__(self, write, read):
+    def __init__(self, write: Callable[[bytes], object], read: Callable[[], bytes]) -> None:
         self.write, self.read = write, read
 
-    def ask(self, *request):
+    def ask(self, *request: object) -> Any:
         self.write(line_of(request))
         return self.reply()
 
-    def reply(self):
+    def reply(self) -> Any:
         line = self.read()
         if not line.endswith(b"\n"):
-            raise Differs("the session has ended")
+            raise Differs(f"the session has ended: {line[:80]!r}")
         return json.loads(line)
 
-    def ask_all(self, requests):
+    def ask_all(self, requests: Sequence[object]) -> List[Any]:
         """Sends these requests at once, and returns their replies."""
         return [json.loads(it) for it in self.ask_lines([line_of(it) for it in requests])]
 
-    def ask_lines(self, lines):
-        def send():
+    def ask_lines(self, lines: Sequence[bytes]) -> List[bytes]:
+        def send() -> None:
             with contextlib.suppress(OSError):
                 for at in range(0, len(lines), 1000):
                     self.write(b"".join(lines[at : at + 1000]))
@@ -79,7 +106,7 @@ class Lines:
 class Connection(Lines):
     """A session over TCP."""
 
-    def __init__(self, address, opens=()):
+    def __init__(self, address: Tuple[str, int], opens: Sequence[str] = ()) -> None:
         self.socket = socket.create_connection(address, timeout=SECONDS)
         self.socket.setsockopt(socket.IPPROTO_TCP, socket.TCP_NODELAY, 1)
         self.reader = self.socket.makefile("rb")
@@ -87,127 +114,223 @@ class Connection(Lines):
         for document in opens:
             wanted("open", self.ask("open", document)[0], "opened")
 
-    def close(self):
+    def quit(self) -> None:
+        """Ends the session by `quit`, where that is still possible."""
+        with contextlib.suppress(OSError, Differs):
+            self.ask("quit")
+        self.close()
+
+    def close(self) -> None:
         self.reader.close()
         self.socket.close()
 
-    def __enter__(self):
+    def __enter__(self) -> Connection:
         return self
 
-    def __exit__(self, *_):
+    def __exit__(self, *_: object) -> None:
         self.close()
+
+
+# The program.
 
 
 class Run(Lines):
     """`run` over two pipes."""
 
-    def __init__(self, program, *words, prefix=(), environment=None):
+    def __init__(self, program: str, *words: str, prefix: Sequence[str] = (), environment: Optional[Mapping[str, str]] = None) -> None:
         self.process = subprocess.Popen([*prefix, program, "run", *words], stdin=subprocess.PIPE, stdout=subprocess.PIPE,
                                         stderr=subprocess.DEVNULL, env=environment, bufsize=0)
         self.watch = threading.Timer(SECONDS, self.process.kill)
         self.watch.start()
-        self.output = os.fdopen(os.dup(self.process.stdout.fileno()), "rb")
+        assert self.process.stdin and self.process.stdout
+        self.input, self.raw = self.process.stdin, self.process.stdout
+        self.output = os.fdopen(os.dup(self.raw.fileno()), "rb")
         super().__init__(self.send, self.output.readline)
 
-    def send(self, data):
+    def send(self, data: bytes) -> None:
         while data:
-            data = data[self.process.stdin.write(data):]
+            data = data[self.input.write(data):]
 
-    def end(self):
-        self.process.stdin.close()
+    def end(self) -> int:
+        self.input.close()
         self.output.read()
         status = self.process.wait(SECONDS)
         self.watch.cancel()
         return status
 
-    def __enter__(self):
+    def __enter__(self) -> Run:
         return self
 
-    def __exit__(self, *_):
+    def __exit__(self, *_: object) -> None:
         self.watch.cancel()
         if self.process.poll() is None:
             self.process.kill()
         self.process.wait()
         self.output.close()
-        self.process.stdout.close()
+        self.raw.close()
 
 
 class Server:
-    """`serve` over a file: where it listens, and how it ended."""
+    """`serve` over a file: where it listens, what it noted, and how it ended. Its notes are kept unless `errors` says where they go.
+    `first` is its first line, or nothing where it ended without one. With `killed_after` it is killed so many seconds after its start."""
 
-    def __init__(self, program, path, *documents, sessions=256, name="srv", address="127.0.0.1:0", options=(), prefix=(), environment=None, limits=None):
-        self.path, self.documents, self.sessions = path, documents, sessions
-        self.notes = open(f"{path}.notes", "ab")
-        words = [*prefix, program, "serve", "--addr", address, "--sessions", str(sessions), "--file", path, "--name", name, *options, *documents]
-        self.process = subprocess.Popen(words, stdin=subprocess.DEVNULL, stdout=subprocess.PIPE, stderr=self.notes, env=environment, preexec_fn=limits)
-        first = self.process.stdout.readline()
-        self.first = json.loads(first) if first else None
-        self.used = 0
+    def __init__(self, program: str, path: str, *documents: str, sessions: int = 256, name: Optional[str] = None, address: str = "127.0.0.1:0",
+                 options: Sequence[str] = (), prefix: Sequence[str] = (), environment: Optional[Mapping[str, str]] = None,
+                 limits: Optional[Callable[[], object]] = None, folder: Optional[str] = None, errors: Optional[int] = KEPT,
+                 killed_after: Optional[float] = None) -> None:
+        self.path, self.documents, self.sessions, self.used = path, documents, sessions, 0
+        self.notes: IO[bytes] = tempfile.TemporaryFile()
+        words = [*prefix, program, "serve", "--addr", address, "--sessions", str(sessions), "--file", path,
+                 *(["--name", name] if name else []), *options, *documents]
+        self.process = subprocess.Popen(words, cwd=folder, stdin=subprocess.DEVNULL, stdout=subprocess.PIPE, env=environment, preexec_fn=limits,
+                                        stderr=self.notes if errors == KEPT else errors)
+        assert self.process.stdout
+        self.output = self.process.stdout
+        self.watch = threading.Timer(SECONDS if killed_after is None else killed_after, self.process.kill)
+        self.watch.start()
+        first = self.output.readline()
+        if killed_after is None:
+            self.watch.cancel()
+        self.first: Optional[List[Any]] = json.loads(first) if first else None
+        self.address = ("", 0)
         if self.first and self.first[0] == "listening":
             host, _, port = self.first[1].rpartition(":")
             self.address = host.strip("[]"), int(port)
 
     @property
-    def pid(self):
+    def pid(self) -> int:
         return self.process.pid
 
-    def session(self, *opens):
+    @property
+    def at(self) -> str:
+        """Where it listens, as HOST:PORT."""
+        if not self.first or self.first[0] != "listening":
+            raise Differs(f"{self.path}: it doesn't listen: {self.first}, status {self.process.wait(SECONDS)}: {self.said()}")
+        return str(self.first[1])
+
+    def session(self, *opens: str) -> Connection:
+        """A session in which these documents are open, or all."""
         self.used += 1
         return Connection(self.address, opens or self.documents)
 
-    def end(self):
+    def client(self) -> Connection:
+        """A session in which no document is open."""
+        self.used += 1
+        return Connection(self.address)
+
+    def totals(self) -> Tuple[int, List[Any]]:
+        """Waits for its end, and returns the status and the totals."""
+        out, _ = self.process.communicate(timeout=SECONDS)
+        return self.process.returncode, [json.loads(it) for it in out.splitlines()]
+
+    def end(self) -> Tuple[int, List[Any]]:
         """Uses up the sessions that are left, and returns the status and the totals."""
         for _ in range(self.sessions - self.used):
             with contextlib.suppress(OSError):
                 socket.create_connection(self.address, timeout=SECONDS).close()
-        out, _ = self.process.communicate(timeout=SECONDS)
-        return self.process.returncode, [json.loads(it) for it in out.splitlines()]
+        return self.totals()
 
-    def kill(self):
+    def kill(self) -> None:
         self.process.kill()
         self.process.wait()
 
-    def said(self):
-        with open(f"{self.path}.notes", encoding="utf-8", errors="replace") as it:
-            return it.read()
+    def said(self) -> str:
+        """What it has written to standard error by now."""
+        found, at = b"", 0
+        while True:
+            part = os.pread(self.notes.fileno(), 1 << 16, at)
+            if not part:
+                return found.decode(errors="replace")
+            found, at = found + part, at + len(part)
 
-    def __enter__(self):
+    def __enter__(self) -> Server:
         return self
 
-    def __exit__(self, *_):
+    def __exit__(self, *_: object) -> None:
+        self.watch.cancel()
         if self.process.poll() is None:
             self.process.kill()
         self.process.wait()
-        self.process.stdout.close()
+        self.output.close()
         self.notes.close()
 
 
-def rows_of(path):
-    """How many rows the file has of each document, by SQLite, in a copy."""
-    with tempfile.TemporaryDirectory(prefix="rows-") as room:
+def built(room: str, name: str, source: str, *words: str) -> str:
+    """A C source of this repository, built."""
+    subprocess.run([os.environ.get("CC", "cc"), "-O1", *words, "-o", f"{room}/{name}", f"{TOP}/{source}", "-ldl"], check=True)
+    return f"{room}/{name}"
+
+
+def preloaded(library: str, settings: Mapping[str, object]) -> Dict[str, str]:
+    """The environment of a program whose calls of the C library this one answers, by these settings."""
+    return {**os.environ, "LD_PRELOAD": library, **{key: str(it) for key, it in settings.items()}}
+
+
+# The file.
+
+
+@contextlib.contextmanager
+def database_of(path: str) -> Iterator[sqlite3.Connection]:
+    """The file and its log in SQLite, by a copy."""
+    with tempfile.TemporaryDirectory(prefix="copied-") as room:
         for ending in ("", "-wal"):
             if os.path.exists(path + ending):
-                with open(path + ending, "rb") as one, open(f"{room}/copy.db{ending}", "wb") as other:
-                    other.write(one.read())
+                shutil.copy(path + ending, f"{room}/copy.db{ending}")
         with contextlib.closing(sqlite3.connect(f"{room}/copy.db")) as database:
-            return dict(database.execute("SELECT doc, count(*) FROM entry GROUP BY doc"))
+            yield database
 
 
-def wait_until(what, test, seconds=20.0):
-    """Waits until the test holds, and returns how many seconds that took."""
-    began = time.monotonic()
-    while not test():
-        if time.monotonic() - began > seconds:
-            raise Differs(f"{what}: not within {seconds:g} s")
-        time.sleep(0.005)
-    return time.monotonic() - began
+def rows_of(path: str) -> Dict[str, int]:
+    """How many rows the file has of each document."""
+    with database_of(path) as database:
+        return dict(database.execute("SELECT doc, count(*) FROM entry GROUP BY doc"))
 
 
-def operation(counter, replica, front, path, key, mutation):
-    return ["op", [counter, replica], front, [path, key], mutation]
+def ids_of(path: str) -> List[Tuple[str, int, str]]:
+    """The document and the id of each row; none where there is no table yet."""
+    with database_of(path) as database:
+        if not database.execute("SELECT 1 FROM sqlite_schema WHERE name = 'entry'").fetchone():
+            return []
+        rows = [(doc, json.loads(text)[1]) for doc, text in database.execute("SELECT doc, text FROM entry")]
+        return [(doc, counter, replica) for doc, (counter, replica) in rows]
 
 
-def run_cases(cases, program, names=(), left_out=()):
+def checked(program: str, path: str) -> List[Any]:
+    """What `check` prints of a file, which must be a good one."""
+    ran = subprocess.run([program, "check", "--file", path], stdin=subprocess.DEVNULL, stdout=subprocess.PIPE, stderr=subprocess.PIPE,
+                         timeout=SECONDS, check=False)
+    if ran.returncode:
+        raise Differs(f"check has status {ran.returncode}: {(ran.stdout + ran.stderr).decode(errors='replace').strip()[:300]}")
+    return [json.loads(it) for it in ran.stdout.splitlines()]
+
+
+# Options and cases.
+
+
+def absolute(path: str) -> str:
+    return os.path.abspath(path)
+
+
+def options(text: Optional[str]) -> argparse.ArgumentParser:
+    """A parser of the program's words, which the text behind `usage: ` shows. A misspelt option is refused."""
+    usage = (text or "").partition("usage: ")[2].split("\n\n")[0]
+    parser = argparse.ArgumentParser(usage=usage, allow_abbrev=False)
+    parser.add_argument("program", type=absolute)
+    return parser
+
+
+def asked(text: Optional[str], cases: Mapping[str, Case], parser: Optional[argparse.ArgumentParser] = None) -> argparse.Namespace:
+    """The words of a program of cases: the program that is tried, and names of cases."""
+    parser = parser or options(text)
+    parser.add_argument("case", nargs="*", help="names of cases")
+    words = parser.parse_args()
+    unknown = [it for it in words.case if it not in cases]
+    if unknown:
+        parser.error(f"there is no case {unknown[0]}: {', '.join(cases)}")
+    return words
+
+
+def run_cases(cases: Mapping[str, Case], program: str, names: Sequence[str] = (), left_out: Sequence[str] = ()) -> int:
     """Runs the cases of a table, name by name, and prints how each went; the last line also says what was left out, where a tool is missing.
     Returns the status."""
     failed = []
@@ -218,7 +341,7 @@ def run_cases(cases, program, names=(), left_out=()):
         with tempfile.TemporaryDirectory(prefix="case-") as room:
             try:
                 said = case(program, room)
-            except (Differs, OSError, subprocess.SubprocessError, ValueError) as fault:
+            except (Differs, AssertionError, OSError, subprocess.SubprocessError, ValueError, sqlite3.Error) as fault:
                 failed.append(name)
                 said = f"FAILED: {fault}"
         print(f"{name} ({time.monotonic() - began:.1f} s): {said or 'as it must be'}", flush=True)

@@ -1,4 +1,4 @@
-"""Lint, types and shell: pyflakes of all Python, mypy --strict of clients/python and of what tools and tests share, tsc of clients, shellcheck.
+"""Lint, types and shell: pyflakes of all Python, mypy --strict of clients/python and of what tools and tests share, tsc, shellcheck.
 
 A tool that isn't here is left out, which the last line says."""
 
@@ -11,8 +11,8 @@ import shutil
 import subprocess
 from typing import Callable, Iterator, List, NamedTuple, Optional
 
-# What is typed besides the package: modules that programs share, and the programs that are typed throughout.
-TYPED_PROGRAMS: List[str] = ["tools/check"]
+# What is typed besides the package: the modules that programs share, and the programs that are typed throughout.
+TYPED = ["tools/*.py", "tools/check", "tests/*.py", "tests/edges", "operations/tests/*.py", "operations/tests/memory"]
 
 
 class Tool(NamedTuple):
@@ -22,6 +22,7 @@ class Tool(NamedTuple):
     command: Optional[str]
     folder: str
     words: List[str]
+    modules: str = ""  # where mypy finds modules
 
 
 def tracked(top: str, *patterns: str) -> List[str]:
@@ -61,17 +62,13 @@ def runs(top: str) -> Iterator[Tool]:
     yield Tool("pyflakes", python_with("pyflakes"), top, ["-m", "pyflakes", *python_files(top)])
     mypy, strict = python_with("mypy"), ["-m", "mypy", "--strict", "--no-error-summary", "--cache-dir=/dev/null"]
     yield Tool("mypy of clients/python", mypy, f"{top}/clients/python", [*strict, "jcrdt"])
-    yield Tool("mypy of tools", mypy, f"{top}/tools", [*strict, *(os.path.relpath(it, f"{top}/tools") for it in modules(top, "tools"))])
+    named = ["--explicit-package-bases", "--namespace-packages", "--scripts-are-modules"]
+    yield Tool("mypy of tools and tests", mypy, top, [*strict, *named, *tracked(top, *TYPED)], "tools:tests:operations/tests:clients/python")
     tsc = shutil.which("tsc")
     for package in ("js", "hub"):
         if glob.glob(f"{top}/clients/{package}/tsconfig.json"):
             yield Tool(f"tsc of clients/{package}", tsc, f"{top}/clients/{package}", ["-p", "."])
     yield Tool("shellcheck", shutil.which("shellcheck"), top, ["-x", *shell_files(top)])
-
-
-def modules(top: str, folder: str) -> List[str]:
-    """The modules of a folder, and the programs in it that are typed."""
-    return [f"{top}/{it}" for it in [*tracked(top, f"{folder}/*.py"), *(it for it in TYPED_PROGRAMS if it.startswith(f"{folder}/"))]]
 
 
 def is_excused(folder: str, fault: str) -> bool:
@@ -89,7 +86,7 @@ def outcome(tool: Tool) -> Optional[str]:
     if not tool.command:
         return None
     ran = subprocess.run([tool.command, *tool.words], cwd=tool.folder, stdin=subprocess.DEVNULL, stdout=subprocess.PIPE, stderr=subprocess.STDOUT,
-                         text=True, check=False)
+                         env={**os.environ, "MYPYPATH": tool.modules}, text=True, check=False)
     if not ran.returncode:
         return ""
     if tool.name == "pyflakes":

@@ -13,10 +13,10 @@ OPERATIONS = os.path.dirname(HERE)
 TOP = os.path.dirname(OPERATIONS)
 PACKAGE = f"{TOP}/clients/python"
 sys.dont_write_bytecode = True
-sys.path.insert(0, PACKAGE)
-if len(sys.argv) != 2:
-    sys.exit(f"usage: {sys.argv[0]} PROGRAM")
-PROGRAM = os.path.abspath(sys.argv[1])
+sys.path[:0] = [PACKAGE, f"{TOP}/tests"]
+import support  # noqa: E402
+
+PROGRAM: str = support.options(f"usage: {sys.argv[0]} PROGRAM").parse_args().program
 os.environ.update(JCRDT=PROGRAM, PYTHONDONTWRITEBYTECODE="1", PYTHONPATH=PACKAGE)
 SECONDS = 120
 
@@ -38,31 +38,16 @@ def skip(why: str) -> None:
     sys.exit(77)
 
 
-class Server:
-    """`serve` over a file."""
+class Server(support.Server):
+    """`serve` over a file, of the program that is tried."""
 
     def __init__(self, file: str, name: str = "alice", documents: Sequence[str] = ("d",), sessions: int = 256,
-                 more: Sequence[str] = ()) -> None:
-        self.words = [PROGRAM, "serve", "--addr", "127.0.0.1:0", "--sessions", str(sessions), "--file", file,
-                      "--name", name, *more, *documents]
-        self.process = subprocess.Popen(self.words, stdout=subprocess.PIPE, stderr=subprocess.PIPE)
-        assert self.process.stdout is not None
-        line = self.process.stdout.readline()
-        require("it listens", line, self.process.stderr.read() if not line and self.process.stderr else "")
-        self.address = str(decoded(line)[1])
-
-    def __enter__(self) -> "Server":
-        return self
-
-    def __exit__(self, *_: Any) -> None:
-        self.kill()
-
-    def kill(self) -> None:
-        self.process.kill()
-        self.process.communicate()
+                 more: Sequence[str] = (), **how: Any) -> None:
+        super().__init__(PROGRAM, file, *documents, sessions=sessions, name=name, options=more, **how)
+        require("it listens", self.first, self.said())
 
     def write(self, count: int, key: str = "k") -> None:
-        with connected(self.address) as session:
+        with connected(self.at) as session:
             session.open("d")
             replies = session.ask_all([["assign", "d", [0, f"{key}{number}"], number] for number in range(count)])
             require("all is applied", not any(isinstance(it, Exception) for it in replies))
