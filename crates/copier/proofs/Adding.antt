@@ -59,7 +59,7 @@ none_added (one_more {most = m} {count = n} before here adds) is_0 =
 
 -- what a batch that was written makes of the documents
 pub adds_many : {U F : Type 0} (B C : Type 0) (r : Result U F) (name : List ℕ) (old new : List Doc) {from : ℕ} {ops : List Op} → ops ≢ [] → from ≡ length (log_of name old)
-    → OnOk r ((new ≡ add_batch name ops old) × B × C) → OnOk r (IsBatch name from ops old) → OnOk r (AddsMany name (length ops) old new)
+    → OnOk r ((new ≡ add_batch name ops old) × B × C) → OnOk r (IsBatch name from ops old) → OnOk r ((adds : AddsMany name (length ops) old new) × (adds.next.ops ≡ ops))
 adds_many B C (Ok u) n d new {ops = o} some rows ok batch =
-    record { next = record { ops = o; some = some; batch = subst (λ k. IsBatch n k o d) rows batch; added = ok.0 }; many = refl }
+    (record { next = record { ops = o; some = some; batch = subst (λ k. IsBatch n k o d) rows batch; added = ok.0 }; many = refl }, refl)
 adds_many B C (Err e) n d new some rows ok batch = tt
