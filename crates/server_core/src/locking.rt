@@ -16,7 +16,7 @@ const TURNS_A_LOOK: u32 = 16;
 
 /// Takes a lock that others hold for microseconds. A thread that sleeps is woken later than that, so it first looks again
 /// and again whether the lock is free. The type says all of the result: it is this lock, taken.
-pub fn spin_then_lock<'a, T, R: Wait>(rt: &R, mutex: &'a Mutex<T>) -> MutexGuard<'a, T> {
+pub(crate) fn spin_then_lock<'a, T, R: Wait>(rt: &R, mutex: &'a Mutex<T>) -> MutexGuard<'a, T> {
     for turn in 0..TURNS {
         if turn % TURNS_A_LOOK == 0 {
             if let Some(guard) = mutex.try_lock() {
