@@ -55,7 +55,7 @@ fn assigns<M: Marker, R: Wait>(
     number: usize,
     seat: &mut Seat<M>,
 ) -> Reply
-    requires { number < length shared.now.names.items }
+    requires within { number < length shared.now.names.items }
     requires seat { (seat.old.number ≡ number) × (0 < seat.old.seat) }
     ensures { (seat.new.number ≡ number) × (0 < seat.new.seat) }
 {
@@ -80,7 +80,7 @@ fn reads<M: Marker, R: Wait>(
     number: usize,
     seat: &mut Seat<M>,
 ) -> Reply
-    requires { number < length shared.now.names.items }
+    requires within { number < length shared.now.names.items }
     requires seat { (seat.old.number ≡ number) × (0 < seat.old.seat) }
 {
     let debts = Debts::none(alloc);
@@ -119,7 +119,7 @@ fn assigns_and_reads<M: Marker, R: Abort + Wait>(
     shared: &SharedDocuments<M>,
     seat: &mut Seat<M>,
 )
-    requires { 1 < length shared.now.names.items }
+    requires within { 1 < length shared.now.names.items }
     requires seat { (seat.old.number ≡ 1) × (0 < seat.old.seat) }
 {
     let here = assigns(rt, alloc, shared, 1, seat);
