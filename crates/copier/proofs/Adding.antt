@@ -1,5 +1,5 @@
 -- Batches that were added one after another.
-use Rattle.std.proofs.Common.{◌≡◌, ◌≢◌, ◌⊎◌, inl, inr, Result, Ok, Err, OnOk, length, List, [], ℕ, zero, suc, Bool, true, Contains, max, ltb, ◌<◌, ◌≤◌, ◌∙◌, subst, sym, refl}
+use Rattle.std.proofs.Common.{◌≡◌, ◌≢◌, ◌⊎◌, inl, inr, Result, Ok, Err, IfOk, OnOk, length, List, [], ℕ, zero, suc, Bool, true, Contains, max, ltb, ◌<◌, ◌≤◌, ◌∙◌, subst, sym, refl}
 use Rattle.std.proofs.Math.Nat.{max-zero, zero-lt-suc, le-max_right, lt_of_lt_of_le, lt_irrefl}
 use Rattle.std.proofs.lemmas.Bool.{lt-ltb}
 use Rattle.std.proofs.lemmas.List.{nil_from_length}
