@@ -182,7 +182,7 @@ class Server:
         self.notes: IO[bytes] = tempfile.TemporaryFile()
         words = [*prefix, program, "serve", "--addr", address, "--sessions", str(sessions), "--file", path,
                  *(["--name", name] if name else []), *options, *documents]
-        self.process = subprocess.Popen(words, cwd=folder, stdin=subprocess.DEVNULL, stdout=subprocess.PIPE, env=environment, preexec_fn=limits,
+        self.process = subprocess.Popen(words, cwd=folder, bufsize=0, stdin=subprocess.DEVNULL, stdout=subprocess.PIPE, env=environment, preexec_fn=limits,
                                         stderr=self.notes if errors == KEPT else errors)
         assert self.process.stdout
         self.output = self.process.stdout
@@ -253,6 +253,15 @@ class Server:
         self.process.wait()
         self.output.close()
         self.notes.close()
+
+
+def python_with(module: str) -> Optional[str]:
+    """A Python that has this module, or nothing."""
+    for name in ("python3", "/usr/bin/python3"):
+        found = shutil.which(name)
+        if found and subprocess.run([found, "-c", f"import {module}"], stderr=subprocess.DEVNULL, check=False).returncode == 0:
+            return found
+    return None
 
 
 def built(room: str, name: str, source: str, *words: str) -> str:

@@ -12,7 +12,8 @@ import subprocess
 from typing import Callable, Iterator, List, NamedTuple, Optional
 
 # What is typed besides the package: the modules that programs share, and the programs that are typed throughout.
-TYPED = ["tools/*.py", "tools/check", "tests/*.py", "tests/edges", "operations/tests/*.py", "operations/tests/memory"]
+TYPED = [":(glob)tools/*.py", ":(glob)tools/checks/*.py", "tools/check", ":(glob)tests/*.py", "tests/edges", ":(glob)operations/tests/*.py",
+         "operations/tests/memory"]
 
 
 class Tool(NamedTuple):

@@ -235,6 +235,18 @@ test("an item that is a map, and values of several kinds, aren't replaced silent
   await pause(500);
   const { note } = (await client.plain(document, [0, "shopping", 1]));
   equal(note, "a note in a map");
+  // Nor is one that another puts there while something is typed.
+  await tab.focus("#ada .title");
+  await tab.insert("half a title");
+  await client.put(document, [0, "title"], { inner: 1 });
+  const titleNote = async () => (await tab.textOf("#ada .field .note"))[0];
+  await until("it is said", async () => /put a map here, which can't be replaced/.test(await titleNote()));
+  await tab.press("Enter");
+  await until("it isn't stored", async () => /^Not stored\. Another has put a map/.test(await titleNote()));
+  match((await tab.textOf("#ada .title"))[0], /half a title/);
+  await tab.press("Escape");
+  await until("it is shown", async () => (await tab.textOf("#ada .title"))[0] === "a map");
+  deepEqual(await client.plain(document, [0, "title"]), { inner: 1 });
   // A scalar beside it: keeping that one deletes what is in the map, so it asks.
   const operation = (await client.operations(document).next()).value;
   ok(operation);

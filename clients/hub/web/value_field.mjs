@@ -43,12 +43,14 @@ export class ValueField {
 
   #take() {
     if (this.#list) return this.#insertAgain(this.#list);
-    if (this.try(() => this.#provider.replica.assign(this.#cursor, this.#field.value))) {
+    const [other] = this.#others; // that came while this was typed
+    if (other) this.#say(`Not stored. ${irreplaceable(other)}`);
+    else if (this.try(() => this.#provider.replica.assign(this.#cursor, this.#field.value))) {
       this.#shown = this.#field.value;
-    } else {
-      this.#isRefused = true;
-      this.#field.setAttribute("aria-invalid", "true");
+      return;
     }
+    this.#isRefused = true;
+    this.#field.setAttribute("aria-invalid", "true");
   }
 
   /** @param {any[]} list */
@@ -119,7 +121,9 @@ export class ValueField {
       return this.#say("");
     }
     if (text === this.#shown) return;
-    this.#say(`Another has put “${text}” here. Yours replaces it; Escape keeps it.`);
+    const [other] = this.#others;
+    this.#say(other ? irreplaceable(other)
+      : `Another has put “${text}” here. Yours replaces it; Escape keeps it.`);
     const typed = this.#field.value;
     this.#shown = text;
     this.#field.value = typed;
@@ -157,3 +161,8 @@ export class ValueField {
     this.try(() => this.#provider.replica.assign(this.#cursor, value));
   }
 }
+
+/** What is said of a map or list where a text was typed.
+ *  @param {any} other */
+const irreplaceable = (other) =>
+  `Another has put ${textOf(other)} here, which can't be replaced here. Escape shows it.`;

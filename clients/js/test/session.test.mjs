@@ -2,7 +2,7 @@
 
 import { deepEqual, equal, ok, rejects } from "node:assert/strict";
 import net from "node:net";
-import { test } from "node:test";
+import { after, test } from "node:test";
 import {
   Away, Client, Conflict, Counter, Lost, Refused, connected, connectedToHub, parse, print, settled,
 } from "../index.mjs";
@@ -11,8 +11,13 @@ import { pause, startServer, until, webSockets } from "./support.mjs";
 const LIMIT = { timeout: 60_000 };
 const server = await startServer(["d"]);
 
+/** @type {Set<Client>} */
+const joined = new Set();
+after(() => joined.forEach((client) => client.end())); // those of a test that failed, too
+
 const join = async (address = server.address) => {
   const client = await connected(address);
+  joined.add(client);
   await client.open("d");
   return client;
 };
@@ -119,8 +124,17 @@ test("put fills its own elements, while others insert and delete", { timeout: 24
 test("a place by index stays what it was when put began", LIMIT, async () => {
   const [client, other] = [await join(), await join()];
   await client.put("d", [0, "rows"], [{ name: "first" }, { name: "second" }]);
+  const binding = client.let;
+  const bound = new Promise((resolve) => {
+    client.let = (...items) => {
+      const reply = binding(...items);
+      reply.then(resolve);
+      client.let = binding;
+      return reply;
+    };
+  });
   const putting = client.put("d", [0, "rows", 2], { cells: Array.from({ length: 300 }, (_, at) => ({ at })) });
-  await pause(50); // its name is bound by then
+  await bound; // what others insert from now on moves nothing
   for (let at = 0; at < 20; at++) await other.insert("d", [0, "rows", 0], "x");
   await putting;
   const rows = (await client.plain("d", [0, "rows"])).filter((/** @type {any} */ it) => it !== "x");

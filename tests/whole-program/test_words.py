@@ -1,0 +1,111 @@
+"""Command lines that ask for no session, and what is told of a fault in one line."""
+
+import contextlib
+import os
+import subprocess
+
+import pytest
+
+from support import TOP
+from tried import NO_FOLDER, NOTE, SECONDS, bytes_of, same
+
+NAME = "isn't 1 to 24 of a-z, 0-9 and -"
+DOCUMENT = "isn't 1 to 32 of a-z, 0-9 and -"
+LACKING = "the following required arguments were not provided:"
+SERVE = ["serve", "--addr", "127.0.0.1:0", "--file", "copy.db"]
+
+# Words that ask for no session, and what is told of them before the usage: nothing where help is asked for.
+BAD_WORDS = [
+    ([], None),
+    (["help"], None),
+    (["--help"], None),
+    (["run", "--help"], None),
+    (["serve", "--help"], None),
+    (["check", "--help"], None),
+    (["frob"], '"frob" is none of run, serve and check'),
+    (["run"], f"{LACKING}\n  <doc>..."),
+    (["run", "my_doc"], f'the document\'s name "my_doc" {DOCUMENT}'),
+    (["run", "notes.json"], f'the document\'s name "notes.json" {DOCUMENT}'),
+    (["run", ""], f'the document\'s name "" {DOCUMENT}'),
+    (["run", "d" * 33], f'the document\'s name "{"d" * 33}" {DOCUMENT}'),
+    (["run", "d", "d"], 'the document "d" stands twice'),
+    (["run", *(f"d{n}" for n in range(17))], "17 documents are more than 16"),
+    (["run", "--name", "Alice", "d"], f'the name "Alice" {NAME}'),
+    (["run", "--name", "a" * 25, "d"], f'the name "{"a" * 25}" {NAME}'),
+    (["run", "--name", "", "d"], f'the name "" {NAME}'),
+    (["run", "--name", "d"], f"{LACKING}\n  <doc>..."),
+    (["run", "--nam", "x", "d"], "unexpected argument '--nam' found\n\n  tip: a similar argument exists: '--name'"),
+    (["run", "--name", "a", "--name", "b", "d"], "the argument '--name <name>' cannot be used multiple times"),
+    (["serve", "d"], f"{LACKING}\n  --addr <addr>\n  --sessions <sessions>\n  --file <file>"),
+    (["serve", "--addr", "127.0.0.1:0", "--sessions", "1", "d"], f"{LACKING}\n  --file <file>"),
+    ([*SERVE, "d"], f"{LACKING}\n  --sessions <sessions>"),
+    ([*SERVE, "--sessions", "0", "d"], '"0" isn\'t a number of sessions from 1 to 256'),
+    ([*SERVE, "--sessions", "257", "d"], '"257" isn\'t a number of sessions from 1 to 256'),
+    ([*SERVE, "--sessions", "x", "d"], '"x" isn\'t a number of sessions from 1 to 256'),
+    ([*SERVE, "--sessions", "1", "--backlog", "0", "d"], '"0" isn\'t a number of operations from 1 to 100000'),
+    ([*SERVE, "--sessions", "1", "--backlog", "100001", "d"], '"100001" isn\'t a number of operations from 1 to 100000'),
+    ([*SERVE, "--sessions", "1", "--durable", "--backlog", "x", "d"], '"x" isn\'t a number of operations from 1 to 100000'),
+    ([*SERVE, "--sessions", "1", "--durable", "--durable", "d"], "the argument '--durable' cannot be used multiple times"),
+    ([*SERVE, "--sessions", "1"], f"{LACKING}\n  <doc>..."),
+    ([*SERVE, "--sessions", "1", "D"], f'the document\'s name "D" {DOCUMENT}'),
+    (["check"], f"{LACKING}\n  --file <file>"),
+]
+
+ADDRESS = "HOST:PORT is wanted, as 127.0.0.1:7001 or [::1]:7001"
+NO_ROOM = "No space left on device (os error 28)"
+
+# What fails with status 1, with the one line that is told of it, and where its input comes from and its output goes.
+FAULTS = [
+    (["serve", "--addr", "7001", "--sessions", "1", "--file", "a.db", "d"], f"cannot listen at 7001: invalid socket address; {ADDRESS}", os.devnull, os.devnull),
+    (["serve", "--addr", "[::1]", "--sessions", "1", "--file", "b.db", "d"], f"cannot listen at [::1]: invalid port value; {ADDRESS}", os.devnull, os.devnull),
+    ([*SERVE, "--sessions", "1", "d"], f"standard output failed: {NO_ROOM}", os.devnull, "/dev/full"),
+    (["serve", "--addr", "127.0.0.1:0", "--sessions", "1", "--file", "no-such-folder/copy.db", "d"],
+     f"cannot open no-such-folder/copy.db: {NO_FOLDER}", os.devnull, os.devnull),
+    (["check", "--file", "no-such-folder/copy.db"], f"cannot open no-such-folder/copy.db: {NO_FOLDER}", os.devnull, os.devnull),
+    (["check", "--file", "copy-of-a-fault.db"], "standard output failed", os.devnull, "/dev/full"),
+    (["run", "d"], "standard input failed", "/", os.devnull),
+    (["run", "d"], "standard output failed", "one-line", "/dev/full"),
+]
+
+
+def version_of(top):
+    with open(f"{top}/VERSION") as file:
+        return file.read().strip()
+
+
+def outcome(tried, words, **how):
+    """Its status, and what it wrote to both outputs."""
+    run = subprocess.run([tried.program, *words], stdout=subprocess.PIPE, stderr=subprocess.PIPE, timeout=SECONDS, check=False, **how)
+    return run.returncode, run.stdout, run.stderr
+
+
+@pytest.mark.parametrize("words, cause", BAD_WORDS, ids=[" ".join(it)[:60] or "none" for it, _ in BAD_WORDS])
+def test_words_that_ask_for_no_session(tried, words, cause):
+    status, out, told = outcome(tried, words, input=b'["open","d"]\n')
+    same((status, out), (2, b""))
+    told, usage, _ = told.decode().partition("usage: jcrdt")
+    same((told, usage), (f"error: {cause}\n" if cause else "", "usage: jcrdt"))
+
+
+@pytest.mark.parametrize("word", ["version", "--version", "-V"])
+def test_version(tried, word):
+    version = bytes_of(f"{TOP}/VERSION").decode().strip()
+    same(outcome(tried, [word], stdin=subprocess.DEVNULL), (2, b"", f"jcrdt {version}\n".encode()))
+
+
+@pytest.mark.parametrize("words, cause, reads, writes", FAULTS, ids=[" ".join(it[0])[:60] for it in FAULTS])
+def test_a_fault_is_one_line(tried, words, cause, reads, writes):
+    """What is told is this line, beside notes."""
+    with open(f"{tried.room}/one-line", "w", encoding="utf-8") as file:
+        file.write('["open","d"]\n')
+    with contextlib.ExitStack() as stack:
+        ends = [os.open(os.path.join(tried.room, reads), os.O_RDONLY), os.open(writes, os.O_WRONLY)]
+        for end in ends:
+            stack.callback(os.close, end)
+        run = subprocess.run([tried.program, *words], stdin=ends[0], stdout=ends[1], stderr=subprocess.PIPE, cwd=tried.room, timeout=SECONDS, check=False)
+    same((run.returncode, NOTE.sub("", run.stderr.decode())), (1, f"jcrdt: {cause}\n"))
+
+
+def test_no_utf8(tried):
+    status, out, told = outcome(tried, ["run", b"\xff"], stdin=subprocess.DEVNULL)
+    same((status, out, told.split(b"\n")[0]), (2, b"", b"error: a word isn't UTF-8"))
