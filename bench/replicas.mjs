@@ -1,4 +1,4 @@
-/* One row of bench/replicas: node replicas.mjs module|rules|yjs MODULE */
+/* The columns of a row of bench/replicas: node replicas.mjs module|rules|yjs MODULE */
 
 import { readFileSync, readdirSync } from "node:fs";
 import { createRequire } from "node:module";
@@ -75,7 +75,5 @@ const [type] = await timed(() => { for (let at = 0; at < 20_000; at++) writer.ty
 for (let at = 20_000; writer.lines.length < 50_000; at++) writer.type(random(at + 1));
 const [took, reader] = await timed(() => take(writer.lines));
 const grown = megabytes() - before;
-const row = [which, (bytes.length / 1000).toFixed(0), (gzipSync(bytes).length / 1000).toFixed(0), load.toFixed(0),
-  (type / 1000).toFixed(2), (took / 1000).toFixed(2), grown.toFixed(0)];
-console.log(`| ${row.join(" | ")} |`);
+console.log([bytes.length / 1000, gzipSync(bytes).length / 1000, load, type / 1000, took / 1000, grown].join(" "));
 if (!reader) process.exit(1);

@@ -508,8 +508,9 @@ const settings = (options) => ({
 
 /** Connects to a server or the hub at HOST:PORT, from Node, and resolves once the session has
  *  begun. Fails with `Away` if it doesn't within 10 seconds: a server with no session left accepts
- *  connections and never replies. A request whose reply takes more than 60 seconds ends the
- *  session. A number in place of the options is its seconds.
+ *  connections and never replies. Fails with `Refused` (103) if a hub doesn't admit this client. A
+ *  request whose reply takes more than 60 seconds ends the session. A number in place of the
+ *  options is its seconds.
  *  @param {string} address
  *  @param {number | Options} [options]
  *  @returns {Promise<Client>} */
@@ -581,9 +582,12 @@ async function begun(client, address, seconds, destroy) {
     destroy();
   }, seconds * 1000);
   try {
-    await client.answer('["version"]'); // the first reply shows that there is a session
-    return client;
+    const reply = await client.answer('["version"]'); // the first reply shows that there is a session
+    if (!reply.startsWith('["no",103,')) return client;
+    client.end();
+    throw new Refused(103);
   } catch (error) {
+    if (error instanceof Refused) throw error;
     throw new Away(/** @type {Error} */ (error).message);
   } finally {
     clearTimeout(timer);

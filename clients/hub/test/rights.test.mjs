@@ -5,7 +5,9 @@ import { writeFileSync } from "node:fs";
 import { join } from "node:path";
 import { before, test } from "node:test";
 import { Away } from "../../js/wire.mjs";
-import { joinWeb, Raw, ROOM, startHub, startServer, suite, within } from "./support.mjs";
+import {
+  joinLines, joinWeb, kill, Raw, ROOM, startHub, startServer, suite, until, within,
+} from "./support.mjs";
 
 // By the token in the query or a header; over TCP everybody may read d alone.
 const ADMIT = `
@@ -29,10 +31,10 @@ const READINGS = [
 ];
 
 suite("rights", { concurrency: false }, () => {
-  let hub;
+  let server, hub;
   before(async () => {
     writeFileSync(join(ROOM, "admit.mjs"), ADMIT);
-    const server = await startServer(["d", "e"]);
+    server = await startServer(["d", "e"]);
     hub = await startHub(server.address, "--admit", "admit.mjs");
   });
 
@@ -40,9 +42,14 @@ suite("rights", { concurrency: false }, () => {
     for (const token of ["", "?token=nobody", "?token=throws"]) {
       await rejects(joinWeb(hub.page, {}, `lines${token}`), Away, token);
     }
-    match(hub.child.notes, /admit failed: no database/);
+    await until("it is noted", () => /admit failed: no database/.test(hub.child.notes));
     const refused = (await (await fetch(`${hub.page}metrics`)).text()).match(/connections_refused_total (\d+)/)[1];
     equal(refused, "3");
+    // Over TCP the client learns why.
+    writeFileSync(join(ROOM, "none.mjs"), "export const admit = () => false;");
+    const closed = await startHub(server.address, "--admit", "none.mjs");
+    await rejects(joinLines(closed.lines), { number: 103, name: "not-allowed" });
+    await kill(closed.child);
   });
 
   test("who may read only can't change anything", async () => {

@@ -7,7 +7,6 @@ import { existsSync, mkdirSync, readFileSync, readdirSync, writeFileSync } from 
 import { join } from "node:path";
 import { test } from "node:test";
 import { fileURLToPath } from "node:url";
-import { hasMemory64 } from "../jcrdt.mjs";
 import { folder, startServer } from "./support.mjs";
 
 const PACKAGE = fileURLToPath(new URL("..", import.meta.url));
@@ -72,10 +71,14 @@ test("packed and installed in an empty folder", { skip: lacks("npm"), timeout: 2
     const page = readFileSync(EMBEDDED, "utf8");
     writeFileSync(join(room, "offline.mjs"), /```js\n([^]*?)```/.exec(page)?.[1] ?? "");
     const due = /It prints `([^`]*)`/.exec(page)?.[1];
-    const words = hasMemory64() ? process.execArgv.filter((it) => it.includes("memory64")) : [];
-    for (let time = 0; time < 2; time++) { // the second time it has what the first one stored
-      const { status, stdout, stderr } = spawnSync("node", [...words, "offline.mjs"], { cwd: room, encoding: "utf8" });
-      deepEqual([status, stdout.trimEnd(), stderr.includes("rules.mjs")], [0, due, !hasMemory64()], stderr);
+    const inRoom = /** @type {const} */ ({ cwd: room, encoding: "utf8" });
+    const has = 'import("jcrdt/jcrdt").then((it) => process.exit(it.hasMemory64() ? 0 : 1))';
+    for (const words of [[], process.execArgv.filter((it) => it.includes("memory64"))]) {
+      // Without memories of 64 bits one line says so. The second time it has what the first one stored.
+      const isProved = spawnSync("node", [...words, "-e", has], inRoom).status === 0;
+      const { status, stdout, stderr } = spawnSync("node", [...words, "offline.mjs"], inRoom);
+      const said = stderr.split("\n").filter((it) => it.includes("rules.mjs serves in place of jcrdt.wasm"));
+      deepEqual([status, stdout.trimEnd(), said.length], [0, due, isProved ? 0 : 1], stderr);
     }
   }
   if (lacks("tsc")) return context.diagnostic("tsc isn't installed: the types weren't used");

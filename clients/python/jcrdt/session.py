@@ -72,13 +72,16 @@ class Session:
     # Requests and replies.
 
     def begin(self) -> None:
-        """Waits until the session has begun. Raises Lost if it doesn't, or if that is no server of jcrdt."""
+        """Waits until the session has begun. Raises Lost if it doesn't, or if that is no server of jcrdt, and Refused if a
+        hub doesn't admit this client."""
         try:
             line = self.answer(encoded(["version"]))
         except Lost as error:
             if str(error).startswith("no reply"):
                 error = Lost(f"no session begins within {self.seconds:g} s: the server's sessions may be used up")
             raise error from None
+        if line.startswith(b'["no",103,'):
+            raise Refused(103, "not-allowed")
         # A hub without a server answers, too.
         if not line.startswith((b'["version",', b'["no",1')):
             raise Lost(f"that is no server of jcrdt: it answers {line[:40]!r}")
@@ -530,7 +533,8 @@ def connected(address: str, seconds: float = REPLY_SECONDS, begin: float = BEGIN
 
     A reply may take so many seconds, and have at most `limit` bytes: else the session ends by Lost. Raises Away
     if nobody listens there, or if no session begins within `begin` seconds: a server whose sessions are used
-    up takes a connection and doesn't answer. Raises ValueError for what is no HOST:PORT."""
+    up takes a connection and doesn't answer. Raises Refused (103) if a hub doesn't admit this client, and
+    ValueError for what is no HOST:PORT."""
     host, port = wire.host_and_port(address)
     try:
         connection = socket.create_connection((host, port), timeout=begin)

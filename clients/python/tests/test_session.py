@@ -301,6 +301,12 @@ def test_no_server_of_jcrdt(reply: bytes, word: str) -> None:
             jcrdt.connected(address, begin=2)
 
 
+def test_who_is_not_admitted_learns_it() -> None:
+    """A hub answers 103 and ends the connection: that isn't a connection which was lost."""
+    with answering(b'["no",103,"not-allowed"]\n') as address, pytest.raises(Refused, match="103 not-allowed"):
+        jcrdt.connected(address, begin=5)
+
+
 @contextlib.contextmanager
 def answering(*replies: bytes) -> Iterator[str]:
     """A false server: to each piece that it reads it answers the next of these."""
