@@ -36,6 +36,19 @@ def test_one_version() -> None:
     assert re.search(r'(?m)^version = "(.*)"$', (PACKAGE / "pyproject.toml").read_text())[1] == version  # type: ignore[index]
 
 
+@pytest.mark.parametrize("page, shown", [
+    (TOP / "docs" / "GUIDE.md", "{'steps': ['ask'], 'title': 'Plan'}"),
+    (PACKAGE / "README.md", "{'days': [{'town': 'Oslo'}, {'town': 'Bergen'}], 'title': 'Oslo'}")])
+def test_the_first_program_of_a_page(page: Path, shown: str, serve: Serve) -> None:
+    """It runs as it is written, before a server with the documents that it names."""
+    server = serve("notes", "trip")
+    blocks = page.read_text().split("```python\n")[1:]
+    program = blocks[0].split("```")[0].replace("127.0.0.1:7001", server.address)
+    run = subprocess.run([sys.executable, "-c", program], stdout=subprocess.PIPE, stderr=subprocess.STDOUT, timeout=SECONDS,
+                         env={**os.environ, "PYTHONPATH": str(PACKAGE)})
+    assert run.stdout.decode().strip() == shown
+
+
 def copied(folder: Path) -> Path:
     """A copy of what is under version control, and of what a build needs: a build leaves nothing here."""
     shutil.copytree(PACKAGE, folder / "source", ignore=shutil.ignore_patterns("__pycache__", ".*_cache", "tests", "build", "*.egg-info"))
