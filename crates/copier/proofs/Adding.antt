@@ -1,14 +1,19 @@
 -- Batches that were added one after another.
-use Rattle.std.proofs.Common.{◌≡◌, ◌≢◌, ◌⊎◌, inl, inr, Result, Ok, Err, OnOk, length, List, [], ℕ, zero, suc, Bool, true, Contains, max, ltb, ◌<◌, ◌≤◌, ◌∙◌, subst, sym, refl}
+use Rattle.std.proofs.Common.{◌≡◌, ◌≢◌, ◌⊎◌, inl, inr, Result, Ok, Err, IfOk, OnOk, length, List, [], ℕ, zero, suc, Bool, true, Contains, max, ltb, ◌<◌, ◌≤◌, ◌∙◌, subst, sym, refl}
 use Rattle.std.proofs.Math.Nat.{max-zero, zero-lt-suc, le-max_right, lt_of_lt_of_le, lt_irrefl}
 use Rattle.std.proofs.lemmas.Bool.{lt-ltb}
 use Rattle.std.proofs.lemmas.List.{nil_from_length}
 use Rattle.doc_words.specs.Words.{Op}
+use Rattle.json_scalar.specs.Refusal.{UnlessMemory}
+use Rattle.json_scalar.specs.declared.refusal.Refusal.{Refusal}
+use Rattle.doc_rules.specs.Document.{tail}
+use Rattle.locked_doc.specs.Locked.{Begins, Locked}
+use Rattle.copy_docs.specs.Limits.{most_rows}
 use Rattle.copy_docs.specs.Docs.{Doc, IsBatch, add_batch, log_of}
 use Rattle.copy_docs.specs.declared.fault.Fault.{Fault}
 use Rattle.copy_docs.specs.declared.fault.Fault.TheVariants.{Store}
 use Rattle.log_copy.specs.Kept.{Kept}
-use Rattle.copier.specs.Batches.{AddsMany, AreAdded, AreAddedUpTo, AddsBatches}
+use Rattle.copier.specs.Batches.{AddsMany, AddsOf, AreAdded, AreAddedUpTo, AddsBatches, IsNextOf}
 use Rattle.copier.specs.Batches.AreAdded.{none, more}
 use Rattle.copier.specs.Batches.AreAddedUpTo.{none_yet, one_more}
 
@@ -59,7 +64,26 @@ none_added (one_more {most = m} {count = n} before here adds) is_0 =
 
 -- what a batch that was written makes of the documents
 pub adds_many : {U F : Type 0} (B C : Type 0) (r : Result U F) (name : List ℕ) (old new : List Doc) {from : ℕ} {ops : List Op} → ops ≢ [] → from ≡ length (log_of name old)
-    → OnOk r ((new ≡ add_batch name ops old) × B × C) → OnOk r (IsBatch name from ops old) → OnOk r (AddsMany name (length ops) old new)
+    → OnOk r ((new ≡ add_batch name ops old) × B × C) → OnOk r (IsBatch name from ops old) → OnOk r ((adds : AddsMany name (length ops) old new) × (adds.next.ops ≡ ops))
 adds_many B C (Ok u) n d new {ops = o} some rows ok batch =
-    record { next = record { ops = o; some = some; batch = subst (λ k. IsBatch n k o d) rows batch; added = ok.0 }; many = refl }
+    (record { next = record { ops = o; some = some; batch = subst (λ k. IsBatch n k o d) rows batch; added = ok.0 }; many = refl }, refl)
 adds_many B C (Err e) n d new some rows ok batch = tt
+
+-- what is read of a document of this number, behind so many of its operations
+pub next_there : (initial_log : ℕ → List Op) (number from : ℕ) (d : Locked) (r : Result (List Op) Refusal) → d.number ≡ number → Begins (initial_log d.number) d.document
+    → UnlessMemory r (Ok (tail from most_rows d.document)) → IfOk r (IsNextOf initial_log number from)
+next_there initial_log number from d (Ok ops) same begun unless =
+    let is : Ok ops ≡ Ok (tail from most_rows d.document) = unless (λ none. cc) in
+    let ops_are : ops ≡ tail from most_rows d.document = cc in
+    (d.document, subst (λ n. Begins (initial_log n) d.document) same begun, ops_are)
+next_there initial_log number from d (Err cause) same begun unless = tt
+
+-- a batch of what was read
+pub adds_of : {name : List ℕ} {count number from : ℕ} {old new : List Doc} {entries next : List Op} (initial_log : ℕ → List Op) → from ≡ length (log_of name old)
+    → entries ≡ next → IsNextOf initial_log number from next → (adds : AddsMany name (length entries) old new) × (adds.next.ops ≡ entries) → count ≡ length entries
+    → AddsOf initial_log number name count old new
+adds_of {number = number} initial_log behind read of (adds, these) so_many =
+    record {
+      adds = record { next = adds.next; many = adds.many ∙ sym so_many };
+      of = subst (λ n. IsNextOf initial_log number n adds.next.ops) behind (subst (IsNextOf initial_log number _) (sym (these ∙ read)) of);
+    }

@@ -1,7 +1,10 @@
 -- What is copied: while sessions run, a copier writes what they log into the copy, in batches.
 use Rattle.std.specs.Prelude.{◌≡◌, ◌≢◌, ℕ, Bool, true, false, List, [], Contains, length, max, Option, None}
 use Rattle.doc_words.specs.Words.{Op}
+use Rattle.doc_rules.specs.Document.{Document, tail}
+use Rattle.locked_doc.specs.Locked.{Begins}
 use Rattle.copy_docs.specs.Docs.{Doc, IsBatch, add_batch, log_of}
+use Rattle.copy_docs.specs.Limits.{most_rows}
 use Rattle.copy_docs.specs.declared.fault.Fault.{Fault}
 use Rattle.log_copy.specs.Kept.{Kept}
 
@@ -16,6 +19,17 @@ pub record AddsNext (name : List ℕ) (old new : List Doc) : Type 0 where
 pub record AddsMany (name : List ℕ) (count : ℕ) (old new : List Doc) : Type 0 where
   pub next : AddsNext name old new
   pub many : length next.ops ≡ count
+
+-- the next operations after so many of the document of this number, in some state
+abbrev pub IsNextOf : (ℕ → List Op) → ℕ → ℕ → List Op → Type 0
+IsNextOf initial_log number from ops =
+    (d : Document) × Begins (initial_log number) d × (ops ≡ tail from most_rows d)
+
+-- so many were added under a name, and they are the next ones of the document of this number
+pub record AddsOf (initial_log : ℕ → List Op) (number : ℕ) (name : List ℕ) (count : ℕ)
+    (old new : List Doc) : Type 0 where
+  pub adds : AddsMany name count old new
+  pub of : IsNextOf initial_log number (length (log_of name old)) adds.next.ops
 
 -- One batch after another was added, each of a document of these names; and whether there was one.
 pub data AreAdded (names : List (List ℕ)) (old : List Doc) : Bool → List Doc → Type 0 where

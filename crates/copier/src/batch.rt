@@ -10,14 +10,14 @@ ghost use Rattle.doc_rules.specs.Document.{copied_to, tail};
 ghost use Rattle.copy_schema.specs.Content.{Holds};
 ghost use Rattle.copy_docs.specs.Docs.{IsBatch, add_batch, log_of};
 ghost use Rattle.log_copy.specs.Kept.{content};
-ghost use Rattle.copier.specs.Batches.{AddsMany, AreAdded, AreAddedUpTo, AddsBatches};
+ghost use Rattle.copier.specs.Batches.{AddsMany, AddsOf, AreAdded, AreAddedUpTo, AddsBatches, IsNextOf};
 
 use crate::observer::CopyObserver;
 use doc_words::Operations;
 use json_scalar::Refusal;
 use locked_doc::LockedDoc;
 use log_copy::{Fault, LogCopy, MAX_BATCH};
-use server_core::{SharedDocuments, spin_then_lock};
+use server_core::{SharedDocuments, lock_document};
 use share_ledger::Marker;
 use sqlite::Alter;
 use std::sync::Wait;
@@ -31,11 +31,17 @@ fn rows_of<S: Alter>(copy: &LogCopy<S>, name: &str) -> Result<usize, Fault>
     Ok(copy_docs::count(copy.docs()?, name))
 }
 
-// The document's entries from this index on, at most a batch of them. It stands alone for its
-// clause: of what a lock holds a caller of `lock` can state nothing.
-fn next_of<M: Marker>(doc: &LockedDoc<M>, from: usize) -> Result<Operations, Refusal>
-    ensures { UnlessMemory result (Ok (tail from MAX_BATCH doc.now.document)) }
+// The entries from this index on of the document, which has this number: at most a batch of them.
+fn next_of<M: Marker>(
+    doc: &LockedDoc<M>,
+    _doc_index: usize,
+    from: usize,
+) -> Result<Operations, Refusal>
+    requires { doc.now.number ≡ _doc_index }
+    ensures tail { UnlessMemory result (Ok (tail from MAX_BATCH doc.now.document)) }
+    ensures next { IfOk result (IsNextOf M.initial_log _doc_index from) }
 {
+    doc.keeps_sound();
     doc.tail(from, MAX_BATCH)
 }
 
@@ -47,9 +53,10 @@ fn next_at<M: Marker, R: Wait>(
     from: usize,
 ) -> Result<Operations, Refusal>
     requires { doc_index < length shared.now.names.items }
+    ensures { IfOk result (IsNextOf M.initial_log doc_index from) }
 {
-    let doc = spin_then_lock(rt, shared.shelf.doc(doc_index));
-    next_of(&doc, from)
+    let doc = lock_document(rt, shared, doc_index, 0);
+    next_of(&doc, doc_index, from)
 }
 
 // Notes in the document how many of its entries the copy has: so many.
@@ -79,7 +86,7 @@ fn note_at<M: Marker, R: Wait, S: Alter>(
     requires within { doc_index < length shared.now.names.items }
     requires stored { rows ≡ length (log_of name.now copy.now.docs) }
 {
-    let mut doc = spin_then_lock(rt, shared.shelf.doc(doc_index));
+    let mut doc = lock_document(rt, shared, doc_index, 0);
     note_rows(&mut doc, copy, name, rows);
 }
 
@@ -107,7 +114,8 @@ fn add_next<S: Alter>(
 ) -> Result<(), Fault>
     requires some { entries.now ≢ [] }
     requires behind { from ≡ length (log_of name.now copy.old.docs) }
-    ensures some { OnOk result (AddsMany name.now (length entries.now) copy.old.docs copy.new.docs) }
+    ensures some { OnOk result ((adds : AddsMany name.now (length entries.now) copy.old.docs copy.new.docs)
+        × (adds.next.ops ≡ entries.now)) }
     ensures works { OnOk result ((copy.new.epoch ≡ copy.old.epoch) × (copy.new.has_failed ≡ false)) }
     ensures err { IfErr result (λ e. (e ≡ Fault.Store) ⊎ (copy.new ≡ copy.old)) }
     ensures failed { (result ≡ Err Fault.Store) ↔ (copy.new.has_failed ≡ true) }
@@ -168,7 +176,8 @@ pub fn copy_some<M: Marker, R: Wait, S: Alter, T: CopyObserver>(
 ) -> Result<usize, Fault>
     requires within { doc_index < length shared.now.names.items }
     requires named { name.now ≡ get_or shared.now.names.items doc_index [] }
-    ensures some { IfOk result (λ count. 0 < count → AddsMany name.now count copy.old.docs copy.new.docs) }
+    ensures some { IfOk result (λ count.
+        0 < count → AddsOf M.initial_log doc_index name.now count copy.old.docs copy.new.docs) }
     ensures none { result ≡ Ok 0 → copy.new ≡ copy.old }
     ensures works { OnOk result ((copy.new.epoch ≡ copy.old.epoch) × (copy.new.has_failed ≡ false)) }
     ensures err { IfErr result (λ e. (e ≡ Fault.Store) ⊎ (copy.new ≡ copy.old)) }

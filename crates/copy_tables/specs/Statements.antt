@@ -1,5 +1,5 @@
 -- Statements that were run one after another, whatever tables the database has.
-use Rattle.std.specs.Prelude.{◌≡◌, ◌⊎◌, ℕ, pos, List, [], ◌∷◌, ◌++◌, map, Result, Ok, Err, OnOk, IfErr, codes}
+use Rattle.std.specs.Prelude.{◌≡◌, ◌⊎◌, ℕ, zero, suc, ◌/◌, pos, List, [], ◌∷◌, ◌++◌, map, take, drop, length, replicate, flat_map, Result, Ok, Err, OnOk, IfErr, codes}
 use Rattle.sqlite_trees.specs.declared.store.Store.{Ghosts}
 use Rattle.sqlite.specs.declared.types.Value.TheVariants.{Int}
 use Rattle.sqlite.specs.Order.{Row}
@@ -26,6 +26,22 @@ commit_it = record { text = codes "COMMIT"; params = [] }
 
 abbrev pub insert_row : Row → Statement
 insert_row row = record { text = codes "INSERT INTO entry (doc, place, text) VALUES (?1, ?2, ?3)"; params = row }
+
+-- sixteen rows at once
+abbrev pub insert_sixteen : List Row → Statement
+insert_sixteen rows = record {
+  text = codes "INSERT INTO entry (doc, place, text) VALUES (?, ?, ?)" ++ flat_map (λ it. it) (replicate 15 (codes ", (?, ?, ?)"));
+  params = flat_map (λ row. row) rows;
+}
+
+-- so many statements of sixteen rows, then one for each row that is left
+abbrev pub inserts_by : ℕ → List Row → List Statement
+inserts_by zero rows = map insert_row rows
+inserts_by (suc n) rows = insert_sixteen (take 16 rows) ∷ inserts_by n (drop 16 rows)
+
+-- sixteen rows a statement, as long as so many are left
+abbrev pub inserts_of : List Row → List Statement
+inserts_of rows = inserts_by (length rows / 16) rows
 
 abbrev pub update_epoch : ℕ → Statement
 update_epoch epoch =
@@ -56,7 +72,7 @@ insert_numbers =
 
 -- the rows in one transaction
 abbrev pub batch_of : List Row → List Statement
-batch_of rows = (begin_it ∷ map insert_row rows) ++ commit_it ∷ []
+batch_of rows = (begin_it ∷ inserts_of rows) ++ commit_it ∷ []
 
 -- both tables with their first rows, in a transaction
 abbrev pub filling_of_tables : List Statement

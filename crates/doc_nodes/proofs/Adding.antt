@@ -35,12 +35,12 @@ module _ (nodes : List Node) (n : NodeNumber) (within : n.0 < length nodes) wher
       (λ e. subst (λ z. part (node_of nodes j) ≤ part z) (sym (other-set nodes n j node e)) (omega arith))
       (cases_eq j.0 n.0)
 
-  no_less_room : (node : Node) → ((node_of nodes n).presence.1 ≡ true → node.presence.1 ≡ true)
-      → (j : NodeNumber) → (node_of nodes j).presence.1 ≡ true → (node_of (set nodes n.0 node) j).presence.1 ≡ true
-  no_less_room node more j room = ⊎_elim
-      (λ e. subst (λ z. (node_of (set nodes n.0 node) z).presence.1 ≡ true) (sym (eq_number j n e))
-      (subst (λ z. z.presence.1 ≡ true) (sym (here-set nodes n node within)) (more (subst (λ z. (node_of nodes z).presence.1 ≡ true) (eq_number j n e) room))))
-      (λ e. subst (λ z. z.presence.1 ≡ true) (sym (other-set nodes n j node e)) room)
+  no_less_room : (part : Node → Bool) (node : Node) → (part (node_of nodes n) ≡ true → part node ≡ true)
+      → (j : NodeNumber) → part (node_of nodes j) ≡ true → part (node_of (set nodes n.0 node) j) ≡ true
+  no_less_room part node more j room = ⊎_elim
+      (λ e. subst (λ z. part (node_of (set nodes n.0 node) z) ≡ true) (sym (eq_number j n e))
+      (subst (λ z. part z ≡ true) (sym (here-set nodes n node within)) (more (subst (λ z. part (node_of nodes z) ≡ true) (eq_number j n e) room))))
+      (λ e. subst (λ z. part z ≡ true) (sym (other-set nodes n j node e)) room)
       (cases_eq j.0 n.0)
 
   -- a node that says the same with no less room
@@ -51,7 +51,7 @@ module _ (nodes : List Node) (n : NodeNumber) (within : n.0 < length nodes) wher
     pub order : node.order.0 ≡ (node_of nodes n).order.0
     pub presence_room : (node_of nodes n).presence.1 ≡ true → node.presence.1 ≡ true
     pub register_room : (node_of nodes n).register.1 ≤ node.register.1
-    pub counter_room : (node_of nodes n).counter.1 ≤ node.counter.1
+    pub counter_room : (node_of nodes n).counter.1 ≡ true → node.counter.1 ≡ true
     pub order_room : (node_of nodes n).order.1 ≤ node.order.1
     pub children : node.children ≡ (node_of nodes n).children
     pub may_have_present_child : node.may_have_present_child ≡ (node_of nodes n).may_have_present_child
@@ -65,9 +65,9 @@ module _ (nodes : List Node) (n : NodeNumber) (within : n.0 < length nodes) wher
     order = unwritten nodes n within (λ z. z.order.0) node same.order;
     candidates = λ m e there. subst (λ cs. Contains (joined cs.1) e) (sym (unwritten nodes n within (λ z. z.children) node same.children m)) there;
     may_have_present_child = unwritten nodes n within (λ z. z.may_have_present_child) node same.may_have_present_child;
-    presence_room = no_less_room node same.presence_room;
+    presence_room = no_less_room (λ z. z.presence.1) node same.presence_room;
     register_room = no_less (λ z. z.register.1) node same.register_room;
-    counter_room = no_less (λ z. z.counter.1) node same.counter_room;
+    counter_room = no_less_room (λ z. z.counter.1) node same.counter_room;
     order_room = no_less (λ z. z.order.1) node same.order_room;
     forward = λ m k c e. ap (λ f. f m k) (shape-set nodes n node within (ap (λ cs. cs.0) same.children)) ∙ e;
     back = λ m k c e l. ap (λ f. f m k) (sym (shape-set nodes n node within (ap (λ cs. cs.0) same.children))) ∙ e;
@@ -83,7 +83,7 @@ module _ (nodes : List Node) (n : NodeNumber) (within : n.0 < length nodes) wher
       order = ap (λ (z : Node). z.order.0) is;
       presence_room = λ was. room (ap (λ (z : Node). z.presence.1) is ∙ was);
       register_room = omega (arith, ap (λ (z : Node). z.register.1) is);
-      counter_room = omega (arith, ap (λ (z : Node). z.counter.1) is);
+      counter_room = λ was. ap (λ (z : Node). z.counter.1) is ∙ was;
       order_room = omega (arith, ap (λ (z : Node). z.order.1) is);
       children = ap (λ (z : Node). z.children) is;
       may_have_present_child = ap (λ (z : Node). z.may_have_present_child) is;
@@ -97,13 +97,13 @@ module _ (nodes : List Node) (n : NodeNumber) (within : n.0 < length nodes) wher
       order = ap (λ (z : Node). z.order.0) is;
       presence_room = λ was. ap (λ (z : Node). z.presence.1) is ∙ was;
       register_room = omega (arith, room, ap (λ (z : Node). z.register.1) is);
-      counter_room = omega (arith, ap (λ (z : Node). z.counter.1) is);
+      counter_room = λ was. ap (λ (z : Node). z.counter.1) is ∙ was;
       order_room = omega (arith, ap (λ (z : Node). z.order.1) is);
       children = ap (λ (z : Node). z.children) is;
       may_have_present_child = ap (λ (z : Node). z.may_have_present_child) is;
     })
 
-    pub more_counter : (part : List (Id × ℤ) × ℕ) → part.0 ≡ node.counter.0 → node.counter.1 ≤ part.1 → Grows nodes (set nodes n.0 (record node { counter = part }))
+    pub more_counter : (part : List (Id × ℤ) × Bool) → part.0 ≡ node.counter.0 → (node.counter.1 ≡ true → part.1 ≡ true) → Grows nodes (set nodes n.0 (record node { counter = part }))
     more_counter part same room = grows_room (record node { counter = part }) (record {
       presence = ap (λ (z : Node). z.presence.0) is;
       register = ap (λ (z : Node). z.register.0) is;
@@ -111,7 +111,7 @@ module _ (nodes : List Node) (n : NodeNumber) (within : n.0 < length nodes) wher
       order = ap (λ (z : Node). z.order.0) is;
       presence_room = λ was. ap (λ (z : Node). z.presence.1) is ∙ was;
       register_room = omega (arith, ap (λ (z : Node). z.register.1) is);
-      counter_room = omega (arith, room, ap (λ (z : Node). z.counter.1) is);
+      counter_room = λ was. room (ap (λ (z : Node). z.counter.1) is ∙ was);
       order_room = omega (arith, ap (λ (z : Node). z.order.1) is);
       children = ap (λ (z : Node). z.children) is;
       may_have_present_child = ap (λ (z : Node). z.may_have_present_child) is;
@@ -125,7 +125,7 @@ module _ (nodes : List Node) (n : NodeNumber) (within : n.0 < length nodes) wher
       order = same ∙ ap (λ (z : Node). z.order.0) is;
       presence_room = λ was. ap (λ (z : Node). z.presence.1) is ∙ was;
       register_room = omega (arith, ap (λ (z : Node). z.register.1) is);
-      counter_room = omega (arith, ap (λ (z : Node). z.counter.1) is);
+      counter_room = λ was. ap (λ (z : Node). z.counter.1) is ∙ was;
       order_room = omega (arith, room, ap (λ (z : Node). z.order.1) is);
       children = ap (λ (z : Node). z.children) is;
       may_have_present_child = ap (λ (z : Node). z.may_have_present_child) is;
@@ -164,7 +164,7 @@ module _ (nodes new : List Node) (n : NodeNumber) (within : n.0 < length nodes) 
     may_have_present_child = same_but_blocks (λ z. z.may_have_present_child) refl;
     presence_room = λ j room. ap (λ p. p.1) (same_but_blocks (λ z. z.presence) refl j) ∙ room;
     register_room = λ j. omega (arith, same_but_blocks (λ z. z.register.1) refl j);
-    counter_room = λ j. omega (arith, same_but_blocks (λ z. z.counter.1) refl j);
+    counter_room = λ j room. ap (λ p. p.1) (same_but_blocks (λ z. z.counter) refl j) ∙ room;
     order_room = λ j. omega (arith, same_but_blocks (λ z. z.order.1) refl j);
     forward = λ m k c e. ap (λ f. f m k) (ap child_of only.is ∙ blocks_shape) ∙ e;
     back = λ m k c e l. ap (λ f. f m k) (sym (ap child_of only.is ∙ blocks_shape)) ∙ e;
@@ -210,10 +210,11 @@ module _ (nodes : List Node) (tree : AreTree nodes) (n : NodeNumber) (within : n
       (λ l. omega (arith, ap part (missing j l), zero))
       (cases_lt j.0 (length nodes))
 
-  no_fewer : (j : NodeNumber) → (node_of nodes j).presence.1 ≡ true → (node_of added j).presence.1 ≡ true
-  no_fewer j room = ⊎_elim
-      (λ l. ap (λ z. z.presence.1) (before j l) ∙ unwritten nodes n within (λ z. z.presence.1) (with_child k number blocks (node_of nodes n)) refl j ∙ room)
-      (λ l. absurd (true≢false (sym room ∙ ap (λ z. z.presence.1) (missing j l))))
+  no_fewer : (part : Node → Bool) → part (with_child k number blocks (node_of nodes n)) ≡ part (node_of nodes n) → part blank_node ≡ false
+      → (j : NodeNumber) → part (node_of nodes j) ≡ true → part (node_of added j) ≡ true
+  no_fewer part kept none j room = ⊎_elim
+      (λ l. ap part (before j l) ∙ unwritten nodes n within part (with_child k number blocks (node_of nodes n)) kept j ∙ room)
+      (λ l. absurd (true≢false (sym room ∙ ap part (missing j l) ∙ none)))
       (cases_lt j.0 (length nodes))
 
   -- the children are the old ones and the new one
@@ -303,9 +304,9 @@ module _ (nodes : List Node) (tree : AreTree nodes) (n : NodeNumber) (within : n
     order = same_part (λ z. z.order.0) refl is_fresh.order;
     candidates = still_there;
     may_have_present_child = same_part (λ z. z.may_have_present_child) refl is_fresh.may_have_present_child;
-    presence_room = no_fewer;
+    presence_room = no_fewer (λ z. z.presence.1) refl refl;
     register_room = fewer (λ z. z.register.1) refl refl;
-    counter_room = fewer (λ z. z.counter.1) refl refl;
+    counter_room = no_fewer (λ z. z.counter.1) refl refl;
     order_room = fewer (λ z. z.order.1) refl refl;
     forward = child_kept;
     back = λ j q c e l. ⊎_elim (λ h. h) (λ h. absurd (omega (arith, ap (λ z. z.0) h.2, next, l))) (child_added j q c e);

@@ -23,7 +23,7 @@ pub record Grows (old new : List Node) : Type 0 where
       → (node_of new n).may_have_present_child ≡ (node_of old n).may_have_present_child
   pub presence_room : (n : NodeNumber) → (node_of old n).presence.1 ≡ true → (node_of new n).presence.1 ≡ true
   pub register_room : (n : NodeNumber) → (node_of old n).register.1 ≤ (node_of new n).register.1
-  pub counter_room : (n : NodeNumber) → (node_of old n).counter.1 ≤ (node_of new n).counter.1
+  pub counter_room : (n : NodeNumber) → (node_of old n).counter.1 ≡ true → (node_of new n).counter.1 ≡ true
   pub order_room : (n : NodeNumber) → (node_of old n).order.1 ≤ (node_of new n).order.1
   pub forward : (n : NodeNumber) (k : Key) (c : NodeNumber) → child_of old n k ≡ Some c → child_of new n k ≡ Some c
   pub back : (n : NodeNumber) (k : Key) (c : NodeNumber) → child_of new n k ≡ Some c → c.0 < length old

@@ -18,7 +18,7 @@ blank_node =
     record {
       presence = ([], false);
       register = ([], 0);
-      counter = ([], 0);
+      counter = ([], false);
       order = ([], 0);
       children = ([], []);
       may_have_present_child = false;

@@ -22,7 +22,7 @@ with_scalar id s node = record node { register = (put_at_id node.register.0 id s
 
 -- a node with a number in its counter
 abbrev pub with_number : Id → ℤ → Node → Node
-with_number id n node = record node { counter = (put_at_id node.counter.0 id n, node.counter.1) }
+with_number id n node = record node { counter = (put_at_id node.counter.0 id n, false) }
 
 -- a node with one more id in its list
 abbrev pub with_entry : Option Id → Id → Node → Node
@@ -76,4 +76,4 @@ pub record IsReadyFor (nodes : List Node) (p : List Tagged) (k : Key) (adds : Bo
   pub register : adds ≡ false → (m : NodeNumber) → node_at nodes p k ≡ Some m
       → length (node_of nodes m).register.0 < (node_of nodes m).register.1
   pub counter : adds ≡ true → (m : NodeNumber) → node_at nodes p k ≡ Some m
-      → length (node_of nodes m).counter.0 < (node_of nodes m).counter.1
+      → (node_of nodes m).counter.1 ≡ true

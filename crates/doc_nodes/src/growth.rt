@@ -93,8 +93,7 @@ pub fn reserve_value(nodes: &mut Vec<Node>, at: NodeNumber, adds: bool) -> Resul
     ensures none { length nodes.new.items ≡ length nodes.old.items }
     ensures register { adds ≡ false
         → OnOk result (length (node_of nodes.new.items at).register.0 < (node_of nodes.new.items at).register.1) }
-    ensures counter { adds ≡ true
-        → OnOk result (length (node_of nodes.new.items at).counter.0 < (node_of nodes.new.items at).counter.1) }
+    ensures counter { adds ≡ true → OnOk result ((node_of nodes.new.items at).counter.1 ≡ true) }
     ensures memory { IfErr result (λ cause. cause ≡ NoMemory) }
 {
     let node = &mut nodes[at.0];

@@ -9,6 +9,7 @@ mod finding;
 mod growth;
 mod list_presence;
 mod node;
+mod numbers;
 mod presence;
 mod write;
 

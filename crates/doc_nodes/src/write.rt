@@ -1,5 +1,5 @@
 //! Writes to one node.
-ghost use Rattle.std.specs.Prelude.{◌≡◌, ◌<◌, length, slice_set, Contains};
+ghost use Rattle.std.specs.Prelude.{◌≡◌, ◌<◌, length, slice_set, true, Contains};
 ghost use Rattle.std.specs.Option.{ForSome};
 ghost use Rattle.list_order.specs.Entries.{ids_of};
 ghost use Rattle.doc_nodes.specs.Nodes.{node_of};
@@ -12,7 +12,7 @@ use lamport_id::Id;
 /// Enters a number into the counter of a node.
 pub fn count(nodes: &mut [Node], at: NodeNumber, id: &Id, n: i64)
     requires known { at.0 < length nodes.old }
-    requires room { length (node_of nodes.old at).counter.0 < (node_of nodes.old at).counter.1 }
+    requires room { (node_of nodes.old at).counter.1 ≡ true }
     ensures { nodes.new ≡ slice_set nodes.old at.0 (with_number id.now n (node_of nodes.old at)) }
 {
     let node = &mut nodes[at.0];

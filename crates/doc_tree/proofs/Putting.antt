@@ -195,10 +195,10 @@ module _ (id : Id) (role : Role) (old new : List Node) (tree : AreTree old) (p :
   pub within-made_present : m.0 < length new
   within-made_present = node_within new tree-made_present p k m node_at-made_present
 
-  pub counter_room-made_present : length (node_of old m).counter.0 < (node_of old m).counter.1 → length (node_of new m).counter.0 < (node_of new m).counter.1
+  pub counter_room-made_present : (node_of old m).counter.1 ≡ true → (node_of new m).counter.1 ≡ true
   counter_room-made_present room =
-      subst (λ z. length z.counter.0 < z.counter.1) (node_of-plain new m)
-      (subst (λ r. length r.0 < r.1) (sym (added.kept m).1) (subst (λ z. length z.counter.0 < z.counter.1) (sym (node_of-plain old m)) room))
+      subst (λ z. z.counter.1 ≡ true) (node_of-plain new m)
+      (subst (λ r. r.1 ≡ true) (sym (added.kept m).1) (subst (λ z. z.counter.1 ≡ true) (sym (node_of-plain old m)) room))
 
   module _ (a : ℤ) (last : List Node) (is : last ≡ set new m.0 (with_number id a (node_of new m))) where
     pub facts-added : facts_of last ≡ add_facts (facts_of old) p k id a

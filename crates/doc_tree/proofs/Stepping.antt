@@ -92,7 +92,7 @@ ready-linked nodes n after id within p k adds ready = record {
       subst (λ r. length r.0 < r.1) (sym (unwritten nodes n within (λ z. z.register) (with_entry after id (node_of nodes n)) refl m))
       (ready.register which m (sym same_node ∙ e));
   counter = λ which m e.
-      subst (λ r. length r.0 < r.1) (sym (unwritten nodes n within (λ z. z.counter) (with_entry after id (node_of nodes n)) refl m))
+      subst (λ r. r.1 ≡ true) (sym (unwritten nodes n within (λ z. z.counter) (with_entry after id (node_of nodes n)) refl m))
       (ready.counter which m (sym same_node ∙ e));
 }
   where

@@ -1,5 +1,5 @@
 //! The parts of branches and items, as JSON text.
-ghost use Rattle.std.specs.Prelude.{◌≡◌, ◌++◌, map, not};
+ghost use Rattle.std.specs.Prelude.{◌≡◌, ◌<◌, ◌++◌, length, map, not};
 ghost use Rattle.json_scalar.specs.Scalar.{scalar_data};
 ghost use Rattle.op_core.specs.Wire.{list_data};
 ghost use Rattle.doc_rules.specs.Shown.{value_entry_data, count_branch, total_shown};
@@ -8,6 +8,7 @@ ghost use Rattle.doc_view.specs.Writing.{beginning, ending};
 ghost use Rattle.json_text.specs.Tokens.{all_tokens, data_tokens, Puts};
 
 use crate::registers::total_of;
+use doc_tree::Entries;
 use json_scalar::{Refusal, Scalar};
 use json_text::{AsJson, JsonText};
 use lamport_id::Id;
@@ -16,9 +17,10 @@ use lamport_id::Id;
 pub fn write_values(
     text: &mut JsonText,
     entries: &[(Id, Scalar)],
-    terms: &[(Id, i64)],
+    terms: Entries<'_, i64>,
 ) -> Result<(), Refusal>
-    ensures { Puts (all_tokens (map value_entry_data entries.now) ++ all_tokens (count_branch (total_shown terms.now)))
+    requires { length terms < 18446744073709551616 }
+    ensures { Puts (all_tokens (map value_entry_data entries.now) ++ all_tokens (count_branch (total_shown terms.entry)))
         text.old text.new result }
 {
     write_entries(text, entries)?;
@@ -45,8 +47,9 @@ fn write_entry(text: &mut JsonText, entry: &(Id, Scalar)) -> Result<(), Refusal>
     text.end_list()
 }
 
-fn write_total(text: &mut JsonText, terms: &[(Id, i64)]) -> Result<(), Refusal>
-    ensures { Puts (all_tokens (count_branch (total_shown terms.now))) text.old text.new result }
+fn write_total(text: &mut JsonText, terms: Entries<'_, i64>) -> Result<(), Refusal>
+    requires { length terms < 18446744073709551616 }
+    ensures { Puts (all_tokens (count_branch (total_shown terms.entry))) text.old text.new result }
 {
     if terms.is_empty() {
         return Ok(());

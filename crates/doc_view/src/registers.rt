@@ -1,12 +1,12 @@
 //! The values of a register and of a counter.
-ghost use Rattle.std.specs.Prelude.{◌≡◌, ◌≢◌, map, Err};
+ghost use Rattle.std.specs.Prelude.{◌≡◌, ◌≢◌, ◌<◌, length, map, Err};
 ghost use Rattle.json_scalar.specs.declared.refusal.Refusal.TheVariants.{NoMemory};
 ghost use Rattle.doc_tree.specs.Nodes.{tree_facts};
 ghost use Rattle.doc_rules.specs.Views.{AreValues, IsSum, total};
 ghost use Rattle.doc_view.specs.ByNumber.{AtNode};
 ghost use Rattle.doc_view.specs.Readings.{GivesUnlessMemory, ReadsUnlessMemory};
 
-use doc_tree::{NodeNumber, Tree};
+use doc_tree::{Entries, NodeNumber, Tree};
 use doc_words::Scalars;
 use json_scalar::{Refusal, Scalar};
 use lamport_id::Id;
@@ -61,9 +61,10 @@ fn sum_at(tree: &Tree, path: &Path, key: &Key) -> i128
     total_of(tree.counter(path, key))
 }
 
-// A slice has fewer than 2^64 entries, so the total of 64-bit numbers is within 128 bits.
-pub fn total_of(entries: &[(Id, i64)]) -> i128
-    ensures { result ≡ total entries.now }
+// There are fewer than 2^64 entries, so the total of 64-bit numbers is within 128 bits.
+pub fn total_of(entries: Entries<'_, i64>) -> i128
+    requires { length entries < 18446744073709551616 }
+    ensures { result ≡ total entries.entry }
 {
     let mut total: i128 = 0;
     for entry in entries {

@@ -36,7 +36,7 @@ pub fn conflicts(alloc: Global, tree: &Tree, cursor: &Cursor) -> Result<Conflict
 
 fn values_of_roles(
     alloc: Global,
-    roles: Entries<'_>,
+    roles: Entries<'_, Role>,
     scalars: &[(Id, Scalar)],
 ) -> Result<Conflicts, Refusal>
     requires { IsAscending scalars.now }
@@ -120,7 +120,7 @@ fn is_at(id: &Id, scalars: &[(Id, Scalar)], place: usize) -> bool
 
 /// Whether some id has the role of one that put an empty map, or an empty list. It looks at roles only until it has
 /// found what may be put.
-pub fn empty_put(roles: Entries<'_>, may: EmptyPut) -> EmptyPut
+pub fn empty_put(roles: Entries<'_, Role>, may: EmptyPut) -> EmptyPut
     requires { CoversPut may roles }
     ensures map { result.map ≡ list_any (λ e. puts_map e.1) roles.entry }
     ensures list { result.list ≡ list_any (λ e. puts_list e.1) roles.entry }

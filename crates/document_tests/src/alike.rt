@@ -6,14 +6,14 @@ use crate::sites::Site;
 use converge_laws::free_present;
 use doc_tree::{Entries, Tree};
 use doc_view::{conflicts, items, keys, show, sum, values};
-use doc_words::{CompactText, Scalars};
+use doc_words::{CompactText, Role, Scalars};
 use json_scalar::{Refusal, Scalar, Val};
 use lamport_id::Id;
 use op_core::{Cursor, Key, KeyText, Operation, Path};
 use plain_rules::PlainContext;
 use std::alloc::Global;
 
-fn has_id(entries: Entries<'_>, id: &Id) -> bool {
+fn has_id(entries: Entries<'_, Role>, id: &Id) -> bool {
     for entry in entries {
         if entry.0 == *id {
             return true;

@@ -37,7 +37,7 @@ fn tree_of(alloc: Global, texts: &[&str]) -> Result<Tree, Refusal> {
     Ok(tree)
 }
 
-fn number_of(entries: Entries<'_>) -> usize {
+fn number_of<X: Drop>(entries: Entries<'_, X>) -> usize {
     let mut number: usize = 0;
     for _ in entries {
         number = number.saturating_add(1);
@@ -54,7 +54,7 @@ fn counts(alloc: Global, texts: &[&str], at: &str) -> Result<(usize, usize, usiz
     Ok((
         number_of(tree.present(&place.path, &place.key)),
         tree.register(&place.path, &place.key).len(),
-        tree.counter(&place.path, &place.key).len(),
+        number_of(tree.counter(&place.path, &place.key)),
     ))
 }
 

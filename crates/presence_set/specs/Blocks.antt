@@ -3,7 +3,6 @@ use Rattle.std.specs.Prelude.{◌≡◌, ◌<◌, ℕ, suc, List, [], ◌∷◌,
 use Rattle.std.specs.List.{flat_map, prefix_len}
 use Rattle.std.specs.Ordering.{is_lt}
 use Rattle.doc_words.specs.Words.{Id, id_cmp}
-use Rattle.doc_words.specs.declared.role.Role.{Role}
 use Rattle.presence_set.specs.ById.{IsAscending}
 use Rattle.presence_set.specs.declared.lack.Lack.{Lack}
 use Rattle.presence_set.specs.declared.lack.Lack.TheVariants.{InFirst, InRest, Anywhere}
@@ -60,11 +59,11 @@ module _ {X : Type 0} where
     pub filled : AreNonEmpty rest
     pub room : HaveRoomFor has_room lack first rest
 
-module _ {Z : Type 0} where
+module _ {X Z : Type 0} where
   -- the blocks behind the first: none without their box
-  abbrev pub blocks_in : Option (Box LaterBlocks Z) → List (List (Id × Role) × ℕ)
+  abbrev pub blocks_in : Option (Box (LaterBlocks (List (Id × X) × ℕ)) Z) → List (List (Id × X) × ℕ)
   blocks_in later = unwrap_or (option_map (λ b. b.value.blocks.items) later) []
 
   -- which block may lack room: without that box any
-  abbrev pub lack_in : Option (Box LaterBlocks Z) → Lack
+  abbrev pub lack_in : Option (Box (LaterBlocks (List (Id × X) × ℕ)) Z) → Lack
   lack_in later = unwrap_or (option_map (λ b. b.value.lack) later) Anywhere

@@ -28,7 +28,7 @@ const FULL: usize = 256;
 /// pair: the ids with their roles, and whether there is room for one more.
 pub struct Presence {
     first: ById<Role>,
-    later: Option<Box<LaterBlocks>>,
+    later: Option<Box<LaterBlocks<ById<Role>>>>,
     has_room: bool,
     may_put: EmptyPut,
     alloc: Global,
@@ -104,8 +104,7 @@ impl Presence {
     pub fn retain_uncovered(&mut self, front: &Front)
         ensures { self.new ≡ (uncovered front.now self.old.0, self.old.1) }
     {
-        self.first.retain_uncovered(front);
-        retain_later(&mut self.later, front);
+        retain_among(&mut self.first, &mut self.later, front);
     }
 
     /// Whether an empty map and an empty list may be put: of a kind for which this is false, none is.
@@ -135,40 +134,36 @@ impl Presence {
     }
 
     /// The ids with their values, in id order.
-    pub fn entries(&self) -> Entries<'_>
+    pub fn entries(&self) -> Entries<'_, Role>
         ensures value { result ≡ self.now.0 }
         ensures ascending { IsAscending result }
     {
-        Entries {
-            entries: self.first.entries(),
-            blocks: later_blocks(&self.later),
-        }
+        entries_among(&self.first, &self.later)
     }
 }
 
 /// Ids with their values, one after another in id order, seen as the list of those that are left.
 #[derive(Drop)]
-pub struct Entries<'a> {
-    entries: &'a [(Id, Role)],
-    blocks: &'a [ById<Role>],
+pub struct Entries<'a, X> {
+    entries: &'a [(Id, X)],
+    blocks: &'a [ById<X>],
 }
 
-impl<'a> Model for Entries<'a> {
+impl<'a, X> Model for Entries<'a, X> {
     ghost use Rattle.std.specs.Prelude.{List, ◌++◌};
     ghost use Rattle.lamport_id.specs.declared.id.Id.{Id};
-    ghost use Rattle.doc_words.specs.declared.role.Role.{Role};
     ghost use Rattle.presence_set.specs.Blocks.{pairs_in, AreNonEmpty};
 
-    ghost Value = { List (Id × Role) };
+    ghost Value = { List (Id × X) };
 
     ghost view = { λ e. e.entries.now ++ pairs_in e.blocks.now };
 
     ghost invariant = { λ e. AreNonEmpty e.blocks.now };
 }
 
-impl<'a> Entries<'a> {
+impl<'a, X: Drop> Entries<'a, X> {
     /// No id.
-    pub fn none() -> Entries<'a>
+    pub fn none() -> Entries<'a, X>
         ensures { result ≡ [] }
     {
         Entries {
@@ -176,18 +171,25 @@ impl<'a> Entries<'a> {
             blocks: &[],
         }
     }
+
+    /// Whether no id is left.
+    pub fn is_empty(&self) -> bool
+        ensures { IsTrue result ↔ (self.now ≡ []) }
+    {
+        self.entries.is_empty() && self.blocks.is_empty()
+    }
 }
 
-impl<'a> Iterator for Entries<'a> {
+impl<'a, X: Drop> Iterator for Entries<'a, X> {
     ghost use Rattle.std.specs.Iterator.{YieldsFirstRef, item_count};
 
-    type Item = &'a (Id, Role);
+    type Item = &'a (Id, X);
 
     ghost next_gives = { YieldsFirstRef (λ rest. rest) };
 
     ghost remaining = { item_count (λ rest. rest) };
 
-    fn next(&mut self) -> Option<&'a (Id, Role)> {
+    fn next(&mut self) -> Option<&'a (Id, X)> {
         if let Some((first, rest)) = self.entries.split_first() {
             self.entries = rest;
             return Some(first);
@@ -229,8 +231,22 @@ fn starts_by<X: Drop>(entries: &[(Id, X)], id: &Id) -> bool
     }
 }
 
+// The ids of all blocks with their values, in id order.
+pub fn entries_among<'a, X: Drop>(
+    first: &'a ById<X>,
+    later: &'a Option<Box<LaterBlocks<ById<X>>>>,
+) -> Entries<'a, X>
+    requires { AreNonEmpty (blocks_in later.now) }
+    ensures { result ≡ first.now.0 ++ pairs_in (blocks_in later.now) }
+{
+    Entries {
+        entries: first.entries(),
+        blocks: later_blocks(later),
+    }
+}
+
 // The blocks behind the first: none where there is no box.
-fn later_blocks(later: &Option<Box<LaterBlocks>>) -> &[ById<Role>]
+pub fn later_blocks<X: Drop>(later: &Option<Box<LaterBlocks<ById<X>>>>) -> &[ById<X>]
     ensures { result.now ≡ blocks_in later.now }
 {
     match later {
@@ -240,9 +256,9 @@ fn later_blocks(later: &Option<Box<LaterBlocks>>) -> &[ById<Role>]
 }
 
 // Makes room for one more id. Where the first block is full and alone, it makes the box for the others.
-fn make_room_for_one(
-    first: &mut ById<Role>,
-    later: &mut Option<Box<LaterBlocks>>,
+pub fn make_room_for_one<X: Drop>(
+    first: &mut ById<X>,
+    later: &mut Option<Box<LaterBlocks<ById<X>>>>,
     alloc: Global,
 ) -> Result<(), AllocError>
     requires filled { AreNonEmpty (blocks_in later.old) }
@@ -266,7 +282,10 @@ fn make_room_for_one(
 }
 
 // Makes room for one more id in each block that may lack it.
-fn make_room_among(first: &mut ById<Role>, later: &mut LaterBlocks) -> Result<(), AllocError>
+fn make_room_among<X: Drop>(
+    first: &mut ById<X>,
+    later: &mut LaterBlocks<ById<X>>,
+) -> Result<(), AllocError>
     requires filled { AreNonEmpty later.old.blocks.items }
     requires room { HaveRoomBut later.old.lack first.old later.old.blocks.items }
     ensures same { first.new.0 ++ pairs_in later.new.blocks.items
@@ -281,7 +300,12 @@ fn make_room_among(first: &mut ById<Role>, later: &mut LaterBlocks) -> Result<()
 }
 
 // Puts a value into the block where its id belongs, which may lack room then.
-fn put_among(first: &mut ById<Role>, later: &mut Option<Box<LaterBlocks>>, id: Id, value: Role)
+pub fn put_among<X: Drop>(
+    first: &mut ById<X>,
+    later: &mut Option<Box<LaterBlocks<ById<X>>>>,
+    id: Id,
+    value: X,
+)
     requires rising { IsAscending (first.old.0 ++ pairs_in (blocks_in later.old)) }
     requires filled { AreNonEmpty (blocks_in later.old) }
     requires first { HasSpareRoom first.old }
@@ -294,20 +318,26 @@ fn put_among(first: &mut ById<Role>, later: &mut Option<Box<LaterBlocks>>, id: I
     match later {
         None => first.put(id, value),
         Some(later) => {
-            let later: &mut LaterBlocks = later;
+            let later: &mut LaterBlocks<ById<X>> = later;
             later.lack = put_into(first, &mut later.blocks, id, value);
         }
     }
 }
 
-// Drops the ids that the front covers from the blocks behind the first, and those blocks that are empty then.
-fn retain_later(later: &mut Option<Box<LaterBlocks>>, front: &Front)
+// Drops the ids that the front covers from all blocks, and those behind the first that are empty then.
+pub fn retain_among<X: Drop>(
+    first: &mut ById<X>,
+    later: &mut Option<Box<LaterBlocks<ById<X>>>>,
+    front: &Front,
+)
+    ensures first { first.new ≡ (uncovered front.now first.old.0, first.old.1) }
     ensures blocks { blocks_in later.new
         ≡ filter (λ b. has_pair b.0) (map (λ b. (uncovered front.now b.0, b.1)) (blocks_in later.old)) }
     ensures lack { lack_in later.new ≡ Anywhere }
 {
+    first.retain_uncovered(front);
     if let Some(later) = later {
-        let later: &mut LaterBlocks = later;
+        let later: &mut LaterBlocks<ById<X>> = later;
         later.lack = Lack::Anywhere;
         retain_each(&mut later.blocks, front);
         drop_empty(&mut later.blocks);

@@ -1,42 +1,45 @@
 //! Values by ids, in blocks, so that one more moves few others.
-ghost use Rattle.std.specs.Prelude.{◌≡◌, [], true, false, MatchOption, None, Some, OnOk};
-ghost use Rattle.presence_set.specs.ById.{put_at_id, get};
+ghost use Rattle.std.specs.Prelude.{◌≡◌, [], true, false, MatchOption, None, Some, IsOk, OnOk};
+ghost use Rattle.presence_set.specs.ById.{put_at_id, get, uncovered, IsAscending};
 
 use crate::ById;
-use crate::blocks::{blocks_by, make_room, put_into};
-use crate::lack::Lack;
+use crate::blocks::{
+    Entries, blocks_by, entries_among, later_blocks, make_room_for_one, put_among, retain_among,
+};
+use crate::later::LaterBlocks;
 use lamport_id::Id;
+use op_core::Front;
 use std::alloc::{AllocError, Global};
 use std::marker::Model;
 
-/// At most one value for each id, in id order, in blocks, of which the first may be empty. Clauses see a pair: the ids
-/// with their values, and whether there is room for one more.
+/// At most one value for each id, in id order, in blocks, of which the first may be empty. The others are in a box that
+/// is made with the second. Clauses see a pair: the ids with their values, and whether there is room for one more.
 pub struct IdBlocks<X> {
     first: ById<X>,
-    rest: Vec<ById<X>>,
-    lack: Lack,
+    later: Option<Box<LaterBlocks<ById<X>>>>,
     has_room: bool,
+    alloc: Global,
 }
 
 impl<X> Model for IdBlocks<X> {
     ghost use Rattle.std.specs.Prelude.{List, Bool, ◌++◌};
     ghost use Rattle.lamport_id.specs.declared.id.Id.{Id};
-    ghost use Rattle.presence_set.specs.Blocks.{pairs_in, IsInBlocks};
+    ghost use Rattle.presence_set.specs.Blocks.{pairs_in, blocks_in, lack_in, IsInBlocks};
 
     ghost Value = { List (Id × X) × Bool };
 
-    ghost view = { λ p. (p.first.0 ++ pairs_in p.rest.items, p.has_room) };
+    ghost view = { λ p. (p.first.0 ++ pairs_in (blocks_in p.later), p.has_room) };
 
-    ghost invariant = { λ p. IsInBlocks p.first p.rest.items p.has_room p.lack };
+    ghost invariant = { λ p. IsInBlocks p.first (blocks_in p.later) p.has_room (lack_in p.later) };
 }
 
 impl<X: Drop> Drop for IdBlocks<X> {
     fn drop(self) {
         let IdBlocks {
             first: _,
-            rest: _,
-            lack: _,
+            later: _,
             has_room: _,
+            alloc: _,
         } = self;
     }
 }
@@ -48,24 +51,23 @@ impl<X: Drop> IdBlocks<X> {
     {
         IdBlocks {
             first: ById::new(alloc),
-            rest: Vec::new(alloc),
-            lack: Lack::Anywhere,
+            later: None,
             has_room: false,
+            alloc,
         }
     }
 
-    /// Makes room for one more id. Out of memory, the entries stay as they are.
+    /// Makes room for one more id. It never fails where there is room. Out of memory, the entries stay as they are.
     pub fn reserve_one(&mut self) -> Result<(), AllocError>
         ensures same { self.new.0 ≡ self.old.0 }
         ensures grows { self.old.1 ≡ true → self.new.1 ≡ true }
         ensures room { OnOk result (self.new.1 ≡ true) }
+        ensures succeeds { self.old.1 ≡ true → IsOk result }
     {
         if self.has_room {
             return Ok(());
         }
-        let lack = self.lack;
-        self.lack = Lack::Anywhere;
-        make_room(&mut self.first, &mut self.rest, lack)?;
+        make_room_for_one(&mut self.first, &mut self.later, self.alloc)?;
         self.has_room = true;
         Ok(())
     }
@@ -76,17 +78,32 @@ impl<X: Drop> IdBlocks<X> {
         ensures { self.new ≡ (put_at_id self.old.0 id value, false) }
     {
         self.has_room = false;
-        self.lack = put_into(&mut self.first, &mut self.rest, id, value);
+        put_among(&mut self.first, &mut self.later, id, value);
+    }
+
+    /// Drops the ids that the front covers.
+    pub fn retain_uncovered(&mut self, front: &Front)
+        ensures { self.new ≡ (uncovered front.now self.old.0, self.old.1) }
+    {
+        retain_among(&mut self.first, &mut self.later, front);
     }
 
     /// The value of an id. Its block is found by bisection, and then its place in the block.
     pub fn get(&self, id: &Id) -> Option<&X>
         ensures { MatchOption result (get self.now.0 id.now ≡ None) (λ x. get self.now.0 id.now ≡ Some x.now) }
     {
-        let blocks = self.rest.as_slice();
+        let blocks = later_blocks(&self.later);
         match blocks_by(blocks, id).checked_sub(1) {
             None => self.first.get(id),
             Some(at) => blocks[at].get(id),
         }
+    }
+
+    /// The ids with their values, in id order.
+    pub fn entries(&self) -> Entries<'_, X>
+        ensures value { result ≡ self.now.0 }
+        ensures ascending { IsAscending result }
+    {
+        entries_among(&self.first, &self.later)
     }
 }

@@ -27,13 +27,13 @@ lines_end names totals i past = rw (drop_all i names past) refl
 -- what sessions did over documents of these names, and what was written of it
 pub serves : (begun : ℕ → List Op) (docs last : List Doc) (shelved names : List (List ℕ)) (connections : List Bytes) (count : ℕ) {F : Type 0} {ran : Result Gathered F} (gathered : Gathered)
     (held holds : Option (List ℕ)) → ran ≡ Ok gathered
-    → IfOk ran (λ g. (given : List (List (Option Seat))) × AreAttended shelved connections g.endings.items given × AreTotalsFrom begun 0 given g.totals.items)
+    → IfOk ran (λ g. (given : List (List (Option Seat))) × AreAttended begun shelved connections g.endings.items given × AreTotalsFrom begun 0 given g.totals.items)
     → IfOk ran (λ g. vec_len g.totals ≡ length shelved)
     → begun ≡ entries_at docs names → shelved ≡ names → length connections ≡ count → AreStored last names gathered.totals.items
     → Appends held holds (total_lines names gathered.totals.items) → ServesSessions docs last names count held holds
 serves begun docs last shelved names connections count gathered held holds is sessions each restored same so_many stored written =
     let (given, attended, added) = subst
-    (λ ran. IfOk ran (λ g. (given : List (List (Option Seat))) × AreAttended shelved connections g.endings.items given × AreTotalsFrom begun 0 given g.totals.items)) is sessions in
+    (λ ran. IfOk ran (λ g. (given : List (List (Option Seat))) × AreAttended begun shelved connections g.endings.items given × AreTotalsFrom begun 0 given g.totals.items)) is sessions in
     let many : vec_len gathered.totals ≡ length shelved = subst (λ ran. IfOk ran (λ g. vec_len g.totals ≡ length shelved)) is each in
     record {
       connections = connections;
@@ -41,7 +41,7 @@ serves begun docs last shelved names connections count gathered held holds is se
       given = given;
       totals = gathered.totals.items;
       so_many = so_many;
-      attended = subst (λ ns. AreAttended ns connections gathered.endings.items given) same attended;
+      attended = subst (λ first. AreAttended first names connections gathered.endings.items given) restored (subst (λ ns. AreAttended begun ns connections gathered.endings.items given) same attended);
       each = sym gathered.totals.ok.0 ∙ many ∙ ap length same;
       added = subst (λ first. AreTotalsFrom first 0 given gathered.totals.items) restored added;
       stored = stored;

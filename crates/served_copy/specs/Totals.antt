@@ -33,7 +33,8 @@ AreStored docs names totals = AllZip (IsStored docs) names totals
 
 -- So many connections, each with a session over documents of these names, or with none; and then a
 -- line of totals for each document, which are those of the seats that these sessions had. Each
--- document began with just the entries that it has in these documents of a copy. At the end the copy
+-- document began with just the entries that it has in these documents of a copy, and whatever a
+-- session was answered of a name is of a document that began so. At the end the copy
 -- has these last documents: of each it has as many operations as the totals say. Where they are
 -- known, the bytes are what a connection's source has and what its sink has taken.
 pub record ServesSessions (docs last : List Doc) (names : List (List ℕ)) (count : ℕ)
@@ -43,7 +44,7 @@ pub record ServesSessions (docs last : List Doc) (names : List (List ℕ)) (coun
   pub given : List (List (Option Seat))
   pub totals : List Totals
   pub so_many : length connections ≡ count
-  pub attended : AreAttended names connections endings given
+  pub attended : AreAttended (entries_at docs names) names connections endings given
   pub each : length totals ≡ length names
   pub added : AreTotalsFrom (entries_at docs names) 0 given totals
   pub stored : AreStored last names totals

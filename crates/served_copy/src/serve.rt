@@ -62,7 +62,7 @@ fn run_beside_copier<
     ran: &mut Result<Gathered, Failure>,
 ) -> Copier<'a, S, T>
     ensures sessions { IfOk ran.new (λ g. (given : List (List (Option seats.Seat)))
-        × AreAttended shared.names.items (map C.bytes connections.items) g.endings.items given
+        × AreAttended M.initial_log shared.names.items (map C.bytes connections.items) g.endings.items given
         × AreTotalsFrom M.initial_log 0 given g.totals.items) }
     ensures each { IfOk ran.new (λ g. vec_len g.totals ≡ length shared.names.items) }
     ensures same_reference { result.copy.ghost_name ≡ copier.entry.copy.ghost_name }
@@ -98,7 +98,7 @@ fn serve_with_copier<
     copy: &mut LogCopy<S>,
 ) -> (Result<Gathered, Failure>, Option<Fault>)
     ensures sessions { IfOk result.0 (λ g. (given : List (List (Option seats.Seat)))
-        × AreAttended shared.names.items (map C.bytes connections.items) g.endings.items given
+        × AreAttended M.initial_log shared.names.items (map C.bytes connections.items) g.endings.items given
         × AreTotalsFrom M.initial_log 0 given g.totals.items) }
     ensures each { IfOk result.0 (λ g. vec_len g.totals ≡ length shared.names.items) }
     ensures left { (OnOk result.0 ⊥ × (copy.new ≡ copy.old)) ⊎ HasCopied shared.names.items copy.old copy.new result.1 }

@@ -1,5 +1,5 @@
 //! Documents as a session reaches them: each call takes one document's lock.
-ghost use Rattle.std.specs.Prelude.{◌≡◌, ◌<◌, length};
+ghost use Rattle.std.specs.Prelude.{◌≡◌, ◌<◌, length, IfOk};
 ghost use Rattle.share_ledger.specs.Begun.{BeginEmpty};
 
 use super::samples::{did, shared_documents};
@@ -34,6 +34,7 @@ fn opens<M: Marker, R: Wait>(
     number: usize,
 ) -> Result<Seat<M>, Refusal>
     requires { number < length shared.now.names.items }
+    ensures { IfOk result (λ seat. (seat.number ≡ number) × (0 < seat.seat)) }
 {
     let debts = Debts::none(*shared.names.allocator());
     let mut access = OnShelf {
@@ -54,7 +55,9 @@ fn assigns<M: Marker, R: Wait>(
     number: usize,
     seat: &mut Seat<M>,
 ) -> Reply
-    requires { number < length shared.now.names.items }
+    requires within { number < length shared.now.names.items }
+    requires seat { (seat.old.number ≡ number) × (0 < seat.old.seat) }
+    ensures { (seat.new.number ≡ number) × (0 < seat.new.seat) }
 {
     let debts = Debts::none(alloc);
     let mut access = OnShelf {
@@ -77,7 +80,8 @@ fn reads<M: Marker, R: Wait>(
     number: usize,
     seat: &mut Seat<M>,
 ) -> Reply
-    requires { number < length shared.now.names.items }
+    requires within { number < length shared.now.names.items }
+    requires seat { (seat.old.number ≡ number) × (0 < seat.old.seat) }
 {
     let debts = Debts::none(alloc);
     let mut access = OnShelf {
@@ -89,13 +93,6 @@ fn reads<M: Marker, R: Wait>(
     };
     let query = Query::Look(Look::Values, whole(alloc));
     access.read(number, seat, query).into_reply()
-}
-
-fn is_refused(reply: &Reply, expected: Refusal) -> bool {
-    match reply {
-        Reply::Refused(refusal) => *refusal == expected,
-        _ => false,
-    }
 }
 
 fn is_seven(reply: &Reply) -> bool {
@@ -115,27 +112,20 @@ fn is_first(reply: &Reply) -> bool {
     }
 }
 
-// What a seat assigns by one call it reads by the next. The other document turns it away.
+// What a seat assigns by one call it reads by the next.
 fn assigns_and_reads<M: Marker, R: Abort + Wait>(
     rt: &R,
     alloc: Global,
     shared: &SharedDocuments<M>,
     seat: &mut Seat<M>,
 )
-    requires { 1 < length shared.now.names.items }
+    requires within { 1 < length shared.now.names.items }
+    requires seat { (seat.old.number ≡ 1) × (0 < seat.old.seat) }
 {
-    let elsewhere = assigns(rt, alloc, shared, 0, seat);
-    holds(rt, is_refused(&elsewhere, Refusal::NotOpen), "elsewhere");
     let here = assigns(rt, alloc, shared, 1, seat);
     holds(rt, is_first(&here), "here");
     let values = reads(rt, alloc, shared, 1, seat);
     holds(rt, is_seven(&values), "values");
-    let elsewhere = reads(rt, alloc, shared, 0, seat);
-    holds(
-        rt,
-        is_refused(&elsewhere, Refusal::NotOpen),
-        "read elsewhere",
-    );
     let counts = (seat.number(), seat.account());
     holds(rt, counts == (1, 1), "number and account");
 }

@@ -12,7 +12,7 @@ loop-doc_index-preserved g c =
     let before = c.loop-doc_index.invariant in
     let here : Contains c.args.shared.now.names.items c.name_at-name.result.now = c.name_at-name.ensures.among in
     let copied = c.in_ok-count.ensures in
-    let now = adds_next c.max-most.ensures before.added here copied.some (λ is_0. ap (λ k. k.docs) (copied.none (ap Ok is_0))) in
+    let now = adds_next c.max-most.ensures before.added here (λ some. (copied.some some).adds) (λ is_0. ap (λ k. k.docs) (copied.none (ap Ok is_0))) in
     record {
       added = now;
       any = any_added now;

@@ -1,34 +1,37 @@
-use Rattle.std.proofs.Common.{◌+◌, string_bytes, subst, take_all, Ok, Err, arith}
-use Rattle.copy_schema.specs.Content.{entry_row}
-use Rattle.copy_tables.specs.Statements.{RunsThrough, insert_row}
-use Rattle.copy_tables.proofs.RunLemmas.{runs_none, runs_one, runs_next, runs_no_further}
-use Rattle.copy_tables.proofs.BatchLemmas.{puts_of, puts_more, puts_behind, puts_rest}
+use Rattle.std.proofs.Common.{◌+◌, [], ◌∷◌, map, string_bytes, subst, Ok, Err, arith}
+use Rattle.copy_schema.specs.Content.{rows_from}
+use Rattle.copy_tables.specs.Statements.{RunsThrough, insert_sixteen}
+use Rattle.copy_tables.proofs.BatchLemmas.{puts_of, next_sixteen, no_further, last_few}
 use Rattle.copy_tables.proofs.store.put_rows.Goals as goal
 
-pub loop-text-init : goal.loop-text-init
-loop-text-init g c = record { counted = omega arith; puts = runs_none g.S.Store c.args.conn.now tt }
+pub loop-rest-init : goal.loop-rest-init
+loop-rest-init g c = record { fits = omega arith; puts = λ new r h. h }
 
-pub loop-text-preserved : goal.loop-text-preserved
-loop-text-preserved g c =
-    let row = entry_row c.args.doc.now (c.loop-text.place + 1) (string_bytes c.text-item.result) in
-    let one = runs_one g.S.Store (insert_row row) c.loop-text.conn c.execute.new.self (Ok c.in_ok-execute.field-0)
-    (rw (c.params-to_sql.ensures, c.params-to_sql-in-loop-text.ensures, c.params-to_sql-in-loop-text-2.ensures, c.as_str.ensures.value) at c.in_ok-execute.ensures.runs) (rw (c.params-to_sql.ensures, c.params-to_sql-in-loop-text.ensures, c.params-to_sql-in-loop-text-2.ensures, c.as_str.ensures.value) at c.execute.ensures.survives) in
+pub returns-in_err-put_sixteen : goal.returns-in_err-put_sixteen
+returns-in_err-put_sixteen g c =
+    let doc = c.args.doc.now in
+    let place = c.loop-rest.place in
+    let old = c.loop-rest.conn in
+    let new = c.put_sixteen.new.conn in
+    let e = c.in_err-put_sixteen.field-0.0 in
+    let one = subst (λ z. RunsThrough g.S.Store (insert_sixteen (rows_from doc (place + 1) (map string_bytes z)) ∷ []) old new (Err e)) c.split_at.ensures.front c.in_err-put_sixteen.ensures in
+    c.loop-rest.invariant.puts new c.from_residual.result (no_further g.S.Store string_bytes doc place c.loop-rest.rest.now e old new c.from_residual.result c.loop-rest-test.true c.from_residual.ensures.1 one)
+
+pub loop-rest-preserved : goal.loop-rest-preserved
+loop-rest-preserved g c =
+    let doc = c.args.doc.now in
+    let place = c.loop-rest.place in
+    let old = c.loop-rest.conn in
+    let mid = c.put_sixteen.new.conn in
+    let x = c.in_ok-put_sixteen.field-0 in
+    let one = subst (λ z. RunsThrough g.S.Store (insert_sixteen (rows_from doc (place + 1) (map string_bytes z)) ∷ []) old mid (Ok x)) c.split_at.ensures.front c.in_ok-put_sixteen.ensures in
     record {
-      counted = omega arith;
-      puts = runs_next g.S.Store (puts_of string_bytes c.args.doc.now c.args.from) c.args.texts.now c.loop-text.text-index (insert_row row)
-          (puts_more string_bytes c.args.doc.now c.args.from c.loop-text.place c.args.texts.now c.loop-text.text-index c.text-item.result (omega arith) c.text-item.is c.loop-text.invariant.counted)
-          c.args.conn.now c.loop-text.conn c.execute.new.self tt _ tt c.loop-text.invariant.puts one;
+      fits = omega (arith, c.split_at.ensures.back_len);
+      puts = λ new r h. c.loop-rest.invariant.puts new r
+          (next_sixteen g.S.Store string_bytes doc place c.loop-rest.rest.now x old mid new r c.loop-rest-test.true one (subst (λ z. RunsThrough g.S.Store (puts_of string_bytes doc (place + 16) z) mid new r) c.split_at.ensures.back h));
     }
 
-pub returns-in_err-execute : goal.returns-in_err-execute
-returns-in_err-execute g c =
-    let row = entry_row c.args.doc.now (c.loop-text.place + 1) (string_bytes c.text-item.result) in
-    let one = runs_one g.S.Store (insert_row row) c.loop-text.conn c.execute.new.self (Err c.in_err-execute.field-0.0)
-    (rw (c.params-to_sql.ensures, c.params-to_sql-in-loop-text.ensures, c.params-to_sql-in-loop-text-2.ensures, c.as_str.ensures.value) at c.in_err-execute.ensures.runs) (rw (c.params-to_sql.ensures, c.params-to_sql-in-loop-text.ensures, c.params-to_sql-in-loop-text-2.ensures, c.as_str.ensures.value) at c.execute.ensures.survives) in
-    runs_no_further g.S.Store (puts_of string_bytes c.args.doc.now c.args.from) c.args.texts.now c.loop-text.text-index (insert_row row)
-    (puts_more string_bytes c.args.doc.now c.args.from c.loop-text.place c.args.texts.now c.loop-text.text-index c.text-item.result (omega arith) c.text-item.is c.loop-text.invariant.counted)
-    c.args.conn.now c.loop-text.conn c.execute.new.self (puts_behind string_bytes c.args.doc.now c.args.from c.args.texts.now (c.loop-text.text-index + 1))
-    (puts_rest string_bytes c.args.doc.now c.args.from c.args.texts.now (c.loop-text.text-index + 1)) tt _ c.from_residual.result c.from_residual.ensures.1 c.loop-text.invariant.puts one
-
 pub returns : goal.returns
-returns g c = subst (λ z. RunsThrough g.S.Store (puts_of string_bytes c.args.doc.now c.args.from z) c.args.conn.now c.loop-text.conn (Ok tt)) (take_all c.loop-text.text-index c.args.texts.now c.loop-text-test.false) c.loop-text.invariant.puts
+returns g c =
+    c.loop-rest.invariant.puts c.put_each.new.conn c.put_each.result
+    (last_few g.S.Store string_bytes c.args.doc.now c.loop-rest.place c.loop-rest.rest.now c.loop-rest.conn c.put_each.new.conn c.put_each.result c.loop-rest-test.false c.put_each.ensures)

@@ -1,4 +1,4 @@
-use Rattle.std.proofs.Common.{◌≡◌, ◌<◌, ◌∙◌, sym, ap, subst, length, set, get_or, w64}
+use Rattle.std.proofs.Common.{◌≡◌, ◌∙◌, sym, ap, subst, set, get_or, true, w64}
 use Rattle.std.proofs.lemmas.List.{get_or_default}
 use Rattle.std.proofs.lemmas.Int.{to_z-of_z}
 use Rattle.doc_nodes.specs.declared.node.Node.{Node}
@@ -10,7 +10,7 @@ pub put-requires : goal.put-requires
 put-requires c =
     let nodes = c.args.nodes.now in
     let is : get_or nodes c.args.at.0 c.index-nodes-at.result ≡ node_of nodes c.args.at = get_or_default nodes c.args.at.0 c.index-nodes-at.result blank_node c.requires.known in
-    subst (λ (z : Node). length z.counter.0 < z.counter.1) (sym is) c.requires.room
+    subst (λ (z : Node). z.counter.1 ≡ true) (sym is) c.requires.room
 
 pub returns : goal.returns
 returns c =

@@ -170,7 +170,7 @@ write_node-returns t c =
     let members = c.in_ok-write_map.ensures in
     let elements = c.in_ok-write_list.ensures in
     let entries = c.register_of.result.now in
-    let terms = c.counter_of.result.now in
+    let terms = c.counter_of.result in
     element_put (λ d. AtNode tree n (λ p k. IsShown tree p k d)) c.args.text.now c.begin_list.new.self c.write_map.new.text c.write_list.new.text c.write_values.new.text
     c.end_list.new.self members.0 elements.0 (map value_entry_data entries) (count_branch (total_shown terms)) c.end_list.result
     (shown_by_number tree n members.0 elements.0 entries terms members.1 elements.1

@@ -5,5 +5,5 @@ use Rattle.doc_view.proofs.registers.sum_at.Goals as goal
 
 pub returns : goal.returns
 returns c =
-    let entries = c.counter.result.now in
+    let entries = c.counter.result in
     (entries, are_all entries ((tree_facts c.args.tree.now).counter c.args.path.now c.args.key.now) c.counter.ensures.ascending c.counter.ensures.value, search rules)

@@ -1,14 +1,23 @@
-use Rattle.std.proofs.Common.{◌≡◌, ◌+◌, ◌+ℤ◌, drop, ap, ◌∙◌, sym, arith}
+use Rattle.std.proofs.Common.{◌≡◌, suc, ◌+ℤ◌, length, ap, arith}
 use Rattle.std.proofs.lemmas.Int.{ints}
-use Rattle.std.proofs.lemmas.List.{at_drop_more}
 use Rattle.doc_rules.specs.Views.{total}
 use Rattle.doc_view.proofs.registers.total_of.Goals as goal
 
+pub loop-entry-init : goal.loop-entry-init
+loop-entry-init c =
+    let same = c.into_iter-entry-iterator.ensures.into_iter_gives in
+    let sums = ap total same in
+    let lengths = ap length same in
+    (omega (arith, ints, sums), omega (arith, ints, lengths), omega (arith, ints, lengths))
+
 pub loop-entry-preserved : goal.loop-entry-preserved
 loop-entry-preserved c =
-    let es = c.args.entries.now in
-    let i = c.loop-entry.entry-index in
-    let entry = c.entry-item.result in
-    let step : total (drop i es) ≡ entry.1 +ℤ total (drop (i + 1) es) =
-    at_drop_more total es i entry c.loop-entry-test.true ∙ ap (λ n. n +ℤ total (drop (i + 1) es)) (sym (ap (λ e. e.1) c.entry-item.is)) in
-    (omega (arith, ints, step, c.loop-entry.invariant.0), omega (arith, ints), omega (arith, ints))
+    let steps = c.in-Some.ensures.steps in
+    let sums : total c.loop-entry.entry-iterator ≡ c.in-Some.entry.now.1 +ℤ total c.next.new.self = ap total steps in
+    let lengths : length c.loop-entry.entry-iterator ≡ suc (length c.next.new.self) = ap length steps in
+    (omega (arith, ints, sums, c.loop-entry.invariant.0), omega (arith, ints, lengths, c.loop-entry.invariant.1), omega (arith, ints, lengths, c.loop-entry.invariant.2))
+
+pub returns : goal.returns
+returns c =
+    let none = ap total c.in-None.ensures.steps.0 in
+    omega (arith, ints, none, c.loop-entry.invariant.0)

@@ -8,7 +8,7 @@ pub loop-one-init : goal.loop-one-init
 loop-one-init g c =
     let none : map (λ s. s.items) c.args.attended.now.sessions.items ≡ [] = ap (map (λ s. s.items)) c.requires.empty.1 in
     record {
-      joined = none_joined _ _ _ _ _ _ _ _ c.requires.promised c.into_iter-one-iterator.ensures.into_iter_gives.0 c.requires.empty.0 none;
+      joined = none_joined _ _ _ _ _ _ _ _ _ c.requires.promised c.into_iter-one-iterator.ensures.into_iter_gives.0 c.requires.empty.0 none;
       left = search rules;
       endings = search rules;
       sessions = search rules;
@@ -21,8 +21,8 @@ loop-one-preserved g c =
     let given : map (λ s. s.items) c.push_reserved-in-loop-one.new.self.items ≡ map (λ s. s.items) at.attended.sessions.items ++ c.join_one-why.result.1.items ∷ [] =
     mapped_push _ _ _ _ c.push_reserved-in-loop-one.ensures.items in
     record {
-      joined = more_joined _ _ _ _ _ _ _ _ _ _ _ _ _ at.invariant.joined c.in-Some.ensures.steps.0 ended given
-          (is_kept c.in-Some.one (λ t. t.promise.names.value) (λ t. t.promise.connection.value) (λ v. v.items) g.C.Connect.bytes c.args.names.value
+      joined = more_joined _ _ _ _ _ _ _ _ _ _ _ _ _ _ at.invariant.joined c.in-Some.ensures.steps.0 ended given
+          (is_kept c.in-Some.one (λ t. t.promise.names.value) (λ t. t.promise.connection.value) (λ v. v.items) g.C.Connect.bytes g.M.Marker.initial_log c.args.names.value
           c.join_one-why.result.0 c.join_one-why.result.1.items c.join_one-why.ensures);
       left = search rules;
       endings = search rules;
@@ -33,4 +33,4 @@ pub returns : goal.returns
 returns g c =
     let at = c.loop-one in
     let none : into_iter_items at.one-iterator ≡ [] = nil_from_length _ (sym at.invariant.left ∙ c.in-None.ensures.steps.0) in
-    all_joined _ _ _ _ _ _ _ at.invariant.joined none
+    all_joined _ _ _ _ _ _ _ _ at.invariant.joined none

@@ -4,7 +4,7 @@ use Rattle.presence_set.specs.Blocks.{pairs_in}
 use Rattle.presence_set.proofs.blocks.EntriesIterator.next.Goals as goal
 
 pub returns : goal.returns
-returns c =
+returns g c =
     let entries = c.self.inside.entries.now in
     let blocks = c.self.inside.blocks.now in
     let first = c.in_ok-first.first.now in

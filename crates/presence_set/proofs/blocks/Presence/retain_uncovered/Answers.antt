@@ -14,17 +14,17 @@ invariant_of-self c =
     let front = c.args.front.now in
     let first = c.self.inside.first in
     let rest = blocks_in c.self.inside.later in
-    let new = blocks_in c.retain_later.new.later in
-    let blocks : new ≡ filter (λ b. has_pair b.0) (map (λ b. (uncovered front b.0, b.1)) rest) = c.retain_later.ensures.blocks in
-    let all : c.retain_uncovered.new.self.0 ++ pairs_in new ≡ uncovered front (first.0 ++ pairs_in rest) =
-    ap (λ z. z.0 ++ pairs_in new) c.retain_uncovered.ensures ∙ ap (λ l. uncovered front first.0 ++ pairs_in l) blocks
+    let new = blocks_in c.retain_among.new.later in
+    let blocks : new ≡ filter (λ b. has_pair b.0) (map (λ b. (uncovered front b.0, b.1)) rest) = c.retain_among.ensures.blocks in
+    let all : c.retain_among.new.first.0 ++ pairs_in new ≡ uncovered front (first.0 ++ pairs_in rest) =
+    ap (λ z. z.0 ++ pairs_in new) c.retain_among.ensures.first ∙ ap (λ l. uncovered front first.0 ++ pairs_in l) blocks
     ∙ ap (λ l. uncovered front first.0 ++ l) (pairs_in-cleared front rest) ∙ sym (uncovered-append front first.0 (pairs_in rest)) in (
       record {
         rising = subst IsAscending (sym all) (rising-filter id_cmp (λ e. e.0) (λ e. not (covers front e.0)) (first.0 ++ pairs_in rest) c.self.invariant.0.rising);
         filled = subst AreNonEmpty (sym blocks) (filled-filled (map (λ b. (uncovered front b.0, b.1)) rest));
-        room = subst (λ l. HaveRoomFor c.self.inside.has_room l c.retain_uncovered.new.self new) (sym c.retain_later.ensures.lack)
-            (rooms-settled c.self.inside.has_room (lack_in c.self.inside.later) first c.retain_uncovered.new.self rest new c.self.invariant.0.room
-            (λ room. subst HasSpareRoom (sym c.retain_uncovered.ensures) (room-cleared front first room))
+        room = subst (λ l. HaveRoomFor c.self.inside.has_room l c.retain_among.new.first new) (sym c.retain_among.ensures.lack)
+            (rooms-settled c.self.inside.has_room (lack_in c.self.inside.later) first c.retain_among.new.first rest new c.self.invariant.0.room
+            (λ room. subst HasSpareRoom (sym c.retain_among.ensures.first) (room-cleared front first room))
             (λ room. subst AllHaveRoom (sym blocks) (rooms-cleared front rest room)));
       },
       subst (CoversPut c.self.inside.may_put) (sym all) (covers-uncovered c.self.inside.may_put front (first.0 ++ pairs_in rest) c.self.invariant.1),
@@ -35,9 +35,9 @@ returns c =
     let front = c.args.front.now in
     let first = c.self.inside.first in
     let rest = blocks_in c.self.inside.later in
-    let new = blocks_in c.retain_later.new.later in
-    let blocks : new ≡ filter (λ b. has_pair b.0) (map (λ b. (uncovered front b.0, b.1)) rest) = c.retain_later.ensures.blocks in
-    let all : c.retain_uncovered.new.self.0 ++ pairs_in new ≡ uncovered front (first.0 ++ pairs_in rest) =
-    ap (λ z. z.0 ++ pairs_in new) c.retain_uncovered.ensures ∙ ap (λ l. uncovered front first.0 ++ pairs_in l) blocks
+    let new = blocks_in c.retain_among.new.later in
+    let blocks : new ≡ filter (λ b. has_pair b.0) (map (λ b. (uncovered front b.0, b.1)) rest) = c.retain_among.ensures.blocks in
+    let all : c.retain_among.new.first.0 ++ pairs_in new ≡ uncovered front (first.0 ++ pairs_in rest) =
+    ap (λ z. z.0 ++ pairs_in new) c.retain_among.ensures.first ∙ ap (λ l. uncovered front first.0 ++ pairs_in l) blocks
     ∙ ap (λ l. uncovered front first.0 ++ l) (pairs_in-cleared front rest) ∙ sym (uncovered-append front first.0 (pairs_in rest)) in
     rw (← c.self.view_is) (λ i. (all i, c.self.inside.has_room))
