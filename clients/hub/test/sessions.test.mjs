@@ -108,19 +108,21 @@ suite("sessions of the server", { concurrency: true, ...LIMIT }, () => {
       server: server.address, lines: "127.0.0.1:0", sessions: 2, linesPerSession: 100, note: () => {},
     });
     const clients = await Promise.all(Array.from({ length: 40 }, () => joinLines(hub.lines, "d")));
-    let reopened = 0;
+    // The hub looks once a second whether a session is worn out, so a fast machine has more rounds.
+    const isRenewed = () => [...server.child.notes.matchAll(/session (\d+) of/g)].length > 6;
+    let [reopened, added] = [0, 0];
     await Promise.all(clients.map(async (client, at) => {
       client.reopened = () => reopened++;
-      for (let round = 0; round < 100; round++) {
+      for (let round = 0; round < 100 || (!isRenewed() && added < 90_000); round++) {
         await client.add("d", [0, "n"], 1);
+        added++;
         if (at === 0 && round % 20 === 0) await client.let("d", "it", [0, "n"]);
       }
     }));
-    equal(await clients[0].sum("d", [0, "n"]), 4000);
+    equal(await clients[0].sum("d", [0, "n"]), added);
     ok(reopened > 0, "who bound names was told");
     equal(await clients[0].ask("keys", "d", [0]).then(([keys]) => keys.join()), "n");
-    const used = /session (\d+) of/g;
-    ok([...server.child.notes.matchAll(used)].length > 6, "sessions were renewed");
+    ok(isRenewed(), "sessions were renewed");
   });
 
   test("a session is renewed before the server's million lines", { skip: slow, ...LIMIT }, async () => {
