@@ -13,9 +13,11 @@ export const NOT_SENT = Symbol("not sent");
 const VERSION = '["version"]';
 const REPLY_TOO_LONG = '["no",102,"reply-too-long"]';
 const MOST_VARIABLES = 64; // of a session for one document
+const HARD_LINES = 9_900; // so many lines more than at its renewal does a session take
 
 /** @typedef {{ answered: (answer: Answer) => void, sentAt: number, isPing: boolean }} Waiting */
-/** @typedef {{ server: string, replyBytes: number, clock: () => number }} LinkOptions */
+/** @typedef {{ server: string, replyBytes: number, linesPerSession: number, clock: () => number,
+ *    wornOut: () => void }} LinkOptions `wornOut` is called once so many lines were sent */
 
 /** One connection to the server: a session, with its documents and variables. */
 export class Link {
@@ -32,6 +34,8 @@ export class Link {
   version = "";
   #socket;
   #clock;
+  #linesPerSession;
+  #wornOut;
   /** @type {Map<number, Waiting>} by the number of the line */
   #waiting = new Map();
   #answered = 0;
@@ -42,8 +46,10 @@ export class Link {
   #free = new Map();
 
   /** @param {LinkOptions} options */
-  constructor({ server, replyBytes, clock }) {
+  constructor({ server, replyBytes, linesPerSession, clock, wornOut }) {
     this.#clock = clock;
+    this.#linesPerSession = linesPerSession;
+    this.#wornOut = wornOut;
     this.heardAt = clock();
     const settings = { noDelay: true, keepAlive: true, keepAliveInitialDelay: 10_000 };
     this.#socket = net.connect({ ...addressParts(server), ...settings });
@@ -90,11 +96,20 @@ export class Link {
    *  @returns {Promise<Answer>} */
   ask(line) {
     if (this.over) return Promise.resolve(NOT_SENT);
-    return new Promise((answered) => {
+    /** @type {Promise<Answer>} */
+    const answer = new Promise((answered) => {
       const sentAt = this.#clock();
       this.#waiting.set(this.lines++, { answered, sentAt, isPing: line === VERSION });
       this.#socket.write(`${line}\n`);
     });
+    if (this.isWorn) this.#wornOut();
+    if (this.lines === this.#linesPerSession + HARD_LINES) this.quit();
+    return answer;
+  }
+
+  /** Whether it has sent so many lines that it is to be renewed. */
+  get isWorn() {
+    return this.lines >= this.#linesPerSession;
   }
 
   ping() {

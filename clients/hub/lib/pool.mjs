@@ -12,7 +12,6 @@ const MOST_UNSERVED_TICKS = 60; // then another connection is tried
 const ALONE_TICKS = 2; // clients of a session that ended so long ago get another one
 const AWAY_MS = 5_000; // so long a request waits for a server that restarts
 const RETRY_MS = [100, 200, 500, 1000, 2000]; // the pauses between attempts to connect
-const HARD_LINES = 9_900; // so many lines more than at the renewal does a session take
 const UNSERVED = "no reply for a minute"; // why a connection is ended, which is noted before
 const AWAY = 10_000; // as many clients more has a session that isn't connected, when one is chosen
 
@@ -153,16 +152,19 @@ export class Pool {
     return `${this.#options.server}: ${cause}: ${why}`;
   }
 
-  /** The first session without a link, or with one that is worn out. */
+  /** The first session without a link, or the one whose link is worn out most. */
   get #wanting() {
-    const isWorn = (/** @type {Link} */ link) => link.lines >= this.#options.linesPerSession;
-    return this.sessions.find(({ link }) => !link) ??
-      this.sessions.find(({ link }) => link && isWorn(link));
+    const worn = this.sessions.filter(({ link }) => link?.isWorn);
+    worn.sort((a, b) => (b.link?.lines ?? 0) - (a.link?.lines ?? 0));
+    return this.sessions.find(({ link }) => !link) ?? worn[0];
   }
 
   async #connected() {
-    const { server, replyBytes } = this.#options;
-    this.#pending = new Link({ server, replyBytes, clock: () => this.#ticks });
+    const { server, replyBytes, linesPerSession } = this.#options;
+    this.#pending = new Link({
+      server, replyBytes, linesPerSession,
+      clock: () => this.#ticks, wornOut: () => this.#fewer.give(),
+    });
     this.#pendingSince = this.#ticks;
     const link = await this.#pending.begun();
     this.#pending = undefined;
@@ -218,8 +220,6 @@ export class Pool {
     this.#lookIfAway();
     for (const session of this.sessions) {
       const { link, clients, endedAt } = session;
-      if (link && link.lines >= this.#options.linesPerSession) this.#fewer.give();
-      if (link && link.lines >= this.#options.linesPerSession + HARD_LINES) link.quit();
       const isAlone = !link && clients.size > 0 && this.#ticks - endedAt >= ALONE_TICKS;
       if (isAlone && this.links.length > 0) {
         for (const guest of [...clients]) guest.move(this.leastLoaded, session);

@@ -26,9 +26,12 @@ async function takeSessions({ address }, count) {
 async function startProxy(target) {
   const [host, port] = target.split(":");
   const sockets = [];
+  const lines = []; // of each connection
   const proxy = net.createServer((socket) => {
     const other = net.connect({ host, port });
     sockets.push(socket, other);
+    const at = lines.push(0) - 1;
+    socket.on("data", (bytes) => (lines[at] += bytes.toString().split("\n").length - 1));
     const end = () => (socket.destroy(), other.destroy());
     for (const it of [socket, other]) it.on("error", () => {}).on("close", end);
     socket.pipe(other).pipe(socket);
@@ -41,7 +44,8 @@ async function startProxy(target) {
     const open = sockets.filter((it) => !it.destroyed);
     open[Math.floor(Math.random() * open.length)]?.resetAndDestroy();
   };
-  return { address: `127.0.0.1:${proxy.address().port}`, silence, cut, count: () => sockets.length / 2 };
+  const address = `127.0.0.1:${proxy.address().port}`;
+  return { address, silence, cut, lines, count: () => sockets.length / 2 };
 }
 
 const slow = !process.env.JCRDT_SLOW && "a million lines take minutes: set JCRDT_SLOW";
@@ -123,6 +127,26 @@ suite("sessions of the server", { concurrency: true, ...LIMIT }, () => {
     ok(reopened > 0, "who bound names was told");
     equal(await clients[0].ask("keys", "d", [0]).then(([keys]) => keys.join()), "n");
     ok(isRenewed(), "sessions were renewed");
+  });
+
+  test("a session takes its limit and 9,900 lines more at most, however fast they come", async () => {
+    const server = await startServer(["d"]);
+    const proxy = await startProxy(server.address);
+    const hub = await hubWithin({
+      server: proxy.address, lines: "127.0.0.1:0", sessions: 1, linesPerSession: 400, note: () => {},
+    });
+    const clients = await Promise.all(Array.from({ length: 4 }, () => joinLines(hub.lines, "d")));
+    await Promise.all(clients.map(async (client, at) => {
+      const [add, sum] = [`["add","d",[0,"n${at}"],1]`, `["sum","d",[0,"n${at}"]]`];
+      const lines = Array.from({ length: 15_000 }, (_, it) => (it % 10 === 0 ? add : sum));
+      const replies = await Promise.all(lines.map((line) => client.answer(line)));
+      replies.forEach((reply, it) => {
+        const due = it % 10 === 0 ? '["applied",1,0,' : `["sum","${Math.ceil(it / 10)}"]`;
+        ok(reply.startsWith(due), reply);
+      });
+    }));
+    ok(Math.max(...proxy.lines) <= 400 + 9900 + 1, `lines of each session: ${proxy.lines}`);
+    ok(proxy.lines.length > 6, `sessions: ${proxy.lines.length}`);
   });
 
   test("a session is renewed before the server's million lines", { skip: slow, ...LIMIT }, async () => {
