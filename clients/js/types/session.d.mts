@@ -1,7 +1,8 @@
 /** Connects to a server or the hub at HOST:PORT, from Node, and resolves once the session has
  *  begun. Fails with `Away` if it doesn't within 10 seconds: a server with no session left accepts
- *  connections and never replies. A request whose reply takes more than 60 seconds ends the
- *  session. A number in place of the options is its seconds.
+ *  connections and never replies. Fails with `Refused` (103) if a hub doesn't admit this client. A
+ *  request whose reply takes more than 60 seconds ends the session. A number in place of the
+ *  options is its seconds.
  *  @param {string} address
  *  @param {number | Options} [options]
  *  @returns {Promise<Client>} */
