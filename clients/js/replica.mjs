@@ -44,8 +44,6 @@ import {
 /** @typedef {object} Options
  *  @property {Open} [engine] What makes the engine: `open` of rules.mjs if it isn't given. */
 
-const MOST_SINGLY = 256; // so many elements are asked for one by one, and not with the whole list
-
 /** @typedef {{line: string, number: number, name: string}} Unread A line that couldn't be taken. */
 
 export class Replica {
@@ -544,6 +542,8 @@ export class Replica {
     return [...operationsOf(this.#read, front)].map(print);
   }
 }
+
+const MOST_SINGLY = 256; // so many elements are asked for one by one, and not with the whole list
 
 /** @param {any} value */
 function checkedOperand(value) {

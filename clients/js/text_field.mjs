@@ -39,6 +39,7 @@ class BoundText {
   #shown = [];
   #isBusy = false; // a character is being composed, or a question is open
   #isOwn = false;
+  #isOld = true; // whether the list may have other characters than those shown
   #isEnded = false;
   #provider;
   #place;
@@ -62,7 +63,9 @@ class BoundText {
     field.addEventListener("input", this);
     field.addEventListener("keydown", this);
     this.#unlisten = provider.listen(({ what }) => {
-      if (what === "changed" && !this.#isOwn) this.#showSoon();
+      if (what !== "changed" || this.#isOwn) return;
+      this.#isOld = true;
+      this.#showSoon();
     });
     this.#show();
   }
@@ -114,7 +117,7 @@ class BoundText {
       this.#options.refused?.(undefined);
     } catch (error) {
       this.#options.refused?.(error);
-      this.#show();
+      this.#showAgain();
     }
   }
 
@@ -128,15 +131,20 @@ class BoundText {
       const isWanted = await confirm(insert.length).catch(() => false);
       this.#isBusy = false;
       if (this.#isEnded) return;
-      if (!isWanted) return this.#showAgain();
+      if (!isWanted) return this.#showAnew();
     }
     if (remove > 0 || insert.length > 0) this.#edit(index, remove, insert);
     this.#showSoon(); // what came while the field was busy
   }
 
-  #showAgain() {
+  #showAnew() {
     this.#shown = [];
     this.#field.value = "";
+    this.#showAgain();
+  }
+
+  #showAgain() {
+    this.#isOld = true;
     this.#show();
   }
 
@@ -161,6 +169,7 @@ class BoundText {
       this.#shown.splice(index, remove, ...added);
       this.#options.refused?.(undefined);
     } catch (error) {
+      this.#isOld = true;
       this.#options.refused?.(error);
     }
     this.#isOwn = false;
@@ -203,7 +212,8 @@ class BoundText {
 
   /** Shows the text as it is, with caret and selection at the characters where they were. */
   #show() {
-    if (this.#isBusy) return;
+    if (this.#isBusy || !this.#isOld) return;
+    this.#isOld = false;
     const [old, now] = [this.#shown, this.#read()];
     const field = this.#field;
     const text = now.map((character) => character.text).join("");

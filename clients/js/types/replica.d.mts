@@ -1,3 +1,18 @@
+/** @typedef {import("./events.mjs").Changed} Changed */
+/** @typedef {import("./events.mjs").Heard} Heard */
+/** @typedef {import("./events.mjs").Why} Why */
+/** @typedef {import("./exchange.mjs").Answer} Answer */
+/** @typedef {import("./exchange.mjs").Remade} Remade */
+/** @typedef {import("./exchange.mjs").Report} Report */
+/** @typedef {import("./exchange.mjs").Taken} Taken */
+/** @typedef {import("./rules.mjs").Engine} Engine */
+/** @typedef {import("./rules.mjs").Open} Open */
+/** @typedef {import("./wire.mjs").Cursor} Cursor */
+/** @typedef {import("./wire.mjs").Id} Id */
+/** @typedef {import("./wire.mjs").Operation} Operation */
+/** @typedef {import("./wire.mjs").Scalar} Scalar */
+/** @typedef {object} Options
+ *  @property {Open} [engine] What makes the engine: `open` of rules.mjs if it isn't given. */
 /** @typedef {{line: string, number: number, name: string}} Unread A line that couldn't be taken. */
 export class Replica {
     /** A replica from its lines. It takes what it can: `unread` has the others, as a line that is
