@@ -86,6 +86,16 @@ for (const [title, engine] of engines) {
     });
     context.diagnostic(`a key: ${(took / KEYS).toFixed(2)} ms`);
     ok(took < KEYS * 60, `a key: ${took / KEYS} ms`);
+    const other = Replica.restore(pad.replica.lines().map((it, at) => (at ? it : '["replica","bob","d"]')));
+    const theirs = await cpuOf(async () => {
+      for (let at = 0; at < KEYS; at++) {
+        other.splice([0, "text"], at * 1500, 1, "bb");
+        pad.replica.deliverAll([...other.operations(pad.replica.front())]);
+        await until("it is shown", () => field.value.split("bb").length === at + 2);
+      }
+    });
+    context.diagnostic(`a key of another, and waiting for it: ${(theirs / KEYS).toFixed(2)} ms`);
+    ok(theirs < KEYS * 150, `a key of another: ${theirs / KEYS} ms`);
     equal(pad.replica.text([0, "text"]), field.value);
     end();
     await pad.close();
