@@ -30,6 +30,8 @@ export class Mirror {
   #values = new Map();
   /** @type {Map<string, Id>} Those that may have come, gone or changed since. */
   #changed = new Map();
+  /** @type {Map<string, string>} The texts of those that were inserted, and not changed, since. */
+  #fresh = new Map();
   #isAll = false; // whether any may have
   #read;
   #place;
@@ -61,22 +63,30 @@ export class Mirror {
   /** Notes an operation that was logged: one at, under or above the place.
    *  @param {Operation} op */
   note(op) {
-    const end = endOf(op);
+    const [end, [word, value]] = [endOf(op), op[4]];
     const { length } = this.#place;
     const id = end[length];
-    if (end.length <= length) this.#isAll ||= op[4][0] === "assign" || op[4][0] === "delete";
-    else if (isId(id)) this.#noteElement(id, end.length > length + 1);
+    if (end.length <= length && (word === "assign" || word === "delete")) this.#noteAll();
+    if (this.#isAll || !isId(id)) return;
+    const isDeeper = end.length > length + 1;
+    if (word === "insert" && !isDeeper && typeof value === "string") this.#fresh.set(String(id), value);
+    else this.#fresh.delete(String(id));
+    this.#noteElement(id, isDeeper);
+  }
+
+  #noteAll() {
+    this.#isAll = true;
+    this.#changed.clear();
+    this.#fresh.clear();
   }
 
   /** An operation deeper in an element makes it present, and leaves its value.
    *  @param {Id} id
    *  @param {boolean} isDeeper */
   #noteElement(id, isDeeper) {
-    if (this.#isAll || (isDeeper && this.has(id))) return;
+    if (isDeeper && this.has(id)) return;
     this.#changed.set(String(id), id);
-    if (this.#changed.size <= FEW + this.#keys.length * PART) return;
-    this.#isAll = true;
-    this.#changed.clear();
+    if (this.#changed.size > FEW + this.#keys.length * PART) this.#noteAll();
   }
 
   /** What has changed since it was last called.
@@ -86,6 +96,7 @@ export class Mirror {
     const splices = this.#isAll ? this.#takeAll() : this.#takeChanged();
     this.#isAll = false;
     this.#changed.clear();
+    this.#fresh.clear();
     return splices;
   }
 
@@ -115,6 +126,8 @@ export class Mirror {
 
   /** @param {Id} id */
   #valueOf(id) {
+    const fresh = this.#fresh.get(String(id));
+    if (fresh !== undefined) return fresh;
     const value = this.#read("conflicts", [writtenOf([...this.#place, id])]).pop()?.[1];
     return isArray(value) ? EMPTY_LIST : isMap(value) ? EMPTY_MAP : value;
   }
