@@ -16,6 +16,8 @@ async function timed(work) {
   return [(user + system) / 1000, found];
 }
 
+const [WATCHED, KEYS] = [40_000, 500]; // the length of the watched list, the keys
+
 let seed = 1;
 const random = (n) => (seed = (seed * 1103515245 + 12345) % 2147483648) % n;
 
@@ -32,7 +34,24 @@ function ofEngine(open) {
     for (const line of lines) engine.ask(["deliver", JSON.parse(line)]);
     return engine;
   };
-  return { make, take };
+  return { make, take, watched: (lines) => watched(open, lines) };
+}
+
+/** What types a key at random into a list that is watched; and what takes a key of another. */
+async function watched(open, lines) {
+  const { Replica } = await import(new URL("replica.mjs", CLIENTS));
+  const of = (name, engine) => Replica.restore([`["replica","${name}","d"]`, ...lines], { engine });
+  const [me, other] = [of("me", open), of("other")];
+  let heard = 0;
+  me.watch([0, "l"], (splices) => (heard += splices.length));
+  const came = [];
+  other.listen((event) => came.push(...event.lines));
+  for (let at = 0; at < KEYS; at++) other.splice([0, "l"], random(WATCHED), 0, "y");
+  return {
+    type: () => me.splice([0, "l"], random(WATCHED), 0, "x"),
+    take: () => me.deliver(came.shift()),
+    isHeard: () => heard === 2 * KEYS,
+  };
 }
 
 function ofYjs(Y) {
@@ -48,7 +67,22 @@ function ofYjs(Y) {
     for (const line of lines) Y.applyUpdate(doc, line);
     return doc;
   };
-  return { make, take };
+  const watched = async (lines) => {
+    const { doc, lines: came, type } = make();
+    for (const line of lines) Y.applyUpdate(doc, line);
+    const me = take(came);
+    const list = me.getArray("l");
+    let heard = 0;
+    list.observe(() => heard++);
+    came.splice(0);
+    for (let at = 0; at < KEYS; at++) type(random(WATCHED));
+    return {
+      type: () => list.insert(random(WATCHED), ["x"]),
+      take: () => Y.applyUpdate(me, came.shift()),
+      isHeard: () => heard === 2 * KEYS,
+    };
+  };
+  return { make, take, watched };
 }
 
 const FILES = {
@@ -69,11 +103,14 @@ const LOAD = {
 
 const bytes = Buffer.concat(FILES[which]());
 const before = megabytes();
-const [load, { make, take }] = await timed(LOAD[which]);
+const [load, { make, take, watched: watchedOf }] = await timed(LOAD[which]);
 const writer = make("writer");
 const [type] = await timed(() => { for (let at = 0; at < 20_000; at++) writer.type(random(at + 1)); });
 for (let at = 20_000; writer.lines.length < 50_000; at++) writer.type(random(at + 1));
 const [took, reader] = await timed(() => take(writer.lines));
 const grown = megabytes() - before;
-console.log([bytes.length / 1000, gzipSync(bytes).length / 1000, load, type / 1000, took / 1000, grown].join(" "));
-if (!reader) process.exit(1);
+const list = await watchedOf(writer.lines.slice(0, WATCHED + 1));
+const [key] = await timed(() => { for (let at = 0; at < KEYS; at++) list.type(); });
+const [theirs] = await timed(() => { for (let at = 0; at < KEYS; at++) list.take(); });
+console.log([bytes.length / 1000, gzipSync(bytes).length / 1000, load, type / 1000, took / 1000, grown, key / KEYS, theirs / KEYS].join(" "));
+if (!reader || !list.isHeard()) process.exit(1);

@@ -23,8 +23,12 @@ import { endOf, isPrefix, textsOf } from "./places.mjs";
 /** @typedef {(event: Event) => any} Heard */
 /** @typedef {(splices: Splice[], why: Why) => any} Changed */
 
-/** What a watch asks for splices: the operations are those at, under or above its place.
- *  @typedef {{take: (ops: Operation[]) => Splice[], end: () => void}} Source */
+/** @typedef {object} Source What a watch asks for splices.
+ *  @property {() => Splice[]} take What has changed since it was last called.
+ *  @property {(op: Operation) => void} [note] Is called with each operation at, under or above the
+ *    watch's place, once the engine has it, before `take`.
+ *  @property {() => void} end
+ *  @property {number} [length] Of the list, if the source knows it. */
 
 /** @typedef {object} Watch
  *  @property {Cursor} place
@@ -88,6 +92,16 @@ export class Events {
     }
   }
 
+  /** Is called with what the engine has logged at once, before `log`.
+   *  @param {Operation[]} ops */
+  note(ops) {
+    if (this.#watches.size === 0) return;
+    for (const op of ops) {
+      const texts = textsOf(endOf(op));
+      for (const watch of this.#watches) if (concerns(watch, op, texts)) watch.source.note?.(op);
+    }
+  }
+
   /** @param {string} line
    *  @param {Operation} op
    *  @param {Why} why */
@@ -112,10 +126,8 @@ export class Events {
    *  @param {Why} why
    *  @param {Logged[]} logged */
   #look(watch, why, logged) {
-    const found = logged.filter(({ op, texts }) => isPrefix(watch.texts, texts) ||
-      (clears(op) && isPrefix(texts, watch.texts)));
-    if (found.length === 0) return;
-    this.#queueSplices(watch, watch.source.take(found.map(({ op }) => op)), why);
+    if (!logged.some(({ op, texts }) => concerns(watch, op, texts))) return;
+    this.#queueSplices(watch, watch.source.take(), why);
   }
 
   /** @param {Watch} watch
@@ -170,6 +182,13 @@ export class Events {
     this.#drain();
   }
 }
+
+/** Whether an operation is at, under or above a watch's place.
+ *  @param {Watch} watch
+ *  @param {Operation} op
+ *  @param {string[]} texts Of where it ends. */
+const concerns = (watch, op, texts) => isPrefix(watch.texts, texts) ||
+  (clears(op) && isPrefix(texts, watch.texts));
 
 /** Whether an operation can change what is under its place.
  *  @param {Operation} op */

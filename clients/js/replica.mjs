@@ -17,7 +17,7 @@
 
 import { Events } from "./events.mjs";
 import { Exchange, reading } from "./exchange.mjs";
-import { indexAt, operationsOf, placeAt, sourceOf } from "./followers.mjs";
+import { Indices, operationsOf, placeAt, sourceOf } from "./followers.mjs";
 import { History } from "./history.mjs";
 import { endOf, requestOf, writtenOf } from "./places.mjs";
 import { remakeIn } from "./renewal.mjs";
@@ -61,6 +61,8 @@ export class Replica {
   #open;
   /** @type {Engine} */
   #engine;
+  /** @type {Indices} */
+  #indices;
   #count = 0;
   /** @type {Map<string, number>} */
   #front = new Map();
@@ -80,6 +82,7 @@ export class Replica {
     this.#doc = doc;
     this.#open = options.engine ?? open;
     this.#engine = this.#open(name, []);
+    this.#indices = new Indices(this.#engine, this.#read);
     this.#history = new History((request) => this.#engine.ask(request), this.#read,
       (word, place, ...value) => this.#edit(word, place, ...value));
     this.#exchange = this.#newExchange(0);
@@ -152,6 +155,7 @@ export class Replica {
   #use(engine, count) {
     this.#engine.free();
     this.#engine = engine;
+    this.#indices = new Indices(engine, this.#read);
     this.#count = count;
     this.#front = new Map(this.#read("front"));
     this.#mayHold = false;
@@ -282,7 +286,7 @@ export class Replica {
   #elements(list, index, count) {
     const from = index > 0 ? index : 1;
     const length = count + (index > 0 ? 1 : 0);
-    if (length <= 16 && this.#engine.place) {
+    if (length <= MOST_SINGLY) {
       return Array.from({ length }, (_, at) => /** @type {Id} */ (
         placeAt(this.#engine, this.#read, [writtenOf(list), from + at]).pop()));
     }
@@ -328,11 +332,14 @@ export class Replica {
    *  @param {number} count
    *  @param {Why} why */
   #log(op, line, count, why) {
+    const released = count === 1 ? [] : [...operationsOf(this.#read, this.#frontWith(op))];
+    this.#events.note([op, ...released]);
     this.#note(op, line, why);
-    if (count === 1) return;
-    const released = [...operationsOf(this.#read, this.#front)];
     for (const it of released) this.#note(it, print(it), "taken");
   }
+
+  /** @param {Operation} op */
+  #frontWith([, [counter, name]]) { return new Map(this.#front).set(name, counter); }
 
   /** @param {Operation} op
    *  @param {string} line
@@ -341,6 +348,7 @@ export class Replica {
     this.#count++;
     this.#front.set(op[1][1], op[1][0]);
     this.#history.note(op);
+    this.#indices.note(op);
     this.#events.log(line, op, why);
   }
 
@@ -352,7 +360,7 @@ export class Replica {
   /** The index of an element or head; of a deleted element, that of the present one before it.
    *  @param {Cursor} place
    *  @returns {number} */
-  indexOf(place) { return indexAt(this.#engine, this.#read, this.place(place)); }
+  indexOf(place) { return this.#indices.of(this.place(place)); }
 
   // ---- Undo and redo, by new operations
 
@@ -430,8 +438,8 @@ export class Replica {
    *  @param {Changed} changed */
   watch(cursor, changed) {
     const place = this.place(cursor);
-    const { length } = this.#read("items", [writtenOf(place)]); // refuses a head
-    const source = sourceOf(this.#engine, this.#read, place);
+    const source = sourceOf(this.#engine, this.#read, place); // refuses a head
+    const { length = this.#read("items", [writtenOf(place)]).length } = source;
     return this.#events.watch(place, source, length, changed);
   }
 
@@ -534,6 +542,8 @@ export class Replica {
     return [...operationsOf(this.#read, front)].map(print);
   }
 }
+
+const MOST_SINGLY = 256; // so many elements are asked for one by one, and not with the whole list
 
 /** @param {any} value */
 function checkedOperand(value) {

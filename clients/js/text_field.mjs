@@ -13,6 +13,10 @@ import { paced } from "./pace.mjs";
 /** @typedef {HTMLTextAreaElement | HTMLInputElement} Field */
 /** @typedef {[number, string]} Id */
 /** @typedef {{ id: Id, text: string }} Character */
+/** @typedef {{ id?: Id, text?: string }} Element Of the list; without an id where it has just come. */
+
+const NOTHING = () => {};
+const MOST_SINGLY = 1000; // so many elements that came are asked for one by one
 
 /**
  * @typedef {object} TextOptions
@@ -39,12 +43,16 @@ class BoundText {
   #shown = [];
   #isBusy = false; // a character is being composed, or a question is open
   #isOwn = false;
+  #isOld = true; // whether the list may have other characters than those shown
   #isEnded = false;
+  /** @type {Element[] | undefined} The list, as far as it is known. */
+  #elements;
   #provider;
   #place;
   #field;
   #options;
   #unlisten = () => {};
+  #unwatch = NOTHING;
   #showSoon = paced(() => this.#isEnded || this.#show());
 
   /** @param {Provider} provider
@@ -61,8 +69,13 @@ class BoundText {
     field.addEventListener("beforeinput", this);
     field.addEventListener("input", this);
     field.addEventListener("keydown", this);
+    // A cursor with an index leads elsewhere once its list moves: there the list is read each time.
+    const isFixed = place.every((step, at) => at === 0 || typeof step === "string");
+    if (isFixed) this.#unwatch = provider.replica.watch(place, (splices) => this.#follow(splices));
     this.#unlisten = provider.listen(({ what }) => {
-      if (what === "changed" && !this.#isOwn) this.#showSoon();
+      if (what !== "changed" || this.#isOwn) return;
+      this.#isOld = true;
+      this.#showSoon();
     });
     this.#show();
   }
@@ -70,6 +83,7 @@ class BoundText {
   end() {
     this.#isEnded = true;
     this.#unlisten();
+    this.#unwatch();
     for (const name of ["compositionstart", "compositionend", "beforeinput", "input", "keydown"]) {
       this.#field.removeEventListener(name, this);
     }
@@ -114,7 +128,7 @@ class BoundText {
       this.#options.refused?.(undefined);
     } catch (error) {
       this.#options.refused?.(error);
-      this.#show();
+      this.#showAgain();
     }
   }
 
@@ -128,15 +142,20 @@ class BoundText {
       const isWanted = await confirm(insert.length).catch(() => false);
       this.#isBusy = false;
       if (this.#isEnded) return;
-      if (!isWanted) return this.#showAgain();
+      if (!isWanted) return this.#showAnew();
     }
     if (remove > 0 || insert.length > 0) this.#edit(index, remove, insert);
     this.#showSoon(); // what came while the field was busy
   }
 
-  #showAgain() {
+  #showAnew() {
     this.#shown = [];
     this.#field.value = "";
+    this.#showAgain();
+  }
+
+  #showAgain() {
+    this.#isOld = true;
     this.#show();
   }
 
@@ -161,6 +180,7 @@ class BoundText {
       this.#shown.splice(index, remove, ...added);
       this.#options.refused?.(undefined);
     } catch (error) {
+      this.#isOld = true;
       this.#options.refused?.(error);
     }
     this.#isOwn = false;
@@ -189,21 +209,41 @@ class BoundText {
 
   // ---- What others typed
 
+  /** @param {import("./rules.mjs").Splice[]} splices */
+  #follow(splices) {
+    for (const { index, remove, insert } of splices) {
+      if (insert.length > MOST_SINGLY) this.#elements = undefined;
+      this.#elements?.splice(index, remove, ...insert.map(() => ({})));
+    }
+  }
+
   #read() {
+    const isKnown = this.#elements && this.#elements.filter(({ id }) => !id).length <= MOST_SINGLY;
+    const elements = isKnown && this.#elements ? this.#elements.map((it, at) => this.#named(it, at)) : this.#all();
+    if (this.#unwatch !== NOTHING) this.#elements = elements;
     /** @type {Character[]} */
     const characters = [];
-    for (const [id, values] of this.#provider.replica.items(this.#place)) {
-      const value = values.at(-1);
-      if (typeof value !== "string") continue;
-      // A field has no carriage returns.
-      for (const text of value.replaceAll("\r", "")) characters.push({ id, text });
-    }
+    for (const { id, text } of elements) if (text) for (const it of text) characters.push({ id, text: it });
     return characters;
+  }
+
+  #all() {
+    return this.#provider.replica.items(this.#place).map(([id, values]) => ({ id, text: textOf(values) }));
+  }
+
+  /** @param {Element} element
+   *  @param {number} at How many are before it. */
+  #named({ id, text }, at) {
+    if (id) return { id, text };
+    const { replica } = this.#provider;
+    const place = replica.place([...this.#place, at + 1]);
+    return { id: /** @type {Id} */ (place[place.length - 1]), text: textOf(replica.values(place)) };
   }
 
   /** Shows the text as it is, with caret and selection at the characters where they were. */
   #show() {
-    if (this.#isBusy) return;
+    if (this.#isBusy || !this.#isOld) return;
+    this.#isOld = false;
     const [old, now] = [this.#shown, this.#read()];
     const field = this.#field;
     const text = now.map((character) => character.text).join("");
@@ -218,6 +258,13 @@ class BoundText {
     }
     field.scrollTop = scrollTop;
   }
+}
+
+/** What an element shows: its last value, if that is a text. A field has no carriage returns.
+ *  @param {unknown[]} values */
+function textOf(values) {
+  const value = values[values.length - 1];
+  return typeof value === "string" ? value.replaceAll("\r", "") : undefined;
 }
 
 /** @param {Id} a

@@ -15,8 +15,12 @@
  *  @property {Change[]} changes */
 /** @typedef {(event: Event) => any} Heard */
 /** @typedef {(splices: Splice[], why: Why) => any} Changed */
-/** What a watch asks for splices: the operations are those at, under or above its place.
- *  @typedef {{take: (ops: Operation[]) => Splice[], end: () => void}} Source */
+/** @typedef {object} Source What a watch asks for splices.
+ *  @property {() => Splice[]} take What has changed since it was last called.
+ *  @property {(op: Operation) => void} [note] Is called with each operation at, under or above the
+ *    watch's place, once the engine has it, before `take`.
+ *  @property {() => void} end
+ *  @property {number} [length] Of the list, if the source knows it. */
 /** @typedef {object} Watch
  *  @property {Cursor} place
  *  @property {string[]} texts Of the place.
@@ -40,6 +44,9 @@ export class Events {
      *  @param {() => T} work
      *  @returns {T} */
     batch<T>(work: () => T): T;
+    /** Is called with what the engine has logged at once, before `log`.
+     *  @param {Operation[]} ops */
+    note(ops: import("./wire.mjs").Operation[]): void;
     /** @param {string} line
      *  @param {Operation} op
      *  @param {Why} why */
@@ -79,11 +86,23 @@ export type Event = {
 export type Heard = (event: Event) => any;
 export type Changed = (splices: Splice[], why: Why) => any;
 /**
- * What a watch asks for splices: the operations are those at, under or above its place.
+ * What a watch asks for splices.
  */
 export type Source = {
-    take: (ops: import("./wire.mjs").Operation[]) => Splice[];
+    /**
+     * What has changed since it was last called.
+     */
+    take: () => Splice[];
+    /**
+     * Is called with each operation at, under or above the
+     * watch's place, once the engine has it, before `take`.
+     */
+    note?: ((op: import("./wire.mjs").Operation) => void) | undefined;
     end: () => void;
+    /**
+     * Of the list, if the source knows it.
+     */
+    length?: number | undefined;
 };
 export type Watch = {
     place: import("./wire.mjs").Cursor;

@@ -1,15 +1,3 @@
-/** The place of a cursor.
- *  @param {Engine} engine
- *  @param {Read} read
- *  @param {any[]} cursor Without ids, but for its start.
- *  @returns {Cursor} */
-export function placeAt(engine: Engine, read: Read, cursor: any[]): import("./wire.mjs").Cursor;
-/** How many present elements come up to one, itself included; for a head 0.
- *  @param {Engine} engine
- *  @param {Read} read
- *  @param {Cursor} place
- *  @returns {number} */
-export function indexAt(engine: Engine, read: Read, place: import("./wire.mjs").Cursor): number;
 /** In log order, the operations that a front doesn't cover.
  *  @param {Read} read
  *  @param {Iterable<[string, number]>} front
@@ -21,11 +9,25 @@ export function operationsOf(read: Read, front: Iterable<[string, number]>): Gen
  *  @param {Cursor} place
  *  @returns {import("./events.mjs").Source} */
 export function sourceOf(engine: Engine, read: Read, place: import("./wire.mjs").Cursor): import("./events.mjs").Source;
+export function placeAt(engine: Engine, read: Read, cursor: any[]): import("./wire.mjs").Cursor;
+/** Where elements are in lists. Of the list that was last asked for it has a mirror. */
+export class Indices {
+    /** @param {Engine} engine
+     *  @param {Read} read */
+    constructor(engine: Engine, read: Read);
+    /** Is to be called with each logged operation.
+     *  @param {Operation} op */
+    note(op: import("./wire.mjs").Operation): void;
+    /** How many present elements come up to one, itself included; for a head 0.
+     *  @param {Cursor} place
+     *  @returns {number} */
+    of(place: import("./wire.mjs").Cursor): number;
+    #private;
+}
 export type Cursor = import("./wire.mjs").Cursor;
 export type Id = import("./wire.mjs").Id;
 export type Operation = import("./wire.mjs").Operation;
 export type Engine = import("./rules.mjs").Engine;
-export type Splice = import("./rules.mjs").Splice;
 /**
  * Asks; returns what is behind the word.
  */

@@ -1,7 +1,3 @@
-/** @typedef {import("./provider.mjs").Provider} Provider */
-/** @typedef {HTMLTextAreaElement | HTMLInputElement} Field */
-/** @typedef {[number, string]} Id */
-/** @typedef {{ id: Id, text: string }} Character */
 /**
  * @typedef {object} TextOptions
  * @property {(error: unknown) => void} [refused] is called when an edit was refused; the field
@@ -17,13 +13,6 @@
  *  @param {TextOptions} [options]
  *  @returns {() => void} */
 export function bindText(provider: Provider, place: (0 | string | number | Id)[], field: Field, options?: TextOptions | undefined): () => void;
-export type Provider = import("./provider.mjs").Provider;
-export type Field = HTMLTextAreaElement | HTMLInputElement;
-export type Id = [number, string];
-export type Character = {
-    id: [number, string];
-    text: string;
-};
 export type TextOptions = {
     /**
      * is called when an edit was refused; the field
@@ -39,4 +28,18 @@ export type TextOptions = {
      * they do where there is none
      */
     confirm?: ((count: number) => Promise<boolean>) | undefined;
+};
+export type Provider = import("./provider.mjs").Provider;
+export type Field = HTMLTextAreaElement | HTMLInputElement;
+export type Id = [number, string];
+export type Character = {
+    id: [number, string];
+    text: string;
+};
+/**
+ * Of the list; without an id where it has just come.
+ */
+export type Element = {
+    id?: [number, string];
+    text?: string;
 };

@@ -1,0 +1,269 @@
+/* A list of an engine that only answers requests, as whoever follows it was told of it: the ids of
+   its elements in order, and their last values. This is no second tree or log: where a changed
+   element is, and what it holds, the engine says. Of a list of n elements it is asked about log n
+   times for a change, and for the whole list where most of it may have changed. */
+
+import { endOf, placeOf, writtenOf } from "./places.mjs";
+import { Refused, isArray, isId, isMap, refusalOf } from "./wire.mjs";
+
+/** @typedef {import("./wire.mjs").Cursor} Cursor */
+/** @typedef {import("./wire.mjs").Id} Id */
+/** @typedef {import("./wire.mjs").Operation} Operation */
+/** @typedef {import("./events.mjs").Source} Source */
+/** @typedef {import("./rules.mjs").Splice} Splice */
+/** @typedef {import("./followers.mjs").Read} Read */
+
+/** @typedef {{index: number, key: string, id: Id}} Found A changed element, and how many are before
+ *    it. */
+
+/** Fewer changes than this, and this part of the list, are looked for one by one. */
+const [FEW, PART] = [8, 1 / 32];
+/** @type {any} */
+const EMPTY_LIST = Object.freeze([]);
+const EMPTY_MAP = Object.freeze({});
+
+/** @implements {Source} */
+export class Mirror {
+  /** @type {string[]} Of the elements, in order: their ids as texts. */
+  #keys = [];
+  /** @type {Map<string, any>} Of each element its last value; `undefined` if it has none. */
+  #values = new Map();
+  /** @type {Map<string, Id>} Those that may have come, gone or changed since. */
+  #changed = new Map();
+  /** @type {Map<string, string>} The texts of those that were inserted, and not changed, since. */
+  #fresh = new Map();
+  #isAll = false; // whether any may have
+  #read;
+  #place;
+
+  /** Throws Refused for a head.
+   *  @param {Read} read
+   *  @param {Cursor} place */
+  constructor(read, place) {
+    this.#read = read;
+    this.#place = place;
+    this.#values = this.#all();
+    this.#keys = [...this.#values.keys()];
+  }
+
+  get length() { return this.#keys.length; }
+
+  /** How many elements come up to this one, itself included. 0 if it isn't in the list.
+   *  @param {Id} id */
+  indexOf(id) {
+    this.take();
+    return this.has(id) ? this.#keys.indexOf(String(id)) + 1 : 0;
+  }
+
+  end() {}
+
+  /** @param {Id} id */
+  has(id) { return this.#values.has(String(id)); }
+
+  /** Notes an operation that was logged: one at, under or above the place.
+   *  @param {Operation} op */
+  note(op) {
+    const [end, [word, value]] = [endOf(op), op[4]];
+    const { length } = this.#place;
+    const id = end[length];
+    if (end.length <= length && (word === "assign" || word === "delete")) this.#noteAll();
+    if (this.#isAll || !isId(id)) return;
+    const isDeeper = end.length > length + 1;
+    if (word === "insert" && !isDeeper && typeof value === "string") this.#fresh.set(String(id), value);
+    else this.#fresh.delete(String(id));
+    this.#noteElement(id, isDeeper);
+  }
+
+  #noteAll() {
+    this.#isAll = true;
+    this.#changed.clear();
+    this.#fresh.clear();
+  }
+
+  /** An operation deeper in an element makes it present, and leaves its value.
+   *  @param {Id} id
+   *  @param {boolean} isDeeper */
+  #noteElement(id, isDeeper) {
+    if (isDeeper && this.has(id)) return;
+    this.#changed.set(String(id), id);
+    if (this.#changed.size > FEW + this.#keys.length * PART) this.#noteAll();
+  }
+
+  /** What has changed since it was last called.
+   *  @returns {Splice[]} */
+  take() {
+    if (!this.#isAll && this.#changed.size === 0) return [];
+    const splices = this.#isAll ? this.#takeAll() : this.#takeChanged();
+    this.#isAll = false;
+    this.#changed.clear();
+    this.#fresh.clear();
+    return splices;
+  }
+
+  #takeAll() {
+    const [before, now] = [this.#keys, this.#all()];
+    const was = this.#values;
+    this.#keys = [...now.keys()];
+    this.#values = now;
+    const isSame = (/** @type {string} */ key) => was.get(key) === now.get(key);
+    return difference(before, this.#keys, { was, is: now, isSame, index: 0 }).map(toldOf(now));
+  }
+
+  /** The last value of each element, as now.
+   *  @returns {Map<string, any>} */
+  #all() {
+    const cursor = [writtenOf(this.#place)];
+    /** @type {[Id, any[]][]} */
+    const items = this.#read("items", cursor);
+    if (items.length === 0) return new Map();
+    const [, shown] = this.#read("show", cursor).find((/** @type {any[]} */ [kind]) => kind === "list");
+    return new Map(items.map(([id, values], at) => {
+      // A map or list may be the last value only where it is shown.
+      const isPlain = values.length > 0 && shown[at].every((/** @type {any[]} */ [kind]) => kind === "val");
+      return [String(id), isPlain ? values[values.length - 1] : this.#valueOf(id)];
+    }));
+  }
+
+  /** @param {Id} id */
+  #valueOf(id) {
+    const fresh = this.#fresh.get(String(id));
+    if (fresh !== undefined) return fresh;
+    const value = this.#read("conflicts", [writtenOf([...this.#place, id])]).pop()?.[1];
+    return isArray(value) ? EMPTY_LIST : isMap(value) ? EMPTY_MAP : value;
+  }
+
+  #takeChanged() {
+    const old = this.#old();
+    const kept = old.length > 0 ? [...this.#keys] : this.#keys;
+    for (let at = old.length; at-- > 0; ) kept.splice(old[at], 1);
+    const found = this.#search(kept);
+    return this.#splices(old, kept, found, new Map(found.map(({ key, id }) => [key, this.#valueOf(id)])));
+  }
+
+  /** Where the changed elements were. */
+  #old() {
+    /** @type {number[]} */
+    const old = [];
+    if (![...this.#changed.keys()].some((key) => this.#values.has(key))) return old;
+    for (let at = 0; at < this.length; at++) if (this.#changed.has(this.#keys[at])) old.push(at);
+    return old;
+  }
+
+  /** Where the changed elements are that are present. The others are as they were: so a request by
+   *  index shows by one of them how many of the changed ones are before it.
+   *  @param {string[]} kept The others.
+   *  @returns {Found[]} */
+  #search(kept) {
+    let [least, most] = [kept.length, kept.length + this.#changed.size]; // of the list's length
+    while (least < most) {
+      const middle = (least + most + 1) >> 1;
+      if (this.#at(middle - 1)) least = middle;
+      else most = middle - 1;
+    }
+    /** @type {Found[]} */
+    const found = [];
+    this.#searchIn(kept, [0, least], [0, least - kept.length], found);
+    return found;
+  }
+
+  /** Finds those from one index to another one.
+   *  @param {string[]} kept
+   *  @param {[number, number]} range
+   *  @param {[number, number]} counts How many are before each.
+   *  @param {Found[]} found */
+  #searchIn(kept, [from, to], [before, upTo], found) {
+    if (before === upTo) return;
+    const middle = (from + to) >> 1;
+    /** @type {Found[]} */
+    const run = [];
+    let [at, key] = [middle, ""];
+    for (; at < to; at++) {
+      const id = /** @type {Id} */ (this.#at(at));
+      key = String(id);
+      if (!this.#changed.has(key)) break;
+      run.push({ index: at, key, id });
+    }
+    let count = at < to ? before : upTo; // how many are before `at`
+    while (at < to && kept[at - count] !== key) if (++count > upTo) throw new Error("unheard change");
+    this.#searchIn(kept, [from, middle], [before, count - run.length], found);
+    found.push(...run);
+    this.#searchIn(kept, [at + 1, to], [count, upTo], found);
+  }
+
+  /** The element behind the first `index` ones, if there is one.
+   *  @param {number} index
+   *  @returns {Id | undefined} */
+  #at(index) {
+    const place = refusalOf(() => this.#read("cursor", [writtenOf(this.#place), index + 1]));
+    if (!(place instanceof Refused)) return /** @type {Id} */ (placeOf(place).pop());
+    if (place.number !== 9) throw place;
+    return undefined;
+  }
+
+  /** Makes of what was what is, from the first change to the last one.
+   *  @param {number[]} old Where the changed elements were.
+   *  @param {string[]} kept
+   *  @param {Found[]} found
+   *  @param {Map<string, any>} now The values of these.
+   *  @returns {Splice[]} */
+  #splices(old, kept, found, now) {
+    const from = Math.min(old[0] ?? Infinity, found[0]?.index ?? Infinity);
+    if (from === Infinity) return [];
+    const length = kept.length + found.length;
+    const rest = Math.min(this.length - 1 - (old.at(-1) ?? -1), length - 1 - (found.at(-1)?.index ?? -1));
+    const before = this.#keys.slice(from, this.length - rest);
+    const after = kept.slice(from, kept.length - rest);
+    for (const { index, key } of found) after.splice(index - from, 0, key);
+    const [was, changed] = [this.#values, this.#changed];
+    const is = { has: (/** @type {string} */ key) => !changed.has(key) || now.has(key) };
+    const isSame = (/** @type {string} */ key) => !changed.has(key) || was.get(key) === now.get(key);
+    const splices = difference(before, after, { was, is, isSame, index: from });
+    for (const key of changed.keys()) was.delete(key);
+    for (const [key, value] of now) was.set(key, value);
+    for (const { index, remove, insert } of splices) this.#keys.splice(index, remove, ...insert);
+    return splices.map(toldOf(now));
+  }
+}
+
+/** @param {ReadonlyMap<string, any>} values
+ *  @returns {(splice: Splice) => Splice} */
+const toldOf = (values) => ({ index, remove, insert }) =>
+  ({ index, remove, insert: insert.map((key) => values.get(key) ?? null) });
+
+/** The splices, of keys, that make a list of another one of its states.
+ *  @param {string[]} before
+ *  @param {string[]} after
+ *  @param {object} states
+ *  @param {{has: (key: string) => boolean}} states.was Whether one was present.
+ *  @param {{has: (key: string) => boolean}} states.is Whether one is.
+ *  @param {(key: string) => boolean} states.isSame Whether its value is the same.
+ *  @param {number} states.index How many are before these.
+ *  @returns {Splice[]} */
+function difference(before, after, { was, is, isSame, index }) {
+  /** @type {Splice[]} */
+  const found = [];
+  let count = index;
+  const last = () => {
+    const splice = found[found.length - 1];
+    if (splice && splice.index + splice.insert.length === count) return splice;
+    found.push({ index: count, remove: 0, insert: [] });
+    return found[found.length - 1];
+  };
+  for (let [old, now] = [0, 0]; old < before.length || now < after.length; ) {
+    if (old < before.length && !is.has(before[old])) {
+      last().remove++;
+      old++;
+      continue;
+    }
+    const key = after[now++];
+    const isNew = !was.has(key);
+    if (isNew || !isSame(key)) {
+      const splice = last();
+      splice.remove += isNew ? 0 : 1;
+      splice.insert.push(key);
+    }
+    if (!isNew) old++;
+    count++;
+  }
+  return found;
+}

@@ -1,0 +1,195 @@
+/* What those who follow lists are told, and where elements are: the same over each engine, and soon
+   in long lists, too. */
+
+import { deepEqual, equal, ok } from "node:assert/strict";
+import { test } from "node:test";
+import { Refused, Replica } from "../index.mjs";
+import { engines } from "./engines.mjs";
+import { dice } from "./random.mjs";
+import { cpuOf } from "./support.mjs";
+
+/** @typedef {import("../wire.mjs").Cursor} Cursor */
+/** @typedef {import("../wire.mjs").Id} Id */
+
+const LISTS = [[0, "t"], [0, "cards"], [0, "t", 3], [0, "cards", 1, "in"], [0]];
+const VALUES = ["x", "x", "y", null, 7, 2n ** 60n, true, {}, []];
+const MANY = 40_000;
+const KEYS = 200;
+const SECONDS = 4; // of the processor, for so many keys
+
+/** Replicas of the same name over each engine, that do the same; each says what it was told. */
+class Alike {
+  /** @param {string[]} lines */
+  constructor(lines) {
+    this.replicas = engines.map(([, engine]) => Replica.restore(lines, { engine }));
+    /** @type {any[][]} */
+    this.told = this.replicas.map(() => []);
+    /** @type {Cursor[]} Elements, deleted ones too. */
+    this.places = [];
+    for (const cursor of LISTS) this.watch(/** @type {Cursor} */ (cursor));
+  }
+
+  /** @param {Cursor} cursor */
+  watch(cursor) {
+    for (const [at, replica] of this.replicas.entries()) {
+      replica.watch(cursor, (splices, why) => this.told[at].push([cursor, why, structuredClone(splices)]));
+    }
+  }
+
+  /** @param {string} what
+   *  @param {(replica: Replica) => any} act */
+  do(what, act) {
+    const given = this.replicas.map((replica) => refusalOr(() => act(replica)));
+    for (const [at, [title]] of engines.entries()) {
+      deepEqual(given[at], given[0], `${what}: ${title} gives what rules.mjs gives`);
+      deepEqual(this.told[at], this.told[0], `${what}: ${title} tells what rules.mjs tells`);
+    }
+    for (const it of this.told) it.splice(0);
+    return given[0];
+  }
+}
+
+/** @param {() => any} act */
+function refusalOr(act) {
+  try {
+    return act();
+  } catch (error) {
+    if (!(error instanceof Refused)) throw error;
+    return `refused: ${error.number}`;
+  }
+}
+
+/** What somebody does with a document.
+ *  @param {ReturnType<typeof dice>} random
+ *  @returns {(replica: Replica) => any} */
+function anEdit(random) {
+  const list = /** @type {Cursor} */ (random.pick(LISTS));
+  const [where, count, size] = [random.next(), random.below(4), random.below(4)];
+  const [value, kind] = [random.pick(VALUES), random.next()];
+  const values = Array.from({ length: size }, () => random.pick([...VALUES, ["in", { a: 1 }], "😀"]));
+  return (replica) => {
+    const { length } = replica.items(list);
+    const at = 1 + Math.floor(where * length);
+    if (kind < 0.4) return replica.splice(list, at - 1, Math.min(count, length - at + 1), values);
+    if (kind < 0.55) return replica.assign([...list, at], value);
+    if (kind < 0.65) return replica.delete([...list, at]);
+    if (kind < 0.72) return replica.put([...list, at, "in"], ["deep", size]);
+    if (kind < 0.77) return replica.add([...list, at], size);
+    if (kind < 0.79) return replica.put(list, values);
+    if (kind < 0.8) return replica.delete(list);
+    return kind < 0.92 ? replica.undo() : replica.redo();
+  };
+}
+
+/** Elements of a list of which some are deleted later on.
+ *  @param {Alike} alike
+ *  @param {ReturnType<typeof dice>} random */
+function notePlaces(alike, random) {
+  const list = /** @type {Cursor} */ (random.pick(LISTS));
+  const at = 1 + random.below(20);
+  const place = refusalOr(() => alike.replicas[0].place([...list, at]));
+  if (typeof place !== "string") alike.places.push(place);
+}
+
+/** A random history of three: one over each engine, and two others.
+ *  @param {number} seed */
+function aHistory(seed) {
+  const random = dice(seed);
+  const others = ["bob", "cyd"].map((name) => new Replica(name, "d"));
+  const first = new Replica("ada", "d");
+  first.put([0], { t: [..."a text of some length".repeat(10)], cards: [{ in: ["one", "two"] }, "three"] });
+  const alike = new Alike(first.lines());
+  others.forEach((other) => other.deliverAll(first.lines().slice(1)));
+  const [mine] = alike.replicas;
+  for (let step = 0; step < 150; step++) {
+    const what = `seed ${seed}, step ${step}`;
+    const [kind, other, edit] = [random.next(), random.pick(others), anEdit(random)];
+    const edits = Array.from({ length: random.below(6) }, () => anEdit(random));
+    if (kind < 0.3) alike.do(what, edit);
+    else if (kind < 0.4) {
+      alike.do(what, (replica) => replica.group(() => edits.map((it) => refusalOr(() => it(replica)))));
+    } else if (kind < 0.65) [edit, ...edits].forEach((it) => refusalOr(() => it(other)));
+    else if (kind < 0.8) {
+      const came = [...other.operations(mine.front())];
+      if (random.chance(0.3)) came.reverse(); // held first, and released together
+      alike.do(what, (replica) => replica.deliverAll(came).taken);
+    } else if (kind < 0.9) other.deliverAll([...mine.operations(other.front())]);
+    else notePlaces(alike, random);
+    if (step === 75) LISTS.forEach((list) => refusalOr(() => alike.watch(/** @type {Cursor} */ (list))));
+    alike.do(what, (replica) => alike.places.map((place) => refusalOr(() => replica.indexOf(place))));
+  }
+}
+
+test("who follows a list is told the same over each engine", { timeout: 300_000 }, () => {
+  for (let seed = 1; seed <= Number(process.env.SEEDS ?? 6); seed++) aHistory(seed);
+});
+
+/** The log of a text of so many characters. */
+const long = (() => {
+  const me = new Replica("ada", "d");
+  me.put([0, "t"], [..."x".repeat(MANY)]);
+  return me.lines();
+})();
+
+for (const [title, engine] of engines) {
+  const open = () => Replica.restore(long, { engine });
+
+  /** @param {Replica} replica */
+  const modelOf = (replica) => {
+    const model = Array.from({ length: MANY }, () => "x");
+    replica.watch([0, "t"], (splices) => {
+      for (const { index, remove, insert } of splices) model.splice(index, remove, ...insert);
+    });
+    return model;
+  };
+
+  /** @param {import("node:test").TestContext} context
+   *  @param {string} what
+   *  @param {(at: number) => any} act */
+  async function isSoon(context, what, act) {
+    const took = await cpuOf(() => {
+      for (let at = 0; at < KEYS; at++) act(at);
+    });
+    context.diagnostic(`${what}: ${(took / KEYS).toFixed(2)} ms`);
+    ok(took < SECONDS * 1000, `${KEYS} times, ${what}: ${took} ms`);
+  }
+
+  test(`${title}: keys in a watched list of ${MANY}`, { timeout: 300_000 }, async (context) => {
+    const me = open();
+    const model = modelOf(me);
+    await isSoon(context, "a key", (at) => me.splice([0, "t"], at * 150, 0, "k"));
+    await isSoon(context, "a deletion", (at) => me.splice([0, "t"], at * 150, 1, ""));
+    await isSoon(context, "a key of undo", () => me.undo());
+    equal(model.length, MANY + KEYS);
+    deepEqual(model, [...me.text([0, "t"])]);
+    me.free();
+  });
+
+  test(`${title}: changes by others in a watched list of ${MANY}`, { timeout: 300_000 }, async (context) => {
+    const [me, other] = [open(), Replica.restore(["[\"replica\",\"bob\",\"d\"]", ...long.slice(1)])];
+    const model = modelOf(me);
+    /** @type {string[]} */
+    const lines = [];
+    other.listen((event) => lines.push(...event.lines));
+    for (let at = 0; at < KEYS; at++) other.splice([0, "t"], (at * 7919) % MANY, at % 2, at % 3 ? "o" : "");
+    other.splice([0, "t"], 1, 1, "!");
+    const share = lines.length / KEYS;
+    await isSoon(context, "a change by another", (at) => lines.slice(at * share, (at + 1) * share).map((it) => me.deliver(it)));
+    me.deliverAll(lines);
+    deepEqual(model, [...other.text([0, "t"])]);
+    me.free();
+  });
+
+  test(`${title}: an index in a list of ${MANY}`, { timeout: 300_000 }, async (context) => {
+    const me = open();
+    const place = me.place([0, "t", MANY / 2]);
+    const gone = me.place([0, "t", MANY / 4]);
+    await isSoon(context, "a key, and an index", (at) => {
+      me.splice([0, "t"], at, 0, "k");
+      equal(me.indexOf(place), MANY / 2 + at + 1);
+    });
+    me.delete(gone);
+    equal(me.indexOf(gone), MANY / 4 + KEYS - 1);
+    me.free();
+  });
+}
