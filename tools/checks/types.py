@@ -13,7 +13,7 @@ from typing import Callable, Iterator, List, NamedTuple, Optional
 
 # What is typed besides the package: the modules that programs share, and the programs that are typed throughout.
 TYPED = [":(glob)tools/*.py", ":(glob)tools/checks/*.py", "tools/check", ":(glob)tests/*.py", "tests/edges", ":(glob)operations/tests/*.py",
-         "operations/tests/memory"]
+         "operations/tests/memory", "operations/jcrdt-container"]
 
 
 class Tool(NamedTuple):

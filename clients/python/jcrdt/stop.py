@@ -4,8 +4,8 @@ usage: stop ADDRESS [--file F]     (HOST:PORT of a running server, not of a hub)
 
 A server ends once all its sessions have ended and the file has all of it. This opens one session after another
 and quits each, until none is left. Sessions that run go on until their clients leave: end hubs and relays first.
-With --file, that of `serve --file`, it says how many operations aren't in the file yet, and it ends once the
-server has closed the file.
+With --file, that of `serve --file`, it says how many operations aren't in the file yet, it waits for a server that
+has the file open and doesn't listen yet, and it ends once the server has closed the file.
 
 Status 0: the server has ended. 1: no server listens there, or it is a hub, or no server of jcrdt. 2: a wrong
 command line.
@@ -112,6 +112,11 @@ class Backlog:
         if self.log:
             self.log.close()
 
+    def begin(self) -> None:
+        """The server answers: a later epoch is one of its next start."""
+        self.read()
+        self.epoch = self.log.epoch if self.log else None
+
     def note(self, session: Session) -> None:
         """Asks what the server has beyond the file, of the documents that the file has."""
         self.is_asked = True
@@ -149,24 +154,37 @@ class Stop:
         self.host, self.port = wire.host_and_port(address)
         self.backlog = backlog
         self.kept: Optional[Caller] = None
-        self.used, self.waited = 0, False
+        self.used, self.waited, self.began = 0, False, False
 
     def run(self) -> None:
         """Returns once the server has ended. Raises NoServer if there is none."""
         try:
             while self.used <= MOST_SESSIONS:
-                self.use_up(Caller(self.host, self.port))
+                self.use_up(self.caller())
         except NoServer:
             raise
         except ConnectionError as error:
             # One that has no session left and writes its file may listen no more.
-            if not (self.used or self.waited or self.backlog and is_open(self.backlog.path)):
+            if not (self.used or self.waited or self.began):
                 raise NoServer("no server listens there" if isinstance(error, ConnectionRefusedError)
                                else f"no server of jcrdt: {error}") from None
             if self.backlog:
                 self.backlog.wait()
             return
         raise NoServer(f"no server of jcrdt: it has more than {MOST_SESSIONS} sessions")
+
+    def caller(self) -> Caller:
+        """Connects. A server that has F open and refuses is at its start or at its end: it is waited for."""
+        while True:
+            try:
+                return Caller(self.host, self.port)
+            except ConnectionRefusedError:
+                if self.used or self.waited or not (self.backlog and is_open(self.backlog.path)):
+                    raise
+            if not self.began:
+                say("the server starts, or writes its last operations: waiting for it")
+            self.began = True
+            time.sleep(LOOK_SECONDS)
 
     def use_up(self, caller: Caller) -> None:
         """Ends a session, or waits for the end of the server."""
@@ -178,6 +196,8 @@ class Stop:
             while not caller.has_session(LOOK_SECONDS):
                 if self.backlog:
                     self.backlog.look()
+        if self.backlog and not self.used:
+            self.backlog.begin()
         self.used += 1
         if self.backlog and not self.kept and not self.backlog.is_asked:
             self.kept = caller

@@ -15,12 +15,13 @@ from pathlib import Path
 from typing import Callable, Iterator, List
 
 import pytest
-from conftest import PACKAGE, SECONDS, Server, tool
+from conftest import PACKAGE, PROGRAM, SECONDS, Server, tool
 from test_session import answering
 
 import jcrdt
 from jcrdt.__main__ import MODULES
-from jcrdt.stop import Backlog
+from jcrdt.log import is_open
+from jcrdt.stop import Backlog, Stop
 from test_writes import hub
 
 Serve = Callable[..., Server]
@@ -177,6 +178,27 @@ def test_a_server_is_stopped_while_a_session_runs(serve: Serve, with_file: bool)
     assert server.end() == '["total","d",2,2,2]\n'
     assert "no server listens there" in tool("stop", server.address, status=1)
     assert "isn't HOST:PORT" in tool("stop", "7001", status=2)
+
+
+def test_a_server_is_stopped_before_it_listens(serve: Serve) -> None:
+    """One that reads a long file refuses connections meanwhile."""
+    server = serve("d", sessions=1)
+    with jcrdt.connected(server.address) as session:
+        session.open("d")
+        session.ask_all([["assign", "d", [0, f"k{number}"], number] for number in range(20_000)])
+    server.end()
+    words = [PROGRAM, "serve", "--addr", server.address, "--sessions", "3", "--file", server.file, "d"]
+    with subprocess.Popen(words, stdout=subprocess.PIPE, stderr=subprocess.DEVNULL, text=True) as process:
+        until = time.monotonic() + SECONDS
+        while not is_open(server.file) and time.monotonic() < until:
+            time.sleep(0.001)
+        stop = Stop(server.address, Backlog(server.file))
+        try:
+            stop.run()
+            assert (stop.began, stop.used) == (True, 3)
+            assert process.communicate(timeout=SECONDS)[0].splitlines()[-1] == '["total","d",0,20000,20000]'
+        finally:
+            process.kill()
 
 
 def test_a_file_that_cannot_be_read_stops_nothing(serve: Serve, tmp_path: Path) -> None:
