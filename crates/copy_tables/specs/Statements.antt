@@ -1,5 +1,5 @@
 -- Statements that were run one after another, whatever tables the database has.
-use Rattle.std.specs.Prelude.{◌≡◌, ◌⊎◌, ℕ, zero, suc, ◌/◌, pos, List, [], ◌∷◌, ◌++◌, map, take, drop, length, replicate, flat_map, Result, Ok, Err, OnOk, IfErr, codes}
+use Rattle.std.specs.Prelude.{◌≡◌, ◌⊎◌, ℕ, zero, suc, ◌/◌, pos, List, [], ◌∷◌, ◌++◌, map, take, drop, length, flat_map, Result, Ok, Err, OnOk, IfErr, codes}
 use Rattle.sqlite_trees.specs.declared.store.Store.{Ghosts}
 use Rattle.sqlite.specs.declared.types.Value.TheVariants.{Int}
 use Rattle.sqlite.specs.Order.{Row}
@@ -7,7 +7,7 @@ use Rattle.sqlite.specs.Tree.{Trees}
 use Rattle.sqlite.specs.Held.{Held, state}
 use Rattle.sqlite.specs.State.{HasCleanDisk, Survives, Executes, CommitsBy, Begins, Shown, FailsToQuery}
 use Rattle.sqlite.specs.declared.error.Error.{Error}
-use Rattle.copy_schema.specs.Tables.{meta_text, entry_text}
+use Rattle.copy_schema.specs.Tables.{meta_text, entry_text, sixteen_text}
 
 -- a text with its parameters
 pub record Statement : Type 0 where
@@ -30,7 +30,7 @@ insert_row row = record { text = codes "INSERT INTO entry (doc, place, text) VAL
 -- sixteen rows at once
 abbrev pub insert_sixteen : List Row → Statement
 insert_sixteen rows = record {
-  text = codes "INSERT INTO entry (doc, place, text) VALUES (?, ?, ?)" ++ flat_map (λ it. it) (replicate 15 (codes ", (?, ?, ?)"));
+  text = sixteen_text;
   params = flat_map (λ row. row) rows;
 }
 
