@@ -134,6 +134,16 @@ class Connection(Lines):
 # The program.
 
 
+def leave(process: subprocess.Popen[bytes], watch: threading.Timer, *files: Any) -> None:
+    """Ends a process, if it still runs, and what belongs to it."""
+    watch.cancel()
+    if process.poll() is None:
+        process.kill()
+    process.wait()
+    for it in files:
+        it.close()
+
+
 class Run(Lines):
     """`run` over two pipes."""
 
@@ -162,12 +172,7 @@ class Run(Lines):
         return self
 
     def __exit__(self, *_: object) -> None:
-        self.watch.cancel()
-        if self.process.poll() is None:
-            self.process.kill()
-        self.process.wait()
-        self.output.close()
-        self.raw.close()
+        leave(self.process, self.watch, self.output, self.raw)
 
 
 class Server:
@@ -247,21 +252,7 @@ class Server:
         return self
 
     def __exit__(self, *_: object) -> None:
-        self.watch.cancel()
-        if self.process.poll() is None:
-            self.process.kill()
-        self.process.wait()
-        self.output.close()
-        self.notes.close()
-
-
-def python_with(module: str) -> Optional[str]:
-    """A Python that has this module, or nothing."""
-    for name in ("python3", "/usr/bin/python3"):
-        found = shutil.which(name)
-        if found and subprocess.run([found, "-c", f"import {module}"], stderr=subprocess.DEVNULL, check=False).returncode == 0:
-            return found
-    return None
+        leave(self.process, self.watch, self.output, self.notes)
 
 
 def built(room: str, name: str, source: str, *words: str) -> str:

@@ -11,6 +11,8 @@ import shutil
 import subprocess
 from typing import Callable, Iterator, List, NamedTuple, Optional
 
+from pythons import python_with
+
 # What is typed besides the package: the modules that programs share, and the programs that are typed throughout.
 TYPED = [":(glob)tools/*.py", ":(glob)tools/checks/*.py", "tools/check", ":(glob)tests/*.py", "tests/edges", ":(glob)operations/tests/*.py",
          "operations/tests/memory", "operations/jcrdt-container"]
@@ -47,15 +49,6 @@ def shell_files(top: str) -> List[str]:
     """The files that a shell runs: by their names and first lines."""
     names = tracked(top, "*.sh", ".ci/*", "tools/*", "tests/*", "examples/*", "operations/*", "packaging/*", "debian/*", "jcrdt")
     return [it for it in names if begins(top, it, b"#!/usr/bin/env bash", b"#!/bin/bash", b"#!/bin/sh", b"#!/usr/bin/env sh")]
-
-
-def python_with(module: str) -> Optional[str]:
-    """A Python that has this module, or nothing."""
-    for name in ("python3", "/usr/bin/python3"):
-        found = shutil.which(name)
-        if found and subprocess.run([found, "-c", f"import {module}"], stderr=subprocess.DEVNULL, check=False).returncode == 0:
-            return found
-    return None
 
 
 def runs(top: str) -> Iterator[Tool]:

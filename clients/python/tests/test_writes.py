@@ -212,9 +212,24 @@ def send_through(writes: Writes, session: jcrdt.Session, number: int) -> None:
         time.sleep(0.05)
 
 
+def write_over_restarts(server: Server, writes: Writes, count: int) -> int:
+    """Sends so many changes three times, and kills and starts the server behind each; what is unknown is sent again. Returns how
+    many there were."""
+    number = 0
+    for _ in range(3):
+        with contextlib.suppress(ConnectionError), jcrdt.connected(server.address) as session:
+            session.open("d")
+            writes.send_again(session)
+            for _ in range(count):
+                number += 1
+                writes.send(session, "assign", [0, f"k{number}"], number)
+        server.restart()
+    return number
+
+
 def test_a_follower_sees_each_change_once(serve: Serve) -> None:
     """From the file: nothing that a kill takes back, and nothing twice, while writes are sent again after kills."""
-    server, writes, seen, number = serve("d"), Writes("d"), [], 0
+    server, writes, seen = serve("d"), Writes("d"), []
     ended = threading.Event()
 
     def follow() -> None:
@@ -226,14 +241,7 @@ def test_a_follower_sees_each_change_once(serve: Serve) -> None:
 
     thread = threading.Thread(target=follow, daemon=True)
     thread.start()
-    for _ in range(3):
-        with contextlib.suppress(ConnectionError), jcrdt.connected(server.address) as session:
-            session.open("d")
-            writes.send_again(session)
-            for _ in range(300):
-                number += 1
-                writes.send(session, "assign", [0, f"k{number}"], number)
-        server.restart()
+    number = write_over_restarts(server, writes, 300)
     with jcrdt.connected(server.address) as session:
         session.open("d")
         writes.send_again(session)
@@ -273,7 +281,7 @@ def test_a_follower_of_a_server(serve: Serve) -> None:
 
 def test_a_follower_at_the_hub(serve: Serve) -> None:
     """A hub that knows the file: nothing that a kill takes back, and nothing twice."""
-    server, writes, seen, number = serve("d"), Writes("d"), [], 0
+    server, writes, seen = serve("d"), Writes("d"), []
 
     def follow(address: str) -> None:
         for operation in followed(address, "d"):
@@ -281,14 +289,7 @@ def test_a_follower_at_the_hub(serve: Serve) -> None:
 
     with hub(server, "--file", server.file) as address:
         threading.Thread(target=follow, args=(address,), daemon=True).start()
-        for _ in range(3):
-            with contextlib.suppress(ConnectionError), jcrdt.connected(server.address) as session:
-                session.open("d")
-                writes.send_again(session)
-                for _ in range(200):
-                    number += 1
-                    writes.send(session, "assign", [0, f"k{number}"], number)
-            server.restart()
+        number = write_over_restarts(server, writes, 200)
         with jcrdt.connected(server.address) as session:
             session.open("d")
             writes.send_again(session)
