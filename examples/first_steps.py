@@ -1,21 +1,20 @@
-"""A session's calls, one after the other, with what each gives.
+"""A session's calls, one after the other, with what each gives."""
 
-usage: first_steps.py
-"""
-
+import argparse
 import json
 import os
 import sys
+from typing import Any, List, Tuple
 
 sys.path.insert(0, os.path.join(os.path.dirname(os.path.abspath(__file__)), "..", "clients", "python"))
 import jcrdt  # noqa: E402
 
 
-def show(title, value):
+def show(title: str, value: object) -> None:
     print(f"{title}: {json.dumps(value, ensure_ascii=False)}")
 
 
-def main():
+def main() -> None:
     with jcrdt.started(["notes"], name="alice") as alice:
         alice.open("notes")
         alice.put("notes", [0], {"title": "Trip", "days": [{"place": "Oslo"}, {"place": "Bergen"}], "paid": False})
@@ -42,7 +41,8 @@ def main():
         alice.assign("notes", [0, "days"], [])
         show("days, emptied", alice.plain("notes", [0, "days"]))
 
-        for cursor, value in (([0, "rate"], 1.5), ([0, "days", 7], "x"), (["nobody"], 1)):
+        wrong: List[Tuple[List[Any], Any]] = [([0, "rate"], 1.5), ([0, "days", 7], "x"), (["nobody"], 1)]
+        for cursor, value in wrong:
             try:
                 alice.assign("notes", cursor, value)
             except jcrdt.Refused as refused:
@@ -51,4 +51,5 @@ def main():
 
 
 if __name__ == "__main__":
+    argparse.ArgumentParser(description=__doc__).parse_args()
     main()

@@ -1,11 +1,10 @@
 """A service: it handles each change of a document once, whatever is killed meanwhile, it or the server.
 
-usage: follow.py FILE DOCUMENT STATE     (FILE is that of `jcrdt serve --file`, on this machine; STATE is made)
-
 It reads what is on disk: a kill of the server takes nothing of that back. What was handled, and the front
 behind it, are committed together, so the next start goes on from there.
 """
 
+import argparse
 import contextlib
 import json
 import os
@@ -16,7 +15,7 @@ sys.path.insert(0, os.path.join(os.path.dirname(os.path.abspath(__file__)), ".."
 import jcrdt  # noqa: E402
 
 
-def main(file, document, state):
+def main(file: str, document: str, state: str) -> None:
     with contextlib.closing(sqlite3.connect(state)) as database:
         database.executescript("CREATE TABLE IF NOT EXISTS handled (counter, replica, operation);"
                                "CREATE TABLE IF NOT EXISTS front (replica PRIMARY KEY, counter);")
@@ -31,6 +30,9 @@ def main(file, document, state):
 
 
 if __name__ == "__main__":
-    if len(sys.argv) != 4:
-        sys.exit(__doc__)
-    main(*sys.argv[1:])
+    parser = argparse.ArgumentParser(description=__doc__)
+    parser.add_argument("file", help="that of `jcrdt serve --file`, on this machine")
+    parser.add_argument("document")
+    parser.add_argument("state", help="the service's own file, which is made where it isn't there")
+    words = parser.parse_args()
+    main(words.file, words.document, words.state)

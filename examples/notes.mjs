@@ -10,9 +10,14 @@ import { fileStore } from "../clients/js/file_store.mjs";
 import { Provider } from "../clients/js/provider.mjs";
 
 const NOTES = [0, "notes"];
-const [file, at] = process.argv.slice(2);
-if (!file) {
-  console.error("usage: notes.mjs FILE [HOST:PORT]");
+const USAGE = "usage: notes.mjs FILE [HOST:PORT]";
+const [file = "", at, ...more] = process.argv.slice(2);
+if (file === "--help") {
+  console.log(USAGE);
+  process.exit();
+}
+if (file === "" || file.startsWith("-") || more.length > 0) {
+  console.error(USAGE);
   process.exit(2);
 }
 const provider = await Provider.open({ document: "notes", at, word: "notes", store: fileStore(file) })

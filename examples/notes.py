@@ -48,7 +48,11 @@ def change(replica: Replica, word: str, rest: List[str]) -> None:
 
 
 def main(words: List[str]) -> int:
-    if not words or len(words) > 1 and (words[1] not in ("add", "strike", "sync") or len(words) < 3):
+    if words == ["--help"]:
+        print(__doc__)
+        return 0
+    is_asked = len(words) == 1 or len(words) > 2 and words[1] in ("add", "strike", "sync")
+    if not is_asked or words[0].startswith("-"):
         print(__doc__, file=sys.stderr)
         return 2
     path, *rest = words

@@ -2,6 +2,11 @@
 # Two replicas from the shell, with jq: the operations of one are saved as lines, handed to the other, and read there.
 # usage: shell_with_jq.sh     (JCRDT names the program, ../jcrdt if it is unset)
 set -euo pipefail
+case ${1-} in
+'') ;;
+--help) exec sed -n 's/^# //p' "$0" ;;
+*) sed -n 's/^# //p' "$0" >&2; exit 2 ;;
+esac
 program=${JCRDT:-$(dirname "$0")/../jcrdt}
 saved=$(mktemp)
 trap 'rm -f "$saved"' EXIT

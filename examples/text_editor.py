@@ -1,11 +1,13 @@
 """A text editor's shape: a text is a list of characters, and two people type into it by index.
 
-usage: text_editor.py [COUNT]     (how many characters each types; figures go to standard error)
+Figures go to standard error.
 """
 
+import argparse
 import os
 import sys
 import time
+from typing import Callable
 
 sys.path.insert(0, os.path.join(os.path.dirname(os.path.abspath(__file__)), "..", "clients", "python"))
 import jcrdt  # noqa: E402
@@ -14,23 +16,23 @@ from jcrdt.exchange import exchange  # noqa: E402
 TEXT = [0, "text"]
 
 
-def text_of(server):
+def text_of(server: jcrdt.Session) -> str:
     return "".join(names[-1] for _, names in server.items("page", TEXT) if names)
 
 
-def type_at(server, place, text):
+def type_at(server: jcrdt.Session, place: int, text: str) -> None:
     """Types behind the first `place` characters."""
     for offset, character in enumerate(text):
         server.insert("page", [*TEXT, place + offset], character)
 
 
-def timed(what, count, work):
+def timed(what: str, count: int, work: Callable[[], object]) -> None:
     start = time.perf_counter()
     work()
     print(f"{what}: {(time.perf_counter() - start) / count * 1e6:.0f} microseconds a character", file=sys.stderr)
 
 
-def main(count):
+def main(count: int) -> None:
     with jcrdt.started(["page"], "ada") as ada, jcrdt.started(["page"], "bob") as bob:
         ada.open("page")
         bob.open("page")
@@ -59,6 +61,6 @@ def main(count):
 
 
 if __name__ == "__main__":
-    if len(sys.argv) > 2 or not all(word.isdigit() for word in sys.argv[1:]):
-        sys.exit(__doc__)
-    main(int(sys.argv[1]) if len(sys.argv) == 2 else 500)
+    parser = argparse.ArgumentParser(description=__doc__)
+    parser.add_argument("count", nargs="?", type=int, default=500, help="how many characters each types (500)")
+    main(parser.parse_args().count)

@@ -7,10 +7,20 @@
 import { fileStore } from "../clients/js/file_store.mjs";
 import { Provider } from "../clients/js/provider.mjs";
 
+const USAGE = "usage: todo.mjs FILE [HOST:PORT] [add TEXT | edit N TEXT | done N | delete N | list]";
 const TODOS = [0, "todos"];
-const [file, ...rest] = process.argv.slice(2);
+const [file = "", ...rest] = process.argv.slice(2);
+if (file === "--help") {
+  console.log(USAGE);
+  process.exit();
+}
 const at = /:\d+$/.test(rest[0] ?? "") ? rest.shift() : undefined;
 const [word = "list", ...words] = rest;
+const isKnown = ["add", "edit", "done", "delete", "list"].includes(word);
+if (file === "" || file.startsWith("-") || !isKnown) {
+  console.error(USAGE);
+  process.exit(2);
+}
 
 const provider = await Provider.open({ document: "todos", at, word: "todo", store: fileStore(file) });
 const { replica } = provider;
@@ -28,7 +38,6 @@ const commands = {
 };
 
 try {
-  if (!commands[word]) throw new Error(`one of ${Object.keys(commands).join(", ")}`);
   const isNumbered = ["edit", "done", "delete"].includes(word);
   const todo = isNumbered ? replica.place([...TODOS, Number(words[0])]) : TODOS;
   await exchange();

@@ -112,7 +112,9 @@ static void take(jcrdt *replica, const char *path, const char *others) {
 }
 
 int main(int count, char **words) {
-  if (count < 3) stop("usage", "trip NAME FILE [set KEY TEXT | add TEXT | take FILE]");
+  const char *usage = "trip NAME FILE [set KEY TEXT | add TEXT | take FILE]";
+  if (count == 2 && !strcmp(words[1], "--help")) return printf("usage: %s\n", usage) < 0;
+  if (count < 3 || words[1][0] == '-' || words[2][0] == '-') stop("usage", usage);
   const char *path = words[2], *word = count > 3 ? words[3] : "";
   jcrdt replica = JCRDT_CLOSED;
   jcrdt_fault fault;
@@ -136,6 +138,8 @@ int main(int count, char **words) {
     change(&replica, path);
   } else if (!strcmp(word, "take") && count == 5) {
     take(&replica, path, words[4]);
+  } else if (count > 3) {
+    stop("usage", usage);
   } else {
     put("[\"show\",[0]]");
     char *text = answer(&replica);

@@ -1,8 +1,6 @@
-"""Two servers diverge, meet, show a conflict, settle it, and one is started again: over pipes without a file, over TCP from one.
+"""Two servers diverge, meet, show a conflict, settle it, and one is started again: over pipes without a file, over TCP from one."""
 
-usage: two_servers.py pipes|tcp
-"""
-
+import argparse
 import contextlib
 import json
 import os
@@ -16,28 +14,28 @@ from jcrdt.exchange import exchange, verdict  # noqa: E402
 DOCUMENT = "plan"
 
 
-def over_pipes(stack, name, _room):
+def over_pipes(stack: contextlib.ExitStack, name: str, _room: str) -> jcrdt.Session:
     """Starts a program that serves one client, and keeps nothing."""
     return stack.enter_context(jcrdt.started([DOCUMENT], name))
 
 
-def over_tcp(stack, name, room):
+def over_tcp(stack: contextlib.ExitStack, name: str, room: str) -> jcrdt.Session:
     """Starts a server that listens at a port of its own, starts from its file, and ends with its one session."""
     address = stack.enter_context(jcrdt.serving([DOCUMENT], 1, name, os.path.join(room, f"{name}.db")))
     return stack.enter_context(jcrdt.connected(address))
 
 
-def tell(when, alice, bob):
+def tell(when: str, alice: jcrdt.Session, bob: jcrdt.Session) -> None:
     for name, server in (("alice", alice), ("bob", bob)):
         print(f"{when}, {name}: {json.dumps(server.plain(DOCUMENT, [0]))}")
 
 
-def meet(alice, bob):
+def meet(alice: jcrdt.Session, bob: jcrdt.Session) -> None:
     logged, refused = exchange(alice, bob, DOCUMENT)
     print(f"they meet: handed over {logged}, refused {len(refused)}; {verdict(alice, bob, DOCUMENT, refused)}")
 
 
-def main(kind):
+def main(kind: str) -> None:
     with contextlib.ExitStack() as stack:
         start = over_tcp if kind == "tcp" else over_pipes
         room = stack.enter_context(tempfile.TemporaryDirectory())
@@ -78,6 +76,6 @@ def main(kind):
 
 
 if __name__ == "__main__":
-    if sys.argv[1:] not in (["pipes"], ["tcp"]):
-        sys.exit(__doc__)
-    main(sys.argv[1])
+    parser = argparse.ArgumentParser(description=__doc__)
+    parser.add_argument("way", choices=["pipes", "tcp"])
+    main(parser.parse_args().way)

@@ -16,7 +16,7 @@ import subprocess
 import tempfile
 import threading
 import time
-from typing import IO, Any, Callable, Dict, Iterator, List, Mapping, Optional, Sequence, Tuple
+from typing import IO, Any, Callable, Dict, Iterator, List, Mapping, Optional, Sequence, Tuple, Union
 
 TOP = os.path.dirname(os.path.dirname(os.path.abspath(__file__)))
 SECONDS = 120
@@ -25,6 +25,9 @@ NO_MEMORY = ["no", 22, "no-memory"]
 KEPT = -100
 
 Case = Callable[[str, str], Optional[str]]
+# A request and a reply, as JSON.
+Request = List[object]
+Reply = List[Any]
 
 
 class Differs(Exception):
@@ -142,6 +145,20 @@ def leave(process: subprocess.Popen[bytes], watch: threading.Timer, *files: Any)
     process.wait()
     for it in files:
         it.close()
+
+
+def status_of(pid: Union[int, str], word: str) -> int:
+    """A figure of /proc/PID/status, in bytes if it is in kB. A thread is PID/task/THREAD."""
+    with open(f"/proc/{pid}/status", encoding="ascii") as lines:
+        found = next(it.split() for it in lines if it.startswith(f"{word}:"))
+    return int(found[1]) * (1024 if found[2:] == ["kB"] else 1)
+
+
+def seconds_of(pid: int) -> float:
+    """Seconds of a processor that a process has taken."""
+    with open(f"/proc/{pid}/stat", encoding="ascii") as it:
+        user, system = it.read().rpartition(")")[2].split()[11:13]
+    return (int(user) + int(system)) / os.sysconf("SC_CLK_TCK")
 
 
 class Run(Lines):

@@ -5,10 +5,10 @@ import subprocess
 from typing import Optional
 
 
-def python_with(module: str) -> Optional[str]:
-    """A Python that has this module, or nothing."""
+def python_with(*modules: str) -> Optional[str]:
+    """A Python that has these modules, or nothing."""
     for name in ("python3", "/usr/bin/python3"):
         found = shutil.which(name)
-        if found and subprocess.run([found, "-c", f"import {module}"], stderr=subprocess.DEVNULL, check=False).returncode == 0:
+        if found and subprocess.run([found, "-c", f"import {', '.join(modules)}"], stderr=subprocess.DEVNULL, check=False).returncode == 0:
             return found
     return None

@@ -29,6 +29,8 @@ Writes ["lines",ADDRESS] and ["page",URL] to standard output, and notes to stand
 SIGTERM and SIGINT with status 0. A wrong command line is status 2, other errors are 1.
 `;
 
+const PARENT_MS = 500; // how often is looked whether npx has ended
+
 const TEXT = /** @type {const} */ ({ type: "string" });
 const FLAG = /** @type {const} */ ({ type: "boolean" });
 const OPTIONS = {
@@ -89,8 +91,18 @@ async function main() {
   });
   const stop = () => void running.stop().then(() => process.exit(0));
   process.on("SIGTERM", stop).on("SIGINT", stop);
+  endWithNpx(stop);
   if (running.lines) console.log(JSON.stringify(["lines", running.lines]));
   if (running.page) console.log(JSON.stringify(["page", running.page]));
+}
+
+/** npx keeps SIGTERM to itself, so its end is what this program sees of it.
+ *  @param {() => void} stop */
+function endWithNpx(stop) {
+  if (process.env.npm_command !== "exec") return;
+  const parent = process.ppid;
+  const timer = setInterval(() => process.ppid === parent || stop(), PARENT_MS);
+  timer.unref();
 }
 
 async function version() {

@@ -58,8 +58,7 @@ const firstWord = (line) => /^\s*\[\s*"([a-z]+)"/.exec(line)?.[1] ?? "";
  *  @property {(error: Error) => void} failed */
 
 /** @typedef {object} Watch
- *  @property {Set<Changed>} watchers
- *  @property {string} last The front that they were called with.
+ *  @property {Map<Changed, string>} watchers With the front that each was called with, "" before.
  *  @property {boolean} isPushed Whether the hub pushes it.
  *  @property {Promise<void>} begun */
 
@@ -378,11 +377,14 @@ export class Client {
    *  @param {number} [every]
    *  @returns {Promise<() => void>} */
   async watch(document, changed, every = 500) {
+    const add = (/** @type {Watch | undefined} */ watch) =>
+      watch?.watchers.set(changed, watch.watchers.get(changed) ?? "");
+    add(this.#watches.get(document)); // a push may come just behind the reply
     const front = await this.front(document);
     const watch = this.#watches.get(document) ?? this.#beginWatch(document, every);
-    watch.watchers.add(changed);
+    add(watch);
     await watch.begun;
-    this.#run(changed, front);
+    if (watch.watchers.get(changed) === "") this.#tell(watch, [changed], front);
     return () => this.unwatch(document, changed);
   }
 
@@ -400,7 +402,7 @@ export class Client {
    *  @returns {Watch} */
   #beginWatch(document, every) {
     /** @type {Watch} */
-    const watch = { watchers: new Set(), last: "", isPushed: true, begun: Promise.resolve() };
+    const watch = { watchers: new Map(), isPushed: true, begun: Promise.resolve() };
     this.#watches.set(document, watch);
     watch.begun = this.ask("watch", document).then(() => {}, (refused) => {
       if (refused.number !== 2) throw refused; // 2, bad-request: a server, which has no such word
@@ -417,18 +419,22 @@ export class Client {
   async #poll(document, watch, every) {
     while (this.#watches.get(document) === watch) {
       const front = await this.front(document).catch(() => undefined);
-      if (front) this.#tell(watch, front);
+      if (front) this.#tell(watch, watch.watchers.keys(), front);
       await new Promise((resume) => setTimeout(resume, every));
     }
   }
 
-  /** @param {Watch} watch
+  /** Calls those of them that were last called with another front.
+   *  @param {Watch} watch
+   *  @param {Iterable<Changed>} watchers
    *  @param {Map<string, number>} front */
-  #tell(watch, front) {
+  #tell(watch, watchers, front) {
     const pairs = print(frontPairs(front));
-    if (pairs === watch.last) return;
-    watch.last = pairs;
-    for (const changed of [...watch.watchers]) this.#run(changed, new Map(front));
+    for (const changed of [...watchers]) {
+      if ([undefined, pairs].includes(watch.watchers.get(changed))) continue; // one that has ended
+      watch.watchers.set(changed, pairs);
+      this.#run(changed, new Map(front));
+    }
   }
 
   /** Through the hub: calls `heard(value, guest)` for what others `say` of the document, until the
@@ -458,7 +464,7 @@ export class Client {
     if (word === "reopened") this.#run(this.reopened, rest[0]);
     const [document, first, second] = rest;
     const watch = word === "changed" && this.#watches.get(document);
-    if (watch && Array.isArray(first)) this.#tell(watch, new Map(first));
+    if (watch && Array.isArray(first)) this.#tell(watch, watch.watchers.keys(), new Map(first));
     if (word !== "heard") return;
     for (const heard of [...(this.#hearers.get(document) ?? [])]) this.#run(heard, second, first);
   }

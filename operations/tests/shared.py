@@ -6,7 +6,7 @@ import subprocess
 import sys
 import threading
 import time
-from typing import Any, Callable, List, Optional, Sequence, Tuple
+from typing import Any, Callable, List, NoReturn, Optional, Sequence, Tuple
 
 HERE = os.path.dirname(os.path.abspath(__file__))
 OPERATIONS = os.path.dirname(HERE)
@@ -33,7 +33,7 @@ def require(what: str, holds: Any, told: Any = "") -> None:
         raise Failed(f"not so: {what}\n{told}")
 
 
-def skip(why: str) -> None:
+def skip(why: str) -> NoReturn:
     print(why)
     sys.exit(77)
 
@@ -45,6 +45,9 @@ class Server(support.Server):
                  more: Sequence[str] = (), **how: Any) -> None:
         super().__init__(PROGRAM, file, *documents, sessions=sessions, name=name, options=more, **how)
         require("it listens", self.first, self.said())
+
+    def __enter__(self) -> "Server":
+        return self
 
     def write(self, count: int, key: str = "k") -> None:
         with connected(self.at) as session:

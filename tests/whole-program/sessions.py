@@ -4,21 +4,50 @@ Each reply is the due one, or ["no",22,"no-memory"] with nothing changed, or tel
 allocations were refused. What is due is what the same program answers, with ample memory, to the lines that were not refused as out of
 memory, with the operations that were dropped as out of memory forgotten beforehand. The status is 0, or 1 with nothing written."""
 
+from __future__ import annotations
+
 import contextlib
 import itertools
 import json
 import subprocess
 import threading
+from typing import Any, Callable, Dict, Iterator, List, Mapping, NamedTuple, Optional, Sequence, Tuple, TypeVar
 
-from support import NO_MEMORY, Differs, operation
-from tried import SECONDS, compact, documents_of, replies_of, same
+from support import NO_MEMORY, Differs, Reply, Request, operation
+from tried import SECONDS, Counts, Environment, Tried, Words, compact, documents_of, replies_of, same
 
 TRIES = 20
 
+# Which allocations are refused, by the words of tests/refuse-allocations.c.
+Settings = Mapping[str, int]
+# The ids of held operations, as JSON, that are forgotten before a line, by the line's place.
+Forgotten = Dict[int, Tuple[Any, ...]]
+# The operations of a document, as JSON.
+Log = List[Any]
+# What a document reads: nothing in place of each reply that can't be had.
+Reads = List[Optional[Reply]]
+Told = TypeVar("Told")
 
-def session():
+
+class Fit(NamedTuple):
+    """The place of the first line whose reply isn't due, and what is due, or nothing where all are; and what was forgotten."""
+
+    place: int
+    due: Optional[str]
+    forgotten: Forgotten
+
+
+class Left(NamedTuple):
+    """What a run has of a document: its operations, or nothing where they can't be had, and what it reads."""
+
+    document: str
+    log: Optional[Log]
+    reads: Reads
+
+
+def session() -> List[bytes]:
     """The lines of a session over two documents: lists, variables, counters, held operations and releases."""
-    lines = [["open", "a"], ["open", "b"], ["version"]]
+    lines: List[Request] = [["open", "a"], ["open", "b"], ["version"]]
     root = [["m", 0]]
     for doc in ("a", "b"):
         lines += [
@@ -81,10 +110,11 @@ def session():
     return compact(lines)
 
 
-def long_session():
+def long_session() -> List[bytes]:
     """The lines of a session that makes what grows grow several times: a list of more than 128 elements, a map of many keys, many
     replicas, a chain that comes backwards, many variables, and pages of operations."""
-    lines, root = [["open", "d"]], [["m", 0]]
+    root = [["m", 0]]
+    lines: List[object] = [["open", "d"]]
     lines += [["insert", "d", [0, "list", place], place] for place in range(135)]
     lines += [["insert", "d", [0, "list", place], "within"] for place in range(0, 130, 13)]
     lines += [["let", "d", f"name {place}", [0, "list", place]] for place in range(1, 140, 9)]
@@ -99,14 +129,14 @@ def long_session():
     return compact(lines)
 
 
-def readings(words):
+def readings(words: Words) -> List[bytes]:
     """Lines that read all of each document, by which a change that should not be is seen."""
     lines = [line for doc in documents_of(words) for line in (
         ["show", doc, [0]], ["ops", doc, [], 64], ["front", doc], ["held", doc], ["account", doc])]
     return compact(lines)
 
 
-def explain(tried, words, lines, replies):
+def explain(tried: Tried, words: Words, lines: Sequence[bytes], replies: List[Reply]) -> int:
     """Raises Differs unless each reply is the due one, or no-memory with nothing changed, or tells of a drain that dropped more.
     Returns how many operations were dropped as out of memory."""
     if len(replies) != len(lines):
@@ -119,7 +149,7 @@ def explain(tried, words, lines, replies):
     return sum(map(len, forgotten.values()))
 
 
-def fitted(tried, words, kept, forgotten):
+def fitted(tried: Tried, words: Words, kept: Sequence[Tuple[bytes, Reply]], forgotten: Forgotten) -> Fit:
     """The first line whose reply isn't due where these held operations are forgotten before these lines, with what is due; or,
     where all replies are due, what was forgotten. Tries each choice of what a drain may have dropped."""
     text, begins = [], []
@@ -136,7 +166,7 @@ def fitted(tried, words, kept, forgotten):
             wanted = [wanted[0], wanted[1], wanted[2] + dropped, wanted[3]]
         if reply == wanted:
             continue
-        deepest = place, json.dumps(wanted), forgotten
+        deepest = Fit(place, json.dumps(wanted), forgotten)
         if reply[0] != "applied" or wanted[0] != "applied" or place in forgotten:
             return deepest
         document = json.loads(line)[1]
@@ -144,14 +174,14 @@ def fitted(tried, words, kept, forgotten):
         for size in range(1, min(4, len(held)) + 1):
             for choice in itertools.combinations(held, size):
                 found = fitted(tried, words, kept, {**forgotten, place: choice})
-                if found[1] is None:
+                if found.due is None:
                     return found
-                deepest = max(deepest, found, key=lambda it: it[0])
+                deepest = max(deepest, found, key=lambda it: it.place)
         return deepest
-    return len(kept), None, forgotten
+    return Fit(len(kept), None, forgotten)
 
 
-def no_more_than_refused(settings, refused, dropped):
+def no_more_than_refused(settings: Settings, refused: int, dropped: int) -> None:
     """Raises Differs where more lines were refused and operations dropped than allocations were refused, where that is known."""
     most = settings["REFUSE_TO"] - settings["REFUSE_FROM"] + 1 if "REFUSE_TO" in settings else refused + dropped
     if refused + dropped > most:
@@ -161,30 +191,32 @@ def no_more_than_refused(settings, refused, dropped):
 class Asked:
     """A run that has answered some lines and takes more, one by one."""
 
-    def __init__(self, run):
-        self.run = run
+    def __init__(self, run: subprocess.Popen[bytes]) -> None:
+        assert run.stdin and run.stdout
+        self.input, self.output = run.stdin, run.stdout
 
-    def ask(self, request):
+    def ask(self, request: Sequence[object]) -> Optional[Reply]:
         """Its reply, or nothing where it has ended. One that was refused as out of memory is asked for again a few times."""
         for _ in range(TRIES):
             try:
-                self.run.stdin.write(compact([request])[0] + b"\n")
-                self.run.stdin.flush()
+                self.input.write(compact([request])[0] + b"\n")
+                self.input.flush()
             except BrokenPipeError:
                 return None
-            line = self.run.stdout.readline()
+            line = self.output.readline()
             if not line:
                 return None
-            reply = json.loads(line)
+            reply: Reply = json.loads(line)
             if reply != NO_MEMORY:
                 return reply
         return None
 
-    def log(self, document):
+    def log(self, document: str) -> Optional[Log]:
         """All operations of a document, page by page, or nothing where they can't be had."""
-        found, front = [], {}
+        found: Log = []
+        front: Dict[str, int] = {}
         while True:
-            page = self.ask(["ops", document, sorted(map(list, front.items())), 64])
+            page = self.ask(["ops", document, [list(it) for it in sorted(front.items())], 64])
             if not page or page[0] != "ops":
                 return None
             if not page[1]:
@@ -192,7 +224,7 @@ class Asked:
             found += page[1]
             front.update((it[1][1], it[1][0]) for it in page[1])
 
-    def reads(self, document):
+    def reads(self, document: str) -> Reads:
         """What the document reads, at its root and below each of its keys."""
         requests = [[it, document, [0]] for it in ("show", "keys", "conflicts")]
         replies = [self.ask(it) for it in requests]
@@ -201,36 +233,39 @@ class Asked:
         return [*replies, *map(self.ask, below)]
 
 
-def run_and_ask(tried, words, data, environment, count, then):
+def run_and_ask(tried: Tried, words: Words, data: bytes, environment: Environment, count: int,
+                then: Callable[[Asked], Told]) -> Tuple[int, bytes, Optional[Told]]:
     """Runs the program over these bytes, to which so many replies are due, and lets `then` ask more; the status, what it wrote to the
     bytes, and what `then` returned, or nothing where the run had ended before."""
     with subprocess.Popen([tried.program, *words], stdin=subprocess.PIPE, stdout=subprocess.PIPE, stderr=subprocess.DEVNULL, env=environment) as run:
         watch = threading.Timer(SECONDS, run.kill)
         watch.start()
+        assert run.stdin and run.stdout
+        given, told = run.stdin, run.stdout
 
-        def write():
+        def write() -> None:
             with contextlib.suppress(BrokenPipeError):
-                run.stdin.write(data)
-                run.stdin.flush()
+                given.write(data)
+                given.flush()
         writer = threading.Thread(target=write)
         writer.start()
         try:
-            lines = list(itertools.takewhile(bool, (run.stdout.readline() for _ in range(count))))
+            lines = list(itertools.takewhile(bool, (told.readline() for _ in range(count))))
             writer.join()
             asked = then(Asked(run)) if len(lines) == count else None
             with contextlib.suppress(BrokenPipeError):
-                run.stdin.close()
-            rest = run.stdout.read()
+                given.close()
+            rest = told.read()
         finally:
             watch.cancel()
         return run.wait(), b"".join(lines) + rest, asked
 
 
-def restores(tried, document, log, reads, counts):
+def restores(tried: Tried, document: str, log: Log, reads: Reads, counts: Counts) -> None:
     """Delivers the operations that a run accepted to one of another name: it must accept each, and read the same."""
     lines = compact([["open", document], *(["deliver", document, it] for it in log)])
 
-    def then(run):
+    def then(run: Asked) -> Reads:
         return run.reads(document)
     status, out, again = run_and_ask(tried, ["run", "--name", "restored", document], b"".join(it + b"\n" for it in lines), None, len(lines), then)
     replies = replies_of(out)[1:]
@@ -241,14 +276,14 @@ def restores(tried, document, log, reads, counts):
     counts["operations of these"] += len(log)
 
 
-def run_refused(tried, words, lines, settings, counts):
+def run_refused(tried: Tried, words: Words, lines: Sequence[bytes], settings: Settings, counts: Counts) -> None:
     """One run with these refusals. A document that is restored from the operations that it accepted reads the same."""
     environment = tried.environment("refuse-allocations", settings)
     quits = lines[-1:] == [b'["quit"]']
     lines = lines[: len(lines) - quits]
 
-    def then(run):
-        found = [(document, run.log(document), run.reads(document)) for document in documents_of(words)]
+    def then(run: Asked) -> List[Left]:
+        found = [Left(document, run.log(document), run.reads(document)) for document in documents_of(words)]
         if quits and run.ask(["quit"]) not in (["bye"], None):
             raise Differs("no bye")
         return found
@@ -270,7 +305,7 @@ def run_refused(tried, words, lines, settings, counts):
             restores(tried, document, log, reads, counts)
 
 
-def count_of(tried, start, words, lines):
+def count_of(tried: Tried, start: Callable[[Words, bytes, Environment], object], words: Words, lines: Sequence[bytes]) -> int:
     """How many allocations a run makes where none is refused."""
     path = f"{tried.room}/count"
     start(words, b"".join(line + b"\n" for line in lines), tried.environment("refuse-allocations", {"REFUSE_COUNT": path}))
@@ -278,7 +313,7 @@ def count_of(tried, start, words, lines):
         return int(file.read())
 
 
-def refusals(count, thorough):
+def refusals(count: int, thorough: bool) -> Iterator[Tuple[str, Settings]]:
     """Which allocations are refused in a run."""
     yield from ((f"refused {n}", {"REFUSE_FROM": n, "REFUSE_TO": n}) for n in range(1, count + 1))
     if thorough:

@@ -5,16 +5,18 @@ import os
 import socket
 import subprocess
 import tempfile
+from functools import partial
+from typing import IO, List, Optional, Tuple, Union
 
-from tried import SECONDS, limited, places, replies_of, rows, same, totals_of
+from tried import SECONDS, Case, Cases, Counts, Row, Tried, Words, limited, places, replies_of, rows, same, totals_of
 
 
-def lines_of(data, length):
+def lines_of(data: bytes, length: int) -> bytes:
     """The whole lines among the first bytes."""
     return data[: data.rfind(b"\n", 0, length) + 1]
 
 
-def fails_reading(tried, row, length):
+def fails_reading(tried: Tried, row: Row, length: int) -> None:
     """A read that fails: the lines that had ended by then have their replies, and no more comes."""
     whole = lines_of(row.input, length).count(b"\n")
     replies = row.output.splitlines(True)[:whole]
@@ -30,13 +32,13 @@ def fails_reading(tried, row, length):
     same(replies_of(rest), totals_of(row.words, row.input.split(b"\n"), replies_of(due)))
 
 
-def fails_writing(tried, row, length):
+def fails_writing(tried: Tried, row: Row, length: int) -> None:
     """A write that fails: what was written is the first bytes of the transcript."""
-    with tempfile.TemporaryFile(dir=tried.room) as out:
-        status = subprocess.run([tried.program, *row.words], input=row.input, stdout=out, stderr=subprocess.DEVNULL,
+    with tempfile.TemporaryFile(dir=tried.room) as file:
+        status = subprocess.run([tried.program, *row.words], input=row.input, stdout=file, stderr=subprocess.DEVNULL,
                                 preexec_fn=lambda: limited(length), timeout=SECONDS).returncode
-        out.seek(0)
-        same((status, out.read()), (1 if length < len(row.output) else 0, row.output[:length]))
+        file.seek(0)
+        same((status, file.read()), (1 if length < len(row.output) else 0, row.output[:length]))
     environment = tried.environment("fail-devices", {"FAIL_WRITE_AFTER": length})
     status, out, rest = tried.serve(row.words, row.input, environment)
     same((status, out), (0, row.output[:length]))
@@ -48,41 +50,42 @@ def fails_writing(tried, row, length):
     same(got, got if got in due else due[0])
 
 
-def status_with(tried, words, **devices):
-    run = subprocess.run([tried.program, *words], stderr=subprocess.DEVNULL, timeout=SECONDS, **devices)
+def status_with(tried: Tried, words: Words, stdout: Union[int, IO[bytes]], stdin: Optional[int] = None,
+                data: Optional[bytes] = None) -> Tuple[int, Optional[bytes]]:
+    run = subprocess.run([tried.program, *words], stdin=stdin, input=data, stdout=stdout, stderr=subprocess.DEVNULL, timeout=SECONDS)
     return run.returncode, run.stdout
 
 
-def closed_pipe():
+def closed_pipe() -> int:
     """The writing end of a pipe that nobody reads."""
     reading, writing = os.pipe()
     os.close(reading)
     return writing
 
 
-def cases(tried, _counts):
+def cases(tried: Tried, _counts: Counts) -> Cases:
     tried.needs_cc()
     for row in rows():
         if row.status:
             continue
         for length in places(row.input):
-            yield f"{row.name}: reading fails after {length}", lambda row=row, length=length: fails_reading(tried, row, length)
+            yield f"{row.name}: reading fails after {length}", partial(fails_reading, tried, row, length)
         for length in places(row.output):
-            yield f"{row.name}: writing fails after {length}", lambda row=row, length=length: fails_writing(tried, row, length)
+            yield f"{row.name}: writing fails after {length}", partial(fails_writing, tried, row, length)
 
 
-def test_device(case):
+def test_device(case: Case) -> None:
     case()
 
 
 LINE = b'["open","d"]\n'
 
 
-def serve_words(tried, address="127.0.0.1:0"):
+def serve_words(tried: Tried, address: str = "127.0.0.1:0") -> List[str]:
     return ["serve", "--addr", address, "--sessions", "1", "--file", f"{tried.room}/nobody.db", "d"]
 
 
-def test_a_directory_as_input(tried):
+def test_a_directory_as_input(tried: Tried) -> None:
     folder = os.open("/", os.O_RDONLY)
     try:
         same(status_with(tried, ["run", "d"], stdin=folder, stdout=subprocess.PIPE), (1, b""))
@@ -90,22 +93,22 @@ def test_a_directory_as_input(tried):
         os.close(folder)
 
 
-def test_a_pipe_that_nobody_reads(tried):
+def test_a_pipe_that_nobody_reads(tried: Tried) -> None:
     writing = closed_pipe()
     try:
-        same(status_with(tried, ["run", "d"], input=LINE, stdout=writing), (1, None))
+        same(status_with(tried, ["run", "d"], data=LINE, stdout=writing), (1, None))
         same(status_with(tried, serve_words(tried), stdin=subprocess.DEVNULL, stdout=writing), (1, None))
     finally:
         os.close(writing)
 
 
-def test_a_full_device(tried):
+def test_a_full_device(tried: Tried) -> None:
     with open("/dev/full", "wb") as full:
-        same(status_with(tried, ["run", "d"], input=LINE, stdout=full), (1, None))
+        same(status_with(tried, ["run", "d"], data=LINE, stdout=full), (1, None))
         same(status_with(tried, serve_words(tried), stdin=subprocess.DEVNULL, stdout=full), (1, None))
 
 
-def test_an_address_that_is_taken(tried):
+def test_an_address_that_is_taken(tried: Tried) -> None:
     with socket.socket() as taken:
         taken.bind(("127.0.0.1", 0))
         taken.listen()

@@ -7,11 +7,13 @@ import re
 import socket
 import sqlite3
 import subprocess
+from functools import partial
+from typing import Callable, Iterable, List, Optional, Sequence, Tuple
 
 import pytest
 
-from support import Differs, Server, operation, wait_until
-from tried import NO_FOLDER, NO_PATH, NOTE, SECONDS, bytes_of, compact, limited, replies_of, same, talk
+from support import Differs, Reply, Server, operation, wait_until
+from tried import NOTE, NO_FOLDER, NO_PATH, SECONDS, Tried, Words, bytes_of, compact, limited, replies_of, same, talk
 
 NO_COPY = b'["no",26,"copy-refused"]\n'
 STOPPED = "copying stopped: an I/O error; what is accepted from now on is in memory only: exchange with a peer before you stop"
@@ -21,18 +23,18 @@ ENDING = "copying stopped: an I/O error; a session with --durable ends at its ne
 class Started(Server):
     """A server of the document `d` over this file, that has written where it listens, and the notes that are due."""
 
-    def __init__(self, tried, path, sessions, most_bytes=None, *more):
+    def __init__(self, tried: Tried, path: str, sessions: int, most_bytes: Optional[int] = None, *more: str) -> None:
         self.due, self.begun = [] if os.path.exists(path) else [("INFO", f"made a new file {path}")], 0
         if most_bytes is not None:
             self.due.append(("WARN", f"a file may have at most {most_bytes} bytes here (ulimit -f): the system ends a server that writes more"))
-        super().__init__(tried.program, path, "d", sessions=sessions, options=more, limits=None if most_bytes is None else lambda: limited(most_bytes))
+        super().__init__(tried.program, path, "d", sessions=sessions, options=more, limits=None if most_bytes is None else partial(limited, most_bytes))
         self.due.append(("INFO", f"listening at {self.at}"))
 
-    def talk(self, lines):
+    def talk(self, lines: Iterable[object]) -> List[Reply]:
         self.begun += 1
         return replies_of(talk(*self.address, b"".join(line + b"\n" for line in compact(lines))))
 
-    def end(self, *warnings, epoch=1, operations=0, replicas=0):
+    def ended(self, *warnings: str, epoch: int = 1, operations: int = 0, replicas: int = 0) -> Tuple[int, List[Reply], str]:
         """Its status, its totals, and what it told of causes. Its notes must be due: it restored so much, and warned of this."""
         status, totals = self.totals()
         told = self.said()
@@ -46,7 +48,7 @@ class Started(Server):
         return status, totals, NOTE.sub("", told)
 
 
-def within_rights():
+def within_rights() -> List[str]:
     """What starts a program to which a file's mode says what it may do: root may write what nobody may, by its capabilities."""
     with open("/proc/self/status", encoding="ascii") as lines:
         capabilities = next(int(it.split()[1], 16) for it in lines if it.startswith("CapEff:"))
@@ -54,48 +56,49 @@ def within_rights():
     return ["setpriv", "--inh-caps=-all", "--bounding-set=-all"] if overrides_modes else []
 
 
-def outcome(tried, words, prefix=(), **how):
+def outcome(tried: Tried, words: Words, prefix: Sequence[str] = (), limits: Optional[Callable[[], object]] = None) -> Tuple[int, bytes, str]:
     """The status, what was written, and what was told but notes."""
-    run = subprocess.run([*prefix, tried.program, *words], stdin=subprocess.DEVNULL, stdout=subprocess.PIPE, stderr=subprocess.PIPE, timeout=SECONDS, **how)
+    run = subprocess.run([*prefix, tried.program, *words], stdin=subprocess.DEVNULL, stdout=subprocess.PIPE, stderr=subprocess.PIPE, timeout=SECONDS,
+                         preexec_fn=limits)
     return run.returncode, run.stdout, NOTE.sub("", run.stderr.decode())
 
 
-def serve(path):
+def serve(path: str) -> List[str]:
     return ["serve", "--addr", "127.0.0.1:0", "--sessions", "1", "--file", path, "d"]
 
 
-def starts(path):
+def starts(path: str) -> Tuple[List[str], List[str]]:
     return serve(path), ["check", "--file", path]
 
 
-def unopened(path, cause=NO_FOLDER):
+def unopened(path: str, cause: str = NO_FOLDER) -> str:
     return f"jcrdt: cannot open {path}: {cause}\n"
 
 
-def writes(count):
+def writes(count: int) -> List[List[object]]:
     return [["open", "d"], *([["assign", "d", [0, f"k{it % 7}"], it] for it in range(count)])]
 
 
-def test_two_servers_on_one(tried, path):
+def test_two_servers_on_one(tried: Tried, path: str) -> None:
     first = Started(tried, path, 2)
     first.talk(writes(3))
     for words in starts(path):
         same(outcome(tried, words), (1, b"", unopened(path, "another program uses it")))
     same(first.talk([["open", "d"], ["values", "d", [0, "k2"]]])[1], ["values", [2]])
-    same(first.end(), (0, [["total", "d", 3, 3, 3]], ""))
+    same(first.ended(), (0, [["total", "d", 3, 3, 3]], ""))
     same(outcome(tried, ["check", "--file", path]), (0, b'["doc","d",3,[["srv-1",3]]]\n["epoch",1]\n', ""))
 
 
-def test_one_that_is_full_while_it_is_served(tried, path):
+def test_one_that_is_full_while_it_is_served(tried: Tried, path: str) -> None:
     """As on a full disk: sessions go on, and the next start has what was copied."""
     server = Started(tried, path, 1, 300_000)
     count = 4_000
     replies = server.talk(writes(count))
     same([it[0] for it in replies], ["opened"] + ["applied"] * count)
-    status, totals, told = server.end(STOPPED)
+    status, totals, told = server.ended(STOPPED)
     causes = ["copying stopped while sessions ran", "the file failed while it was closed"]
-    told = [it.removeprefix("jcrdt: ").removesuffix(": an I/O error") for it in told.splitlines()]
-    same((status, totals[0][:4], told), (1, ["total", "d", count, count], causes[: len(told)]))
+    found = [it.removeprefix("jcrdt: ").removesuffix(": an I/O error") for it in told.splitlines()]
+    same((status, totals[0][:4], found), (1, ["total", "d", count, count], causes[: len(found)]))
     status, out, told = outcome(tried, ["check", "--file", path])
     document, epoch = replies_of(out)
     same((status, told, epoch, document[3]), (0, "", ["epoch", 1], [["srv-1", document[2]]]))
@@ -103,10 +106,10 @@ def test_one_that_is_full_while_it_is_served(tried, path):
         raise Differs(f"{totals[0][4]} were noted as copied, {document[2]} are in the file")
     again = Started(tried, path, 1)
     same(again.talk([["open", "d"], ["assign", "d", [0, "k"], 1]])[1], ["applied", 1, 0, [document[2] + 1, "srv-2"]])
-    same(again.end(epoch=2, operations=document[2], replicas=1), (0, [["total", "d", 1, document[2] + 1, document[2] + 1]], ""))
+    same(again.ended(epoch=2, operations=document[2], replicas=1), (0, [["total", "d", 1, document[2] + 1, document[2] + 1]], ""))
 
 
-def test_one_that_is_full_while_it_is_served_durable(tried, path):
+def test_one_that_is_full_while_it_is_served_durable(tried: Tried, path: str) -> None:
     """The same with --durable: what is answered is in the file, and the session ends without a reply to what isn't."""
     server = Started(tried, path, 2, 300_000, "--durable")
     server.begun += 1
@@ -133,16 +136,16 @@ def test_one_that_is_full_while_it_is_served_durable(tried, path):
         same(replies.readline(), b'["values",[1]]\n')
         connection.sendall(b'["assign","d",[0,"k"],2]\n')
         same(replies.readline(), b"")
-    status, totals, _ = server.end(ENDING)
+    status, totals, _ = server.ended(ENDING)
     same((status, totals[0][:2]), (1, ["total", "d"]))
-    status, out, told = outcome(tried, ["check", "--file", path])
+    status, out, errors = outcome(tried, ["check", "--file", path])
     document, epoch = replies_of(out)
-    same((status, told, epoch, document[3]), (0, "", ["epoch", 1], [["srv-1", document[2]]]))
+    same((status, errors, epoch, document[3]), (0, "", ["epoch", 1], [["srv-1", document[2]]]))
     if not 0 < answered <= document[2] < totals[0][3]:
         raise Differs(f"{answered} were answered, {document[2]} are in the file, {totals[0][3]} were logged")
 
 
-def on_small_disk(tried, path, room):
+def on_small_disk(tried: Tried, path: str, room: int) -> Optional[Tuple[int, int, str]]:
     """Starts a server over a file and its log on a disk that has so many bytes beside them, and takes both back. Nothing where
     no disk can be mounted."""
     small = f"{os.path.dirname(path)}/small"
@@ -157,7 +160,7 @@ def on_small_disk(tried, path, room):
     return (run.returncode, run.stdout.count(b"\n"), NOTE.sub("", run.stderr.decode())) if can_mount else None
 
 
-def test_a_disk_that_is_full_while_a_start_folds(tried, path):
+def test_a_disk_that_is_full_while_a_start_folds(tried: Tried, path: str) -> None:
     """The log has more rows than the disk has room for: the start is refused, and no row is lost, nor is the epoch given out again."""
     server = Started(tried, path, 2)
     server.talk([["open", "d"], *([["assign", "d", [0, "k"], "x" * 200]] * 2_000)])
@@ -174,17 +177,33 @@ def test_a_disk_that_is_full_while_a_start_folds(tried, path):
         raise Differs(f"{document[2]} operations are left in the file")
     again = Started(tried, path, 1)
     same(again.talk([["open", "d"], ["assign", "d", [0, "k"], 1]])[1], ["applied", 1, 0, [document[2] + 1, "srv-3"]])
-    same(again.end(epoch=3, operations=document[2], replicas=1)[0], 0)
+    same(again.ended(epoch=3, operations=document[2], replicas=1)[0], 0)
 
 
-def test_one_that_may_not_grow_at_all(tried, path):
+def test_one_that_may_not_grow_at_all(tried: Tried, path: str) -> None:
     for words in starts(path):
-        status, out, told = outcome(tried, words, preexec_fn=lambda: limited(0))
+        status, out, told = outcome(tried, words, limits=partial(limited, 0))
         same((status, out, told), (1, b"", unopened(path, "an I/O error")))
     same(outcome(tried, ["check", "--file", path]), (0, b'["epoch",0]\n', ""))
 
 
-def test_a_read_only_one(tried, path):
+def empty(path: str) -> None:
+    """A file of no byte, which is an empty database to SQLite."""
+    with open(path, "x", encoding="utf-8"):
+        pass
+
+
+def test_one_that_is_not_there(tried: Tried, path: str) -> None:
+    """It may be misspelt: `check` says so, and makes nothing."""
+    for _ in range(2):
+        same(outcome(tried, ["check", "--file", path]), (1, b"", unopened(path, "it is not there")))
+        same(os.listdir(os.path.dirname(path)), [])
+    empty(path)
+    same(outcome(tried, ["check", "--file", path]), (0, b'["epoch",0]\n', ""))
+
+
+def test_a_read_only_one(tried: Tried, path: str) -> None:
+    empty(path)
     same(outcome(tried, ["check", "--file", path])[0], 0)
     before = bytes_of(path)
     for name in filter(os.path.exists, (path, f"{path}-wal")):
@@ -196,12 +215,12 @@ def test_a_read_only_one(tried, path):
     os.chmod(os.path.dirname(path), 0o755)
 
 
-def a_text(path):
+def a_text(path: str) -> None:
     with open(path, "w", encoding="utf-8") as file:
         file.write("Dear all,\n" * 1_000)
 
 
-def another_meta(path):
+def another_meta(path: str) -> None:
     with contextlib.closing(sqlite3.connect(path)) as database:
         database.execute("CREATE TABLE meta (name TEXT, value TEXT)")
         database.commit()
@@ -209,7 +228,7 @@ def another_meta(path):
 
 @pytest.mark.parametrize("make, cause", [
     (a_text, "it is no SQLite database"), (another_meta, "it is no stored log: the table entry is missing")], ids=["a text", "another table meta"])
-def test_one_of_another_program(tried, path, make, cause):
+def test_one_of_another_program(tried: Tried, path: str, make: Callable[[str], None], cause: str) -> None:
     make(path)
     before = bytes_of(path)
     for words in starts(path):
@@ -217,7 +236,7 @@ def test_one_of_another_program(tried, path, make, cause):
     same(bytes_of(path), before)
 
 
-def test_a_database_with_another_table(tried, path):
+def test_a_database_with_another_table(tried: Tried, path: str) -> None:
     """A database that has neither table gets both, and its own stays."""
     with contextlib.closing(sqlite3.connect(path)) as database:
         database.execute("CREATE TABLE letter (text TEXT)")
@@ -225,34 +244,44 @@ def test_a_database_with_another_table(tried, path):
         database.commit()
     server = Started(tried, path, 1)
     server.talk(writes(2))
-    same(server.end(), (0, [["total", "d", 2, 2, 2]], ""))
+    same(server.ended(), (0, [["total", "d", 2, 2, 2]], ""))
     with contextlib.closing(sqlite3.connect(path)) as database:
         found = [database.execute(it).fetchall() for it in ("SELECT text FROM letter", "SELECT doc, place FROM entry", "PRAGMA integrity_check")]
     same(found, [[("Dear all",)], [("d", 1), ("d", 2)], [("ok",)]])
 
 
-def test_a_folder_that_is_not_there_a_folder_no_name(tried, path):
+def test_a_folder_that_is_not_there_a_folder_no_name(tried: Tried, path: str) -> None:
     missing = f"{os.path.dirname(path)}/none/copy.db"
     for it, cause in ((missing, NO_FOLDER), (os.path.dirname(path), "it is a folder"), ("", NO_PATH)):
         for words in starts(it):
             same(outcome(tried, words), (1, b"", unopened(it, cause)))
 
 
-def without_log(path):
+def test_a_folder_where_no_file_may_be_made(tried: Tried, path: str) -> None:
+    """The cause is found without a file that stays."""
+    folder = os.path.dirname(path)
+    os.chmod(folder, 0o555)
+    for words, cause in zip(starts(path), ("a file may not be made in its folder", "it is not there")):
+        same(outcome(tried, words, prefix=within_rights()), (1, b"", unopened(path, cause)))
+    same(os.listdir(folder), [])
+    os.chmod(folder, 0o755)
+
+
+def without_log(path: str) -> None:
     """The file alone, as one moves it or backs it up by itself."""
     with contextlib.suppress(FileNotFoundError):
         os.unlink(f"{path}-wal")
 
 
-def test_the_file_alone_after_an_end(tried, path):
+def test_the_file_alone_after_an_end(tried: Tried, path: str) -> None:
     server = Started(tried, path, 1)
     server.talk(writes(3))
-    same(server.end(), (0, [["total", "d", 3, 3, 3]], ""))
+    same(server.ended(), (0, [["total", "d", 3, 3, 3]], ""))
     without_log(path)
     same(outcome(tried, ["check", "--file", path]), (0, b'["doc","d",3,[["srv-1",3]]]\n["epoch",1]\n', ""))
 
 
-def test_the_file_alone_after_a_kill(tried, path):
+def test_the_file_alone_after_a_kill(tried: Tried, path: str) -> None:
     """What a kill leaves in the file alone is served under a name that was never used."""
     server = Started(tried, path, 2)
     server.talk(writes(3))
@@ -260,22 +289,23 @@ def test_the_file_alone_after_a_kill(tried, path):
     without_log(path)
     again = Started(tried, path, 1)
     same(again.talk([["open", "d"], ["assign", "d", [0, "k"], 1]])[1][3][1], "srv-2")
-    same(again.end(epoch=2)[0], 0)
+    same(again.ended(epoch=2)[0], 0)
 
 
-def test_a_document_that_is_nearly_full(tried, path):
+def test_a_document_that_is_nearly_full(tried: Tried, path: str) -> None:
     """It is told when nine tenths of the replicas are reached, and at the next start."""
     operations = [operation(1, f"r{it}", [], [["m", 0]], "k", ["assign", it]) for it in range(231)]
     warning = "d is nearly full: 231 of 256 replicas"
     server = Started(tried, path, 1)
     server.talk([["open", "d"], *(["deliver", "d", it] for it in operations)])
-    same(server.end(warning), (0, [["total", "d", 231, 231, 231]], ""))
+    same(server.ended(warning), (0, [["total", "d", 231, 231, 231]], ""))
     again = Started(tried, path, 1)
     again.talk([["open", "d"]])
-    same(again.end(warning, epoch=2, operations=231, replicas=231), (0, [["total", "d", 0, 231, 231]], ""))
+    same(again.ended(warning, epoch=2, operations=231, replicas=231), (0, [["total", "d", 0, 231, 231]], ""))
 
 
-def test_one_without_an_epoch_left(tried, path):
+def test_one_without_an_epoch_left(tried: Tried, path: str) -> None:
+    empty(path)
     same(outcome(tried, ["check", "--file", path])[0], 0)
     with contextlib.closing(sqlite3.connect(path)) as database:
         database.execute("UPDATE meta SET value = 9999999 WHERE name = 'epoch'")
@@ -284,7 +314,7 @@ def test_one_without_an_epoch_left(tried, path):
     same((status, out.partition(b"\n")[2], told), (1, NO_COPY, "jcrdt: all 9999999 epochs of the file are given out\n"))
 
 
-def test_totals_that_nobody_reads(tried, path):
+def test_totals_that_nobody_reads(tried: Tried, path: str) -> None:
     server = Started(tried, path, 1)
     server.output.close()
     server.talk(writes(1))

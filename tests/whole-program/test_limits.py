@@ -1,14 +1,15 @@
 """What just fits in each limit of docs/FORMATS.md that no row has, and what doesn't; 256 sessions of one server at once."""
 
 import json
+from typing import List
 
 import pytest
 
 from support import Connection, Server
-from tried import SECONDS, replies_of, same
+from tried import SECONDS, Tried, replies_of, same
 
 
-def below(steps):
+def below(steps: int) -> List[object]:
     """The cursor of a place so many steps below the document."""
     return [0] + ["k"] * steps
 
@@ -28,7 +29,7 @@ LIMITS = {
 
 
 @pytest.mark.parametrize("name", LIMITS)
-def test_limit_of(tried, name):
+def test_limit_of(tried: Tried, name: str) -> None:
     fits, refused, cause = LIMITS[name]
     text = "".join(json.dumps(it, ensure_ascii=False) + "\n" for it in (["open", "d"], fits, refused))
     status, out = tried.run(["run", "d"], text.encode())
@@ -36,23 +37,23 @@ def test_limit_of(tried, name):
     same((status, reply[0] != "no", last), (0, True, ["no", *cause]))
 
 
-def test_operations_of_a_document(tried):
+def test_operations_of_a_document(tried: Tried) -> None:
     line = b'["assign","d",[0,"k"],1]\n'
     status, out = tried.run(["run", "d"], b'["open","d"]\n' + line * 100_001 + b'["values","d",[0,"k"]]\n')
     same((status, out.split(b"\n")[-4:]), (0, [b'["applied",1,0,[100000,"srv-1"]]', b'["no",18,"log-full"]', b'["values",[1]]', b""]))
 
 
-def test_lines_of_a_session(tried):
+def test_lines_of_a_session(tried: Tried) -> None:
     same(tried.run(["run", "d"], b"0\n" * 1_000_001), (0, b'["no",2,"bad-request"]\n' * 1_000_000))
 
 
-def test_documents_of_a_server_and_names(tried):
+def test_documents_of_a_server_and_names(tried: Tried) -> None:
     names = [f"{'d' * 30}{n}" for n in range(10, 26)]
     text = "".join(f'["open","{it}"]\n' for it in names) + f'["assign","{names[-1]}",[0,"k"],1]\n'
     same(tried.run(["run", "--name", "n" * 24, *names], text.encode()), (0, b'["opened",1]\n' * 16 + f'["applied",1,0,[1,"{"n" * 24}-1"]]\n'.encode()))
 
 
-def test_sessions_of_a_server(tried, path):
+def test_sessions_of_a_server(tried: Tried, path: str) -> None:
     with Server(tried.program, path, "d", sessions=256) as server:
         all_of_them = [Connection(server.address) for _ in range(256)]
         for connection in all_of_them:

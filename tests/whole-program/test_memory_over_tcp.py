@@ -3,13 +3,15 @@ Needs cc and a libc by GNU."""
 
 import contextlib
 from concurrent.futures import ThreadPoolExecutor
+from functools import partial
+from typing import List, Sequence
 
-from sessions import count_of, explain, no_more_than_refused, refusals, session
-from support import NO_MEMORY, Differs, Server
-from tried import NOTE, SECONDS, compact, new_file, replies_of, talk, totals_of
+from sessions import Settings, count_of, explain, no_more_than_refused, refusals, session
+from support import NO_MEMORY, Differs, Reply, Server
+from tried import NOTE, SECONDS, Case, Cases, Counts, Tried, Words, compact, new_file, replies_of, talk, totals_of
 
 
-def serve_refused(tried, words, lines, settings, counts):
+def serve_refused(tried: Tried, words: Words, lines: Sequence[bytes], settings: Settings, counts: Counts) -> None:
     """One run of a server with these refusals: its session may end without a reply."""
     status, out, rest = tried.serve(words, b"".join(line + b"\n" for line in lines), tried.environment("refuse-allocations", settings))
     if status not in (0, 1):
@@ -28,14 +30,14 @@ def serve_refused(tried, words, lines, settings, counts):
     counts["status 1"] += status
 
 
-def are_totals(told, totals, status):
+def are_totals(told: List[Reply], totals: List[Reply], status: int) -> bool:
     """Whether the totals are the due ones. With status 1 the copying may have ended early, and the writing of the totals too."""
     if status == 0:
         return told == totals
     return all(it[:4] == due[:4] and it[4] <= due[4] for it, due in zip(told, totals)) and len(told) <= len(totals)
 
 
-def crowd_refused(tried, settings, counts):
+def crowd_refused(tried: Tried, settings: Settings, counts: Counts) -> None:
     """Four sessions at once with these refusals: each line has its reply or is refused as out of memory, and the totals are what
     the replies told. A session may end without a reply, and one that could not open the document is told so."""
     lines = compact([["open", "d"], *([["insert", "d", [0, "list", 0], it], ["add", "d", [0, "sum"], it]][it % 2] for it in range(30)), ["quit"]])
@@ -51,8 +53,8 @@ def crowd_refused(tried, settings, counts):
                 told.append(replies_of(it.result()))
         rest, _ = server.process.communicate(timeout=SECONDS)
         status = server.process.returncode
-    may = [["opened", "applied", "bye"], ["no", 5, "not-open"], NO_MEMORY]
-    strange = [it for replies in told for it in replies if it[0] not in may[0] and it not in may[1:]]
+    usual, refused = ("opened", "applied", "bye"), (["no", 5, "not-open"], NO_MEMORY)
+    strange = [it for replies in told for it in replies if it[0] not in usual and it not in refused]
     logged = sum(it[1] for replies in told for it in replies if it[0] == "applied")
     totals = replies_of(rest)
     if status not in (0, 1) or strange or not are_totals(totals, [["total", "d", logged, logged, logged]], status):
@@ -75,7 +77,7 @@ OUT_OF_MEMORY = [f"out of memory {it}" for it in (
 PAUSES = ["copying pauses: out of memory; it is tried again", "copying goes on"]
 
 
-def told_refused(tried, number):
+def told_refused(tried: Tried, number: int) -> List[str]:
     """What a server of one session tells where this allocation is refused: its causes, which are none where the status is 0, and
     that copying paused. It then went on."""
     with contextlib.ExitStack() as stack:
@@ -94,7 +96,7 @@ def told_refused(tried, number):
     return causes + pauses
 
 
-def each_allocation_told(tried):
+def each_allocation_told(tried: Tried) -> None:
     """Each allocation of a short run of a server refused in turn: a status of 1 has its cause, and nothing else is told."""
     count = count_of(tried, tried.serve, ["run", "d"], [b'["open","d"]', b'["assign","d",[0,"k"],1]'])
     seen = {cause for number in range(1, count + 1) for cause in told_refused(tried, number)}
@@ -103,19 +105,19 @@ def each_allocation_told(tried):
         raise Differs(f"never told: {sorted(missing)}")
 
 
-def cases(tried, counts):
+def cases(tried: Tried, counts: Counts) -> Cases:
     tried.needs_cc()
-    yield "what is told where an allocation is refused", lambda: each_allocation_told(tried)
+    yield "what is told where an allocation is refused", partial(each_allocation_told, tried)
     lines, words = session(), ["run", "a", "b"]
     count = count_of(tried, tried.serve, words, lines)
     counts["allocations of the server"] = count
     for name, settings in refusals(count, False):
-        yield f"{name}", lambda settings=settings: serve_refused(tried, words, lines, settings, counts)
+        yield f"{name}", partial(serve_refused, tried, words, lines, settings, counts)
     for one_in in (40, 150, 500):
         for seed in range(100):
-            yield f"four sessions: refused 1 in {one_in} by {seed}", lambda seed=seed, one_in=one_in: crowd_refused(
-                tried, {"REFUSE_SEED": seed, "REFUSE_ONE_IN": one_in}, counts)
+            yield f"four sessions: refused 1 in {one_in} by {seed}", partial(
+                crowd_refused, tried, {"REFUSE_SEED": seed, "REFUSE_ONE_IN": one_in}, counts)
 
 
-def test_memory_over_tcp(case):
+def test_memory_over_tcp(case: Case) -> None:
     case()

@@ -3,11 +3,12 @@
 import contextlib
 import os
 import subprocess
+from typing import List, Optional, Sequence, Tuple, Union
 
 import pytest
 
 from support import TOP
-from tried import NO_FOLDER, NOTE, SECONDS, bytes_of, same
+from tried import NOTE, NO_FOLDER, SECONDS, Tried, Words, bytes_of, same
 
 NAME = "isn't 1 to 24 of a-z, 0-9 and -"
 DOCUMENT = "isn't 1 to 32 of a-z, 0-9 and -"
@@ -15,7 +16,7 @@ LACKING = "the following required arguments were not provided:"
 SERVE = ["serve", "--addr", "127.0.0.1:0", "--file", "copy.db"]
 
 # Words that ask for no session, and what is told of them before the usage: nothing where help is asked for.
-BAD_WORDS = [
+BAD_WORDS: List[Tuple[List[str], Optional[str]]] = [
     ([], None),
     (["help"], None),
     (["--help"], None),
@@ -62,40 +63,43 @@ FAULTS = [
     (["serve", "--addr", "127.0.0.1:0", "--sessions", "1", "--file", "no-such-folder/copy.db", "d"],
      f"cannot open no-such-folder/copy.db: {NO_FOLDER}", os.devnull, os.devnull),
     (["check", "--file", "no-such-folder/copy.db"], f"cannot open no-such-folder/copy.db: {NO_FOLDER}", os.devnull, os.devnull),
-    (["check", "--file", "copy-of-a-fault.db"], "standard output failed", os.devnull, "/dev/full"),
+    (["check", "--file", "copy-of-a-fault.db"], "cannot open copy-of-a-fault.db: it is not there", os.devnull, os.devnull),
+    (["check", "--file", "empty.db"], "standard output failed", os.devnull, "/dev/full"),
     (["run", "d"], "standard input failed", "/", os.devnull),
     (["run", "d"], "standard output failed", "one-line", "/dev/full"),
 ]
 
 
-def version_of(top):
+def version_of(top: str) -> str:
     with open(f"{top}/VERSION") as file:
         return file.read().strip()
 
 
-def outcome(tried, words, **how):
+def outcome(tried: Tried, words: Sequence[Union[str, bytes]], data: bytes = b"") -> Tuple[int, bytes, bytes]:
     """Its status, and what it wrote to both outputs."""
-    run = subprocess.run([tried.program, *words], stdout=subprocess.PIPE, stderr=subprocess.PIPE, timeout=SECONDS, check=False, **how)
+    run = subprocess.run([tried.program, *words], input=data, stdout=subprocess.PIPE, stderr=subprocess.PIPE, timeout=SECONDS, check=False)
     return run.returncode, run.stdout, run.stderr
 
 
 @pytest.mark.parametrize("words, cause", BAD_WORDS, ids=[" ".join(it)[:60] or "none" for it, _ in BAD_WORDS])
-def test_words_that_ask_for_no_session(tried, words, cause):
-    status, out, told = outcome(tried, words, input=b'["open","d"]\n')
+def test_words_that_ask_for_no_session(tried: Tried, words: Words, cause: Optional[str]) -> None:
+    status, out, errors = outcome(tried, words, b'["open","d"]\n')
     same((status, out), (2, b""))
-    told, usage, _ = told.decode().partition("usage: jcrdt")
+    told, usage, _ = errors.decode().partition("usage: jcrdt")
     same((told, usage), (f"error: {cause}\n" if cause else "", "usage: jcrdt"))
 
 
 @pytest.mark.parametrize("word", ["version", "--version", "-V"])
-def test_version(tried, word):
+def test_version(tried: Tried, word: str) -> None:
     version = bytes_of(f"{TOP}/VERSION").decode().strip()
-    same(outcome(tried, [word], stdin=subprocess.DEVNULL), (2, b"", f"jcrdt {version}\n".encode()))
+    same(outcome(tried, [word]), (2, b"", f"jcrdt {version}\n".encode()))
 
 
 @pytest.mark.parametrize("words, cause, reads, writes", FAULTS, ids=[" ".join(it[0])[:60] for it in FAULTS])
-def test_a_fault_is_one_line(tried, words, cause, reads, writes):
+def test_a_fault_is_one_line(tried: Tried, words: Words, cause: str, reads: str, writes: str) -> None:
     """What is told is this line, beside notes."""
+    with open(f"{tried.room}/empty.db", "w", encoding="utf-8"):
+        pass
     with open(f"{tried.room}/one-line", "w", encoding="utf-8") as file:
         file.write('["open","d"]\n')
     with contextlib.ExitStack() as stack:
@@ -106,6 +110,6 @@ def test_a_fault_is_one_line(tried, words, cause, reads, writes):
     same((run.returncode, NOTE.sub("", run.stderr.decode())), (1, f"jcrdt: {cause}\n"))
 
 
-def test_no_utf8(tried):
-    status, out, told = outcome(tried, ["run", b"\xff"], stdin=subprocess.DEVNULL)
-    same((status, out, told.split(b"\n")[0]), (2, b"", b"error: a word isn't UTF-8"))
+def test_no_utf8(tried: Tried) -> None:
+    status, out, told = outcome(tried, ["run", b"\xff"])
+    same((status, out, told.split(b"\n")[0]), (2, b"", b"error: an argument isn't UTF-8"))

@@ -1,7 +1,8 @@
 """How README.md and docs/*.md are written: the length of pages, lines and table cells, links, and words not to be used.
 
 A line has at most 100 columns and a cell of a table at most 120 characters, both outside ``` blocks; a table's row has no limit
-of its own. A link to a file of the repository leads somewhere. The words are looked for outside code."""
+of its own. A link to a file of the repository leads somewhere. The words are looked for outside code. README.md says as many requests
+as docs/FORMATS.md lists."""
 
 import argparse
 import glob
@@ -92,16 +93,33 @@ def faults(top: str, page: str) -> Iterator[str]:
             yield f"{name}:{text.count(chr(10), 0, found.start()) + 1}: '{' '.join(found[0].split())}': write {wanted}"
 
 
+def requests_of(formats: str) -> int:
+    """How many requests the table of the section `Requests` has."""
+    section = re.search(r"(?ms)^## Requests$(.*?)(?:^## |\Z)", formats)
+    return len(set(re.findall(r'(?m)^\| `\["(\w+)"', section[1]))) if section else 0
+
+
+def request_faults(top: str) -> Iterator[str]:
+    """Where README.md says another number of requests than FORMATS lists."""
+    with open(f"{top}/README.md", encoding="utf-8") as readme, open(f"{top}/docs/FORMATS.md", encoding="utf-8") as formats:
+        text, listed = readme.read(), requests_of(formats.read())
+    for found in re.finditer(r"\ball\s+(\d+)\s+requests\b", text):
+        if int(found[1]) != listed:
+            yield f"README.md:{text.count(chr(10), 0, found.start()) + 1}: all {found[1]} requests, and docs/FORMATS.md lists {listed}"
+
+
 def check(words: argparse.Namespace) -> int:
-    bad = 0
-    for name in LINES:
-        if not os.path.isfile(f"{words.top}/{name}"):
-            print(f"{name} is missing")
-            bad += 1
+    missing = [it for it in LINES if not os.path.isfile(f"{words.top}/{it}")]
+    for name in missing:
+        print(f"{name} is missing")
+    bad = len(missing)
     pages = [f"{words.top}/README.md", *sorted(glob.glob(f"{words.top}/docs/*.md"))]
     for page in filter(os.path.isfile, pages):
         for fault in dict.fromkeys(faults(words.top, page)):
             print(fault)
             bad += 1
+    for fault in request_faults(words.top) if not missing else ():
+        print(fault)
+        bad += 1
     print(f"{len(pages)} pages, {bad} faults")
     return bad

@@ -1,4 +1,4 @@
-"""Lint, types and shell: pyflakes of all Python, mypy --strict of clients/python and of what tools and tests share, tsc, shellcheck.
+"""Lint, types and shell: pyflakes and mypy --strict of all Python, tsc, shellcheck.
 
 A tool that isn't here is left out, which the last line says."""
 
@@ -9,13 +9,13 @@ import os
 import re
 import shutil
 import subprocess
-from typing import Callable, Iterator, List, NamedTuple, Optional
+from typing import Callable, Dict, Iterator, List, NamedTuple, Optional
 
 from pythons import python_with
 
-# What is typed besides the package: the modules that programs share, and the programs that are typed throughout.
-TYPED = [":(glob)tools/*.py", ":(glob)tools/checks/*.py", "tools/check", ":(glob)tests/*.py", "tests/edges", ":(glob)operations/tests/*.py",
-         "operations/tests/memory", "operations/jcrdt-container"]
+# Where mypy finds the modules of a folder at the top, and those of all other Python.
+MODULES = {"examples": "examples/tests:examples:clients/python", "clients": "clients/python:clients/python/tests"}
+OTHER_MODULES = "tools:tests:tests/whole-program:operations/tests:clients/python"
 
 
 class Tool(NamedTuple):
@@ -51,13 +51,34 @@ def shell_files(top: str) -> List[str]:
     return [it for it in names if begins(top, it, b"#!/usr/bin/env bash", b"#!/bin/bash", b"#!/bin/sh", b"#!/usr/bin/env sh")]
 
 
+def without_twins(files: List[str]) -> List[List[str]]:
+    """The files in as few lists as have no two of one name: mypy takes a file for the module of its name."""
+    found: List[Dict[str, str]] = []
+    for file in files:
+        name = os.path.splitext(os.path.basename(file))[0]
+        if all(name in it for it in found):
+            found.append({})
+        next(it for it in found if name not in it)[name] = file
+    return [list(it.values()) for it in found]
+
+
+def typed(top: str, files: List[str]) -> Iterator[Tool]:
+    """The runs of mypy. Tests import pytest, whose types it needs."""
+    command = python_with("mypy", "pytest")
+    words = ["-m", "mypy", "--strict", "--no-error-summary", "--cache-dir=/dev/null", "--explicit-package-bases", "--namespace-packages",
+             "--scripts-are-modules"]
+    for folder in (*MODULES, ""):
+        inside = [it for it in files if it.partition("/")[0] == folder or not folder and it.partition("/")[0] not in MODULES]
+        for number, part in enumerate(without_twins(inside), 1):
+            name = f"mypy of {folder or 'tools and tests'}{f', part {number}' if number > 1 else ''}"
+            yield Tool(name, command, top, [*words, *part], MODULES.get(folder, OTHER_MODULES))
+
+
 def runs(top: str) -> Iterator[Tool]:
     """Each run of a tool."""
-    yield Tool("pyflakes", python_with("pyflakes"), top, ["-m", "pyflakes", *python_files(top)])
-    mypy, strict = python_with("mypy"), ["-m", "mypy", "--strict", "--no-error-summary", "--cache-dir=/dev/null"]
-    yield Tool("mypy of clients/python", mypy, f"{top}/clients/python", [*strict, "jcrdt"])
-    named = ["--explicit-package-bases", "--namespace-packages", "--scripts-are-modules"]
-    yield Tool("mypy of tools and tests", mypy, top, [*strict, *named, *tracked(top, *TYPED)], "tools:tests:operations/tests:clients/python")
+    files = python_files(top)
+    yield Tool("pyflakes", python_with("pyflakes"), top, ["-m", "pyflakes", *files])
+    yield from typed(top, files)
     tsc = shutil.which("tsc")
     for package in ("js", "hub"):
         if glob.glob(f"{top}/clients/{package}/tsconfig.json"):

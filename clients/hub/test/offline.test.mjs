@@ -5,7 +5,7 @@ import { deepEqual, equal, match, ok } from "node:assert/strict";
 import { createReadStream } from "node:fs";
 import http from "node:http";
 import node from "node:test";
-import { Browser, missing, pause, until } from "../../js/test/chromium.mjs";
+import { Browser, missing, until } from "../../js/test/chromium.mjs";
 import { end, startHub, startServer } from "../../js/test/serving.mjs";
 import { connected } from "../../js/session.mjs";
 import { Replica } from "../../js/replica.mjs";
@@ -36,7 +36,6 @@ test("the network is taken away: typed, reloaded, found; two tabs; then all meet
     await end(hub);
     await end(server);
     await tab.type("#ada .text", "offline");
-    await pause(1500); // it is being stored
     await tab.reload();
     await until("it is there again", async () => (await textOf(tab, "ada")) === "one offline");
     const second = await browser.tab(`${hub.page}web/`, { profile });
@@ -59,6 +58,34 @@ test("the network is taken away: typed, reloaded, found; two tabs; then all meet
     equal((await client.plain("page", [0, "text"])).join(""), "Number one offline!");
     await client.quit();
     deepEqual([...tab.faults, ...second.faults], []);
+  } finally {
+    await browser.close();
+  }
+});
+
+test("a hub that doesn't answer: the page opens from its copies", async () => {
+  const server = await startServer(["page"]);
+  const hub = await startHub(server.address);
+  const browser = await Browser.open();
+  try {
+    const tab = await browser.tab(hub.page);
+    await tab.until(ONLINE);
+    await tab.until(COPIED);
+    await tab.type("#ada .text", "one ");
+    await until("bob has it", async () => (await textOf(tab, "bob")) === "one ");
+    process.kill(hub.child.pid, "SIGSTOP");
+    await tab.type("#ada .text", "offline");
+    await tab.reload(60);
+    await until("it is there again", async () => (await textOf(tab, "ada")) === "one offline");
+    process.kill(hub.child.pid, "SIGCONT");
+    await tab.until(ONLINE, 60);
+    await until("bob has it", async () => (await textOf(tab, "bob")) === "one offline");
+    // Nothing is left of that: the hub's files are asked for again, and a new one is taken.
+    const text = await tab.evaluate(`caches.open("jcrdt").then((it) =>
+      it.put("page.css", new Response("old"))).then(() => new Promise((resume) => setTimeout(resume, 6000)))
+      .then(() => fetch("page.css")).then((it) => it.text())`);
+    ok(text.length > 1000, text.slice(0, 100));
+    deepEqual(tab.faults, []);
   } finally {
     await browser.close();
   }

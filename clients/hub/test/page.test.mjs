@@ -288,10 +288,35 @@ test("what is typed offline is there after a reload, and meets the others later"
   // And with no hub at all: the page was loaded before, and is offline.
   await tab.click("#ada .online");
   await tab.type("#ada .text", "!");
-  await pause(1500); // it is being stored
   await tab.reload();
   await tab.until(ONLINE);
   await same(tab, "both have it", ".text", ["also one offline!"]);
+  deepEqual(tab.faults, []);
+});
+
+test("a page with edits that aren't stored asks not to be left, and is left once they are", async () => {
+  const { tab } = await page();
+  await addItem(tab, "ada", "stored");
+  await same(tab, "both have it", ".item", ["stored"]);
+  await tab.reload();
+  await tab.until(ONLINE);
+  // The store gets no turn for three seconds: other transactions have it.
+  await tab.type("#ada .add-item input", "late");
+  await tab.evaluate(`{ const { transaction } = IDBDatabase.prototype;
+    const end = Date.now() + 3000;
+    IDBDatabase.prototype.transaction = function (...words) {
+      const made = transaction.apply(this, words);
+      const store = made.objectStore("about");
+      const again = () => { if (Date.now() < end) store.get("document").onsuccess = again; };
+      if (words[1] === "readwrite") again();
+      return made;
+    }; }`);
+  await tab.press("Enter");
+  const { asked } = tab;
+  await tab.reload();
+  ok(tab.asked > asked, "it wasn't asked");
+  await tab.until(ONLINE);
+  await same(tab, "both have it", ".item", ["stored", "late"]);
   deepEqual(tab.faults, []);
 });
 
@@ -612,8 +637,9 @@ test("a browser that is killed: what was edited is there", async () => {
   await same(tab, "both have them", ".item", ["one", "two"]);
   const { length } = await tab.textOf("#server-front .name");
   await tab.click("#ada .online");
+  const count = await storedBy(tab, "page", "ada");
   await addItem(tab, "ada", "three");
-  await pause(700);
+  await until("it is stored", async () => (await storedBy(tab, "page", "ada")) > count);
   first.kill();
   await first.ended;
   const second = await Browser.open({ folder: first.folder });

@@ -3,6 +3,7 @@
 import { deepEqual, equal, match, ok } from "node:assert/strict";
 import { execFileSync, spawnSync } from "node:child_process";
 import { existsSync, mkdirSync, readFileSync, writeFileSync } from "node:fs";
+import http from "node:http";
 import https from "node:https";
 import net from "node:net";
 import { join } from "node:path";
@@ -10,6 +11,7 @@ import { test } from "node:test";
 import { fileURLToPath } from "node:url";
 import {
   HUB, joinLines, joinWeb, kill, lacks, launch, ROOM, start, startHub, startServer, suite, until, webSockets,
+  within,
 } from "./support.mjs";
 
 const PACKAGE = fileURLToPath(new URL("../", import.meta.url));
@@ -86,10 +88,27 @@ suite("the program and the package", {}, () => {
     const room = join(ROOM, "packed");
     const modules = join(room, "node_modules");
     mkdirSync(room);
-    const npm = (...words) => execFileSync("npm", words, { cwd: room, encoding: "utf8" });
+    const npm = async (...words) => {
+      const child = launch("npm", [...words, "--silent"], { cwd: room });
+      let out = "";
+      child.stdout.on("data", (text) => (out += text));
+      await child.ended;
+      equal(child.exitCode, 0, child.notes);
+      return out.trim().split("\n");
+    };
     const folders = ["js", "hub"].map((it) => join(CLIENTS, it));
-    const packed = npm("pack", "--offline", "--silent", ...folders).trim().split("\n").slice(-2);
-    npm("install", "--offline", "--no-audit", "--no-fund", "--silent", ...packed.map((it) => `./${it}`));
+    const packed = (await npm("pack", "--offline", ...folders)).slice(-2).map((it) => `./${it}`);
+    // A registry that is away would be waited for. Nothing of these packages is there.
+    const asked = [];
+    const registry = http.createServer(({ url }, response) => {
+      asked.push(url);
+      response.writeHead(404).end();
+    });
+    await new Promise((open) => registry.listen(0, "127.0.0.1", open));
+    const at = `http://127.0.0.1:${registry.address().port}/`;
+    await npm("install", "--registry", at, "--no-audit", "--no-fund", "--no-update-notifier", ...packed);
+    registry.close();
+    deepEqual(asked, []);
     ok(!existsSync(join(modules, "jcrdt-hub/test")));
     ok(existsSync(join(modules, "jcrdt-hub/README.md")));
     const { address } = await startServer(["d"]);
@@ -98,6 +117,11 @@ suite("the program and the package", {}, () => {
     const client = await joinLines(lines[0][1], "d");
     equal((await client.add("d", [0, "n"], 1))[0], 1);
     client.end();
+    // npx keeps SIGTERM to itself.
+    const npx = launch("npx", ["--offline", "jcrdt-hub", address, "--lines", "127.0.0.1:0"], { cwd: room });
+    await within(60, "it listens", new Promise((says) => npx.stdout.once("data", says)));
+    npx.kill();
+    await within(20, "the hub has ended", npx.ended);
     // Its page comes with the modules of the package jcrdt.
     const page = lines[1][1];
     const text = await (await fetch(`${page}web/page.mjs`)).text();

@@ -10,6 +10,7 @@ import { createRequire } from "node:module";
 import { after, describe } from "node:test";
 import { fileURLToPath } from "node:url";
 import { connected, connectedToHub } from "../../js/session.mjs";
+import { inTime } from "../../js/test/chromium.mjs";
 import { hub as hubOf } from "../index.mjs";
 
 const TOP = fileURLToPath(new URL("../../../", import.meta.url));
@@ -19,6 +20,7 @@ export const HUB = fileURLToPath(new URL("../hub.mjs", import.meta.url));
 /** A folder of this test's own, which is removed at its end. */
 export const ROOM = mkdtempSync(join(tmpdir(), "jcrdt-hub-test-"));
 
+const START_SECONDS = 120; // for the first lines of a command
 const started = new Set();
 const endings = [];
 process.on("exit", () => started.forEach(end));
@@ -62,11 +64,16 @@ export function launch(command, words, options = {}) {
 export async function start(command, words, lineCount, options) {
   const child = launch(command, words, options);
   const lines = [];
-  for await (const line of createInterface({ input: child.stdout })) {
-    if (lines.push(JSON.parse(line)) === lineCount) return { child, lines };
-  }
-  await child.ended;
-  throw new Error(`${command} ${words.join(" ")} has ended: ${child.notes}`);
+  const about = () => `${command} ${words.join(" ")}: wrote ${JSON.stringify(lines)} and ${child.notes}`;
+  const first = async () => {
+    for await (const line of createInterface({ input: child.stdout })) {
+      if (lines.push(JSON.parse(line)) === lineCount) return;
+    }
+    await child.ended;
+    throw new Error(`it has ended. ${about()}`);
+  };
+  await inTime(START_SECONDS, about, first());
+  return { child, lines };
 }
 
 let files = 0;
@@ -104,9 +111,7 @@ export async function until(what, holds, seconds = 20) {
 }
 
 /** Fails if something isn't there in time. */
-export const within = (seconds, what, promise) => Promise.race([
-  promise, pause(seconds * 1000).then(() => Promise.reject(new Error(`not within ${seconds} s: ${what}`))),
-]);
+export const within = (seconds, what, promise) => inTime(seconds, () => what, promise);
 
 /** The package ws, or `undefined`. */
 export function webSockets() {

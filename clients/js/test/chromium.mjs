@@ -12,6 +12,8 @@ const WORDS = ["--headless=new", "--no-sandbox", "--disable-gpu", "--disable-dev
   "--no-first-run", "--remote-debugging-port=0", "--disable-renderer-backgrounding",
   "--disable-background-timer-throttling", "--disable-backgrounding-occluded-windows"];
 const STEP_MS = 50;
+const START_SECONDS = 120; // for a browser to begin
+const ANSWER_SECONDS = process.env.JCRDT_SLOW ? 600 : 120; // for one of its answers
 const KEYS = { Tab: 9, Enter: 13, Escape: 27, " ": 32, ArrowLeft: 37, ArrowRight: 39, Backspace: 8,
   Delete: 46, Home: 36, End: 35, z: 90 };
 
@@ -42,6 +44,15 @@ for (const signal of ["SIGTERM", "SIGINT"]) process.on(signal, () => process.exi
 
 export const pause = (ms) => new Promise((resume) => setTimeout(resume, ms));
 
+/** What a promise gives, or an error if it gives nothing in time. `seen` says what was there then. */
+export function inTime(seconds, seen, promise) {
+  let timer;
+  const late = new Promise((_, failed) => {
+    timer = setTimeout(() => failed(new Error(`nothing for ${seconds} s: ${seen()}`)), seconds * 1000);
+  });
+  return Promise.race([promise, late]).finally(() => clearTimeout(timer));
+}
+
 /** Waits until something holds, and returns what it gave. */
 export async function until(what, holds, seconds = 100) {
   let last;
@@ -70,20 +81,40 @@ export class Browser {
     browser.process = child;
     browser.ended = new Promise((end) => child.on("exit", end));
     process.on("exit", () => browser.kill());
-    for await (const line of createInterface({ input: child.stderr })) {
+    const lines = [];
+    const seen = () => `chromium doesn't listen. It wrote: ${lines.join(" | ")}`;
+    try {
+      await inTime(START_SECONDS, seen, browser.#begin(child.stderr, lines));
+    } catch (error) {
+      browser.kill();
+      throw error;
+    }
+    return browser;
+  }
+
+  /** Connects as soon as it says where it listens. */
+  async #begin(errors, lines) {
+    for await (const line of createInterface({ input: errors })) {
+      lines.push(line);
       const found = /DevTools listening on (ws:\S+)/.exec(line);
       if (!found) continue;
-      child.stderr.resume();
-      await browser.#connect(found[1]);
-      return browser;
+      errors.resume();
+      return this.#connect(found[1]);
     }
-    throw new Error("chromium has ended");
+    throw new Error(`chromium has ended. It wrote: ${lines.join(" | ")}`);
   }
 
   async #connect(address) {
     this.#socket = new (webSockets().WebSocket)(address, { maxPayload: 2 ** 28 });
     this.#socket.on("message", (data) => this.#receive(JSON.parse(data)));
-    await new Promise((open) => this.#socket.on("open", open));
+    this.#socket.on("close", () => this.#lose());
+    await new Promise((open, failed) => this.#socket.on("open", open).on("error", failed));
+  }
+
+  /** It has ended: nothing more is answered. */
+  #lose() {
+    for (const { failed } of this.#waiting.values()) failed(new Error("the browser has ended"));
+    this.#waiting.clear();
   }
 
   #receive({ id, result, error, method, params, sessionId }) {
@@ -94,10 +125,15 @@ export class Browser {
     else waits?.answered(result);
   }
 
-  send(method, params = {}, sessionId = undefined) {
+  send(method, params = {}, sessionId = undefined, seen = () => "") {
     const id = ++this.#asked;
-    this.#socket.send(JSON.stringify({ id, method, params, sessionId }));
-    return new Promise((answered, failed) => this.#waiting.set(id, { answered, failed }));
+    const about = () => `${method} ${JSON.stringify(params).slice(0, 300)} has no answer. ${seen()}`;
+    const answer = new Promise((answered, failed) => {
+      if (this.#socket.readyState !== this.#socket.OPEN) failed(new Error("the browser has ended"));
+      else this.#waiting.set(id, { answered, failed });
+    });
+    this.#socket.send(JSON.stringify({ id, method, params, sessionId }), () => {});
+    return inTime(ANSWER_SECONDS, about, answer).finally(() => this.#waiting.delete(id));
   }
 
   /** A profile of its own in this browser, as a private window: nothing is stored in it yet. */
@@ -147,6 +183,8 @@ export class Browser {
 export class Tab {
   faults = []; // what was thrown and not caught
   notes = []; // of the console
+  question; // that is open, as { type, message }: the page does nothing until it is answered
+  asked = 0; // how often the page asked not to be left, since it had edits that weren't stored
   #browser;
   #target;
   #session;
@@ -161,10 +199,24 @@ export class Tab {
       this.faults.push(exception?.description ?? text);
     }
     if (method === "Log.entryAdded") this.notes.push(params.entry.text);
+    if (method === "Page.javascriptDialogClosed") this.question = undefined;
+    if (method !== "Page.javascriptDialogOpening") return;
+    this.question = params;
+    if (params.type === "beforeunload") this.#stay();
+  }
+
+  #stay() {
+    this.asked++;
+    this.send("Page.handleJavaScriptDialog", { accept: false }).catch(() => {});
   }
 
   send(method, params = {}) {
-    return this.#browser.send(method, params, this.#session);
+    const seen = () => {
+      const { type, message } = this.question ?? {};
+      const open = type ? `The page waits for an answer to ${type} "${message}". ` : "";
+      return `${open}Its last notes: ${[...this.notes, ...this.faults].slice(-5).join(" | ")}`;
+    };
+    return this.#browser.send(method, params, this.#session, seen);
   }
 
   size(width, height) {
@@ -182,8 +234,16 @@ export class Tab {
   }
 
   /** Waits until an expression holds in the page, also while it is loading. */
-  until(expression, seconds = 100) {
-    return until(expression, () => this.evaluate(expression).catch(() => false), seconds);
+  async until(expression, seconds = 100) {
+    let fault = "";
+    const holds = () => this.evaluate(expression).catch(({ message }) => {
+      fault = message;
+      return false;
+    });
+    return until(expression, holds, seconds).catch(async ({ message }) => {
+      const shown = await this.evaluate("document.body?.innerText.slice(0, 500)").catch(() => "");
+      throw new Error(`${message}\n${fault}\nThe page shows: ${shown}`);
+    });
   }
 
   /** The text or the value of each element of a selector. */
@@ -236,11 +296,19 @@ export class Tab {
     return this.send("Page.navigate", { url });
   }
 
-  /** Loads the page again, and resolves once the old one is gone. */
-  async reload() {
+  /** Loads the page again, and resolves once the old one is gone. A page that asks not to be left is
+   *  stayed at, and tried again until what it was asking for is stored. */
+  async reload(seconds = 100) {
     await this.evaluate("window.isOld = true");
-    await this.send("Page.reload");
-    await this.until("window.isOld === undefined");
+    let asked = -1;
+    const isLeft = async () => {
+      if (asked !== this.asked) await this.send("Page.reload");
+      asked = this.asked;
+      return this.evaluate("window.isOld === undefined").catch(() => false);
+    };
+    await until("the page is left", isLeft, seconds).catch(({ message }) => {
+      throw new Error(`${message}. It asked not to be, ${this.asked} times`);
+    });
   }
 
   close() {

@@ -7,10 +7,12 @@ import { join } from "node:path";
 import { createInterface } from "node:readline";
 import { after } from "node:test";
 import { fileURLToPath } from "node:url";
+import { inTime } from "./chromium.mjs";
 
 const TOP = new URL("../../../", import.meta.url);
 export const PROGRAM = process.env.JCRDT ?? fileURLToPath(new URL("release/jcrdt", TOP));
 const HUB = fileURLToPath(new URL("clients/hub/hub.mjs", TOP));
+const START_SECONDS = 120; // for the first lines of a command
 const started = new Set();
 const rooms = new Set();
 
@@ -46,10 +48,15 @@ export async function start(command, words, lineCount) {
   let errors = "";
   child.stderr.on("data", (text) => (errors += text));
   const lines = [];
-  for await (const line of createInterface({ input: child.stdout })) {
-    if (lines.push(JSON.parse(line)) === lineCount) return { child, lines, errors: () => errors };
-  }
-  throw new Error(`${command} ${words.join(" ")} has ended: ${errors}`);
+  const about = () => `${command} ${words.join(" ")}: wrote ${JSON.stringify(lines)} and ${errors}`;
+  const first = async () => {
+    for await (const line of createInterface({ input: child.stdout })) {
+      if (lines.push(JSON.parse(line)) === lineCount) return;
+    }
+    throw new Error(`it has ended. ${about()}`);
+  };
+  await inTime(START_SECONDS, about, first());
+  return { child, lines, errors: () => errors };
 }
 
 /** Ends a process that a test started, as a crash does. */

@@ -205,6 +205,27 @@ test("watch, unwatch, and callbacks that throw", LIMIT, async () => {
   [client, other, stranger].forEach((it) => it.end());
 });
 
+test("watch tells a front once, also where it is read and pushed, and none after a newer one", LIMIT, async () => {
+  let reads = 0;
+  const address = await peer((line) => {
+    const [word] = parse(line);
+    if (word === "version") return VERSION;
+    if (word === "watch") return '["watching"]\n["changed","d",[]]\n';
+    return reads++ ? '["front",[["a",1]]]\n["changed","d",[["a",2]]]\n' : '["front",[]]\n';
+  });
+  const client = await connected(address);
+  /** @type {[string, number][][][]} */
+  const [first, second] = [[], []];
+  await client.watch("d", (front) => first.push([...front]));
+  await pause(50);
+  deepEqual(first, [[]]);
+  await client.watch("d", (front) => second.push([...front]));
+  await pause(50);
+  deepEqual(second, [[["a", 2]]]); // the push was just behind the reply
+  deepEqual(first, [[], [["a", 2]]]);
+  client.end();
+});
+
 test("what is lost, away and refused", LIMIT, async () => {
   const mine = await startServer(["d"]);
   const client = await join(mine.address);

@@ -22,6 +22,7 @@ process.on("exit", () => {
   rmSync(folder, { recursive: true, force: true });
 });
 
+const START_SECONDS = 120; // for the line that says where it listens
 let files = 0;
 
 /** Starts a server of these documents, and resolves with its process and address.
@@ -35,12 +36,14 @@ export async function startServer(documents, options = {}) {
   const ended = new Promise((end) => child.on("exit", end));
   let errors = "";
   child.stderr.on("data", (text) => (errors += text));
+  const late = setTimeout(() => child.kill("SIGKILL"), START_SECONDS * 1000);
   for await (const line of createInterface({ input: child.stdout })) {
+    clearTimeout(late);
     // A test ends though its servers are still there: they are killed then.
     for (const it of [child, child.stdout, child.stderr]) /** @type {any} */ (it).unref();
     return { child, file, ended, address: /** @type {string} */ (JSON.parse(line)[1]) };
   }
-  throw new Error(`${program} ${words.join(" ")} has ended: ${errors}`);
+  throw new Error(`${program} ${words.join(" ")} has ended, or didn't listen in ${START_SECONDS} s: ${errors}`);
 }
 
 /** What `run` answers to lines: an array of lines.

@@ -20,8 +20,7 @@ export function connectedToHub(url: string | URL, WebSocket?: any, options?: Opt
  *  @property {(line: string) => void} answered
  *  @property {(error: Error) => void} failed */
 /** @typedef {object} Watch
- *  @property {Set<Changed>} watchers
- *  @property {string} last The front that they were called with.
+ *  @property {Map<Changed, string>} watchers With the front that each was called with, "" before.
  *  @property {boolean} isPushed Whether the hub pushes it.
  *  @property {Promise<void>} begun */
 /** One session: see `connected`. */
@@ -213,11 +212,10 @@ export type Waiting = {
     failed: (error: Error) => void;
 };
 export type Watch = {
-    watchers: Set<Changed>;
     /**
-     * The front that they were called with.
+     * With the front that each was called with, "" before.
      */
-    last: string;
+    watchers: Map<Changed, string>;
     /**
      * Whether the hub pushes it.
      */

@@ -11,7 +11,7 @@ from typing import Dict, List, Sequence, Tuple
 
 from . import wire
 from .session import Session, connected
-from .terminal import say
+from .terminal import checked_address, say
 from .wire import Front, Id, Operation, Refused
 
 # How many operations are delivered before their replies are read.
@@ -106,7 +106,7 @@ def looked_at(server: Session, document: str) -> Tuple[Front, object]:
 
 def main(words: Sequence[str]) -> int:
     parser = argparse.ArgumentParser(prog="exchange", description=__doc__, formatter_class=argparse.RawDescriptionHelpFormatter)
-    parser.add_argument("addresses", nargs=2, metavar="ADDRESS")
+    parser.add_argument("addresses", nargs=2, metavar="ADDRESS", type=checked_address)
     parser.add_argument("document", metavar="DOC")
     asked = parser.parse_args(words)
     with connected(asked.addresses[0]) as one, connected(asked.addresses[1]) as other:

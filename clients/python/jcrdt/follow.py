@@ -5,7 +5,7 @@ from typing import Iterator, List, Optional
 
 from .log import FOLLOW_SECONDS, StoredLog
 from .session import Session, connected
-from .wire import Front, Lost, Operation, Refused, covers
+from .wire import Front, Lost, Operation, Refused, covers, covers_all
 
 # The first pause before a connection is tried again, and the longest, in seconds.
 SHORTEST, LONGEST = 0.2, 5.0
@@ -72,18 +72,18 @@ class Disk:
         self.document, self.is_known = document, False
 
     def stored(self, session: Session, operations: List[Operation]) -> List[Operation]:
-        """The operations, once the last of them is in the server's file if a hub knows. Raises Lost if the
-        server has lost the last one, or a hub that knew doesn't any more."""
-        if not operations:
-            return []
-        last = operations[-1][1]
+        """The operations, once all of them are in the server's file if a hub knows. Raises Lost if the server has
+        lost some, or a hub that knew doesn't any more. A hub may have gone on with another start of the server
+        between two of them: so the last one of each replica is asked for."""
+        last: Front = dict((replica, counter) for counter, replica in (operation[1] for operation in operations))
         try:
-            session.stored(self.document, last)
-            self.is_known = True
+            for replica, counter in last.items():
+                session.stored(self.document, [counter, replica])
+                self.is_known = True
         except Refused as cause:
             # No hub, or one that doesn't know the file, or what it asked for was lost by a kill.
             if cause.number not in (2, 104):
                 raise
-            if self.is_known or not covers(session.front(self.document), last):
-                raise Lost(f"{self.document}: {last[0]} of {last[1]} isn't known to be in the file") from None
+            if self.is_known or not covers_all(session.front(self.document), last):
+                raise Lost(f"{self.document}: not all that was read is known to be in the file") from None
         return operations

@@ -17,7 +17,7 @@ from typing import BinaryIO, Iterator, List, Sequence, Tuple
 
 from . import wire
 from .session import Session, connected
-from .terminal import say
+from .terminal import checked_address, say
 from .wire import Id, Refused, encoded
 
 # How many lines are delivered before their replies are read.
@@ -126,8 +126,9 @@ def report(result: Loaded) -> int:
 
 def main(words: Sequence[str]) -> int:
     parser = argparse.ArgumentParser(prog=words[0], description=__doc__, formatter_class=argparse.RawDescriptionHelpFormatter)
-    for name in ("address", "document", "file"):
-        parser.add_argument(name, metavar={"document": "DOC"}.get(name, name.upper()))
+    parser.add_argument("address", metavar="ADDRESS", type=checked_address)
+    for name, shown in (("document", "DOC"), ("file", "FILE")):
+        parser.add_argument(name, metavar=shown)
     asked = parser.parse_args(words[1:])
     with connected(asked.address) as server:
         server.open(asked.document)

@@ -37,7 +37,7 @@ from .lines import replaced
 from .log import id_text, readable
 from .renewal import Renewal, settled_branches, without_ids
 from .session import Session, connected
-from .terminal import say
+from .terminal import checked_address, say
 from .wire import Front, Id, Operation, Refused, covers, encoded, pairs_of
 
 HALF_OPERATIONS, HALF_REPLICAS = wire.OPERATION_LIMIT // 2, wire.REPLICA_LIMIT // 2
@@ -228,13 +228,14 @@ def front_of(text: str) -> Front:
 
 
 def parsed(words: Sequence[str]) -> argparse.Namespace:
-    parser = argparse.ArgumentParser(prog="renew", description=__doc__, formatter_class=argparse.RawDescriptionHelpFormatter)
+    raw = argparse.RawDescriptionHelpFormatter
+    parser = argparse.ArgumentParser(prog="renew", description=__doc__, formatter_class=raw)
     parts = parser.add_subparsers(dest="act", required=True)
-    counting, putting, late = (parts.add_parser(it) for it in ("count", "put", "since"))
+    counting, putting, late = (parts.add_parser(it, description=__doc__, formatter_class=raw) for it in ("count", "put", "since"))
     for part in (counting, putting, late):
-        part.add_argument("servers", nargs="+", metavar="SERVER")
+        part.add_argument("servers", nargs="+", metavar="SERVER", type=checked_address)
         part.add_argument("--doc", required=True)
-    putting.add_argument("--into", required=True, metavar="SERVER")
+    putting.add_argument("--into", required=True, metavar="SERVER", type=checked_address)
     putting.add_argument("--new-doc", required=True, metavar="DOC")
     putting.add_argument("--conflicts", choices=("keep", "last", "first"), default="keep")
     putting.add_argument("--force", action="store_true")

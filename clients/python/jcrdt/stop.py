@@ -23,7 +23,7 @@ from . import wire
 from .log import StoredLog, is_open
 from .session import REPLY_SECONDS, Session
 from .stream import Stream
-from .terminal import say
+from .terminal import checked_address, say
 from .wire import Id, Refused, covers
 
 # A server that has a session left answers within this time, in seconds. Only the lines printed depend on it.
@@ -216,13 +216,9 @@ class Stop:
 
 def main(words: Sequence[str]) -> int:
     parser = argparse.ArgumentParser(prog="stop", description=__doc__, formatter_class=argparse.RawDescriptionHelpFormatter)
-    parser.add_argument("address", metavar="ADDRESS")
+    parser.add_argument("address", metavar="ADDRESS", type=checked_address)
     parser.add_argument("--file", metavar="F")
     asked = parser.parse_args(words)
-    try:
-        wire.host_and_port(asked.address)
-    except ValueError as error:
-        parser.error(str(error))
     backlog = Backlog(asked.file) if asked.file else None
     stop = Stop(asked.address, backlog)
     try:

@@ -93,10 +93,11 @@ class Stream:
 
     def _line(self) -> Optional[bytes]:
         at = self.rest.find(b"\n", self.searched)
+        length = len(self.rest) if at < 0 else at
+        if length > self.limit:
+            raise Lost(f"a reply of more than {self.limit} bytes")
         if at < 0:
-            self.searched = len(self.rest)
-            if self.searched > self.limit:
-                raise Lost(f"a reply of more than {self.limit} bytes")
+            self.searched = length
             return None
         line = bytes(self.rest[:at])
         del self.rest[:at + 1]

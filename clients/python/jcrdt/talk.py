@@ -15,7 +15,7 @@ import threading
 from typing import Iterator, List, Optional, Sequence
 
 from .session import Session, connected
-from .terminal import say
+from .terminal import checked_address, say
 from .wire import Lost, encoded
 
 HISTORY = os.path.expanduser("~/.jcrdt_history")
@@ -109,7 +109,7 @@ def keep_showing(server: Session, ended: threading.Event) -> None:
 
 def main(words: Sequence[str]) -> int:
     parser = argparse.ArgumentParser(prog="talk", description=__doc__, formatter_class=argparse.RawDescriptionHelpFormatter)
-    parser.add_argument("address", metavar="ADDRESS")
+    parser.add_argument("address", metavar="ADDRESS", type=checked_address)
     asked = parser.parse_args(words)
     completer, ended, at_terminal = Completer(), threading.Event(), sys.stdin.isatty()
     with connected(asked.address) as server:

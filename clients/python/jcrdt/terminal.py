@@ -1,8 +1,18 @@
 """What the tools share: how they print, and how they end."""
 
+import argparse
 import sys
 
-from .wire import shown_safely
+from .wire import host_and_port, shown_safely
+
+
+def checked_address(text: str) -> str:
+    """HOST:PORT among a tool's arguments. Anything else is a wrong command line."""
+    try:
+        host_and_port(text)
+    except ValueError as error:
+        raise argparse.ArgumentTypeError(str(error)) from None
+    return text
 
 
 def say(line: str = "") -> None:

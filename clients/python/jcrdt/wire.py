@@ -125,6 +125,11 @@ def covers(front: Mapping[str, int], operation_id: Sequence[Any]) -> bool:
     return found
 
 
+def covers_all(front: Mapping[str, int], last: Mapping[str, int]) -> bool:
+    """Whether a front has all that another one has."""
+    return all(covers(front, [counter, replica]) for replica, counter in last.items())
+
+
 def pairs_of(front: Mapping[str, int]) -> List[List[Any]]:
     """A front as it is written, `[[replica,counter],..]` by name. Counters of 0 are left out."""
     return [[replica, counter] for replica, counter in sorted(front.items()) if counter]

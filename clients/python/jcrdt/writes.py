@@ -103,7 +103,7 @@ class Writes:
         return last
 
     def _check_all_there(self, server: Session, last: Front) -> None:
-        if not _has_all(server.front(self.document), last):
+        if not wire.covers_all(server.front(self.document), last):
             raise Lost(f"{self.document}: the server was started again and lacks writes: send them again")
 
     def _await_hub(self, server: Session, last: Front) -> None:
@@ -118,7 +118,7 @@ class Writes:
     def _await_file(self, server: Session, file: str, last: Front, seconds: float) -> None:
         until, sign = time.monotonic() + seconds, time.monotonic() + SIGN_SECONDS
         with StoredLog(file) as log:
-            while not _has_all(log.front(self.document), last):
+            while not wire.covers_all(log.front(self.document), last):
                 now = time.monotonic()
                 if now >= until:
                     raise TimeoutError(f"{file} doesn't have all of {self.document} after {seconds:g} s")
@@ -166,7 +166,3 @@ class Writes:
             again = [write] if lost and write.request[0] in REPEATABLE else []
             self.waiting.extendleft(reversed(lost + again))
         self.answered.append(write)
-
-
-def _has_all(front: Front, last: Front) -> bool:
-    return all(wire.covers(front, [counter, replica]) for replica, counter in last.items())

@@ -33,7 +33,7 @@ print(jcrdt.__file__)
 def test_one_version() -> None:
     version = (TOP / "VERSION").read_text().strip()
     assert jcrdt.__version__ == version
-    assert re.search(r'(?m)^version = "(.*)"$', (PACKAGE / "pyproject.toml").read_text())[1] == version  # type: ignore[index]
+    assert re.findall(r'(?m)^version = "(.*)"$', (PACKAGE / "pyproject.toml").read_text()) == [version]
 
 
 @pytest.mark.parametrize("page, shown", [

@@ -341,6 +341,17 @@ def test_a_reply_without_an_end() -> None:
                 session.values("d", [0])
 
 
+@pytest.mark.parametrize("limit, is_taken", [(20, True), (19, False)])
+def test_a_reply_of_its_limit(limit: int, is_taken: bool) -> None:
+    with answering(b'["version",2]\n', b'["values",["abcde"]]\n') as address:
+        with jcrdt.connected(address, limit=limit) as session:
+            if is_taken:
+                assert session.values("d", [0]) == ["abcde"]
+            else:
+                with pytest.raises(Lost, match="more than 19 bytes"):
+                    session.values("d", [0])
+
+
 def test_operations_that_are_none_or_come_again() -> None:
     page = jcrdt.wire.encoded(["ops", [BOB] * 64]) + b"\n"
     for reply in (b'["ops",[5]]\n', b'["ops",[["op",[1,"x"],[[["a"],1]],[[],0],["delete"]]]]\n', page):

@@ -43,7 +43,11 @@ def test_help_and_wrong_words() -> None:
             with pytest.raises(SystemExit) as ended:
                 module.main([name, *words] if name in MODULES else words)
             assert ended.value.code == 2 * status
-    assert "isn't HOST:PORT" in tool("talk", "7001", status=1)
+    for act in ("count", "put", "since"):
+        assert "Makes what the document shows anew" in tool("renew", act, "--help")
+    for words in (["talk", "7001"], ["exchange", "a:1", "b", "d"], ["save", "a", "d", "f"], ["load", "a", "d", "f"],
+                  ["renew", "count", "a:1", "b", "--doc", "d"]):
+        assert "isn't HOST:PORT" in tool(*words, status=2)
 
 
 # Save and load.

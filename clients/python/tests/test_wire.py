@@ -162,8 +162,9 @@ def test_values() -> None:
     Number = enum.IntEnum("Number", "one")
     right = {"a": [1, "x", None, True, {}, [], Counter(2**70)], "b": Conflict([1, Counter(2)])}
     assert wire.checked_value(right) is right
+    half: Any = 1.5
     for wrong in (1.0, 2**63, (1,), {1}, datetime.date(2020, 1, 1), Number(1), "x" * 4097, {1: 2}, {"k" * 129: 1}, b"x",
-                  Conflict([1, 2]), Counter(1.5), "\ud800"):  # type: ignore[arg-type]
+                  Conflict([1, 2]), Counter(half), "\ud800"):
         for inside in (wrong, {"a": wrong}, [wrong], Conflict([{"a": wrong}, Counter(1)])):
             with pytest.raises(ValueError):
                 wire.checked_value(inside)

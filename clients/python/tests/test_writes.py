@@ -15,6 +15,7 @@ from test_session import answering, freeze
 
 import jcrdt
 from jcrdt import Away, Lost, Refused, Writes, followed, followed_file, front_on_disk
+from jcrdt.follow import Disk
 
 Serve = Callable[..., Server]
 
@@ -297,6 +298,15 @@ def test_a_follower_at_the_hub(serve: Serve) -> None:
         while len(seen) < number and time.monotonic() < until:
             time.sleep(0.05)
         assert sorted(seen) == list(range(1, number + 1))
+
+
+def test_a_follower_behind_whom_the_server_was_started_again() -> None:
+    """A hub goes on with another start of the server between two pages: what the one before took with it isn't yielded, though the
+    last operation that was read is in the file."""
+    operations: List[Any] = [["op", [192, "srv-1"], [], [0, "k"], ["assign", 192]], ["op", [1, "srv-2"], [], [0, "k"], ["assign", 154]]]
+    replies = [b'["version",2]\n', b'["no",104,"not-kept"]\n', b'["front",[["srv-1",153],["srv-2",39]]]\n']
+    with answering(*replies) as address, jcrdt.connected(address) as session, pytest.raises(Lost):
+        Disk("d").stored(session, operations)
 
 
 def test_a_hub_without_its_server(serve: Serve) -> None:

@@ -1,46 +1,35 @@
--- A server that has served and closed its file.
-use Rattle.std.proofs.Common.{◌≡◌, ℕ, false, sym, List, Option, Result, Ok, Err, OnOk, OnErr, subst}
+-- A server that has served and closed its stored log.
+use Rattle.std.proofs.Common.{◌≡◌, ℕ, false, sym, ap, List, Option, Result, subst}
 use Rattle.std.specs.Bool.{⊤}
-use Rattle.sqlite.specs.declared.error.ErrorCode.{ErrorCode}
-use Rattle.sqlite_trees.specs.Tree.{Trees}
-use Rattle.sqlite_trees.specs.declared.store.Store.{Ghosts}
-use Rattle.log_copy.specs.Kept.{Kept}
-use Rattle.copy_docs.specs.Docs.{Doc}
-use Rattle.copier.specs.Batches.{AreAdded}
-use Rattle.served_copy.specs.Named.{is_known, replica_name}
-use Rattle.served_copy.specs.Stored.{ServesStored}
+use Rattle.stored_log.specs.Log.{LogState}
+use Rattle.stored_log.specs.declared.port.StoredLog.{Ghosts}
+use Rattle.stored_log.specs.Docs.{Doc}
+use Rattle.served_log.specs.Batches.{AreAdded}
+use Rattle.served_log.specs.Named.{is_known, replica_name}
+use Rattle.served_log.specs.Restored.{origin_at}
+use Rattle.served_log.specs.Stored.{ServesStored}
+use Rattle.served_log.specs.Totals.{ServesSessions}
 use Rattle.tcp_server.specs.Listening.{WritesAddress}
-use Rattle.commands.specs.Server.{ServesAndCloses, ServesAt}
+use Rattle.commands.specs.Server.{ServesAt}
 
--- what holds where a call ended well, and it did
-unless_err : {X F P : Type 0} (r : Result X F) → OnOk r P → OnErr r ⊥ → P
-unless_err (Ok x) p never = p
-unless_err (Err e) p never = absurd never
-
-module _ {S : Type 0} (g : Ghosts S) (holds_alone : S → Trees → Type 0) where
-  pub served_and_closed : {X F : Type 0} (name : List ℕ) (names : List (List ℕ)) (connections count : ℕ) (old : Kept S) (served : Result X F) (closed : Result ⊤ ErrorCode) (last : S) (held holds : Option (List ℕ))
-      → connections ≡ count → OnOk served (ServesStored g holds_alone name names connections old closed last held holds) → OnErr served ⊥ → OnErr closed ⊥
-      → ServesAndCloses g holds_alone name names count old held holds
-  served_and_closed name names connections count old served closed last held holds many stored well is_closed = record {
-    closed = closed;
-    is_closed = is_closed;
-    last = last;
-    served = subst (λ (n : ℕ). ServesStored g holds_alone name names n old closed last held holds) many (unless_err served stored well);
-  }
-
-  pub serves_at : (name : List ℕ) (names : List (List ℕ)) (count : ℕ) (old : Kept S) (held listens holds : Option (List ℕ))
-      → WritesAddress held listens → ServesAndCloses g holds_alone name names count old listens holds → ServesAt name names count held holds
-  serves_at name names count old held listens holds listening all =
-      let served = all.served in
+module _ {L Left : Type 0} (g : Ghosts L Left) where
+  pub serves_at : {E : Type 0} (name : List ℕ) (names : List (List ℕ)) (connections count : ℕ) (old : L) (closed : Result ⊤ E) (last : Left) (held listens holds : Option (List ℕ))
+      → connections ≡ count → WritesAddress held listens → ServesStored g name names connections old closed last listens holds → ServesAt name names count held holds
+  serves_at name names connections count old closed last held listens holds many listening stored =
+      let served : ServesStored g name names count old closed last listens holds = subst (λ (n : ℕ). ServesStored g name names n old closed last listens holds) many stored in
+      let begun = g.log served.begun in
       let named = served.raised.named in
-      let kept = served.raised.kept in record {
+      let kept = served.raised.kept in
+      let same : (g.log served.served.folded).docs ≡ begun.docs = ap (λ (it : LogState). it.docs) served.served.same in record {
         listens = listens;
         listening = listening;
-        docs = served.begun.docs;
-        epoch = served.begun.epoch;
-        unknown = subst (λ (docs : List Doc). is_known (replica_name name served.begun.epoch) docs names ≡ false) (sym kept) (subst (λ (r : List ℕ). is_known r old.docs names ≡ false) named served.raised.unknown);
-        last = served.served.new.docs;
+        docs = begun.docs;
+        before = (g.log old).epoch;
+        epoch = begun.epoch;
+        raised = served.raised.raised;
+        unknown = subst (λ (docs : List Doc). is_known (replica_name name begun.epoch) docs names ≡ false) (sym kept) (subst (λ (r : List ℕ). is_known r (g.log old).docs names ≡ false) named served.raised.unknown);
+        last = (g.log served.served.new).docs;
         any = served.served.copied.any;
-        copied = subst (λ (docs : List Doc). AreAdded names docs served.served.copied.any served.served.new.docs) served.served.same_docs served.served.copied.added;
-        served = served.served.sessions;
+        copied = subst (λ (docs : List Doc). AreAdded names docs served.served.copied.any (g.log served.served.new).docs) same served.served.copied.added;
+        served = subst (λ (r : List ℕ). ServesSessions (origin_at r begun.docs names) (g.log served.served.new).docs names count listens holds) named served.served.sessions;
       }

@@ -2,7 +2,7 @@
 use Rattle.std.proofs.Common.{◌≡◌, ◌↔◌, ◌≤◌, inl, inr, List, ◌∷◌, length, arith, true≢false, Bool, true, false, Option, Some, None, Result, Ok, Err, Contains, refl, sym, ap, subst, ◌∙◌}
 use Rattle.std.specs.List.{list_all}
 use Rattle.std.specs.Prelude.{IfOk, IsOk, IsTrue, MatchOption}
-use Rattle.doc_words.specs.Words.{Refusal, Op}
+use Rattle.doc_api.specs.Words.{Refusal, Op}
 use Rattle.op_core.proofs.Equality.{operation_eq-Decides}
 use Rattle.list_laws.specs.Order.{EachOnce}
 use Rattle.crdt_rules.specs.Facts.{facts}

@@ -1,8 +1,8 @@
 -- The facts and roles of a list of operations, however it is replayed.
 use Rattle.std.specs.Prelude.{◌≡◌, List, Bool, false, Option, Some, None}
-use Rattle.doc_words.specs.Words.{Id, Key, Tagged, Op}
+use Rattle.doc_api.specs.Words.{Id, Key, Tagged, Op}
 use Rattle.op_core.specs.Equality.{operation_eq}
-use Rattle.doc_words.specs.declared.role.Role.{Role}
+use Rattle.doc_api.specs.declared.role.Role.{Role}
 use Rattle.list_laws.specs.Walk.{SameMembers}
 use Rattle.crdt_rules.specs.Facts.{Facts, facts}
 use Rattle.crdt_rules.specs.Fits.{HasRoom}

@@ -2,8 +2,8 @@
 use Rattle.std.proofs.Common.{◌≡◌, ℕ, ℤ, ◌+◌, ◌<◌, ◌≤◌, List, [], ◌∷◌, ◌++◌, length, set, Bool, true, false, if◌then◌else◌, Option, Some, None, ◌⊎◌, inl, inr, ⊎_elim, refl, sym, ap, ◌∙◌, subst, arith, true≢false, Contains}
 use Rattle.std.proofs.lemmas.List.{get_or_past, get_or_append_left, get_or_push, length_push, length-set, set-get_or}
 use Rattle.std.proofs.lemmas.Bool.{cases_eq, cases_lt}
-use Rattle.doc_words.specs.Words.{Id, Scalar, Key}
-use Rattle.doc_words.specs.declared.role.Role.{Role}
+use Rattle.doc_api.specs.Words.{Id, Scalar, Key}
+use Rattle.doc_api.specs.declared.role.Role.{Role}
 use Rattle.crdt_rules.specs.Same.{key_eq}
 use Rattle.crdt_rules.proofs.SameLaws.{key_decides}
 use Rattle.doc_nodes.specs.declared.node.NodeNumber.{NodeNumber}

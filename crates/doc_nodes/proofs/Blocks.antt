@@ -13,9 +13,9 @@ use Rattle.op_core.specs.declared.cursor.Key.{Key}
 use Rattle.crdt_rules.specs.Same.{key_eq}
 use Rattle.list_laws.proofs.IdOrder.{transitive}
 use Rattle.list_laws.proofs.Members.{Contains-here}
-use Rattle.sorted_lists.proofs.Keys.{is_Less}
-use Rattle.sorted_lists.proofs.Bisection.{lesser_first}
-use Rattle.sorted_lists.proofs.Insertion.{rank-within}
+use Rattle.list_laws.proofs.Keys.{is_Less}
+use Rattle.list_laws.proofs.Bisection.{lesser_first}
+use Rattle.list_laws.proofs.Insertion.{rank-within}
 use Rattle.doc_nodes.specs.declared.node.NodeNumber.{NodeNumber}
 use Rattle.doc_nodes.specs.Children.{number_at}
 use Rattle.doc_nodes.specs.KeyOrder.{key_cmp, key_rank, IsInKeyOrder}

@@ -4,9 +4,9 @@ use Rattle.op_core.specs.declared.cursor.Key.{Key}
 use Rattle.crdt_rules.specs.Same.{key_eq}
 use Rattle.std.specs.Prelude.{insert}
 use Rattle.doc_nodes.specs.declared.node.NodeNumber.{NodeNumber}
-use Rattle.sorted_lists.specs.Sorted.{get_by}
-use Rattle.sorted_lists.proofs.Bisection.{get-own, get-Contains, get-rank, get-missing}
-use Rattle.sorted_lists.proofs.Insertion.{get-insert_rank, rising-insert}
+use Rattle.list_laws.specs.Sorted.{get_by}
+use Rattle.list_laws.proofs.Bisection.{get-own, get-Contains, get-rank, get-missing}
+use Rattle.list_laws.proofs.Insertion.{get-insert_rank, rising-insert}
 use Rattle.doc_nodes.specs.Children.{number_at}
 use Rattle.doc_nodes.specs.KeyOrder.{key_rank, IsInKeyOrder}
 use Rattle.doc_nodes.proofs.KeyOrder.{keys_ordered}

@@ -1,7 +1,7 @@
 -- How many numbers there are after a write.
 use Rattle.std.proofs.Common.{◌≤◌, ◌+◌, List, [], ◌∷◌, length, Bool, true, false, if◌then◌else◌, arith}
 use Rattle.std.specs.Ordering.{is_lt}
-use Rattle.doc_words.specs.Words.{Id, id_cmp}
+use Rattle.doc_api.specs.Words.{Id, id_cmp}
 use Rattle.crdt_rules.specs.Same.{id_eq}
 use Rattle.presence_set.specs.ById.{put_at_id}
 

@@ -41,11 +41,15 @@ in_block (block ∷ blocks) e c = ⊎_elim
     (λ there. let rest = in_block blocks e there in record { block = suc rest.block; has = rest.has })
     (Contains-append_cases block (joined blocks) e c)
 
-pub in_joined : (blocks : List (List (Key × NodeNumber))) (n : ℕ) (e : Key × NodeNumber) → Contains (get_or blocks n []) e → Contains (joined blocks) e
-in_joined blocks n e there = ⊎_elim
-    (λ less. joined-Contains blocks n e less there)
+-- a block that has something is one of them
+pub block_within : (blocks : List (List (Key × NodeNumber))) (n : ℕ) (e : Key × NodeNumber) → Contains (get_or blocks n []) e → n < length blocks
+block_within blocks n e there = ⊎_elim
+    (λ less. less)
     (λ past. absurd (Contains-nil (subst (λ l. Contains l e) (get_or_past blocks n [] past) there)))
     (cases_lt n (length blocks))
+
+pub in_joined : (blocks : List (List (Key × NodeNumber))) (n : ℕ) (e : Key × NodeNumber) → Contains (get_or blocks n []) e → Contains (joined blocks) e
+in_joined blocks n e there = joined-Contains blocks n e (block_within blocks n e there) there
 
 -- where each block keeps what it has, all do
 pub kept_by : (old new : List (List (Key × NodeNumber))) (e : Key × NodeNumber)

@@ -4,12 +4,12 @@ use Rattle.std.specs.Prelude.{is_some, option_and_then, ◌&&◌, ◌||◌}
 use Rattle.std.proofs.lemmas.Bool.{cases_eq, cases_lt}
 use Rattle.std.proofs.Math.Bool.{or-true}
 use Rattle.std.proofs.lemmas.List.{get_or_past}
-use Rattle.doc_words.specs.Words.{Id, Key, Scalar}
+use Rattle.doc_api.specs.Words.{Id, Key, Scalar}
 use Rattle.op_core.specs.Front.{covers}
 use Rattle.crdt_rules.specs.Same.{id_eq}
 use Rattle.crdt_rules.proofs.SameLaws.{id_decides}
-use Rattle.doc_words.specs.declared.role.Role.{Role}
-use Rattle.doc_words.specs.declared.role.Role.TheVariants.{Through}
+use Rattle.doc_api.specs.declared.role.Role.{Role}
+use Rattle.doc_api.specs.declared.role.Role.TheVariants.{Through}
 use Rattle.presence_set.specs.ById.{get, put_at_id, uncovered}
 use Rattle.presence_set.proofs.ByIdLaws.{get-put, get-uncovered}
 use Rattle.doc_nodes.specs.declared.node.NodeNumber.{NodeNumber}

@@ -14,7 +14,7 @@ use Rattle.crdt_rules.specs.Same.{key_eq}
 use Rattle.crdt_rules.proofs.SameLaws.{key_decides}
 use Rattle.crdt_rules.proofs.IdOrder.{is_eq-id_cmp}
 use Rattle.crdt_rules.proofs.WalkLaws.{id_order}
-use Rattle.sorted_lists.proofs.Keys.{IsKeyOrder}
+use Rattle.list_laws.proofs.Keys.{IsKeyOrder}
 use Rattle.doc_nodes.specs.KeyOrder.{kind_of, key_text, element_id, key_cmp}
 
 pub key_order : IsTotalOrder key_cmp

@@ -12,6 +12,7 @@ pub mod WriteFacts
 pub mod Growing
 pub mod Adding
 pub mod Made
+pub mod Missing
 pub mod Counted
 pub mod Plain
 pub mod ListPresence

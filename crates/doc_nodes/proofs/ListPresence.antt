@@ -4,7 +4,7 @@ use Rattle.std.proofs.lemmas.Bool.{cases_eq, cases_lt}
 use Rattle.std.proofs.lemmas.List.{get_or_past, get_or_default, set-get_or}
 use Rattle.doc_nodes.specs.Children.{number_at}
 use Rattle.doc_nodes.proofs.Gone.{in_block, in_joined}
-use Rattle.doc_words.specs.Words.{Id, Key}
+use Rattle.doc_api.specs.Words.{Id, Key}
 use Rattle.op_core.specs.declared.cursor.Key.TheVariants.{Doc, Text, Element, Head}
 use Rattle.crdt_rules.specs.Same.{id_eq}
 use Rattle.crdt_rules.proofs.SameLaws.{id_decides, eq_from}
@@ -13,7 +13,7 @@ use Rattle.doc_nodes.specs.declared.node.NodeNumber.{NodeNumber}
 use Rattle.doc_nodes.specs.declared.node.Node.{Node}
 use Rattle.crdt_rules.specs.Context.{reference}
 use Rattle.doc_nodes.specs.Walk.{root}
-use Rattle.doc_words.specs.declared.role.Role.{Role}
+use Rattle.doc_api.specs.declared.role.Role.{Role}
 use Rattle.presence_set.specs.ById.{uncovered}
 use Rattle.doc_nodes.specs.Blocks.{joined}
 use Rattle.doc_nodes.specs.Nodes.{blank_node, node_of, child_of, AreTree}

@@ -1,7 +1,7 @@
 -- Places and their nodes.
 use Rattle.std.proofs.Common.{◌≡◌, ◌<◌, List, ◌++◌, length, true, Some, sym, ap, ◌∙◌}
 use Rattle.std.specs.Prelude.{option_and_then}
-use Rattle.doc_words.specs.Words.{Key, Tagged}
+use Rattle.doc_api.specs.Words.{Key, Tagged}
 use Rattle.crdt_rules.specs.Within.{is_within}
 use Rattle.doc_nodes.specs.declared.node.NodeNumber.{NodeNumber}
 use Rattle.doc_nodes.specs.declared.node.Node.{Node}

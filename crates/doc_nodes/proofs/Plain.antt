@@ -3,7 +3,7 @@ use Rattle.std.proofs.Common.{◌≡◌, ◌<◌, ℕ, zero, suc, List, [], ◌�
 use Rattle.std.proofs.lemmas.List.{length-map, map-set, set-get_or}
 use Rattle.std.specs.Prelude.{IsSome, is_some, option_and_then}
 use mathlib.Core.Path.{fun_ext}
-use Rattle.doc_words.specs.Words.{Id, Key, Tagged}
+use Rattle.doc_api.specs.Words.{Id, Key, Tagged}
 use Rattle.presence_set.specs.ById.{get}
 use Rattle.list_order.specs.Entries.{ids_of}
 use Rattle.list_order.proofs.Entries.{ids_of-all_absent, all_absent-with}

@@ -2,7 +2,7 @@
 use Rattle.std.proofs.Common.{◌≡◌, ◌<◌, ℤ, List, length, set, Bool, true, false, ◌&&◌, if◌then◌else◌, Option, Some, None, ⊎_elim, refl, sym, ap, ◌∙◌, subst, true≢false}
 use Rattle.std.specs.Prelude.{is_some, option_and_then}
 use Rattle.std.proofs.lemmas.Bool.{and_parts, and_from, cases_eq}
-use Rattle.doc_words.specs.Words.{Id, Scalar, Key, Tagged, id_cmp}
+use Rattle.doc_api.specs.Words.{Id, Scalar, Key, Tagged, id_cmp}
 use Rattle.crdt_rules.specs.Same.{id_eq, key_eq, path_eq}
 use Rattle.crdt_rules.proofs.SameLaws.{key_decides, path_decides, eq_from}
 use Rattle.presence_set.specs.ById.{get, put_at_id}

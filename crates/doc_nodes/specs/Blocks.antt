@@ -2,7 +2,7 @@
 use Rattle.std.specs.Prelude.{ℕ, zero, suc, ◌<◌, List, [], ◌∷◌, length, Bool, true, if◌then◌else◌}
 use Rattle.std.specs.List.{flat_map, prefix_len}
 use Rattle.std.specs.Ordering.{is_lt}
-use Rattle.doc_words.specs.Words.{Key}
+use Rattle.doc_api.specs.Words.{Key}
 use Rattle.doc_nodes.specs.declared.node.NodeNumber.{NodeNumber}
 use Rattle.doc_nodes.specs.KeyOrder.{key_cmp, IsInKeyOrder}
 

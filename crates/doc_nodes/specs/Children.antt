@@ -1,6 +1,6 @@
 -- Numbers by key.
 use Rattle.std.specs.Prelude.{List, [], ◌∷◌, Option, Some, None, if◌then◌else◌}
-use Rattle.doc_words.specs.Words.{Key}
+use Rattle.doc_api.specs.Words.{Key}
 use Rattle.crdt_rules.specs.Same.{key_eq}
 use Rattle.doc_nodes.specs.declared.node.NodeNumber.{NodeNumber}
 

@@ -1,6 +1,6 @@
 -- Growth of the nodes that changes no fact.
 use Rattle.std.specs.Prelude.{◌≡◌, ◌<◌, ◌≤◌, List, [], ◌∷◌, ◌++◌, length, insert, slice_set, Some, IsSome, Contains}
-use Rattle.std.specs.Prelude.{true}
+use Rattle.std.specs.Prelude.{ℕ, true, unwrap_or, option_map}
 use Rattle.op_core.specs.declared.cursor.Key.{Key}
 use Rattle.doc_nodes.specs.declared.node.NodeNumber.{NodeNumber}
 use Rattle.doc_nodes.specs.declared.node.Node.{Node}
@@ -33,6 +33,12 @@ pub record Grows (old new : List Node) : Type 0 where
 pub record IsMade (nodes : List Node) (n : NodeNumber) (keys : List Key) : Type 0 where
   pub reached : IsSome (walk (child_of nodes) n keys)
   pub room : HasRoomAlong nodes n keys
+
+-- how many of the keys lead to no node yet
+abbrev pub missing_along : List Node → NodeNumber → List Key → ℕ
+missing_along nodes n [] = 0
+missing_along nodes n (k ∷ keys) =
+    unwrap_or (option_map (λ m. missing_along nodes m keys) (child_of nodes n k)) (length (k ∷ keys))
 
 -- a node with one more child, and these blocks that aren't gone
 abbrev pub with_child : Key → NodeNumber → List (List (Key × NodeNumber)) → Node → Node

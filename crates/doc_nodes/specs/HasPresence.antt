@@ -1,6 +1,6 @@
 -- Each operation that put a value into a node makes the node present, and the nodes above it too.
 use Rattle.std.specs.Prelude.{◌≡◌, ℕ, ◌≤◌, List, true, Some, is_some}
-use Rattle.doc_words.specs.Words.{Id, Key}
+use Rattle.doc_api.specs.Words.{Id, Key}
 use Rattle.presence_set.specs.ById.{get}
 use Rattle.doc_nodes.specs.declared.node.NodeNumber.{NodeNumber}
 use Rattle.doc_nodes.specs.declared.node.Node.{Node}

@@ -3,9 +3,9 @@ use Rattle.std.specs.Prelude.{ℕ, List, []}
 use Rattle.std.specs.Ordering.{nat_cmp, ordering_then}
 use Rattle.std.specs.Cmp.Lexicographic.{slice_cmp}
 use Rattle.std.specs.declared.cmp.Ordering.{Ordering}
-use Rattle.doc_words.specs.Words.{Id, Key, id_cmp}
+use Rattle.doc_api.specs.Words.{Id, Key, id_cmp}
 use Rattle.op_core.specs.declared.cursor.Key.TheVariants.{Doc, Text, Element, Head}
-use Rattle.sorted_lists.specs.Sorted.{rank_by, KeysRise}
+use Rattle.list_laws.specs.Sorted.{rank_by, KeysRise}
 use Rattle.doc_nodes.specs.declared.node.NodeNumber.{NodeNumber}
 
 abbrev pub kind_of : Key → ℕ

@@ -4,7 +4,7 @@ use Rattle.std.specs.Prelude.{slice_index_or, slice_set}
 use Rattle.lamport_id.specs.declared.id.Id.{Id}
 use Rattle.op_core.specs.declared.cursor.Key.{Key}
 use Rattle.op_core.specs.declared.cursor.Key.TheVariants.{Element}
-use Rattle.doc_words.specs.declared.role.Role.{Role}
+use Rattle.doc_api.specs.declared.role.Role.{Role}
 use Rattle.list_order.specs.Entries.{with_presence, all_absent}
 use Rattle.doc_nodes.specs.declared.node.NodeNumber.{NodeNumber}
 use Rattle.doc_nodes.specs.declared.node.Node.{Node}

@@ -1,10 +1,10 @@
 -- The facts of a document that is kept as numbered nodes.
 use Rattle.std.specs.Prelude.{◌≡◌, ◌≢◌, ℕ, ℤ, List, [], Bool, ◌&&◌, not, Option, Some, None, is_some, option_and_then}
 use Rattle.std.specs.Prelude.{slice_index_or, if◌then◌else◌, ◌⊎◌, length, false, Contains}
-use Rattle.doc_words.specs.Words.{Id, Scalar, Key, Tagged}
+use Rattle.doc_api.specs.Words.{Id, Scalar, Key, Tagged}
 use Rattle.crdt_rules.specs.Within.{is_within}
 use Rattle.crdt_rules.specs.Facts.{Facts}
-use Rattle.doc_words.specs.declared.role.Role.{Role}
+use Rattle.doc_api.specs.declared.role.Role.{Role}
 use Rattle.presence_set.specs.ById.{get, uncovered}
 use Rattle.doc_nodes.specs.declared.node.NodeNumber.{NodeNumber}
 use Rattle.doc_nodes.specs.declared.node.Node.{Node}

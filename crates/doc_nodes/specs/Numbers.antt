@@ -1,6 +1,6 @@
 -- Numbers of operations, of which there are few enough for their total.
 use Rattle.std.specs.Prelude.{◌≡◌, ◌<◌, ◌≤◌, ℕ, ℤ, List, length, Bool, true}
-use Rattle.doc_words.specs.Words.{Id}
+use Rattle.doc_api.specs.Words.{Id}
 
 -- there are no more numbers than counted, which are fewer than 2^64, and where there is room for one more so are they
 -- with it

@@ -1,13 +1,13 @@
 -- An operation makes the node where it ends present, and those above it.
 use Rattle.std.specs.Prelude.{◌≡◌, ◌≢◌, ◌⊎◌, ◌<◌, List, [], ◌∷◌, ◌++◌, length, map, Some, ◌&&◌, ◌||◌, IsSome, Bool}
 use Rattle.std.specs.Prelude.{true, false}
-use Rattle.doc_words.specs.Words.{Id, Key, Tagged}
+use Rattle.doc_api.specs.Words.{Id, Key, Tagged}
 use Rattle.op_core.specs.Shape.{key_of}
 use Rattle.crdt_rules.specs.Same.{id_eq}
 use Rattle.crdt_rules.specs.Within.{is_within}
 use Rattle.crdt_rules.specs.Facts.{Facts}
-use Rattle.doc_words.specs.declared.role.Role.{Role}
-use Rattle.doc_words.specs.declared.role.Role.TheVariants.{Through}
+use Rattle.doc_api.specs.declared.role.Role.{Role}
+use Rattle.doc_api.specs.declared.role.Role.TheVariants.{Through}
 use Rattle.presence_set.specs.ById.{put_at_id}
 use Rattle.doc_nodes.specs.declared.node.NodeNumber.{NodeNumber}
 use Rattle.doc_nodes.specs.declared.node.Node.{Node}

@@ -1,7 +1,7 @@
 -- The way to a place, as keys from the root down, and where it leads in a tree of numbered nodes.
 use Rattle.std.specs.Prelude.{◌≡◌, ℕ, ◌<◌, List, [], ◌∷◌, Option, Some, None, option_and_then, if◌then◌else◌}
 use Rattle.std.specs.Option.{option_map}
-use Rattle.doc_words.specs.Words.{Key, Tagged}
+use Rattle.doc_api.specs.Words.{Key, Tagged}
 use Rattle.op_core.specs.declared.cursor.Key.TheVariants.{Doc}
 use Rattle.crdt_rules.specs.Same.{key_eq}
 use Rattle.op_core.specs.Shape.{key_of, is_list, may_follow}

@@ -1,12 +1,12 @@
 -- Writes to one node, and how they change the facts.
 use Rattle.std.specs.Prelude.{◌≡◌, ◌<◌, ℤ, List, length, Bool, true, false, Option, Some, None, IsSome, ◌&&◌}
 use Rattle.std.specs.Prelude.{if◌then◌else◌}
-use Rattle.doc_words.specs.Words.{Id, Scalar, Key, Tagged}
+use Rattle.doc_api.specs.Words.{Id, Scalar, Key, Tagged}
 use Rattle.crdt_rules.specs.Same.{id_eq, key_eq, path_eq}
 use Rattle.crdt_rules.specs.Within.{is_within}
 use Rattle.crdt_rules.specs.Facts.{Facts}
-use Rattle.doc_words.specs.declared.role.Role.{Role}
-use Rattle.doc_words.specs.declared.role.Role.TheVariants.{Through}
+use Rattle.doc_api.specs.declared.role.Role.{Role}
+use Rattle.doc_api.specs.declared.role.Role.TheVariants.{Through}
 use Rattle.presence_set.specs.ById.{put_at_id}
 use Rattle.doc_nodes.specs.declared.node.NodeNumber.{NodeNumber}
 use Rattle.doc_nodes.specs.declared.node.Node.{Node}

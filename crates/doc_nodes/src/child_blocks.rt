@@ -203,8 +203,9 @@ impl ChildBlocks {
 
     /// The number of the block that has the child at a key. Without such a child, any number.
     pub fn block_with(&self, key: &Key) -> usize
-        ensures { (n : NodeNumber) → number_at self.now.0 key.now ≡ Some n
+        ensures has { (n : NodeNumber) → number_at self.now.0 key.now ≡ Some n
             → Contains (slice_index_or self.now.1 result []) (key.now, n) ⊎ (slice_index_or self.now.1 result [] ≡ []) }
+        ensures within { (n : NodeNumber) → number_at self.now.0 key.now ≡ Some n → result < length self.now.1 }
     {
         block_beside(self.blocks.as_slice(), self.latest, key)
     }

@@ -1,5 +1,5 @@
 //! The nodes below a node, in a box that a node has once it has a child.
-ghost use Rattle.std.specs.Prelude.{◌≡◌, ◌≢◌, ◌⊎◌, ℕ, [], length, insert, None, Some, OnOk, OnErr, IfOk, Contains, slice_index_or};
+ghost use Rattle.std.specs.Prelude.{◌≡◌, ◌≢◌, ◌⊎◌, ◌<◌, ℕ, [], length, insert, None, Some, OnOk, OnErr, IfOk, Contains, slice_index_or};
 ghost use Rattle.op_core.specs.declared.cursor.Key.{Key};
 ghost use Rattle.doc_nodes.specs.declared.node.NodeNumber.{NodeNumber};
 ghost use Rattle.doc_nodes.specs.Children.{number_at};
@@ -134,8 +134,9 @@ impl Children {
 
     /// The number of the block that has the child at a key. Without such a child, any number.
     pub fn block_with(&self, key: &Key) -> usize
-        ensures { (n : NodeNumber) → number_at self.now.0 key.now ≡ Some n
+        ensures has { (n : NodeNumber) → number_at self.now.0 key.now ≡ Some n
             → Contains (slice_index_or self.now.1 result []) (key.now, n) ⊎ (slice_index_or self.now.1 result [] ≡ []) }
+        ensures within { (n : NodeNumber) → number_at self.now.0 key.now ≡ Some n → result < length self.now.1 }
     {
         match &self.blocks {
             None => 0,

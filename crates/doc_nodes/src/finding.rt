@@ -60,8 +60,8 @@ pub fn find_list(nodes: &[Node], path: &[Tagged]) -> Option<NodeNumber>
     }
 }
 
-// The node whose list a path below a tagged key leads to.
-fn find_list_below(
+/// The node whose list a path below a tagged key leads to.
+pub fn find_list_below(
     nodes: &[Node],
     at: NodeNumber,
     tag: &Tagged,

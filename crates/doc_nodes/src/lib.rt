@@ -17,7 +17,7 @@ pub use child_blocks::{EachChild, SearchHint};
 pub use children::Children;
 pub use clear::{clear_under, clear_way};
 pub use counter::Counter;
-pub use finding::{find, find_list, keys};
+pub use finding::{find, find_list, find_list_below, keys};
 pub use growth::{prepare_way, reserve_order, reserve_value};
 pub use node::{Node, NodeNumber, PlaceNodes, ROOT, Register, element_in};
 pub use presence::add_presence_along;

@@ -1,15 +1,15 @@
 -- The sum of a counter to which two replicas added, and what an assignment that knows of one of them leaves
 -- of it, computed.
 use Rattle.std.proofs.Common.{◌≡◌, ◌⊎◌, inl, inr, ℕ, ℤ, pos, negsuc, List, [], ◌∷◌, Some, Ok, refl, sym, ap, subst, ◌∙◌, codes, Contains, Less}
-use Rattle.doc_words.specs.Words.{Id, id_cmp, Key, Tagged, Mutation, Assign, Add, Op}
+use Rattle.doc_api.specs.Words.{Id, id_cmp, Key, Tagged, Mutation, Assign, Add, Op}
 use Rattle.json_scalar.specs.declared.scalar.Scalar.TheVariants.{Text as TextValue}
 use Rattle.json_scalar.specs.declared.scalar.Val.TheVariants.{Scalar as ScalarVal}
 use Rattle.op_core.specs.declared.cursor.Key.TheVariants.{Doc, Text}
 use Rattle.op_core.specs.declared.cursor.Tagged.TheVariants.{Map as MapAt}
-use Rattle.doc_words.specs.declared.ask.Look.TheVariants.{Sum}
-use Rattle.doc_words.specs.declared.ask.Query.TheVariants.{Look}
-use Rattle.doc_words.specs.declared.place.Step.TheVariants.{Get}
-use Rattle.doc_words.specs.declared.reply.Reply.TheVariants as reply
+use Rattle.doc_api.specs.declared.ask.Look.TheVariants.{Sum}
+use Rattle.doc_api.specs.declared.ask.Query.TheVariants.{Look}
+use Rattle.doc_api.specs.declared.place.Step.TheVariants.{Get}
+use Rattle.doc_api.specs.declared.reply.Reply.TheVariants as reply
 use Rattle.list_laws.proofs.Members.{Contains-nil, Contains-here, Contains-there, Contains-cases}
 use Rattle.crdt_rules.specs.Effect.{number_added}
 use Rattle.crdt_rules.specs.Facts.{facts}

@@ -2,7 +2,7 @@
 use Rattle.std.proofs.Common.{◌≡◌, ℕ, ℤ, List, [], ◌∷◌, Bool, true, false, not, Option, Some, None, if◌then◌else◌, Contains, refl, sym, ap, ◌∙◌, map, filter}
 use Rattle.std.specs.List.{list_all}
 use Rattle.std.proofs.lemmas.Bool.{and_from, both_ways}
-use Rattle.doc_words.specs.Words.{Id, Scalar, Op, Key, Tagged}
+use Rattle.doc_api.specs.Words.{Id, Scalar, Op, Key, Tagged}
 use Rattle.op_core.specs.Front.{id_of}
 use Rattle.crdt_rules.specs.Dependencies.{is_logged, is_ready, missing}
 use Rattle.crdt_rules.specs.Effect.{number_added, scalar_put}

@@ -3,7 +3,7 @@ use Rattle.std.proofs.Common.{◌≡◌, ◌≢◌, inl, inr, ℕ, ◌<◌, nat_
 use Rattle.std.specs.Prelude.{⊤, is_some}
 use Rattle.std.proofs.lemmas.Bool.{both_ways, not-true}
 use lib.Pointwise.{bytes_decides}
-use Rattle.doc_words.specs.Words.{Id, Refusal, Op, Cursor, Mutation}
+use Rattle.doc_api.specs.Words.{Id, Refusal, Op, Cursor, Mutation}
 use Rattle.lamport_id.specs.Name.{is_name}
 use Rattle.op_core.specs.Shape.{is_mutation, is_shaped}
 use Rattle.crdt_rules.specs.Same.{id_eq}
@@ -15,10 +15,10 @@ use Rattle.doc_rules.specs.Cause.{cause_of}
 use Rattle.doc_rules.specs.Events.{Expected, replied, held, logged, Settles, expected_by_cause, has_id_of, changed_rows, expected_at_place, delivered_rows, expected_of_delivery, Forgets, Does, Event, IsWellMade}
 use Rattle.doc_rules.specs.Replica.{Replica, replica_facts, find_id, hold, without_held, own_op, IsKept}
 use Rattle.doc_rules.specs.Resolve.{Resolves}
-use Rattle.doc_words.specs.declared.place.Place.{Place}
-use Rattle.doc_words.specs.declared.ask.Command.{Command}
-use Rattle.doc_words.specs.declared.ask.Command.TheVariants.{Change, Deliver, Forget}
-use Rattle.doc_words.specs.declared.reply.Reply.{Reply}
+use Rattle.doc_api.specs.declared.place.Place.{Place}
+use Rattle.doc_api.specs.declared.ask.Command.{Command}
+use Rattle.doc_api.specs.declared.ask.Command.TheVariants.{Change, Deliver, Forget}
+use Rattle.doc_api.specs.declared.reply.Reply.{Reply}
 use Rattle.doc_rules.proofs.Causes.{fits_from}
 use Rattle.list_laws.proofs.Filters.{filter-Contains}
 use Rattle.doc_rules.proofs.Held.{find_none, put_among_from, length-put_among, rising-put_among}

@@ -1,13 +1,13 @@
 -- A look at a tree that has the facts and the roles of a log is a look at what the log makes.
 use Rattle.std.proofs.Common.{◌≡◌, ℕ, List, Option, Result, Ok, Err, sym, ap, subst, ◌∙◌}
 use Rattle.std.specs.Prelude.{MatchResult, option_and_then}
-use Rattle.doc_words.specs.Words.{Id, Refusal, Op, Cursor, Key, Tagged}
-use Rattle.doc_words.specs.declared.ask.Look.{Look}
-use Rattle.doc_words.specs.declared.ask.Query.TheVariants as query
-use Rattle.doc_words.specs.declared.place.Place.{Place}
-use Rattle.doc_words.specs.declared.reply.Reply.{Reply}
-use Rattle.doc_words.specs.declared.reply.Reply.TheVariants.{Refused}
-use Rattle.doc_words.specs.declared.role.Role.{Role}
+use Rattle.doc_api.specs.Words.{Id, Refusal, Op, Cursor, Key, Tagged}
+use Rattle.doc_api.specs.declared.ask.Look.{Look}
+use Rattle.doc_api.specs.declared.ask.Query.TheVariants as query
+use Rattle.doc_api.specs.declared.place.Place.{Place}
+use Rattle.doc_api.specs.declared.reply.Reply.{Reply}
+use Rattle.doc_api.specs.declared.reply.Reply.TheVariants.{Refused}
+use Rattle.doc_api.specs.declared.role.Role.{Role}
 use Rattle.crdt_rules.specs.Facts.{Facts, facts}
 use Rattle.crdt_rules.specs.Log.{IsGood, replay}
 use Rattle.doc_rules.specs.Answers.{LooksHere, Reads}

@@ -1,6 +1,6 @@
 -- The events of a replica on a few histories, computed.
 use Rattle.std.proofs.Common.{◌≡◌, inl, ℕ, pos, List, [], ◌∷◌, Ok, Err, refl, codes}
-use Rattle.doc_words.specs.Words.{Id, Val, Cursor, Key, Tagged, Mutation, Assign, Insert, Delete, Op}
+use Rattle.doc_api.specs.Words.{Id, Val, Cursor, Key, Tagged, Mutation, Assign, Insert, Delete, Op}
 use Rattle.json_scalar.specs.declared.refusal.Refusal.TheVariants.{BadFront, Forked, BadCursor, IdConflict, OwnName, AtHead, IndexPastEnd, NotInList}
 use Rattle.json_scalar.specs.declared.scalar.Scalar.TheVariants.{Text as TextValue, Int}
 use Rattle.json_scalar.specs.declared.scalar.Val.TheVariants.{Scalar as ScalarVal, EmptyList}
@@ -9,15 +9,15 @@ use Rattle.op_core.specs.declared.cursor.Tagged.TheVariants.{Map as MapAt, List 
 use Rattle.doc_rules.specs.Replica.{Replica}
 use Rattle.doc_rules.specs.Replica.Drains.{done, logs}
 use Rattle.doc_rules.specs.Events.{Event}
-use Rattle.doc_words.specs.declared.place.Step.{Step}
-use Rattle.doc_words.specs.declared.place.Step.TheVariants.{Get, Index}
+use Rattle.doc_api.specs.declared.place.Step.{Step}
+use Rattle.doc_api.specs.declared.place.Step.TheVariants.{Get, Index}
 use Rattle.doc_rules.specs.Role.{logged_role}
-use Rattle.doc_words.specs.declared.role.Role.TheVariants.{Through, List as ListRole, Scalar as ScalarRole}
+use Rattle.doc_api.specs.declared.role.Role.TheVariants.{Through, List as ListRole, Scalar as ScalarRole}
 use Rattle.doc_rules.specs.Sorted.AreThose.{none}
 use Rattle.doc_rules.proofs.Causes.{fits_from}
-use Rattle.doc_words.specs.declared.place.Place.{Place}
-use Rattle.doc_words.specs.declared.ask.Command.TheVariants.{Change, Deliver}
-use Rattle.doc_words.specs.declared.reply.Reply.TheVariants.{Applied, Known, Held, Refused}
+use Rattle.doc_api.specs.declared.place.Place.{Place}
+use Rattle.doc_api.specs.declared.ask.Command.TheVariants.{Change, Deliver}
+use Rattle.doc_api.specs.declared.reply.Reply.TheVariants.{Applied, Known, Held, Refused}
 
 abbrev p : List ℕ
 p = codes "p"

@@ -6,10 +6,10 @@ use Rattle.std.proofs.lemmas.Bool.{both_ways}
 use Rattle.std.specs.Prelude.{MatchResult}
 use Rattle.serde_json.specs.Data.{Data, string}
 use Rattle.serde_json.specs.Written.{compact_text}
-use Rattle.doc_words.specs.Words.{Id, name_cmp, Refusal, Scalar, Val, Cursor, Key, Tagged}
+use Rattle.doc_api.specs.Words.{Id, name_cmp, Refusal, Scalar, Val, Cursor, Key, Tagged}
 use Rattle.op_core.specs.declared.cursor.Key.TheVariants.{Text, Element}
 use Rattle.list_laws.proofs.IdOrder.{IsIdOrder}
-use Rattle.sorted_lists.proofs.Rising.{rising_same}
+use Rattle.list_laws.proofs.Rising.{rising_same}
 use Rattle.crdt_rules.specs.Facts.{Facts}
 use Rattle.crdt_rules.proofs.WalkLaws.{id_order}
 use Rattle.doc_rules.specs.Sorted.{AreAll, AreThose}
@@ -17,15 +17,15 @@ use Rattle.doc_rules.specs.Sorted.AreThose.{none, keep, skip}
 use Rattle.op_core.specs.Shape.{is_head}
 use Rattle.op_core.specs.Wire.{list_data}
 use Rattle.json_scalar.specs.Refusal.{and_then}
-use Rattle.doc_words.specs.declared.ask.Look.{Look}
-use Rattle.doc_words.specs.declared.ask.Look.TheVariants as look
-use Rattle.doc_words.specs.declared.ask.Query.{Query}
-use Rattle.doc_words.specs.declared.ask.Query.TheVariants as query
-use Rattle.doc_words.specs.declared.place.Place.{Place}
-use Rattle.doc_words.specs.declared.place.Step.{Step}
-use Rattle.doc_words.specs.declared.place.Step.TheVariants.{Get, Index}
-use Rattle.doc_words.specs.declared.reply.Reply.{Reply}
-use Rattle.doc_words.specs.declared.reply.Reply.TheVariants as reply
+use Rattle.doc_api.specs.declared.ask.Look.{Look}
+use Rattle.doc_api.specs.declared.ask.Look.TheVariants as look
+use Rattle.doc_api.specs.declared.ask.Query.{Query}
+use Rattle.doc_api.specs.declared.ask.Query.TheVariants as query
+use Rattle.doc_api.specs.declared.place.Place.{Place}
+use Rattle.doc_api.specs.declared.place.Step.{Step}
+use Rattle.doc_api.specs.declared.place.Step.TheVariants.{Get, Index}
+use Rattle.doc_api.specs.declared.reply.Reply.{Reply}
+use Rattle.doc_api.specs.declared.reply.Reply.TheVariants as reply
 use Rattle.doc_rules.specs.Resolve.{may_go_on, at_index, Goes, Leads, checked_start, Resolves}
 use Rattle.doc_rules.specs.Replica.{Replica, replica_facts}
 use Rattle.doc_rules.specs.Answers.{reply_with, ReadsHere, LooksHere, ReadsAt, Reads}

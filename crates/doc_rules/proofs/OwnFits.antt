@@ -2,7 +2,7 @@
 use Rattle.std.proofs.Common.{◌≡◌, ◌+◌, ◌≤◌, nat_le, List, [], ◌∷◌, ◌++◌, length, true, false, ◌&&◌, ◌==◌, not, Option, Ok, Contains, refl, sym, ap, subst, ◌∙◌, arith, le-leb, leb-true, eq-eqb}
 use Rattle.std.specs.List.{list_all}
 use Rattle.std.proofs.lemmas.Bool.{and_parts, and_from}
-use Rattle.doc_words.specs.Words.{Id, Op, Cursor, Key, Tagged, Mutation, Assign, Insert, Delete, Add}
+use Rattle.doc_api.specs.Words.{Id, Op, Cursor, Key, Tagged, Mutation, Assign, Insert, Delete, Add}
 use Rattle.lamport_id.specs.Name.{is_name}
 use Rattle.op_core.specs.Front.{covers, max_counter, is_ascending}
 use Rattle.op_core.specs.Shape.{is_id, is_entry, is_key, is_tagged, is_mutation, is_head, is_placed, is_shallow, is_allowed, ends_in_list, has_parts, has_form, has_front, key_of}
@@ -26,7 +26,7 @@ use Rattle.crdt_rules.proofs.WalkLaws.{id_order}
 use Rattle.doc_rules.specs.Events.{logged, changed_rows, expected_of_change, is_past_operations, is_past_replicas}
 use Rattle.doc_rules.proofs.Tables.{by_rows}
 use Rattle.doc_rules.specs.Replica.{Replica, replica_facts, next_id, own_op}
-use Rattle.doc_words.specs.declared.place.Step.{Step}
+use Rattle.doc_api.specs.declared.place.Step.{Step}
 use Rattle.doc_rules.specs.Resolve.{is_short, exists_in, path_exists, Resolves}
 use Rattle.doc_rules.proofs.Resolved.{resolved_is_at}
 use Rattle.doc_rules.proofs.WholeFront.{front_rising, rising_ascends, front_from, front_last, knows_whole_front, max_counter_below}

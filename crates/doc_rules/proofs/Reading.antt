@@ -1,6 +1,6 @@
 -- What is read where two assignments did not know of each other, computed.
 use Rattle.std.proofs.Common.{◌≡◌, ◌⊎◌, inl, inr, ℕ, List, [], ◌∷◌, Some, Ok, refl, sym, ap, subst, ◌∙◌, codes, Contains, Less}
-use Rattle.doc_words.specs.Words.{Id, id_cmp, Scalar, Key, Tagged, Assign, Op}
+use Rattle.doc_api.specs.Words.{Id, id_cmp, Scalar, Key, Tagged, Assign, Op}
 use Rattle.json_scalar.specs.declared.scalar.Scalar.TheVariants.{Text as TextValue}
 use Rattle.json_scalar.specs.declared.scalar.Val.TheVariants.{Scalar as ScalarVal}
 use Rattle.op_core.specs.declared.cursor.Key.TheVariants.{Doc, Text}
@@ -14,10 +14,10 @@ use Rattle.crdt_rules.proofs.Tests.{some_same, some≢none}
 use Rattle.doc_rules.specs.Answers.{Reads}
 use Rattle.doc_rules.specs.Views.{AreEntries}
 use Rattle.doc_rules.specs.Replica.{Replica}
-use Rattle.doc_words.specs.declared.ask.Look.TheVariants.{Values}
-use Rattle.doc_words.specs.declared.ask.Query.TheVariants.{Look}
-use Rattle.doc_words.specs.declared.place.Step.TheVariants.{Get}
-use Rattle.doc_words.specs.declared.reply.Reply.TheVariants as reply
+use Rattle.doc_api.specs.declared.ask.Look.TheVariants.{Values}
+use Rattle.doc_api.specs.declared.ask.Query.TheVariants.{Look}
+use Rattle.doc_api.specs.declared.place.Step.TheVariants.{Get}
+use Rattle.doc_api.specs.declared.reply.Reply.TheVariants as reply
 use Rattle.doc_rules.proofs.Causes.{fits_from}
 use Rattle.doc_rules.proofs.FromLog.{register_from}
 

@@ -1,12 +1,12 @@
 -- What is refused changes nothing.
 use Rattle.std.proofs.Common.{◌≡◌, inl, inr, ℕ, ◌+◌, ◌-◌, nat_lt, List, ◌++◌, length, drop, replicate, Bool, true, false, Option, Some, None, Result, Ok, Err, if◌then◌else◌, refl, ap, subst, ◌∙◌, append-nil, arith}
 use Rattle.std.proofs.Math.Seq.{drop-length}
-use Rattle.doc_words.specs.Words.{Refusal, Id, Op}
+use Rattle.doc_api.specs.Words.{Refusal, Id, Op}
 use Rattle.json_scalar.specs.declared.refusal.Refusal.TheVariants.{SeatsFull}
-use Rattle.doc_words.specs.declared.ask.Command.{Command}
-use Rattle.doc_words.specs.declared.ask.Command.TheVariants.{Change, Deliver, Forget}
-use Rattle.doc_words.specs.declared.ask.Query.{Query}
-use Rattle.doc_words.specs.declared.reply.Reply.TheVariants.{Refused}
+use Rattle.doc_api.specs.declared.ask.Command.{Command}
+use Rattle.doc_api.specs.declared.ask.Command.TheVariants.{Change, Deliver, Forget}
+use Rattle.doc_api.specs.declared.ask.Query.{Query}
+use Rattle.doc_api.specs.declared.reply.Reply.TheVariants.{Refused}
 use Rattle.doc_rules.specs.Document.{Document, for_seat, Acts, opens}
 use Rattle.doc_rules.specs.Events.{Expected, replied, held, logged, Settles, expected_at_place, expected_of_delivery, Forgets, Does, Event}
 use Rattle.doc_rules.specs.Replica.{Replica, find_id}

@@ -4,7 +4,7 @@ use Rattle.std.proofs.Common.{◌≡◌, inl, inr, ℕ, zero, suc, ◌<◌, nat_
 use Rattle.std.specs.Prelude.{⊤, MatchResult}
 use Rattle.list_laws.proofs.Scanning.{Contains-from_slice_get}
 use Rattle.std.proofs.lemmas.Bool.{and_parts, and_from, or_cases, both_ways}
-use Rattle.doc_words.specs.Words.{Id, Refusal, Cursor, Key, Tagged}
+use Rattle.doc_api.specs.Words.{Id, Refusal, Cursor, Key, Tagged}
 use Rattle.json_scalar.specs.Refusal.{and_then}
 use Rattle.json_scalar.specs.declared.refusal.Refusal.TheVariants.{BadCursor, IndexPastEnd, AtHead, TooDeep}
 use Rattle.json_scalar.proofs.Readings.{ok_step}
@@ -19,8 +19,8 @@ use Rattle.crdt_rules.proofs.Tests.{any_at}
 use Rattle.doc_rules.specs.Sorted.{AreThose}
 use Rattle.doc_rules.specs.Sorted.AreThose.{none, keep, skip}
 use Rattle.doc_rules.specs.Views.{into_list, AreElements}
-use Rattle.doc_words.specs.declared.place.Step.{Step}
-use Rattle.doc_words.specs.declared.place.Step.TheVariants.{Get, Index}
+use Rattle.doc_api.specs.declared.place.Step.{Step}
+use Rattle.doc_api.specs.declared.place.Step.TheVariants.{Get, Index}
 use Rattle.doc_rules.specs.Resolve.{is_short, exists_in, path_exists, checked_start, may_go_on, at_text, at_index, Goes, Leads, Resolves}
 
 pub record IsAt (f : Facts) (c : Cursor) : Type 0 where

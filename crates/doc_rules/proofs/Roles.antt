@@ -2,7 +2,7 @@
 use Rattle.std.proofs.Common.{◌≡◌, ◌≢◌, List, [], ◌∷◌, ◌++◌, Bool, true, false, not, ◌&&◌, ◌||◌, Option, Some, None, if◌then◌else◌, Contains, refl, sym, ap, ◌∙◌, true≢false}
 use Rattle.std.specs.List.{list_any}
 use Rattle.std.proofs.lemmas.Bool.{and_parts, both_ways, false_from_ne_true, not-true}
-use Rattle.doc_words.specs.Words.{Id, Scalar, Op, Key, Tagged, Mutation, Assign, Insert, Delete, Add}
+use Rattle.doc_api.specs.Words.{Id, Scalar, Op, Key, Tagged, Mutation, Assign, Insert, Delete, Add}
 use Rattle.json_scalar.specs.declared.scalar.Val.TheVariants.{Scalar as Plain, EmptyMap, EmptyList}
 use Rattle.list_laws.proofs.Members.{Contains-here, Contains-there}
 use Rattle.crdt_rules.specs.Same.{id_eq, key_eq, path_eq}
@@ -21,8 +21,8 @@ use Rattle.crdt_rules.proofs.SameLaws.{id_decides, eq_from}
 use Rattle.crdt_rules.proofs.StepFacts.{entered-false}
 use Rattle.crdt_rules.proofs.Tests.{any_none}
 use Rattle.op_core.specs.Front.{covers}
-use Rattle.doc_words.specs.declared.role.Role.{Role}
-use Rattle.doc_words.specs.declared.role.Role.TheVariants as role
+use Rattle.doc_api.specs.declared.role.Role.{Role}
+use Rattle.doc_api.specs.declared.role.Role.TheVariants as role
 use Rattle.std.specs.Prelude.{option_and_then, is_some}
 use Rattle.doc_rules.specs.Views.{AgreeOnPresent}
 use Rattle.doc_rules.specs.Role.{value_put_at, value_in, role_put, logged_role, role_here, roles_of, AreOf, values_in, step_roles}

@@ -3,12 +3,12 @@ use Rattle.std.proofs.Common.{◌≡◌, ◌⊎◌, inl, inr, ℕ, List, [], ◌
 use Rattle.std.specs.List.{list_any}
 use Rattle.std.specs.Prelude.{MatchResult}
 use Rattle.std.proofs.lemmas.Bool.{false_from_ne_true, both_ways}
-use Rattle.doc_words.specs.Words.{Id, Refusal, Cursor, Key, Tagged, Op}
-use Rattle.doc_words.specs.declared.ask.Query.{Query}
-use Rattle.doc_words.specs.declared.ask.Query.TheVariants as query
-use Rattle.doc_words.specs.declared.reply.Reply.{Reply}
-use Rattle.doc_words.specs.declared.reply.Reply.TheVariants as reply
-use Rattle.doc_words.specs.declared.role.Role.{Role}
+use Rattle.doc_api.specs.Words.{Id, Refusal, Cursor, Key, Tagged, Op}
+use Rattle.doc_api.specs.declared.ask.Query.{Query}
+use Rattle.doc_api.specs.declared.ask.Query.TheVariants as query
+use Rattle.doc_api.specs.declared.reply.Reply.{Reply}
+use Rattle.doc_api.specs.declared.reply.Reply.TheVariants as reply
+use Rattle.doc_api.specs.declared.role.Role.{Role}
 use Rattle.list_laws.specs.Walk.{SameMembers}
 use Rattle.list_laws.proofs.Members.{Contains-nil, Contains-here, Contains-there, Contains-cases}
 use Rattle.crdt_rules.specs.Effect.{value_put}

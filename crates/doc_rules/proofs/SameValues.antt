@@ -1,10 +1,10 @@
 -- What is shown depends on the values of present ids alone.
 use Rattle.std.proofs.Common.{inl, inr, List, Ok, Err, sym, ◌∙◌}
-use Rattle.doc_words.specs.Words.{Id, Val, Cursor, Key, Tagged}
-use Rattle.doc_words.specs.declared.ask.Look.{Look}
-use Rattle.doc_words.specs.declared.ask.Look.TheVariants as look
-use Rattle.doc_words.specs.declared.reply.Reply.{Reply}
-use Rattle.doc_words.specs.declared.reply.Reply.TheVariants as reply
+use Rattle.doc_api.specs.Words.{Id, Val, Cursor, Key, Tagged}
+use Rattle.doc_api.specs.declared.ask.Look.{Look}
+use Rattle.doc_api.specs.declared.ask.Look.TheVariants as look
+use Rattle.doc_api.specs.declared.reply.Reply.{Reply}
+use Rattle.doc_api.specs.declared.reply.Reply.TheVariants as reply
 use Rattle.op_core.specs.declared.cursor.Key.TheVariants.{Text, Element}
 use Rattle.crdt_rules.specs.Facts.{Facts}
 use Rattle.doc_rules.specs.Views.{Values, AgreeOnPresent, into_map, into_list, AreConflicts}

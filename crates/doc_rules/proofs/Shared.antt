@@ -5,16 +5,16 @@ use Rattle.std.proofs.lemmas.List.{length-replicate}
 use Rattle.std.proofs.lemmas.List.Elements.{All-replicate, All-append}
 use Rattle.std.proofs.lemmas.Bool.{and_parts}
 use Rattle.lamport_id.specs.Name.{is_name}
-use Rattle.doc_words.specs.Words.{Id, Refusal, Op, Cursor, Mutation}
+use Rattle.doc_api.specs.Words.{Id, Refusal, Op, Cursor, Mutation}
 use Rattle.list_laws.proofs.Members.{Contains-nil}
 use Rattle.crdt_rules.specs.Log.{IsGood}
 use Rattle.doc_rules.specs.Cause.{cause_of}
 use Rattle.doc_rules.specs.Document.{Document, by, logged_by, count_of, total_of, count_in, for_seat, Acts, opens, copied_to, new_document, GivesTo, IsSound}
 use Rattle.doc_rules.specs.Events.{Expected, replied, held, logged, Settles, expected_by_cause, changed_rows, expected_at_place, delivered_rows, expected_of_delivery, Forgets, Does, Event, IsWellMade}
 use Rattle.doc_rules.specs.Replica.{Replica, find_id, own_op, GoesOn}
-use Rattle.doc_words.specs.declared.ask.Command.{Command}
-use Rattle.doc_words.specs.declared.ask.Command.TheVariants.{Change, Deliver, Forget}
-use Rattle.doc_words.specs.declared.reply.Reply.{Reply}
+use Rattle.doc_api.specs.declared.ask.Command.{Command}
+use Rattle.doc_api.specs.declared.ask.Command.TheVariants.{Change, Deliver, Forget}
+use Rattle.doc_api.specs.declared.reply.Reply.{Reply}
 use Rattle.doc_rules.proofs.Drained.{drain_goes_on}
 use Rattle.doc_rules.proofs.Kept.{event_keeps}
 use Rattle.doc_rules.proofs.Tables.{by_rows}

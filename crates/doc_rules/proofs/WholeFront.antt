@@ -4,7 +4,7 @@ use Rattle.std.specs.Ordering.{is_lt}
 use Rattle.std.proofs.lemmas.Bool.{and_parts, and_from, cases_lt, false_from_ne_true}
 use Rattle.std.proofs.lemmas.List.Elements.{Contains-push_cases}
 use lib.Pointwise.{bytes_decides}
-use Rattle.doc_words.specs.Words.{Id, name_cmp, Op}
+use Rattle.doc_api.specs.Words.{Id, name_cmp, Op}
 use Rattle.op_core.specs.Front.{id_of, covers, max_counter, is_le, is_ascending}
 use Rattle.list_laws.proofs.IdOrder.{transitive}
 use Rattle.list_laws.proofs.Members.{Contains-nil, Contains-here, Contains-there, Contains-cases}
@@ -18,9 +18,9 @@ use Rattle.crdt_rules.proofs.FrontOf.{front_of-covers}
 use Rattle.crdt_rules.proofs.Readings.{known_from, known_at}
 use Rattle.crdt_rules.proofs.Tests.{all_from}
 use Rattle.crdt_rules.proofs.Ascending.{front_of-ascending}
-use Rattle.sorted_lists.specs.Sorted.{KeysRise}
-use Rattle.sorted_lists.proofs.Keys.{is_Less, less≢equal, less_back}
-use Rattle.sorted_lists.proofs.Rising.{rising_same}
+use Rattle.list_laws.specs.Sorted.{KeysRise}
+use Rattle.list_laws.proofs.Keys.{is_Less, less≢equal, less_back}
+use Rattle.list_laws.proofs.Rising.{rising_same}
 use Rattle.doc_rules.proofs.OneAnswer.{name_order}
 
 abbrev Entry : Type 0

@@ -1,14 +1,14 @@
 -- What a replica answers where it is only read.
 use Rattle.std.specs.Prelude.{◌≡◌, ◌⊎◌, ℕ, List, map, filter, take, not, Result, Ok, Err, MatchResult}
-use Rattle.doc_words.specs.Words.{Refusal, NoMemory, Cursor, Key, Tagged, Op}
+use Rattle.doc_api.specs.Words.{Refusal, NoMemory, Cursor, Key, Tagged, Op}
 use Rattle.op_core.specs.Front.{covers}
-use Rattle.doc_words.specs.declared.ask.Look.{Look}
-use Rattle.doc_words.specs.declared.ask.Look.TheVariants as look
-use Rattle.doc_words.specs.declared.ask.Query.{Query}
-use Rattle.doc_words.specs.declared.ask.Query.TheVariants as query
-use Rattle.doc_words.specs.declared.place.Place.{Place}
-use Rattle.doc_words.specs.declared.reply.Reply.{Reply}
-use Rattle.doc_words.specs.declared.reply.Reply.TheVariants as reply
+use Rattle.doc_api.specs.declared.ask.Look.{Look}
+use Rattle.doc_api.specs.declared.ask.Look.TheVariants as look
+use Rattle.doc_api.specs.declared.ask.Query.{Query}
+use Rattle.doc_api.specs.declared.ask.Query.TheVariants as query
+use Rattle.doc_api.specs.declared.place.Place.{Place}
+use Rattle.doc_api.specs.declared.reply.Reply.{Reply}
+use Rattle.doc_api.specs.declared.reply.Reply.TheVariants as reply
 use Rattle.crdt_rules.specs.Dependencies.{missing}
 use Rattle.crdt_rules.specs.Facts.{Facts}
 use Rattle.crdt_rules.specs.Pull.{front_of}

@@ -2,12 +2,12 @@
 use Rattle.std.specs.Prelude.{◌≡◌, ◌≢◌, ℕ, zero, suc, ◌+◌, ◌-◌, ◌≤◌, nat_lt, nat_le, ◌==◌, ◌&&◌, List, [], ◌∷◌, ◌++◌}
 use Rattle.std.specs.Prelude.{length, replicate, take, drop, Result, Ok, Err, if◌then◌else◌}
 use Rattle.std.specs.List.{All}
-use Rattle.doc_words.specs.Words.{Refusal, Op}
+use Rattle.doc_api.specs.Words.{Refusal, Op}
 use Rattle.json_scalar.specs.declared.refusal.Refusal.TheVariants.{SeatsFull}
-use Rattle.doc_words.specs.declared.ask.Command.{Command}
-use Rattle.doc_words.specs.declared.ask.Query.{Query}
-use Rattle.doc_words.specs.declared.reply.Reply.{Reply}
-use Rattle.doc_words.specs.declared.reply.Reply.TheVariants.{Applied}
+use Rattle.doc_api.specs.declared.ask.Command.{Command}
+use Rattle.doc_api.specs.declared.ask.Query.{Query}
+use Rattle.doc_api.specs.declared.reply.Reply.{Reply}
+use Rattle.doc_api.specs.declared.reply.Reply.TheVariants.{Applied}
 use Rattle.doc_rules.specs.Replica.{Replica, IsKept}
 use Rattle.doc_rules.specs.Events as replica
 use Rattle.doc_rules.specs.Answers as replica_answers

@@ -2,7 +2,7 @@
 use Rattle.std.specs.Prelude.{◌≡◌, ℕ, List, [], ◌∷◌, map}
 use Rattle.serde_json.specs.Data.{Data, string}
 use Rattle.serde_json.specs.Written.{compact_text}
-use Rattle.doc_words.specs.Words.{Id, Scalar, Key, Tagged, Op}
+use Rattle.doc_api.specs.Words.{Id, Scalar, Key, Tagged, Op}
 use Rattle.json_scalar.specs.Scalar.{scalar_data}
 use Rattle.op_core.specs.Wire.{id_data, list_data, wire}
 use Rattle.crdt_rules.specs.Facts.{Facts}

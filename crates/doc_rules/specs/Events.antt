@@ -2,16 +2,16 @@
 -- order of causes".
 use Rattle.std.specs.Prelude.{◌≡◌, ◌⊎◌, ℕ, suc, nat_le, length, bytes_eq, ◌&&◌, not, Bool, true, false, List, [], ◌∷◌}
 use Rattle.std.specs.Prelude.{Option, Some, None, is_some, Result, Ok, Err, if◌then◌else◌, ⊤}
-use Rattle.doc_words.specs.Words.{Id, Refusal, NoMemory, Op, Cursor, Mutation}
+use Rattle.doc_api.specs.Words.{Id, Refusal, NoMemory, Op, Cursor, Mutation}
 use Rattle.json_scalar.specs.declared.refusal.Refusal.TheVariants.{AtHead, NotInList, LogFull, TooManyReplicas}
 use Rattle.json_scalar.specs.declared.refusal.Refusal.TheVariants.{IdConflict, OwnName, HeldFull, NotHeld}
 use Rattle.op_core.specs.Equality.{operation_eq}
 use Rattle.op_core.specs.Limits.{most_held, most_operations, most_replicas}
 use Rattle.op_core.specs.Shape.{is_head, ends_in_list, is_mutation, is_shaped}
-use Rattle.doc_words.specs.declared.ask.Command.{Command}
-use Rattle.doc_words.specs.declared.ask.Command.TheVariants.{Change, Deliver, Forget}
-use Rattle.doc_words.specs.declared.reply.Reply.{Reply}
-use Rattle.doc_words.specs.declared.reply.Reply.TheVariants.{Applied, Known, Held, Forgotten, Refused}
+use Rattle.doc_api.specs.declared.ask.Command.{Command}
+use Rattle.doc_api.specs.declared.ask.Command.TheVariants.{Change, Deliver, Forget}
+use Rattle.doc_api.specs.declared.reply.Reply.{Reply}
+use Rattle.doc_api.specs.declared.reply.Reply.TheVariants.{Applied, Known, Held, Forgotten, Refused}
 use Rattle.crdt_rules.specs.Dependencies.{is_ready, missing}
 use Rattle.crdt_rules.specs.Effect.{is_insertion}
 use Rattle.crdt_rules.specs.Fits.{replicas}

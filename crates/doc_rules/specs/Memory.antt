@@ -1,8 +1,8 @@
 -- What a command does where memory is at hand throughout.
 use Rattle.std.specs.Prelude.{ℕ}
-use Rattle.doc_words.specs.declared.ask.Command.{Command}
-use Rattle.doc_words.specs.declared.ask.Command.TheVariants.{Change, Deliver, Forget}
-use Rattle.doc_words.specs.declared.reply.Reply.{Reply}
+use Rattle.doc_api.specs.declared.ask.Command.{Command}
+use Rattle.doc_api.specs.declared.ask.Command.TheVariants.{Change, Deliver, Forget}
+use Rattle.doc_api.specs.declared.reply.Reply.{Reply}
 use Rattle.crdt_rules.specs.Fits.{Fits}
 use Rattle.doc_rules.specs.Events.{Expected, replied, held, logged, Settles, expected_at_place, expected_of_delivery}
 use Rattle.doc_rules.specs.Events.{Does}

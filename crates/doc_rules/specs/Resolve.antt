@@ -2,7 +2,7 @@
 use Rattle.std.specs.Prelude.{◌≡◌, ℕ, zero, suc, List, [], ◌∷◌, ◌++◌, length, nat_le, Bool, true, ◌&&◌, Option, Some}
 use Rattle.std.specs.Prelude.{option_map, slice_get, Result, Ok, Err, ok_or, MatchResult, if◌then◌else◌, ⊤}
 use Rattle.std.specs.List.{list_any}
-use Rattle.doc_words.specs.Words.{Id, Refusal, Cursor, Key, Tagged}
+use Rattle.doc_api.specs.Words.{Id, Refusal, Cursor, Key, Tagged}
 use Rattle.json_scalar.specs.declared.refusal.Refusal.TheVariants.{BadCursor, IndexPastEnd, AtHead, TooDeep}
 use Rattle.json_scalar.specs.Refusal.{and_then}
 use Rattle.op_core.specs.Limits.{longest_key, longest_path}
@@ -10,8 +10,8 @@ use Rattle.op_core.specs.declared.cursor.Key.TheVariants.{Text, Element, Head}
 use Rattle.op_core.specs.Shape.{is_head, is_placed, is_shallow, key_of}
 use Rattle.crdt_rules.specs.Same.{id_eq}
 use Rattle.crdt_rules.specs.Facts.{Facts}
-use Rattle.doc_words.specs.declared.place.Step.{Step}
-use Rattle.doc_words.specs.declared.place.Step.TheVariants.{Get, Index}
+use Rattle.doc_api.specs.declared.place.Step.{Step}
+use Rattle.doc_api.specs.declared.place.Step.TheVariants.{Get, Index}
 use Rattle.doc_rules.specs.Views.{into_map, into_list, AreElements}
 
 -- ---- where the steps start

@@ -1,11 +1,11 @@
 -- Seats of a document (session handles): the told list of each (the ids acknowledged to it), and the sums at the end.
 use Rattle.std.specs.Prelude.{◌≡◌, ℕ, suc, ◌+◌, ◌<◌, ◌≤◌, List, [], ◌∷◌, ◌++◌, length, map, drop, sum}
-use Rattle.doc_words.specs.Words.{Id, Op}
+use Rattle.doc_api.specs.Words.{Id, Op}
 use Rattle.json_scalar.specs.declared.refusal.Refusal.TheVariants.{NotOpen}
-use Rattle.doc_words.specs.declared.ask.Command.{Command}
-use Rattle.doc_words.specs.declared.ask.Query.{Query}
-use Rattle.doc_words.specs.declared.reply.Reply.{Reply}
-use Rattle.doc_words.specs.declared.reply.Reply.TheVariants.{Refused}
+use Rattle.doc_api.specs.declared.ask.Command.{Command}
+use Rattle.doc_api.specs.declared.ask.Query.{Query}
+use Rattle.doc_api.specs.declared.reply.Reply.{Reply}
+use Rattle.doc_api.specs.declared.reply.Reply.TheVariants.{Refused}
 use Rattle.doc_rules.specs.Document.{Document, Acts, Answers, count_of, count_in, logged_by}
 
 pub record Seat : Type 0 where

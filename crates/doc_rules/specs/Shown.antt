@@ -3,7 +3,7 @@ use Rattle.std.specs.Prelude.{◌≡◌, ◌⊎◌, ℕ, ℤ, List, [], ◌∷�
 use Rattle.std.specs.Fmt.{signed_decimal}
 use Rattle.serde_json.specs.Data.{Data, string, array, Items, no_items, item}
 use Rattle.serde_json.specs.Written.{compact_text}
-use Rattle.doc_words.specs.Words.{Id, Scalar, Val, Key, Tagged}
+use Rattle.doc_api.specs.Words.{Id, Scalar, Val, Key, Tagged}
 use Rattle.json_scalar.specs.Scalar.{scalar_data}
 use Rattle.json_scalar.specs.declared.scalar.Val.TheVariants.{EmptyMap, EmptyList}
 use Rattle.op_core.specs.declared.cursor.Key.TheVariants.{Text, Element}

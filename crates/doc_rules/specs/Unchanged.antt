@@ -1,8 +1,8 @@
 -- What a refusal leaves as it was.
 use Rattle.std.specs.Prelude.{◌≡◌, ◌+◌}
 use Rattle.json_scalar.specs.declared.refusal.Refusal.{Refusal}
-use Rattle.doc_words.specs.declared.reply.Reply.{Reply}
-use Rattle.doc_words.specs.declared.reply.Reply.TheVariants.{Refused}
+use Rattle.doc_api.specs.declared.reply.Reply.{Reply}
+use Rattle.doc_api.specs.declared.reply.Reply.TheVariants.{Refused}
 use Rattle.doc_rules.specs.Seats.{Seat}
 
 -- what is answered by a refusal, for whatever cause, leaves this as it was

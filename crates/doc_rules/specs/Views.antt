@@ -1,7 +1,7 @@
 -- What a document shows at a place, read from its facts, and from the values that its operations put.
 use Rattle.std.specs.Prelude.{◌≡◌, ℕ, ℤ, pos, ◌+ℤ◌, List, [], ◌∷◌, ◌++◌, map, true, false, Option, Some, Result, Ok}
 use Rattle.std.specs.Prelude.{Err}
-use Rattle.doc_words.specs.Words.{Id, name_cmp, id_cmp, Scalar, Val, Refusal, Cursor, Key, Tagged}
+use Rattle.doc_api.specs.Words.{Id, name_cmp, id_cmp, Scalar, Val, Refusal, Cursor, Key, Tagged}
 use Rattle.json_scalar.specs.declared.refusal.Refusal.TheVariants.{AtHead}
 use Rattle.op_core.specs.declared.cursor.Key.TheVariants.{Text, Element}
 use Rattle.op_core.specs.declared.cursor.Tagged.TheVariants as tagged

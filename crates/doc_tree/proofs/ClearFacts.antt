@@ -2,12 +2,12 @@
 use Rattle.std.proofs.Common.{◌≡◌, ℕ, List, Bool, true, false, ◌&&◌, not, if◌then◌else◌, Option, Some, None, ⊎_elim, refl, sym, ap, ◌∙◌, subst, true≢false}
 use Rattle.std.specs.Prelude.{is_some}
 use Rattle.std.proofs.Math.Bool.{and-true}
-use Rattle.doc_words.specs.Words.{Id, Key, Tagged}
+use Rattle.doc_api.specs.Words.{Id, Key, Tagged}
 use Rattle.op_core.specs.Front.{covers}
 use Rattle.crdt_rules.specs.Within.{is_within}
 use Rattle.crdt_rules.proofs.StepFacts.{none_either}
 use Rattle.crdt_rules.proofs.Tests.{same_found}
-use Rattle.doc_words.specs.declared.role.Role.{Role}
+use Rattle.doc_api.specs.declared.role.Role.{Role}
 use Rattle.presence_set.specs.ById.{get, uncovered}
 use Rattle.presence_set.proofs.ByIdLaws.{get-uncovered}
 use Rattle.doc_nodes.specs.declared.node.NodeNumber.{NodeNumber}

@@ -2,7 +2,7 @@
 use Rattle.std.proofs.Common.{◌≡◌, List, [], ◌∷◌, ◌++◌, filter, Bool, true, false, if◌then◌else◌, Option, Some, None, refl, sym, ap, ◌∙◌}
 use Rattle.std.specs.Prelude.{option_and_then}
 use Rattle.std.specs.Option.{option_map}
-use Rattle.doc_words.specs.Words.{Id, Key, Tagged}
+use Rattle.doc_api.specs.Words.{Id, Key, Tagged}
 use Rattle.op_core.specs.declared.cursor.Key.TheVariants.{Doc, Element}
 use Rattle.op_core.specs.declared.cursor.Tagged.TheVariants.{Map as MapAt, List as ListAt}
 use Rattle.op_core.specs.Shape.{key_of, is_list, may_follow}
@@ -58,10 +58,9 @@ pub present_by_number : (nodes : List Node) → ListsShowPresence nodes → (n :
     → present_of (node_of nodes n).order.0 ≡ filter (λ i. is_node_present nodes (child_of nodes n (Element i))) (ids_of (node_of nodes n).order.0)
 present_by_number nodes right n = present_of-holding (λ i. is_node_present nodes (child_of nodes n (Element i))) (node_of nodes n).order.0 (λ i is c. right.0 n i is c)
 
--- and the list at a path does
-pub present_listed : (nodes : List Node) → ListsShowPresence nodes → (p : List Tagged) (n : NodeNumber) → list_node_at nodes p ≡ Some n
-    → present_of (node_of nodes n).order.0 ≡ filter (λ i. is_node_present nodes (node_at nodes p (Element i))) ((facts_of nodes).order p)
-present_listed nodes right p n e =
-    present_of-holding (λ i. is_node_present nodes (node_at nodes p (Element i))) (node_of nodes n).order.0
-    (λ i is c. right.0 n i is c ∙ ap (is_node_present nodes) (sym (element_child nodes p n i e)))
-    ∙ ap (filter (λ i. is_node_present nodes (node_at nodes p (Element i)))) (ids_read nodes p n e)
+-- and these are the present elements of the list that leads to it
+pub elements_listed : (nodes : List Node) (p : List Tagged) (n : NodeNumber) → list_node_at nodes p ≡ Some n
+    → filter (λ i. is_node_present nodes (child_of nodes n (Element i))) (ids_of (node_of nodes n).order.0)
+    ≡ filter (λ i. is_node_present nodes (node_at nodes p (Element i))) ((facts_of nodes).order p)
+elements_listed nodes p n e =
+    λ k. filter (λ i. is_node_present nodes (sym (element_child nodes p n i e) k)) (ids_read nodes p n e k)

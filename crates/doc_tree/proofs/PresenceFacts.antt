@@ -2,12 +2,12 @@
 use Rattle.std.proofs.Common.{◌≡◌, List, [], ◌∷◌, ◌++◌, length, Bool, true, false, ◌&&◌, ◌||◌, if◌then◌else◌, Option, Some, None, refl, sym, ap, ◌∙◌, subst, true≢false, arith, length-append}
 use Rattle.std.specs.Prelude.{is_some, option_and_then}
 use Rattle.std.proofs.lemmas.Bool.{and_parts, and_from}
-use Rattle.doc_words.specs.Words.{Id, Key, Tagged}
+use Rattle.doc_api.specs.Words.{Id, Key, Tagged}
 use Rattle.crdt_rules.specs.Same.{id_eq, key_eq, path_eq}
 use Rattle.crdt_rules.specs.Within.{is_within}
 use Rattle.crdt_rules.proofs.SameLaws.{key_decides, path_decides, eq_from}
-use Rattle.doc_words.specs.declared.role.Role.{Role}
-use Rattle.doc_words.specs.declared.role.Role.TheVariants.{Through}
+use Rattle.doc_api.specs.declared.role.Role.{Role}
+use Rattle.doc_api.specs.declared.role.Role.TheVariants.{Through}
 use Rattle.presence_set.specs.ById.{get}
 use Rattle.presence_set.proofs.ByIdLaws.{get-put}
 use Rattle.doc_nodes.specs.declared.node.NodeNumber.{NodeNumber}

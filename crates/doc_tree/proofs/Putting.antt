@@ -2,12 +2,12 @@
 use Rattle.std.proofs.Common.{◌≡◌, ℕ, ℤ, ◌<◌, List, [], ◌∷◌, length, set, Option, Some, None, Bool, true, false, if◌then◌else◌, ◌&&◌, inl, ⊎_elim, refl, sym, ap, ◌∙◌, subst, arith}
 use Rattle.std.specs.Prelude.{IsSome, option_and_then}
 use Rattle.std.specs.Option.{option_map}
-use Rattle.doc_words.specs.Words.{Id, Key, Tagged, Scalar}
+use Rattle.doc_api.specs.Words.{Id, Key, Tagged, Scalar}
 use Rattle.op_core.specs.declared.cursor.Key.TheVariants.{Doc, Element}
 use Rattle.op_core.specs.Front.{covers}
 use Rattle.op_core.specs.Shape.{key_of, may_follow}
 use Rattle.crdt_rules.specs.Same.{key_eq, id_eq, path_eq}
-use Rattle.doc_words.specs.declared.role.Role.{Role}
+use Rattle.doc_api.specs.declared.role.Role.{Role}
 use Rattle.presence_set.proofs.ByIdLaws.{length-uncovered}
 use Rattle.doc_nodes.specs.declared.node.NodeNumber.{NodeNumber}
 use Rattle.doc_nodes.specs.declared.node.Node.{Node}
@@ -17,7 +17,7 @@ use Rattle.doc_nodes.specs.PresenceAlong.{keys_below, keys_to, HasRoomAlong, IsR
 use Rattle.doc_nodes.proofs.Clearing.{same_children, tree-cleared}
 use Rattle.doc_nodes.specs.Writes.{put_facts, put_role, enter_facts, with_scalar, with_number, add_facts, add_role, count_facts}
 use Rattle.crdt_rules.specs.Within.{is_within}
-use Rattle.doc_words.specs.declared.role.Role.TheVariants.{Through}
+use Rattle.doc_api.specs.declared.role.Role.TheVariants.{Through}
 use Rattle.doc_nodes.proofs.Places.{way_to, node_within}
 use Rattle.doc_tree.proofs.ClearFacts.{facts-cleared, role-cleared}
 use Rattle.doc_tree.proofs.PresenceFacts.{facts-made_present, role-made_present}

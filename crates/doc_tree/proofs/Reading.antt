@@ -1,7 +1,7 @@
 -- What is read at a place.
 use Rattle.std.proofs.Common.{◌≡◌, ℤ, List, [], Some, None, sym, ap}
-use Rattle.doc_words.specs.Words.{Id, Scalar, Key, Tagged}
-use Rattle.doc_words.specs.declared.role.Role.{Role}
+use Rattle.doc_api.specs.Words.{Id, Scalar, Key, Tagged}
+use Rattle.doc_api.specs.declared.role.Role.{Role}
 use Rattle.presence_set.specs.ById.{get}
 use Rattle.list_order.specs.Entries.{ids_of}
 use Rattle.doc_nodes.specs.declared.node.NodeNumber.{NodeNumber}

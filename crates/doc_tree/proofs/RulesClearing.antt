@@ -1,7 +1,7 @@
 -- The clearing of the rules, in facts.
 use Rattle.std.proofs.Common.{◌≡◌, List, [], ◌∷◌, Bool, if◌then◌else◌, refl, sym, ap, ◌∙◌}
 use Rattle.std.proofs.Math.Bool.{or-false}
-use Rattle.doc_words.specs.Words.{Id, Key, Tagged, Delete, Op}
+use Rattle.doc_api.specs.Words.{Id, Key, Tagged, Delete, Op}
 use Rattle.crdt_rules.specs.Same.{tagged_eq}
 use Rattle.crdt_rules.specs.Context.{Context, node, child, register, counter, present, order, descend}
 use Rattle.crdt_rules.specs.Facts.{Facts, facts}

@@ -1,7 +1,7 @@
 -- Where the children of nodes stay, so do the nodes of places.
 use Rattle.std.proofs.Common.{◌≡◌, List, Option, Some, None, refl, ap, ◌∙◌}
 use Rattle.std.specs.Prelude.{option_and_then}
-use Rattle.doc_words.specs.Words.{Key, Tagged}
+use Rattle.doc_api.specs.Words.{Key, Tagged}
 use Rattle.list_order.specs.Entries.{ids_of}
 use Rattle.doc_nodes.specs.declared.node.NodeNumber.{NodeNumber}
 use Rattle.doc_nodes.specs.declared.node.Node.{Node}

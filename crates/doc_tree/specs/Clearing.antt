@@ -1,6 +1,6 @@
 -- The clearing of the rules at any place of a document.
 use Rattle.std.specs.Prelude.{List, [], ◌∷◌, Bool, if◌then◌else◌}
-use Rattle.doc_words.specs.Words.{Id, Key, Tagged}
+use Rattle.doc_api.specs.Words.{Id, Key, Tagged}
 use Rattle.crdt_rules.specs.Same.{tagged_eq}
 use Rattle.crdt_rules.specs.Context.{Context, node, child, register, counter, present, order, clear_elem}
 

@@ -1,11 +1,12 @@
 -- What clauses see of the tree of a document.
-use Rattle.std.specs.Prelude.{List, Option, Bool}
-use Rattle.doc_words.specs.Words.{Id, Key, Tagged}
+use Rattle.std.specs.Prelude.{List, [], ◌∷◌, Option, None, Bool, option_and_then}
+use Rattle.doc_api.specs.Words.{Id, Key, Tagged}
 use Rattle.crdt_rules.specs.Facts.{Facts}
-use Rattle.doc_words.specs.declared.role.Role.{Role}
+use Rattle.doc_api.specs.declared.role.Role.{Role}
 use Rattle.doc_nodes.specs.declared.node.Node.{Node}
 use Rattle.doc_nodes.specs.declared.node.NodeNumber.{NodeNumber}
-use Rattle.doc_nodes.specs.Nodes.{facts_of, role_at, node_at}
+use Rattle.doc_nodes.specs.Walk.{list_trail_below, walk}
+use Rattle.doc_nodes.specs.Nodes.{facts_of, role_at, child_of, node_at, list_node_at}
 use Rattle.doc_nodes.specs.ListPresence.{is_node_present}
 use Rattle.doc_tree.specs.declared.tree.Prepared.{Prepared}
 
@@ -23,6 +24,15 @@ tree_role tree = role_at tree.0
 -- the number of the node of a place
 abbrev pub tree_number : TreeValue → List Tagged → Key → Option NodeNumber
 tree_number tree = node_at tree.0
+
+-- the number of the node whose list a path leads to
+abbrev pub tree_list : TreeValue → List Tagged → Option NodeNumber
+tree_list tree = list_node_at tree.0
+
+-- the same from a node on: the way begins with the node's own key
+abbrev pub tree_list_below : TreeValue → NodeNumber → List Tagged → Option NodeNumber
+tree_list_below tree at [] = None
+tree_list_below tree at (t ∷ way) = option_and_then (walk (child_of tree.0) at) (list_trail_below t way)
 
 -- whether a place is present
 abbrev pub tree_present : TreeValue → List Tagged → Key → Bool

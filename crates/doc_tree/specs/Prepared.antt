@@ -1,7 +1,7 @@
 -- When the tree has all that an operation needs.
 use Rattle.std.specs.Prelude.{◌≡◌, ◌<◌, List, length, true, false, Some, IsSome, Contains}
 use Rattle.std.specs.Option.{ForSome}
-use Rattle.doc_words.specs.Words.{Tagged, Op}
+use Rattle.doc_api.specs.Words.{Tagged, Op}
 use Rattle.crdt_rules.specs.Effect.{is_add, is_delete, is_insertion, scalar_put, path_of, end_key}
 use Rattle.crdt_rules.specs.Context.{reference}
 use Rattle.crdt_rules.specs.Facts.{Facts}

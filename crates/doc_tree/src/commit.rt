@@ -1,7 +1,7 @@
 //! What an operation does to the nodes.
 ghost use Rattle.std.specs.Prelude.{◌≡◌, List, true, false, ◌&&◌, Some, None, Contains, if◌then◌else◌};
 ghost use Rattle.std.specs.Option.{ForSome};
-ghost use Rattle.doc_words.specs.Words.{Id, Key, Tagged, id_cmp};
+ghost use Rattle.doc_api.specs.Words.{Id, Key, Tagged, id_cmp};
 ghost use Rattle.op_core.specs.Front.{covers};
 ghost use Rattle.op_core.specs.declared.cursor.Key.TheVariants.{Element};
 ghost use Rattle.list_laws.specs.Order.{insert_after};
@@ -9,7 +9,7 @@ ghost use Rattle.crdt_rules.specs.Within.{is_within};
 ghost use Rattle.crdt_rules.specs.Effect.{scalar_put};
 ghost use Rattle.crdt_rules.specs.Context.{reference};
 ghost use Rattle.crdt_rules.specs.Facts.{step_facts};
-ghost use Rattle.doc_words.specs.declared.role.Role.TheVariants.{Counter};
+ghost use Rattle.doc_api.specs.declared.role.Role.TheVariants.{Counter};
 ghost use Rattle.doc_nodes.specs.declared.node.NodeNumber.{NodeNumber};
 ghost use Rattle.doc_nodes.specs.Nodes.{AreTree, node_at, list_node_at, facts_of, role_at, clear_facts_at};
 ghost use Rattle.doc_nodes.specs.ListPresence.{ListsShowPresence, ListsShowPresenceBut};

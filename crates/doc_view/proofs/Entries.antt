@@ -1,7 +1,7 @@
 -- What is at ids, read as a list.
 use Rattle.std.proofs.Common.{◌≡◌, List, Option, Some, sym, ◌∙◌}
-use Rattle.doc_words.specs.Words.{Id, id_cmp}
-use Rattle.sorted_lists.proofs.Bisection.{get-own, get-Contains}
+use Rattle.doc_api.specs.Words.{Id, id_cmp}
+use Rattle.list_laws.proofs.Bisection.{get-own, get-Contains}
 use Rattle.presence_set.specs.ById.{get, IsAscending}
 use Rattle.presence_set.proofs.Ascending.{ids_ordered}
 use Rattle.doc_rules.specs.Sorted.{AreAll}

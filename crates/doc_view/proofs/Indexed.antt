@@ -2,9 +2,9 @@
 use Rattle.std.proofs.Common.{◌≡◌, List, [], ◌∷◌, filter, Bool, true, false, true≢false, if◌then◌else◌, Decides, ◌⊎◌, inl, inr, Result, Err, refl, sym, ap}
 use Rattle.std.specs.Prelude.{⊤}
 use Rattle.json_scalar.specs.Refusal.{and_then}
-use Rattle.doc_words.specs.Words.{Id, Tagged, Refusal, Cursor}
-use Rattle.doc_words.specs.declared.place.Step.{Step}
-use Rattle.doc_words.specs.declared.place.Step.TheVariants.{Get, Index}
+use Rattle.doc_api.specs.Words.{Id, Tagged, Refusal, Cursor}
+use Rattle.doc_api.specs.declared.place.Step.{Step}
+use Rattle.doc_api.specs.declared.place.Step.TheVariants.{Get, Index}
 use Rattle.op_core.specs.declared.cursor.Key.TheVariants.{Element}
 use Rattle.doc_tree.specs.Nodes.{TreeValue}
 use Rattle.doc_tree.specs.Nodes.{tree_facts}

@@ -1,8 +1,8 @@
 -- Steps of a cursor, one after another.
 use Rattle.std.proofs.Common.{◌≡◌, ℕ, ◌+◌, ◌<◌, List, [], ◌∷◌, length, get_or, drop, Result, Ok, Err, refl, sym, subst}
-use Rattle.doc_words.specs.Words.{Refusal, Cursor}
+use Rattle.doc_api.specs.Words.{Refusal, Cursor}
 use Rattle.crdt_rules.specs.Facts.{Facts}
-use Rattle.doc_words.specs.declared.place.Step.{Step}
+use Rattle.doc_api.specs.declared.place.Step.{Step}
 use Rattle.doc_rules.specs.Resolve.{Goes, Leads}
 use Rattle.list_laws.proofs.Reading.{drop_read}
 

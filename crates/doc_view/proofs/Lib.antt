@@ -3,6 +3,7 @@ pub mod Presence
 pub mod Lists
 pub mod Indexed
 pub mod RoleValues
+mod OnWay
 mod Places
 pub mod Leading
 pub mod MapLaws

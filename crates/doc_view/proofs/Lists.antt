@@ -1,7 +1,7 @@
 -- Elements of a list, one more at the end.
 use Rattle.std.proofs.Common.{◌≡◌, ℕ, zero, suc, arith, ◌+◌, ◌<◌, List, [], ◌∷◌, ◌++◌, length, get_or, take, drop, filter, Bool, true, false, true≢false, Decides, if◌then◌else◌, refl, sym, ap, append-nil, subst, ◌∙◌}
 use Rattle.std.proofs.lemmas.List.{take-append-drop}
-use Rattle.doc_words.specs.Words.{Id, Scalar, Tagged}
+use Rattle.doc_api.specs.Words.{Id, Scalar, Tagged}
 use Rattle.op_core.specs.declared.cursor.Key.TheVariants.{Element}
 use Rattle.crdt_rules.specs.Facts.{Facts}
 use Rattle.doc_rules.specs.Views.{AreValues, HaveValues}

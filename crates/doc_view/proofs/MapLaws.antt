@@ -2,7 +2,7 @@
 use Rattle.std.proofs.Common.{◌≡◌, ℕ, ◌+◌, ◌<◌, List, [], ◌∷◌, ◌++◌, length, get_or, take, append-nil, append_assoc, inl, inr, true, refl, sym, ap, ◌∙◌, subst, Contains}
 use Rattle.std.specs.Ordering.{is_lt}
 use Rattle.std.proofs.lemmas.List.Elements.{Contains-append_left, Contains-append_right}
-use Rattle.doc_words.specs.Words.{Id, name_cmp, Key, Tagged}
+use Rattle.doc_api.specs.Words.{Id, name_cmp, Key, Tagged}
 use Rattle.op_core.specs.declared.cursor.Key.TheVariants.{Doc, Text, Element, Head}
 use Rattle.list_laws.proofs.Members.{Contains-nil, Contains-here, Contains-there, Contains-cases}
 use Rattle.crdt_rules.specs.Facts.{Facts}

@@ -1,18 +1,18 @@
 -- Where the entry of an id stands in a list that is in id order.
-use Rattle.std.proofs.Common.{◌≡◌, ◌<◌, ◌≤◌, ◌⊎◌, ℕ, inl, inr, List, [], ◌∷◌, length, get_or, Bool, true, false, Option, Some, None, refl, sym, ap, subst, ◌∙◌, arith}
+use Rattle.std.proofs.Common.{◌≡◌, ◌<◌, ◌≤◌, ◌⊎◌, ℕ, inl, inr, List, [], ◌∷◌, length, get_or, Bool, true, false, Some, None, refl, sym, ap, subst, ◌∙◌, arith}
 use Rattle.std.specs.Ordering.{is_lt}
 use Rattle.std.proofs.lemmas.Bool.{cases_lt}
 use Rattle.std.proofs.lemmas.List.{get_or_default}
 use Rattle.std.proofs.lemmas.List.Elements.{Contains-get_or}
-use Rattle.doc_words.specs.Words.{Id, id_cmp}
+use Rattle.doc_api.specs.Words.{Id, id_cmp}
 use Rattle.crdt_rules.specs.Same.{id_eq}
 use Rattle.presence_set.specs.ById.{get, rank, IsAscending}
 use Rattle.presence_set.proofs.Ascending.{ids_ordered}
 use Rattle.presence_set.proofs.ByIdLaws.{not_less_itself}
-use Rattle.sorted_lists.specs.Sorted.{IsPlace}
-use Rattle.sorted_lists.proofs.Keys.{same, not_less_back}
-use Rattle.sorted_lists.proofs.Bisection.{rank_is, get-missing, get-own}
-use Rattle.sorted_lists.proofs.Rising.{rising_index}
+use Rattle.list_laws.specs.Sorted.{IsPlace}
+use Rattle.list_laws.proofs.Keys.{same, not_less_back}
+use Rattle.list_laws.proofs.Bisection.{rank_is, get-missing, get-own}
+use Rattle.list_laws.proofs.Rising.{rising_index}
 
 module _ {X : Type 0} where
   -- the entry at this place has the id

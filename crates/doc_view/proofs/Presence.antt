@@ -1,8 +1,8 @@
 -- Which ids make a place present, read from what is there.
 use Rattle.std.proofs.Common.{◌≡◌, List, [], ◌∷◌, true, true≢false, Decides, ◌⊎◌, inl, inr, Option, Some, None, refl, sym, ap, ◌∙◌, Contains, is_some}
-use Rattle.doc_words.specs.Words.{Id, Key, Tagged}
+use Rattle.doc_api.specs.Words.{Id, Key, Tagged}
 use Rattle.crdt_rules.proofs.SameLaws.{id_decides}
-use Rattle.doc_words.specs.declared.role.Role.{Role}
+use Rattle.doc_api.specs.declared.role.Role.{Role}
 use Rattle.presence_set.specs.ById.{get, IsAscending}
 use Rattle.doc_tree.specs.Nodes.{TreeValue}
 use Rattle.doc_nodes.specs.declared.node.NodeNumber.{NodeNumber}
@@ -11,7 +11,7 @@ use Rattle.doc_nodes.specs.ListPresence.{is_some_entry, is_node_present}
 use Rattle.doc_tree.specs.Nodes.{tree_facts, tree_present, tree_role}
 use Rattle.doc_tree.proofs.Reading.{role_read, role_absent}
 use Rattle.doc_rules.specs.Views.{IsPresent}
-use Rattle.sorted_lists.proofs.Bisection.{get-own, get-Contains}
+use Rattle.list_laws.proofs.Bisection.{get-own, get-Contains}
 use Rattle.presence_set.proofs.Ascending.{ids_ordered}
 
 pub present_role : (tree : TreeValue) (p : List Tagged) (k : Key) (i : Id)

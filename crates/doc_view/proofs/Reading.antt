@@ -1,6 +1,6 @@
 -- From what is given to what is read.
 use Rattle.std.proofs.Common.{◌≡◌, List, Result, Ok, Err, false}
-use Rattle.doc_words.specs.Words.{Refusal, Cursor, Key, Tagged}
+use Rattle.doc_api.specs.Words.{Refusal, Cursor, Key, Tagged}
 use Rattle.op_core.specs.Shape.{is_head}
 use Rattle.doc_view.specs.Readings.{GivesUnlessMemory, ReadsUnlessMemory}
 

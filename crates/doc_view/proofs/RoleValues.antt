@@ -1,9 +1,9 @@
 -- The values that roles put, in id order.
 use Rattle.std.proofs.Common.{◌≡◌, List, [], ◌∷◌, ◌++◌, Option, Some, None, option_and_then, ◌⊎◌, inl, inr, refl, sym, ap, subst, ◌∙◌, Contains}
-use Rattle.doc_words.specs.Words.{Id, id_cmp, Scalar, Val, Key, Tagged}
+use Rattle.doc_api.specs.Words.{Id, id_cmp, Scalar, Val, Key, Tagged}
 use Rattle.list_laws.proofs.Members.{Contains-nil, Contains-here, Contains-there, Contains-cases}
 use Rattle.crdt_rules.proofs.Tests.{some_same}
-use Rattle.doc_words.specs.declared.role.Role.{Role}
+use Rattle.doc_api.specs.declared.role.Role.{Role}
 use Rattle.presence_set.specs.ById.{get}
 use Rattle.doc_tree.specs.Nodes.{TreeValue}
 use Rattle.doc_tree.specs.Nodes.{tree_facts, tree_role}

@@ -6,7 +6,7 @@ use Rattle.serde_json.specs.Data.{Data, string}
 use Rattle.op_core.specs.Wire.{list_data}
 use Rattle.json_text.specs.Tokens.{data_tokens, all_tokens, Puts}
 use Rattle.json_text.proofs.Texts.{all_tokens-append, data_tokens-list, put_list, put_pair}
-use Rattle.doc_words.specs.Words.{Refusal, Key, Tagged}
+use Rattle.doc_api.specs.Words.{Refusal, Key, Tagged}
 use Rattle.doc_tree.specs.Nodes.{TreeValue}
 use Rattle.doc_nodes.specs.declared.node.NodeNumber.{NodeNumber}
 use Rattle.doc_tree.specs.Nodes.{tree_number}

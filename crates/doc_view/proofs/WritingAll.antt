@@ -7,7 +7,7 @@ use Rattle.op_core.specs.Wire.{list_data}
 use Rattle.json_scalar.specs.Scalar.{scalar_data}
 use Rattle.json_text.specs.Tokens.{data_tokens, all_tokens, Puts}
 use Rattle.json_text.proofs.Texts.{put_list}
-use Rattle.doc_words.specs.Words.{Id, Refusal, Scalar, Key, Tagged}
+use Rattle.doc_api.specs.Words.{Id, Refusal, Scalar, Key, Tagged}
 use Rattle.doc_tree.specs.Nodes.{TreeValue}
 use Rattle.doc_nodes.specs.declared.node.NodeNumber.{NodeNumber}
 use Rattle.doc_tree.specs.Nodes.{tree_number}

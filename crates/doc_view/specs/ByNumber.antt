@@ -1,6 +1,6 @@
 -- What is read by the number of a node.
 use Rattle.std.specs.Prelude.{◌≡◌, ℕ, List, Option, Some, None, Contains}
-use Rattle.doc_words.specs.Words.{Id, Scalar, Key, Tagged}
+use Rattle.doc_api.specs.Words.{Id, Scalar, Key, Tagged}
 use Rattle.op_core.specs.declared.cursor.Key.TheVariants.{Text, Element}
 use Rattle.crdt_rules.specs.Facts.{Facts}
 use Rattle.doc_tree.specs.Nodes.{TreeValue}

@@ -4,3 +4,4 @@ pub mod Members
 pub mod Showing
 pub mod ByNumber
 pub mod Writing
+pub mod OnWay

@@ -1,6 +1,6 @@
 -- What a reader of a tree answers.
 use Rattle.std.specs.Prelude.{◌≡◌, List, Result, Err, MatchBool, MatchResult}
-use Rattle.doc_words.specs.Words.{Refusal, NoMemory, Cursor, Key, Tagged}
+use Rattle.doc_api.specs.Words.{Refusal, NoMemory, Cursor, Key, Tagged}
 use Rattle.json_scalar.specs.declared.refusal.Refusal.TheVariants.{AtHead}
 use Rattle.op_core.specs.Shape.{is_head}
 

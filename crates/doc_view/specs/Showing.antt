@@ -1,7 +1,7 @@
 -- What the parts of a shown element mean, and their JSON.
 use Rattle.std.specs.Prelude.{◌≡◌, ℕ, List, [], ◌∷◌, map}
 use Rattle.serde_json.specs.Data.{Data, string}
-use Rattle.doc_words.specs.Words.{Id, Key, Tagged}
+use Rattle.doc_api.specs.Words.{Id, Key, Tagged}
 use Rattle.op_core.specs.declared.cursor.Key.TheVariants.{Text, Element}
 use Rattle.op_core.specs.Wire.{list_data}
 use Rattle.doc_tree.specs.Nodes.{TreeValue}

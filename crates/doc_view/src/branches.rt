@@ -1,7 +1,7 @@
 //! All that is at a place and below it, as JSON branches.
 ghost use Rattle.std.specs.Prelude.{◌≡◌, ◌<◌, ◌∷◌, [], List, length, Contains, codes, Decides, Some};
 ghost use Rattle.serde_json.specs.Data.{Data, string};
-ghost use Rattle.doc_words.specs.Words.{Key, Tagged};
+ghost use Rattle.doc_api.specs.Words.{Key, Tagged};
 ghost use Rattle.op_core.specs.Wire.{list_data};
 ghost use Rattle.doc_nodes.specs.declared.node.NodeNumber.{NodeNumber};
 ghost use Rattle.doc_nodes.specs.Nodes.{child_of};
@@ -21,8 +21,8 @@ use crate::elements::present_element;
 use crate::json_parts::{begin_branch, end_branch, write_values};
 use crate::maps::present_text;
 use crate::roles::empty_put;
+use doc_api::CompactText;
 use doc_tree::{EachChild, NodeNumber, SearchHint, Tree};
-use doc_words::CompactText;
 use json_scalar::Refusal;
 use json_text::JsonText;
 use lamport_id::Id;

@@ -9,15 +9,16 @@ ghost use Rattle.doc_view.specs.Members.{Adds};
 ghost use Rattle.doc_view.specs.Readings.{GivesUnlessMemory, ReadsUnlessMemory};
 
 use crate::registers::values_below;
+use doc_api::{Items, Scalars};
 use doc_tree::{NodeNumber, SearchHint, Tree};
-use doc_words::{Items, Scalars};
 use json_scalar::Refusal;
 use lamport_id::Id;
 use op_core::{Cursor, Key};
 use std::alloc::Global;
 
 /// The present elements of the list at a cursor in list order, each with the scalars of its
-/// register in the order of their ids. `AtHead` where the cursor is at a head.
+/// register in the order of their ids. `AtHead` where the cursor is at a head. The program itself calls
+/// `items_text`.
 pub fn items(alloc: Global, tree: &Tree, cursor: &Cursor) -> Result<Items, Refusal>
     ensures { ReadsUnlessMemory (AreItems (tree_facts tree.now)) cursor.now result }
 {

@@ -6,6 +6,7 @@ mod branches;
 mod cursors;
 mod elements;
 mod json_parts;
+mod known_node;
 mod maps;
 mod registers;
 mod roles;

@@ -11,14 +11,14 @@ ghost use Rattle.doc_view.specs.Members.{Adds, is_present_text, listed, texts_at
 ghost use Rattle.doc_view.specs.Readings.{GivesUnlessMemory, ReadsUnlessMemory};
 
 use crate::elements::is_present;
+use doc_api::Texts;
 use doc_tree::{EachChild, NodeNumber, Tree};
-use doc_words::Texts;
 use json_scalar::Refusal;
 use op_core::{Cursor, Key, KeyText};
 use std::alloc::Global;
 
 /// The texts of the present members of the map at a cursor, in byte order. `AtHead` where the
-/// cursor is at a head.
+/// cursor is at a head. The program itself calls `keys_text`.
 pub fn keys(alloc: Global, tree: &Tree, cursor: &Cursor) -> Result<Texts, Refusal>
     ensures { ReadsUnlessMemory (AreKeys (tree_facts tree.now)) cursor.now result }
 {

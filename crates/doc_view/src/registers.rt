@@ -6,8 +6,8 @@ ghost use Rattle.doc_rules.specs.Views.{AreValues, IsSum, total};
 ghost use Rattle.doc_view.specs.ByNumber.{AtNode};
 ghost use Rattle.doc_view.specs.Readings.{GivesUnlessMemory, ReadsUnlessMemory};
 
+use doc_api::Scalars;
 use doc_tree::{Entries, NodeNumber, Tree};
-use doc_words::Scalars;
 use json_scalar::{Refusal, Scalar};
 use lamport_id::Id;
 use op_core::{Cursor, Key, Path};

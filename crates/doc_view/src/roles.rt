@@ -2,7 +2,7 @@
 ghost use Rattle.std.specs.Prelude.{◌≡◌, ◌↔◌, ◌++◌, ◌||◌, ◌&&◌, [], not, option_map, IsTrue};
 ghost use Rattle.json_scalar.specs.declared.scalar.Val.TheVariants.{Scalar as Plain};
 ghost use Rattle.presence_set.specs.ById.{get, rank, IsAscending};
-ghost use Rattle.sorted_lists.specs.Sorted.{IsPlace};
+ghost use Rattle.list_laws.specs.Sorted.{IsPlace};
 ghost use Rattle.lamport_id.specs.Order.{id_cmp};
 ghost use Rattle.lamport_id.specs.declared.id.Id.{Id as AnId};
 ghost use Rattle.json_scalar.specs.declared.scalar.Scalar.{Scalar as AScalar};
@@ -14,8 +14,8 @@ ghost use Rattle.doc_view.specs.Readings.{GivesUnlessMemory, ReadsUnlessMemory};
 ghost use Rattle.std.specs.List.{list_any};
 ghost use Rattle.doc_view.specs.TreeValues.{tree_values, values_of_roles, with_value};
 
+use doc_api::{Conflicts, Role};
 use doc_tree::{EmptyPut, Entries, Tree};
-use doc_words::{Conflicts, Role};
 use json_scalar::{Refusal, Scalar, Val};
 use lamport_id::Id;
 use op_core::Cursor;
@@ -30,8 +30,10 @@ pub fn conflicts(alloc: Global, tree: &Tree, cursor: &Cursor) -> Result<Conflict
     if cursor.key.is_head() {
         return Err(Refusal::AtHead);
     }
-    let roles = tree.present(&cursor.path, &cursor.key);
-    values_of_roles(alloc, roles, tree.register(&cursor.path, &cursor.key))
+    match tree.node_at(&cursor.path, &cursor.key) {
+        None => Ok(Conflicts::from(Vec::new(alloc))),
+        Some(at) => values_of_roles(alloc, tree.presence_of(at), tree.register_of(at)),
+    }
 }
 
 fn values_of_roles(

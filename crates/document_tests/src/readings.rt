@@ -1,7 +1,7 @@
 //! All readings at a place.
+use doc_api::{CompactText, Conflicts, Items, Scalars, Step, Texts};
 use doc_tree::Tree;
 use doc_view::{conflicts, items, keys, resolve, show, sum, values};
-use doc_words::{CompactText, Conflicts, Items, Scalars, Step, Texts};
 use json_scalar::{Refusal, Scalar, Val};
 use lamport_id::Id;
 use op_core::{Cursor, Key, KeyText, Path};

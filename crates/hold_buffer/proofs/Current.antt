@@ -5,7 +5,7 @@ use Rattle.list_laws.proofs.Members.{Contains-nil, Contains-here, Contains-map, 
 use Rattle.std.proofs.lemmas.List.Elements.{Contains-append_left, Contains-append_right, Contains-append_cases}
 use Rattle.std.proofs.lemmas.List.Folds.{list_any-append}
 use Rattle.slab.specs.Slab.{Slab, get}
-use Rattle.doc_words.specs.Words.{Id, Op}
+use Rattle.doc_api.specs.Words.{Id, Op}
 use Rattle.op_core.specs.Front.{id_of}
 use Rattle.crdt_rules.specs.Same.{id_eq}
 use Rattle.crdt_rules.specs.Dependencies.{is_logged, is_ready, missing}

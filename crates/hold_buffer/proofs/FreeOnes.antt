@@ -7,16 +7,16 @@ use Rattle.std.specs.Vec.{vec_capacity}
 use Rattle.std.proofs.lemmas.List.{length-map}
 use Rattle.std.proofs.lemmas.List.Edits.{length-insert}
 use Rattle.std.proofs.lemmas.List.Elements.{filter-append, Contains-append_left, Contains-append_right, Contains-append_cases}
-use Rattle.doc_words.specs.Words.{id_cmp, Id}
+use Rattle.doc_api.specs.Words.{id_cmp, Id}
 use Rattle.crdt_rules.specs.Same.{id_eq}
 use Rattle.crdt_rules.proofs.WalkLaws.{id_order}
 use Rattle.crdt_rules.proofs.SameLaws.{id_decides}
 use Rattle.doc_rules.specs.Sorted.{IsRising}
 use Rattle.list_laws.proofs.Members.{split_at, Contains-here, Contains-there, Contains-cases, Contains-map, map-from, Contains-insert_new, Contains-insert_old, Contains-insert_cases}
 use Rattle.list_laws.proofs.Filters.{filter-Contains, Contains-filter, filter-failed, length-filter}
-use Rattle.sorted_lists.specs.Sorted.{IsPlace, IsGap}
-use Rattle.sorted_lists.proofs.Keys.{less≢equal}
-use Rattle.sorted_lists.proofs.Rising.{rising-filter, rising_same, gap_none, IsRising-split}
+use Rattle.list_laws.specs.Sorted.{IsPlace, IsGap}
+use Rattle.list_laws.proofs.Keys.{less≢equal}
+use Rattle.list_laws.proofs.Rising.{rising-filter, rising_same, gap_none, IsRising-split}
 use Rattle.hold_buffer.specs.Order.{is_free, ListsFree}
 use Rattle.hold_buffer.specs.declared.entry.Entry.{Entry}
 use Rattle.hold_buffer.proofs.Waiting.{others_kept}

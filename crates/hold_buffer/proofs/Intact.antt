@@ -4,7 +4,7 @@ use Rattle.std.specs.Prelude.{insert, ◌↔◌}
 use Rattle.std.specs.Option.{option_map}
 use Rattle.std.specs.List.{cons_option}
 use Rattle.slab.specs.Slab.{Slab, get}
-use Rattle.doc_words.specs.Words.{id_cmp, name_cmp, Id, Op}
+use Rattle.doc_api.specs.Words.{id_cmp, name_cmp, Id, Op}
 use Rattle.op_core.specs.Front.{id_of, is_ascending}
 use Rattle.lamport_id.specs.Limits.{greatest_counter}
 use Rattle.lamport_id.specs.Name.{is_name}
@@ -22,8 +22,8 @@ use Rattle.doc_rules.proofs.Held.{put_among_from}
 use Rattle.doc_rules.proofs.OneAnswer.{name_order}
 use Rattle.list_laws.proofs.Members.{Contains-here, Contains-there, Contains-insert_cases, map-from}
 use Rattle.list_laws.proofs.Filters.{filter-Contains}
-use Rattle.sorted_lists.specs.Sorted.{IsGap}
-use Rattle.sorted_lists.proofs.Rising.{rising-filter, rising_same}
+use Rattle.list_laws.specs.Sorted.{IsGap}
+use Rattle.list_laws.proofs.Rising.{rising-filter, rising_same}
 use Rattle.hold_buffer.specs.Held.{Buffer, Wait, IsCurrent}
 use Rattle.hold_buffer.specs.Order.{operations_of, waits_of, waits_for, IsOrdered, AreNamed, IsIntact, without_id}
 use Rattle.hold_buffer.specs.declared.entry.Entry.{Entry}

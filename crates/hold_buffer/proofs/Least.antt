@@ -1,10 +1,10 @@
 -- Whether an id goes in front of all entries, or is that of the first.
 use Rattle.std.proofs.Common.{◌≡◌, ◌<◌, ◌≤◌, inl, inr, List, [], ◌∷◌, length, get_or, Less, Equal, sym, ap, subst, ◌∙◌, arith}
-use Rattle.doc_words.specs.Words.{id_cmp, Id}
+use Rattle.doc_api.specs.Words.{id_cmp, Id}
 use Rattle.crdt_rules.proofs.WalkLaws.{id_order}
 use Rattle.doc_rules.specs.Sorted.{IsRising}
 use Rattle.list_laws.proofs.Members.{Contains-nil, Contains-cases}
-use Rattle.sorted_lists.specs.Sorted.{IsPlace, IsGap}
+use Rattle.list_laws.specs.Sorted.{IsPlace, IsGap}
 use Rattle.hold_buffer.specs.declared.entry.Entry.{Entry}
 
 pub only_gap : (order : List Entry) (id : Id) → length order ≤ 0 → IsGap id_cmp (λ t. t.id) order id 0

@@ -5,16 +5,16 @@ use Rattle.std.proofs.lemmas.List.{set_split}
 use Rattle.std.proofs.lemmas.List.Elements.{filter-append, Contains-append_left, Contains-append_right, Contains-append_cases}
 use Rattle.list_laws.proofs.Members.{Contains-here, Contains-there, Contains-cases, map-from, split_at}
 use Rattle.list_laws.proofs.Filters.{filter-failed, filter-passed, filter-Contains}
-use Rattle.doc_words.specs.Words.{name_cmp, Id}
+use Rattle.doc_api.specs.Words.{name_cmp, Id}
 use Rattle.op_core.specs.Front.{id_of, is_ascending}
 use Rattle.crdt_rules.specs.Same.{id_eq}
 use Rattle.crdt_rules.proofs.SameLaws.{id_decides}
 use Rattle.doc_rules.specs.Sorted.{IsRising}
 use Rattle.doc_rules.proofs.OneAnswer.{name_order}
 use Rattle.doc_rules.proofs.WholeFront.{rising_from_ascending}
-use Rattle.sorted_lists.specs.Sorted.{IsGap}
-use Rattle.sorted_lists.proofs.Keys.{less≢equal}
-use Rattle.sorted_lists.proofs.Rising.{gap_none, IsRising-split, rising-filter}
+use Rattle.list_laws.specs.Sorted.{IsGap}
+use Rattle.list_laws.proofs.Keys.{less≢equal}
+use Rattle.list_laws.proofs.Rising.{gap_none, IsRising-split, rising-filter}
 use Rattle.hold_buffer.specs.Missing.{is_left, left_of, arrived}
 use Rattle.hold_buffer.proofs.Waiting.{others_kept}
 

@@ -2,7 +2,7 @@
 use Rattle.std.proofs.Common.{◌≡◌, ◌≢◌, inl, inr, ℕ, List, map, filter, not, true, Some, Contains, sym, ap, subst, ◌∙◌, true≢false}
 use Rattle.std.specs.Prelude.{insert}
 use Rattle.slab.specs.Slab.{Slab, get}
-use Rattle.doc_words.specs.Words.{Id, Op}
+use Rattle.doc_api.specs.Words.{Id, Op}
 use Rattle.crdt_rules.specs.Same.{id_eq}
 use Rattle.crdt_rules.proofs.SameLaws.{id_decides}
 use Rattle.crdt_rules.proofs.Tests.{some_same}

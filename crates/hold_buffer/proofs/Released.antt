@@ -3,15 +3,15 @@ use Rattle.std.proofs.Common.{◌≡◌, ◌≢◌, ◌++◌, ◌∷◌, ◌<◌
 use Rattle.std.proofs.lemmas.List.{set_split, map-append}
 use Rattle.std.proofs.lemmas.List.Elements.{Contains-append_left, Contains-append_right, Contains-append_cases}
 use Rattle.slab.specs.Slab.{Slab, get}
-use Rattle.doc_words.specs.Words.{id_cmp, Id, Op}
+use Rattle.doc_api.specs.Words.{id_cmp, Id, Op}
 use Rattle.crdt_rules.specs.Same.{id_eq}
 use Rattle.crdt_rules.proofs.Tests.{some_same, some≢none}
 use Rattle.crdt_rules.proofs.WalkLaws.{id_order}
 use Rattle.doc_rules.specs.Sorted.{IsRising}
 use Rattle.list_laws.proofs.Members.{Contains-here, Contains-there, Contains-cases, Contains-map, map-from, split_at}
-use Rattle.sorted_lists.specs.Sorted.{IsGap}
-use Rattle.sorted_lists.proofs.Keys.{less≢equal}
-use Rattle.sorted_lists.proofs.Rising.{gap_none, IsRising-split}
+use Rattle.list_laws.specs.Sorted.{IsGap}
+use Rattle.list_laws.proofs.Keys.{less≢equal}
+use Rattle.list_laws.proofs.Rising.{gap_none, IsRising-split}
 use Rattle.hold_buffer.specs.Order.{IsOrdered, without_id}
 use Rattle.hold_buffer.specs.declared.entry.Entry.{Entry}
 use Rattle.hold_buffer.proofs.Names.{none_forgotten}

@@ -8,21 +8,21 @@ use Rattle.std.proofs.lemmas.Bool.{false_from_ne_true}
 use Rattle.std.proofs.lemmas.List.{length-map, take-append-drop}
 use Rattle.std.proofs.lemmas.List.Elements.{filter_map-append, filter-append, Contains-get_or, Contains-append_left, Contains-append_right, Contains-append_cases}
 use Rattle.std.proofs.lemmas.Bool.Decides.{nat_tests}
-use Rattle.doc_words.specs.Words.{Refusal, NoMemory, id_cmp, Id, Op}
+use Rattle.doc_api.specs.Words.{Refusal, NoMemory, id_cmp, Id, Op}
 use Rattle.json_scalar.specs.declared.refusal.Refusal.TheVariants.{IdConflict, HeldFull}
 use Rattle.slab.specs.Slab.{Slab, get, Updates}
 use Rattle.crdt_rules.specs.Same.{id_eq}
 use Rattle.doc_rules.specs.Replica.{find_id}
 use Rattle.crdt_rules.specs.Dependencies.{is_logged}
 use Rattle.doc_rules.specs.Sorted.{IsRising}
-use Rattle.sorted_lists.specs.Sorted.{IsPlace, IsGap}
+use Rattle.list_laws.specs.Sorted.{IsPlace, IsGap}
 use Rattle.list_laws.proofs.Members.{Contains-nil, Contains-here, Contains-there, Contains-cases, Contains-take, Contains-drop, Contains-insert_cases}
 use Rattle.crdt_rules.proofs.SameLaws.{id_decides}
 use Rattle.crdt_rules.proofs.Tests.{some_same, some≢none}
 use Rattle.list_laws.proofs.Filters.{filter-failed}
 use Rattle.crdt_rules.proofs.WalkLaws.{id_order}
-use Rattle.sorted_lists.proofs.Keys.{less≢equal, not_less_back}
-use Rattle.sorted_lists.proofs.Rising.{gap_none, keys_once, IsRising-insert, IsRising-split}
+use Rattle.list_laws.proofs.Keys.{less≢equal, not_less_back}
+use Rattle.list_laws.proofs.Rising.{gap_none, keys_once, IsRising-insert, IsRising-split}
 use Rattle.op_log.proofs.Ids.{find_id-Contains, find_id-Some, find_id-none, is_logged-find_id}
 use Rattle.doc_rules.specs.Replica.{put_among}
 use Rattle.hold_buffer.specs.Held.{hold_cause}

@@ -3,13 +3,13 @@ use Rattle.std.proofs.Common.{◌≡◌, ◌≢◌, ◌++◌, ◌∷◌, ◌↔�
 use Rattle.std.specs.Prelude.{insert}
 use Rattle.std.proofs.lemmas.List.Elements.{filter-append, Contains-append_left, Contains-append_right, Contains-append_cases}
 use Rattle.list_laws.proofs.Members.{Contains-nil, Contains-here, Contains-there, Contains-cases, Contains-map, map-from, Contains-insert_new, Contains-insert_old, Contains-insert_cases}
-use Rattle.doc_words.specs.Words.{id_cmp, Id}
+use Rattle.doc_api.specs.Words.{id_cmp, Id}
 use Rattle.crdt_rules.specs.Same.{id_eq}
 use Rattle.crdt_rules.proofs.WalkLaws.{id_order}
 use Rattle.doc_rules.specs.Sorted.{IsRising}
-use Rattle.sorted_lists.specs.Sorted.{IsGap}
-use Rattle.sorted_lists.proofs.Keys.{less≢equal}
-use Rattle.sorted_lists.proofs.Rising.{gap_none}
+use Rattle.list_laws.specs.Sorted.{IsGap}
+use Rattle.list_laws.proofs.Keys.{less≢equal}
+use Rattle.list_laws.proofs.Rising.{gap_none}
 use Rattle.hold_buffer.specs.Held.{Wait}
 use Rattle.hold_buffer.specs.Order.{waits_of, waits_for, wait_of, without_id}
 use Rattle.hold_buffer.specs.declared.entry.Entry.{Entry}

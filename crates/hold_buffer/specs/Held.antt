@@ -1,6 +1,6 @@
 -- What a buffer shows of itself.
 use Rattle.std.specs.Prelude.{List, length, Bool, true, false, nat_lt, Result, Ok, Err, ⊤, Contains, ◌↔◌}
-use Rattle.doc_words.specs.Words.{Id, Refusal, Op}
+use Rattle.doc_api.specs.Words.{Id, Refusal, Op}
 use Rattle.json_scalar.specs.declared.refusal.Refusal.TheVariants.{IdConflict, HeldFull}
 use Rattle.op_core.specs.Limits.{most_held}
 use Rattle.crdt_rules.specs.Dependencies.{is_logged, missing}

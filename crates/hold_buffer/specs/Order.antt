@@ -4,7 +4,7 @@ use Rattle.std.specs.Prelude.{length, not, true}
 use Rattle.std.specs.Global.{Vec}
 use Rattle.std.specs.Vec.{vec_capacity}
 use Rattle.slab.specs.Slab.{Slab, get}
-use Rattle.doc_words.specs.Words.{id_cmp, name_cmp, Id, Op}
+use Rattle.doc_api.specs.Words.{id_cmp, name_cmp, Id, Op}
 use Rattle.op_core.specs.Front.{is_ascending}
 use Rattle.crdt_rules.specs.Same.{id_eq}
 use Rattle.doc_rules.specs.Sorted.{IsRising}

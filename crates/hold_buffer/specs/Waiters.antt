@@ -1,7 +1,7 @@
 -- The index of the missing ids, in rows by a hash.
 use Rattle.std.specs.Prelude.{ℕ, ◌+◌, ◌*◌, ◌%◌, List, [], slice_index_or}
 use Rattle.std.specs.List.{fold}
-use Rattle.doc_words.specs.Words.{Id}
+use Rattle.doc_api.specs.Words.{Id}
 use Rattle.hold_buffer.specs.declared.waiters.Waiters.{Waiters}
 
 -- the keys of a row

@@ -2,7 +2,7 @@
 ghost use Rattle.std.specs.Prelude.{◌≡◌, ◌↔◌, List, [], ◌∷◌, ◌++◌, ◌+◌, length, ◌==◌, map, filter, find, not, true};
 ghost use Rattle.std.specs.Prelude.{false, IsTrue, OnOk, OnErr, OnSome, Some, IfSome, Ok, Contains};
 ghost use Rattle.std.specs.Option.{option_map, option_copied};
-ghost use Rattle.doc_words.specs.Words.{id_cmp, UnlessMemory, Op};
+ghost use Rattle.doc_api.specs.Words.{id_cmp, UnlessMemory, Op};
 ghost use Rattle.crdt_rules.specs.Same.{id_eq};
 ghost use Rattle.doc_rules.specs.Sorted.{IsRising};
 ghost use Rattle.doc_rules.specs.Replica.{find_id};
@@ -16,7 +16,7 @@ use crate::order::{admit, forget_waits, ids_of, search, store, take_at, waiting_
 use crate::ready::{announce, drop_id, least};
 use crate::release::release;
 use crate::waiters::Waiters;
-use doc_words::{Ids, Waiting};
+use doc_api::{Ids, Waiting};
 use json_scalar::Refusal;
 use lamport_id::Id;
 use op_core::Operation;
@@ -72,14 +72,15 @@ impl HoldBuffer {
         self.order.len()
     }
 
-    /// Whether none is held.
+    /// Whether none is held. The program itself doesn't call it.
     pub fn is_empty(&self) -> bool
         ensures { result ≡ (length self.now.held == 0) }
     {
         self.len() == 0
     }
 
-    /// The ids of the held operations, in their order. The only error is out of memory.
+    /// The ids of the held operations, in their order. The only error is out of memory. The program itself
+    /// calls `waiting`.
     pub fn ids(&self) -> Result<Ids, Refusal>
         ensures { UnlessMemory result (Ok (map (λ o. o.id) self.now.held)) }
     {
@@ -107,7 +108,7 @@ impl HoldBuffer {
         }
     }
 
-    /// Whether an operation is held under this id.
+    /// Whether an operation is held under this id. The program itself doesn't call it.
     pub fn contains(&self, id: Id) -> bool
         ensures { result ≡ is_logged self.now.held id }
     {
@@ -143,7 +144,7 @@ impl HoldBuffer {
         }
     }
 
-    /// The same, of an operation that waits for these ids.
+    /// `hold`, of an operation that waits for these ids.
     pub fn hold_with_missing(&mut self, op: Operation, missing: &Ids) -> Result<(), Refusal>
         requires missed { (log : List Op) × (missing.now ≡ deps.missing op log) }
         ensures cause { UnlessMemory result (hold_cause op.id self.old.held) }
@@ -199,7 +200,7 @@ impl HoldBuffer {
     }
 
     /// The ids that a held operation waits for, in the order of its front. The only error is out of
-    /// memory.
+    /// memory. The program itself calls `waiting`.
     pub fn missing(&self, log: &OpLog, id: Id) -> Result<Ids, Refusal>
         requires held { is_logged self.now.held id ≡ true }
         requires current { IsCurrent self.now log.now.operations }

@@ -1,13 +1,13 @@
 //! What one held operation waits for.
 ghost use Rattle.std.specs.Prelude.{◌≡◌, true, ◌↔◌, ◌<◌, IsTrue, Contains, slice_index_or, slice_set, not, length};
 ghost use Rattle.std.specs.Prelude.{filter, ◌==◌, Ok, MatchResult, MatchOption, IfOk};
-ghost use Rattle.doc_words.specs.Words.{Id, UnlessMemory, name_cmp};
+ghost use Rattle.doc_api.specs.Words.{Id, UnlessMemory, name_cmp};
 ghost use Rattle.crdt_rules.specs.Same.{id_eq};
 ghost use Rattle.doc_rules.specs.Sorted.{IsRising};
-ghost use Rattle.sorted_lists.specs.Sorted.{IsPlace, IsGap};
+ghost use Rattle.list_laws.specs.Sorted.{IsPlace, IsGap};
 ghost use Rattle.hold_buffer.specs.Missing.{is_left, left_of, arrived};
 
-use doc_words::Ids;
+use doc_api::Ids;
 use json_scalar::Refusal;
 use lamport_id::{Id, ReplicaName};
 use std::alloc::{AllocError, Global};
@@ -25,7 +25,7 @@ pub struct Missing {
 
 impl Model for Missing {
     ghost use Rattle.std.specs.Prelude.{List};
-    ghost use Rattle.doc_words.specs.Words.{Id};
+    ghost use Rattle.doc_api.specs.Words.{Id};
     ghost use Rattle.hold_buffer.specs.Missing.{left_of, HasLeft};
 
     ghost Value = { List Id };
@@ -121,7 +121,7 @@ fn place_of(ids: &[Id], id: &Id) -> Option<usize>
     }
 }
 
-// The same, by a look at each.
+// The place of the id, by a look at each.
 fn first_place(ids: &[Id], id: &Id) -> Option<usize>
     ensures { MatchOption result (¬ (Contains ids.now id.now))
         (λ at. (at < length ids.now) × ((d : Id) → slice_index_or ids.now at d ≡ id.now)) }
@@ -141,7 +141,7 @@ fn is_same(id: &Id, other: &Id) -> bool
     id.counter == other.counter && id.replica == other.replica
 }
 
-// The same, by one search.
+// The place of the id, by one search.
 fn searched_place(ids: &[Id], id: &Id) -> Option<usize>
     requires { IsRising name_cmp (λ i. i.replica) ids.now }
     ensures { MatchOption result (¬ (Contains ids.now id.now))

@@ -5,12 +5,12 @@ ghost use Rattle.std.specs.Vec.{vec_capacity};
 ghost use Rattle.std.specs.VecDeque.{deque_len, deque_capacity};
 ghost use Rattle.std.specs.Option.{option_map};
 ghost use Rattle.slab.specs.Slab.{HasRoomFor, get};
-ghost use Rattle.doc_words.specs.Words.{id_cmp, UnlessMemory, Id, Op};
+ghost use Rattle.doc_api.specs.Words.{id_cmp, UnlessMemory, Id, Op};
 ghost use Rattle.crdt_rules.specs.Dependencies as deps;
 ghost use Rattle.op_core.specs.Front.{is_ascending};
 ghost use Rattle.crdt_rules.specs.Same.{id_eq};
 ghost use Rattle.doc_rules.specs.Sorted.{IsRising};
-ghost use Rattle.sorted_lists.specs.Sorted.{IsPlace, IsGap};
+ghost use Rattle.list_laws.specs.Sorted.{IsPlace, IsGap};
 ghost use Rattle.doc_rules.specs.Replica.{find_id, put_among};
 ghost use Rattle.hold_buffer.specs.Held.{hold_cause};
 ghost use Rattle.hold_buffer.specs.Order.{operations_of, IsOrdered, AreNoted};
@@ -20,7 +20,7 @@ ghost use Rattle.hold_buffer.specs.declared.entry.Entry.{Entry};
 use crate::entry::Entry;
 use crate::missing::Missing;
 use crate::waiters::Waiters;
-use doc_words::{Ids, Waiting};
+use doc_api::{Ids, Waiting};
 use json_scalar::Refusal;
 use lamport_id::Id;
 use op_core::{Operation, keeps_shape};
@@ -49,7 +49,7 @@ pub fn search(order: &VecDeque<Entry>, id: &Id) -> Result<usize, usize>
     }
 }
 
-// The same, by bisection.
+// The place of the id in the order, or where it would go, by bisection.
 fn bisect(order: &VecDeque<Entry>, id: &Id) -> Result<usize, usize>
     requires { IsRising id_cmp (λ t. t.id) order.now.items }
     ensures { MatchResult result (IsPlace id_cmp (λ t. t.id) order.now.items id.now)

@@ -3,10 +3,10 @@ ghost use Rattle.std.specs.Prelude.{true, ◌≡◌, ◌≢◌, ◌<◌, ◌≤�
 ghost use Rattle.std.specs.Prelude.{OnOk, IfOk, MatchResult, ◌↔◌, ◌⊎◌, Contains};
 ghost use Rattle.std.specs.Vec.{vec_capacity};
 ghost use Rattle.std.specs.Option.{option_map};
-ghost use Rattle.doc_words.specs.Words.{id_cmp, Id};
+ghost use Rattle.doc_api.specs.Words.{id_cmp, Id};
 ghost use Rattle.crdt_rules.specs.Same.{id_eq};
 ghost use Rattle.doc_rules.specs.Sorted.{IsRising};
-ghost use Rattle.sorted_lists.specs.Sorted.{IsPlace, IsGap};
+ghost use Rattle.list_laws.specs.Sorted.{IsPlace, IsGap};
 ghost use Rattle.hold_buffer.specs.Order.{ListsFree, without_id};
 
 use crate::entry::Entry;

@@ -1,6 +1,6 @@
 //! What a logged id releases.
 ghost use Rattle.std.specs.Prelude.{◌≡◌, ◌≢◌, ◌<◌, ◌==◌, true, length, map, Contains, slice_index_or, slice_set};
-ghost use Rattle.doc_words.specs.Words.{id_cmp};
+ghost use Rattle.doc_api.specs.Words.{id_cmp};
 ghost use Rattle.doc_rules.specs.Sorted.{IsRising};
 ghost use Rattle.hold_buffer.specs.declared.entry.Entry.{Entry};
 ghost use Rattle.hold_buffer.specs.Order.{IsOrdered, ListsFree, is_free, without_id};
@@ -33,7 +33,7 @@ pub fn release(
     }
 }
 
-// The same with one operation, if it is still there.
+// Notes the logged id at the operation of this key, if it is still there.
 fn release_one(
     slots: &Slab<Operation>,
     order: &mut VecDeque<Entry>,
@@ -55,7 +55,7 @@ fn release_one(
     }
 }
 
-// The same with the operation at a place.
+// Notes the logged id at the operation at a place, which is ready if it then waits for nothing.
 fn release_at(order: &mut VecDeque<Entry>, ready: &mut Vec<Id>, at: usize, id: &Id)
     requires within { at < length order.old.items }
     requires rising { IsRising id_cmp (λ t. t.id) order.old.items }

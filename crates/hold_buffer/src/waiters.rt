@@ -1,7 +1,7 @@
 //! Who may wait for which id.
 ghost use Rattle.std.specs.Prelude.{IsTrue, ◌∷◌, ◌≡◌, ◌≢◌, ◌<◌, ◌≤◌, ◌==◌, [], ℕ, Contains, OnOk, length, not, filter};
 ghost use Rattle.std.specs.Prelude.{slice_index_or, slice_set};
-ghost use Rattle.doc_words.specs.Words.{Id};
+ghost use Rattle.doc_api.specs.Words.{Id};
 ghost use Rattle.std.specs.List.{fold};
 ghost use Rattle.hold_buffer.specs.Waiters.{waiters_of, row_at, row_of, hash_step};
 

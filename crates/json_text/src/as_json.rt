@@ -7,7 +7,7 @@ ghost use Rattle.op_core.specs.Wire.{id_data, list_data};
 ghost use Rattle.json_text.specs.Tokens.{data_tokens, Puts};
 
 use crate::text::JsonText;
-use doc_words::Listed;
+use doc_api::Listed;
 use itoa::Buffer;
 use json_scalar::{Refusal, Scalar, Val};
 use lamport_id::Id;

@@ -11,7 +11,7 @@ use Rattle.line_feed.specs.Cut.{AppendsCut}
 use Rattle.json.specs.Print.{escape_byte}
 use Rattle.lamport_id.specs.declared.id.Id.{Id}
 use Rattle.op_core.specs.Wire.{id_data}
-use Rattle.doc_words.specs.declared.reply.Reply.TheVariants.{Held, Waiting}
+use Rattle.doc_api.specs.declared.reply.Reply.TheVariants.{Held, Waiting}
 use Rattle.line_proto.specs.Replies.{line_text, reply_data, waiting_data}
 use Rattle.line_proto.specs.Writing.{WritesText}
 

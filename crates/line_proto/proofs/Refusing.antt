@@ -3,7 +3,7 @@ use Rattle.std.proofs.Common.{◌≡◌, ◌≢◌, inl, inr, ℕ, Bool, true, f
 use Rattle.std.specs.Prelude.{⊤}
 use Rattle.serde_json.specs.Data.{Data, string, array, Items, no_items, item}
 use Rattle.serde_json.specs.Find.{as_str, as_array}
-use Rattle.doc_words.specs.Words.{UnlessMemory, Refusal, NoMemory, Mutation, Assign, Insert, Delete, Add}
+use Rattle.doc_api.specs.Words.{UnlessMemory, Refusal, NoMemory, Mutation, Assign, Insert, Delete, Add}
 use Rattle.json_scalar.specs.Refusal.{and_then}
 use Rattle.json_scalar.specs.Scalar.{val_of}
 use Rattle.json_scalar.specs.declared.refusal.Refusal.TheVariants.{NotJson, BadRequest, BadValue, BadOperation, BadFront, TooDeep}

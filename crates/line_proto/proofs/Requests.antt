@@ -3,7 +3,7 @@ use Rattle.std.proofs.Common.{◌≡◌, ℕ, ◌&&◌, ℤ, pos, negsuc, nat_le
 use Rattle.serde_json.specs.Find.{of_integer}
 use Rattle.serde_json.specs.View.{items_of}
 use Rattle.json_scalar.specs.Scalar.{val_data, val_of, int_of}
-use Rattle.doc_words.specs.Words.{Val, Mutation, Assign, Insert, Delete, Add}
+use Rattle.doc_api.specs.Words.{Val, Mutation, Assign, Insert, Delete, Add}
 use Rattle.json_scalar.specs.declared.scalar.Val.TheVariants.{Scalar, EmptyMap, EmptyList}
 use Rattle.json_scalar.specs.declared.scalar.Scalar.TheVariants.{Int, Text, Bool as Truth, Null}
 use Rattle.json_scalar.proofs.Readings.{val_of-val_data}
@@ -15,10 +15,10 @@ use Rattle.std.specs.List.{list_all}
 use Rattle.std.proofs.lemmas.Bool.{and_parts}
 use Rattle.line_proto.specs.Reading.{steps_from, expr_from, request_from}
 use Rattle.line_proto.specs.Written.{step_data, expr_data, is_start, is_variable, is_put, is_amount, is_change, is_doc_request, is_request, request_data}
-use Rattle.doc_words.specs.declared.place.Step.{Step}
-use Rattle.doc_words.specs.declared.place.Step.TheVariants.{Get, Index}
-use Rattle.doc_words.specs.declared.ask.Look.{Look}
-use Rattle.doc_words.specs.declared.ask.Look.TheVariants.{Keys, Values, Items, Conflicts, Show, Sum}
+use Rattle.doc_api.specs.declared.place.Step.{Step}
+use Rattle.doc_api.specs.declared.place.Step.TheVariants.{Get, Index}
+use Rattle.doc_api.specs.declared.ask.Look.{Look}
+use Rattle.doc_api.specs.declared.ask.Look.TheVariants.{Keys, Values, Items, Conflicts, Show, Sum}
 use Rattle.line_proto.specs.declared.request.Start.{Start}
 use Rattle.line_proto.specs.declared.request.Start.TheVariants.{Document, Variable}
 use Rattle.line_proto.specs.declared.request.CursorExpr.{CursorExpr}

@@ -7,14 +7,14 @@ use Rattle.serde_json.specs.Find.{as_u64, as_number, as_str, as_array}
 use Rattle.serde_json.specs.Read.{read}
 use Rattle.json_scalar.specs.Refusal.{and_then}
 use Rattle.json_scalar.specs.Scalar.{val_of, int_of}
-use Rattle.doc_words.specs.Words.{Refusal, Mutation, Assign, Insert, Delete, Add}
+use Rattle.doc_api.specs.Words.{Refusal, Mutation, Assign, Insert, Delete, Add}
 use Rattle.json_scalar.specs.declared.refusal.Refusal.TheVariants.{NotJson, BadRequest, BadValue, BadFront}
 use Rattle.op_core.specs.Front.{is_ascending}
 use Rattle.op_core.specs.Reading.{◌>>=◌, some_if, u64_of, id_from, front_of_json, op_from}
-use Rattle.doc_words.specs.declared.place.Step.{Step}
-use Rattle.doc_words.specs.declared.place.Step.TheVariants.{Get, Index}
-use Rattle.doc_words.specs.declared.ask.Look.{Look}
-use Rattle.doc_words.specs.declared.ask.Look.TheVariants.{Keys, Values, Items as Elements, Conflicts, Show, Sum}
+use Rattle.doc_api.specs.declared.place.Step.{Step}
+use Rattle.doc_api.specs.declared.place.Step.TheVariants.{Get, Index}
+use Rattle.doc_api.specs.declared.ask.Look.{Look}
+use Rattle.doc_api.specs.declared.ask.Look.TheVariants.{Keys, Values, Items as Elements, Conflicts, Show, Sum}
 use Rattle.line_proto.specs.declared.request.Start.{Start}
 use Rattle.line_proto.specs.declared.request.Start.TheVariants.{Document, Variable}
 use Rattle.line_proto.specs.declared.request.CursorExpr.{CursorExpr}

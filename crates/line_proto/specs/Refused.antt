@@ -2,7 +2,7 @@
 use Rattle.std.specs.Prelude.{◌≡◌, ◌≢◌, ◌⊎◌, ℕ, false, List, [], ◌∷◌, codes, Option, Some, None, Err, IsTrue, ⊤}
 use Rattle.std.specs.List.{list_all}
 use Rattle.serde_json.specs.Data.{Data, number, unsigned}
-use Rattle.doc_words.specs.Words.{Refusal, NoMemory}
+use Rattle.doc_api.specs.Words.{Refusal, NoMemory}
 use Rattle.json_scalar.specs.declared.refusal.Refusal.TheVariants.{NotJson, BadRequest, BadValue, BadOperation}
 use Rattle.json_scalar.specs.declared.refusal.Refusal.TheVariants.{BadFront, TooDeep}
 use Rattle.op_core.specs.Front.{is_ascending}

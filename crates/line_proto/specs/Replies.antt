@@ -3,15 +3,15 @@ use Rattle.std.specs.Prelude.{ℕ, List, [], ◌∷◌, ◌++◌, map, codes}
 use Rattle.std.specs.Fmt.{signed_decimal}
 use Rattle.serde_json.specs.Data.{Data, null, number, unsigned, string}
 use Rattle.serde_json.specs.Written.{compact_text}
-use Rattle.doc_words.specs.Words.{Id, Scalar, Val, Refusal}
+use Rattle.doc_api.specs.Words.{Id, Scalar, Val, Refusal}
 use Rattle.json_scalar.specs.Refusal.{number_of, name_of}
 use Rattle.json_scalar.specs.Scalar.{scalar_data, val_data}
 use Rattle.json_scalar.specs.declared.refusal.Refusal.TheVariants as refusal
 use Rattle.op_core.specs.Wire.{list_data, id_data, front_data, cursor_data}
-use Rattle.doc_words.specs.declared.reply.Reply.{Reply}
-use Rattle.doc_words.specs.declared.reply.Reply.TheVariants.{Applied, Known, Held, Forgotten, Resolved, Keys, Values}
-use Rattle.doc_words.specs.declared.reply.Reply.TheVariants.{Items, Conflicts, Show, Sum, Operations, Front, Waiting}
-use Rattle.doc_words.specs.declared.reply.Reply.TheVariants.{Account, Refused}
+use Rattle.doc_api.specs.declared.reply.Reply.{Reply}
+use Rattle.doc_api.specs.declared.reply.Reply.TheVariants.{Applied, Known, Held, Forgotten, Resolved, Keys, Values}
+use Rattle.doc_api.specs.declared.reply.Reply.TheVariants.{Items, Conflicts, Show, Sum, Operations, Front, Waiting}
+use Rattle.doc_api.specs.declared.reply.Reply.TheVariants.{Account, Refused}
 use Rattle.line_feed.specs.Cut.{line_of}
 use Rattle.line_proto.specs.declared.line_reply.LineReply.{LineReply}
 use Rattle.line_proto.specs.declared.line_reply.LineReply.TheVariants.{Opened, Bound, Version, Bye, Answered}

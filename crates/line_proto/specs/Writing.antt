@@ -1,8 +1,8 @@
 -- How replies are written, and what writing returns.
 use Rattle.std.specs.Prelude.{◌≡◌, ℕ, List, ◌++◌, Option, Bool, true, false, Result, Ok, Err, ⊤}
 use Rattle.std.specs.Io.KnownBytes.{Appends}
-use Rattle.doc_words.specs.declared.reply.Reply.{Reply}
-use Rattle.doc_words.specs.declared.reply.Reply.TheVariants.{Applied, Known, Held, Waiting, Forgotten, Account, Refused, Keys, Items, Show, Operations}
+use Rattle.doc_api.specs.declared.reply.Reply.{Reply}
+use Rattle.doc_api.specs.declared.reply.Reply.TheVariants.{Applied, Known, Held, Waiting, Forgotten, Account, Refused, Keys, Items, Show, Operations}
 use Rattle.line_proto.specs.declared.line_reply.LineReply.{LineReply}
 use Rattle.line_proto.specs.declared.line_reply.LineReply.TheVariants.{Answered}
 use Rattle.line_proto.specs.declared.write.WriteFault.{WriteFault}

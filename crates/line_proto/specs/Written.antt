@@ -4,17 +4,17 @@ use Rattle.std.specs.Prelude.{length}
 use Rattle.serde_json.specs.Data.{Data, number, unsigned, string}
 use Rattle.serde_json.specs.Find.{of_integer}
 use Rattle.json_scalar.specs.Scalar.{is_val, val_data}
-use Rattle.doc_words.specs.Words.{Val, Mutation, Assign, Insert, Delete, Add}
+use Rattle.doc_api.specs.Words.{Val, Mutation, Assign, Insert, Delete, Add}
 use Rattle.json_scalar.specs.declared.scalar.Val.TheVariants.{Scalar}
 use Rattle.json_scalar.specs.declared.scalar.Scalar.TheVariants.{Int}
 use Rattle.op_core.specs.Front.{is_ascending}
 use Rattle.op_core.specs.Shape.{is_id, is_entry, is_shaped}
 use Rattle.op_core.specs.Wire.{list_data, id_data, front_data, wire}
 use Rattle.std.specs.List.{list_all}
-use Rattle.doc_words.specs.declared.place.Step.{Step}
-use Rattle.doc_words.specs.declared.place.Step.TheVariants.{Get, Index}
-use Rattle.doc_words.specs.declared.ask.Look.{Look}
-use Rattle.doc_words.specs.declared.ask.Look.TheVariants.{Keys, Values, Items, Conflicts, Show, Sum}
+use Rattle.doc_api.specs.declared.place.Step.{Step}
+use Rattle.doc_api.specs.declared.place.Step.TheVariants.{Get, Index}
+use Rattle.doc_api.specs.declared.ask.Look.{Look}
+use Rattle.doc_api.specs.declared.ask.Look.TheVariants.{Keys, Values, Items, Conflicts, Show, Sum}
 use Rattle.line_proto.specs.declared.request.Start.{Start}
 use Rattle.line_proto.specs.declared.request.Start.TheVariants.{Document, Variable}
 use Rattle.line_proto.specs.declared.request.CursorExpr.{CursorExpr}

@@ -8,7 +8,7 @@ ghost use Rattle.line_proto.specs.Reading.{start_from, expr_items, expr_from};
 
 use crate::name::Name;
 use crate::request::{CursorExpr, Start};
-use doc_words::{Step, Steps};
+use doc_api::{Step, Steps};
 use json_scalar::Refusal;
 use op_core::KeyText;
 use serde_json::Value;

@@ -4,7 +4,7 @@ ghost use Rattle.line_feed.specs.Cut.{line_of};
 ghost use Rattle.line_proto.specs.Replies.{line_text, worded, reply_text};
 ghost use Rattle.line_proto.specs.Writing.{needs_heap};
 
-use doc_words::Reply;
+use doc_api::Reply;
 use json_scalar::Refusal;
 use json_text::{AsJson, JsonText};
 use std::alloc::Global;

@@ -1,5 +1,5 @@
 //! The replies of a session.
-use doc_words::Reply;
+use doc_api::Reply;
 
 /// The number of the forms of requests and replies.
 pub const VERSION: u64 = 2;

@@ -15,7 +15,7 @@ ghost use Rattle.line_proto.specs.Loading.{Loads};
 use crate::cursor::{read_expr, read_variable};
 use crate::name::Name;
 use crate::request::{DocRequest, Request};
-use doc_words::Look;
+use doc_api::Look;
 use json_scalar::{Refusal, Val, val_from_json};
 use op_core::{Front, Mutation, read_front, read_id, read_wire};
 use serde_json::Value;

@@ -4,14 +4,14 @@ ghost use Rattle.std.specs.Io.KnownBytes.{Appends};
 ghost use Rattle.serde_json.specs.View.{items_of};
 ghost use Rattle.serde_json.specs.Written.{comma_if, compact_text, items_text};
 ghost use Rattle.op_core.specs.Wire.{id_data};
-ghost use Rattle.doc_words.specs.declared.reply.Reply.TheVariants.{Held, Waiting};
+ghost use Rattle.doc_api.specs.declared.reply.Reply.TheVariants.{Held, Waiting};
 ghost use Rattle.line_feed.specs.Cut.{AppendsCut};
 ghost use Rattle.line_proto.specs.declared.stack_line.TheConstants.{SHORT_LINE};
 ghost use Rattle.line_proto.specs.Replies.{line_text, reply_data, waiting_data};
 ghost use Rattle.line_proto.specs.Writing.{WritesText};
 
 use crate::stack_line::{Line, Piece, put_id};
-use doc_words::Ids;
+use doc_api::Ids;
 use lamport_id::Id;
 use line_feed::{DeviceFault, Sink, write_all};
 

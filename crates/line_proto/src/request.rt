@@ -1,6 +1,6 @@
 //! The requests of a client.
 use crate::name::Name;
-use doc_words::{Look, Steps};
+use doc_api::{Look, Steps};
 use lamport_id::Id;
 use op_core::{Front, Mutation, Operation};
 

@@ -5,7 +5,7 @@ ghost use Rattle.lamport_id.specs.Name.{is_name};
 ghost use Rattle.serde_json.specs.Written.{compact_text};
 ghost use Rattle.serde_json.specs.Data.{string};
 ghost use Rattle.op_core.specs.Wire.{id_data};
-ghost use Rattle.doc_words.specs.declared.reply.Reply.TheVariants.{Applied, Refused};
+ghost use Rattle.doc_api.specs.declared.reply.Reply.TheVariants.{Applied, Refused};
 ghost use Rattle.line_proto.specs.Replies.{line_text, around, reply_data, worded, count_data};
 ghost use Rattle.line_feed.specs.Cut.{line_of};
 ghost use Rattle.line_proto.specs.declared.stack_line.TheConstants.{SHORT_LINE};

@@ -4,7 +4,7 @@ ghost use Rattle.std.specs.Io.KnownBytes.{Appends};
 ghost use Rattle.line_feed.specs.Cut.{AppendsCut, line_of};
 ghost use Rattle.line_proto.specs.Replies.{around};
 
-use doc_words::CompactText;
+use doc_api::CompactText;
 use line_feed::{DeviceFault, Sink, write_all};
 
 /// Writes the line of a text, which may be long: it is not copied. `prefix` comes before it.

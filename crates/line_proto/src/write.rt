@@ -3,7 +3,7 @@ ghost use Rattle.std.specs.Prelude.{◌≡◌, ◌≢◌, [], ◌∷◌, true, f
 ghost use Rattle.std.specs.Io.KnownBytes.{Appends};
 ghost use Rattle.serde_json.specs.Data.{Data};
 ghost use Rattle.serde_json.specs.Written.{compact_text};
-ghost use Rattle.doc_words.specs.declared.reply.Reply.TheVariants.{Items, Keys, Operations, Show};
+ghost use Rattle.doc_api.specs.declared.reply.Reply.TheVariants.{Items, Keys, Operations, Show};
 ghost use Rattle.line_feed.specs.Cut.{AppendsCut, line_of};
 ghost use Rattle.line_proto.specs.Replies.{reply_text, line_reply_text, reply_line, worded};
 ghost use Rattle.line_proto.specs.Writing.{needs_heap, is_in_pieces, line_needs_heap, is_device};
@@ -14,7 +14,7 @@ use crate::line_reply::{LineReply, VERSION};
 use crate::pending::{write_held, write_waiting};
 use crate::stack_line::{Line, applied, fixed, no, numbered};
 use crate::text_line::write_text_line;
-use doc_words::Reply;
+use doc_api::Reply;
 use line_feed::{DeviceFault, Sink, write_all};
 use std::alloc::Global;
 

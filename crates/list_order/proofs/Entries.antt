@@ -1,7 +1,7 @@
 -- Laws of entries, for those who keep a list by its contracts.
 use Rattle.std.proofs.Common.{◌≡◌, ◌⊎◌, inl, inr, List, [], ◌∷◌, filter, Bool, true, false, if◌then◌else◌, Option, Some, None, Contains, refl, sym, ap, ◌∙◌}
 use Rattle.std.specs.Ordering.{is_lt, is_eq}
-use Rattle.doc_words.specs.Words.{Id, id_cmp}
+use Rattle.doc_api.specs.Words.{Id, id_cmp}
 use Rattle.crdt_rules.specs.Same.{id_eq}
 use Rattle.list_laws.specs.Order.{place, place_behind, insert_after}
 use Rattle.list_laws.proofs.Members.{Contains-nil, Contains-here, Contains-there, Contains-cases}

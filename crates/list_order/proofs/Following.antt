@@ -1,13 +1,13 @@
 -- The id after another.
-use Rattle.std.proofs.Common.{◌≡◌, ◌+◌, suc, List, [], ◌∷◌, Bool, true, false, not, if◌then◌else◌, Option, Some, None, slice_get, sym, ap, ◌∙◌, arith}
+use Rattle.std.proofs.Common.{◌≡◌, ◌+◌, suc, List, [], ◌∷◌, Bool, true, false, not, if◌then◌else◌, Option, Some, None, option_and_then, slice_get, refl, sym, ap, ◌∙◌, arith}
+use Rattle.presence_set.specs.ById.{get}
 use Rattle.lamport_id.specs.declared.id.Id.{Id}
 use Rattle.crdt_rules.specs.Same.{id_eq}
 use Rattle.crdt_rules.specs.Places.{place_of}
 use Rattle.list_order.specs.declared.slots.Slot.{Slot}
 use Rattle.list_order.specs.declared.slots.SlotNumber.{SlotNumber}
 use Rattle.list_order.specs.Following.{following}
-use Rattle.list_order.specs.Slots.{slot_at, behind, IsPath, ids_along, number_along}
-use Rattle.list_order.proofs.Placing.{IsReference}
+use Rattle.list_order.specs.Slots.{slot_at, slot_after, IsPath, ids_along, number_along}
 
 -- the id in a slot
 abbrev pub id_in : List Slot → Option SlotNumber → Option Id
@@ -32,9 +32,26 @@ module _ (slots : List Slot) where
           let one : 1 + place_of (ids_along slots path) id + 1 ≡ suc (place_of (ids_along slots path) id + 1) = omega arith in
           rw one (ih h)
 
-  pub following-behind : (first : Option SlotNumber) (path : List SlotNumber) → IsPath slots first path
-      → (after : Option Id) (reference : Option SlotNumber) → IsReference slots path after reference
-      → id_in slots (behind slots first reference) ≡ following (ids_along slots path) after
-  following-behind first path p None reference h = ap (λ r. id_in slots (behind slots first r)) h ∙ sym (head_id first path p)
-  following-behind first path p (Some id) reference h =
-      ap (λ r. id_in slots (behind slots first r)) h.1 ∙ sym (next_id first path p id h.0 h.2)
+  none_next : (path : List SlotNumber) (id : Id) → number_along slots path id ≡ None
+      → slice_get (ids_along slots path) (place_of (ids_along slots path) id + 1) ≡ None
+  none_next [] id e = refl
+  none_next (n ∷ path) id e = by (id_eq (slot_at slots n).id id) e (none_next path id)
+    where
+      by : (here : Bool) → ◌≡◌ {A = Option SlotNumber} (if here then Some n else number_along slots path id) None
+          → (number_along slots path id ≡ None → slice_get (ids_along slots path) (place_of (ids_along slots path) id + 1) ≡ None)
+          → slice_get (ids_along slots (n ∷ path)) ((if not here then 1 + place_of (ids_along slots path) id else 0) + 1) ≡ None
+      by true h ih = absurd (cc)
+      by false h ih =
+          let one : 1 + place_of (ids_along slots path) id + 1 ≡ suc (place_of (ids_along slots path) id + 1) = omega arith in
+          rw one (ih h)
+
+  pub following-slot : (first : Option SlotNumber) (index : List (Id × SlotNumber)) (path : List SlotNumber) → IsPath slots first path
+      → ((id : Id) → get index id ≡ number_along slots path id)
+      → (after : Option Id) → id_in slots (slot_after slots first index after) ≡ following (ids_along slots path) after
+  following-slot first index path p exact None = sym (head_id first path p)
+  following-slot first index path p exact (Some id) = by (get index id) (sym (exact id))
+    where
+      by : (there : Option SlotNumber) → number_along slots path id ≡ there
+          → id_in slots (option_and_then (λ q. (slot_at slots q).next) there) ≡ slice_get (ids_along slots path) (place_of (ids_along slots path) id + 1)
+      by None e = sym (none_next path id e)
+      by (Some q) e = sym (next_id first path p id q e)

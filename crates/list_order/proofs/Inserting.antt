@@ -1,5 +1,5 @@
 -- What an insertion makes of linked slots and their index.
-use Rattle.std.proofs.Common.{◌≡◌, ◌<◌, ◌≤◌, ◌+◌, ℕ, zero, suc, List, [], ◌∷◌, ◌++◌, append_assoc, length, length-append, get_or, Bool, true, false, if◌then◌else◌, Option, Some, None, Contains, refl, sym, ap, ◌∙◌, subst, arith}
+use Rattle.std.proofs.Common.{◌≡◌, ◌<◌, ◌≤◌, ◌+◌, ℕ, zero, suc, List, [], ◌∷◌, ◌++◌, append_assoc, length, length-append, get_or, Bool, true, false, if◌then◌else◌, Option, Some, None, option_and_then, Contains, refl, sym, ap, ◌∙◌, subst, arith}
 use Rattle.std.specs.Option.{ForSome}
 use Rattle.lamport_id.specs.declared.id.Id.{Id}
 use Rattle.crdt_rules.specs.Same.{id_eq}
@@ -10,7 +10,7 @@ use Rattle.presence_set.proofs.ByIdLaws.{get-put}
 use Rattle.presence_set.proofs.Ascending.{put_ascending}
 use Rattle.list_order.specs.declared.slots.Slot.{Slot}
 use Rattle.list_order.specs.declared.slots.SlotNumber.{SlotNumber}
-use Rattle.list_order.specs.Slots.{slot_at, behind, IsPath, slots_from, ids_along, number_along, number_for, passed, linked, linked_first, IsOrder, LinksEnd}
+use Rattle.list_order.specs.Slots.{slot_at, behind, IsPath, slots_from, ids_along, number_along, number_for, slot_after, passed, linked, linked_first, IsOrder, LinksEnd}
 use Rattle.std.proofs.Math.ListN.{get_or-append}
 use Rattle.std.proofs.Math.Seq.{get_or-append_seam}
 use Rattle.list_order.specs.declared.marks.Mark.{Mark}
@@ -89,6 +89,15 @@ module _ {slots : List Slot} {first : Option SlotNumber} {index : List (Id × Sl
   reference_walk None reference e = subst (λ r. LinksEnd slots (behind slots first r)) e first_walk
   reference_walk (Some id) None e = first_walk
   reference_walk (Some id) (Some p) e = (number_within id p e).1
+
+  -- from the slot after an id the links end
+  pub after_walk : (after : Option Id) → LinksEnd slots (slot_after slots first index after)
+  after_walk None = first_walk
+  after_walk (Some id) = by (get index id) refl
+    where
+      by : (there : Option SlotNumber) → get index id ≡ there → LinksEnd slots (option_and_then (λ p. (slot_at slots p).next) there)
+      by None e = walk_from_path slots None [] refl (omega arith)
+      by (Some p) e = (number_within id p e).1
 
   -- the links lead to what is behind it
   pub reference_leads : (after : Option Id) (reference : Option SlotNumber) → number_for index after ≡ reference → LeadsTo slots first (behind slots first reference)

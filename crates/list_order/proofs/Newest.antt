@@ -1,6 +1,6 @@
 -- The last slot of a path, if its id is present, has the last of the present ids.
 use Rattle.std.proofs.Common.{◌≡◌, ℕ, suc, inl, inr, List, [], ◌∷◌, Bool, true, false, Option, Some, None, slice_get, Contains, refl, sym, ap, subst, ◌∙◌, if◌then◌else◌}
-use Rattle.doc_words.specs.Words.{Id}
+use Rattle.doc_api.specs.Words.{Id}
 use Rattle.list_laws.proofs.Members.{Contains-nil, Contains-here, Contains-there, Contains-cases}
 use Rattle.crdt_rules.proofs.Tests.{some_same, some≢none}
 use Rattle.crdt_rules.specs.Same.{id_eq}

@@ -1,7 +1,7 @@
 -- The ids of a list in its order, each with whether it is present.
 use Rattle.std.specs.Prelude.{List, map, filter, Bool, false, Option, Some, None, if◌then◌else◌}
 use Rattle.std.specs.declared.cmp.Ordering.{Ordering}
-use Rattle.doc_words.specs.Words.{Id, id_cmp}
+use Rattle.doc_api.specs.Words.{Id, id_cmp}
 use Rattle.crdt_rules.specs.Same.{id_eq}
 
 abbrev pub ids_of : List (Id × Bool) → List Id

@@ -1,8 +1,8 @@
 -- Linked slots: what the links lead through, and what an insertion makes of them.
 use Rattle.std.specs.Prelude.{◌≡◌, ◌<◌, ◌+◌, ℕ, Bool, zero, suc, List, [], ◌∷◌, ◌++◌, map, length, Option, Some, None}
-use Rattle.std.specs.Prelude.{slice_index_or, slice_set, if◌then◌else◌}
+use Rattle.std.specs.Prelude.{option_and_then, slice_index_or, slice_set, if◌then◌else◌}
 use Rattle.std.specs.Ordering.{is_lt}
-use Rattle.doc_words.specs.Words.{Id, id_cmp}
+use Rattle.doc_api.specs.Words.{Id, id_cmp}
 use Rattle.crdt_rules.specs.Same.{id_eq}
 use Rattle.presence_set.specs.ById.{get, IsAscending}
 use Rattle.list_order.specs.declared.slots.Slot.{Slot}
@@ -19,6 +19,11 @@ slot_at slots n = slice_index_or slots n.0 blank_slot
 abbrev pub behind : List Slot → Option SlotNumber → Option SlotNumber → Option SlotNumber
 behind slots first None = first
 behind slots first (Some n) = (slot_at slots n).next
+
+-- the slot behind that of an id, or the first. There is none behind an id without a slot
+abbrev pub slot_after : List Slot → Option SlotNumber → List (Id × SlotNumber) → Option Id → Option SlotNumber
+slot_after slots first index None = first
+slot_after slots first index (Some id) = option_and_then (λ p. (slot_at slots p).next) (get index id)
 
 -- from a slot on, the links lead through these slots and end
 abbrev pub IsPath : List Slot → Option SlotNumber → List SlotNumber → Type 0

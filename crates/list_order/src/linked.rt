@@ -1,6 +1,6 @@
 //! The ids of a list as linked slots.
 
-ghost use Rattle.std.specs.Prelude.{◌≡◌, ◌+◌, ◌<◌, ◌≤◌, [], length, min, Contains, IfOk, IfSome, OnOk, Some, None};
+ghost use Rattle.std.specs.Prelude.{◌≡◌, ◌+◌, ◌<◌, ◌≤◌, [], length, min, Contains, IfOk, IfSome, IsOk, OnOk, Some, None};
 ghost use Rattle.std.specs.Prelude.{IsSome, slice_get, vec_capacity, option_to_list, ◌++◌};
 ghost use Rattle.std.specs.Option.{ForSome};
 ghost use Rattle.std.specs.List.{list_any};
@@ -11,13 +11,13 @@ ghost use Rattle.list_order.specs.Entries.{ids_of, present_of, entry_cmp, absent
 ghost use Rattle.list_order.specs.Following.{following};
 
 use crate::marks::{
-    Mark, MarkBlock, NextCuts, add_mark, blocks_wanted, first_cuts, lower_least, mark_at,
-    nth_along, recut_if_due, recut_if_stale, set_presence,
+    Mark, MarkBlock, NextCuts, add_mark, first_cuts, lower_least, mark_at, nth_along, recut_if_due,
+    recut_if_stale, reserve_blocks, set_presence,
 };
 use crate::passing::last_passed;
 use crate::present::present_ids;
 use crate::slots::{
-    Slot, SlotNumber, add_entry, behind, ids_from, link, number_for, number_of, reserve_entry,
+    Slot, SlotNumber, add_entry, ids_from, link, number_for, number_of, reserve_entry, slot_after,
     slot_at,
 };
 use lamport_id::Id;
@@ -84,16 +84,17 @@ impl LinkedOrder {
         }
     }
 
-    /// Makes room for one more id. Out of memory, the list stays as it is.
+    /// Makes room for one more id. It never fails where there is room. Out of memory, the list stays as
+    /// it is.
     pub fn reserve_one(&mut self) -> Result<(), AllocError>
         ensures same { self.new.0 ≡ self.old.0 }
         ensures grows { self.old.1 ≤ self.new.1 }
         ensures room { OnOk result (length self.new.0 < self.new.1) }
+        ensures succeeds { length self.old.0 < self.old.1 → IsOk result }
     {
         self.slots.reserve(1)?;
         reserve_entry(&mut self.index)?;
-        self.blocks
-            .reserve(blocks_wanted(self.slots.len(), self.blocks.len()))?;
+        reserve_blocks(&mut self.blocks, self.slots.len());
         self.marks.reserve(1)
     }
 
@@ -193,13 +194,11 @@ impl LinkedOrder {
         }
     }
 
-    /// The id after another, or the first of the list.
+    /// The id after another, or the first of the list. There is none after an id that isn't in the list.
     pub fn next(&self, after: Option<Id>) -> Option<Id>
-        requires { ForSome after (Contains (ids_of self.now.0)) }
         ensures { result ≡ following (ids_of self.now.0) after }
     {
-        let reference = number_for(&self.index, after);
-        match behind(self.slots.as_slice(), self.first, reference) {
+        match slot_after(self.slots.as_slice(), self.first, &self.index, after) {
             None => None,
             Some(n) => Some(slot_at(self.slots.as_slice(), n).id),
         }

@@ -10,8 +10,8 @@ ghost use Rattle.list_order.specs.Marks as Spec;
 use crate::slots::{Slot, SlotNumber, slot_at};
 use lamport_id::Id;
 
-// How many slots a block has at least when it is closed, unless it ends in a run of absent ids.
-const LEAST_BLOCK: usize = 64;
+// How many slots a block has at most when it is cut: each may be a miss of the cache, and the blocks are in a row.
+const BLOCK_LEN: usize = 48;
 
 // How many absent ids in a row end a block, so that a reading goes from the last present id before them to the next one.
 const LEAST_RUN: usize = 32;
@@ -320,17 +320,11 @@ pub fn first_cuts() -> NextCuts {
     }
 }
 
-// How many slots a block has at most when a list of this length is cut. A longer list has longer blocks, so that there
-// are fewer to go through.
-fn block_len(len: usize) -> usize {
-    LEAST_BLOCK.saturating_add(len / 256)
-}
-
 // When a list of this length that was just cut is cut again.
 fn cuts_behind(len: usize) -> NextCuts {
     NextCuts {
-        whole: len.saturating_add(64 + len / 64),
-        tail: len.saturating_add(LEAST_BLOCK),
+        whole: len.saturating_add(64 + len / 8),
+        tail: len.saturating_add(BLOCK_LEN),
         deletions: 64 + len / 8,
     }
 }
@@ -340,7 +334,7 @@ fn cuts_behind(len: usize) -> NextCuts {
 fn cuts_behind_tail(next: NextCuts, len: usize, cut: usize) -> NextCuts {
     NextCuts {
         whole: next.whole.saturating_add(cut),
-        tail: len.saturating_add(LEAST_BLOCK),
+        tail: len.saturating_add(BLOCK_LEN),
         deletions: next.deletions,
     }
 }
@@ -363,7 +357,7 @@ fn recut(
 {
     let len = slots.len();
     blocks.clear();
-    cut_on(slots, first, marks, blocks, block_len(len));
+    cut_on(slots, first, marks, blocks, BLOCK_LEN);
     *next = cuts_behind(len);
 }
 
@@ -389,11 +383,11 @@ pub fn recut_if_due(
         recut(slots, first, marks, blocks, next);
     } else if next.tail < len {
         let before = blocks.len();
-        cut_on(slots, first, marks, blocks, block_len(len));
+        cut_on(slots, first, marks, blocks, BLOCK_LEN);
         let cut = blocks
             .len()
             .saturating_sub(before)
-            .saturating_mul(block_len(len));
+            .saturating_mul(BLOCK_LEN);
         *next = cuts_behind_tail(*next, len, cut);
     }
 }
@@ -426,9 +420,13 @@ pub fn recut_if_stale(
     }
 }
 
-/// How many more blocks a list of this length is to have room for.
-pub fn blocks_wanted(len: usize, blocks: usize) -> usize {
-    (len / LEAST_RUN).saturating_sub(blocks)
+/// Makes room for all blocks of a list of this length, if there is memory. Without it the list has
+/// fewer blocks, and readings take longer.
+pub fn reserve_blocks(blocks: &mut Vec<MarkBlock>, len: usize)
+    ensures { blocks.new.items ≡ blocks.old.items }
+{
+    let wanted = (len / LEAST_RUN).saturating_sub(blocks.len());
+    let _ = blocks.reserve(wanted);
 }
 
 /// Marks the id of a slot as present or not, and moves the counts.

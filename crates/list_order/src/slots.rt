@@ -1,7 +1,8 @@
 //! Linked slots, and an index from id to slot.
-ghost use Rattle.std.specs.Prelude.{◌≡◌, ◌+◌, ◌<◌, ◌≤◌, length, true, None, Some, IfOk, OnOk, vec_capacity};
+ghost use Rattle.std.specs.Prelude.{◌≡◌, ◌+◌, ◌<◌, ◌≤◌, length, true, None, Some, IfOk, IsOk, OnOk, vec_capacity};
 ghost use Rattle.std.specs.Option.{ForSome};
 ghost use Rattle.std.specs.Ordering.{is_lt};
+ghost use Rattle.lamport_id.specs.declared.id.Id.{Id};
 ghost use Rattle.lamport_id.specs.Order.{id_cmp};
 ghost use Rattle.presence_set.specs.ById.{get, put_at_id};
 ghost use Rattle.list_order.specs.Slots.{ids_along, linked, linked_first, passed, room_in, slots_from, LinksEnd};
@@ -43,6 +44,25 @@ pub fn behind(
         None => first,
         Some(p) => slot_at(slots, p).next,
     }
+}
+
+/// The slot behind that of an id, or the first. There is none behind an id without a slot.
+pub fn slot_after(
+    slots: &[Slot],
+    first: Option<SlotNumber>,
+    index: &IdBlocks<SlotNumber>,
+    after: Option<Id>,
+) -> Option<SlotNumber>
+    requires { (id : Id) (p : SlotNumber) → get index.now.0 id ≡ Some p → p.0 < length slots.now }
+    ensures { result ≡ Spec.slot_after slots.now first index.now.0 after }
+{
+    let Some(id) = after else {
+        return first;
+    };
+    let Some(p) = number_of(index, &id) else {
+        return None;
+    };
+    slot_at(slots, p).next
 }
 
 /// Links a new id in behind a slot, or as the first.
@@ -110,11 +130,12 @@ pub fn number_for(index: &IdBlocks<SlotNumber>, after: Option<Id>) -> Option<Slo
     }
 }
 
-/// Makes room for one more id in the index.
+/// Makes room for one more id in the index. It never fails where there is room.
 pub fn reserve_entry(index: &mut IdBlocks<SlotNumber>) -> Result<(), AllocError>
     ensures same { index.new.0 ≡ index.old.0 }
     ensures grows { room_in index.old ≤ room_in index.new }
     ensures room { OnOk result (length index.new.0 < room_in index.new) }
+    ensures succeeds { length index.old.0 < room_in index.old → IsOk result }
 {
     index.reserve_one()
 }

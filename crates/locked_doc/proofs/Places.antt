@@ -1,11 +1,11 @@
 -- What is read at a place, and what a tree says, is the same for all causal orders of a log, and for its set.
 use Rattle.std.proofs.Common.{◌≡◌, ◌⊎◌, inl, inr, ℕ, List, [], ◌∷◌, Bool, true, false, Option, Some, None, if◌then◌else◌, Contains, refl, sym, ap, subst, ◌∙◌, true≢false}
 use mathlib.Core.Path.{fun_ext}
-use Rattle.doc_words.specs.Words.{Id, Key, Tagged, Op}
-use Rattle.doc_words.specs.declared.ask.Query.{Query}
-use Rattle.doc_words.specs.declared.ask.Query.TheVariants as query
-use Rattle.doc_words.specs.declared.reply.Reply.{Reply}
-use Rattle.doc_words.specs.declared.role.Role.{Role}
+use Rattle.doc_api.specs.Words.{Id, Key, Tagged, Op}
+use Rattle.doc_api.specs.declared.ask.Query.{Query}
+use Rattle.doc_api.specs.declared.ask.Query.TheVariants as query
+use Rattle.doc_api.specs.declared.reply.Reply.{Reply}
+use Rattle.doc_api.specs.declared.role.Role.{Role}
 use Rattle.list_laws.specs.Walk.{SameMembers}
 use Rattle.list_laws.proofs.Members.{Contains-nil, Contains-here, Contains-there, Contains-cases}
 use Rattle.crdt_rules.specs.Effect.{value_put}

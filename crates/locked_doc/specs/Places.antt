@@ -1,12 +1,12 @@
 -- What is read at a place of a document: it follows from the facts that the logged operations make,
 -- and from the values that they put.
 use Rattle.std.specs.Prelude.{◌≡◌, ◌⊎◌, List, Result, MatchResult}
-use Rattle.doc_words.specs.Words.{Refusal, NoMemory, Cursor, Op}
-use Rattle.doc_words.specs.declared.ask.Query.{Query}
-use Rattle.doc_words.specs.declared.ask.Query.TheVariants as query
-use Rattle.doc_words.specs.declared.place.Place.{Place}
-use Rattle.doc_words.specs.declared.reply.Reply.{Reply}
-use Rattle.doc_words.specs.declared.reply.Reply.TheVariants.{Refused, Resolved}
+use Rattle.doc_api.specs.Words.{Refusal, NoMemory, Cursor, Op}
+use Rattle.doc_api.specs.declared.ask.Query.{Query}
+use Rattle.doc_api.specs.declared.ask.Query.TheVariants as query
+use Rattle.doc_api.specs.declared.place.Place.{Place}
+use Rattle.doc_api.specs.declared.reply.Reply.{Reply}
+use Rattle.doc_api.specs.declared.reply.Reply.TheVariants.{Refused, Resolved}
 use Rattle.crdt_rules.specs.Facts.{Facts, facts}
 use Rattle.crdt_rules.specs.Free.{AreFactsOf}
 use Rattle.crdt_rules.specs.Log.{IsCausalOrder, replay}

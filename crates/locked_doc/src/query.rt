@@ -2,20 +2,21 @@
 use crate::answer::Answer;
 use crate::doc::{LockedDoc, turned_away};
 use crate::seat::Seat;
-use doc_words::{Query, Reply};
+use doc_api::{Query, Reply};
 use share_ledger::Marker;
 use std::marker::PhantomData;
 
 impl<M: Marker> LockedDoc<M> {
     ghost use Rattle.std.specs.Prelude.{◌≡◌, length};
-    ghost use Rattle.doc_rules.specs.Seats.{IsSeatOf, AnswersFor, TurnsAway};
+    ghost use Rattle.doc_rules.specs.Document.{logged_by};
+    ghost use Rattle.doc_rules.specs.Seats.{IsSeatOf, AnswersFor, TurnsAway, operation_ids};
     ghost use Rattle.locked_doc.specs.Places.{IsReadInEachOrder, IsReadOfSet};
 
     /// Answers a seat's query, with the document unchanged. It raises the seat's calls by one. Its
     /// answer about a place follows from the facts that the logged operations make, in every causal
     /// order of them, and from those of their set alone. An account takes no memory. A seat of
     /// another document is turned away by `NotOpen`, its calls as they were, and the answer has
-    /// place 0.
+    /// place 0. The ids acknowledged to a seat are just those of its operations in the document.
     pub fn read(&self, seat: &mut Seat<M>, query: Query) -> Answer<M>
         ensures own { IsSeatOf self.now.number self.now.document seat.old
             → AnswersFor self.now.document seat.old query result seat.new }
@@ -27,6 +28,8 @@ impl<M: Marker> LockedDoc<M> {
             → IsReadInEachOrder self.now.document.replica.log query result.reply }
         ensures free { IsSeatOf self.now.number self.now.document seat.old
             → IsReadOfSet self.now.document.replica.log query result.reply }
+        ensures told { IsSeatOf self.now.number self.now.document seat.old
+            → operation_ids (logged_by seat.old.seat self.now.document) ≡ seat.old.told }
     {
         if self.has_opened(seat) {
             self.read_for(seat, query)
@@ -40,6 +43,7 @@ impl<M: Marker> LockedDoc<M> {
         requires { IsSeatOf self.now.number self.now.document seat.old }
         ensures answers { AnswersFor self.now.document seat.old query result seat.new }
         ensures account { query ≡ Query.Account → result.reply ≡ Reply.Account (length seat.old.told) }
+        ensures told { operation_ids (logged_by seat.old.seat self.now.document) ≡ seat.old.told }
     {
         let number = seat.share.number();
         let seat_number = seat.share.seat();

@@ -18,10 +18,10 @@ use Rattle.sqlite.specs.Store.{Ghosts}
 use Rattle.sqlite.specs.Effect.{Database}
 use Rattle.sqlite.specs.Held.{Held, state as shown}
 use Rattle.sqlite.specs.State.{HasCleanDisk}
-use Rattle.copy_schema.specs.Tables.{copy_schema}
-use Rattle.copy_schema.specs.Content.{Holds}
-use Rattle.copy_tables.specs.Steps.{IsOpenWith}
-use Rattle.copy_docs.specs.Docs.{Doc}
+use Rattle.stored_rows.specs.Tables.{copy_schema}
+use Rattle.stored_rows.specs.Content.{Holds}
+use Rattle.stored_rows.specs.Steps.{IsOpenWith}
+use Rattle.stored_log.specs.Docs.{Doc}
 use Rattle.log_copy.specs.Kept.{IsSoundCopy, content}
 use Rattle.log_copy.specs.Folded.{IsInFileAlone, Quiets, KeepsCommit, HasFolded, Reopens, StillHolds, IsHeld, WasAlone}
 use Rattle.log_copy.proofs.SoundLemmas.{IsSettled}

@@ -1,26 +1,21 @@
 -- For private clauses: what an attempt to add a batch does to a connection and to the documents.
-use Rattle.std.specs.Prelude.{◌≡◌, ◌≢◌, ◌⊎◌, ◌+◌, ◌≤◌, ℕ, Bool, true, false, List, [], ◌++◌, length, map, Result, Ok}
+use Rattle.std.specs.Prelude.{◌≡◌, ◌≢◌, ◌⊎◌, ◌+◌, ℕ, Bool, true, false, List, [], ◌++◌, map, Result, Ok}
 use Rattle.std.specs.Prelude.{Err}
 use Rattle.std.specs.List.{AllByRecursion}
 use Rattle.sqlite.specs.Store.{Ghosts}
 use Rattle.sqlite.specs.Held.{Held, state}
 use Rattle.sqlite.specs.State.{HasCleanDisk, Survives}
-use Rattle.lamport_id.specs.Name.{is_name}
 use Rattle.op_core.specs.Op.{Op}
 use Rattle.crdt_rules.specs.Log.{IsGood}
-use Rattle.copy_schema.specs.Content.{Content, Holds, with_rows, rows_from}
-use Rattle.copy_tables.specs.Statements.{CommitsOneOf, RanAll, batch_of}
-use Rattle.copy_tables.specs.Steps.{IsOpenWith}
-use Rattle.copy_docs.specs.Docs.{Doc, op_text, log_of, add_log, IsBatch}
-use Rattle.copy_docs.specs.Limits.{most_rows}
-use Rattle.copy_docs.specs.declared.fault.Fault.{Fault}
-use Rattle.copy_docs.specs.declared.fault.Fault.TheVariants.{Refused, Store, Memory}
-use Rattle.copy_rows.specs.Accepted.{IsWritable}
+use Rattle.stored_rows.specs.Content.{Content, Holds, with_rows, rows_from}
+use Rattle.stored_rows.specs.Statements.{CommitsOneOf, RanAll, batch_of}
+use Rattle.stored_rows.specs.Steps.{IsOpenWith}
+use Rattle.stored_log.specs.Docs.{Doc, op_text, log_of, add_log, IsBatch}
+use Rattle.stored_log.specs.declared.fault.Fault.{Fault}
+use Rattle.stored_log.specs.declared.fault.Fault.TheVariants.{Refused, Store, Memory}
+use Rattle.stored_log.specs.Batch.{MayAdd}
+use Rattle.stored_rows.specs.Accepted.{IsWritable}
 use Rattle.log_copy.specs.Failing.{FailsAmong}
-
--- these may be tried as a batch, and may still not fit
-abbrev pub MayAdd : List ℕ → ℕ → List Op → List Doc → Type 0
-MayAdd name from ops docs = (is_name name ≡ true) × (from ≡ length (log_of name docs)) × (length ops ≤ most_rows)
 
 abbrev pub is_store : {T : Type 0} → Result T Fault → Bool
 is_store (Ok x) = false

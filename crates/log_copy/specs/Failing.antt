@@ -1,14 +1,14 @@
--- What the database answered where a copy gives an error of the database.
+-- What the database answered where a stored log gives an error of the database.
 use Rattle.std.specs.Prelude.{◌≡◌, ◌⊎◌, ℕ, List, Err}
 use Rattle.sqlite_trees.specs.declared.store.Store.{Ghosts}
 use Rattle.sqlite.specs.Order.{Row}
 use Rattle.sqlite.specs.Held.{Held, state}
 use Rattle.sqlite.specs.State.{IsUnchanged}
 use Rattle.sqlite.specs.declared.error.Error.{Error}
-use Rattle.copy_schema.specs.Tables.{copy_schema, HasNeither, HasBoth}
-use Rattle.copy_tables.specs.Statements.{Statement, FailsFor, RunsTo, ShowsFor, StopsBy, making_of_tables, select_meta}
-use Rattle.copy_tables.specs.Statements.{update_format}
-use Rattle.copy_rows.specs.Parsed.{IsMeta}
+use Rattle.stored_rows.specs.Tables.{copy_schema, HasNeither, HasBoth}
+use Rattle.stored_rows.specs.Statements.{Statement, FailsFor, RunsTo, ShowsFor, StopsBy, making_of_tables, select_meta}
+use Rattle.stored_rows.specs.Statements.{update_format}
+use Rattle.stored_rows.specs.Parsed.{IsMeta}
 
 module _ {S : Type 0} (g : Ghosts S) where
   -- it answered this one by an error

@@ -12,7 +12,7 @@ use Rattle.sqlite.specs.Closing.{HoldsAlone}
 use Rattle.sqlite.specs.Held.{Held, state}
 use Rattle.sqlite.specs.Steps.{IsFresh}
 use Rattle.sqlite.specs.State.{HasCleanDisk, Opens}
-use Rattle.copy_schema.specs.Content.{Content, Holds}
+use Rattle.stored_rows.specs.Content.{Content, Holds}
 
 -- as the two files of the store read now, and after a crash
 pub record IsInFileAlone {D : Type 0} {g : Disk D} (it : FileStore D g) (db : Trees) : Type 0 where

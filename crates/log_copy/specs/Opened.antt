@@ -1,17 +1,17 @@
--- What the database was asked and answered where it was taken over, whatever further tables it has.
+-- What the database was asked and answered where it was taken over, whatever other tables it has.
 use Rattle.std.specs.Prelude.{◌≡◌, ◌≢◌, ◌⊎◌, ◌≤◌, ℕ, false, List, []}
 use Rattle.sqlite_trees.specs.declared.store.Store.{Ghosts}
 use Rattle.sqlite.specs.Order.{Row}
 use Rattle.sqlite.specs.Tree.{Trees}
 use Rattle.sqlite.specs.Held.{Held, state}
 use Rattle.sqlite.specs.State.{IsUnchanged}
-use Rattle.copy_schema.specs.Tables.{HasNeither, HasBoth}
-use Rattle.copy_tables.specs.Statements.{CommitsFor, CommitsOneOf, Ran, RanAll, ShowsFor, making_of_tables, select_meta}
-use Rattle.copy_tables.specs.Statements.{update_format}
-use Rattle.copy_docs.specs.Docs.{Doc}
-use Rattle.copy_rows.specs.Parsed.{IsMeta}
-use Rattle.copy_rows.specs.Shown.{AreAnswered, ShowsNoLogs}
-use Rattle.copy_rows.specs.Limits.{last_epoch}
+use Rattle.stored_rows.specs.Tables.{HasNeither, HasBoth}
+use Rattle.stored_rows.specs.Statements.{CommitsFor, CommitsOneOf, Ran, RanAll, ShowsFor, making_of_tables, select_meta}
+use Rattle.stored_rows.specs.Statements.{update_format}
+use Rattle.stored_log.specs.Docs.{Doc}
+use Rattle.stored_rows.specs.Parsed.{IsMeta}
+use Rattle.stored_rows.specs.Shown.{AreAnswered, ShowsNoLogs}
+use Rattle.stored_log.specs.Limits.{last_epoch}
 
 -- they name no known format, or no epoch that may have been given out
 abbrev pub IsNoMeta : List Row → Type 0
@@ -27,7 +27,7 @@ module _ {S : Type 0} (g : Ghosts S) where
     pub entries : AreAnswered g between new docs
     pub unchanged : IsUnchanged (state g old) (state g new)
 
-  -- It showed rows of one table that no copy has.
+  -- It showed rows of one table that no stored log has.
   pub record ShowsNoCopy (old : Held S) : Type 0 where
     pub between : Held S
     pub rows : List Row
@@ -65,7 +65,7 @@ module _ {S : Type 0} (g : Ghosts S) where
       ⊎ (HasBoth (state g old).now.schema × (between : Held S) × IsUnchanged (state g old) (state g between)
       × CommitsFor g (update_format 2) between db)
 
-  -- a transaction is under way, it has other tables of these names, or its tables hold no copy
+  -- a transaction is under way, it has other tables of these names, or its tables hold no stored log
   abbrev pub IsNoCopy : Held S → Type 0
   IsNoCopy old =
       ((state g old).in_transaction ≢ false)

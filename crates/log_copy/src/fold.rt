@@ -3,15 +3,15 @@ ghost use Rattle.std.specs.Prelude.{◌≡◌, true, IsTrue, IfOk, IfErr, OnOk};
 ghost use Rattle.sqlite_trees.specs.Tree.{Trees};
 ghost use Rattle.sqlite_trees.specs.View.{IsClean, IsQuiet, IsRolledBack};
 ghost use Rattle.sqlite.specs.Held.{AreDatabases, state};
-ghost use Rattle.copy_schema.specs.Tables.{copy_schema};
+ghost use Rattle.stored_rows.specs.Tables.{copy_schema};
 ghost use Rattle.log_copy.specs.Folded.{HasFolded, Reopens, KeepsCommit};
 
-use copy_tables::is_copy;
 use sqlite::{Alter, Connection, Error, ErrorCode, FileStore};
 use sqlite_disk::Disk;
 use sqlite_trees::error::StoreError;
 use sqlite_trees::store::Store;
 use std::alloc::Global;
+use stored_rows::is_copy;
 
 /// A store of two files, a database and the log of its commits, that can copy the log into the
 /// database file.
@@ -84,7 +84,7 @@ pub(crate) fn folded<S: Foldable + Drop>(conn: Connection<S>) -> Result<S, (Erro
     }
 }
 
-// Whether the database has the tables of a copy, and no further ones, if it should.
+// Whether the database has the tables of a stored log, and no further ones, if it should.
 fn is_as_before<S: Alter>(conn: &Connection<S>, is_alone: bool) -> bool
     ensures { IsTrue result → is_alone ≡ true → (state S.Store conn.now).now.schema ≡ copy_schema }
 {

@@ -1,12 +1,12 @@
 -- Fronts that ascend, compared entry by entry.
-use Rattle.std.proofs.Common.{◌≡◌, ◌≢◌, ℕ, ◌<◌, ◌≤◌, zero, suc, inl, inr, List, [], ◌∷◌, true, false, ◌&&◌, ◌||◌, ◌==◌, ◌+◌, nat_le, Contains, length, drop, get_or, Bool, leb-true, leb-false, arith, refl, sym, ap, subst, ◌∙◌, Less, Equal, Greater}
-use Rattle.std.proofs.lemmas.Bool.{and_parts}
+use Rattle.std.proofs.Common.{◌≡◌, ◌≢◌, ℕ, ◌<◌, ◌≤◌, zero, suc, inl, inr, List, [], ◌∷◌, true, false, ◌&&◌, ◌||◌, ◌==◌, ◌+◌, nat_le, Contains, length, drop, get_or, Bool, leb-true, leb-false, le-leb, arith, refl, sym, ap, subst, ◌∙◌, Less, Equal, Greater}
+use Rattle.std.proofs.lemmas.Bool.{and_parts, lt-leb}
 use Rattle.std.specs.List.{zip}
 use Rattle.std.proofs.lemmas.List.{drop_all, get_or_default}
 use Rattle.std.proofs.Math.Bool.{or-false}
 use Rattle.op_core.specs.Front.{max_counter}
 use lib.Pointwise.{bytes_decides}
-use Rattle.doc_words.specs.Words.{name_cmp, Op}
+use Rattle.doc_api.specs.Words.{name_cmp, Op}
 use Rattle.op_core.specs.Front.{covers, id_of, is_ascending, is_le, reaches}
 use Rattle.op_core.specs.Shape.{is_shaped, is_shallow, has_form, has_front}
 use Rattle.op_core.proofs.Fronts.{ascending-rest}
@@ -17,7 +17,7 @@ use Rattle.op_core.proofs.FrontPairs.{length-pairs}
 use Rattle.doc_rules.proofs.WholeFront.{rising_from_ascending}
 use Rattle.op_log.proofs.Fronts.{NamesRise, names_differ}
 use Rattle.doc_rules.proofs.OneAnswer.{name_order}
-use Rattle.sorted_lists.proofs.Keys.{less≢equal, less_back}
+use Rattle.list_laws.proofs.Keys.{less≢equal, less_back}
 
 -- an entry whose name is less than all of a front
 pub below_all : (e : List ℕ × ℕ) (n : List ℕ × ℕ) (others : List (List ℕ × ℕ)) → NamesRise (n ∷ others) → name_cmp e.0 n.0 ≡ Less
@@ -118,7 +118,7 @@ pub other_at_end : (names : List (List ℕ)) (counters : List ℕ) (len : length
 other_at_end names counters len k within =
     ap (λ f. is_le f []) (drop_pair names counters len k (get_or names k []) within (get_or_default names k [] (get_or names k []) within))
 
--- so it is at its end, or not
+-- a walk is at its end, or not
 pub ends_there : (names : List (List ℕ)) (counters : List ℕ) (len : length names ≡ length counters) (k : ℕ) → nat_le (length names) k ≡ is_le (drop k (zip names counters)) []
 ends_there names counters len k = go (nat_le (length names) k) refl
   where
@@ -131,3 +131,10 @@ pub shaped_ascending : (op : Op) → is_shaped op ≡ true → is_ascending op.f
 shaped_ascending op h =
     let front = (and_parts (is_shallow op.cursor.path && has_form op) (has_front op) h).1 in
     (and_parts (is_ascending op.front) (op.id.counter == max_counter op.front + 1) front).0
+
+-- counters that are read, compared
+pub reaches_less : (counter reached a b : ℕ) → a ≡ reached → b ≡ counter → a < b → nat_le counter reached ≡ false
+reaches_less counter reached a b is other less = lt-leb _ _ (omega (arith, is, other, less))
+
+pub reaches_it : (counter reached a b : ℕ) → a ≡ reached → b ≡ counter → b ≤ a → nat_le counter reached ≡ true
+reaches_it counter reached a b is other at_most = le-leb _ _ (omega (arith, is, other, at_most))

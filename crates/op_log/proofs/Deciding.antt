@@ -2,7 +2,7 @@
 use Rattle.std.proofs.Common.{◌≡◌, ℕ, suc, ◌<◌, ◌≤◌, List, [], ◌∷◌, length, Bool, true, false, not, nat_eq, nat_le, unwrap_or, Option, Result, Ok, Err, refl, sym, ap, subst, ◌∙◌, arith, leb-true, le-leb}
 use Rattle.std.specs.Prelude.{⊤, IsOk, ◌↔◌}
 use Rattle.std.specs.Option.{option_eq}
-use Rattle.doc_words.specs.Words.{Refusal, Op}
+use Rattle.doc_api.specs.Words.{Refusal, Op}
 use Rattle.json_scalar.specs.declared.refusal.Refusal.TheVariants.{BadFront, Forked, BadCursor, LogFull, TooManyReplicas}
 use Rattle.op_core.specs.Shape.{is_shaped}
 use Rattle.crdt_rules.specs.Dependencies.{entry_of}

@@ -4,20 +4,20 @@ use Rattle.std.specs.Prelude.{MatchOption, IfSome}
 use Rattle.std.specs.List.{slice_get}
 use Rattle.std.proofs.lemmas.Bool.{both_ways}
 use Rattle.std.proofs.lemmas.List.{length-append}
-use Rattle.std.proofs.lemmas.Option.{slice_get_within, slice_get-get_or}
+use Rattle.std.proofs.lemmas.Option.{slice_get_within, slice_get_read}
 use lib.Pointwise.{bytes_decides}
-use Rattle.op_core.specs.Front.{is_ascending}
-use Rattle.doc_words.specs.Words.{Op, Id}
-use Rattle.crdt_rules.specs.Dependencies.{entry_of}
+use Rattle.lamport_id.specs.Order.{name_cmp}
+use Rattle.list_laws.specs.Sorted.{KeysRise, get_by}
+use Rattle.doc_api.specs.Words.{Op, Id}
 use Rattle.crdt_rules.specs.Fits.{Fits}
 use Rattle.crdt_rules.specs.Log.{IsGood}
 use Rattle.doc_rules.specs.Replica.{find_id}
 use Rattle.crdt_rules.proofs.Logs.{good_push}
 use Rattle.crdt_rules.proofs.Tests.{some_same, some≢none}
 use Rattle.op_log.specs.Front.{PutsEntry}
-use Rattle.op_log.specs.Index.{HasOpAt, IsLink, AreLinks, IsLast, AreLasts, IsFirstFrom, IsIndexed}
+use Rattle.op_log.specs.Index.{HasOpAt, IsLink, AreLinks, IsLast, AreLasts, IsFirstFrom, IsIndex, IsIndexed}
+use Rattle.op_log.specs.declared.index.Index.{Index}
 use Rattle.op_log.specs.declared.index.Link.{Link}
-use Rattle.doc_rules.proofs.WholeFront.{rising_from_ascending}
 use Rattle.op_log.proofs.Ids.{find_id-none}
 use Rattle.op_log.proofs.Indexes.{slice_get-push_old, slice_get-push_new, slice_get-push_cases, stands-within, placed, first_here}
 use Rattle.op_log.proofs.LastCounters.{IsFrontOf-push}
@@ -57,7 +57,7 @@ record IsNextLink (log : List Op) (name : List ℕ) (last : Option ℕ) (link : 
   far : MatchOption last (link.far ≡ length log) (λ k. (name : List ℕ) → HasOpAt log name k → HasOpAt log name link.far)
 
 module _ (log : List Op) (op : Op) (lasts : List (List ℕ × ℕ)) (are : AreLasts log lasts) where
-  link-new : (last : Option ℕ) → last ≡ entry_of lasts op.id.replica → (link : Link) → IsNextLink log op.id.replica last link
+  link-new : (last : Option ℕ) → last ≡ get_by bytes_eq lasts op.id.replica → (link : Link) → IsNextLink log op.id.replica last link
       → IsLink (log ++ op ∷ []) op.id.replica (length log) link
   link-new None none link is = record {
     before = subst (HasOpAt (log ++ op ∷ []) op.id.replica) (sym is.before) (stands-new log op);
@@ -100,15 +100,15 @@ AreLinks-push {log} {links} are op link is = record {
         by (inl old) = let within : k < length log = stands-within old in absurd (omega arith)
         by (inr new) = new.1
 
-AreLasts-push : {log : List Op} {lasts : List (List ℕ × ℕ)} → AreLasts log lasts → (op : Op) (lasts' : List (List ℕ × ℕ)) → is_ascending lasts' ≡ true
+AreLasts-push : {log : List Op} {lasts : List (List ℕ × ℕ)} → AreLasts log lasts → (op : Op) (lasts' : List (List ℕ × ℕ)) → KeysRise name_cmp lasts'
     → PutsEntry lasts lasts' op.id.replica (length log) → AreLasts (log ++ op ∷ []) lasts'
-AreLasts-push {log} {lasts} are op lasts' ascending puts = record {
-  ascending = ascending;
+AreLasts-push {log} {lasts} are op lasts' rising puts = record {
+  rising = rising;
   each = λ name k is. each name k (bytes_eq op.id.replica name) refl (sym (puts name) ∙ is);
   none = λ name is j at. none name (bytes_eq op.id.replica name) refl (sym (puts name) ∙ is) j (stands-cases log op at);
 }
   where
-    each : (name : List ℕ) (k : ℕ) (b : Bool) → bytes_eq op.id.replica name ≡ b → (if b then Some (length log) else entry_of lasts name) ≡ Some k
+    each : (name : List ℕ) (k : ℕ) (b : Bool) → bytes_eq op.id.replica name ≡ b → (if b then Some (length log) else get_by bytes_eq lasts name) ≡ Some k
         → IsLast (log ++ op ∷ []) name k
     each name k true same is =
         let end : length log ≡ k = some_same is in
@@ -128,63 +128,62 @@ AreLasts-push {log} {lasts} are op lasts' ascending puts = record {
               ];
         }
 
-    none : (name : List ℕ) (b : Bool) → bytes_eq op.id.replica name ≡ b → ◌≡◌ {A = Option ℕ} (if b then Some (length log) else entry_of lasts name) None
+    none : (name : List ℕ) (b : Bool) → bytes_eq op.id.replica name ≡ b → ◌≡◌ {A = Option ℕ} (if b then Some (length log) else get_by bytes_eq lasts name) None
         → (j : ℕ) → HasOpAt log name j ⊎ ((j ≡ length log) × (op.id.replica ≡ name)) → ⊥
     none name true same is j at = some≢none is
     none name false other is j (inl old) = are.none name is j old
     none name false other is j (inr new) = both_ways (bytes_eq op.id.replica name) other ((bytes_decides op.id.replica name).1 new.1)
 
-pub IsIndexed-append : {log : List Op} {links : List Link} {lasts front : List (List ℕ × ℕ)} → IsIndexed log links lasts front → (op : Op) (last : Option ℕ) (link : Link)
-    (lasts' front' : List (List ℕ × ℕ)) → Fits op log → last ≡ entry_of lasts op.id.replica
+pub IsIndex-push : {log : List Op} {old new : Index} → IsIndex log old → (op : Op) (last : Option ℕ) (link : Link) → Fits op log → last ≡ get_by bytes_eq old.lasts.items op.id.replica
     → MatchOption last (link.before ≡ length log) (λ k. link.before ≡ k)
     → MatchOption last (link.far ≡ length log) (λ k. (name : List ℕ) → HasOpAt log name k → HasOpAt log name link.far)
-    → is_ascending lasts' ≡ true → PutsEntry lasts lasts' op.id.replica (length log)
-    → is_ascending front' ≡ true → PutsEntry front front' op.id.replica op.id.counter
-    → IsIndexed (log ++ op ∷ []) (links ++ link ∷ []) lasts' front'
-IsIndexed-append {log} {links} {lasts} {front} is op last link lasts' front' fits last_is before far lasts_ascending lasts_put ascending put = record {
+    → new.links.items ≡ old.links.items ++ link ∷ [] → KeysRise name_cmp new.lasts.items → PutsEntry old.lasts.items new.lasts.items op.id.replica (length log)
+    → IsIndex (log ++ op ∷ []) new
+IsIndex-push {log} {old} {new} is op last link fits last_is before far links rising put = record {
   good = good_push log op is.good fits;
-  links = AreLinks-push is.links op link (link-new log op lasts is.lasts last last_is link (record { before = before; far = far }));
-  lasts = AreLasts-push is.lasts op lasts' lasts_ascending lasts_put;
-  front = record { ascending = ascending; last = IsFrontOf-push op log front front' fits is.front (rising_from_ascending front' ascending) put };
+  links = subst (AreLinks (log ++ op ∷ [])) (sym links)
+      (AreLinks-push is.links op link (link-new log op old.lasts.items is.lasts last last_is link (record { before = before; far = far })));
+  lasts = AreLasts-push is.lasts op new.lasts.items rising put;
+}
+
+pub IsIndexed-append : {log : List Op} {old new : Index} {front : List (List ℕ × ℕ)} → IsIndexed log old front → (op : Op) (front' : List (List ℕ × ℕ)) → Fits op log
+    → IsIndex (log ++ op ∷ []) new → KeysRise name_cmp front' → PutsEntry front front' op.id.replica op.id.counter → IsIndexed (log ++ op ∷ []) new front'
+IsIndexed-append {log} {front = front} is op front' fits index rising put = record {
+  index = index;
+  front = record { rising = rising; last = IsFrontOf-push op log front front' fits is.front put };
 }
 
 -- what next_link is asked for
-pub last_stands : {log : List Op} {lasts : List (List ℕ × ℕ)} → AreLasts log lasts → (name : List ℕ) (last : Option ℕ) → last ≡ entry_of lasts name
+pub last_stands : {log : List Op} {lasts : List (List ℕ × ℕ)} → AreLasts log lasts → (name : List ℕ) (last : Option ℕ) → last ≡ get_by bytes_eq lasts name
     → IfSome last (λ k. (n : List ℕ) × HasOpAt log n k)
 last_stands are name None is = tt
 last_stands are name (Some k) is = (name, (are.each name k (sym is)).here)
 
-pub last_within : {log : List Op} {lasts : List (List ℕ × ℕ)} → AreLasts log lasts → (name : List ℕ) (last : Option ℕ) → last ≡ entry_of lasts name
+pub last_within : {log : List Op} {lasts : List (List ℕ × ℕ)} → AreLasts log lasts → (name : List ℕ) (last : Option ℕ) → last ≡ get_by bytes_eq lasts name
     → IfSome last (λ k. k < length log)
 last_within are name None is = tt
 last_within are name (Some k) is = stands-within (are.each name k (sym is)).here
 
--- the link of a place
-link_at : {log : List Op} {links : List Link} → AreLinks log links → (name : List ℕ) (k : ℕ) (d : Link) → HasOpAt log name k → IsLink log name k (get_or links k d)
-link_at {log} {links} are name k d at =
-    let within : k < length links = omega (arith, stands-within at, are.as_many) in
-    are.right name k (get_or links k d) at (slice_get-get_or links k d within)
+-- the link that is read at a place, and where it leads
+module _ {log : List Op} {links : List Link} (are : AreLinks log links) (name : List ℕ) (k : ℕ) (link : Link) (read : link ≡ get_or links k link) (here : HasOpAt log name k) where
+  link_at : IsLink log name k link
+  link_at =
+      let within : k < length links = omega (arith, stands-within here, are.as_many) in
+      are.right name k link here (slice_get_read links (length links) k link refl within read)
 
--- where the links of a place lead
-pub far_stands : {log : List Op} {links : List Link} → AreLinks log links → (name : List ℕ) (k : ℕ) (d : Link) → HasOpAt log name k
-    → HasOpAt log name (get_or links k d).far
-far_stands {log} {links} are name k d at = (link_at are name k d at).far
+  pub far_stands : HasOpAt log name link.far
+  far_stands = link_at.far
 
-pub far_within : {log : List Op} {links : List Link} → AreLinks log links → (name : List ℕ) (k : ℕ) (d : Link) → HasOpAt log name k
-    → (get_or links k d).far < length links
-far_within are name k d at = omega (arith, stands-within (far_stands are name k d at), are.as_many)
+  pub far_within : link.far < length links
+  far_within = omega (arith, stands-within far_stands, are.as_many)
 
-pub before_stands : {log : List Op} {links : List Link} → AreLinks log links → (name : List ℕ) (k : ℕ) (d : Link) → HasOpAt log name k
-    → HasOpAt log name (get_or links k d).before
-before_stands {log} {links} are name k d at = (link_at are name k d at).before
+  pub before_stands : HasOpAt log name link.before
+  before_stands = link_at.before
 
--- where the link of a place leads to no operation with the counter, its own is the first
-pub first_at : {log : List Op} {links : List Link} → AreLinks log links → IsGood log → (name : List ℕ) (from counter k : ℕ) (d : Link) → (here : HasOpAt log name k)
-    → counter ≤ here.op.id.counter
-    → ((get_or links k d).before < k → from ≤ (get_or links k d).before → (op : Op) → slice_get log (get_or links k d).before ≡ Some op → op.id.counter < counter)
-    → IsFirstFrom log name from counter k
-first_at {log} {links} are good name from counter k d here reaches short =
-    first_here log good name from counter k (get_or links k d) (link_at are name k d here) here reaches short
+  -- where it leads to no operation with the counter, that at the place is the first
+  pub first_at : IsGood log → (from counter : ℕ) → counter ≤ here.op.id.counter
+      → (link.before < k → from ≤ link.before → (op : Op) → slice_get log link.before ≡ Some op → op.id.counter < counter) → IsFirstFrom log name from counter k
+  first_at good from counter reaches short = first_here log good name from counter k link link_at here reaches short
 
-pub none_of_replica : {log : List Op} {lasts : List (List ℕ × ℕ)} → AreLasts log lasts → (i : Id) → entry_of lasts i.replica ≡ None → find_id log i ≡ None
+pub none_of_replica : {log : List Op} {lasts : List (List ℕ × ℕ)} → AreLasts log lasts → (i : Id) → get_by bytes_eq lasts i.replica ≡ None → find_id log i ≡ None
 none_of_replica {log} are i none = find_id-none log i (λ o c e. let at = placed log i c e in are.none i.replica none at.0 at.1)

@@ -4,7 +4,7 @@ use Rattle.std.specs.Prelude.{is_some}
 use Rattle.std.specs.List.{list_any}
 use Rattle.std.proofs.lemmas.Bool.{and_parts, false_from_ne_true}
 use Rattle.std.proofs.Math.Bool.{or-false}
-use Rattle.doc_words.specs.Words.{Id, Op, Tagged}
+use Rattle.doc_api.specs.Words.{Id, Op, Tagged}
 use Rattle.list_laws.specs.Order.{EachOnce}
 use Rattle.crdt_rules.specs.Effect.{is_insertion}
 use Rattle.crdt_rules.specs.Facts.{inserts}

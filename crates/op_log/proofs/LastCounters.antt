@@ -15,10 +15,11 @@ use Rattle.crdt_rules.proofs.Tests.{any_at, any_none}
 use Rattle.crdt_rules.proofs.Fronts.{entry-max_counter, shaped_counter, entry_of-Contains}
 use Rattle.crdt_rules.proofs.LastCounter.{below_last, last_from}
 use Rattle.crdt_rules.proofs.Tests.{some≢none}
-use Rattle.doc_rules.proofs.WholeFront.{entry_of-at, rising_from_ascending}
-use Rattle.op_log.proofs.Fronts.{NamesRise}
+use Rattle.list_laws.specs.Sorted.{get_by}
+use Rattle.list_laws.proofs.Bisection.{get-own, get-Contains}
+use Rattle.op_log.proofs.Fronts.{names_ordered}
 use Rattle.doc_rules.proofs.OneAnswer.{name_order}
-use Rattle.sorted_lists.proofs.Rising.{keys_once}
+use Rattle.list_laws.proofs.Rising.{keys_once}
 use Rattle.crdt_rules.proofs.Room.{length-among, replicas-at, replicas-from, replicas-once}
 
 -- after one more operation
@@ -60,24 +61,23 @@ last_counter-fits op log name fits = last_counter-push log op name ∙ by (bytes
     by false other = refl
 
 -- the front with the new counter is that of the log with the operation
-pub IsFrontOf-push : (op : Op) (log : List Op) (old new : List (List ℕ × ℕ)) → Fits op log → IsFrontOf log old → NamesRise new → PutsEntry old new op.id.replica op.id.counter
-    → ((name : List ℕ) → entry_of new name ≡ last_counter (log ++ op ∷ []) name)
-IsFrontOf-push op log old new fits front rise puts name =
+pub IsFrontOf-push : (op : Op) (log : List Op) (old new : List (List ℕ × ℕ)) → Fits op log → IsFrontOf log old → PutsEntry old new op.id.replica op.id.counter
+    → ((name : List ℕ) → get_by bytes_eq new name ≡ last_counter (log ++ op ∷ []) name)
+IsFrontOf-push op log old new fits front puts name =
     puts name ∙ ap (λ l. if bytes_eq op.id.replica name then Some op.id.counter else l) (front.last name) ∙ sym (last_counter-fits op log name fits)
 
 pub length-front : (log : List Op) (front : List (List ℕ × ℕ)) → IsFrontOf log front → length front ≡ length (replicas log)
 length-front log front is =
-    let rise = rising_from_ascending front is.ascending in
     let names = map (λ (e : List ℕ × ℕ). e.0) front in
-    let few : length names ≤ length (replicas log) = length-among names (replicas log) (keys_once name_order (λ (e : List ℕ × ℕ). e.0) front rise) (λ n c. in_log rise n c) in
+    let few : length names ≤ length (replicas log) = length-among names (replicas log) (keys_once name_order (λ (e : List ℕ × ℕ). e.0) front is.rising) (λ n c. in_log n c) in
     let many : length (replicas log) ≤ length names = length-among (replicas log) names (replicas-once log) (λ n c. in_front n c) in
     let same : length names ≡ length front = length-map front (λ e. e.0) in
     omega arith
   where
-    in_log : NamesRise front → (n : List ℕ) → Contains (map (λ e. e.0) front) n → Contains (replicas log) n
-    in_log rise n c =
+    in_log : (n : List ℕ) → Contains (map (λ e. e.0) front) n → Contains (replicas log) n
+    in_log n c =
         let f = map-from (λ (e : List ℕ × ℕ). e.0) front c in
-        let found : last_counter log n ≡ Some (f.0).1 = sym (is.last n) ∙ subst (λ m. entry_of front m ≡ Some (f.0).1) f.2 (entry_of-at front f.0 rise f.1) in
+        let found : last_counter log n ≡ Some (f.0).1 = sym (is.last n) ∙ subst (λ m. get_by bytes_eq front m ≡ Some (f.0).1) f.2 (get-own names_ordered front is.rising f.0 f.1) in
         let o = last_from log n (f.0).1 found in
         subst (Contains (replicas log)) o.2 (replicas-at log o.1)
 
@@ -85,7 +85,7 @@ length-front log front is =
     in_front n c =
         let o = replicas-from log c in
         let l = below_last log o.0 n o.1 o.2 in
-        Contains-map (λ (e : List ℕ × ℕ). e.0) front (entry_of-Contains front n l.0 (is.last n ∙ l.1))
+        Contains-map (λ (e : List ℕ × ℕ). e.0) front (get-Contains names_ordered front n l.0 (is.last n ∙ l.1))
 
 -- a replica has a last counter where it is one of the log's
 pub is_replica : (log : List Op) (name : List ℕ) → list_any (bytes_eq name) (replicas log) ≡ is_some (last_counter log name)

@@ -8,13 +8,13 @@ use Rattle.std.proofs.lemmas.List.Elements.{filter-append}
 use Rattle.std.proofs.lemmas.Slice.Zip.{get_or-zip}
 use Rattle.lamport_id.specs.Order.{name_cmp}
 use Rattle.op_core.specs.Front.{id_of, is_ascending}
-use Rattle.doc_words.specs.Words.{Id}
+use Rattle.doc_api.specs.Words.{Id}
 use Rattle.op_core.proofs.FrontPairs.{length-pairs, name-at}
 use Rattle.list_laws.proofs.Reading.{drop_at}
 use Rattle.doc_rules.proofs.OneAnswer.{name_order}
 use Rattle.doc_rules.proofs.WholeFront.{rising_from_ascending}
-use Rattle.sorted_lists.specs.Sorted.{IsPlace, IsGap}
-use Rattle.sorted_lists.proofs.Rising.{searched}
+use Rattle.list_laws.specs.Sorted.{IsPlace, IsGap}
+use Rattle.list_laws.proofs.Rising.{searched}
 
 module _ (names : List (List ℕ)) (counters : List ℕ) (len : length names ≡ length counters) where
   -- names rise where their pairs do

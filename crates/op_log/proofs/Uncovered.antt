@@ -1,5 +1,5 @@
 -- What a front covers of a log, by the chains of its replicas.
-use Rattle.std.proofs.Common.{◌≡◌, ℕ, ◌<◌, ◌≤◌, inl, inr, zero, suc, List, [], ◌∷◌, length, take, drop, get_or, ◌+◌, ◌++◌, take_all, length-drop, Bool, true, false, not, rules, Option, Some, None, Contains, if◌then◌else◌, refl, sym, ap, subst, ◌∙◌, arith}
+use Rattle.std.proofs.Common.{◌≡◌, ℕ, ◌<◌, ◌≤◌, inl, inr, zero, suc, List, [], ◌∷◌, length, take, drop, get_or, ◌+◌, ◌++◌, take_all, length-drop, bytes_eq, Bool, true, false, not, rules, Option, Some, None, Contains, if◌then◌else◌, refl, sym, ap, subst, ◌∙◌, arith}
 use Rattle.std.specs.List.{slice_get}
 use Rattle.std.proofs.lemmas.List.{drop_all}
 use Rattle.std.proofs.lemmas.Option.{slice_get_read}
@@ -13,7 +13,9 @@ use Rattle.crdt_rules.proofs.Tests.{some_same}
 use Rattle.doc_rules.specs.Answers.{since}
 use Rattle.op_log.specs.Index.{HasOpAt, AreLasts, IsLast, IsFirstFrom, CoversChain, CoversBetween, IsUncovered}
 use Rattle.list_laws.proofs.Reading.{take_at, drop_read}
-use Rattle.doc_rules.proofs.WholeFront.{entry_of-at, rising_from_ascending}
+use Rattle.list_laws.specs.Sorted.{get_by}
+use Rattle.list_laws.proofs.Bisection.{get-own, get-Contains}
+use Rattle.op_log.proofs.Fronts.{names_ordered}
 use Rattle.op_log.proofs.Indexes.{rises_up_to}
 
 -- up to a counter that the front has for the replica, its operations are covered
@@ -26,7 +28,7 @@ chain_up_to front log name counter from n is up_to k at behind below =
 pub chain_none : (front : List (List ℕ × ℕ)) (log : List Op) (name : List ℕ) (from n : ℕ) → IsFirstFrom log name from 0 n → CoversChain front log name from n
 chain_none front log name from n first k at behind below = let less : at.op.id.counter < 0 = first.first k at behind below in absurd (omega arith)
 
--- and none behind the last
+-- a replica has no operation behind its last
 pub chain_ended : (front : List (List ℕ × ℕ)) (log : List Op) (name : List ℕ) (last from n : ℕ) → IsLast log name last → last < from → CoversChain front log name from n
 chain_ended front log name last from n is ended k at behind below = let up_to : k ≤ last = is.last k at in absurd (omega arith)
 
@@ -40,7 +42,7 @@ up_to_last log good name last counter is enough k at =
 
 -- the chain of an entry of the index
 pub last_of_entry : {log : List Op} {lasts : List (List ℕ × ℕ)} → AreLasts log lasts → (e : List ℕ × ℕ) → Contains lasts e → IsLast log e.0 e.1
-last_of_entry {lasts = lasts} are e c = are.each e.0 e.1 (entry_of-at lasts e (rising_from_ascending lasts are.ascending) c)
+last_of_entry {lasts = lasts} are e c = are.each e.0 e.1 (get-own names_ordered lasts are.rising e c)
 
 -- the chains looked at, with one more
 pub chains_next : (front : List (List ℕ × ℕ)) (log : List Op) (lasts : List (List ℕ × ℕ)) (i : ℕ) (e : List ℕ × ℕ) (from least n m : ℕ) → m ≤ least → m ≤ n
@@ -56,21 +58,21 @@ chains_next front log lasts i e from least n m low high within read before here 
 -- all chains are all operations
 pub chains_all : (front : List (List ℕ × ℕ)) (log : List Op) (lasts : List (List ℕ × ℕ)) (from n : ℕ) → AreLasts log lasts
     → ((f : List ℕ × ℕ) → Contains lasts f → CoversChain front log f.0 from n) → CoversBetween front log from n
-chains_all front log lasts from n are each k op there behind below = by (entry_of lasts op.id.replica) refl
+chains_all front log lasts from n are each k op there behind below = by (get_by bytes_eq lasts op.id.replica) refl
   where
     here : HasOpAt log op.id.replica k
     here = record { op = op; there = there; made = refl }
 
-    by : (o : Option ℕ) → entry_of lasts op.id.replica ≡ o → covers front op.id ≡ true
+    by : (o : Option ℕ) → get_by bytes_eq lasts op.id.replica ≡ o → covers front op.id ≡ true
     by None is = absurd (are.none op.id.replica is k here)
-    by (Some p) is = each (op.id.replica, p) (entry_of-Contains lasts op.id.replica p is) k here behind below
+    by (Some p) is = each (op.id.replica, p) (get-Contains names_ordered lasts op.id.replica p is) k here behind below
 
 -- ---- from one place on and before another
 
 pub covers_none : (front : List (List ℕ × ℕ)) (log : List Op) (from : ℕ) → CoversBetween front log from from
 covers_none front log from k op there behind below = absurd (omega arith)
 
--- and behind an operation that it doesn't cover, none of its replica
+-- behind an operation that the front doesn't cover, it covers none of the replica
 pub uncovered_behind : (front : List (List ℕ × ℕ)) (log : List Op) → IsGood log → (name : List ℕ) (k n : ℕ) → HasOpAt log name k → HasOpAt log name n → k ≤ n
     → IsUncovered front log k → IsUncovered front log n
 uncovered_behind front log good name k n before here le uncovered op there = by (covers front op.id) refl

@@ -1,10 +1,12 @@
 -- The index of a log: where each operation finds those of its replica before it, and where the last of each replica is.
-use Rattle.std.specs.Prelude.{◌≡◌, ℕ, ◌<◌, ◌≤◌, List, true, false, length, Some, None, slice_get}
-use Rattle.op_core.specs.Front.{covers, is_ascending}
+use Rattle.std.specs.Prelude.{◌≡◌, ℕ, ◌<◌, ◌≤◌, List, true, false, bytes_eq, length, Some, None, slice_get}
+use Rattle.lamport_id.specs.Order.{name_cmp}
+use Rattle.list_laws.specs.Sorted.{KeysRise, get_by}
+use Rattle.op_core.specs.Front.{covers}
 use Rattle.op_core.specs.Op.{Op}
 use Rattle.op_log.specs.Front.{IsFrontOf}
-use Rattle.crdt_rules.specs.Dependencies.{entry_of}
 use Rattle.crdt_rules.specs.Log.{IsGood}
+use Rattle.op_log.specs.declared.index.Index.{Index}
 use Rattle.op_log.specs.declared.index.Link.{Link}
 
 -- at place k is an operation of this replica
@@ -33,15 +35,19 @@ pub record IsLast (log : List Op) (name : List ℕ) (k : ℕ) : Type 0 where
 
 -- each replica of the log with the place of its last operation, in the order of the names
 pub record AreLasts (log : List Op) (lasts : List (List ℕ × ℕ)) : Type 0 where
-  pub ascending : is_ascending lasts ≡ true
-  pub each : (name : List ℕ) (k : ℕ) → entry_of lasts name ≡ Some k → IsLast log name k
-  pub none : (name : List ℕ) → entry_of lasts name ≡ None → (j : ℕ) → ¬ (HasOpAt log name j)
+  pub rising : KeysRise name_cmp lasts
+  pub each : (name : List ℕ) (k : ℕ) → get_by bytes_eq lasts name ≡ Some k → IsLast log name k
+  pub none : (name : List ℕ) → get_by bytes_eq lasts name ≡ None → (j : ℕ) → ¬ (HasOpAt log name j)
+
+-- a good log with its index
+pub record IsIndex (log : List Op) (index : Index) : Type 0 where
+  pub good : IsGood log
+  pub links : AreLinks log index.links.items
+  pub lasts : AreLasts log index.lasts.items
 
 -- a good log with its index and its front
-pub record IsIndexed (log : List Op) (index : List Link) (places counters : List (List ℕ × ℕ)) : Type 0 where
-  pub good : IsGood log
-  pub links : AreLinks log index
-  pub lasts : AreLasts log places
+pub record IsIndexed (log : List Op) (places : Index) (counters : List (List ℕ × ℕ)) : Type 0 where
+  pub index : IsIndex log places
   pub front : IsFrontOf log counters
 
 -- ---- what a search finds
@@ -56,11 +62,11 @@ pub record IsFirstFrom (log : List Op) (name : List ℕ) (from counter : ℕ) (k
 abbrev pub CoversChain : List (List ℕ × ℕ) → List Op → List ℕ → ℕ → ℕ → Type 0
 CoversChain front log name from n = (k : ℕ) (at : HasOpAt log name k) → from ≤ k → k < n → covers front at.op.id ≡ true
 
--- and those of all replicas
+-- the front covers the operations of all replicas from one place on and before another
 abbrev pub CoversBetween : List (List ℕ × ℕ) → List Op → ℕ → ℕ → Type 0
 CoversBetween front log from n =
     (k : ℕ) (op : Op) → slice_get log k ≡ Some op → from ≤ k → k < n → covers front op.id ≡ true
 
--- it does not cover the operation at place k, if there is one
+-- the front does not cover the operation at place k, if there is one
 abbrev pub IsUncovered : List (List ℕ × ℕ) → List Op → ℕ → Type 0
 IsUncovered front log k = (op : Op) → slice_get log k ≡ Some op → covers front op.id ≡ false

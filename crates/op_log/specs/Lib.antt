@@ -1,3 +1,4 @@
 pub mod Front
 pub mod Log
 pub mod Index
+pub mod Elements

@@ -6,12 +6,13 @@ ghost use Rattle.std.specs.List.{list_any, list_all};
 ghost use Rattle.op_core.specs.Limits.{most_replicas};
 ghost use Rattle.op_core.specs.Front.{id_of, is_ascending, is_le};
 ghost use Rattle.op_core.specs.Op.{Op};
-ghost use Rattle.op_core.specs.Shape.{is_shaped};
+ghost use Rattle.op_core.specs.Shape.{is_shaped, key_of};
 ghost use Rattle.crdt_rules.specs.Facts.{inserts};
 ghost use Rattle.crdt_rules.specs.Log.{IsGood};
-ghost use Rattle.crdt_rules.specs.Fits.{Fits, is_element, knows_key, knows_cursor, knows_front, last_counter, replicas};
+ghost use Rattle.crdt_rules.specs.Fits.{Fits, is_element, knows_cursor, knows_front, last_counter, replicas};
 ghost use Rattle.crdt_rules.specs.Same.{id_eq};
 ghost use Rattle.doc_rules.specs.Cause.{cause_of, misfit_of, room_cause};
+ghost use Rattle.op_log.specs.Elements.{covers_cursor, covers_key, inserts_cursor};
 
 use crate::front::{self, Entry};
 use crate::log::{OpLog, keeps_good};
@@ -56,7 +57,7 @@ impl OpLog {
         self.room_for(self.last_counter(name))
     }
 
-    // The same of a replica whose last counter is this one, if it has one.
+    // Whether the log takes one more operation of a replica whose last counter is this one, if it has one.
     fn room_for(&self, last: Option<u64>) -> Result<(), Refusal>
         ensures { (op : Op) → last_counter self.now.operations op.id.replica ≡ last
             → result ≡ room_cause op self.now.operations }
@@ -158,24 +159,25 @@ impl OpLog {
         }
     }
 
+    // Whether the front covers the elements of a cursor, and the log inserts them.
     fn knows_cursor(&self, front: &Front, cursor: &Cursor) -> bool
         ensures { result ≡ knows_cursor front.now self.now.operations [] cursor.now.path cursor.now.key }
     {
-        let path = cursor.path.as_slice();
-        for i in 0..path.len() {
-            if !self.knows_key(front, &path[..i], path[i].key()) {
-                return false;
-            }
-        }
-        self.knows_key(front, path, &cursor.key)
+        covers_elements(front, cursor) && self.inserts_elements(cursor.path.as_slice(), &cursor.key)
     }
 
-    fn knows_key(&self, front: &Front, path: &[Tagged], key: &Key) -> bool
-        ensures { result ≡ knows_key front.now self.now.operations path.now key.now }
+    // Whether the log inserts the elements of a cursor. Only the last one is looked at: its insertion names those
+    // before it.
+    fn inserts_elements(&self, path: &[Tagged], key: &Key) -> bool
+        ensures { result ≡ inserts_cursor self.now.operations [] path.now key.now }
     {
-        match key {
-            Key::Element(id) => front.covers(*id) && self.is_element(path, *id),
-            Key::Doc | Key::Text(_) | Key::Head => true,
+        if let Key::Element(id) = key {
+            keeps_good(self);
+            return self.is_element(path, *id);
+        }
+        match path.split_last() {
+            None => true,
+            Some((last, before)) => self.inserts_elements(before, last.key()),
         }
     }
 
@@ -187,6 +189,28 @@ impl OpLog {
             Some(op) => inserts_at(path, op),
             None => false,
         }
+    }
+}
+
+// Whether the front covers the elements of a cursor.
+fn covers_elements(front: &Front, cursor: &Cursor) -> bool
+    ensures { result ≡ covers_cursor front.now cursor.now.path cursor.now.key }
+{
+    covers_path(front, cursor.path.as_slice()) && covers_key(front, &cursor.key)
+}
+
+fn covers_path(front: &Front, path: &[Tagged]) -> bool
+    ensures { result ≡ list_all (λ tag. covers_key front.now (key_of tag)) path.now }
+{
+    path.iter().all(|tag| covers_key(front, tag.key()))
+}
+
+fn covers_key(front: &Front, key: &Key) -> bool
+    ensures { result ≡ covers_key front.now key.now }
+{
+    match key {
+        Key::Element(id) => front.covers(*id),
+        Key::Doc | Key::Text(_) | Key::Head => true,
     }
 }
 

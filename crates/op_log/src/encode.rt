@@ -7,7 +7,7 @@ ghost use Rattle.doc_rules.specs.Encoded.{operations_text};
 ghost use Rattle.json_text.specs.Tokens.{all_tokens, data_tokens, Puts};
 
 use crate::log::OpLog;
-use doc_words::CompactText;
+use doc_api::CompactText;
 use json_scalar::Refusal;
 use json_text::{AsJson, JsonText};
 use op_core::Front;

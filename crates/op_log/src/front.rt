@@ -1,5 +1,6 @@
-//! The front of a log: for each replica the counter of its last operation.
+//! What a log keeps for each replica, as the counter of its last operation, and the front that these make.
 ghost use Rattle.std.specs.Prelude.{[], Contains, IsTrue, Some, get_or, ◌≡◌, ◌+◌, ◌<◌, ◌≤◌, true, length, vec_len};
+ghost use Rattle.std.specs.Prelude.{bytes_eq};
 ghost use Rattle.std.specs.Prelude.{MatchResult, Ok};
 ghost use Rattle.std.specs.List.{zip};
 ghost use Rattle.std.specs.Option.{option_copied};
@@ -10,56 +11,56 @@ ghost use Rattle.lamport_id.specs.Order.{name_cmp};
 ghost use Rattle.op_core.specs.Front.{is_ascending, is_le};
 ghost use Rattle.crdt_rules.specs.Dependencies.{entry_of};
 ghost use Rattle.op_log.specs.Front.{PutsEntry};
-ghost use Rattle.sorted_lists.specs.Sorted.{IsPlace, IsGap};
+ghost use Rattle.list_laws.specs.Sorted.{IsPlace, IsGap, KeysRise, get_by};
 
 use json_scalar::Refusal;
 use lamport_id::ReplicaName;
-use op_core::{Front, Operation};
+use op_core::{Counters, Front, Operation};
 use std::alloc::Global;
 use std::cmp::Ordering;
 
 /// A replica, and the counter of its last operation.
 pub type Entry = (ReplicaName, u64);
 
-// The place of the replica in the front, or where it would go.
-fn search(front: &[Entry], name: ReplicaName) -> Result<usize, usize>
-    requires { is_ascending front.now ≡ true }
+// The index of the replica's pair, or where it would go.
+fn search<X>(pairs: &[(ReplicaName, X)], name: ReplicaName) -> Result<usize, usize>
+    requires { KeysRise name_cmp pairs.now }
     ensures { MatchResult result
-        (IsPlace name_cmp (λ e. e.0) front.now name) (IsGap name_cmp (λ e. e.0) front.now name) }
+        (IsPlace name_cmp (λ e. e.0) pairs.now name) (IsGap name_cmp (λ e. e.0) pairs.now name) }
 {
-    front.binary_search_by_key(&name, |entry| entry.0)
+    pairs.binary_search_by_key(&name, |pair| pair.0)
 }
 
-/// The counter of the replica's last operation, if it has one.
-pub fn last_of(front: &[Entry], name: ReplicaName) -> Option<u64>
-    requires { is_ascending front.now ≡ true }
-    ensures { result ≡ entry_of front.now name }
+/// The counter or the place of the replica's last operation, if it has one.
+pub fn last_of<X: Copy>(pairs: &[(ReplicaName, X)], name: ReplicaName) -> Option<X>
+    requires { KeysRise name_cmp pairs.now }
+    ensures { result ≡ get_by bytes_eq pairs.now name }
 {
-    match search(front, name) {
-        Ok(at) => Some(front[at].1),
+    match search(pairs, name) {
+        Ok(at) => Some(pairs[at].1),
         Err(_) => None,
     }
 }
 
-/// Makes the counter the last of the replica, in room that was reserved, and returns the one that it
-/// had, if it had one.
-pub fn put_last(front: &mut Vec<Entry>, name: ReplicaName, counter: u64) -> Option<u64>
-    requires ascending { is_ascending front.old.items ≡ true }
-    requires room { vec_len front.old < vec_capacity front.old }
-    ensures before { result ≡ entry_of front.old.items name }
-    ensures ascending { is_ascending front.new.items ≡ true }
-    ensures puts { PutsEntry front.old.items front.new.items name counter }
-    ensures len { vec_len front.new ≤ vec_len front.old + 1 }
-    ensures capacity { vec_capacity front.old ≤ vec_capacity front.new }
+/// Makes the counter or the place the last of the replica, in room that was reserved, and returns the
+/// one that it had, if it had one.
+pub fn put_last<X: Copy>(pairs: &mut Vec<(ReplicaName, X)>, name: ReplicaName, last: X) -> Option<X>
+    requires rising { KeysRise name_cmp pairs.old.items }
+    requires room { vec_len pairs.old < vec_capacity pairs.old }
+    ensures before { result ≡ get_by bytes_eq pairs.old.items name }
+    ensures rising { KeysRise name_cmp pairs.new.items }
+    ensures puts { PutsEntry pairs.old.items pairs.new.items name last }
+    ensures len { vec_len pairs.new ≤ vec_len pairs.old + 1 }
+    ensures capacity { vec_capacity pairs.old ≤ vec_capacity pairs.new }
 {
-    match search(front, name) {
+    match search(pairs, name) {
         Ok(at) => {
-            let before = front[at].1;
-            front[at] = (name, counter);
+            let before = pairs[at].1;
+            pairs[at] = (name, last);
             Some(before)
         }
         Err(at) => {
-            front.insert(at, (name, counter)).unwrap();
+            pairs.insert(at, (name, last)).unwrap();
             None
         }
     }
@@ -74,13 +75,13 @@ pub fn counter_in(front: &Front, name: ReplicaName) -> Option<u64>
     counter_among(names, counters, name)
 }
 
-fn counter_among(names: &[ReplicaName], counters: &[u64], name: ReplicaName) -> Option<u64>
+fn counter_among(names: &[ReplicaName], counters: &Counters, name: ReplicaName) -> Option<u64>
     requires len { length names.now ≡ length counters.now }
     requires ascending { is_ascending (zip names.now counters.now) ≡ true }
     ensures { result ≡ entry_of (zip names.now counters.now) name }
 {
     match names.binary_search(&name) {
-        Ok(at) => Some(counters[at]),
+        Ok(at) => Some(counters.at(at)),
         Err(_) => None,
     }
 }
@@ -98,9 +99,9 @@ pub fn is_at_most(front: &Front, other: &Front) -> bool
 
 fn are_at_most(
     names: &[ReplicaName],
-    counters: &[u64],
+    counters: &Counters,
     others: &[ReplicaName],
-    reached: &[u64],
+    reached: &Counters,
 ) -> bool
     requires len { length names.now ≡ length counters.now }
     requires other_len { length others.now ≡ length reached.now }
@@ -115,7 +116,7 @@ fn are_at_most(
         }
         match names[first].cmp(&others[at]) {
             Ordering::Less => return false,
-            Ordering::Equal if reached[at] < counters[first] => return false,
+            Ordering::Equal if reached.at(at) < counters.at(first) => return false,
             Ordering::Equal => first += 1,
             Ordering::Greater => {}
         }
@@ -124,7 +125,7 @@ fn are_at_most(
 }
 
 /// The front of these pairs, which shares its names with that of the last operation where they have
-/// the same. The only error is out of memory.
+/// the same, and the chunks of counters that both have. The only error is out of memory.
 pub fn beside_last(alloc: Global, pairs: &[Entry], entries: &[Operation]) -> Result<Front, Refusal>
     ensures { UnlessMemory result (Ok pairs.now) }
 {
@@ -134,23 +135,31 @@ pub fn beside_last(alloc: Global, pairs: &[Entry], entries: &[Operation]) -> Res
     }
 }
 
-/// The same operation. Where it has no clones, it shares the names of its front with the operation at a
-/// place, the one of its replica before it, or with the last one, where they have the same.
+/// Returns the operation as it was. Where it has no clones, it shares the names of its front with the
+/// operation at a place, the one of its replica before it, or with the last one, where they have the
+/// same, and the keys of its path where they begin the other's. It shares the chunks of counters that
+/// the last one has too.
 pub fn sharing(op: Operation, entries: &[Operation], at: usize) -> Operation
     ensures { result ≡ op }
 {
-    match alike(op.front(), entries, at) {
-        Some(other) => op.sharing(other),
-        None => op,
-    }
+    let Some(last) = entries.last() else {
+        return op;
+    };
+    let other = alike(op.front(), entries, at, last);
+    op.sharing(other, last)
 }
 
 // The operation whose names a front may share. The fronts of a replica lose no name, so as many as
 // before it are the same. Otherwise they may be those of the last operation.
-fn alike<'a>(front: &Front, entries: &'a [Operation], at: usize) -> Option<&'a Operation> {
+fn alike<'a>(
+    front: &Front,
+    entries: &'a [Operation],
+    at: usize,
+    last: &'a Operation,
+) -> &'a Operation {
     match entries.get(at) {
-        Some(before) if before.front().len() == front.len() => Some(before),
-        _ => entries.last(),
+        Some(before) if before.front().len() == front.len() => before,
+        _ => last,
     }
 }
 

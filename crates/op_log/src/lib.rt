@@ -7,6 +7,7 @@ mod encode;
 mod front;
 mod index;
 mod log;
+mod place;
 
 pub use check::{MAX_OPERATIONS, MAX_REPLICAS};
 pub use clones::clone_all;

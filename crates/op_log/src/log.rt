@@ -18,8 +18,8 @@ ghost use Rattle.op_log.specs.Index.{IsUncovered};
 use crate::clones::{clone_all, first_uncovered};
 use crate::encode::text_of_uncovered;
 use crate::front::{self, Entry};
-use crate::index::{self, Link};
-use doc_words::{CompactText, Ids, Operations};
+use crate::index::Index;
+use doc_api::{CompactText, Ids, Operations};
 use json_scalar::Refusal;
 use lamport_id::{Id, ReplicaName};
 use op_core::{Front, Operation, id_of};
@@ -31,9 +31,7 @@ use std::marker::Model;
 #[derive(Debug)]
 pub struct OpLog {
     entries: Vec<Operation>,
-    links: Vec<Link>,
-    // each replica with the place of its last operation
-    lasts: Vec<Entry>,
+    index: Index,
     front: Vec<Entry>,
 }
 
@@ -43,9 +41,9 @@ impl Model for OpLog {
 
     ghost Value = { Log };
 
-    ghost view = { λ l. record { operations = l.entries.items; room = room_of l.entries l.links l.lasts l.front } };
+    ghost view = { λ l. record { operations = l.entries.items; room = room_of l.entries l.index l.front } };
 
-    ghost invariant = { λ l. IsIndexed l.entries.items l.links.items l.lasts.items l.front.items };
+    ghost invariant = { λ l. IsIndexed l.entries.items l.index l.front.items };
 }
 
 impl OpLog {
@@ -55,10 +53,22 @@ impl OpLog {
     {
         OpLog {
             entries: Vec::new(alloc),
-            links: Vec::new(alloc),
-            lasts: Vec::new(alloc),
+            index: Index::new(alloc),
             front: Vec::new(alloc),
         }
+    }
+
+    /// The same log once more: its operations share their parts with clones of them, and its index is
+    /// copied. No operation is checked again. The only error is out of memory.
+    pub fn try_clone(&self, alloc: Global) -> Result<OpLog, Refusal>
+        ensures ok { IfOk result (λ l. l.operations ≡ self.now.operations) }
+        ensures err { IfErr result (λ e. e ≡ Refusal.NoMemory) }
+    {
+        Ok(OpLog {
+            entries: clone_all(alloc, self.entries.as_slice())?,
+            index: self.index.try_clone(alloc)?,
+            front: Vec::from_slice(alloc, self.front.as_slice())?,
+        })
     }
 
     /// How many operations there are.
@@ -88,7 +98,7 @@ impl OpLog {
         ensures good { IsGood self.now.operations }
         ensures found { option_copied result ≡ find_id self.now.operations id }
     {
-        index::find(&self.entries, &self.links, &self.lasts, &id)
+        self.index.find(&self.entries, &id)
     }
 
     /// Whether the operation of this id is logged, by one search among those of its replica.
@@ -122,15 +132,14 @@ impl OpLog {
         ensures err { IfErr result (λ e. e ≡ Refusal.NoMemory) }
     {
         self.entries.reserve(n)?;
-        self.links.reserve(n)?;
-        self.lasts.reserve(n)?;
+        self.index.reserve(n)?;
         self.front.reserve(n)?;
         Ok(())
     }
 
     /// Adds an operation that fits, in room that was reserved. Allocates nothing. Where it has no
-    /// clones, and the names of its front are those of its replica's operation before it or of the last
-    /// one, it shares them and frees its own.
+    /// clones, it shares the names of its front, the chunks of counters and the keys of its path with its
+    /// replica's operation before it or with the last one, where they have the same, and frees its own.
     pub fn append(&mut self, op: Operation)
         requires fits { Fits op self.old.operations }
         requires room { 1 ≤ self.old.room }
@@ -138,30 +147,27 @@ impl OpLog {
         ensures room { self.old.room ≤ self.new.room + 1 }
     {
         let Id { counter, replica } = op.id();
-        let last = front::put_last(&mut self.lasts, replica, self.entries.len() as u64);
+        let before = self.index.push(&self.entries, replica);
         front::put_last(&mut self.front, replica, counter);
-        let link = index::next_link(&self.entries, &self.links, last);
-        self.links.push(link).unwrap();
-        let op = front::sharing(op, &self.entries, link.before as usize);
-        self.entries.push(op).unwrap();
+        let op = front::sharing(op, &self.entries, before.number());
+        self.entries.push_reserved(op);
     }
 
-    /// The same operation. Where it has no clones, it shares the names of its front with its replica's
-    /// last operation or with the last of all, where they have the same, as `append` does. So call this
-    /// before a clone is appended. Allocates nothing.
+    /// Returns the operation as it was. Where it has no clones, it shares with its replica's last operation
+    /// or with the last of all what `append` shares. So call this before a clone is appended. Allocates nothing.
     pub fn sharing(&self, op: Operation) -> Operation
         ensures { result ≡ op }
     {
-        let before = match front::last_of(&self.lasts, op.id().replica) {
-            Some(place) => place as usize,
+        let before = match self.index.last_of(op.id().replica) {
+            Some(place) => place.number(),
             None => self.entries.len(),
         };
         front::sharing(op, &self.entries, before)
     }
 
     /// The front of the log (a version vector): each replica with the counter of its last operation.
-    /// It shares its names with that of the last operation where they have the same. The only error is
-    /// out of memory.
+    /// It shares its names with that of the last operation where they have the same, and the chunks of
+    /// counters that both have. The only error is out of memory.
     pub fn front(&self) -> Result<Front, Refusal>
         ensures { UnlessMemory result (Ok (front_of self.now.operations)) }
     {
@@ -197,7 +203,7 @@ impl OpLog {
             ≡ since front.now (drop from self.now.operations) }
         ensures uncovered { IsUncovered front.now self.now.operations result }
     {
-        index::next_uncovered(&self.entries, &self.links, &self.lasts, front, from)
+        self.index.next_uncovered(&self.entries, front, from)
     }
 
     /// The operations after the first `from`, at most `max` of them. The only error is out of memory.
@@ -288,8 +294,7 @@ impl Drop for OpLog {
     fn drop(self) {
         let OpLog {
             entries: _,
-            links: _,
-            lasts: _,
+            index: _,
             front: _,
         } = self;
     }

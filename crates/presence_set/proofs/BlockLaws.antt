@@ -8,15 +8,15 @@ use Rattle.std.proofs.lemmas.Bool.Decides.{nat_tests}
 use Rattle.std.proofs.lemmas.List.{take-append-drop, take-set, length-set, drop-set-lt}
 use Rattle.std.proofs.lemmas.List.Sums.{prefix_len_is}
 use Rattle.std.proofs.lemmas.List.Elements.{Contains-append_left, Contains-append_right}
-use Rattle.doc_words.specs.Words.{Id, id_cmp}
+use Rattle.doc_api.specs.Words.{Id, id_cmp}
 use Rattle.op_core.specs.Front.{covers}
 use Rattle.list_laws.proofs.IdOrder.{transitive}
 use Rattle.list_laws.proofs.Members.{Contains-nil, Contains-here, Contains-there, Contains-cases}
 use Rattle.crdt_rules.specs.Same.{id_eq}
 use Rattle.crdt_rules.proofs.SameLaws.{id_decides}
 use Rattle.crdt_rules.proofs.WalkLaws.{id_order}
-use Rattle.sorted_lists.proofs.Keys.{is_Less, apart, apart_back, greater_is, not_less_back}
-use Rattle.sorted_lists.proofs.Rising.{IsRising-split}
+use Rattle.list_laws.proofs.Keys.{is_Less, apart, apart_back, greater_is, not_less_back}
+use Rattle.list_laws.proofs.Rising.{IsRising-split}
 use Rattle.presence_set.specs.ById.{put_at_id, get, contains, uncovered, IsAscending}
 use Rattle.presence_set.specs.Blocks.{pairs_in, has_pair, starts_by, blocks_by, AreNonEmpty, HasSpareRoom, AllHaveRoom, HaveRoomBut, HaveRoomFor}
 use Rattle.presence_set.specs.declared.lack.Lack.{Lack}

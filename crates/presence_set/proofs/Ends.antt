@@ -7,9 +7,9 @@ use Rattle.lamport_id.specs.declared.id.Id.{Id}
 use Rattle.presence_set.specs.ById.{rank, IsAscending}
 use Rattle.presence_set.proofs.Ascending.{ids_ordered}
 use Rattle.presence_set.proofs.ByIdLaws.{not_less_itself}
-use Rattle.sorted_lists.proofs.Bisection.{lesser_first, rank_is}
-use Rattle.sorted_lists.proofs.Rising.{rising_index}
-use Rattle.sorted_lists.proofs.Keys.{same}
+use Rattle.list_laws.proofs.Bisection.{lesser_first, rank_is}
+use Rattle.list_laws.proofs.Rising.{rising_index}
+use Rattle.list_laws.proofs.Keys.{same}
 
 pub one_behind : (n : ℕ) → nat_eq n 0 ≡ false → n ≡ n - 1 + 1
 one_behind zero e = absurd (true≢false e)

@@ -1,9 +1,9 @@
 -- Whether an empty map and an empty list are put, by the roles of operations.
 use Rattle.std.specs.Prelude.{◌≡◌, List, Bool, true, false}
 use Rattle.std.specs.List.{list_any}
-use Rattle.doc_words.specs.Words.{Id}
-use Rattle.doc_words.specs.declared.role.Role.{Role}
-use Rattle.doc_words.specs.declared.role.Role.TheVariants as role
+use Rattle.doc_api.specs.Words.{Id}
+use Rattle.doc_api.specs.declared.role.Role.{Role}
+use Rattle.doc_api.specs.declared.role.Role.TheVariants as role
 use Rattle.presence_set.specs.declared.empty_put.EmptyPut.{EmptyPut}
 
 -- an operation of this role put an empty map

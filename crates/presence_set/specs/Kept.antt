@@ -1,6 +1,6 @@
 -- The entries of an id list, in place or in memory of their own.
 use Rattle.std.specs.Prelude.{◌≡◌, ℕ, List, Bool, true, false, length, max, vec_capacity}
-use Rattle.doc_words.specs.Words.{Id}
+use Rattle.doc_api.specs.Words.{Id}
 use Rattle.presence_set.specs.declared.Kept.{Kept}
 use Rattle.presence_set.specs.declared.Kept.TheVariants.{One, Listed}
 

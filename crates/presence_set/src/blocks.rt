@@ -13,7 +13,7 @@ use crate::ById;
 use crate::empty_put::EmptyPut;
 use crate::lack::Lack;
 use crate::later::LaterBlocks;
-use doc_words::Role;
+use doc_api::Role;
 use lamport_id::Id;
 use op_core::Front;
 use std::alloc::{AllocError, Global};
@@ -37,7 +37,7 @@ pub struct Presence {
 impl Model for Presence {
     ghost use Rattle.std.specs.Prelude.{List, Bool, ◌++◌};
     ghost use Rattle.lamport_id.specs.declared.id.Id.{Id};
-    ghost use Rattle.doc_words.specs.declared.role.Role.{Role};
+    ghost use Rattle.doc_api.specs.declared.role.Role.{Role};
     ghost use Rattle.presence_set.specs.Blocks.{pairs_in, blocks_in, lack_in, IsInBlocks};
     ghost use Rattle.presence_set.specs.EmptyPut.{CoversPut};
 

@@ -2,7 +2,7 @@
 ghost use Rattle.std.specs.Prelude.{◌≡◌, ◌||◌, false};
 ghost use Rattle.presence_set.specs.EmptyPut.{puts_map, puts_list};
 
-use doc_words::Role;
+use doc_api::Role;
 
 /// Whether an empty map and an empty list are put at a place.
 #[derive(Clone, Copy, Debug)]

@@ -18,7 +18,7 @@ mod later;
 pub use crate::blocks::{Entries, Presence};
 pub use crate::empty_put::EmptyPut;
 pub use crate::id_blocks::IdBlocks;
-pub use doc_words::Role;
+pub use doc_api::Role;
 use lamport_id::Id;
 use op_core::Front;
 use std::alloc::{AllocError, Global};

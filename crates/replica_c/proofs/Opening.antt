@@ -4,7 +4,7 @@ use Rattle.std.proofs.lemmas.Bool.{eqb-true}
 use Rattle.std.proofs.lemmas.List.{map-append}
 use Rattle.op_core.specs.Op.{Op}
 use Rattle.json_scalar.specs.Refusal.{UnlessMemory, number_of}
-use Rattle.doc_words.specs.Words.{Refusal, NoMemory}
+use Rattle.doc_api.specs.Words.{Refusal, NoMemory}
 use Rattle.crdt_rules.specs.Log.{IsGood}
 use Rattle.doc_rules.specs.Replica.{Replica}
 use Rattle.line_feed.specs.Lines.{lines}

@@ -11,7 +11,7 @@ use Rattle.op_core.specs.Reading.{◌>>=◌}
 use Rattle.op_core.specs.declared.cursor.Tagged.{Tagged}
 use Rattle.op_core.specs.declared.cursor.Cursor.{Cursor}
 use Rattle.serde_json.specs.Data.{item}
-use Rattle.doc_words.specs.declared.place.Step.{Step}
+use Rattle.doc_api.specs.declared.place.Step.{Step}
 use Rattle.line_proto.specs.Reading.{steps_from}
 use Rattle.replica_c.specs.Places.{place_items, place_start, start_tagged, start_path}
 use Rattle.replica_c.specs.Asking.{ask_by}

@@ -2,9 +2,9 @@
 use Rattle.std.proofs.Common.{◌≡◌, inl, inr, ℕ, Bool, true, false, List, [], ◌++◌, Result, Ok, Err, refl, sym, ◌∙◌, subst, append-nil}
 use Rattle.json_scalar.specs.Refusal.{UnlessMemory}
 use Rattle.op_core.specs.Op.{Op}
-use Rattle.doc_words.specs.Words.{Refusal, NoMemory}
-use Rattle.doc_words.specs.declared.ask.Command.TheVariants.{Change, Deliver, Forget}
-use Rattle.doc_words.specs.declared.reply.Reply.TheVariants.{Refused}
+use Rattle.doc_api.specs.Words.{Refusal, NoMemory}
+use Rattle.doc_api.specs.declared.ask.Command.TheVariants.{Change, Deliver, Forget}
+use Rattle.doc_api.specs.declared.reply.Reply.TheVariants.{Refused}
 use Rattle.doc_rules.specs.Replica.{Replica}
 use Rattle.line_proto.specs.Replies.{reply_line}
 use Rattle.line_proto.specs.declared.line_reply.LineReply.TheVariants.{Answered}

@@ -9,9 +9,9 @@ use Rattle.json_scalar.specs.Refusal.{and_then}
 use Rattle.json_scalar.specs.declared.refusal.Refusal.TheVariants.{NotJson, BadRequest}
 use Rattle.op_core.specs.Op.{Op}
 use Rattle.op_core.specs.Reading.{some_if, id_from, front_of_json, op_from}
-use Rattle.doc_words.specs.Words.{Refusal, Delete}
-use Rattle.doc_words.specs.declared.ask.Command.TheVariants.{Change, Deliver, Forget}
-use Rattle.doc_words.specs.declared.ask.Query.TheVariants as query
+use Rattle.doc_api.specs.Words.{Refusal, Delete}
+use Rattle.doc_api.specs.declared.ask.Command.TheVariants.{Change, Deliver, Forget}
+use Rattle.doc_api.specs.declared.ask.Query.TheVariants as query
 use Rattle.line_proto.specs.Reading.{in_order, limit_from, line_data, look_of, mutation_of_verb}
 use Rattle.replica_c.specs.Places.{place_from}
 use Rattle.replica_c.specs.declared.ask.Ask.{Ask}

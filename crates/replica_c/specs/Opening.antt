@@ -1,7 +1,7 @@
 -- What opening a handle does.
 use Rattle.std.specs.Prelude.{◌≡◌, ◌⊎◌, ℕ, List, Option, Some, None}
 use Rattle.json_scalar.specs.Refusal.{number_of}
-use Rattle.doc_words.specs.Words.{Refusal}
+use Rattle.doc_api.specs.Words.{Refusal}
 use Rattle.json_scalar.specs.declared.refusal.Refusal.TheVariants.{BadRequest, Forked, NoMemory}
 use Rattle.replica_core.specs.declared.restore.Misfit.TheVariants as misfit
 use Rattle.replica_c.specs.Stored.{IsUnopened, OpensAs}

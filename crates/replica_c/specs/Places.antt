@@ -8,7 +8,7 @@ use Rattle.op_core.specs.declared.cursor.Cursor.{Cursor}
 use Rattle.op_core.specs.declared.cursor.Key.{Key}
 use Rattle.op_core.specs.declared.cursor.Key.TheVariants.{Doc, Text, Element}
 use Rattle.op_core.specs.declared.cursor.Tagged.{Tagged}
-use Rattle.doc_words.specs.declared.place.Place.{Place}
+use Rattle.doc_api.specs.declared.place.Place.{Place}
 use Rattle.line_proto.specs.Reading.{steps_from}
 
 -- ---- cursors

@@ -3,10 +3,10 @@ use Rattle.std.specs.Prelude.{◌≡◌, ◌⊎◌, ℕ, Bool, true, false, List
 use Rattle.serde_json.specs.Written.{compact_text}
 use Rattle.op_core.specs.Op.{Op}
 use Rattle.op_core.specs.Wire.{wire}
-use Rattle.doc_words.specs.Words.{Id, Refusal}
-use Rattle.doc_words.specs.declared.ask.Command.TheVariants.{Change, Deliver, Forget}
-use Rattle.doc_words.specs.declared.reply.Reply.{Reply}
-use Rattle.doc_words.specs.declared.reply.Reply.TheVariants.{Applied, Refused}
+use Rattle.doc_api.specs.Words.{Id, Refusal}
+use Rattle.doc_api.specs.declared.ask.Command.TheVariants.{Change, Deliver, Forget}
+use Rattle.doc_api.specs.declared.reply.Reply.{Reply}
+use Rattle.doc_api.specs.declared.reply.Reply.TheVariants.{Applied, Refused}
 use Rattle.doc_rules.specs.Answers.{MayAnswer}
 use Rattle.doc_rules.specs.Events.{Event, IsOutOfMemory}
 use Rattle.doc_rules.specs.Replica.{Replica, find_id}

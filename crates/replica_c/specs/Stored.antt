@@ -2,7 +2,7 @@
 use Rattle.std.specs.Prelude.{◌≡◌, ◌⊎◌, ℕ, List, [], ◌∷◌, ◌++◌, length, map, true, false, Ok, Err}
 use Rattle.lamport_id.specs.Name.{is_name}
 use Rattle.op_core.specs.Op.{Op}
-use Rattle.doc_words.specs.Words.{Refusal}
+use Rattle.doc_api.specs.Words.{Refusal}
 use Rattle.crdt_rules.specs.Log.{IsGood}
 use Rattle.doc_rules.specs.Cause.{IsFirstMisfit}
 use Rattle.doc_rules.specs.Replica.{Replica}

@@ -1,5 +1,5 @@
 //! What a line asks of a replica.
-use doc_words::{Command, Query};
+use doc_api::{Command, Query};
 
 /// What a line asks of a replica.
 #[derive(Drop)]

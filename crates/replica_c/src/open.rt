@@ -1,12 +1,12 @@
-//! An open replica, and what it tells.
+//! An open replica, and what it replies.
 ghost use Rattle.std.specs.Prelude.{◌≡◌, ◌≢◌, ◌⊎◌, ◌<◌, ◌++◌, ◌∷◌, [], ℕ, List, Some, false, length, MatchResult, IfOk, IfErr, OnOk};
 ghost use Rattle.line_feed.specs.Lines.{lines};
 ghost use Rattle.line_proto.specs.Replies.{reply_line};
 ghost use Rattle.line_proto.specs.declared.line_reply.LineReply.TheVariants.{Answered};
-ghost use Rattle.doc_words.specs.declared.ask.Command.TheVariants as command;
-ghost use Rattle.doc_words.specs.declared.reply.Reply.{Reply};
+ghost use Rattle.doc_api.specs.declared.ask.Command.TheVariants as command;
+ghost use Rattle.doc_api.specs.declared.reply.Reply.{Reply};
 ghost use Rattle.op_core.specs.Op.{Op};
-ghost use Rattle.doc_words.specs.Words.{NoMemory};
+ghost use Rattle.doc_api.specs.Words.{NoMemory};
 ghost use Rattle.op_core.specs.Wire.{wire};
 ghost use Rattle.serde_json.specs.Written.{compact_text};
 ghost use Rattle.crdt_rules.specs.Log.{IsGood};
@@ -20,7 +20,7 @@ ghost use Rattle.replica_c.specs.declared.ask.Ask.TheVariants.{Act};
 
 use crate::ask::Ask;
 use crate::read::{read_ask, read_operation};
-use doc_words::{Command, Place, Query, Reply};
+use doc_api::{Command, Place, Query, Reply};
 use json_scalar::Refusal;
 use json_text::{AsJson, JsonText};
 use lamport_id::{Id, ReplicaName};
@@ -36,7 +36,7 @@ use std::mem;
 // Room for the answer to any command and for the line of any operation, in bytes.
 const ROOM: usize = 65_536;
 
-/// A replica, and the text that it told last.
+/// A replica, and its last reply.
 #[derive(Drop)]
 pub struct OpenReplica {
     pub(crate) replica: Replica,
@@ -53,7 +53,7 @@ pub enum Unopened {
     Unfit(Misfit),
 }
 
-// Appends a reply's line, and tells whether it could. Only the lines of readings take memory of their own.
+// Appends a reply's line, and returns whether it could. Only the lines of readings take memory of their own.
 fn told(alloc: Global, reply: &LineReply, text: Vec<u8>) -> (Vec<u8>, bool)
     ensures { IsTold result.1 (text.items ++ reply_line reply.now) result.0.items }
 {
@@ -225,7 +225,7 @@ fn is_memory(cause: &Refusal) -> bool
     cause.number() == 22
 }
 
-// Why a text opens nothing, of which these operations stand before a line that writes none.
+// Why a text opens nothing, of which these operations are before a line that writes none.
 fn unread(alloc: Global, name: ReplicaName, operations: &[Operation], cause: Refusal) -> Misfit
     ensures { (all : List (List ℕ)) → (cause ≢ NoMemory → IsUnread all operations.now cause) → IsUnfit all result }
 {

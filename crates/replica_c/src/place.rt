@@ -8,7 +8,7 @@ ghost use Rattle.line_proto.specs.Reading.{step_from, steps_from};
 ghost use Rattle.replica_c.specs.Places.{whole_document, start_key, start_tagged, start_path, start_cursor, place_start_number};
 ghost use Rattle.replica_c.specs.Places.{place_start, place_items, place_from};
 
-use doc_words::{Place, Step, Steps};
+use doc_api::{Place, Step, Steps};
 use json_scalar::Refusal;
 use op_core::{Cursor, Key, KeyText, Path, Tagged, read_id};
 use serde_json::Value;

@@ -14,7 +14,7 @@ ghost use Rattle.replica_c.specs.Asking.{ask_items, ask_from, ask_of, op_of_line
 
 use crate::ask::Ask;
 use crate::place::read_place;
-use doc_words::{Command, Look, Query};
+use doc_api::{Command, Look, Query};
 use json_scalar::{Refusal, val_from_json};
 use op_core::{Front, Mutation, Operation, read_front, read_id, read_wire};
 use serde_json::Value;

@@ -1,65 +1,62 @@
 -- What a part of a draining makes of the rest.
-use Rattle.std.proofs.Common.{◌≡◌, ℕ, ◌+◌, suc, List, [], ◌∷◌, ◌++◌, ◌≤◌, length, Bool, Option, Some, None, find, filter, not, refl, sym, ap, subst, ◌∙◌, arith}
+use Rattle.std.proofs.Common.{◌≡◌, ℕ, ◌+◌, suc, List, [], ◌∷◌, ◌≤◌, length, Bool, Option, Some, None, find, refl, sym, ap, subst, ◌∙◌, arith}
 use Rattle.std.specs.Option.{option_map}
-use Rattle.doc_words.specs.Words.{Id, Op}
-use Rattle.crdt_rules.specs.Same.{id_eq}
+use Rattle.doc_api.specs.Words.{Id, Op}
 use Rattle.crdt_rules.specs.Dependencies.{is_ready}
 use Rattle.crdt_rules.specs.Fits.{Fits}
 use Rattle.crdt_rules.proofs.Tests.{some≢none}
 use Rattle.op_log.proofs.Ids.{find_id-Some}
 use Rattle.doc_rules.specs.Replica.{Replica, Drains, find_id}
-use Rattle.replica_core.specs.Whole.{replica_of}
+use Rattle.replica_core.specs.Whole.{Contents, replica_with, with_logged, with_removed}
 use Rattle.doc_rules.specs.Replica.Drains.{done, logs, drops}
 
 -- what the rest drains, the whole drains with the counts so far
-pub record HasDrained (log₀ held₀ log held : List Op) (logged dropped round : ℕ) : Type 0 where
-  pub rest : (name : List ℕ) (s : Replica) (n d : ℕ) → Drains (replica_of name log held) n d s → Drains (replica_of name log₀ held₀) (logged + n) (dropped + d) s
+pub record HasDrained (first now : Contents) (logged dropped round : ℕ) : Type 0 where
+  pub rest : (name : List ℕ) (s : Replica) (n d : ℕ) → Drains (replica_with name now) n d s → Drains (replica_with name first) (logged + n) (dropped + d) s
   pub counted : logged + dropped ≡ round
-  pub left : length held + round ≡ length held₀
+  pub left : length now.held + round ≡ length first.held
 
 counts_as : {r s : Replica} {n d n' d' : ℕ} → n ≡ n' → d ≡ d' → Drains r n d s → Drains r n' d' s
 counts_as {r} {s} {n} {d} {n'} {d'} e f h = subst (λ m. Drains r m d' s) e (subst (λ m. Drains r n m s) f h)
 
-pub starts : (log held : List Op) → HasDrained log held log held 0 0 0
-starts log held = record {
+pub starts : (b : Contents) → HasDrained b b 0 0 0
+starts b = record {
   rest = λ name s n d h. counts_as (omega arith) (omega arith) h;
   counted = refl;
   left = omega arith;
 }
 
-module _ {log₀ held₀ log held : List Op} {logged dropped round : ℕ} (so_far : HasDrained log₀ held₀ log held logged dropped round) where
-  pub logs_one : (op : Op) (later : List Op) → find (λ o. is_ready o log) held ≡ Some op → Fits op log → later ≡ filter (λ o. not (id_eq o.id op.id)) held
-      → length later + 1 ≡ length held → HasDrained log₀ held₀ (log ++ op ∷ []) later (logged + 1) dropped (round + 1)
-  logs_one op later found fits is fewer =
-      let left : length held + round ≡ length held₀ = so_far.left in
+module _ {first b : Contents} {logged dropped round : ℕ} (so_far : HasDrained first b logged dropped round) where
+  pub logs_one : (op : Op) → find (λ o. is_ready o b.log) b.held ≡ Some op → Fits op b.log → length (with_removed op.id b).held + 1 ≡ length b.held
+      → HasDrained first (with_logged op (with_removed op.id b)) (logged + 1) dropped (round + 1)
+  logs_one op found fits fewer =
+      let left : length b.held + round ≡ length first.held = so_far.left in
       let counted : logged + dropped ≡ round = so_far.counted in
       record {
         rest = λ name s n d h.
             counts_as {n = logged + suc n} {d = dropped + d} (omega arith) refl
-            (so_far.rest name s (suc n) d
-            (logs {r = replica_of name log held} {op = op} found fits (subst (λ l. Drains (replica_of name (log ++ op ∷ []) l) n d s) is h)));
+            (so_far.rest name s (suc n) d (logs {r = replica_with name b} {op = op} found fits h));
         counted = omega arith;
         left = omega arith;
       }
 
-  pub drops_one : (op : Op) (later : List Op) → find (λ o. is_ready o log) held ≡ Some op → later ≡ filter (λ o. not (id_eq o.id op.id)) held
-      → length later + 1 ≡ length held → HasDrained log₀ held₀ log later logged (dropped + 1) (round + 1)
-  drops_one op later found is fewer =
-      let left : length held + round ≡ length held₀ = so_far.left in
+  pub drops_one : (op : Op) → find (λ o. is_ready o b.log) b.held ≡ Some op → length (with_removed op.id b).held + 1 ≡ length b.held
+      → HasDrained first (with_removed op.id b) logged (dropped + 1) (round + 1)
+  drops_one op found fewer =
+      let left : length b.held + round ≡ length first.held = so_far.left in
       let counted : logged + dropped ≡ round = so_far.counted in
       record {
         rest = λ name s n d h.
             counts_as {n = logged + n} {d = dropped + suc d} refl (omega arith)
-            (so_far.rest name s n (suc d)
-            (drops {r = replica_of name log held} {op = op} found (subst (λ l. Drains (replica_of name log l) n d s) is h)));
+            (so_far.rest name s n (suc d) (drops {r = replica_with name b} {op = op} found h));
         counted = omega arith;
         left = omega arith;
       }
 
-  pub stops : find (λ o. is_ready o log) held ≡ None → (name : List ℕ) → Drains (replica_of name log₀ held₀) logged dropped (replica_of name log held)
+  pub stops : find (λ o. is_ready o b.log) b.held ≡ None → (name : List ℕ) → Drains (replica_with name first) logged dropped (replica_with name b)
   stops none name =
       counts_as {n = logged + 0} {d = dropped + 0} (omega arith) (omega arith)
-      (so_far.rest name (replica_of name log held) 0 0 (done {r = replica_of name log held} none))
+      (so_far.rest name (replica_with name b) 0 0 (done {r = replica_with name b} none))
 
 pub none_found : (p : Op → Bool) (held : List Op) → None ≡ option_map (λ o. o.id) (find p held) → find p held ≡ None
 none_found p held h = by (find p held) h
@@ -71,9 +68,6 @@ none_found p held h = by (find p held) h
 pub nothing_left : (p : Op → Bool) (held : List Op) → length held ≤ 0 → find p held ≡ None
 nothing_left p [] few = refl
 nothing_left p (x ∷ held) few = absurd (omega arith)
-
-abbrev pub without_id : List Op → Id → List Op
-without_id held i = filter (λ o. not (id_eq o.id i)) held
 
 pub found_id : (held : List Op) (i : Id) (op : Op) → Some op ≡ find_id held i → op.id ≡ i
 found_id held i op found = (find_id-Some held i op (sym found)).1

@@ -2,7 +2,7 @@
 use Rattle.std.proofs.Common.{◌≡◌, ℕ, ◌<◌, suc, List, ◌∷◌, ◌++◌, length, take, drop, get_or, Option, Some, None, Result, Ok, Err, sym, ap, subst, ◌∙◌, arith}
 use Rattle.std.specs.Prelude.{⊤, IfErr, IfSome}
 use Rattle.std.proofs.lemmas.List.{length-take}
-use Rattle.doc_words.specs.Words.{Refusal, Op}
+use Rattle.doc_api.specs.Words.{Refusal, Op}
 use Rattle.crdt_rules.specs.Log.{IsGood}
 use Rattle.list_laws.proofs.Members.{split_at}
 use Rattle.doc_rules.specs.Cause.{IsFirstMisfit, misfit_of}

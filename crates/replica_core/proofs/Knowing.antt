@@ -1,6 +1,6 @@
 -- What a tree that says what the log makes knows of an operation that fits.
 use Rattle.std.proofs.Common.{List, sym, subst}
-use Rattle.doc_words.specs.Words.{Op}
+use Rattle.doc_api.specs.Words.{Op}
 use Rattle.crdt_rules.specs.Fits.{Fits}
 use Rattle.crdt_rules.specs.Log.{IsGood}
 use Rattle.crdt_rules.proofs.NextStep.{reference_stands, id_is_new}

@@ -1,9 +1,9 @@
 -- Where a replica is out of memory.
 use Rattle.std.proofs.Common.{◌≡◌, ◌≢◌, inl, inr, Bool, true, false, Ok, sym, ◌∙◌}
-use Rattle.doc_words.specs.Words.{UnlessMemory, NoMemory, Op}
-use Rattle.doc_words.specs.declared.ask.Command.TheVariants as command
-use Rattle.doc_words.specs.declared.reply.Reply.{Reply}
-use Rattle.doc_words.specs.declared.reply.Reply.TheVariants as reply
+use Rattle.doc_api.specs.Words.{UnlessMemory, NoMemory, Op}
+use Rattle.doc_api.specs.declared.ask.Command.TheVariants as command
+use Rattle.doc_api.specs.declared.reply.Reply.{Reply}
+use Rattle.doc_api.specs.declared.reply.Reply.TheVariants as reply
 use Rattle.doc_rules.specs.Cause.{cause_of, first_fit_cause}
 use Rattle.doc_rules.specs.Events.{Expected, replied, held, logged, Event, expected_by_cause, delivered_rows, expected_of_delivery}
 use Rattle.doc_rules.specs.Replica.{Replica}

@@ -7,3 +7,4 @@ pub mod Keeping
 pub mod Numbers
 pub mod Looking
 pub mod FirstMisfits
+pub mod Applying

@@ -2,13 +2,13 @@
 use Rattle.std.proofs.Common.{◌≡◌, ◌<◌, ◌≤◌, inl, inr, ℕ, suc, le-leb, leb-true, arith, List, [], ◌∷◌, length, nat_le, Bool, true, false, true≢false, not, ◌&&◌, bytes_eq, Option, Some, None, Result, Ok, Err, if◌then◌else◌, refl, sym, ap, subst, ◌∙◌}
 use Rattle.std.specs.Prelude.{⊤, IfOk, IfErr, OnErr, is_some}
 use Rattle.std.proofs.lemmas.Bool.{false_from_ne_true}
-use Rattle.doc_words.specs.Words.{Refusal, NoMemory, Op}
+use Rattle.doc_api.specs.Words.{Refusal, NoMemory, Op}
 use Rattle.std.specs.Option.{option_map}
 use Rattle.json_scalar.specs.declared.refusal.Refusal.TheVariants.{IdConflict, OwnName, HeldFull}
 use Rattle.op_core.specs.Equality.{operation_eq}
 use Rattle.op_core.specs.Limits.{most_held}
-use Rattle.doc_words.specs.declared.reply.Reply.{Reply}
-use Rattle.doc_words.specs.declared.reply.Reply.TheVariants as reply
+use Rattle.doc_api.specs.declared.reply.Reply.{Reply}
+use Rattle.doc_api.specs.declared.reply.Reply.TheVariants as reply
 use Rattle.crdt_rules.specs.Dependencies.{is_ready, missing}
 use Rattle.doc_rules.specs.Cause.{cause_of}
 use Rattle.doc_rules.specs.Events.{Expected, replied, held, logged, Settles, no, first_row, is_same, expected_by_cause, expected_of_delivery}
@@ -16,10 +16,7 @@ use Rattle.doc_rules.specs.Replica.{Replica, Drains, append, find_id}
 use Rattle.replica_core.specs.declared.outcome.Applied.{Applied}
 use Rattle.replica_core.specs.Memory.{NeedsMemory}
 use Rattle.replica_core.specs.Outcomes.{Meets, reply_of_applied}
-use Rattle.replica_core.specs.Whole.{replica_of}
-
-pub same_replica : (name : List ℕ) {log log' waiting waiting' : List Op} → log' ≡ log → waiting' ≡ waiting → replica_of name log' waiting' ≡ replica_of name log waiting
-same_replica name e f = λ i. record { name = name; log = e i; held = f i }
+use Rattle.replica_core.specs.Whole.{Contents, replica_with, with_logged}
 
 -- an operation was logged, and then what it released
 pub meets_logged : (r : Replica) (op : Op) (a : Applied) (s : Replica) → (n : ℕ) × (a.count ≡ suc n) × (a.id ≡ op.id) × Drains (append op r) n a.dropped s
@@ -123,13 +120,12 @@ pub meets_as : (r : Replica) (due other : Expected) (answer : Reply) (s : Replic
 meets_as r due other answer s is h = subst (λ d. Meets r d answer s) is h
 
 -- an operation of one's own was logged, or memory ran out
-pub meets_outcome : (name : List ℕ) (log log' waiting waiting' : List Op) (op : Op) (answer : Result Applied Refusal)
-    → IfOk answer (λ a. (n : ℕ) × (a.count ≡ suc n) × (a.id ≡ op.id) × Drains (append op (replica_of name log waiting)) n a.dropped (replica_of name log' waiting'))
-    → IfErr answer (λ e. e ≡ NoMemory) → OnErr answer (log' ≡ log) → OnErr answer (waiting' ≡ waiting)
-    → Meets (replica_of name log waiting) (logged op) (reply_of_applied answer) (replica_of name log' waiting')
-meets_outcome name log log' waiting waiting' op (Ok a) ok err l h = inl (meets_logged (replica_of name log waiting) op a (replica_of name log' waiting') ok)
-meets_outcome name log log' waiting waiting' op (Err e) ok err l h =
-    meets_lacking (replica_of name log waiting) (logged op) e (replica_of name log' waiting') tt err (same_replica name l h)
+pub meets_outcome : (name : List ℕ) (b c : Contents) (op : Op) (answer : Result Applied Refusal)
+    → IfOk answer (λ a. (n : ℕ) × (a.count ≡ suc n) × (a.id ≡ op.id) × Drains (replica_with name (with_logged op b)) n a.dropped (replica_with name c))
+    → IfErr answer (λ e. e ≡ NoMemory) → OnErr answer (c ≡ b) → Meets (replica_with name b) (logged op) (reply_of_applied answer) (replica_with name c)
+meets_outcome name b c op (Ok a) ok err same = inl (meets_logged (replica_with name b) op a (replica_with name c) ok)
+meets_outcome name b c op (Err e) ok err same =
+    meets_lacking (replica_with name b) (logged op) e (replica_with name c) tt err (ap (replica_with name) same)
 
 -- a waiting operation
 pub waiting_full : (op : Op) (n : ℕ) → 256 ≤ n → no HeldFull ≡ (if nat_le most_held n then no HeldFull else held op)

@@ -1,15 +1,15 @@
 -- One's own changes.
 use Rattle.crdt_rules.specs.Same.{id_eq}
 use Rattle.crdt_rules.proofs.Tests.{some≢none}
-use Rattle.replica_core.specs.Whole.{replica_of}
+use Rattle.replica_core.specs.Whole.{Contents, replica_with, with_removed}
 use Rattle.std.proofs.Common.{[], ◌∷◌, Bool, false, not, filter, if◌then◌else◌, ◌≡◌, ◌≢◌, inl, inr, ℕ, List, Option, Some, None, Result, Ok, Err, true, refl, sym, ap, subst, ◌∙◌}
 use Rattle.std.specs.Prelude.{⊤}
 use Rattle.json_scalar.specs.Refusal.{and_then}
-use Rattle.doc_words.specs.Words.{Refusal, NoMemory, Id, Cursor, Mutation, Op}
+use Rattle.doc_api.specs.Words.{Refusal, NoMemory, Id, Cursor, Mutation, Op}
 use Rattle.json_scalar.specs.declared.refusal.Refusal.TheVariants.{NotHeld, NotInList, AtHead, LogFull, TooManyReplicas}
-use Rattle.doc_words.specs.declared.reply.Reply.{Reply}
-use Rattle.doc_words.specs.declared.ask.Command.TheVariants as command
-use Rattle.doc_words.specs.declared.place.Place.{Place}
+use Rattle.doc_api.specs.declared.reply.Reply.{Reply}
+use Rattle.doc_api.specs.declared.ask.Command.TheVariants as command
+use Rattle.doc_api.specs.declared.place.Place.{Place}
 use Rattle.doc_rules.specs.Cause.{first_fit_cause}
 use Rattle.doc_rules.specs.Events.{logged, no, first_row, expected_by_cause, expected_at_place, Does, Event, Forgets}
 use Rattle.doc_rules.specs.Resolve.{Resolves}
@@ -39,20 +39,18 @@ kept_all (o ∷ ops) i h = by (id_eq o.id i) h (λ h. kept_all ops i h)
     by false h ih = ap (λ l. o ∷ l) (ih h)
 
 -- the one of its id is dropped
-pub forgets_held : (name : List ℕ) (log waiting waiting' : List Op) (i : Id) (op : Op) (answer : Result ⊤ Refusal) → answer ≡ Ok tt → Some op ≡ find_id waiting i
-    → waiting' ≡ filter (λ z. not (id_eq z.id i)) waiting
-    → Does (replica_of name log waiting) (command.Forget i) (reply_of_forgotten answer) (replica_of name log waiting')
-forgets_held name log waiting waiting' i op answer answered is same =
-    subst (λ (o : Option Op). Forgets (replica_of name log waiting) i o (reply_of_forgotten answer) (replica_of name log waiting')) is
-    (ap reply_of_forgotten answered, (λ j. replica_of name log (same j)))
+pub forgets_held : (name : List ℕ) (b c : Contents) (i : Id) (op : Op) (answer : Result ⊤ Refusal) → answer ≡ Ok tt → Some op ≡ find_id b.held i → c ≡ with_removed i b
+    → Does (replica_with name b) (command.Forget i) (reply_of_forgotten answer) (replica_with name c)
+forgets_held name b c i op answer answered is same =
+    subst (λ (o : Option Op). Forgets (replica_with name b) i o (reply_of_forgotten answer) (replica_with name c)) is
+    (ap reply_of_forgotten answered, ap (replica_with name) same)
 
 -- and where there is none, nothing changes
-pub forgets_none : (name : List ℕ) (log waiting waiting' : List Op) (i : Id) (answer : Result ⊤ Refusal) → answer ≡ Err NotHeld → None ≡ find_id waiting i
-    → waiting' ≡ filter (λ z. not (id_eq z.id i)) waiting
-    → Does (replica_of name log waiting) (command.Forget i) (reply_of_forgotten answer) (replica_of name log waiting')
-forgets_none name log waiting waiting' i answer answered is same =
-    subst (λ (o : Option Op). Forgets (replica_of name log waiting) i o (reply_of_forgotten answer) (replica_of name log waiting')) is
-    (ap reply_of_forgotten answered, (λ j. replica_of name log ((same ∙ kept_all waiting i (sym is)) j)))
+pub forgets_none : (name : List ℕ) (b c : Contents) (i : Id) (answer : Result ⊤ Refusal) → answer ≡ Err NotHeld → None ≡ find_id b.held i → c ≡ with_removed i b
+    → Does (replica_with name b) (command.Forget i) (reply_of_forgotten answer) (replica_with name c)
+forgets_none name b c i answer answered is same =
+    subst (λ (o : Option Op). Forgets (replica_with name b) i o (reply_of_forgotten answer) (replica_with name c)) is
+    (ap reply_of_forgotten answered, ap (replica_with name) same ∙ (λ j. record { name = name; log = b.log; held = kept_all b.held i (sym is) j }))
 
 -- ---- a change at a place
 

@@ -1,6 +1,6 @@
 -- A tree that says what a log makes.
 use Rattle.std.specs.Prelude.{List}
-use Rattle.doc_words.specs.Words.{Op}
+use Rattle.doc_api.specs.Words.{Op}
 use Rattle.doc_tree.specs.Nodes.{TreeValue}
 use Rattle.doc_tree.specs.Nodes.{tree_facts, tree_role}
 use Rattle.doc_rules.specs.Role.{AreOf}

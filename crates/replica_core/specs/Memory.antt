@@ -1,7 +1,7 @@
 -- Where a replica may be out of memory.
-use Rattle.doc_words.specs.declared.ask.Command.{Command}
-use Rattle.doc_words.specs.declared.ask.Command.TheVariants.{Change, Deliver, Forget}
-use Rattle.doc_words.specs.declared.reply.Reply.TheVariants.{Held}
+use Rattle.doc_api.specs.declared.ask.Command.{Command}
+use Rattle.doc_api.specs.declared.ask.Command.TheVariants.{Change, Deliver, Forget}
+use Rattle.doc_api.specs.declared.reply.Reply.TheVariants.{Held}
 use Rattle.doc_rules.specs.Events.{Expected, replied, held, logged, expected_of_delivery}
 use Rattle.doc_rules.specs.Replica.{Replica}
 

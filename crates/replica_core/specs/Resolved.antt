@@ -1,7 +1,7 @@
 -- Where the steps of a place led.
 use Rattle.std.specs.Prelude.{◌≢◌, List, Result, Err}
-use Rattle.doc_words.specs.Words.{Refusal, NoMemory, Cursor, Op}
-use Rattle.doc_words.specs.declared.place.Step.{Step}
+use Rattle.doc_api.specs.Words.{Refusal, NoMemory, Cursor, Op}
+use Rattle.doc_api.specs.declared.place.Step.{Step}
 use Rattle.crdt_rules.specs.Facts.{facts}
 use Rattle.crdt_rules.specs.Log.{replay}
 use Rattle.doc_rules.specs.Resolve.{Resolves}

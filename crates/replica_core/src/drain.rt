@@ -1,64 +1,73 @@
 //! The draining of the held operations.
-ghost use Rattle.std.specs.Prelude.{◌≡◌, ℕ, List, [], ◌∷◌, ◌++◌, ◌+◌, ◌≤◌, length, MatchBool};
+ghost use Rattle.std.specs.Prelude.{◌≡◌, ℕ, suc, List, ◌+◌, ◌≤◌, MatchBool, OnErr, IfOk, IfErr};
+ghost use Rattle.op_core.specs.Limits.{most_held};
 ghost use Rattle.crdt_rules.specs.Fits.{Fits};
 ghost use Rattle.doc_rules.specs.Replica.{Drains};
-ghost use Rattle.hold_buffer.specs.Held.{IsCurrent};
-ghost use Rattle.replica_core.specs.AgreesWith.{AgreesWith};
+ghost use Rattle.replica_core.specs.Whole.{replica_with, with_logged};
 
-use crate::log_op::log_op;
-use doc_tree::Tree;
-use hold_buffer::HoldBuffer;
+use crate::body::Body;
+use crate::outcome::Applied;
+use json_scalar::Refusal;
 use op_core::Operation;
-use op_log::OpLog;
 
-/// How many held operations were logged, and how many were dropped.
+// How many held operations were logged, and how many were dropped.
 #[derive(Drop)]
-pub struct Drained {
-    pub logged: usize,
-    pub dropped: usize,
+struct Drained {
+    logged: usize,
+    dropped: usize,
 }
 
-/// Takes the ready operations out of the buffer, the least id first, until none is ready. Each is
-/// logged if it fits and there is memory, and dropped otherwise.
-pub fn drain(tree: &mut Tree, log: &mut OpLog, held: &mut HoldBuffer) -> Drained
-    requires agrees { AgreesWith tree.old log.old.operations }
-    requires current { IsCurrent held.old log.old.operations }
-    ensures drained { (name : List ℕ) → Drains
-        (record { name = name; log = log.old.operations; held = held.old.held }) result.logged result.dropped
-        (record { name = name; log = log.new.operations; held = held.new.held }) }
-    ensures few { result.logged + result.dropped ≤ length held.old.held }
-    ensures agrees { AgreesWith tree.new log.new.operations }
-    ensures current { IsCurrent held.new log.new.operations }
-{
-    let mut logged = 0;
-    let mut dropped = 0;
-    for round in 0..held.len() {
-        let Some(id) = held.next_ready(log) else {
-            break;
-        };
-        if let Some(op) = held.remove(id) {
-            let id = op.id();
-            if release(tree, log, op) {
-                held.logged(id);
-                logged += 1;
-            } else {
-                dropped += 1;
+impl Body {
+    /// Logs an operation that fits, and then the held ones that it releases. The only error is out of
+    /// memory, which changes nothing.
+    pub fn log_and_drain(&mut self, op: Operation) -> Result<Applied, Refusal>
+        requires { Fits op self.old.log }
+        ensures ok { (name : List ℕ) → IfOk result (λ a. (n : ℕ) × (a.count ≡ suc n) × (a.id ≡ op.id)
+            × Drains (replica_with name (with_logged op self.old)) n a.dropped (replica_with name self.new)) }
+        ensures err { IfErr result (λ e. e ≡ Refusal.NoMemory) }
+        ensures same { OnErr result (self.new ≡ self.old) }
+    {
+        let id = op.id();
+        self.append(op)?;
+        let drained = self.drain();
+        Ok(Applied {
+            count: drained.logged as u64 + 1,
+            dropped: drained.dropped as u64,
+            id,
+        })
+    }
+
+    // Takes the ready operations out of the buffer, the least id first, until none is ready. Each is
+    // logged if it fits and there is memory, and dropped otherwise.
+    fn drain(&mut self) -> Drained
+        ensures drained { (name : List ℕ)
+            → Drains (replica_with name self.old) result.logged result.dropped (replica_with name self.new) }
+        ensures few { result.logged + result.dropped ≤ most_held }
+    {
+        let mut logged = 0;
+        let mut dropped = 0;
+        for _ in 0..self.held().len() {
+            let Some(id) = self.next_ready() else {
+                break;
+            };
+            if let Some(op) = self.remove(id) {
+                if self.release(op) {
+                    logged += 1;
+                } else {
+                    dropped += 1;
+                }
             }
         }
+        Drained { logged, dropped }
     }
-    Drained { logged, dropped }
-}
 
-// Logs an operation if it fits and there is memory, and returns whether it did.
-fn release(tree: &mut Tree, log: &mut OpLog, op: Operation) -> bool
-    requires { AgreesWith tree.old log.old.operations }
-    ensures logs { MatchBool result
-        (Fits op log.old.operations × (log.new.operations ≡ log.old.operations ++ op ∷ []))
-        (log.new.operations ≡ log.old.operations) }
-    ensures agrees { AgreesWith tree.new log.new.operations }
-{
-    match log.check(&op) {
-        Ok(()) => log_op(tree, log, op).is_ok(),
-        Err(_) => false,
+    // Logs an operation if it fits and there is memory, and returns whether it did.
+    fn release(&mut self, op: Operation) -> bool
+        ensures { MatchBool result (Fits op self.old.log × (self.new ≡ with_logged op self.old)) (self.new ≡ self.old) }
+    {
+        match self.log().check(&op) {
+            Ok(()) => self.append(op).is_ok(),
+            Err(_) => false,
+        }
     }
 }

@@ -1,6 +1,7 @@
 //! A replica of a document: its log, the tree that the log makes, and the operations that wait.
 #![tactic(auto)]
 
+mod body;
 mod deliver;
 mod drain;
 mod limits;

@@ -1,5 +1,5 @@
 //! The answers of a replica's changes.
-use doc_words::Ids;
+use doc_api::Ids;
 use lamport_id::Id;
 
 /// An operation was logged.

@@ -3,7 +3,7 @@ ghost use Rattle.std.specs.Prelude.{◌≡◌};
 ghost use Rattle.replica_core.specs.Outcomes.{reply_of_applied, reply_of_delivered, reply_of_forgotten};
 
 use crate::outcome::{Applied, Delivered};
-use doc_words::Reply;
+use doc_api::Reply;
 use json_scalar::Refusal;
 
 /// The reply to a change of one's own.

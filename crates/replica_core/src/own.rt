@@ -1,9 +1,8 @@
 //! Changes of one's own.
-ghost use Rattle.std.specs.Prelude.{◌≡◌, ◌+◌, ◌<◌, ◌≤◌, List, [], length, Ok, Err, true, not, ◌&&◌, if◌then◌else◌};
+ghost use Rattle.std.specs.Prelude.{◌≡◌, ◌+◌, ◌<◌, [], Ok, Err, true, not, ◌&&◌, if◌then◌else◌};
 ghost use Rattle.lamport_id.specs.Limits.{greatest_counter};
 ghost use Rattle.lamport_id.specs.Name.{is_name};
-ghost use Rattle.doc_words.specs.Words.{UnlessMemory, Op};
-ghost use Rattle.op_core.specs.Limits.{most_held};
+ghost use Rattle.doc_api.specs.Words.{UnlessMemory};
 ghost use Rattle.op_core.specs.Front.{max_counter};
 ghost use Rattle.op_core.specs.Shape as shape;
 ghost use Rattle.crdt_rules.specs.Effect.{is_insertion};
@@ -11,98 +10,80 @@ ghost use Rattle.crdt_rules.specs.Fits.{Fits};
 ghost use Rattle.doc_rules.specs.Events as expected;
 ghost use Rattle.doc_rules.specs.Events.{expected_by_cause, expected_of_change, expected_at_place};
 ghost use Rattle.doc_rules.specs.Replica.{own_op};
-ghost use Rattle.hold_buffer.specs.Held.{IsCurrent};
 ghost use Rattle.replica_core.specs.Resolved.{IsPlaceOf};
-ghost use Rattle.replica_core.specs.AgreesWith.{AgreesWith};
 ghost use Rattle.replica_core.specs.Outcomes.{Meets, first_place_cause, reply_of_applied};
-ghost use Rattle.replica_core.specs.Whole.{replica_of};
+ghost use Rattle.replica_core.specs.Whole.{replica_of, replica_with};
 
-use crate::deliver::log_and_drain;
+use crate::body::Body;
 use crate::limits::keeps_limits;
 use crate::outcome::Applied;
-use doc_tree::Tree;
-use hold_buffer::HoldBuffer;
 use json_scalar::Refusal;
 use lamport_id::{Id, ReplicaName};
 use op_core::{Cursor, Front, Key, Mutation, Operation};
 use op_log::{OpLog, keeps_good};
 use std::alloc::Global;
 
-/// Makes a change where the steps of its place led. The error is why they led nowhere, or the first
-/// cause against the change.
-pub fn change(
-    alloc: Global,
-    name: ReplicaName,
-    tree: &mut Tree,
-    log: &mut OpLog,
-    held: &mut HoldBuffer,
-    resolved: Result<Cursor, Refusal>,
-    mutation: Mutation,
-) -> Result<Applied, Refusal>
-    requires named { is_name name ≡ true }
-    requires place { IsPlaceOf log.old.operations resolved }
-    requires agrees { AgreesWith tree.old log.old.operations }
-    requires current { IsCurrent held.old log.old.operations }
-    requires few { length held.old.held ≤ most_held }
-    ensures met { let r = replica_of name log.old.operations held.old.held in
-        Meets r (expected_at_place r resolved mutation) (reply_of_applied result)
-        (replica_of name log.new.operations held.new.held) }
-    ensures agrees { AgreesWith tree.new log.new.operations }
-    ensures current { IsCurrent held.new log.new.operations }
-{
-    match resolved {
-        Ok(cursor) => match own_cause(&name, log, &cursor, &mutation) {
-            Ok(()) => log_own(alloc, name, tree, log, held, cursor, mutation),
+impl Body {
+    /// Makes a change where the steps of its place led. The error is why they led nowhere, or the first
+    /// cause against the change.
+    pub fn change(
+        &mut self,
+        alloc: Global,
+        name: ReplicaName,
+        resolved: Result<Cursor, Refusal>,
+        mutation: Mutation,
+    ) -> Result<Applied, Refusal>
+        requires named { is_name name ≡ true }
+        requires place { IsPlaceOf self.old.log resolved }
+        ensures { let r = replica_with name self.old in
+            Meets r (expected_at_place r resolved mutation) (reply_of_applied result) (replica_with name self.new) }
+    {
+        match resolved {
+            Ok(cursor) => match self.own_cause(&name, &cursor, &mutation) {
+                Ok(()) => self.log_own(alloc, name, cursor, mutation),
+                Err(cause) => Err(cause),
+            },
             Err(cause) => Err(cause),
-        },
-        Err(cause) => Err(cause),
+        }
     }
-}
 
-// Logs one's own operation, against which there is no cause.
-fn log_own(
-    alloc: Global,
-    name: ReplicaName,
-    tree: &mut Tree,
-    log: &mut OpLog,
-    held: &mut HoldBuffer,
-    cursor: Cursor,
-    mutation: Mutation,
-) -> Result<Applied, Refusal>
-    requires named { is_name name ≡ true }
-    requires place { IsPlaceOf log.old.operations (Ok cursor) }
-    requires unopposed { let r = replica_of name log.old.operations held.old.held in
-        expected_of_change r cursor mutation ≡ expected.logged (own_op r cursor mutation) }
-    requires agrees { AgreesWith tree.old log.old.operations }
-    requires current { IsCurrent held.old log.old.operations }
-    requires few { length held.old.held ≤ most_held }
-    ensures met { let r = replica_of name log.old.operations held.old.held in
-        Meets r (expected.logged (own_op r cursor mutation)) (reply_of_applied result)
-        (replica_of name log.new.operations held.new.held) }
-    ensures agrees { AgreesWith tree.new log.new.operations }
-    ensures current { IsCurrent held.new log.new.operations }
-{
-    keeps_limits(&mutation);
-    keeps_good(log);
-    match own_operation(alloc, name, log, cursor, mutation) {
-        Ok(op) => log_and_drain(tree, log, held, op),
-        Err(_) => Err(Refusal::NoMemory),
+    // The first cause against one's own change at a place.
+    fn own_cause(
+        &self,
+        name: &ReplicaName,
+        cursor: &Cursor,
+        mutation: &Mutation,
+    ) -> Result<(), Refusal>
+        ensures { let r = replica_with name.now self.now in
+            expected_of_change r cursor.now mutation.now ≡ expected_by_cause result (own_op r cursor.now mutation.now) }
+    {
+        match place_cause(cursor, mutation) {
+            Ok(()) => self.log().check_room(*name),
+            Err(cause) => Err(cause),
+        }
     }
-}
 
-// The first cause against one's own change at a place.
-fn own_cause(
-    name: &ReplicaName,
-    log: &OpLog,
-    cursor: &Cursor,
-    mutation: &Mutation,
-) -> Result<(), Refusal>
-    ensures { (waiting : List Op) → let r = replica_of name.now log.now.operations waiting in
-        expected_of_change r cursor.now mutation.now ≡ expected_by_cause result (own_op r cursor.now mutation.now) }
-{
-    match place_cause(cursor, mutation) {
-        Ok(()) => log.check_room(*name),
-        Err(cause) => Err(cause),
+    // Logs one's own operation, against which there is no cause.
+    fn log_own(
+        &mut self,
+        alloc: Global,
+        name: ReplicaName,
+        cursor: Cursor,
+        mutation: Mutation,
+    ) -> Result<Applied, Refusal>
+        requires named { is_name name ≡ true }
+        requires place { IsPlaceOf self.old.log (Ok cursor) }
+        requires unopposed { let r = replica_with name self.old in
+            expected_of_change r cursor mutation ≡ expected.logged (own_op r cursor mutation) }
+        ensures { let r = replica_with name self.old in
+            Meets r (expected.logged (own_op r cursor mutation)) (reply_of_applied result)
+            (replica_with name self.new) }
+    {
+        keeps_limits(&mutation);
+        match own_operation(alloc, name, self.log(), cursor, mutation) {
+            Ok(op) => self.log_and_drain(op),
+            Err(_) => Err(Refusal::NoMemory),
+        }
     }
 }
 

@@ -1,72 +1,90 @@
 //! A replica's answers to queries.
 ghost use Rattle.std.specs.Prelude.{◌≡◌, ◌⊎◌, ℕ, List};
-ghost use Rattle.op_core.specs.Op.{Op};
 ghost use Rattle.doc_tree.specs.Nodes.{tree_facts};
 ghost use Rattle.doc_rules.specs.Answers.{MayAnswer, LooksHere, reply_with};
 ghost use Rattle.doc_view.specs.TreeValues.{tree_values};
-ghost use Rattle.doc_words.specs.declared.ask.Query.TheVariants as query;
-ghost use Rattle.hold_buffer.specs.Held.{IsCurrent};
-ghost use Rattle.replica_core.specs.AgreesWith.{AgreesWith};
-ghost use Rattle.replica_core.specs.Whole.{replica_of};
+ghost use Rattle.doc_api.specs.declared.ask.Query.TheVariants as query;
+ghost use Rattle.replica_core.specs.Whole.{replica_with};
 
+use crate::body::Body;
+use doc_api::{CompactText, Conflicts, Look, Place, Query, Reply, Scalars};
 use doc_tree::Tree;
 use doc_view::{conflicts, items_text, keys_text, resolve, show, sum, values};
-use doc_words::{CompactText, Conflicts, Look, Place, Query, Reply, Scalars};
-use hold_buffer::HoldBuffer;
 use json_scalar::Refusal;
 use op_core::{Cursor, Front};
-use op_log::{OpLog, keeps_good};
 use std::alloc::Global;
 
-/// A replica's answer to a query. `mine` is the answer to a query of the account. Any other query may be
-/// refused with out of memory, and a reading of a place with the cause against the place.
-pub fn read(
-    alloc: Global,
-    tree: &Tree,
-    log: &OpLog,
-    held: &HoldBuffer,
-    mine: u64,
-    query: Query,
-) -> Reply
-    requires agrees { AgreesWith tree.now log.now.operations }
-    requires current { IsCurrent held.now log.now.operations }
-    ensures answer { (name : List ℕ) → MayAnswer (replica_of name log.now.operations held.now.held) mine query result }
-    ensures account { query ≡ Query.Account → result ≡ Reply.Account mine }
-{
-    match query {
-        Query::Resolve(place) => resolve_place(tree, log, place),
-        Query::Look(look, place) => look_at_place(alloc, tree, log, look, place),
-        Query::Operations(front, limit) => operations(log, &front, limit),
-        Query::Front => whole_front(log),
-        Query::Held => waiting(log, held),
-        Query::Account => Reply::Account(mine),
+impl Body {
+    /// A replica's answer to a query. `mine` is the answer to a query of the account. Any other query may
+    /// be refused with out of memory, and a reading of a place with the cause against the place.
+    pub fn read(&self, alloc: Global, mine: u64, query: Query) -> Reply
+        ensures answer { (name : List ℕ) → MayAnswer (replica_with name self.now) mine query result }
+        ensures account { query ≡ Query.Account → result ≡ Reply.Account mine }
+    {
+        match query {
+            Query::Resolve(place) => self.resolve_place(place),
+            Query::Look(look, place) => self.look_at_place(alloc, look, place),
+            Query::Operations(front, limit) => self.operations(&front, limit),
+            Query::Front => self.whole_front(),
+            Query::Held => self.waiting(),
+            Query::Account => Reply::Account(mine),
+        }
     }
-}
 
-// The answer of a look at a place, or the cause against its steps.
-fn look_at_place(alloc: Global, tree: &Tree, log: &OpLog, look: Look, place: Place) -> Reply
-    requires { AgreesWith tree.now log.now.operations }
-    ensures { (name : List ℕ) (held : List Op) (mine : ℕ)
-        → MayAnswer (replica_of name log.now.operations held) mine (query.Look look place) result }
-{
-    keeps_good(log);
-    let Place { start, steps } = place;
-    match resolve(tree, start, steps.as_slice()) {
-        Ok(cursor) => look_at(alloc, tree, look, &cursor),
-        Err(cause) => Reply::Refused(cause),
+    // The answer of a look at a place, or the cause against its steps.
+    fn look_at_place(&self, alloc: Global, look: Look, place: Place) -> Reply
+        ensures { (name : List ℕ) (mine : ℕ)
+            → MayAnswer (replica_with name self.now) mine (query.Look look place) result }
+    {
+        let Place { start, steps } = place;
+        let tree = self.tree();
+        match resolve(tree, start, steps.as_slice()) {
+            Ok(cursor) => look_at(alloc, tree, look, &cursor),
+            Err(cause) => Reply::Refused(cause),
+        }
     }
-}
 
-// Where the steps of a place lead.
-fn resolve_place(tree: &Tree, log: &OpLog, place: Place) -> Reply
-    requires { AgreesWith tree.now log.now.operations }
-    ensures { (name : List ℕ) (held : List Op) (mine : ℕ)
-        → MayAnswer (replica_of name log.now.operations held) mine (query.Resolve place) result }
-{
-    let Place { start, steps } = place;
-    match resolve(tree, start, steps.as_slice()) {
-        Ok(cursor) => Reply::Resolved(cursor),
-        Err(cause) => Reply::Refused(cause),
+    // Where the steps of a place lead.
+    fn resolve_place(&self, place: Place) -> Reply
+        ensures { (name : List ℕ) (mine : ℕ)
+            → MayAnswer (replica_with name self.now) mine (query.Resolve place) result }
+    {
+        let Place { start, steps } = place;
+        match resolve(self.tree(), start, steps.as_slice()) {
+            Ok(cursor) => Reply::Resolved(cursor),
+            Err(cause) => Reply::Refused(cause),
+        }
+    }
+
+    // The logged operations that a front does not cover, at most so many.
+    fn operations(&self, front: &Front, limit: u64) -> Reply
+        ensures { (name : List ℕ) (mine : ℕ)
+            → MayAnswer (replica_with name self.now) mine (query.Operations front.now limit) result }
+    {
+        match self.log().since_text(front, limit as usize) {
+            Ok(text) => Reply::Operations(text),
+            Err(_) => Reply::Refused(Refusal::NoMemory),
+        }
+    }
+
+    // The front of the log.
+    fn whole_front(&self) -> Reply
+        ensures { (name : List ℕ) (mine : ℕ) → MayAnswer (replica_with name self.now) mine query.Front result }
+    {
+        match self.log().front() {
+            Ok(front) => Reply::Front(front),
+            Err(_) => Reply::Refused(Refusal::NoMemory),
+        }
+    }
+
+    // The held operations, and what each waits for.
+    fn waiting(&self) -> Reply
+        ensures { (name : List ℕ) (mine : ℕ) → MayAnswer (replica_with name self.now) mine query.Held result }
+    {
+        match self.held().waiting(self.log()) {
+            Ok(waiting) => Reply::Waiting(waiting),
+            Err(_) => Reply::Refused(Refusal::NoMemory),
+        }
     }
 }
 
@@ -82,40 +100,6 @@ fn look_at(alloc: Global, tree: &Tree, look: Look, cursor: &Cursor) -> Reply
         Look::Conflicts => conflicts_reply(conflicts(alloc, tree, cursor)),
         Look::Show => show_reply(show(alloc, tree, cursor)),
         Look::Sum => sum_reply(sum(tree, cursor)),
-    }
-}
-
-// The logged operations that a front does not cover, at most so many.
-fn operations(log: &OpLog, front: &Front, limit: u64) -> Reply
-    ensures { (name : List ℕ) (held : List Op) (mine : ℕ)
-        → MayAnswer (replica_of name log.now.operations held) mine (query.Operations front.now limit) result }
-{
-    match log.since_text(front, limit as usize) {
-        Ok(text) => Reply::Operations(text),
-        Err(_) => Reply::Refused(Refusal::NoMemory),
-    }
-}
-
-// The front of the log.
-fn whole_front(log: &OpLog) -> Reply
-    ensures { (name : List ℕ) (held : List Op) (mine : ℕ)
-        → MayAnswer (replica_of name log.now.operations held) mine query.Front result }
-{
-    match log.front() {
-        Ok(front) => Reply::Front(front),
-        Err(_) => Reply::Refused(Refusal::NoMemory),
-    }
-}
-
-// The held operations, and what each waits for.
-fn waiting(log: &OpLog, held: &HoldBuffer) -> Reply
-    requires { IsCurrent held.now log.now.operations }
-    ensures { (name : List ℕ) (mine : ℕ)
-        → MayAnswer (replica_of name log.now.operations held.now.held) mine query.Held result }
-{
-    match held.waiting(log) {
-        Ok(waiting) => Reply::Waiting(waiting),
-        Err(_) => Reply::Refused(Refusal::NoMemory),
     }
 }
 

@@ -5,28 +5,25 @@ ghost use Rattle.crdt_rules.specs.Log.{IsGood};
 ghost use Rattle.doc_rules.specs.Answers.{MayAnswer};
 ghost use Rattle.doc_rules.specs.Events.{Does, Event};
 ghost use Rattle.doc_rules.specs.Replica.{IsKept};
-ghost use Rattle.doc_words.specs.declared.ask.Command.TheVariants as command;
+ghost use Rattle.doc_api.specs.declared.ask.Command.TheVariants as command;
 ghost use Rattle.replica_core.specs.Memory.{MayLack};
 ghost use Rattle.replica_core.specs.Misfits.{IsMisfitOf};
 ghost use Rattle.replica_core.specs.AgreesWith.{AgreesWith};
 ghost use Rattle.replica_core.specs.Outcomes.{reply_of_applied, reply_of_delivered, reply_of_forgotten};
 ghost use Rattle.replica_core.specs.Whole.{replica_of};
 
-use crate::deliver::deliver;
+use crate::body::Body;
 use crate::limits::keeps_limits;
 use crate::outcome::{Applied, Delivered};
 use crate::outcome_reply::{applied_reply, delivered_reply, forgotten_reply};
-use crate::own::change;
-use crate::read::read;
-use crate::restore::{Misfit, logged};
+use crate::restore::{Misfit, logged, tree_of};
+use doc_api::{Command, Place, Query, Reply};
 use doc_tree::Tree;
 use doc_view::resolve;
-use doc_words::{Command, Place, Query, Reply};
-use hold_buffer::HoldBuffer;
 use json_scalar::Refusal;
 use lamport_id::{Id, ReplicaName, keeps_name};
 use op_core::{Mutation, Operation, keeps_shape};
-use op_log::OpLog;
+use op_log::{OpLog, keeps_good};
 use std::alloc::Global;
 use std::marker::Model;
 
@@ -36,9 +33,7 @@ use std::marker::Model;
 pub struct Replica {
     name: ReplicaName,
     alloc: Global,
-    tree: Tree,
-    log: OpLog,
-    held: HoldBuffer,
+    body: Body,
 }
 
 impl Model for Replica {
@@ -47,9 +42,9 @@ impl Model for Replica {
 
     ghost Value = { Document };
 
-    ghost view = { λ r. record { name = r.name; log = r.log.operations; held = r.held.held } };
+    ghost view = { λ r. record { name = r.name; log = r.body.log; held = r.body.held } };
 
-    ghost invariant = { λ r. IsWhole r.name r.tree r.log.operations r.held };
+    ghost invariant = { λ r. IsWhole r.name r.body };
 }
 
 impl Replica {
@@ -64,9 +59,7 @@ impl Replica {
             Ok(tree) => Ok(Replica {
                 name,
                 alloc,
-                tree,
-                log: OpLog::new(alloc),
-                held: HoldBuffer::new(alloc),
+                body: Body::new(alloc, tree, OpLog::new(alloc)),
             }),
             Err(_) => Err(Refusal::NoMemory),
         }
@@ -89,12 +82,26 @@ impl Replica {
             Ok((tree, log)) => Ok(Replica {
                 name,
                 alloc,
-                tree,
-                log,
-                held: HoldBuffer::new(alloc),
+                body: Body::new(alloc, tree, log),
             }),
             Err(misfit) => Err(misfit),
         }
+    }
+
+    /// The replica of this name whose log is this one, and which holds no operation. It keeps the
+    /// allocator. No operation is checked again. The only error is out of memory.
+    pub fn of_log(alloc: Global, name: ReplicaName, log: OpLog) -> Result<Replica, Refusal>
+        ensures ok { IfOk result (λ r. r ≡ replica_of name log.operations []) }
+        ensures err { IfErr result (λ e. e ≡ Refusal.NoMemory) }
+    {
+        keeps_name(&name);
+        keeps_good(&log);
+        let tree = tree_of(alloc, &log)?;
+        Ok(Replica {
+            name,
+            alloc,
+            body: Body::new(alloc, tree, log),
+        })
     }
 
     /// Its name.
@@ -109,14 +116,14 @@ impl Replica {
         ensures log { result.now.operations ≡ self.now.log }
         ensures kept { IsKept self.now }
     {
-        &self.log
+        self.body.log()
     }
 
     /// The tree of its log.
     pub fn tree(&self) -> &Tree
         ensures { AgreesWith result.now self.now.log }
     {
-        &self.tree
+        self.body.tree()
     }
 
     /// Makes a change of one's own at a place, as the next operation of this replica, and then logs what
@@ -128,16 +135,8 @@ impl Replica {
     {
         keeps_limits(&mutation);
         let Place { start, steps } = place;
-        let resolved = resolve(&self.tree, start, steps.as_slice());
-        change(
-            self.alloc,
-            self.name,
-            &mut self.tree,
-            &mut self.log,
-            &mut self.held,
-            resolved,
-            mutation,
-        )
+        let resolved = resolve(self.body.tree(), start, steps.as_slice());
+        self.body.change(self.alloc, self.name, resolved, mutation)
     }
 
     /// Delivers an operation that was made elsewhere. The answer is that it is known, or the first cause
@@ -150,7 +149,7 @@ impl Replica {
         ensures memory { result ≡ Err NoMemory → MayLack self.old (command.Deliver op) }
     {
         keeps_shape(&op);
-        deliver(self.name, &mut self.tree, &mut self.log, &mut self.held, op)
+        self.body.deliver(self.name, op)
     }
 
     /// Drops a held operation. The only error is not-held, where none is held under the id, which changes
@@ -158,7 +157,7 @@ impl Replica {
     pub fn forget(&mut self, id: Id) -> Result<(), Refusal>
         ensures { Does self.old (command.Forget id) (reply_of_forgotten result) self.new }
     {
-        match self.held.remove(id) {
+        match self.body.remove(id) {
             Some(op) => {
                 // what `forget` is for
                 drop(op);
@@ -175,7 +174,7 @@ impl Replica {
         ensures answer { MayAnswer self.now mine query result }
         ensures account { query ≡ Query.Account → result ≡ Reply.Account mine }
     {
-        read(self.alloc, &self.tree, &self.log, &self.held, mine, query)
+        self.body.read(self.alloc, mine, query)
     }
 
     /// Runs a command, and returns the answer of `local`, `deliver` or `forget` as a reply. A delivery is
@@ -198,9 +197,7 @@ impl Drop for Replica {
         let Replica {
             name: _,
             alloc: _,
-            tree: _,
-            log: _,
-            held: _,
+            body: _,
         } = self;
     }
 }

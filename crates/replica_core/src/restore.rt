@@ -1,5 +1,5 @@
-//! Logs made of lists of operations.
-ghost use Rattle.std.specs.Prelude.{◌≡◌, [], ◌∷◌, ◌++◌, None, Err, OnOk, IfOk, IfErr, IfSome};
+//! Logs made of lists of operations, and the trees of logs.
+ghost use Rattle.std.specs.Prelude.{◌≡◌, ◌+◌, ◌<◌, [], ◌∷◌, ◌++◌, length, take, None, Err, OnOk, IfOk, IfErr, IfSome};
 ghost use Rattle.crdt_rules.specs.Fits.{Fits};
 ghost use Rattle.crdt_rules.specs.Log.{IsGood};
 ghost use Rattle.doc_rules.specs.Cause.{misfit_of};
@@ -93,4 +93,32 @@ fn log_clone(tree: &mut Tree, log: &mut OpLog, op: &Operation) -> Result<(), Opt
         Ok(()) => Ok(()),
         Err(_) => Err(None),
     }
+}
+
+/// The tree of a log. The log's operations are applied one after another, and none is checked. The only
+/// error is out of memory.
+pub fn tree_of(alloc: Global, log: &OpLog) -> Result<Tree, Refusal>
+    ensures ok { IfOk result (λ tree. AgreesWith tree log.now.operations) }
+    ensures err { IfErr result (λ e. e ≡ Refusal.NoMemory) }
+{
+    let mut tree = Tree::new(alloc)?;
+    keeps_good(log);
+    for place in 0..log.len() {
+        apply_at(&mut tree, log.as_slice(), place)?;
+    }
+    Ok(tree)
+}
+
+// Applies the operation at this place of a valid log to the tree of those before it.
+fn apply_at(tree: &mut Tree, operations: &[Operation], place: usize) -> Result<(), Refusal>
+    requires good { IsGood operations.now }
+    requires within { place < length operations.now }
+    requires agrees { AgreesWith tree.old (take place operations.now) }
+    ensures ok { OnOk result (AgreesWith tree.new (take (place + 1) operations.now)) }
+    ensures err { IfErr result (λ e. e ≡ Refusal.NoMemory) }
+{
+    let op = &operations[place];
+    tree.prepare(op)?;
+    tree.commit(op);
+    Ok(())
 }

@@ -4,13 +4,13 @@ use Rattle.std.proofs.lemmas.List.{map-append}
 use Rattle.std.proofs.Math.Seq.{drop-append_seam}
 use Rattle.std.proofs.lemmas.Bool.{eqb-true}
 use Rattle.std.specs.List.{All}
-use Rattle.doc_words.specs.Words.{Op, Refusal, NoMemory}
+use Rattle.doc_api.specs.Words.{Op, Refusal, NoMemory}
 use Rattle.json_scalar.specs.declared.refusal.Refusal.TheVariants.{SeatsFull, ListsDiffer}
-use Rattle.doc_words.specs.declared.ask.Command.{Command}
+use Rattle.doc_api.specs.declared.ask.Command.{Command}
 use Rattle.doc_rules.specs.Document.{Document, IsSound, by, logged_by, opens}
 use Rattle.doc_rules.specs.Seats.{Seat, Answer, ActsFor, AnswersFor, AreEndsOf, IsEndOf, operation_ids}
 use Rattle.doc_rules.proofs.Shared.{acts_gives}
-use Rattle.doc_words.specs.declared.ask.Query.{Query}
+use Rattle.doc_api.specs.declared.ask.Query.{Query}
 use Rattle.locked_doc.specs.Locked.{seat_opened}
 use Rattle.session_core.specs.Seats.{new_seat_number}
 use Rattle.run_core.specs.HasTold.{HasTold}

@@ -1,15 +1,14 @@
 //! The documents of a run, each with a ledger of one seat.
 ghost use Rattle.std.specs.Prelude.{◌≡◌, ◌-◌};
 ghost use Rattle.share_ledger.specs.Begun.{BeginEmpty};
-ghost use Rattle.doc_ledger.specs.Numbers.{greatest_number};
+ghost use Rattle.locked_doc.specs.Numbers.{greatest_number};
 ghost use Rattle.run_core.specs.HasTold.{HasTold};
 
 use crate::run::Maker;
-use doc_ledger::Ledger;
-use doc_words::{Command, Query, Reply};
+use doc_api::{Command, Query, Reply};
 use json_scalar::Refusal;
 use lamport_id::ReplicaName;
-use locked_doc::{Answer, Gathering, LockedDoc, Seat, SeatEnd, Totals};
+use locked_doc::{Answer, Gathering, Ledger, LockedDoc, Seat, SeatEnd, Totals};
 use session_core::Document;
 use share_ledger::{Blank, Marker};
 use std::alloc::Global;
@@ -107,14 +106,14 @@ impl<M: Marker> Model for NewDocuments<M> {
 
     ghost view = { λ d. d.ledger };
 
-    ghost invariant = { λ d. BeginEmpty M.initial_log };
+    ghost invariant = { λ d. BeginEmpty M.origin };
 }
 
 impl<M: Marker> NewDocuments<M> {
     /// One that has made no document yet. It takes no memory.
     pub fn new(blank: Blank) -> NewDocuments<M>
         requires blank { blank ≡ M.name }
-        requires begun { BeginEmpty M.initial_log }
+        requires begun { BeginEmpty M.origin }
         ensures { result ≡ 0 }
     {
         NewDocuments {

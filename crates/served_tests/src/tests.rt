@@ -1,4 +1,4 @@
-//! Servers over a copy: what they serve and copy, and what the next one starts from.
+//! Servers over a stored log: what they serve and copy, and what the next one starts from.
 mod addresses;
 mod checks;
 mod command_lines;
@@ -10,7 +10,9 @@ mod failures;
 mod faults;
 mod files;
 mod keeping_up;
+mod list_faults;
 mod notes;
+mod places;
 mod serving;
 mod starts;
 mod stops;

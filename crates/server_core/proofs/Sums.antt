@@ -1,7 +1,7 @@
 -- The totals of documents, one after another.
 use Rattle.std.proofs.Common.{◌≡◌, ℕ, zero, suc, ◌+◌, List, [], ◌∷◌, ◌++◌, length, map, Option, ◌⊎◌, refl, subst, arith}
 use Rattle.std.specs.List.{flat_map}
-use Rattle.op_core.specs.Op.{Op}
+use Rattle.share_ledger.specs.Begun.{Origin}
 use Rattle.doc_rules.specs.Seats.{Seat}
 use Rattle.locked_doc.specs.Locked.{Locked}
 use Rattle.locked_doc.specs.declared.gather.Totals.{Totals}
@@ -12,14 +12,14 @@ behind-next zero sessions = refl
 behind-next (suc k) sessions = behind-next k (map later_ends sessions)
 
 -- one more behind them
-pub one_more : (initial_log : ℕ → List Op) (n : ℕ) (sessions : List (List (Option Seat))) (totals : List Totals) (t : Totals) → AreTotalsFrom initial_log n sessions totals
-    → AreTotals initial_log (n + length totals) (flat_map first_end (ends_behind (length totals) sessions)) t → AreTotalsFrom initial_log n sessions (totals ++ t ∷ [])
-one_more initial_log n sessions [] t are next = let here : n + 0 ≡ n = omega arith in (subst (λ k. AreTotals initial_log k (flat_map first_end sessions) t) here next, tt)
-one_more initial_log n sessions (x ∷ totals) t are next =
+pub one_more : (origin : ℕ → Origin) (n : ℕ) (sessions : List (List (Option Seat))) (totals : List Totals) (t : Totals) → AreTotalsFrom origin n sessions totals
+    → AreTotals origin (n + length totals) (flat_map first_end (ends_behind (length totals) sessions)) t → AreTotalsFrom origin n sessions (totals ++ t ∷ [])
+one_more origin n sessions [] t are next = let here : n + 0 ≡ n = omega arith in (subst (λ k. AreTotals origin k (flat_map first_end sessions) t) here next, tt)
+one_more origin n sessions (x ∷ totals) t are next =
     let there : n + length (x ∷ totals) ≡ suc n + length totals = omega arith in (
       are.0,
-      one_more initial_log (suc n) (map later_ends sessions) totals t are.1
-          (subst (λ k. AreTotals initial_log k (flat_map first_end (ends_behind (length totals) (map later_ends sessions))) t) there next),
+      one_more origin (suc n) (map later_ends sessions) totals t are.1
+          (subst (λ k. AreTotals origin k (flat_map first_end (ends_behind (length totals) (map later_ends sessions))) t) there next),
     )
 
 -- a document that differs, in the place behind those that were gathered

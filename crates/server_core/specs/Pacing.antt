@@ -1,7 +1,7 @@
 -- When the reply to a change may go out.
 use Rattle.std.specs.Prelude.{ℕ, ◌+◌, ◌≤◌, Option, Some, None, length, if◌then◌else◌}
 use Rattle.doc_rules.specs.Document.{Document}
-use Rattle.doc_words.specs.declared.reply.Reply.{Reply}
+use Rattle.doc_api.specs.declared.reply.Reply.{Reply}
 use Rattle.locked_doc.specs.Locked.{says_logged}
 use Rattle.server_core.specs.declared.progress.Pace.{Pace}
 use Rattle.server_core.specs.declared.progress.Pace.TheVariants.{Behind, Durable}

@@ -9,7 +9,7 @@ use std::fmt::{Display, Write};
 use std::sync::atomic::{AtomicBool, AtomicU64, Ordering};
 use std::time::Clock;
 
-// The most bytes of a note. With those that tell of lost ones they are at most 4,096, which a pipe
+// The most bytes of a note. With those that report lost ones they are at most 4,096, which a pipe
 // takes as a whole or not at all.
 const MAX_NOTE_BYTES: usize = 3840;
 

@@ -1,11 +1,11 @@
 -- An answer whose line takes memory changes nothing, so that lack of memory may be response in its place.
 use Rattle.std.proofs.Common.{◌≡◌, ◌⊎◌, inl, inr, ℕ, Bool, true, false, List, Option, Some, None, Result, Ok, Err, MatchResult, OnOk, OnErr, if◌then◌else◌, [], ◌∷◌, ◌<◌, length, refl, sym, ap, ◌∙◌, subst, arith, length-append}
 use Rattle.std.specs.Io.KnownBytes.{Appends}
-use Rattle.doc_words.specs.Words.{Refusal, NoMemory, Cursor}
+use Rattle.doc_api.specs.Words.{Refusal, NoMemory, Cursor}
 use Rattle.json_scalar.specs.declared.refusal.Refusal.TheVariants.{VariablesFull}
-use Rattle.doc_words.specs.declared.ask.Command.{Command}
-use Rattle.doc_words.specs.declared.reply.Reply.{Reply}
-use Rattle.doc_words.specs.declared.reply.Reply.TheVariants.{Resolved}
+use Rattle.doc_api.specs.declared.ask.Command.{Command}
+use Rattle.doc_api.specs.declared.reply.Reply.{Reply}
+use Rattle.doc_api.specs.declared.reply.Reply.TheVariants.{Resolved}
 use Rattle.line_feed.specs.Cut.{AppendsCut}
 use Rattle.line_proto.specs.Reading.{request_of}
 use Rattle.line_proto.specs.Replies.{reply_line, line_reply_text}

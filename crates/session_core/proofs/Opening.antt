@@ -1,7 +1,7 @@
 -- What a session that opens a document has done, and what it does for a document of some name.
 use Rattle.std.proofs.Common.{◌≡◌, ◌≢◌, ◌⊎◌, inl, inr, ℕ, List, [], ◌∷◌, ◌++◌, map, get_or, Option, Some, None, refl, sym, ap, ap₂, ◌∙◌, subst}
 use Rattle.std.specs.Prelude.{slice_get}
-use Rattle.doc_words.specs.Words.{NoMemory, Cursor}
+use Rattle.doc_api.specs.Words.{NoMemory, Cursor}
 use Rattle.line_proto.specs.declared.request.DocRequest.{DocRequest}
 use Rattle.line_proto.specs.declared.request.DocRequest.TheVariants as asked
 use Rattle.line_proto.specs.declared.line_reply.LineReply.{LineReply}

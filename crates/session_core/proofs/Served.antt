@@ -1,8 +1,8 @@
 -- What is done for a request, once it is known what the request is.
 use Rattle.std.proofs.Common.{◌≡◌, ◌≢◌, Result, Ok, Err, sym, subst}
 use Rattle.json_scalar.specs.Refusal.{and_then}
-use Rattle.doc_words.specs.Words.{Refusal, NoMemory}
-use Rattle.doc_words.specs.declared.place.Place.{Place}
+use Rattle.doc_api.specs.Words.{Refusal, NoMemory}
+use Rattle.doc_api.specs.declared.place.Place.{Place}
 use Rattle.line_proto.specs.declared.request.DocRequest.{DocRequest}
 use Rattle.line_proto.specs.declared.line_reply.LineReply.{LineReply}
 use Rattle.session_rules.specs.Session.{Deed, deed_of}

@@ -55,7 +55,7 @@ fn run_of(input: &[u8]) -> Run<'_>
 // The status of a run, and what it wrote.
 fn written_over<M: Marker>(alloc: Global, blank: Blank, run: Run<'_>) -> (u8, Vec<u8>)
     requires blank { blank ≡ M.name }
-    requires begun { BeginEmpty M.initial_log }
+    requires begun { BeginEmpty M.origin }
     requires some { 0 < run.piece }
 {
     let mut out = Vec::new(alloc);

@@ -1,8 +1,9 @@
-ghost use Rattle.std.specs.Prelude.{◌≡◌, ℕ, List, [], ◌+◌, ◌^◌, ◌<◌, ◌≤◌};
-ghost use Rattle.op_core.specs.Op.{Op};
+ghost use Rattle.std.specs.Prelude.{◌≡◌, ℕ, ◌+◌, ◌^◌, ◌<◌, ◌≤◌, [], ◌++◌};
+ghost use Rattle.share_ledger.specs.Begun.{Origin, empty_origin};
 ghost use Rattle.share_ledger.specs.Counters.{seat_counter, ledger_place, IsSamePlace};
 
 use crate::halves::{Half, Rest};
+use lamport_id::Id;
 use std::marker::{Brand, Model, PhantomData};
 
 /// Which table a counter is of. A type that is a marker ties the books of a program to its shares:
@@ -11,15 +12,15 @@ use std::marker::{Brand, Model, PhantomData};
 pub trait Marker {
     ghost name: { ℕ };
 
-    /// The initial log of the document of each number. No counter depends on it: the documents of
-    /// the table do.
-    ghost initial_log: { ℕ → List Op };
+    /// The initial log of the document of each number, and the name of its replica. No counter
+    /// depends on it: the documents of the table do.
+    ghost origin: { ℕ → Origin };
 }
 
 impl Marker for Brand {
     ghost name = { 0 };
 
-    ghost initial_log = { λ _. [] };
+    ghost origin = { λ _. empty_origin };
 }
 
 /// A new table, which no marker names yet. Contracts see it as its name. It takes no bytes.
@@ -56,8 +57,8 @@ impl<M: Marker> Model for Table<M> {
     ghost invariant = { λ t. t.rest.table ≡ M.name };
 }
 
-/// The half of a counter that a document keeps. It can't be copied, and its count changes by
-/// `credit` alone.
+/// The half of a counter that a document keeps. It can't be copied, and it changes by `credit` and
+/// `acknowledge` alone. The ids in it take no bytes: only contracts see them.
 #[derive(Drop)]
 pub struct Book<M: Marker> {
     number: u16,
@@ -73,14 +74,14 @@ impl<M: Marker> Model for Book<M> {
 
     ghost Value = { Counter };
 
-    ghost view = { λ b. seat_counter b.number b.seat b.count };
+    ghost view = { λ b. seat_counter b.number b.seat b.count b.half.ids };
 
     ghost invariant = { λ b. (b.half.table ≡ M.name) × (b.half.place ≡ ledger_place b.number b.seat)
         × (b.half.count ≡ b.count) };
 }
 
-/// The half of a counter that a seat keeps. It can't be copied, and its count changes by
-/// `Book::credit` alone.
+/// The half of a counter that a seat keeps. It can't be copied, and it changes by `Book::credit`
+/// and `Book::acknowledge` alone. The ids in it take no bytes.
 #[derive(Drop)]
 pub struct Share<M: Marker> {
     number: u16,
@@ -96,7 +97,7 @@ impl<M: Marker> Model for Share<M> {
 
     ghost Value = { Counter };
 
-    ghost view = { λ s. seat_counter s.number s.seat s.count };
+    ghost view = { λ s. seat_counter s.number s.seat s.count s.half.ids };
 
     ghost invariant = { λ s. (s.half.table ≡ M.name) × (s.half.place ≡ ledger_place s.number s.seat)
         × (s.half.count ≡ s.count) };
@@ -122,13 +123,14 @@ impl Blank {
 }
 
 impl<M: Marker> Table<M> {
-    /// Two halves of one counter at 0, at the place of a document number and a seat, which comes
-    /// after every opened place. So no third half of a place is ever made. It takes no memory.
+    /// Two halves of one counter at 0 with no ids, at the place of a document number and a seat,
+    /// which comes after every opened place. So no third half of a place is ever made. It takes no
+    /// memory.
     pub fn open(&mut self, number: u16, seat: u16) -> (Book<M>, Share<M>)
         requires { self.old ≤ ledger_place number seat }
         ensures table { self.new ≡ ledger_place number seat + 1 }
-        ensures book { result.0 ≡ seat_counter number seat 0 }
-        ensures share { result.1 ≡ seat_counter number seat 0 }
+        ensures book { result.0 ≡ seat_counter number seat 0 [] }
+        ensures share { result.1 ≡ seat_counter number seat 0 [] }
     {
         let (one, other) = self.rest.open(u64::from(number) * 65536 + u64::from(seat));
         (
@@ -173,12 +175,14 @@ impl<M: Marker> Book<M> {
     }
 
     /// Raises both halves of one counter by the amount; their sum stays below 2^64. It tells that
-    /// they had one count before.
+    /// they had one count before. Their ids stay.
     pub fn credit(&mut self, share: &mut Share<M>, amount: u64)
         requires place { IsSamePlace self.old share.old }
         requires fits { self.old.count + amount < 2 ^ 64 }
-        ensures book { self.new ≡ seat_counter self.old.number self.old.seat (self.old.count + amount) }
-        ensures share { share.new ≡ seat_counter share.old.number share.old.seat (share.old.count + amount) }
+        ensures book { self.new
+            ≡ seat_counter self.old.number self.old.seat (self.old.count + amount) self.old.ids }
+        ensures share { share.new
+            ≡ seat_counter share.old.number share.old.seat (share.old.count + amount) share.old.ids }
         ensures agree { self.old.count ≡ share.old.count }
     {
         self.half.credit(&mut share.half, amount);
@@ -186,7 +190,21 @@ impl<M: Marker> Book<M> {
         share.count += amount;
     }
 
-    /// Tells that both halves of one counter have one count. At run time it does nothing.
+    /// Adds ids to both halves of one counter: those acknowledged to its seat. It tells that the
+    /// halves were equal before. At run time it does nothing.
+    pub fn acknowledge(&mut self, share: &mut Share<M>, ids: &[Id])
+        requires { IsSamePlace self.old share.old }
+        ensures book { self.new
+            ≡ seat_counter self.old.number self.old.seat self.old.count (self.old.ids ++ ids.now) }
+        ensures share { share.new
+            ≡ seat_counter share.old.number share.old.seat share.old.count (share.old.ids ++ ids.now) }
+        ensures agree { self.old ≡ share.old }
+    {
+        self.half.acknowledge(&mut share.half, ids);
+    }
+
+    /// Tells that both halves of one counter have one count and the same ids. At run time it does
+    /// nothing.
     pub fn agree(&self, share: &Share<M>)
         requires { IsSamePlace self.now share.now }
         ensures { self.now ≡ share.now }
@@ -194,11 +212,11 @@ impl<M: Marker> Book<M> {
         self.half.agree(&share.half);
     }
 
-    /// The count for good, which both halves had.
+    /// The count for good, which both halves had, as they had the same ids.
     pub fn close(self, share: Share<M>) -> u64
         requires { IsSamePlace self share }
         ensures count { result ≡ self.count }
-        ensures agree { self.count ≡ share.count }
+        ensures agree { self ≡ share }
     {
         self.agree(&share);
         self.count

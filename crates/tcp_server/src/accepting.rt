@@ -58,7 +58,7 @@ pub struct Entrance<'a, R> {
     listener: &'a TcpListener,
     sessions: u16,
     begun: AtomicU64,
-    // How many were dropped before they began, and how many of these a note has told.
+    // How many were dropped before they began, and how many of these a note has reported.
     without_thread: AtomicU64,
     told: AtomicU64,
 }
@@ -76,7 +76,7 @@ impl<'a, R: Log + Clock> Entrance<'a, R> {
         }
     }
 
-    // Counts a session that was dropped before it began. A note tells of the first at once: threads
+    // Counts a session that was dropped before it began. A note reports the first at once: threads
     // are started one after the other, so most that follow have none either.
     fn count_without_thread(&self) {
         if self.without_thread.fetch_add(1, Ordering::SeqCst) == 0 {
@@ -84,7 +84,7 @@ impl<'a, R: Log + Clock> Entrance<'a, R> {
         }
     }
 
-    // Notes how many sessions have no thread, if they are more than a note has told.
+    // Notes how many sessions have no thread, if they are more than a note has reported.
     fn tell_without_thread(&self) {
         let without = self.without_thread.load(Ordering::SeqCst);
         if self.told.swap(without, Ordering::SeqCst) != without {

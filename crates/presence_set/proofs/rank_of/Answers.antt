@@ -2,7 +2,7 @@ use Rattle.std.proofs.Common.{◌-◌, length, rules, sym, ◌∙◌}
 use Rattle.std.specs.Ordering.{is_lt}
 use Rattle.std.proofs.lemmas.Fn.{always_returns_same}
 use Rattle.lamport_id.specs.Order.{id_cmp}
-use Rattle.sorted_lists.proofs.Bisection.{lesser_first, rank_is}
+use Rattle.list_laws.proofs.Bisection.{lesser_first, rank_is}
 use Rattle.presence_set.proofs.Ascending.{ids_ordered}
 use Rattle.presence_set.proofs.Ends.{one_behind, rank_behind, rank_last}
 use Rattle.presence_set.proofs.rank_of.Goals as goal

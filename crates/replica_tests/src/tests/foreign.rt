@@ -1,7 +1,7 @@
 //! The worked row on refused deliveries.
 use super::cases::{Before, Case, after};
 use super::samples::{Deed, Digest, holds, operation};
-use doc_words::{Query, Reply};
+use doc_api::{Query, Reply};
 use json_scalar::Refusal;
 use lamport_id::ReplicaName;
 use op_core::Operation;

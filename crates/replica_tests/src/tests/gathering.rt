@@ -7,7 +7,7 @@ use super::samples::{
     Deed, Digest, adds_up, are_ids, command, delivers, digest_of, document, holds, is_count,
     tail_count,
 };
-use doc_words::Query;
+use doc_api::Query;
 use json_scalar::Refusal;
 use locked_doc::{Gathering, LockedDoc, Seat, SeatEnd};
 use share_ledger::{Blank, Marker, Table};
@@ -89,7 +89,7 @@ fn refuses_with<M: Marker, R: Abort>(
 // A list of the end of a seat of the document of number 1.
 fn elsewhere<M: Marker>(alloc: Global, table: &mut Table<M>) -> Result<Vec<SeatEnd<M>>, Refusal>
     requires place { table.old ≤ ledger_place 1 0 }
-    requires begun { BeginEmpty M.initial_log }
+    requires begun { BeginEmpty M.origin }
 {
     let mut ends = Vec::new(alloc);
     ends.reserve(1)?;
@@ -108,7 +108,7 @@ fn gather_totals(rt: HostRuntime) -> Result<(), Fail> {
 // A document with 3 seats: seat 1 assigns three times, seat 2 twice, seat 3 isn't opened.
 fn gathers<M: Marker, R: Abort>(rt: &R, alloc: Global, blank: Blank) -> Result<(), Refusal>
     requires blank { blank ≡ M.name }
-    requires begun { BeginEmpty M.initial_log }
+    requires begun { BeginEmpty M.origin }
 {
     let mut table = blank.named::<M>();
     let mut doc = document(alloc, &mut table, 0, 3)?;
@@ -232,7 +232,7 @@ fn second_seat_releases<M: Marker, R: Abort>(
     blank: Blank,
 ) -> Result<(), Refusal>
     requires blank { blank ≡ M.name }
-    requires begun { BeginEmpty M.initial_log }
+    requires begun { BeginEmpty M.origin }
 {
     let mut table = blank.named::<M>();
     let mut doc = document(alloc, &mut table, 0, 2)?;

@@ -6,6 +6,7 @@
 //! the Nth of each test, for one N a run, and the tests of the other files fail under it, since
 //! they expect ample memory.
 ghost use Rattle.std.specs.Prelude.{◌≡◌, ◌≤◌, ℕ, IfOk};
+ghost use Rattle.share_ledger.specs.Begun.{MayBeNamed};
 ghost use Rattle.share_ledger.specs.Counters.{ledger_place};
 
 use super::is_conflict_at;
@@ -13,7 +14,7 @@ use super::samples::{
     Deed, Digest, adds_up, alone, are_totals, command, digest_of, holding, holds, is_count,
     is_digest, look_at, member, restored, server, tail_count, whole,
 };
-use doc_words::{Command, Look, Query, Reply};
+use doc_api::{Command, Look, Query, Reply};
 use json_scalar::Refusal;
 use locked_doc::{Gathering, Ledgers, LockedDoc, Seat, SeatEnd, Shelf};
 use op_core::Front;
@@ -266,7 +267,8 @@ fn document_again<M: Marker, R: Abort>(
     replica: Replica,
     ledgers: Ledgers<M>,
 ) -> Result<LockedDoc<M>, Refusal>
-    requires { replica.log ≡ M.initial_log ledgers.number }
+    requires begun { replica.log ≡ (M.origin ledgers.number).log }
+    requires named { MayBeNamed (M.origin ledgers.number) replica.name }
 {
     match LockedDoc::new(alloc, replica, ledgers) {
         Ok(doc) => Ok(doc),
@@ -316,7 +318,8 @@ fn wants<M: Marker, R: Abort>(
     replica: Replica,
 ) -> Result<(), Refusal>
     requires blank { blank ≡ M.name }
-    requires begun { (number : ℕ) → M.initial_log number ≡ replica.log }
+    requires begun { (number : ℕ) → (M.origin number).log ≡ replica.log }
+    requires named { (number : ℕ) → MayBeNamed (M.origin number) replica.name }
 {
     let mut table = blank.named::<M>();
     let ledgers = ledgers_again(alloc, &mut table)?;
@@ -400,7 +403,8 @@ fn puts<M: Marker, R: Abort>(
     replica: Replica,
 ) -> Result<(), Refusal>
     requires blank { blank ≡ M.name }
-    requires begun { (number : ℕ) → M.initial_log number ≡ replica.log }
+    requires begun { (number : ℕ) → (M.origin number).log ≡ replica.log }
+    requires named { (number : ℕ) → MayBeNamed (M.origin number) replica.name }
 {
     let mut table = blank.named::<M>();
     let ledgers = ledgers_again(alloc, &mut table)?;

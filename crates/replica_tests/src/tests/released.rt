@@ -3,7 +3,7 @@ ghost use Rattle.std.specs.Prelude.{◌≡◌};
 ghost use Rattle.share_ledger.specs.Begun.{BeginEmpty};
 
 use super::samples::{Digest, are_ids, delivers, digest_of, document, holds, is_number, look_at};
-use doc_words::{Look, Query, Reply};
+use doc_api::{Look, Query, Reply};
 use json_scalar::Refusal;
 use locked_doc::{LockedDoc, Seat};
 use share_ledger::{Blank, Marker};
@@ -54,7 +54,7 @@ fn delivers_in_reverse<M: Marker, R: Abort>(
     blank: Blank,
 ) -> Result<(), Refusal>
     requires blank { blank ≡ M.name }
-    requires begun { BeginEmpty M.initial_log }
+    requires begun { BeginEmpty M.origin }
 {
     let mut table = blank.named::<M>();
     let mut doc = document(alloc, &mut table, 0, 1)?;

@@ -1,10 +1,10 @@
 //! Operations and commands by their written forms, digests of the answers, and a replica and a
 //! document to try them on.
 ghost use Rattle.std.specs.Prelude.{◌≡◌, [], ◌+◌, ◌≤◌, IfOk, OnOk};
-ghost use Rattle.share_ledger.specs.Begun.{BeginEmpty};
+ghost use Rattle.share_ledger.specs.Begun.{BeginEmpty, MayBeNamed};
 ghost use Rattle.share_ledger.specs.Counters.{ledger_place};
 
-use doc_words::{Command, Look, Place, Query, Reply, Steps};
+use doc_api::{Command, Look, Place, Query, Reply, Steps};
 use json_scalar::{Refusal, Scalar};
 use lamport_id::{Id, ReplicaName};
 use locked_doc::{Ledgers, LockedDoc, Seat, SeatEnd, Totals};
@@ -273,7 +273,7 @@ pub fn document<M: Marker>(
     seats: u16,
 ) -> Result<LockedDoc<M>, Refusal>
     requires place { table.old ≤ ledger_place number 0 }
-    requires begun { BeginEmpty M.initial_log }
+    requires begun { BeginEmpty M.origin }
     ensures ok { IfOk result (λ d. d.number ≡ number) }
     ensures table { OnOk result (table.new ≤ ledger_place number seats + 1) }
 {
@@ -287,7 +287,8 @@ pub fn holding<M: Marker>(
     replica: Replica,
     ledgers: Ledgers<M>,
 ) -> Result<LockedDoc<M>, Refusal>
-    requires { replica.log ≡ M.initial_log ledgers.number }
+    requires begun { replica.log ≡ (M.origin ledgers.number).log }
+    requires named { MayBeNamed (M.origin ledgers.number) replica.name }
     ensures { IfOk result (λ d. d.number ≡ ledgers.number) }
 {
     match LockedDoc::new(alloc, replica, ledgers) {

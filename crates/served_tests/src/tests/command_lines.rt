@@ -7,9 +7,12 @@ ghost use Rattle.share_ledger.specs.Begun.{BeginEmpty};
 mod loopback;
 
 use super::checks::holds;
-use commands::{USAGE, VERSION, parse_and_check, parse_and_serve, run_words, usage_of};
+use super::places::NewLists;
+use command_line::{USAGE, VERSION, usage_of};
+use commands::{parse_and_check, parse_and_serve, run_words};
 use line_feed::{Reader, Writer};
 use log::Log;
+use log_copy::SqliteFiles;
 use run_core::NewDocuments;
 use share_ledger::{Blank, Marker};
 use std::alloc::{AllocError, Global};
@@ -20,6 +23,7 @@ use std::sync::Wait;
 use std::test::Fail;
 use std::thread::Threads;
 use std::time::Clock;
+use stored_log::Fault;
 
 // The arguments of a line. Between two spaces is an empty one.
 fn words_of<'a>(alloc: Global, line: &'a str) -> Result<Vec<&'a str>, AllocError> {
@@ -32,7 +36,7 @@ fn words_of<'a>(alloc: Global, line: &'a str) -> Result<Vec<&'a str>, AllocError
 // The status of a run of these words over these bytes, and what it wrote.
 fn written<M: Marker>(alloc: Global, blank: Blank, words: &[&str], input: &[u8]) -> (u8, Vec<u8>)
     requires blank { blank ≡ M.name }
-    requires begun { BeginEmpty M.initial_log }
+    requires begun { BeginEmpty M.origin }
 {
     let mut out = Vec::new(alloc);
     let mut documents = NewDocuments::<M>::new(blank);
@@ -128,23 +132,36 @@ fn runs(rt: HostRuntime) {
 fn prints(rt: &HostRuntime, line: &str, status: u8, text: &str) -> Result<bool, AllocError> {
     let words = words_of(rt.alloc(), line)?;
     let mut out = Vec::<u8>::new(rt.alloc());
-    let found = parse_and_check(rt, rt.alloc(), &words, &mut Writer::new(&mut out));
+    let files = SqliteFiles::present(rt, rt);
+    let found = parse_and_check(rt, rt.alloc(), &words, &files, &mut Writer::new(&mut out));
     Ok(found == status && *out.as_slice() == *text.as_bytes())
 }
 
 // Checks: what each is, its line, its status, and what it prints.
-static CHECKS: [(&str, &str, u8, &str); 9] = [
+static CHECKS: [(&str, &str, u8, &str); 11] = [
     (
-        "a file that is not there",
+        "an empty file",
         "check --file jcrdt-check-test.db",
         0,
         "[\"epoch\",0]\n",
     ),
     (
-        "the file that was made",
+        "a file without rows",
         "check --file jcrdt-check-test.db",
         0,
         "[\"epoch\",0]\n",
+    ),
+    (
+        "a file that is not there",
+        "check --file jcrdt-no-such-test.db",
+        1,
+        "",
+    ),
+    (
+        "it was not made",
+        "check --file jcrdt-no-such-test.db",
+        1,
+        "",
     ),
     (
         "a folder that is not there",
@@ -167,12 +184,14 @@ static CHECKS: [(&str, &str, u8, &str); 9] = [
 
 #[test]
 fn checks(rt: HostRuntime) {
+    let is_made = fs::write(&rt, "jcrdt-check-test.db", "".as_bytes()).is_ok();
+    holds(&rt, is_made, "an empty file is made");
     for (what, line, status, text) in &CHECKS {
         let printed = prints(&rt, line, *status, text);
         holds(&rt, matches!(printed, Ok(true)), what);
     }
     let is_removed = fs::remove_file(&rt, "jcrdt-check-test.db").is_ok();
-    holds(&rt, is_removed, "the file that was made is removed");
+    holds(&rt, is_removed, "the file is removed");
     let _log = fs::remove_file(&rt, "jcrdt-check-test.db-wal");
 }
 
@@ -198,8 +217,9 @@ fn no_database(rt: HostRuntime) -> Result<(), Fail> {
     Ok(())
 }
 
-// Whether a line asks for no server, with nothing written.
-fn is_refused<
+// Whether a line that is served over new logs in memory, or over none, has this status, and what it
+// writes.
+fn is_served<
     R: Net<Listener = TcpListener, Stream = TcpStream>
         + Threads
         + Wait
@@ -207,11 +227,20 @@ fn is_refused<
         + Sync
         + Log
         + Clock,
->(host: &HostRuntime, rt: &R, line: &str) -> Result<bool, AllocError> {
-    let words = words_of(host.alloc(), line)?;
-    let mut out = Vec::<u8>::new(host.alloc());
-    let status = parse_and_serve(host, rt, host.alloc(), &words, &mut out);
-    Ok(status == 2 && out.is_empty())
+>(
+    host: &HostRuntime,
+    rt: &R,
+    line: &str,
+    fault: Option<Fault>,
+    status: u8,
+    output: &str,
+) -> Result<bool, AllocError> {
+    let alloc = host.alloc();
+    let words = words_of(alloc, line)?;
+    let mut out = Vec::<u8>::new(alloc);
+    let lists = NewLists { alloc, fault };
+    let found = parse_and_serve(host, rt, alloc, &words, &lists, &mut out);
+    Ok(found == status && *out.as_slice() == *output.as_bytes())
 }
 
 // Lines that ask for no server: what is wrong with each, and the line.
@@ -251,7 +280,23 @@ static NO_SERVERS: [(&str, &str); 9] = [
 #[test]
 fn lines_that_ask_for_no_server(rt: HostRuntime) {
     for (what, line) in &NO_SERVERS {
-        holds(&rt, matches!(is_refused(&rt, &rt, line), Ok(true)), what);
+        let is = is_served(&rt, &rt, line, None, 2, "");
+        holds(&rt, matches!(is, Ok(true)), what);
+    }
+}
+
+// Why a stored log can't be opened, and what a server then writes.
+static UNOPENED: [(Fault, &str); 2] = [
+    (Fault::Refused, "[\"no\",26,\"copy-refused\"]\n"),
+    (Fault::Store, ""),
+];
+
+#[test]
+fn logs_that_are_not_opened(rt: HostRuntime) {
+    let line = "serve --addr 127.0.0.1:0 --sessions 1 --file f d";
+    for (fault, output) in &UNOPENED {
+        let is = is_served(&rt, &rt, line, Some(*fault), 1, output);
+        holds(&rt, matches!(is, Ok(true)), output);
     }
 }
 

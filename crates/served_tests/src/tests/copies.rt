@@ -1,4 +1,4 @@
-//! Copies of logs: restarts, batches, formats and further tables. A test is a list of steps over
+//! Copies of logs: restarts, batches, formats and other tables. A test is a list of steps over
 //! one database, each with its expected answer.
 mod causes;
 mod formats;

@@ -1,13 +1,12 @@
 //! Why a server ends with status 1, in words: one cause each.
 use super::checks::holds;
 use commands::run_failure;
-use log_copy::Fault;
-use served_copy::{Failure, Step};
-use sqlite::ErrorCode;
+use served_log::{Failure, Step};
 use std::alloc::{AllocError, Global};
 use std::fmt::Display;
 use std::io;
 use std::process::Abort;
+use stored_log::StoredFault;
 
 // Whether this is shown as the text.
 fn is_shown<F: Display>(alloc: Global, failure: &F, text: &str) -> Result<bool, AllocError> {
@@ -37,7 +36,7 @@ fn steps(rt: HostRuntime) {
 
 #[test]
 fn failures_of_the_file(rt: HostRuntime) {
-    let full = Some(ErrorCode::DiskFull);
+    let full = StoredFault::DiskFull;
     for (failure, text) in [
         (
             Failure::Database(Step::Epoch, full),
@@ -48,11 +47,11 @@ fn failures_of_the_file(rt: HostRuntime) {
             "the file failed while its log was folded in: the disk is full",
         ),
         (
-            Failure::Stopped(Fault::Store, full),
+            Failure::Stopped(full),
             "copying stopped while sessions ran: the disk is full",
         ),
         (
-            Failure::Stopped(Fault::Memory, None),
+            Failure::Stopped(StoredFault::NoMemory),
             "copying stopped while sessions ran: out of memory",
         ),
         (

@@ -1,9 +1,10 @@
-//! Copies in two files, the log and the database itself. This is over any disks: each call that
-//! names a store in files is dear to prove, and at disks of one kind twice as dear.
+//! Stored logs in two files, the log of commits and the database itself. This is over any disks: each
+//! call that names a store in files is dear to prove, and at disks of one kind twice as dear.
 use super::deeds::{Case, Deed, all_done};
 use super::disks::connected;
+use super::places::adopted;
 use log::Log;
-use sqlite::{Alter, Connection, Error};
+use sqlite::{Connection, Error, FileStore};
 use sqlite_disk::{Crash, Disk, Files};
 use std::alloc::{AllocError, Global};
 use std::process::Abort;
@@ -11,7 +12,7 @@ use std::sync::Wait;
 use std::thread::Threads;
 use std::time::Clock;
 
-/// Does all of it with the copy in the files, and then leaves them as they are.
+/// Does all of it with the log in the files, and then leaves them as they are.
 pub fn done_in_files<R: Threads + Wait + Abort + Sync + Log + Clock, D: Disk + Drop>(
     rt: &R,
     alloc: Global,
@@ -21,11 +22,11 @@ pub fn done_in_files<R: Threads + Wait + Abort + Sync + Log + Clock, D: Disk + D
     let Ok(conn) = connected(alloc, files) else {
         return Err(AllocError);
     };
-    let store = all_done(rt, alloc, case, conn)?;
+    let store = all_done(rt, alloc, case, adopted(alloc, conn)?)?;
     Ok(store.close())
 }
 
-/// Does all of it with a copy in the files, and then these deeds with what the files hold when the
+/// Does all of it with a log in the files, and then these deeds with what the files hold when the
 /// machine has stopped and come back.
 pub fn done_around_a_crash<R: Threads + Wait + Abort + Sync + Log + Clock, D: Crash + Drop>(
     rt: &R,
@@ -46,16 +47,16 @@ pub fn done_around_a_crash<R: Threads + Wait + Abort + Sync + Log + Clock, D: Cr
     Ok(())
 }
 
-/// Does all of it with the copy that was opened, or, as if out of memory, none.
-pub fn done_over<R: Threads + Wait + Abort + Sync + Log + Clock, S: Alter + Drop>(
+/// Does all of it with the database that was opened, or, as if out of memory, with none.
+pub fn done_over<R: Threads + Wait + Abort + Sync + Log + Clock, D: Disk + Drop>(
     rt: &R,
     alloc: Global,
     case: &Case<'_>,
-    opened: Result<Connection<S>, Error>,
+    opened: Result<Connection<FileStore<D>>, Error>,
 ) -> Result<(), AllocError> {
     let Ok(conn) = opened else {
         return Err(AllocError);
     };
-    let _store = all_done(rt, alloc, case, conn)?;
+    let _store = all_done(rt, alloc, case, adopted(alloc, conn)?)?;
     Ok(())
 }

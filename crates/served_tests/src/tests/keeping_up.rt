@@ -1,19 +1,18 @@
 //! A copier writes what a session logged while the session runs.
 ghost use Rattle.std.specs.Prelude.{◌≡◌, ◌≤◌, length, map};
-ghost use Rattle.doc_ledger.specs.Numbers.{greatest_number};
-ghost use Rattle.served_copy.specs.Restored.{entries_at};
+ghost use Rattle.locked_doc.specs.Numbers.{greatest_number};
+ghost use Rattle.served_log.specs.Restored.{origin_at};
 
 use super::checks::{counts, holds};
-use super::deeds::adopted;
+use super::places::new_list;
 use super::serving::THREE;
-use super::watched::shared_documents;
-use copier::{Copier, CopyObserver};
-use log_copy::{Fault, KeptDoc, LogCopy};
+use super::watched::{replica_read, shared_documents};
+use lamport_id::ReplicaName;
 use op_core::Operation;
+use served_log::{Copier, CopyObserver};
 use server_core::doubles::Script;
 use server_core::{Gate, run_sessions};
 use share_ledger::{Blank, Marker};
-use sqlite::{Alter, Connection, ErrorCode};
 use std::alloc::{AllocError, Global};
 use std::marker::Brand;
 use std::process::Abort;
@@ -21,6 +20,7 @@ use std::sync::atomic::{AtomicU64, Ordering};
 use std::sync::{Mutex, Wait};
 use std::thread;
 use std::thread::Threads;
+use stored_log::{KeptDoc, StoredFault, StoredLog};
 
 // Counts the rows that were written.
 #[derive(Drop)]
@@ -37,7 +37,7 @@ impl CopyObserver for CountsRows<'_> {
 
     fn goes_on(&self) {}
 
-    fn stopped(&self, _why: &Fault, _code: Option<ErrorCode>) {}
+    fn stopped(&self, _why: StoredFault) {}
 }
 
 // Keeps a session open until the file has what it logged: each line waits for a row of each line
@@ -70,19 +70,20 @@ impl Gate for UntilWritten<'_> {
 }
 
 // Whether a session of three changes ran beside a copier that no fault ended.
-fn runs_beside<M: Marker + Send + Sync, R: Threads + Wait + Sync, S: Alter>(
+fn runs_beside<M: Marker + Send + Sync, R: Threads + Wait + Sync, L: StoredLog>(
     rt: &R,
     alloc: Global,
     blank: Blank,
+    replica: &ReplicaName,
     documents: &[&str],
     gate: &UntilWritten<'_>,
-    copy: &mut LogCopy<S>,
+    copy: &mut L,
 ) -> Result<bool, AllocError>
     requires blank { blank ≡ M.name }
-    requires begun { M.initial_log ≡ entries_at copy.old.docs (map (λ s. s.now) documents.now) }
+    requires begun { M.origin ≡ origin_at replica.now (L.log copy.old).docs (map (λ s. s.now) documents.now) }
     requires few { length documents.now ≤ greatest_number }
 {
-    let shared = shared_documents::<M, S>(alloc, blank, copy, documents)?;
+    let shared = shared_documents::<M, L>(alloc, blank, copy, replica, documents)?;
     let replies = Mutex::new(Vec::new(alloc));
     let scripts = vec![in alloc; Script::new(rt, THREE, &replies)]?;
     let observer = CountsRows { rows: gate.rows };
@@ -98,8 +99,17 @@ fn keeps_up<R: Threads + Wait + Abort + Sync>(rt: &R, alloc: Global) -> Result<(
         rows: &rows,
         missed: AtomicU64::new(0),
     };
-    let mut copy = adopted(alloc, Connection::open_in_memory(alloc)?)?;
-    let ran = runs_beside::<Brand, _, _>(rt, alloc, Blank::new(), &["d"], &gate, &mut copy)?;
+    let mut copy = new_list(alloc);
+    let replica = replica_read()?;
+    let ran = runs_beside::<Brand, _, _>(
+        rt,
+        alloc,
+        Blank::new(),
+        &replica,
+        &["d"],
+        &gate,
+        &mut copy,
+    )?;
     holds(rt, ran, "keeps_up_with_an_open_session");
     let missed = gate.missed.load(Ordering::SeqCst);
     counts(

@@ -1,17 +1,17 @@
-//! A server over a copy. It is called in a function that promises nothing, so that the proof of a
-//! test carries none of its clauses.
+//! A server over a stored log. It is called in a function that promises nothing, so that the proof of
+//! a test carries none of its clauses.
 use super::checks::{bytes_are, counts};
+use super::places::left_of;
 use log::Log;
-use log_copy::LogCopy;
-use served_copy::serve_over;
-use server_core::Pace;
+use served_log::{Ended, serve_over};
 use server_core::doubles::Script;
-use sqlite::Alter;
+use server_core::{Connect, Pace};
 use std::alloc::{AllocError, Global};
 use std::process::Abort;
 use std::sync::{Mutex, Wait};
 use std::thread::Threads;
 use std::time::Clock;
+use stored_log::StoredLog;
 
 /// A session: what it is sent, and after how many bytes its source fails.
 #[derive(Clone, Copy)]
@@ -29,6 +29,12 @@ pub const THREE: &[u8] = br#"["open","d"]
 /// A session of three lines whose source never fails.
 pub const THREE_WHOLE: Session<'static> = Session {
     input: THREE,
+    read_after: usize::MAX,
+};
+
+/// One of a line, whose source never fails.
+pub const QUITS: Session<'static> = Session {
+    input: b"[\"quit\"]\n",
     read_after: usize::MAX,
 };
 
@@ -53,12 +59,19 @@ pub struct Start<'a> {
     pub replies: Option<&'a [u8]>,
 }
 
-// What a server did.
+/// What a server did: its status, what it wrote, and what is left of its log.
 #[derive(Drop)]
-struct Served {
-    status: u8,
-    totals: Vec<u8>,
-    replies: Vec<u8>,
+pub struct Served<T> {
+    pub status: u8,
+    pub totals: Vec<u8>,
+    pub left: T,
+}
+
+/// What a start did: the server, and the replies to its sessions.
+#[derive(Drop)]
+pub struct Done<T> {
+    pub served: Served<T>,
+    pub replies: Vec<u8>,
 }
 
 // Connections of these sessions, whose replies go there.
@@ -82,81 +95,117 @@ fn scripts_of<'a, R: Wait>(
     Ok(scripts)
 }
 
-/// Serves these connections by the server of this name, over at most 16 documents: the status, and the totals.
-pub fn serve_scripts<R: Threads + Wait + Sync + Log + Clock, S: Alter>(
+/// Serves these connections as the program does, by the server of this name, over at most 16
+/// documents.
+pub fn serve_all<R: Threads + Wait + Sync + Log + Clock, C: Connect, L: StoredLog>(
     rt: &R,
     alloc: Global,
     name: &str,
     documents: &[&str],
     pace: Pace,
-    scripts: Vec<Script<'_, R>>,
-    copy: &mut LogCopy<S>,
-) -> (u8, Vec<u8>) {
+    connections: Vec<C>,
+    log: L,
+) -> Served<L::Left> {
     let mut totals = Vec::new(alloc);
     if documents.len() > 16 {
-        return (2, totals);
+        return Served {
+            status: 2,
+            totals,
+            left: left_of(log.close()),
+        };
     }
-    let status = serve_over(rt, alloc, name, documents, pace, scripts, copy, &mut totals);
-    (status, totals)
+    let (status, ended) = serve_over(
+        rt,
+        alloc,
+        name,
+        documents,
+        pace,
+        connections,
+        log,
+        &mut totals,
+    );
+    let Ended {
+        served: _,
+        closed: _,
+        has_failed: _,
+        store,
+    } = ended;
+    Served {
+        status,
+        totals,
+        left: store,
+    }
 }
 
-// Serves the sessions of a start, by a new table of shares.
-fn serve<R: Threads + Wait + Sync + Log + Clock, S: Alter>(
+/// Serves the sessions of a start.
+pub fn serve_start<R: Threads + Wait + Sync + Log + Clock, L: StoredLog>(
     rt: &R,
     alloc: Global,
     documents: &[&str],
     start: &Start<'_>,
     pace: Pace,
-    copy: &mut LogCopy<S>,
-) -> Result<Served, AllocError> {
+    log: L,
+) -> Result<Done<L::Left>, AllocError> {
     let replies = Mutex::new(Vec::new(alloc));
     let scripts = scripts_of(rt, alloc, start.sessions, &replies)?;
-    let (status, totals) = serve_scripts(rt, alloc, start.server, documents, pace, scripts, copy);
-    Ok(Served {
-        status,
-        totals,
+    let served = serve_all(rt, alloc, start.server, documents, pace, scripts, log);
+    Ok(Done {
+        served,
         replies: replies.into_inner(),
     })
 }
 
 // The server did what was due at this start.
-fn did<R: Abort>(rt: &R, case: &str, served: &Served, start: &Start<'_>) {
-    bytes_are(rt, case, "totals", served.totals.as_slice(), start.totals);
+fn did<R: Abort>(rt: &R, case: &str, status: u8, totals: &[u8], replies: &[u8], start: &Start<'_>) {
+    bytes_are(rt, case, "totals", totals, start.totals);
     counts(
         rt,
         case,
         "status",
-        u64::from(served.status),
+        u64::from(status),
         u64::from(start.status),
     );
-    if let Some(replies) = start.replies {
-        bytes_are(rt, case, "replies", served.replies.as_slice(), replies);
+    if let Some(due) = start.replies {
+        bytes_are(rt, case, "replies", replies, due);
     }
 }
 
-/// Starts a server of this pace over the copy, which does what is expected.
-pub fn started_at<R: Threads + Wait + Abort + Sync + Log + Clock, S: Alter>(
+/// Starts a server of this pace over the stored log, which does what is expected, and gives what it
+/// leaves.
+pub fn started_at<R: Threads + Wait + Abort + Sync + Log + Clock, L: StoredLog>(
     rt: &R,
     alloc: Global,
     case: &str,
     documents: &[&str],
     start: &Start<'_>,
     pace: Pace,
-    copy: &mut LogCopy<S>,
-) -> Result<(), AllocError> {
-    let served = serve(rt, alloc, documents, start, pace, copy)?;
-    did(rt, case, &served, start);
-    Ok(())
+    log: L,
+) -> Result<L::Left, AllocError> {
+    let Done { served, replies } = serve_start(rt, alloc, documents, start, pace, log)?;
+    let Served {
+        status,
+        totals,
+        left,
+    } = served;
+    did(
+        rt,
+        case,
+        status,
+        totals.as_slice(),
+        replies.as_slice(),
+        start,
+    );
+    Ok(left)
 }
 
 /// The same of a server that replies at once.
-pub fn started<R: Threads + Wait + Abort + Sync + Log + Clock, S: Alter>(
+pub fn started<R: Threads + Wait + Abort + Sync + Log + Clock, L: StoredLog>(
     rt: &R,
     alloc: Global,
     case: &str,
     documents: &[&str],
     start: &Start<'_>,
-    copy: &mut LogCopy<S>,
-) -> Result<(), AllocError> {
-    started_at(rt, alloc, case, documents, start, Pace::Behind(4096), copy)
+    log: L,
+) -> Result<L::Left, AllocError> {
+    started_at(rt, alloc, case, documents, start, Pace::Behind(4096), log)
 }

@@ -1,8 +1,8 @@
-//! One start after another from the same copy.
+//! One start after another from the same stored log.
 use super::checks::holds;
 use super::deeds::{Case, Deed, all_in_memory};
 use super::files::done_over;
-use super::serving::{Session, Start, THREE_WHOLE, TWO_WHOLE};
+use super::serving::{QUITS, Session, Start, THREE_WHOLE, TWO_WHOLE};
 use log::Log;
 use sqlite::Connection;
 use std::fs;
@@ -12,12 +12,6 @@ use std::sync::Wait;
 use std::test::Fail;
 use std::thread::Threads;
 use std::time::Clock;
-
-// A session of one line whose source never fails.
-const QUITS: Session<'static> = Session {
-    input: b"[\"quit\"]\n",
-    read_after: usize::MAX,
-};
 
 const FIRST: Session<'static> = Session {
     input: br#"["open","d"]
@@ -76,7 +70,7 @@ const BOTH_REPLIES: &[u8] = br#"["opened",1]
 ["values",[1]]
 "#;
 
-static STARTS: [Case<'static>; 4] = [
+static STARTS: [Case<'static>; 2] = [
     Case {
         name: "serve_check_serve",
         documents: &["d"],
@@ -121,6 +115,10 @@ static STARTS: [Case<'static>; 4] = [
             Deed::Holds(b"[\"doc\",\"d\",2,[[\"srv-1\",1],[\"srv-2\",2]]]\n[\"epoch\",2]\n"),
         ],
     },
+];
+
+// A name that a peer has made up, and documents that are found by their names.
+static OTHER_NAMES: [Case<'static>; 2] = [
     Case {
         name: "name_that_a_peer_made_up_is_not_used",
         documents: &["d"],
@@ -176,6 +174,11 @@ static STARTS: [Case<'static>; 4] = [
 #[test]
 fn starts(rt: HostRuntime) {
     all_in_memory(&rt, rt.alloc(), &STARTS);
+}
+
+#[test]
+fn starts_under_other_names(rt: HostRuntime) {
+    all_in_memory(&rt, rt.alloc(), &OTHER_NAMES);
 }
 
 const FOLDER: &str = "jcrdt-starts-test";

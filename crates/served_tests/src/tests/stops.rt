@@ -11,7 +11,7 @@ use std::sync::Wait;
 use std::thread::Threads;
 use std::time::Clock;
 
-// What is done with a copy whose disk stops after so many calls, and with what it leaves in the
+// What is done with a stored log whose disk stops after so many calls, and with what it leaves in the
 // files.
 struct Stop {
     calls: u64,
@@ -26,9 +26,9 @@ const THREE_REPLIES: &[u8] = br#"["opened",1]
 "#;
 
 static STOPS: [Stop; 5] = [
-    // The start takes 28 calls, and the first batch ten or so more.
+    // The start takes 45 calls with its fold, and the first batch ten or so more.
     Stop {
-        calls: 30,
+        calls: 47,
         case: Case {
             name: "disk_that_stops_while_serving",
             documents: &["d"],
@@ -59,7 +59,7 @@ static STOPS: [Stop; 5] = [
     },
     // What isn't in the file is not answered, and nothing behind it.
     Stop {
-        calls: 30,
+        calls: 47,
         case: Case {
             name: "disk_that_stops_while_serving_durably",
             documents: &["d"],

@@ -1,12 +1,11 @@
-//! The worked history of two sessions at one document, over a copy in memory: the replies to each,
+//! The worked history of two sessions at one document, over a log in memory: the replies to each,
 //! whichever is first, and the totals.
 use super::checks::{bytes_are, counts, holds};
-use super::deeds::adopted;
-use super::serving::serve_scripts;
+use super::places::new_list;
+use super::serving::serve_all;
 use log::Log;
 use server_core::Pace;
 use server_core::doubles::Script;
-use sqlite::Connection;
 use std::alloc::{AllocError, Global};
 use std::process::Abort;
 use std::str;
@@ -90,19 +89,18 @@ fn serve_both<R: Threads + Wait + Sync + Log + Clock>(
         Script::new(rt, THREE, &first),
         Script::new(rt, TWO, &second),
     ]?;
-    let mut copy = adopted(alloc, Connection::open_in_memory(alloc)?)?;
-    let (status, totals) = serve_scripts(
+    let served = serve_all(
         rt,
         alloc,
         "srv",
         &["d"],
         Pace::Behind(4096),
         scripts,
-        &mut copy,
+        new_list(alloc),
     );
     Ok(Served {
-        status,
-        totals,
+        status: served.status,
+        totals: served.totals,
         first: first.into_inner(),
         second: second.into_inner(),
     })

@@ -1,26 +1,25 @@
 //! A copier's observer is notified of a fault as soon as the copier has met it, and of nothing else.
 ghost use Rattle.std.specs.Prelude.{◌≡◌, ◌≤◌, length, map};
-ghost use Rattle.doc_ledger.specs.Numbers.{greatest_number};
-ghost use Rattle.served_copy.specs.Restored.{entries_at};
+ghost use Rattle.locked_doc.specs.Numbers.{greatest_number};
+ghost use Rattle.served_log.specs.Restored.{origin_at};
 
-use super::deeds::{Case, Deed, adopted, all_in_memory};
+use super::deeds::{Case, Deed, all_in_memory};
+use super::places::new_list;
 use super::serving::{Start, THREE_WHOLE, started};
-use copier::{Copier, CopyObserver};
-use doc_ledger::Ledger;
 use lamport_id::ReplicaName;
+use locked_doc::Ledger;
 use log::Log;
-use log_copy::{Fault, KeptDoc, LogCopy};
 use op_core::Operation;
-use served_copy::{restore_documents, share_documents};
+use served_log::{Copier, CopyObserver, restore_documents, share_documents};
 use server_core::{Pace, SharedDocuments, Side};
 use share_ledger::{Blank, Marker};
-use sqlite::{Alter, Connection, ErrorCode, MemStore};
 use std::alloc::{AllocError, Global};
 use std::marker::Brand;
 use std::process::Abort;
 use std::sync::{Mutex, Wait};
 use std::thread::Threads;
 use std::time::Clock;
+use stored_log::{KeptDoc, ListLog, StoredFault, StoredLog};
 
 // Counts how often it is notified of a fault.
 #[derive(Drop)]
@@ -36,7 +35,7 @@ impl<R: Wait> CopyObserver for Counting<'_, R> {
 
     fn goes_on(&self) {}
 
-    fn stopped(&self, _why: &Fault, _code: Option<ErrorCode>) {
+    fn stopped(&self, _why: StoredFault) {
         let mut times = self.times.lock(self.rt);
         *times = times.saturating_add(1);
     }
@@ -50,35 +49,37 @@ static LOGS_THREE: Start<'static> = Start {
     replies: None,
 };
 
-// A copy with the three operations of the document d that a server logged, none of which is in
-// another copy.
+// A log with the three operations of the document d that a server logged, none of which is in
+// another log.
 fn with_three<R: Threads + Wait + Abort + Sync + Log + Clock>(
     rt: &R,
     alloc: Global,
-) -> Result<LogCopy<MemStore>, AllocError> {
-    let mut copy = adopted(alloc, Connection::open_in_memory(alloc)?)?;
+) -> Result<ListLog, AllocError> {
     let logs = &LOGS_THREE;
-    started(rt, alloc, "three operations", &["d"], logs, &mut copy)?;
-    Ok(copy)
+    let place = started(rt, alloc, "three operations", &["d"], logs, new_list(alloc))?;
+    Ok(ListLog::open(alloc, place, None))
 }
 
-/// The documents of these names of a copy behind locks. If they can't be had,
+/// The replica that the documents are restored for. If its name can't be had, as if out of memory.
+pub fn replica_read() -> Result<ReplicaName, AllocError> {
+    ReplicaName::read(b"srv-2").ok_or(AllocError)
+}
+
+/// The documents of these names of a stored log behind locks, for this replica. If they can't be had,
 /// as if out of memory.
-pub fn shared_documents<M: Marker, S: Alter>(
+pub fn shared_documents<M: Marker, L: StoredLog>(
     alloc: Global,
     blank: Blank,
-    copy: &LogCopy<S>,
+    copy: &L,
+    replica: &ReplicaName,
     documents: &[&str],
 ) -> Result<SharedDocuments<M>, AllocError>
     requires blank { blank ≡ M.name }
-    requires begun { M.initial_log ≡ entries_at copy.now.docs (map (λ s. s.now) documents.now) }
+    requires begun { M.origin ≡ origin_at replica.now (L.log copy.now).docs (map (λ s. s.now) documents.now) }
     requires few { length documents.now ≤ greatest_number }
 {
-    let Some(replica) = ReplicaName::read(b"srv-2") else {
-        return Err(AllocError);
-    };
     let mut ledger = Ledger::<M>::new(blank);
-    let Ok(restored) = restore_documents(alloc, &mut ledger, copy, &replica, documents, 1) else {
+    let Ok(restored) = restore_documents(alloc, &mut ledger, copy, replica, documents, 1) else {
         return Err(AllocError);
     };
     match share_documents(alloc, restored, Pace::Behind(1)) {
@@ -89,11 +90,11 @@ pub fn shared_documents<M: Marker, S: Alter>(
 
 // Copies the library's documents beside so many sessions, none of which ends, and gives how often
 // the observer was notified of a fault.
-fn faults_of<M: Marker, R: Wait, S: Alter>(
+fn faults_of<M: Marker, R: Wait, L: StoredLog>(
     rt: &R,
     shared: &SharedDocuments<M>,
     sessions: u64,
-    copy: &mut LogCopy<S>,
+    copy: &mut L,
 ) -> u32 {
     let times = Mutex::new(0);
     let counting = Counting { rt, times: &times };
@@ -103,34 +104,45 @@ fn faults_of<M: Marker, R: Wait, S: Alter>(
     times.into_inner()
 }
 
-// The same where the shared is that of a full copy, and has a table of its own.
-fn faults_beside<M: Marker, R: Wait, F: Alter, S: Alter>(
+// The same where the shared is that of a full log, and has a table of its own.
+fn faults_beside<M: Marker, R: Wait, F: StoredLog, L: StoredLog>(
     rt: &R,
     alloc: Global,
     blank: Blank,
-    full: &LogCopy<F>,
+    full: &F,
+    replica: &ReplicaName,
     documents: &[&str],
     sessions: u64,
-    copy: &mut LogCopy<S>,
+    copy: &mut L,
 ) -> Result<u32, AllocError>
     requires blank { blank ≡ M.name }
-    requires begun { M.initial_log ≡ entries_at full.now.docs (map (λ s. s.now) documents.now) }
+    requires begun { M.origin ≡ origin_at replica.now (F.log full.now).docs (map (λ s. s.now) documents.now) }
     requires few { length documents.now ≤ greatest_number }
 {
-    let shared = shared_documents::<M, F>(alloc, blank, full, documents)?;
-    Ok(faults_of::<M, R, S>(rt, &shared, sessions, copy))
+    let shared = shared_documents::<M, F>(alloc, blank, full, replica, documents)?;
+    Ok(faults_of::<M, R, L>(rt, &shared, sessions, copy))
 }
 
-/// Copies a document with three operations to the copy beside so many sessions, none of which ends,
+/// Copies a document with three operations to the log beside so many sessions, none of which ends,
 /// and gives how often the observer was notified of a fault.
-pub fn faults_seen<R: Threads + Wait + Abort + Sync + Log + Clock, S: Alter>(
+pub fn faults_seen<R: Threads + Wait + Abort + Sync + Log + Clock, L: StoredLog>(
     rt: &R,
     alloc: Global,
     sessions: u64,
-    copy: &mut LogCopy<S>,
+    copy: &mut L,
 ) -> Result<u32, AllocError> {
     let full = with_three(rt, alloc)?;
-    faults_beside::<Brand, _, _, _>(rt, alloc, Blank::new(), &full, &["d"], sessions, copy)
+    let replica = replica_read()?;
+    faults_beside::<Brand, _, _, _>(
+        rt,
+        alloc,
+        Blank::new(),
+        &full,
+        &replica,
+        &["d"],
+        sessions,
+        copy,
+    )
 }
 
 static NO_FAULT: [Case<'static>; 1] = [Case {

@@ -38,7 +38,7 @@ fn session<M: Marker>(
     write_after: usize,
 ) -> Option<Ended<Seated<M>>>
     requires blank { blank ≡ M.name }
-    requires begun { BeginEmpty M.initial_log }
+    requires begun { BeginEmpty M.origin }
 {
     let mut maker = NewDocuments::<M>::new(blank);
     let documents = two_documents(alloc, &mut maker).ok()?;
@@ -69,7 +69,7 @@ fn gathered<M: Marker>(
     write_after: usize,
 ) -> Option<(Ending, Totals, Totals)>
     requires blank { blank ≡ M.name }
-    requires begun { BeginEmpty M.initial_log }
+    requires begun { BeginEmpty M.origin }
 {
     let Ended {
         why,

@@ -73,7 +73,7 @@ fn waits<M: Marker>(
     writes: &AtomicU64,
 ) -> u8
     requires blank { blank ≡ M.name }
-    requires begun { BeginEmpty M.initial_log }
+    requires begun { BeginEmpty M.origin }
 {
     let client = Client {
         left: 5,

@@ -4,7 +4,7 @@ ghost use Rattle.share_ledger.specs.Begun.{BeginEmpty};
 
 use super::samples::{did, shared_documents};
 use crate::checks::holds;
-use doc_words::{Command, Look, Place, Query, Reply, Steps};
+use doc_api::{Command, Look, Place, Query, Reply, Steps};
 use json_scalar::{Refusal, Scalar, Val};
 use locked_doc::{LockedDoc, Seat, SeatEnd};
 use op_core::{Cursor, Key, Mutation, Path};
@@ -179,7 +179,7 @@ fn adds_up<M: Marker>(
 // which assigns once.
 fn asks<M: Marker, R: Abort + Wait>(rt: &R, alloc: Global, blank: Blank) -> Result<(), Refusal>
     requires blank { blank ≡ M.name }
-    requires begun { BeginEmpty M.initial_log }
+    requires begun { BeginEmpty M.origin }
 {
     let shared = shared_documents::<M>(alloc, blank, &["a", "b"], 2)?;
     let first = both_of_first(rt, alloc, &shared)?;

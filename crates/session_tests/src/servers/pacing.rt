@@ -119,7 +119,7 @@ fn paced<M: Marker + Send + Sync, R: Threads + Wait + Sync>(
     replies: &Mutex<Vec<u8>>,
 ) -> Result<(Gathered, bool), Refusal>
     requires blank { blank ≡ M.name }
-    requires begun { BeginEmpty M.initial_log }
+    requires begun { BeginEmpty M.origin }
 {
     let mut shared = shared_documents::<M>(alloc, blank, &["a"], 1)?;
     shared.progress = Progress::new(alloc, 1, row.pace)?;

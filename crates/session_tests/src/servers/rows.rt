@@ -148,7 +148,7 @@ fn looks<M: Marker, R: Wait>(
     blank: Blank,
 ) -> Result<(Ending, bool, bool), Refusal>
     requires blank { blank ≡ M.name }
-    requires begun { BeginEmpty M.initial_log }
+    requires begun { BeginEmpty M.origin }
 {
     let shared = shared_documents::<M>(alloc, blank, &["d", "b"], 1)?;
     let mut source = Looking {

@@ -1,14 +1,13 @@
 //! New documents, and sessions over them.
 ghost use Rattle.std.specs.Prelude.{◌≡◌, ◌≤◌, IfOk, length};
-ghost use Rattle.doc_ledger.specs.Numbers.{greatest_number};
+ghost use Rattle.locked_doc.specs.Numbers.{greatest_number};
 ghost use Rattle.share_ledger.specs.Begun.{BeginEmpty};
 
 use crate::checks::holds;
-use doc_ledger::Ledger;
 use json_scalar::Refusal;
 use lamport_id::ReplicaName;
 use line_proto::Name;
-use locked_doc::{Shelf, Totals};
+use locked_doc::{Ledger, Shelf, Totals};
 use server_core::doubles::Script;
 use server_core::{
     Gate, Gathered, Idle, OpenGate, Progress, SharedDocuments, Side, Signal, run_sessions,
@@ -55,7 +54,7 @@ fn shelf_of<M: Marker>(
     seats: u16,
 ) -> Result<Shelf<M>, Refusal>
     requires blank { blank ≡ M.name }
-    requires begun { BeginEmpty M.initial_log }
+    requires begun { BeginEmpty M.origin }
     requires few { documents ≤ greatest_number }
     ensures { IfOk result (λ shelf. shelf ≡ documents) }
 {
@@ -78,7 +77,7 @@ pub fn shared_documents<M: Marker>(
     seats: u16,
 ) -> Result<SharedDocuments<M>, Refusal>
     requires blank { blank ≡ M.name }
-    requires begun { BeginEmpty M.initial_log }
+    requires begun { BeginEmpty M.origin }
     requires few { length documents.now ≤ greatest_number }
     ensures { IfOk result (λ shared. length shared.names.items ≡ length documents.now) }
 {
@@ -105,7 +104,7 @@ pub fn serve_beside<M: Marker + Send + Sync, R: Threads + Wait + Sync, G: Gate +
     side: S,
 ) -> Result<(Gathered, S), Refusal>
     requires blank { blank ≡ M.name }
-    requires begun { BeginEmpty M.initial_log }
+    requires begun { BeginEmpty M.origin }
     requires few { length documents.now ≤ greatest_number }
 {
     let shared = shared_documents::<M>(alloc, blank, documents, seats)?;
@@ -127,7 +126,7 @@ fn serve<M: Marker + Send + Sync, R: Threads + Wait + Sync, G: Gate + Sync>(
     gate: &G,
 ) -> Result<Gathered, Refusal>
     requires blank { blank ≡ M.name }
-    requires begun { BeginEmpty M.initial_log }
+    requires begun { BeginEmpty M.origin }
     requires few { length documents.now ≤ greatest_number }
 {
     let ran = serve_beside::<M, _, _, _>(rt, alloc, blank, documents, seats, scripts, gate, Idle)?;

@@ -85,14 +85,14 @@ pub fn two_sessions<R: Threads + Wait + Abort + Sync>(
     Ok(())
 }
 
-// 64 sessions of the same lines.
+// 66 sessions of the same lines.
 fn many<'a, R: Wait>(
     rt: &'a R,
     alloc: Global,
     replies: &'a Mutex<Vec<u8>>,
 ) -> Result<Vec<Script<'a, R>>, AllocError> {
     let mut scripts = Vec::new(alloc);
-    for _ in 0..64u8 {
+    for _ in 0..66u8 {
         scripts.push(Script::new(rt, THREE, replies))?;
     }
     Ok(scripts)
@@ -105,8 +105,8 @@ pub fn many_sessions<R: Threads + Wait + Abort + Sync>(
 ) -> Result<(), Refusal> {
     let replies = Mutex::new(Vec::new(alloc));
     let scripts = many(rt, alloc, &replies)?;
-    let gathered = serve_all(rt, alloc, &["a", "b"], 64, scripts, &OpenGate)?;
-    first_did(rt, "many_sessions", &gathered, 192, &[3; 64]);
+    let gathered = serve_all(rt, alloc, &["a", "b"], 66, scripts, &OpenGate)?;
+    first_did(rt, "many_sessions", &gathered, 198, &[3; 66]);
     Ok(())
 }
 
@@ -125,7 +125,7 @@ impl<M: Marker> Side<M> for Watching {
             ended: 0,
         };
         for _ in rt.forever() {
-            if seen.ended == sessions {
+            if seen.ended >= sessions {
                 break;
             }
             seen = shared.signal.wait(rt, seen);
@@ -152,7 +152,7 @@ fn watched<M: Marker + Send + Sync, R: Threads + Wait + Sync>(
     blank: Blank,
 ) -> Result<(Gathered, Watching), Refusal>
     requires blank { blank ≡ M.name }
-    requires begun { BeginEmpty M.initial_log }
+    requires begun { BeginEmpty M.origin }
 {
     let begins = Watching {
         sessions: 0,
@@ -162,7 +162,7 @@ fn watched<M: Marker + Send + Sync, R: Threads + Wait + Sync>(
     let documents = &["a", "b"];
     let replies = Mutex::new(Vec::new(alloc));
     let scripts = many(rt, alloc, &replies)?;
-    serve_beside::<M, _, _, _>(rt, alloc, blank, documents, 64, scripts, &OpenGate, begins)
+    serve_beside::<M, _, _, _>(rt, alloc, blank, documents, 66, scripts, &OpenGate, begins)
 }
 
 /// The side sees that all have ended, and what they did.
@@ -171,8 +171,8 @@ pub fn side_sees_all_end<R: Threads + Wait + Abort + Sync>(
     alloc: Global,
 ) -> Result<(), Refusal> {
     let (gathered, side) = watched::<Brand, R>(rt, alloc, Blank::new())?;
-    first_did(rt, "side_sees_all_end", &gathered, 192, &[3; 64]);
+    first_did(rt, "side_sees_all_end", &gathered, 198, &[3; 66]);
     let seen = (side.sessions, side.ended, side.logged);
-    holds(rt, seen == (64, 64, Some(192)), "side_sees_all_end");
+    holds(rt, seen == (66, 66, Some(198)), "side_sees_all_end");
     Ok(())
 }

@@ -1,7 +1,7 @@
 //! Shelves of three and of sixteen documents: each document has what was written to it, and none of
 //! what was written to another.
 ghost use Rattle.std.specs.Prelude.{◌≤◌, length};
-ghost use Rattle.doc_ledger.specs.Numbers.{greatest_number};
+ghost use Rattle.locked_doc.specs.Numbers.{greatest_number};
 
 use super::samples::{did, run_alone};
 use crate::checks::{holds, replies_are};

@@ -68,7 +68,7 @@ fn did_beside<M: Marker + Send + Sync, R: Threads + Wait + Sync>(
     side: Woken<'_>,
 ) -> Result<Gathered, Refusal>
     requires blank { blank ≡ M.name }
-    requires begun { BeginEmpty M.initial_log }
+    requires begun { BeginEmpty M.origin }
 {
     let documents = &["a", "b"];
     let replies = Mutex::new(Vec::new(alloc));

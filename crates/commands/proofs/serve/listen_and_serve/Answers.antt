@@ -1,9 +1,13 @@
-use Rattle.commands.proofs.Closed.{served_and_closed, serves_at}
+use Rattle.std.proofs.Common.{map, subst}
+use Rattle.commands.specs.Server.{ServesAt}
+use Rattle.commands.proofs.Closed.{serves_at}
 use Rattle.commands.proofs.serve.listen_and_serve.Goals as goal
 
 pub returns-clause-served : goal.returns-clause-served
 returns-clause-served g c = λ zero.
-    let ended = c.serve_stored-ended.result in
-    let well = c.status_of.ensures.well zero in
-    serves_at g.S.Store g.S.Foldable.holds_alone _ _ _ c.in-Ok.copy _ (g.W.Write.contents c.listen.new.out) _ c.in-Some.ensures
-    (served_and_closed g.S.Store g.S.Foldable.holds_alone _ _ _ _ c.in-Ok.copy ended.served ended.closed ended.store _ _ c.in-Ok-connections.ensures c.serve_stored-ended.ensures.served well.0 well.1)
+    let asked = c.args.asked.now in
+    let held = g.W.Write.contents c.args.out.now in
+    let holds = g.W.Write.contents c.serve_over-status.new.out in
+    subst (λ names. ServesAt asked.name.now (map (λ s. s.now) names) asked.sessions held holds) c.deref.ensures.value
+    (serves_at g.L.StoredLog _ _ _ _ c.in-Ok.copy _ _ _ (g.W.Write.contents c.listen.new.out) holds c.in-Ok-connections.ensures c.in-Some.ensures
+    (c.serve_over-status.ensures.served zero))

@@ -1,7 +1,7 @@
 use Rattle.std.proofs.Common.{◌≡◌, ◌<◌, ◌∙◌, sym, ap, subst, length, get_or, true, false, arith, Some}
 use Rattle.std.proofs.lemmas.List.{get_or_default}
 use Rattle.crdt_rules.specs.Same.{key_eq}
-use Rattle.sorted_lists.proofs.Keys.{same}
+use Rattle.list_laws.proofs.Keys.{same}
 use Rattle.doc_nodes.specs.KeyOrder.{key_rank}
 use Rattle.doc_nodes.proofs.KeyOrder.{keys_ordered}
 use Rattle.doc_nodes.proofs.ChildrenLaws.{number_at-rank, number_at-missing}

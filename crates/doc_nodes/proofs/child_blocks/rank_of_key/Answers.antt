@@ -1,7 +1,7 @@
 use Rattle.std.proofs.Common.{rules}
 use Rattle.std.specs.Ordering.{is_lt}
 use Rattle.std.proofs.lemmas.Fn.{always_returns_same}
-use Rattle.sorted_lists.proofs.Bisection.{lesser_first, rank_is}
+use Rattle.list_laws.proofs.Bisection.{lesser_first, rank_is}
 use Rattle.doc_nodes.specs.KeyOrder.{key_cmp}
 use Rattle.doc_nodes.proofs.KeyOrder.{keys_ordered}
 use Rattle.doc_nodes.proofs.child_blocks.rank_of_key.Goals as goal

@@ -3,7 +3,7 @@ use Rattle.std.proofs.lemmas.List.{nil_from_length}
 use Rattle.op_core.specs.Shape.{key_of}
 use Rattle.doc_nodes.specs.Nodes.{node_of, child_of}
 use Rattle.crdt_rules.specs.Context.{reference}
-use Rattle.doc_words.specs.declared.role.Role.TheVariants.{Through}
+use Rattle.doc_api.specs.declared.role.Role.TheVariants.{Through}
 use Rattle.doc_nodes.specs.declared.node.NodeNumber.{NodeNumber}
 use Rattle.doc_nodes.specs.Walk.{walk}
 use Rattle.doc_nodes.specs.PresenceAlong.{made_present, keys_below, AddsPresenceAlong, IsReady}

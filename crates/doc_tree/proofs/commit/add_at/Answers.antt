@@ -2,7 +2,7 @@ use Rattle.std.proofs.Common.{◌∙◌, refl, sym, ap, set, subst, inr}
 use Rattle.std.proofs.lemmas.Int.{to_z-of_z}
 use mir.Syntax.{w64}
 use mir.Val.{to_z, of_z}
-use Rattle.doc_words.specs.declared.role.Role.TheVariants.{Counter}
+use Rattle.doc_api.specs.declared.role.Role.TheVariants.{Counter}
 use Rattle.doc_nodes.specs.Nodes.{node_of}
 use Rattle.doc_nodes.specs.Writes.{with_number}
 use Rattle.doc_nodes.specs.PresenceAlong.{keys_to}

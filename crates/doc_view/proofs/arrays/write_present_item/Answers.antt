@@ -1,6 +1,6 @@
 use Rattle.std.proofs.Common.{[], ◌∷◌, map, refl}
 use Rattle.op_core.specs.declared.cursor.Key.TheVariants.{Element}
-use Rattle.doc_words.specs.Words.{Id, Scalar}
+use Rattle.doc_api.specs.Words.{Id, Scalar}
 use Rattle.doc_tree.specs.Nodes.{tree_facts}
 use Rattle.doc_rules.specs.Views.{into_list}
 use Rattle.doc_rules.specs.Sorted.AreThose.{none, keep, skip}

@@ -1,6 +1,6 @@
 use Rattle.std.proofs.Common.{List, [], ◌++◌, refl, subst}
 use Rattle.std.proofs.lemmas.List.{take_all}
-use Rattle.doc_words.specs.Words.{Id}
+use Rattle.doc_api.specs.Words.{Id}
 use Rattle.doc_tree.specs.Nodes.{tree_facts}
 use Rattle.doc_rules.specs.Views.{into_list}
 use Rattle.doc_rules.specs.Sorted.AreThose.{none}

@@ -1,6 +1,6 @@
 use Rattle.std.proofs.Common.{List, ◌+◌, [], ◌∷◌, ◌++◌, map, codes, Decides, refl, ap, ◌∙◌, sym, subst, arith}
 use Rattle.json.specs.Token as token
-use Rattle.doc_words.specs.Words.{Key}
+use Rattle.doc_api.specs.Words.{Key}
 use Rattle.op_core.specs.declared.cursor.Key.TheVariants.{Text, Element}
 use Rattle.doc_nodes.specs.declared.node.NodeNumber.{NodeNumber}
 use Rattle.doc_tree.specs.Nodes.{tree_facts}

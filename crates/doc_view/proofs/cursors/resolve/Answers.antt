@@ -1,6 +1,6 @@
 use Rattle.std.proofs.Common.{Result, Ok, Err, subst, ◌∙◌}
 use Rattle.std.proofs.lemmas.Result.{err_from_is_err_and}
-use Rattle.doc_words.specs.Words.{Refusal, Cursor}
+use Rattle.doc_api.specs.Words.{Refusal, Cursor}
 use Rattle.doc_tree.specs.Nodes.{tree_facts}
 use Rattle.doc_rules.specs.Resolve.{Leads}
 use Rattle.doc_view.proofs.Leading.{leads_err}

@@ -1,5 +1,5 @@
 use Rattle.std.proofs.Common.{List, Ok, sym, subst, ◌∙◌}
-use Rattle.doc_words.specs.Words.{Id, Scalar}
+use Rattle.doc_api.specs.Words.{Id, Scalar}
 use Rattle.doc_tree.specs.Nodes.{tree_facts}
 use Rattle.doc_rules.specs.Views.{AreItems}
 use Rattle.doc_view.specs.ByNumber.{AtNode}

@@ -1,7 +1,7 @@
 use Rattle.std.proofs.Common.{List, ◌++◌, map, ap, ◌∙◌}
 use Rattle.std.proofs.lemmas.List.{take_all}
 use Rattle.json_scalar.specs.Scalar.{scalar_data}
-use Rattle.doc_words.specs.Words.{Id, Scalar}
+use Rattle.doc_api.specs.Words.{Id, Scalar}
 use Rattle.json_text.specs.Tokens.{data_tokens, all_tokens}
 use Rattle.json_text.proofs.Texts.{put_next}
 use Rattle.doc_view.proofs.WritingAll.{entry_scalars}

@@ -1,6 +1,6 @@
 use Rattle.std.proofs.Common.{◌≡◌, ◌++◌, map, take}
 use Rattle.json_scalar.specs.Scalar.{scalar_data}
-use Rattle.doc_words.specs.Words.{Id, Scalar}
+use Rattle.doc_api.specs.Words.{Id, Scalar}
 use Rattle.json_text.specs.Tokens.{all_tokens}
 use Rattle.doc_view.proofs.json_parts.write_each_scalar.Given as goal
 

@@ -1,5 +1,5 @@
 use Rattle.std.proofs.Common.{◌≡◌, map, sym, ◌∙◌}
-use Rattle.doc_words.specs.Words.{Id, Scalar}
+use Rattle.doc_api.specs.Words.{Id, Scalar}
 use Rattle.doc_tree.specs.Nodes.{tree_facts}
 use Rattle.doc_rules.specs.Views.{AreValues}
 use Rattle.doc_view.proofs.Entries.{are_all}

@@ -2,8 +2,8 @@ use Rattle.std.proofs.Common.{◌≡◌, ◌||◌, not, Bool, true, false, List,
 use Rattle.std.proofs.Math.Bool.{or_comm}
 use Rattle.std.specs.List.{list_any}
 use Rattle.std.proofs.lemmas.Bool.{and_parts}
-use Rattle.doc_words.specs.Words.{Id}
-use Rattle.doc_words.specs.declared.role.Role.{Role}
+use Rattle.doc_api.specs.Words.{Id}
+use Rattle.doc_api.specs.declared.role.Role.{Role}
 use Rattle.presence_set.specs.EmptyPut.{puts_map, puts_list}
 use Rattle.doc_view.proofs.roles.empty_put.Goals as goal
 

@@ -1,7 +1,7 @@
 use Rattle.std.proofs.Common.{◌≡◌, ◌∙◌, true≢false, get_or, Some, Ok, Err, sym, ap, subst}
 use Rattle.std.specs.Prelude.{option_map}
 use Rattle.json_scalar.specs.declared.scalar.Val.TheVariants.{Scalar}
-use Rattle.doc_words.specs.Words.{NoMemory}
+use Rattle.doc_api.specs.Words.{NoMemory}
 use Rattle.doc_view.proofs.Places.{IsOf, get_place, get_no_place}
 use Rattle.doc_view.proofs.roles.scalar_of_id.Goals as goal
 

@@ -1,5 +1,5 @@
 use Rattle.std.proofs.Common.{ℕ, ◌<◌, get_or, ◌≢◌}
-use Rattle.doc_words.specs.Words.{Id}
+use Rattle.doc_api.specs.Words.{Id}
 use Rattle.hold_buffer.proofs.missing.first_place.Given as goal
 
 abbrev pub invariant-loop-at : goal.invariant-loop-at

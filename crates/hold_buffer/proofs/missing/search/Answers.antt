@@ -1,6 +1,6 @@
 use Rattle.std.proofs.Common.{rules}
 use Rattle.std.proofs.lemmas.List.Sorted.{answers_always}
-use Rattle.sorted_lists.proofs.Rising.{searched}
+use Rattle.list_laws.proofs.Rising.{searched}
 use Rattle.doc_rules.proofs.OneAnswer.{name_order}
 use Rattle.hold_buffer.proofs.missing.search.Goals as goal
 

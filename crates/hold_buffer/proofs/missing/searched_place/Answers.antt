@@ -1,5 +1,5 @@
 use Rattle.std.proofs.Common.{◌≡◌, ◌∙◌, sym, ap}
-use Rattle.doc_words.specs.Words.{Id}
+use Rattle.doc_api.specs.Words.{Id}
 use Rattle.hold_buffer.proofs.Names.{other_counter, gap_absent}
 use Rattle.hold_buffer.proofs.missing.searched_place.Goals as goal
 

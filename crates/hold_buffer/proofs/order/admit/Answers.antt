@@ -1,6 +1,6 @@
 use Rattle.std.proofs.Common.{◌≡◌, Some, sym, subst}
 use Rattle.slab.specs.Slab.{Slab, get}
-use Rattle.doc_words.specs.Words.{Op}
+use Rattle.doc_api.specs.Words.{Op}
 use Rattle.hold_buffer.proofs.order.admit.Goals as goal
 
 pub returns-in-Ok-await_ids-clause-kept : goal.returns-in-Ok-await_ids-clause-kept

@@ -1,6 +1,6 @@
 use Rattle.std.proofs.Common.{◌≡◌, ◌∙◌, ℕ, List, Contains, sym, ap, subst}
 use Rattle.slab.specs.Slab.{get}
-use Rattle.doc_words.specs.Words.{name_cmp, Id}
+use Rattle.doc_api.specs.Words.{name_cmp, Id}
 use Rattle.doc_rules.specs.Sorted.{IsRising}
 use Rattle.crdt_rules.proofs.Tests.{some≢none}
 use Rattle.op_log.proofs.Comparing.{shaped_ascending}

@@ -2,7 +2,7 @@ use Rattle.std.proofs.Common.{rules, subst}
 use Rattle.std.specs.List.Sorted.{IsSearchInRange}
 use Rattle.lamport_id.specs.Order.{id_cmp}
 use Rattle.std.proofs.lemmas.Fn.{always_returns_same}
-use Rattle.sorted_lists.proofs.Rising.{searched}
+use Rattle.list_laws.proofs.Rising.{searched}
 use Rattle.crdt_rules.proofs.WalkLaws.{id_order}
 use Rattle.hold_buffer.proofs.order.bisect.Goals as goal
 

@@ -1,5 +1,5 @@
 use Rattle.std.proofs.Common.{◌≡◌, map, take, List}
-use Rattle.doc_words.specs.Words.{Id}
+use Rattle.doc_api.specs.Words.{Id}
 use Rattle.hold_buffer.proofs.order.waiting_of.Given as goal
 
 abbrev pub invariant-loop-at : goal.invariant-loop-at

@@ -2,7 +2,7 @@ use Rattle.std.proofs.Common.{inl, inr, Contains, sym, subst}
 use Rattle.std.specs.Prelude.{insert}
 use Rattle.crdt_rules.proofs.WalkLaws.{id_order}
 use Rattle.list_laws.proofs.Members.{Contains-insert_new, Contains-insert_old, Contains-insert_cases}
-use Rattle.sorted_lists.proofs.Rising.{IsRising-insert}
+use Rattle.list_laws.proofs.Rising.{IsRising-insert}
 use Rattle.hold_buffer.proofs.ready.put.Goals as goal
 
 pub returns-in-Err-clause-rising : goal.returns-in-Err-clause-rising

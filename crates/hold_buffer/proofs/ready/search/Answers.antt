@@ -1,4 +1,4 @@
-use Rattle.sorted_lists.proofs.Rising.{searched}
+use Rattle.list_laws.proofs.Rising.{searched}
 use Rattle.crdt_rules.proofs.WalkLaws.{id_order}
 use Rattle.hold_buffer.proofs.ready.search.Goals as goal
 

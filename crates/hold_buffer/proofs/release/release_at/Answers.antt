@@ -1,5 +1,5 @@
 use Rattle.std.proofs.Common.{◌≡◌, ◌∙◌, List, suc, length, take, drop, true, false, inl, inr, refl, sym, ap, subst, arith, true≢false}
-use Rattle.doc_words.specs.Words.{id_cmp}
+use Rattle.doc_api.specs.Words.{id_cmp}
 use Rattle.doc_rules.specs.Sorted.{IsRising}
 use Rattle.list_laws.proofs.Members.{split_at}
 use Rattle.hold_buffer.specs.Order.{ListsFree, is_free, without_id}

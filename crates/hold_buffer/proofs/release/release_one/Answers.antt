@@ -1,6 +1,6 @@
 use Rattle.std.proofs.Common.{◌≡◌, ◌∙◌, [], List, map, get_or, Contains, sym, ap, subst}
-use Rattle.doc_words.specs.Words.{id_cmp, Id}
-use Rattle.sorted_lists.specs.Sorted.{IsGap}
+use Rattle.doc_api.specs.Words.{id_cmp, Id}
+use Rattle.list_laws.specs.Sorted.{IsGap}
 use Rattle.hold_buffer.specs.Order.{without_id}
 use Rattle.hold_buffer.specs.declared.entry.Entry.{Entry}
 use Rattle.hold_buffer.proofs.Waiting.{read_within}

@@ -3,7 +3,7 @@ use Rattle.std.proofs.lemmas.List.{take_all}
 use Rattle.std.proofs.lemmas.List.Elements.{Contains-push_cases}
 use Rattle.list_laws.proofs.Members.{Contains-nil}
 use Rattle.list_laws.proofs.Reading.{take_read}
-use Rattle.doc_words.specs.Words.{Id}
+use Rattle.doc_api.specs.Words.{Id}
 use Rattle.hold_buffer.specs.Waiters.{row_at, row_of}
 use Rattle.hold_buffer.proofs.waiters.note_each.Goals as goal
 

@@ -1,5 +1,5 @@
 use Rattle.std.proofs.Common.{ℕ, ◌≤◌, length, take, Contains}
-use Rattle.doc_words.specs.Words.{Id}
+use Rattle.doc_api.specs.Words.{Id}
 use Rattle.hold_buffer.specs.Waiters.{row_at, row_of}
 use Rattle.hold_buffer.proofs.waiters.note_each.Given as goal
 

@@ -1,6 +1,6 @@
 use Rattle.std.proofs.Common.{◌≡◌, ◌<◌, ◌-◌, ◌∙◌, ◌++◌, ◌∷◌, [], append_assoc, append-nil, sym, ap, subst, refl, length, List, take, if◌then◌else◌, arith}
 use Rattle.std.proofs.lemmas.List.{take_all}
-use Rattle.doc_words.specs.Words.{Id}
+use Rattle.doc_api.specs.Words.{Id}
 use Rattle.list_order.specs.Slots.{slot_at, slots_from, LinksEnd}
 use Rattle.list_order.specs.Marks.{mark_at, present_along, bit}
 use Rattle.list_order.proofs.Paths.{walk-None}

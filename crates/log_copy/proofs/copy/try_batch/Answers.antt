@@ -2,13 +2,14 @@ use Rattle.std.proofs.Common.{◌+◌, List, ℕ, length, map, string_bytes, inl
 use Rattle.std.proofs.lemmas.List.{nil_from_length}
 use Rattle.sqlite.specs.Held.{state}
 use Rattle.sqlite.specs.State.{HasCleanDisk}
-use Rattle.copy_schema.specs.Content.{Content, with_rows, rows_from}
-use Rattle.copy_tables.specs.Statements.{RanAll, batch_of}
-use Rattle.copy_tables.specs.Steps.{IsOpenWith}
-use Rattle.copy_docs.specs.Docs.{op_text}
+use Rattle.stored_rows.specs.Content.{Content, with_rows, rows_from}
+use Rattle.stored_rows.specs.Statements.{RanAll, batch_of}
+use Rattle.stored_rows.specs.Steps.{IsOpenWith}
+use Rattle.stored_log.specs.Docs.{op_text}
 use Rattle.log_copy.specs.Batch.{IsLeft}
 use Rattle.log_copy.specs.Failing.{FailsAmong}
-use Rattle.log_copy.proofs.SoundLemmas.{some_from, batch_rows, same_lengths, texts_writable}
+use Rattle.stored_log.proofs.Batches.{some_from}
+use Rattle.log_copy.proofs.SoundLemmas.{batch_rows, same_lengths, texts_writable}
 use Rattle.log_copy.proofs.BatchLemmas.{left_by, sends}
 use Rattle.log_copy.proofs.copy.try_batch.Goals as goal
 

@@ -2,8 +2,8 @@ use Rattle.std.proofs.Common.{◌≡◌, ◌⊎◌, inl, inr, sym, ◌∙◌}
 use Rattle.std.proofs.lemmas.Result.{IfOk-weaker, IfErr-weaker}
 use Rattle.sqlite.specs.Held.{state}
 use Rattle.sqlite.proofs.StateLemmas.{survives_weaker}
-use Rattle.copy_schema.specs.Tables.{copy_schema, HasBoth, HasNeither}
-use Rattle.copy_tables.specs.Steps.{IsBare, IsIdle, IsOurs}
+use Rattle.stored_rows.specs.Tables.{copy_schema, HasBoth, HasNeither}
+use Rattle.stored_rows.specs.Steps.{IsBare, IsIdle, IsOurs}
 use Rattle.log_copy.proofs.OpenLemmas.{any_error, bare_is_neither, copy_is_both, outside_if, inside_if, both_ok, never_refused, survives_same}
 use Rattle.log_copy.proofs.open.open.Goals as goal
 

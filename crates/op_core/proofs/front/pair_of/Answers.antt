@@ -1,4 +1,4 @@
-use Rattle.std.proofs.Common.{ℕ, ◌<◌, List, length, get_or, ◌∙◌, sym, arith}
+use Rattle.std.proofs.Common.{ℕ, ◌<◌, List, length, ◌∙◌, sym, arith}
 use Rattle.std.proofs.lemmas.Slice.Zip.{get_or-zip}
 use Rattle.op_core.proofs.FrontPairs.{pair-at}
 use Rattle.op_core.proofs.front.pair_of.Goals as goal
@@ -13,5 +13,5 @@ returns c d =
     let here : c.args.at < length counters = c.requires.at in
     let named : c.args.at < length names = omega (arith, c.requires.len, here) in
     let first : List ℕ × ℕ = (c.index-names-at.result, 0) in
-    (λ i. pair (c.index-names-at.is i) (get_or counters c.args.at 0)) ∙ sym (get_or-zip names counters c.args.at first named here)
+    (λ i. pair (c.index-names-at.is i) (c.at.ensures i)) ∙ sym (get_or-zip names counters c.args.at first named here)
     ∙ pair-at names counters c.args.at first d c.requires.len here

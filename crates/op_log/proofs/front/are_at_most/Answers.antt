@@ -1,10 +1,9 @@
-use Rattle.std.proofs.Common.{◌≡◌, ◌+◌, suc, true, false, nat_le, get_or, drop, ◌&&◌, sym, ap, ◌∙◌, arith, le-leb}
+use Rattle.std.proofs.Common.{◌≡◌, ◌+◌, suc, true, false, nat_le, get_or, drop, ◌&&◌, sym, ap, ◌∙◌, arith}
 use Rattle.std.specs.List.{zip}
-use Rattle.std.proofs.lemmas.Bool.{lt-leb}
 use Rattle.std.proofs.lemmas.List.{drop_all}
 use Rattle.op_core.specs.Front.{is_le}
 use Rattle.op_core.proofs.FrontPairs.{length-pairs}
-use Rattle.op_log.proofs.Comparing.{turn_less, turn_equal, turn_greater, at_end, ends_there}
+use Rattle.op_log.proofs.Comparing.{turn_less, turn_equal, turn_greater, at_end, ends_there, reaches_less, reaches_it}
 use Rattle.op_log.proofs.front.are_at_most.Goals as goal
 use Rattle.op_log.proofs.front.are_at_most.Goals.{in-Equal-2, in-Greater}
 
@@ -25,7 +24,8 @@ pub returns-in-Equal : goal.returns-in-Equal
 returns-in-Equal c =
     let first = c.loop-at.first in
     let at = c.loop-at.at in
-    let greater : nat_le (get_or c.args.counters.now first 0) (get_or c.args.reached.now at 0) ≡ false = lt-leb _ _ c.if-reached-at.true in
+    let greater : nat_le (get_or c.args.counters.now first 0) (get_or c.args.reached.now at 0) ≡ false =
+    reaches_less (get_or c.args.counters.now first 0) (get_or c.args.reached.now at 0) c.at.result c.at-in-Equal-1.result c.at.ensures c.at-in-Equal-1.ensures c.if-at.true in
     ap (λ b. b && is_le (drop (suc first) (zip c.args.names.now c.args.counters.now)) (drop (suc at) (zip c.args.others.now c.args.reached.now))) (sym greater)
     ∙ sym
     (turn_equal c.args.names.now c.args.others.now c.args.counters.now c.args.reached.now c.requires.len c.requires.other_len c.requires.ascending c.requires.other_ascending
@@ -41,7 +41,8 @@ loop-at-preserved c =
     elim c.match-cmp.branch [
       | in-Equal-2 w ↦
           let next : c.match-cmp.first ≡ suc first = omega (arith, w.first-is) in
-          let le : nat_le (get_or c.args.counters.now first 0) (get_or c.args.reached.now at 0) ≡ true = le-leb _ _ w.if-reached-at.false in
+          let le : nat_le (get_or c.args.counters.now first 0) (get_or c.args.reached.now at 0) ≡ true =
+          reaches_it (get_or c.args.counters.now first 0) (get_or c.args.reached.now at 0) w.at.result w.at-in-Equal-1.result w.at.ensures w.at-in-Equal-1.ensures w.if-at.false in
           rw (next, one)
           (ap (λ b. b && is_le (drop (suc first) (zip c.args.names.now c.args.counters.now)) (drop (suc at) (zip c.args.others.now c.args.reached.now))) (sym le)
           ∙ sym

@@ -1,9 +1,9 @@
 use Rattle.std.proofs.Common.{◌≡◌, ◌<◌, ◌≤◌, ◌∙◌, List, [], ◌∷◌, refl, sym, ap, subst, length, get_or, Bool, true, false, arith}
 use Rattle.std.specs.Prelude.{is_some}
-use Rattle.doc_words.specs.Words.{Id}
+use Rattle.doc_api.specs.Words.{Id}
 use Rattle.std.proofs.lemmas.Bool.{le-ltb}
 use Rattle.crdt_rules.specs.Same.{id_eq}
-use Rattle.sorted_lists.proofs.Bisection.{get-rank, get-missing}
+use Rattle.list_laws.proofs.Bisection.{get-rank, get-missing}
 use Rattle.presence_set.specs.ById.{rank, get, contains, IsAscending}
 use Rattle.presence_set.proofs.Ascending.{ids_ordered}
 use Rattle.presence_set.proofs.ByIdLaws.{contains-get}

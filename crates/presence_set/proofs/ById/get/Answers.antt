@@ -1,8 +1,8 @@
 use Rattle.std.proofs.Common.{◌≡◌, ◌<◌, ◌≤◌, ◌∙◌, Some, None, [], ◌∷◌, List, sym, ap, subst, length, get_or, true, false, arith, refl}
 use Rattle.std.proofs.lemmas.List.{get_or_default}
-use Rattle.doc_words.specs.Words.{Id}
+use Rattle.doc_api.specs.Words.{Id}
 use Rattle.crdt_rules.specs.Same.{id_eq}
-use Rattle.sorted_lists.proofs.Bisection.{get-rank, get-missing}
+use Rattle.list_laws.proofs.Bisection.{get-rank, get-missing}
 use Rattle.presence_set.specs.ById.{rank, get, IsAscending}
 use Rattle.presence_set.proofs.Ascending.{ids_ordered}
 use Rattle.presence_set.proofs.ById.get.Goals.{else-at-entries-via-then-at-entries+else-eq, else-at-entries-via-else-at-entries}

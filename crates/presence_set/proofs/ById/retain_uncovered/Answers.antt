@@ -2,8 +2,8 @@ use Rattle.std.proofs.Common.{not, sym, subst}
 use Rattle.op_core.specs.Front.{covers}
 use Rattle.presence_set.specs.ById.{IsAscending}
 use Rattle.presence_set.specs.Kept.{kept_entries}
-use Rattle.doc_words.specs.Words.{id_cmp}
-use Rattle.sorted_lists.proofs.Rising.{rising-filter}
+use Rattle.doc_api.specs.Words.{id_cmp}
+use Rattle.list_laws.proofs.Rising.{rising-filter}
 use Rattle.presence_set.proofs.ById.retain_uncovered.Goals as goal
 
 pub invariant_of-self-in-Listed : goal.invariant_of-self-in-Listed

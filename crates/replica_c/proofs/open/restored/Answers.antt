@@ -1,6 +1,6 @@
 use Rattle.std.proofs.Common.{◌≢◌, List, sym, subst}
 use Rattle.op_core.specs.Op.{Op}
-use Rattle.doc_words.specs.Words.{NoMemory}
+use Rattle.doc_api.specs.Words.{NoMemory}
 use Rattle.line_feed.specs.Lines.{lines}
 use Rattle.replica_c.specs.Stored.{AreWritten, IsUnread}
 use Rattle.replica_c.proofs.Opening.{restored_as}

@@ -3,8 +3,8 @@ use Rattle.std.proofs.lemmas.Result.{err_from_is_err_and}
 use Rattle.std.specs.Option.{ok_or}
 use Rattle.serde_json.specs.View.{view, items_view}
 use Rattle.json_scalar.specs.declared.refusal.Refusal.TheVariants.{BadRequest}
-use Rattle.doc_words.specs.declared.place.Place.{Place}
-use Rattle.doc_words.specs.declared.place.Step.{Step}
+use Rattle.doc_api.specs.declared.place.Place.{Place}
+use Rattle.doc_api.specs.declared.place.Step.{Step}
 use Rattle.line_proto.specs.Reading.{steps_from}
 use Rattle.replica_c.specs.Places.{place_start}
 use Rattle.replica_c.proofs.Paths.{part_Ok, part_Err, place_items-by}

@@ -1,8 +1,8 @@
 use Rattle.std.proofs.Common.{◌≡◌, ◌⊎◌, sym, subst}
 use Rattle.json_scalar.specs.declared.refusal.Refusal.TheVariants.{NoMemory}
-use Rattle.doc_words.specs.declared.ask.Look.TheVariants as look
-use Rattle.doc_words.specs.declared.reply.Reply.{Reply}
-use Rattle.doc_words.specs.declared.reply.Reply.TheVariants as reply
+use Rattle.doc_api.specs.declared.ask.Look.TheVariants as look
+use Rattle.doc_api.specs.declared.reply.Reply.{Reply}
+use Rattle.doc_api.specs.declared.reply.Reply.TheVariants as reply
 use Rattle.doc_tree.specs.Nodes.{tree_facts}
 use Rattle.doc_view.specs.TreeValues.{tree_values}
 use Rattle.doc_rules.specs.Answers.{LooksHere}

@@ -1,11 +1,10 @@
-//! Sessions over loopback, with both ends in one process, from a copy in memory.
+//! Sessions over loopback, with both ends in one process, from a log in memory.
 use super::super::checks::{bytes_are, holds};
-use super::super::deeds::adopted;
+use super::super::places::new_list;
+use super::super::serving::serve_all;
 use super::super::two_sessions::{THREE, TOTALS, TWO, have_replies};
 use log::Log;
-use served_copy::serve_over;
 use server_core::Pace;
-use sqlite::Connection;
 use std::alloc::{AllocError, Global};
 use std::io;
 use std::io::Write;
@@ -75,8 +74,7 @@ fn replies(alloc: Global, clients: Vec<TcpStream>) -> io::Result<Vec<String>> {
     Ok(all)
 }
 
-// Serves so many connections over at most 16 documents and an empty copy: the status, and what was
-// written. It promises nothing, so that the proof of its caller carries no clause of a server.
+// Serves so many connections over an empty log: the status, and what was written.
 fn serve<R: Threads + Wait + Sync + Log + Clock>(
     rt: &R,
     alloc: Global,
@@ -84,30 +82,17 @@ fn serve<R: Threads + Wait + Sync + Log + Clock>(
     listener: &TcpListener,
     sessions: usize,
 ) -> Result<(u8, Vec<u8>), AllocError> {
-    let mut out = Vec::new(alloc);
     let Ok(sessions) = u16::try_from(sessions) else {
-        return Ok((2, out));
+        return Ok((2, Vec::new(alloc)));
     };
-    if documents.len() > 16 {
-        return Ok((2, out));
-    }
-    let mut copy = adopted(alloc, Connection::open_in_memory(alloc)?)?;
     let entrance = Entrance::new(rt, listener, sessions);
     let all = connections(alloc, &entrance, sessions)?;
-    let status = serve_over(
-        rt,
-        alloc,
-        "srv",
-        documents,
-        Pace::Behind(4096),
-        all,
-        &mut copy,
-        &mut out,
-    );
-    Ok((status, out))
+    let pace = Pace::Behind(4096);
+    let served = serve_all(rt, alloc, "srv", documents, pace, all, new_list(alloc));
+    Ok((served.status, served.totals))
 }
 
-// What a server of these documents does, over an empty copy and with a session for each client.
+// What a server of these documents does, over an empty log and with a session for each client.
 fn served<R: Net<Listener = TcpListener, Stream = TcpStream> + Threads + Wait + Sync + Log + Clock>(
     rt: &R,
     alloc: Global,

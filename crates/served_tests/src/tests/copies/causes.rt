@@ -1,5 +1,5 @@
 //! What is said of a database that is refused.
-use copy_files::adopted;
+use log_copy::adopted;
 use sqlite::{Alter, Connection};
 use std::alloc::{AllocError, Global};
 
@@ -17,7 +17,7 @@ fn said_of<S: Alter + Drop>(alloc: Global, conn: Connection<S>) -> Result<String
     }
 }
 
-// What is said of a copy with one entry of `d`, changed so.
+// What is said of a stored log with one entry of `d`, changed so.
 fn said_after(alloc: Global, change: &str) -> Result<String, AllocError> {
     let mut conn = Connection::open_in_memory(alloc)?;
     if conn.execute_batch(COPY).is_err() || conn.execute_batch(change).is_err() {

@@ -39,7 +39,7 @@ static FORMATS: [Case<'static>; 2] = [
             (Step::Load("d"), StepAnswer::Rows(3)),
         ],
     },
-    // The refused database is as it was; with the new format written by hand it is a copy.
+    // The refused database is as it was; with the new format written by hand it is a stored log.
     Case {
         name: "old_format_has_no_additions",
         log: Log::Numbered(0, 0),

@@ -129,7 +129,7 @@ static KEPT: [Case<'static>; 9] = [
             (Step::Epoch, StepAnswer::Number(9_999_999)),
         ],
     },
-    // Tables that are not the copy's stay, and the copy lives beside them.
+    // Tables that are not the stored log's stay, and the stored log lives beside them.
     Case {
         name: "further_tables",
         log: Log::Numbered(3, 0),

@@ -1,4 +1,4 @@
-//! Databases that are no copy, each made for what is wrong with it. A file that is refused has each
+//! Databases that are no stored log, each made for what is wrong with it. A file that is refused has each
 //! byte that it had.
 use super::super::disks::Stopping;
 use super::steps::{REFUSED, Step, StepAnswer};
@@ -13,7 +13,7 @@ const COPY: &str =
     INSERT INTO meta (name, value) VALUES ('format', 2), ('epoch', 0);
     INSERT INTO entry (doc, place, text) VALUES ('d', 1, '["op",[1,"p"],[],[[["m",0]],"k"],["assign",1]]')"#;
 
-// The answer if a copy is opened in the files, if these then have each byte that they had.
+// The answer if a stored log is opened in the files, if these then have each byte that they had.
 fn answer_unchanged(alloc: Global, files: Files<Stopping>) -> Result<StepAnswer, AllocError> {
     let log = Vec::from_slice(alloc, files.log.inner().bytes())?;
     let db = Vec::from_slice(alloc, files.db.inner().bytes())?;
@@ -27,7 +27,7 @@ fn answer_unchanged(alloc: Global, files: Files<Stopping>) -> Result<StepAnswer,
     }
 }
 
-// A copy with one entry of `d`, changed so.
+// A stored log with one entry of `d`, changed so.
 fn answer_after(alloc: Global, change: &str) -> Result<StepAnswer, AllocError> {
     match made(
         alloc,
@@ -56,9 +56,9 @@ fn first_other(
     Ok(None)
 }
 
-// Changes of a copy with one entry, each by itself, and the answer after each of them.
+// Changes of a stored log with one entry, each by itself, and the answer after each of them.
 static CHANGES: [(&str, &[&str], StepAnswer); 13] = [
-    // Changes after which it is a copy still: what is refused below is refused for the one thing
+    // Changes after which it is a stored log still: what is refused below is refused for the one thing
     // that differs.
     (
         "sound_copies",

@@ -1,12 +1,12 @@
-//! What is reported of a copy that was opened, and of one that was not.
+//! What is reported of a stored log that was opened, and of one that was not.
 use super::super::disks::{connected, new_files};
-use copy_report::{CheckFailure, check_opened};
 use line_feed::Writer;
 use line_feed::doubles::FailAfter;
 use log_copy::{Fault, Foldable, LogCopy};
-use sqlite::{Alter, Connection, ErrorCode};
+use sqlite::{Alter, Connection};
 use sqlite_disk::{Disk, Files};
 use std::alloc::{AllocError, Global};
+use stored_log::{CheckFailure, StoredFault, check_opened};
 
 // What a check answers.
 type Answer = Result<(), CheckFailure>;
@@ -23,7 +23,7 @@ fn reported<S: Foldable + Drop>(
     (answer, out)
 }
 
-// The copy over a connection, after these statements.
+// The stored log over a connection, after these statements.
 fn opened<S: Alter + Drop>(
     alloc: Global,
     mut conn: Connection<S>,
@@ -38,7 +38,7 @@ fn opened<S: Alter + Drop>(
     }
 }
 
-// The same of a copy in these files.
+// The same of a stored log in these files.
 fn reported_in<D: Disk + Drop>(
     alloc: Global,
     files: Files<D>,
@@ -52,7 +52,7 @@ fn reported_in<D: Disk + Drop>(
     Ok(reported(alloc, found, after))
 }
 
-// Whether this is answered and this text reported of a copy in memory after these statements, by a
+// Whether this is answered and this text reported of a stored log in memory after these statements, by a
 // sink that fails after so many bytes.
 fn is_answered(
     alloc: Global,
@@ -102,7 +102,7 @@ fn reports(rt: HostRuntime) {
     }
 }
 
-// What is answered of a copy whose database file stops after so many calls, and how many bytes are
+// What is answered of a stored log whose database file stops after so many calls, and how many bytes are
 // reported.
 fn reported_of_a_stop(alloc: Global, calls: u64) -> Option<(Answer, usize)> {
     let files = new_files(alloc, u64::MAX, calls);
@@ -118,7 +118,7 @@ fn a_fault_of_closing(rt: HostRuntime) {
     let mut faults = 0u64;
     for calls in 0u64..40 {
         match reported_of_a_stop(rt.alloc(), calls) {
-            Some((Err(CheckFailure::Unclosed(ErrorCode::SystemIoFailure)), 0)) => {
+            Some((Err(CheckFailure::Unclosed(StoredFault::Io)), 0)) => {
                 faults = faults.wrapping_add(1);
             }
             Some((Ok(()), reported)) => assert!(rt;
@@ -131,7 +131,7 @@ fn a_fault_of_closing(rt: HostRuntime) {
     }
 }
 
-// Whether nothing is reported where a copy could not be opened in the files, for another cause than a
+// Whether nothing is reported where a stored log could not be opened in the files, for another cause than a
 // refusal.
 fn is_silent<S: Foldable + Drop>(alloc: Global, conn: Connection<S>) -> bool {
     drop(conn);

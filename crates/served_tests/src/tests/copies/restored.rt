@@ -1,6 +1,6 @@
-//! Replicas that are restored from a copy.
+//! Replicas that are restored from a stored log.
 use super::samples::operation;
-use doc_words::{Place, Steps};
+use doc_api::{Place, Steps};
 use json_scalar::Refusal;
 use lamport_id::ReplicaName;
 use op_core::Operation;

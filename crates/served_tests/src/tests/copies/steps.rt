@@ -1,10 +1,9 @@
-//! Steps over one database. Each call of the copy is in a function of its own that promises
+//! Steps over one database. Each call of the stored log is in a function of its own that promises
 //! nothing, so that the proof of a list of steps carries none of its clauses.
 use super::super::disks::new_files;
 use super::restored::{is_edited_after, is_restored};
 use super::samples;
 use super::walks::walked_over;
-use copy_report::check_over;
 use json_scalar::Refusal;
 use line_feed::Writer;
 use log_copy::{Fault, Foldable, LogCopy};
@@ -12,11 +11,12 @@ use op_core::Operation;
 use sqlite::{Alter, Connection};
 use std::alloc::Global;
 use std::process::Abort;
+use stored_log::check_over;
 
 /// What is done with the database.
 #[derive(Clone, Copy)]
 pub enum Step<'a> {
-    /// The copy takes the tables over, once more if it has them.
+    /// The stored log takes the tables over, once more if it has them.
     Open,
     /// The epoch is raised.
     Up,
@@ -25,7 +25,7 @@ pub enum Step<'a> {
     Add(&'a str, usize, usize, usize),
     Load(&'a str),
     Docs,
-    /// What a check of the copy prints.
+    /// What a check of the stored log prints.
     Check(&'a str),
     /// A replica is restored from the document, and its next change is this operation.
     Edit(&'a str, &'a str),
@@ -34,13 +34,13 @@ pub enum Step<'a> {
     Restore(&'a str, usize, usize),
     /// The epoch is raised to one that is greater than this.
     UpFrom(u64),
-    /// The log of the commits is copied into the database file, and the copy goes on.
+    /// The log of the commits is copied into the database file, and the stored log goes on.
     Fold,
-    /// The same, and the copy is closed.
+    /// The same, and the stored log is closed.
     Close,
-    /// The copy gives the tables back, and these statements run over them.
+    /// The stored log gives the tables back, and these statements run over them.
     Run(&'a str),
-    /// The copy gives the tables back, and this query finds a number in them.
+    /// The stored log gives the tables back, and this query finds a number in them.
     Ask(&'a str),
 }
 
@@ -56,7 +56,7 @@ pub enum StepAnswer {
     Fault(Fault),
     /// The statement was refused.
     NoSql,
-    /// There is no copy that could be asked.
+    /// There is no stored log that could be asked.
     NoCopy,
 }
 
@@ -79,7 +79,7 @@ pub struct Case<'a> {
 
 pub const REFUSED: StepAnswer = StepAnswer::Fault(Fault::Refused);
 
-// A copy, a connection that is none, or a store that was closed.
+// A stored log, a connection that is none, or a store that was closed.
 #[derive(Drop)]
 enum Held<S: Alter> {
     Copy(LogCopy<S>),
@@ -87,7 +87,7 @@ enum Held<S: Alter> {
     Closed(S),
 }
 
-// ---- the calls of the copy
+// ---- the calls of the stored log
 
 fn number_answer(answer: Result<u64, Fault>) -> StepAnswer {
     match answer {
@@ -116,7 +116,7 @@ fn add<S: Alter>(
     }
 }
 
-fn check<S: Alter>(alloc: Global, copy: &LogCopy<S>, due: &str) -> StepAnswer {
+fn check<S: Foldable + Drop>(alloc: Global, copy: &LogCopy<S>, due: &str) -> StepAnswer {
     let mut out = Vec::<u8>::new(alloc);
     let status = check_over(alloc, copy, &mut Writer::new(&mut out));
     done_if(status == 0 && out.as_slice() == due.as_bytes())
@@ -228,7 +228,7 @@ fn ask<S: Alter>(conn: &mut Connection<S>, sql: &str) -> StepAnswer {
 
 // ---- steps
 
-fn asked<S: Alter>(
+fn asked<S: Foldable + Drop>(
     alloc: Global,
     copy: &mut LogCopy<S>,
     log: &[Operation],
@@ -284,7 +284,7 @@ fn over_copy<S: Foldable + Drop>(
     }
 }
 
-fn over_open<S: Alter + Drop>(
+fn over_open<S: Foldable + Drop>(
     alloc: Global,
     mut copy: LogCopy<S>,
     log: &[Operation],

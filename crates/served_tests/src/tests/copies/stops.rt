@@ -155,7 +155,7 @@ fn batches_out_of_memory(rt: HostRuntime) -> Result<(), Fail> {
     Ok(())
 }
 
-// The copy of `restart_from_copy` before its second start, in the old format: one entry and the epoch 1.
+// The stored log of `restart_from_copy` before its second start, in the old format: one entry and the epoch 1.
 const MIGRATE: [(Step<'static>, StepAnswer); 2] = [
     (
         Step::Run(
@@ -180,7 +180,7 @@ const FORMATS: &str = "SELECT count(*) FROM meta WHERE name = 'format' AND value
 
 const FORMAT: &str = "SELECT value FROM meta WHERE name = 'format'";
 
-// The rows stay byte for byte, in the old format or the new one, and in the new one where the copy
+// The rows stay byte for byte, in the old format or the new one, and in the new one where the stored log
 // was opened.
 const AFTER_MIGRATION: [&[(Step<'static>, StepAnswer)]; 3] = [
     &[],
@@ -337,7 +337,7 @@ static STOPS: [StopCase<'static>; 2] = [
     },
 ];
 
-// The format is migrated where the copy is opened.
+// The format is migrated where the stored log is opened.
 static MIGRATION: StopCase<'static> = StopCase {
     name: "while_migrated",
     steps: &MIGRATE,

@@ -6,6 +6,6 @@ pub returns-in_default-clause-left : goal.returns-in_default-clause-left
 returns-in_default-clause-left g c = (
   [],
   inl (refl, search rules),
-  subst (AreTotalsFrom g.M.Marker.initial_log 0 []) (sym c.new.ensures.items) tt,
+  subst (AreTotalsFrom g.M.Marker.origin 0 []) (sym c.new.ensures.items) tt,
   ap (map (λ s. s.items)) c.new-in_default.ensures.items ∙ sym (ap (λ ts. ends_behind (length ts) []) c.new.ensures.items),
 )

@@ -7,7 +7,7 @@ abbrev pub invariant-loop-one : goal.invariant-loop-one
 invariant-loop-one g l =
     record {
       joined : IsJoined g.C.Connect.bytes (λ c r. IfSome r (λ thread. (thread.promise.names.value ≡ l.names.value) × (thread.promise.connection.value ≡ c)))
-          g.M.Marker.initial_log l.names.value.items l.connections.value.items (into_iter_items l.one-iterator) l.attended.endings.items (map (λ s. s.items) l.attended.sessions.items);
+          g.M.Marker.origin l.names.value.items l.connections.value.items (into_iter_items l.one-iterator) l.attended.endings.items (map (λ s. s.items) l.attended.sessions.items);
       left : into_iter_len l.one-iterator ≡ length (into_iter_items l.one-iterator);
       endings : vec_len l.attended.endings + into_iter_len l.one-iterator ≤ vec_capacity l.attended.endings;
       sessions : vec_len l.attended.sessions + into_iter_len l.one-iterator ≤ vec_capacity l.attended.sessions;

@@ -1,6 +1,6 @@
 use Rattle.std.proofs.Common.{ok_or}
 use Rattle.json_scalar.specs.declared.refusal.Refusal.TheVariants.{NoSuchVariable}
-use Rattle.doc_words.specs.declared.ask.Command.TheVariants as command
+use Rattle.doc_api.specs.declared.ask.Command.TheVariants as command
 use Rattle.session_rules.specs.Session.{act, place_at}
 use Rattle.session_core.specs.OpenDocuments.{opened_of}
 use Rattle.session_core.specs.Seats.{known_by}

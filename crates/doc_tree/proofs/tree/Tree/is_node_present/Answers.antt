@@ -1,7 +1,7 @@
 use Rattle.std.proofs.Common.{rules, ◌≡◌, ◌∙◌, List, [], ◌∷◌, Bool, true, false, not, refl, ap}
 use Rattle.std.specs.Prelude.{◌↔◌, IsTrue}
-use Rattle.doc_words.specs.Words.{Id}
-use Rattle.doc_words.specs.declared.role.Role.{Role}
+use Rattle.doc_api.specs.Words.{Id}
+use Rattle.doc_api.specs.declared.role.Role.{Role}
 use Rattle.doc_nodes.specs.Nodes.{node_of}
 use Rattle.doc_nodes.specs.ListPresence.{is_some_entry}
 use Rattle.doc_tree.proofs.tree.Tree.is_node_present.Goals as goal

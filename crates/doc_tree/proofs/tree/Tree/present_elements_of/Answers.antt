@@ -1,5 +1,5 @@
 use Rattle.std.proofs.Common.{rules, ◌≡◌, ◌∙◌, ap, subst, List, IfOk}
-use Rattle.doc_words.specs.Words.{Id}
+use Rattle.doc_api.specs.Words.{Id}
 use Rattle.list_order.specs.Entries.{present_of}
 use Rattle.doc_nodes.specs.Nodes.{node_of}
 use Rattle.doc_nodes.specs.ListPresence.{ListsShowPresence}

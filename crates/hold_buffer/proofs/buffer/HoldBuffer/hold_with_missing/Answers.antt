@@ -2,7 +2,7 @@ use Rattle.std.proofs.Common.{List, length, Contains, inl, inr, sym, ap, subst, 
 use Rattle.std.specs.Prelude.{insert}
 use Rattle.lamport_id.specs.Order.{id_cmp}
 use Rattle.lamport_id.specs.declared.id.Id.{Id}
-use Rattle.sorted_lists.specs.Sorted.{IsGap}
+use Rattle.list_laws.specs.Sorted.{IsGap}
 use Rattle.doc_rules.specs.Replica.{put_among}
 use Rattle.hold_buffer.specs.Held.{Buffer, IsCurrent}
 use Rattle.hold_buffer.specs.Order.{operations_of, waits_of, ListsFree, AreNoted}

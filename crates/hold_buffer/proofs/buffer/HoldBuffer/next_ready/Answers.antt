@@ -1,6 +1,6 @@
 use Rattle.std.proofs.Common.{List, sym, ap, subst, ◌∙◌}
 use Rattle.std.specs.Prelude.{slice_get}
-use Rattle.doc_words.specs.Words.{id_cmp, Id, Op}
+use Rattle.doc_api.specs.Words.{id_cmp, Id, Op}
 use Rattle.crdt_rules.specs.Dependencies.{is_ready}
 use Rattle.doc_rules.specs.Sorted.{IsRising}
 use Rattle.hold_buffer.specs.Held.{Buffer, IsCurrent}

@@ -1,6 +1,6 @@
 use Rattle.std.proofs.Common.{◌≡◌, ◌∙◌, ◌<◌, ◌≤◌, List, length, true, false, sym, subst, ap, arith}
 use Rattle.std.proofs.lemmas.Bool.Decides.{nat_tests}
-use Rattle.doc_words.specs.Words.{Id, name_cmp}
+use Rattle.doc_api.specs.Words.{Id, name_cmp}
 use Rattle.doc_rules.specs.Sorted.{IsRising}
 use Rattle.hold_buffer.specs.Missing.{left_of, is_left}
 use Rattle.hold_buffer.proofs.Names.{none_left, absent_left, cleared_here, cleared_left, cleared_count, cleared_rising}

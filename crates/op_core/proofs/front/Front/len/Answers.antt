@@ -5,5 +5,5 @@ use Rattle.op_core.proofs.front.Front.len.Goals as goal
 
 pub returns : goal.returns
 returns c =
-    rw (← c.self.view_is) (c.len.ensures.value
-    ∙ sym (length-pairs (arc_slice_items c.self.inside.names) c.self.inside.counters.items c.self.invariant.0))
+    rw (← c.self.view_is) (c.len.ensures
+    ∙ c.self.invariant.0 ∙ sym (length-pairs (arc_slice_items c.self.inside.names) c.self.inside.counters c.self.invariant.0))

@@ -1,10 +1,9 @@
-use Rattle.std.proofs.Common.{sym, ap, ◌∙◌}
+use Rattle.std.proofs.Common.{sym, ◌∙◌}
 use Rattle.std.specs.Arc.{arc_slice_items}
-use Rattle.op_core.specs.Front.{greatest}
 use Rattle.op_core.proofs.FrontPairs.{greatest-pairs}
 use Rattle.op_core.proofs.front.Front.max_counter.Goals as goal
 
 pub returns : goal.returns
 returns c =
-    rw (← c.self.view_is) (c.greatest.ensures ∙ ap greatest c.as_slice.ensures
-    ∙ sym (greatest-pairs (arc_slice_items c.self.inside.names) c.self.inside.counters.items c.self.invariant.0))
+    rw (← c.self.view_is) (c.greatest.ensures
+    ∙ sym (greatest-pairs (arc_slice_items c.self.inside.names) c.self.inside.counters c.self.invariant.0))

@@ -13,5 +13,5 @@ returns-clause-count c =
 pub returns-clause-within : goal.returns-clause-within
 returns-clause-within c =
     let same = length-front c.self.inside.entries.items c.self.inside.front.items c.self.invariant.front in
-    let few : length (replicas c.self.inside.entries.items) ≤ 256 = (good_room c.self.inside.entries.items c.self.invariant.good).replicas in
+    let few : length (replicas c.self.inside.entries.items) ≤ 256 = (good_room c.self.inside.entries.items c.self.invariant.index.good).replicas in
     omega (arith, c.len.ensures, c.self.inside.front.ok.0, same, few)

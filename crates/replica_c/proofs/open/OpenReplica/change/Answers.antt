@@ -1,6 +1,6 @@
 use Rattle.std.proofs.Common.{inr, refl}
-use Rattle.doc_words.specs.Words.{NoMemory}
-use Rattle.doc_words.specs.declared.reply.Reply.TheVariants.{Refused}
+use Rattle.doc_api.specs.Words.{NoMemory}
+use Rattle.doc_api.specs.declared.reply.Reply.TheVariants.{Refused}
 use Rattle.line_proto.specs.Replies.{reply_line}
 use Rattle.line_proto.specs.declared.line_reply.LineReply.TheVariants.{Answered}
 use Rattle.replica_c.proofs.Telling.{told_alone}

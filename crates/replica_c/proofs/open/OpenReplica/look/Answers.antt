@@ -1,6 +1,6 @@
 use Rattle.std.proofs.Common.{inr, refl}
-use Rattle.doc_words.specs.Words.{NoMemory}
-use Rattle.doc_words.specs.declared.reply.Reply.TheVariants.{Refused}
+use Rattle.doc_api.specs.Words.{NoMemory}
+use Rattle.doc_api.specs.declared.reply.Reply.TheVariants.{Refused}
 use Rattle.replica_c.proofs.open.OpenReplica.look.Goals as goal
 
 pub returns-else-tell-clause-told : goal.returns-else-tell-clause-told

@@ -1,5 +1,5 @@
-use Rattle.std.proofs.Common.{[]}
+use Rattle.share_ledger.specs.Begun.{empty_origin}
 use Rattle.served_tests.proofs.tests.command_lines.gives.Given as goal
 
 abbrev pub ghosts-written : goal.ghosts-written
-ghosts-written a = record { name = a.blank; initial_log = λ _. [] }
+ghosts-written a = record { name = a.blank; origin = λ _. empty_origin }

@@ -1,5 +1,5 @@
 use Rattle.std.proofs.Common.{◌≡◌, ◌≤◌, ◌+◌, ◌-◌}
-use Rattle.doc_ledger.specs.Numbers.{greatest_number}
+use Rattle.locked_doc.specs.Numbers.{greatest_number}
 use Rattle.session_tests.proofs.servers.samples.shelf_of.Given as goal
 
 abbrev pub invariant-loop : goal.invariant-loop

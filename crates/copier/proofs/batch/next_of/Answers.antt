@@ -1,6 +1,0 @@
-use Rattle.copier.proofs.Adding.{next_there}
-use Rattle.copier.proofs.batch.next_of.Goals as goal
-
-pub returns-clause-next : goal.returns-clause-next
-returns-clause-next g c =
-    next_there g.M.Marker.initial_log c.args._doc_index c.args.from c.args.doc.now c.tail.result c.requires c.keeps_sound.ensures.begun c.tail.ensures

@@ -1,6 +1,0 @@
-use Rattle.std.proofs.Common.{is_some, ap, ◌∙◌}
-use Rattle.copy_docs.proofs.Makers.{made_some}
-use Rattle.copy_docs.proofs.doc.has_made.Goals as goal
-
-pub returns : goal.returns
-returns c = c.is_some.ensures ∙ ap is_some c.last_counter.ensures ∙ made_some c.args.log.now.operations c.args.replica.now

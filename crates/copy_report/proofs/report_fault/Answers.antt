@@ -1,5 +1,0 @@
-use Rattle.copy_report.proofs.Reporting.{refused_short}
-use Rattle.copy_report.proofs.report_fault.Goals as goal
-
-pub returns-in-Refused-clause-stopped : goal.returns-in-Refused-clause-stopped
-returns-in-Refused-clause-stopped g c = refused_short _ _ c.write_refusal.ensures.written

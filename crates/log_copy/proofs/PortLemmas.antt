@@ -1,0 +1,47 @@
+-- What `LogCopy` is to the port of the stored log.
+use Rattle.std.proofs.Common.{◌≡◌, ◌⊎◌, inl, inr, ◌↔◌, ◌+◌, ℕ, List, Bool, true, false, Result, Ok, Err, OnOk, refl, sym, ◌∙◌}
+use Rattle.sqlite.specs.Tree.{Trees}
+use Rattle.sqlite.specs.Store.{Ghosts}
+use Rattle.sqlite.specs.Held.{state}
+use Rattle.sqlite.specs.State.{HasCleanDisk}
+use Rattle.op_core.specs.Op.{Op}
+use Rattle.stored_rows.specs.Content.{Holds}
+use Rattle.stored_log.specs.Docs.{add_batch}
+use Rattle.stored_log.specs.declared.fault.Fault.{Fault}
+use Rattle.stored_log.specs.declared.fault.Fault.TheVariants.{Store}
+use Rattle.stored_log.specs.Log.{HasSame, IsAddedOrNot, IsRaisedOrNot}
+use Rattle.log_copy.specs.Kept.{Kept, IsSoundCopy, content}
+use Rattle.log_copy.specs.Port.{CrashLeaves, copied_log}
+
+module _ {S : Type 0} (g : Ghosts S) where
+  module _ (old new : Kept S) (alone : new.is_alone ≡ old.is_alone) where
+    pub raised_or_not : (old.is_alone ≡ true → HasCleanDisk (state g new.conn) → (db : Trees) → (state g new.conn).may_leave db
+        → Holds (content old.epoch old.docs) db ⊎ Holds (content (old.epoch + 1) old.docs) db) → CrashLeaves g new (IsRaisedOrNot (copied_log old))
+    raised_or_not crash now clean db may = elim (crash (sym alone ∙ now) clean db may) [
+      | inl was ↦ record { epoch = old.epoch; docs = old.docs; is_such = record { raised_or_not = inl refl; same_docs = refl }; holds = was }
+      | inr is ↦ record { epoch = old.epoch + 1; docs = old.docs; is_such = record { raised_or_not = inr refl; same_docs = refl }; holds = is }
+    ]
+
+    pub added_or_not : (name : List ℕ) (ops : List Op) → (old.is_alone ≡ true → HasCleanDisk (state g new.conn) → (db : Trees) → (state g new.conn).may_leave db
+        → Holds (content old.epoch old.docs) db ⊎ Holds (content old.epoch (add_batch name ops old.docs)) db) → CrashLeaves g new (IsAddedOrNot name ops (copied_log old))
+    added_or_not name ops crash now clean db may = elim (crash (sym alone ∙ now) clean db may) [
+      | inl was ↦ record { epoch = old.epoch; docs = old.docs; is_such = record { same_epoch = refl; added_or_not = inl refl }; holds = was }
+      | inr is ↦ record { epoch = old.epoch; docs = add_batch name ops old.docs; is_such = record { same_epoch = refl; added_or_not = inr refl }; holds = is }
+    ]
+
+  works_if_ok : {T : Type 0} (has_failed : Bool) (x : T) → ((◌≡◌ {A = Result T Fault} (Ok x) (Err Store)) ↔ (has_failed ≡ true)) → has_failed ≡ false
+  works_if_ok false x failed = refl
+  works_if_ok true x failed = absurd (let e = failed.1 refl in cc)
+
+  pub still_there : {T : Type 0} (new : Kept S) → IsSoundCopy g new → (r : Result T Fault) → ((r ≡ Err Store) ↔ (new.has_failed ≡ true))
+      → OnOk r (CrashLeaves g new (HasSame (copied_log new)))
+  still_there new sound (Ok x) failed = λ alone clean db may. record {
+    epoch = new.epoch;
+    docs = new.docs;
+    is_such = record { same_epoch = refl; same_docs = refl };
+    holds = sound.left (works_if_ok new.has_failed x failed) alone clean db may;
+  }
+  still_there new sound (Err e) failed = tt
+
+pub same_log : {S : Type 0} (a b : Kept S) → (a.epoch ≡ b.epoch) × (a.docs ≡ b.docs) × (a.is_alone ≡ b.is_alone) × (a.has_failed ≡ b.has_failed) → copied_log a ≡ copied_log b
+same_log a b same = rw (same.0, same.1, same.2, same.3) refl

@@ -1,9 +1,0 @@
-use Rattle.std.proofs.Common.{◌≡◌, ℕ, ◌+◌, ◌-◌, ◌≤◌, List, length, map, take}
-use Rattle.smallvec.specs.SmallVec.{small_vec_len}
-use Rattle.op_core.proofs.front.counters_of.Given as goal
-
-abbrev pub invariant-loop-pair : goal.invariant-loop-pair
-invariant-loop-pair l = record {
-  counters : l.counters.items ≡ map (λ (e : List ℕ × ℕ). e.1) (take l.pair-index l.pairs);
-  room : small_vec_len l.counters + (length l.pairs - l.pair-index) ≤ l.counters.capacity;
-}

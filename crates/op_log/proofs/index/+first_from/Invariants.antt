@@ -1,4 +1,0 @@
-use Rattle.op_log.proofs.index.+first_from.Given as goal
-
-abbrev pub decreases-first_from : goal.decreases-first_from
-decreases-first_from l = l.at

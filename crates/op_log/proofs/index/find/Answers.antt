@@ -1,9 +1,0 @@
-use Rattle.std.proofs.Common.{sym}
-use Rattle.op_log.proofs.Growing.{none_of_replica}
-use Rattle.op_log.proofs.index.find.Goals as goal
-
-pub find_from-requires-clause-last : goal.find_from-requires-clause-last
-find_from-requires-clause-last c = c.requires.lasts.each c.args.id.now.replica c.in-Some.last (sym c.in-Some.ensures)
-
-pub returns-in-None : goal.returns-in-None
-returns-in-None c = sym (none_of_replica c.requires.lasts c.args.id.now (sym c.in-None.ensures))

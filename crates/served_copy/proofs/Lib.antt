@@ -1,5 +1,0 @@
-mod Lines
-mod Restored
-mod Keeping
-mod Left
-mod Storing

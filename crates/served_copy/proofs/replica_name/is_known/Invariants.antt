@@ -1,7 +1,0 @@
-use Rattle.std.proofs.Common.{◌≡◌, map, drop}
-use Rattle.served_copy.specs.Named.{is_known}
-use Rattle.served_copy.proofs.replica_name.is_known.Given as goal
-
-abbrev pub invariant-loop-name : goal.invariant-loop-name
-invariant-loop-name l =
-    is_known l.replica l.docs (map (λ s. s.now) (drop l.name-index l.names)) ≡ is_known l.replica l.docs (map (λ s. s.now) l.names)

@@ -1,6 +1,0 @@
-use Rattle.std.proofs.Common.{rules}
-use Rattle.served_copy.proofs.Keeping.{same_left}
-use Rattle.served_copy.proofs.serve.serve_with_copier.Goals as goal
-
-pub returns-clause-left : goal.returns-clause-left
-returns-clause-left g c = same_left _ c.run_beside_copier-copier.ensures.left c.new-copier.ensures.copy (search rules) c.end-why.ensures.fault

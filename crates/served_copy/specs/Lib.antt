@@ -1,6 +1,0 @@
-pub mod Named
-pub mod Restored
-pub mod Totals
-pub mod Served
-pub mod Stored
-pub mod Unwritten

@@ -1,0 +1,6 @@
+mod Lines
+mod Restored
+mod Keeping
+mod Left
+mod Storing
+pub mod Adding

@@ -1,0 +1,48 @@
+-- What a server writes.
+use Rattle.std.proofs.Common.{◌≡◌, ◌<◌, ◌≤◌, ◌+◌, ◌++◌, ℕ, List, [], map, drop, get_or, length, Option, Result, Ok, IfOk, vec_len, refl, sym, ap, subst, ◌∙◌, add-one, drop-cons}
+use Rattle.std.proofs.lemmas.List.{drop_all}
+use Rattle.std.specs.Borrow.{Bor}
+use Rattle.std.specs.Io.KnownBytes.{Appends}
+use Rattle.doc_rules.specs.Seats.{Seat}
+use Rattle.locked_doc.specs.declared.gather.Totals.{Totals}
+use Rattle.server_core.specs.declared.gathering.Gathered.{Gathered}
+use Rattle.server_core.specs.Attended.{AreAttended, Bytes}
+use Rattle.server_core.specs.Sums.{AreTotalsFrom}
+use Rattle.share_ledger.specs.Begun.{Origin}
+use Rattle.stored_log.specs.Docs.{Doc}
+use Rattle.served_log.specs.Totals.{AreStored, ServesSessions, total_line, total_lines}
+
+-- the line of one document, and those of the documents behind it
+pub lines_step : (names : List (Bor (List ℕ))) (totals : List Totals) (i : ℕ) (n : Bor (List ℕ)) (t : Totals) → i < length names → i < length totals
+    → total_lines (map (λ s. s.now) (drop i names)) (drop i totals)
+    ≡ total_line (get_or names i n).now (get_or totals i t) ++ total_lines (map (λ s. s.now) (drop (i + 1) names)) (drop (i + 1) totals)
+lines_step names totals i n t within there = rw (drop-cons names i n within, drop-cons totals i t there, add-one) refl
+
+-- behind the last document nothing is left to write
+pub lines_end : (names : List (Bor (List ℕ))) (totals : List Totals) (i : ℕ) → length names ≤ i
+    → total_lines (map (λ s. s.now) (drop i names)) (drop i totals) ≡ []
+lines_end names totals i past = rw (drop_all i names past) refl
+
+-- what sessions did over documents of these names, and what was written of it
+pub serves : (origin : ℕ → Origin) (last : List Doc) (shelved names : List (List ℕ)) (connections : List Bytes) (count : ℕ) {F : Type 0} {ran : Result Gathered F} (gathered : Gathered)
+    (held holds : Option (List ℕ)) → ran ≡ Ok gathered
+    → IfOk ran (λ g. (given : List (List (Option Seat))) × AreAttended origin shelved connections g.endings.items given × AreTotalsFrom origin 0 given g.totals.items)
+    → IfOk ran (λ g. vec_len g.totals ≡ length shelved)
+    → shelved ≡ names → length connections ≡ count → AreStored last names gathered.totals.items
+    → Appends held holds (total_lines names gathered.totals.items) → ServesSessions origin last names count held holds
+serves origin last shelved names connections count gathered held holds is sessions each same so_many stored written =
+    let (given, attended, added) = subst
+    (λ ran. IfOk ran (λ g. (given : List (List (Option Seat))) × AreAttended origin shelved connections g.endings.items given × AreTotalsFrom origin 0 given g.totals.items)) is sessions in
+    let many : vec_len gathered.totals ≡ length shelved = subst (λ ran. IfOk ran (λ g. vec_len g.totals ≡ length shelved)) is each in
+    record {
+      connections = connections;
+      endings = gathered.endings.items;
+      given = given;
+      totals = gathered.totals.items;
+      so_many = so_many;
+      attended = subst (λ ns. AreAttended origin ns connections gathered.endings.items given) same attended;
+      each = sym gathered.totals.ok.0 ∙ many ∙ ap length same;
+      added = added;
+      stored = stored;
+      written = written;
+    }

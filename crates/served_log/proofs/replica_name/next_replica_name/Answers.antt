@@ -1,0 +1,15 @@
+use Rattle.std.proofs.Common.{map, sym, ap, ◌∙◌, arith}
+use Rattle.served_log.specs.Named.{is_known, replica_name}
+use Rattle.served_log.proofs.replica_name.next_replica_name.Goals as goal
+
+pub returns-then-not-is_known-clause-raised : goal.returns-then-not-is_known-clause-raised
+returns-then-not-is_known-clause-raised g c =
+    let up = c.in_ok-epoch.ensures.ok in
+    let before = c.loop-epoch.invariant.kept in
+    let same = up.2 ∙ before.same_docs in
+    let names = map (λ s. s.now) c.args.documents.now in record {
+      named = c.in_ok-replica.ensures.ok ∙ ap (replica_name c.args.name.now) (sym up.1);
+      raised = omega (arith, up.0, up.1, before.no_less);
+      unknown = ap (λ docs. is_known c.in_ok-replica.replica docs names) (sym (c.in_ok-docs.ensures.ok ∙ same)) ∙ sym c.is_known.ensures ∙ c.if-not-is_known.true;
+      kept = same;
+    }

@@ -1,0 +1,29 @@
+use Rattle.std.proofs.Common.{◌∙◌, refl, false}
+use Rattle.served_log.specs.Batches.AreAdded.{none}
+use Rattle.served_log.proofs.Adding.{grows_all, grows_until}
+use Rattle.served_log.proofs.side.keep_up.Goals as goal
+
+pub loop-init : goal.loop-init
+loop-init g c = record { waits = (tt, tt); grown = record { any = false; added = none; epoch = refl }; works = λ h. h; alone = refl }
+
+pub loop-preserved : goal.loop-preserved
+loop-preserved g c =
+    let now = c.in-Ok.ensures in
+    let before = c.loop.invariant in record {
+      waits = (tt, tt);
+      grown = grows_all before.grown now.ok;
+      works = λ h. now.works (before.works h);
+      alone = now.alone ∙ before.alone;
+    }
+
+pub returns-in-Err-clause-ok : goal.returns-in-Err-clause-ok
+returns-in-Err-clause-ok g c = tt
+
+pub returns-in-Err-clause-works : goal.returns-in-Err-clause-works
+returns-in-Err-clause-works g c = tt
+
+pub returns-in-Err-clause-err : goal.returns-in-Err-clause-err
+returns-in-Err-clause-err g c = grows_until c.loop.invariant.grown c.in-Err.ensures.err
+
+pub returns-in-None-wait_after-clause-ok : goal.returns-in-None-wait_after-clause-ok
+returns-in-None-wait_after-clause-ok g c = grows_all c.loop.invariant.grown c.in-Ok.ensures.ok

@@ -1,0 +1,7 @@
+pub mod Named
+pub mod Restored
+pub mod Totals
+pub mod Served
+pub mod Stored
+pub mod Unwritten
+pub mod Batches

@@ -1,0 +1,27 @@
+//! A server over a stored log: it starts a new epoch, restores its documents from the log, and
+//! stores what its sessions log while it serves them.
+//!
+//! Its background task, the `Copier`, writes what sessions log to the stored log in batches, and
+//! then notes in each document how many of its entries are written.
+#![tactic(auto)]
+
+mod batch;
+mod failure;
+mod notes;
+mod observer;
+mod output;
+mod replica_name;
+mod restore;
+mod rows;
+mod serve;
+mod side;
+mod stored;
+
+pub use batch::{copy_each, copy_some};
+pub use failure::{Failure, Step};
+pub use observer::CopyObserver;
+pub use output::{report_fault, write_totals};
+pub use replica_name::next_replica_name;
+pub use restore::{RestoredDocuments, restore_documents, share_documents};
+pub use side::{Copier, keep_up};
+pub use stored::{Ended, serve_over, serve_stored};

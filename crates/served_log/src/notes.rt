@@ -1,0 +1,123 @@
+//! Notes on standard error about the stored log.
+use crate::CopyObserver;
+use lamport_id::Id;
+use log::Log;
+use op_core::Operation;
+use op_log::{MAX_OPERATIONS, MAX_REPLICAS};
+use server_core::Pace;
+use server_notes::{
+    Fill, note_ending, note_going_on, note_lacking, note_nearly_full, note_restored, note_stopped,
+};
+use std::time::Clock;
+use stored_log::{KeptDoc, StoredFault, StoredLog, find};
+
+// So many operations of those that a document may have.
+fn operations(count: usize) -> Fill {
+    Fill {
+        count,
+        limit: MAX_OPERATIONS,
+    }
+}
+
+// So many replicas of those whose operations a document may have.
+fn replicas(count: usize) -> Fill {
+    Fill {
+        count,
+        limit: MAX_REPLICAS,
+    }
+}
+
+// Warns where the document is nearly full.
+fn warn_if_full<R: Log + Clock>(rt: &R, name: &str, fill: Fill, counted: &str) {
+    if fill.is_nearly_full() {
+        note_nearly_full(rt, name, fill, counted);
+    }
+}
+
+// Warns where the document has become nearly full by as many more.
+fn warn_if_crossed<R: Log + Clock>(rt: &R, name: &str, fill: Fill, more: usize, counted: &str) {
+    let before = Fill {
+        count: fill.count.saturating_sub(more),
+        limit: fill.limit,
+    };
+    if !before.is_nearly_full() {
+        warn_if_full(rt, name, fill, counted);
+    }
+}
+
+// Notes a document that is stored. Without memory for its front the note is lost.
+fn note_document<R: Log + Clock>(rt: &R, document: &KeptDoc) {
+    let Ok(front) = document.front() else {
+        return;
+    };
+    let (logged, makers) = (operations(document.len()), replicas(front.len()));
+    note_restored(rt, document.name(), logged, makers);
+    warn_if_full(rt, document.name(), logged, "operations");
+    warn_if_full(rt, document.name(), makers, "replicas");
+}
+
+// Notes each of these documents as it is stored, in this order.
+pub(crate) fn note_documents<R: Log + Clock, L: StoredLog>(rt: &R, copy: &L, names: &[&str]) {
+    let Ok(docs) = copy.docs() else {
+        return;
+    };
+    for name in names {
+        match find(docs, name) {
+            Some(document) => note_document(rt, document),
+            None => note_restored(rt, name, operations(0), replicas(0)),
+        }
+    }
+}
+
+// Whether the operation is the first of its replica: each later one depends on the one before it.
+fn is_first(operation: &Operation) -> bool {
+    let first = Id {
+        counter: 1,
+        replica: operation.id().replica,
+    };
+    !operation.front().covers(first)
+}
+
+// Writes notes about the copying: documents that become nearly full, pauses for lack of memory, and
+// why it stopped.
+#[derive(Drop)]
+pub(crate) struct CopyLogger<'a, R> {
+    pub(crate) rt: &'a R,
+    pub(crate) pace: Pace,
+}
+
+impl<R: Log + Clock> CopyObserver for CopyLogger<'_, R> {
+    fn added(&self, document: &KeptDoc, entries: &[Operation]) {
+        let logged = operations(document.len());
+        warn_if_crossed(
+            self.rt,
+            document.name(),
+            logged,
+            entries.len(),
+            "operations",
+        );
+        let makers = entries.iter().filter(|entry| is_first(entry)).count();
+        if makers == 0 {
+            return;
+        }
+        if let Ok(front) = document.front() {
+            let all = replicas(front.len());
+            warn_if_crossed(self.rt, document.name(), all, makers, "replicas");
+        }
+    }
+
+    fn lacks_memory(&self) {
+        note_lacking(self.rt);
+    }
+
+    fn goes_on(&self) {
+        note_going_on(self.rt);
+    }
+
+    fn stopped(&self, why: StoredFault) {
+        match self.pace {
+            Pace::Behind(_) => note_stopped(self.rt, &why),
+            Pace::Durable => note_ending(self.rt, &why),
+        }
+    }
+}

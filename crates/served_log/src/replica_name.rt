@@ -1,0 +1,84 @@
+//! The replica name of a start: NAME-E, for a new epoch E of the stored log.
+ghost use Rattle.std.specs.Prelude.{◌≡◌, ◌⊎◌, ◌≤◌, ◌↔◌, ℕ, true, false, map, IfOk, IfErr, OnOk, Err};
+ghost use Rattle.std.specs.List.{list_any};
+ghost use Rattle.lamport_id.specs.Name.{is_name};
+ghost use Rattle.stored_log.specs.Docs.{AreInOrder, is_by, log_of};
+ghost use Rattle.stored_log.specs.Limits.{last_epoch};
+ghost use Rattle.stored_log.specs.Log.{KeepsAll};
+ghost use Rattle.served_log.specs.Named.{IsRaised, is_known, replica_name};
+
+use lamport_id::ReplicaName;
+use std::alloc::Global;
+use stored_log::{Fault, KeptDoc, StoredLog, find};
+
+// The replica name of a server of this name in this epoch. `Refused` where that is no name.
+fn replica_at(alloc: Global, name: &str, epoch: u64) -> Result<ReplicaName, Fault>
+    ensures ok { IfOk result (λ replica. replica ≡ replica_name name.now epoch) }
+    ensures err { IfErr result (λ e. (e ≡ Fault.Memory) ⊎ (e ≡ Fault.Refused)) }
+    ensures refused { result ≡ Err Fault.Refused → is_name (replica_name name.now epoch) ≡ false }
+{
+    let Ok(text) = format!(in alloc; "{name}-{epoch}") else {
+        return Err(Fault::Memory);
+    };
+    match ReplicaName::read(text.as_bytes()) {
+        Some(replica) => Ok(replica),
+        None => Err(Fault::Refused),
+    }
+}
+
+// Whether the stored log has operations of the replica in the document of this name.
+fn is_known_in(docs: &[KeptDoc], name: &str, replica: &ReplicaName) -> bool
+    requires { AreInOrder docs.now }
+    ensures { result ≡ list_any (is_by replica.now) (log_of name.now docs.now) }
+{
+    match find(docs, name) {
+        Some(doc) => doc.is_maker(replica),
+        None => false,
+    }
+}
+
+// Whether the stored log has operations of the replica in one of these documents.
+fn is_known(docs: &[KeptDoc], names: &[&str], replica: &ReplicaName) -> bool
+    requires { AreInOrder docs.now }
+    ensures { result ≡ is_known replica.now docs.now (map (λ s. s.now) names.now) }
+{
+    for name in names {
+        if is_known_in(docs, name, replica) {
+            return true;
+        }
+    }
+    false
+}
+
+/// Starts a new epoch E, which it writes to the stored log, and returns the replica name NAME-E. If one
+/// of the documents already has operations of that name (a peer may have forged some), it skips to
+/// the next epoch.
+///
+/// The error is `Refused` where all epochs are given out or NAME-E is no name, `Memory`, or `Store`
+/// once the stored log has failed. After an error the rows are as they were; the epoch may be greater.
+pub fn next_replica_name<L: StoredLog>(
+    alloc: Global,
+    copy: &mut L,
+    name: &str,
+    documents: &[&str],
+) -> Result<ReplicaName, Fault>
+    ensures raised { IfOk result (λ replica.
+        IsRaised name.now (map (λ s. s.now) documents.now) replica (L.log copy.old) (L.log copy.new)) }
+    ensures refused { result ≡ Err Fault.Refused
+        → (last_epoch ≤ (L.log copy.new).epoch) ⊎ (is_name (replica_name name.now (L.log copy.new).epoch) ≡ false) }
+    ensures failed { (result ≡ Err Fault.Store) ↔ ((L.log copy.new).has_failed ≡ true) }
+    ensures works { OnOk result ((L.log copy.new).has_failed ≡ false) }
+    ensures kept { (result ≡ Err Fault.Store)
+        ⊎ KeepsAll (L.log copy.old) (L.log copy.new).epoch (L.log copy.new).docs }
+    ensures alone { (L.log copy.new).is_alone ≡ (L.log copy.old).is_alone }
+    // A crash leaves the rows that were there, under an epoch that is not smaller.
+    ensures crash { (L.log copy.old).has_failed ≡ false → L.survives copy.new (KeepsAll (L.log copy.old)) }
+{
+    loop {
+        let epoch = copy.epoch_up()?;
+        let replica = replica_at(alloc, name, epoch)?;
+        if !is_known(copy.docs()?, documents, &replica) {
+            return Ok(replica);
+        }
+    }
+}

@@ -1,0 +1,156 @@
+//! Restoring the documents of a server from the stored log.
+ghost use Rattle.std.specs.Prelude.{◌≡◌, ◌⊎◌, ◌-◌, ◌+◌, ◌≤◌, ◌++◌, ◌∷◌, [], true, length, map, IfOk, IfErr, OnOk, Err};
+ghost use Rattle.share_ledger.specs.Begun.{MayBeNamed};
+ghost use Rattle.doc_rules.specs.Document.{new_document};
+ghost use Rattle.locked_doc.specs.Numbers.{greatest_number};
+ghost use Rattle.stored_log.specs.Docs.{log_of};
+ghost use Rattle.served_log.specs.Restored.{origin_at, restored};
+
+use json_scalar::Refusal;
+use lamport_id::ReplicaName;
+use line_proto::Name;
+use locked_doc::{Ledger, LockedDoc, Shelf};
+use server_core::{Pace, Progress, SharedDocuments, Signal};
+use share_ledger::Marker;
+use std::alloc::Global;
+use stored_log::{Fault, StoredLog};
+
+/// Named documents before sessions share them. Contracts know each of them; once they are behind
+/// locks, they can't.
+#[derive(Drop)]
+pub struct RestoredDocuments<M: Marker> {
+    /// The names, in the order of the documents.
+    pub names: Vec<Name>,
+    /// The documents, as many as there are names.
+    pub docs: Vec<LockedDoc<M>>,
+    ghost as_many: { length names.items ≡ length docs.items },
+}
+
+// Clones of the names, in order. The one error is `NoMemory`.
+fn copy_names(alloc: Global, names: &[&str]) -> Result<Vec<Name>, Refusal>
+    ensures names { IfOk result (λ made. made.items ≡ map (λ s. s.now) names.now) }
+{
+    let mut made = Vec::new(alloc);
+    for name in names {
+        made.push(Name::new(alloc, name)?)?;
+    }
+    Ok(made)
+}
+
+// Restores the document of this name from the stored log, with so many seats, for the replica of this
+// name.
+fn restore_one<M: Marker, L: StoredLog>(
+    alloc: Global,
+    ledger: &mut Ledger<M>,
+    copy: &L,
+    replica: &ReplicaName,
+    name: &str,
+    seats: u16,
+) -> Result<LockedDoc<M>, Fault>
+    requires number { 1 ≤ greatest_number - ledger.old }
+    requires begun { log_of name.now (L.log copy.now).docs ≡ (M.origin ledger.old).log }
+    requires named { MayBeNamed (M.origin ledger.old) replica.now }
+    ensures made { IfOk result (λ doc. doc.document ≡ new_document replica.now (log_of name.now (L.log copy.now).docs) seats) }
+    ensures next { IfOk result (λ doc. ledger.new ≡ ledger.old + 1) }
+    ensures never_refused { IfErr result (λ e. (e ≡ Fault.Store) ⊎ (e ≡ Fault.Memory)) }
+    ensures failed { result ≡ Err Fault.Store → (L.log copy.now).has_failed ≡ true }
+{
+    let log = copy.load(alloc, name)?;
+    match ledger.of_log(alloc, replica, log, seats) {
+        Ok(doc) => Ok(doc),
+        Err(_) => Err(Fault::Memory),
+    }
+}
+
+// Pushes the document.
+fn push_doc<M: Marker>(docs: &mut Vec<LockedDoc<M>>, doc: LockedDoc<M>) -> Result<(), Fault>
+    ensures ok { OnOk result (docs.new.items ≡ docs.old.items ++ doc ∷ []) }
+    ensures err { IfErr result (λ e. e ≡ Fault.Memory) }
+{
+    match docs.push(doc) {
+        Ok(()) => Ok(()),
+        Err(_) => Err(Fault::Memory),
+    }
+}
+
+// Restores the documents of these names. They are the first of a ledger.
+fn restore_all<M: Marker, L: StoredLog>(
+    alloc: Global,
+    ledger: &mut Ledger<M>,
+    copy: &L,
+    replica: &ReplicaName,
+    names: &[&str],
+    seats: u16,
+) -> Result<Vec<LockedDoc<M>>, Fault>
+    requires few { length names.now ≤ greatest_number }
+    requires first { ledger.old ≡ 0 }
+    requires begun { M.origin ≡ origin_at replica.now (L.log copy.now).docs (map (λ s. s.now) names.now) }
+    ensures documents { IfOk result (λ docs. map (λ d. d.document) docs.items
+        ≡ map (λ n. new_document replica.now (log_of n (L.log copy.now).docs) seats) (map (λ s. s.now) names.now)) }
+    ensures each { IfOk result (λ docs. length docs.items ≡ length names.now) }
+    ensures never_refused { IfErr result (λ e. (e ≡ Fault.Store) ⊎ (e ≡ Fault.Memory)) }
+    ensures failed { result ≡ Err Fault.Store → (L.log copy.now).has_failed ≡ true }
+{
+    let mut docs = Vec::new(alloc);
+    for name in names {
+        let doc = restore_one(alloc, ledger, copy, replica, name, seats)?;
+        push_doc(&mut docs, doc)?;
+    }
+    Ok(docs)
+}
+
+/// Restores the documents of these names from the stored log, with so many seats each, for the replica of
+/// this name. Their entries belong to seat 0, and are noted as copied. They are the first documents
+/// of the ledger. The error is `Memory`, or `Store` once the stored log has failed; never `Refused`.
+pub fn restore_documents<M: Marker, L: StoredLog>(
+    alloc: Global,
+    ledger: &mut Ledger<M>,
+    copy: &L,
+    replica: &ReplicaName,
+    names: &[&str],
+    seats: u16,
+) -> Result<RestoredDocuments<M>, Fault>
+    requires few { length names.now ≤ greatest_number }
+    requires first { ledger.old ≡ 0 }
+    requires begun { M.origin ≡ origin_at replica.now (L.log copy.now).docs (map (λ s. s.now) names.now) }
+    ensures names { IfOk result (λ made. made.names.items ≡ map (λ s. s.now) names.now) }
+    ensures documents { IfOk result (λ made. map (λ d. d.document) made.docs.items
+        ≡ restored replica.now (L.log copy.now).docs seats (map (λ s. s.now) names.now)) }
+    ensures never_refused { IfErr result (λ e. (e ≡ Fault.Store) ⊎ (e ≡ Fault.Memory)) }
+    ensures failed { result ≡ Err Fault.Store → (L.log copy.now).has_failed ≡ true }
+{
+    let Ok(made) = copy_names(alloc, names) else {
+        return Err(Fault::Memory);
+    };
+    let docs = restore_all(alloc, ledger, copy, replica, names, seats)?;
+    Ok(RestoredDocuments { names: made, docs })
+}
+
+/// Puts the documents behind locks, in order. Replies to changes of them go out at this pace. The one
+/// error is `NoMemory`.
+pub fn share_documents<M: Marker>(
+    alloc: Global,
+    restored: RestoredDocuments<M>,
+    pace: Pace,
+) -> Result<SharedDocuments<M>, Refusal>
+    ensures names { IfOk result (λ shared. shared.names.items ≡ restored.names.items) }
+    ensures pace { IfOk result (λ shared. shared.progress.pace ≡ pace) }
+    ensures memory { IfErr result (λ cause. cause ≡ Refusal.NoMemory) }
+{
+    let RestoredDocuments { names, docs } = restored;
+    let Ok(progress) = Progress::new(alloc, names.len(), pace) else {
+        return Err(Refusal::NoMemory);
+    };
+    let mut shelf = Shelf::new(alloc);
+    for doc in docs {
+        if shelf.put(doc).is_err() {
+            return Err(Refusal::NoMemory);
+        }
+    }
+    Ok(SharedDocuments {
+        names,
+        shelf,
+        signal: Signal::new(),
+        progress,
+    })
+}

@@ -1,0 +1,219 @@
+//! The stages of a server over a stored log, from its replica name to the totals.
+ghost use Rattle.std.specs.Prelude.{◌≡◌, ◌⊎◌, ◌≤◌, List, Option, None, false, length, map};
+ghost use Rattle.std.specs.Prelude.{IfOk, IfErr, OnOk, min, vec_len};
+ghost use Rattle.doc_rules.specs.Seats as seats;
+ghost use Rattle.locked_doc.specs.Books.{most_seats};
+ghost use Rattle.locked_doc.specs.Numbers.{greatest_number};
+ghost use Rattle.server_core.specs.Attended.{AreAttended};
+ghost use Rattle.server_core.specs.Sums.{AreTotalsFrom};
+ghost use Rattle.served_log.specs.Batches.{AddsBatches, HasCopied};
+ghost use Rattle.served_log.specs.Named.{replica_name};
+ghost use Rattle.served_log.specs.Restored.{origin_at};
+ghost use Rattle.served_log.specs.Totals.{AreStored, ServesSessions};
+ghost use Rattle.served_log.specs.Unwritten.{IsUnwritten};
+
+use crate::failure::{Failure, Step};
+use crate::notes::{CopyLogger, note_documents};
+use crate::output::write_totals;
+use crate::restore::{RestoredDocuments, restore_documents, share_documents};
+use crate::rows::has_all;
+use crate::{Copier, CopyObserver};
+use lamport_id::ReplicaName;
+use locked_doc::{Ledger, Totals};
+use log::Log;
+use server_core::{Connect, Gathered, OpenGate, Pace, SharedDocuments, run_sessions};
+use server_notes::{note_ended, note_serving};
+use share_ledger::{Blank, Marker};
+use std::alloc::Global;
+use std::io;
+use std::sync::Wait;
+use std::thread::Threads;
+use std::time::Clock;
+use stored_log::{Fault, StoredLog};
+
+// How many seats a document has for so many sessions: one for each, up to the greatest seat number.
+fn seats_for(sessions: usize) -> u16
+    ensures { result ≡ min sessions most_seats }
+{
+    sessions.min(usize::from(u16::MAX)) as u16
+}
+
+// Serves the connections while the copier runs, and returns the copier. `ran` gets what the
+// sessions did, or why it could not be gathered: clauses follow a copier, which borrows, only where
+// it is returned alone.
+fn run_beside_copier<
+    'a,
+    M: Marker + Send + Sync,
+    R: Threads + Wait + Sync,
+    C: Connect,
+    L: StoredLog,
+    T: CopyObserver,
+>(
+    rt: &R,
+    alloc: Global,
+    shared: SharedDocuments<M>,
+    connections: Vec<C>,
+    copier: Copier<'a, L, T>,
+    ran: &mut Result<Gathered, Failure>,
+) -> Copier<'a, L, T>
+    ensures sessions { IfOk ran.new (λ g. (given : List (List (Option seats.Seat)))
+        × AreAttended M.origin shared.names.items (map C.bytes connections.items) g.endings.items given
+        × AreTotalsFrom M.origin 0 given g.totals.items) }
+    ensures each { IfOk ran.new (λ g. vec_len g.totals ≡ length shared.names.items) }
+    ensures same_reference { result.copy.ghost_name ≡ copier.entry.copy.ghost_name }
+    // The copier has run, or memory ran out before the first session.
+    ensures left { (OnOk ran.new ⊥ × (result.copy.now ≡ copier.entry.copy.now))
+        ⊎ HasCopied shared.names.items (L.log copier.entry.copy.now) (L.log result.copy.now) result.fault }
+{
+    let (gathered, copier) = run_sessions(rt, alloc, shared, connections, &OpenGate, copier);
+    match gathered {
+        Ok(gathered) => {
+            *ran = Ok(gathered);
+            copier
+        }
+        Err(left) => {
+            *ran = Err(Failure::of_gathering(&left));
+            copier
+        }
+    }
+}
+
+// Serves the connections while a copier runs. It returns what the sessions did, or why that could
+// not be gathered, and why the copying ended before all was copied, if it did.
+fn serve_with_copier<
+    M: Marker + Send + Sync,
+    R: Threads + Wait + Sync + Log + Clock,
+    C: Connect,
+    L: StoredLog,
+>(
+    rt: &R,
+    alloc: Global,
+    shared: SharedDocuments<M>,
+    connections: Vec<C>,
+    copy: &mut L,
+) -> (Result<Gathered, Failure>, Option<Fault>)
+    ensures sessions { IfOk result.0 (λ g. (given : List (List (Option seats.Seat)))
+        × AreAttended M.origin shared.names.items (map C.bytes connections.items) g.endings.items given
+        × AreTotalsFrom M.origin 0 given g.totals.items) }
+    ensures each { IfOk result.0 (λ g. vec_len g.totals ≡ length shared.names.items) }
+    ensures left { (OnOk result.0 ⊥ × (copy.new ≡ copy.old))
+        ⊎ HasCopied shared.names.items (L.log copy.old) (L.log copy.new) result.1 }
+{
+    let pace = shared.progress.pace();
+    let logger = CopyLogger { rt, pace };
+    let copier = Copier::new(copy, &logger);
+    let mut ran = Err(Failure::Memory(Step::Begin));
+    let copier = run_beside_copier(rt, alloc, shared, connections, copier, &mut ran);
+    let why = copier.end();
+    note_ended(rt);
+    (ran, why)
+}
+
+// The outcome once the totals are written: a failure where the copying ended before all was copied,
+// or where the stored log lacks operations that the totals count.
+fn outcome_of<L: StoredLog>(
+    fault: Option<Fault>,
+    copy: &L,
+    names: &[&str],
+    totals: &[Totals],
+) -> Result<(), Failure>
+    requires { length totals.now ≡ length names.now }
+    ensures copied { OnOk result (fault ≡ None) }
+    ensures stored { OnOk result (AreStored (L.log copy.now).docs (map (λ s. s.now) names.now) totals.now) }
+    ensures written { IfErr result (λ why. ¬ IsUnwritten why) }
+{
+    match fault {
+        Some(why) => Err(Failure::of_copying(why, copy)),
+        None => if has_all(copy, names, totals) {
+            Ok(())
+        } else {
+            Err(Failure::Unstored)
+        },
+    }
+}
+
+// Serves these connections over the restored documents while a copier runs, and writes the totals
+// at the end. It fails where memory runs out, where the writer fails, or where not all that the
+// sessions logged is stored.
+fn serve_documents<
+    M: Marker + Send + Sync,
+    R: Threads + Wait + Sync + Log + Clock,
+    C: Connect,
+    L: StoredLog,
+    W: io::Write,
+>(
+    rt: &R,
+    alloc: Global,
+    restored: RestoredDocuments<M>,
+    names: &[&str],
+    pace: Pace,
+    connections: Vec<C>,
+    copy: &mut L,
+    out: &mut W,
+) -> Result<(), Failure>
+    requires { restored.names.items ≡ map (λ s. s.now) names.now }
+    ensures served { OnOk result (ServesSessions M.origin (L.log copy.new).docs (map (λ s. s.now) names.now)
+        (length connections.items) (W.contents out.old) (W.contents out.new)) }
+    ensures unwritten { IfErr result (λ why. IsUnwritten why → out.new ≡ out.old) }
+    ensures copied { OnOk result (AddsBatches (map (λ s. s.now) names.now) (L.log copy.old) (L.log copy.new)) }
+    ensures works { OnOk result ((L.log copy.old).has_failed ≡ false → (L.log copy.new).has_failed ≡ false) }
+    ensures grown { (L.log copy.new).has_failed ≡ false → AddsBatches (map (λ s. s.now) names.now) (L.log copy.old) (L.log copy.new) }
+    ensures alone { (L.log copy.new).is_alone ≡ (L.log copy.old).is_alone }
+{
+    let Ok(shared) = share_documents(alloc, restored, pace) else {
+        return Err(Failure::Memory(Step::Restore));
+    };
+    let (ran, fault) = serve_with_copier(rt, alloc, shared, connections, copy);
+    let gathered = ran?;
+    let totals = gathered.totals.as_slice();
+    match write_totals(alloc, names, totals, out) {
+        Ok(()) => outcome_of(fault, copy, names, totals),
+        Err(error) => Err(Failure::Output(error)),
+    }
+}
+
+// Restores the documents of these names from the stored log, for this replica, and serves the connections
+// over them, one session each. The replica is named by the server's name and the stored log's epoch. The
+// counters are of a new table, `blank`. The name is bytes, since a call with a `&str` can't pick
+// ghost members.
+pub(crate) fn restore_and_serve<
+    M: Marker + Send + Sync,
+    R: Threads + Wait + Sync + Log + Clock,
+    C: Connect,
+    L: StoredLog,
+    W: io::Write,
+>(
+    rt: &R,
+    alloc: Global,
+    blank: Blank,
+    name: &[u8],
+    replica: &ReplicaName,
+    documents: &[&str],
+    pace: Pace,
+    connections: Vec<C>,
+    copy: &mut L,
+    out: &mut W,
+) -> Result<(), Failure>
+    requires blank { blank ≡ M.name }
+    requires named { replica.now ≡ replica_name name.now (L.log copy.old).epoch }
+    requires begun { M.origin ≡ origin_at replica.now (L.log copy.old).docs (map (λ s. s.now) documents.now) }
+    requires few { length documents.now ≤ greatest_number }
+    ensures served { OnOk result (ServesSessions M.origin (L.log copy.new).docs (map (λ s. s.now) documents.now)
+        (length connections.items) (W.contents out.old) (W.contents out.new)) }
+    ensures unwritten { IfErr result (λ why. IsUnwritten why → out.new ≡ out.old) }
+    ensures copied { OnOk result (AddsBatches (map (λ s. s.now) documents.now) (L.log copy.old) (L.log copy.new)) }
+    ensures works { OnOk result ((L.log copy.old).has_failed ≡ false → (L.log copy.new).has_failed ≡ false) }
+    ensures grown { (L.log copy.new).has_failed ≡ false → AddsBatches (map (λ s. s.now) documents.now) (L.log copy.old) (L.log copy.new) }
+    ensures alone { (L.log copy.new).is_alone ≡ (L.log copy.old).is_alone }
+{
+    note_serving(rt, replica.as_str());
+    let mut ledger = Ledger::<M>::new(blank);
+    let seats = seats_for(connections.len());
+    match restore_documents(alloc, &mut ledger, copy, replica, documents, seats) {
+        Ok(restored) => {
+            note_documents(rt, copy, documents);
+            serve_documents(rt, alloc, restored, documents, pace, connections, copy, out)
+        }
+        Err(fault) => Err(Failure::of_restoring(fault, copy)),
+    }
+}

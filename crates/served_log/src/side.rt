@@ -1,0 +1,249 @@
+//! The copier: the background task that stores what sessions log.
+ghost use Rattle.std.specs.Prelude.{◌≡◌, ◌≢◌, ◌⊎◌, OnOk, IfErr, Err, true, false, None};
+ghost use Rattle.served_log.specs.Batches.{AddsBatches, HasCopied};
+
+use crate::batch::{copy_each, publish_all};
+use crate::observer::CopyObserver;
+use server_core::{Pace, SharedDocuments, Side, Signalled};
+use share_ledger::Marker;
+use std::sync::Wait;
+use stored_log::{Fault, MAX_BATCH, StoredLog, reason_of};
+
+// Waits until the copier should look again, after a look at which it copied at most so many entries
+// of a document. It returns what the signal has counted by then.
+fn next_look<M: Marker, R: Wait>(
+    rt: &R,
+    shared: &SharedDocuments<M>,
+    sessions: u64,
+    seen: Signalled,
+    most: usize,
+) -> Signalled {
+    // A full batch may have left some. Once all have ended, no batch grows.
+    if most >= MAX_BATCH || seen.ended >= sessions {
+        return seen;
+    }
+    // Where sessions wait for each batch, it grows until they all wait again.
+    if shared.progress.pace() == Pace::Durable {
+        shared.progress.gather(rt);
+        return seen;
+    }
+    shared.signal.pause(rt, seen)
+}
+
+// How often it is tried once all sessions have ended and memory lacks each time, a tenth of a second
+// apart.
+const LAST_TRIES: u32 = 50;
+
+// What was there for a copier at its last look.
+#[derive(Clone, Copy)]
+enum Found {
+    // At most so many entries of a document, which were copied.
+    Some(usize),
+    // Memory ran out.
+    NoMemory,
+}
+
+// Whether memory ran out.
+fn lacks(found: Found) -> bool {
+    match found {
+        Found::Some(_) => false,
+        Found::NoMemory => true,
+    }
+}
+
+// How often memory has lacked since all sessions ended and anything was found, after this one more.
+fn tries_after(found: Found, all_ended: bool, tries: u32) -> u32 {
+    if all_ended && lacks(found) {
+        tries.saturating_add(1)
+    } else {
+        0
+    }
+}
+
+// Waits until the copier should look again, after it found this, at the try of this number since all
+// sessions ended. It returns what the signal has counted by then, or none where nothing will come,
+// and all is copied or memory has lacked too often.
+fn wait_after<M: Marker, R: Wait>(
+    rt: &R,
+    shared: &SharedDocuments<M>,
+    sessions: u64,
+    seen: Signalled,
+    found: Found,
+    tries: u32,
+) -> Option<Signalled> {
+    match found {
+        Found::Some(0) => {
+            // What was logged before all had ended was just copied.
+            if seen.ended >= sessions {
+                return None;
+            }
+            Some(shared.signal.wait(rt, seen))
+        }
+        Found::Some(most) => Some(next_look(rt, shared, sessions, seen, most)),
+        Found::NoMemory => {
+            if tries >= LAST_TRIES {
+                return None;
+            }
+            Some(shared.signal.pause_longer(rt, seen))
+        }
+    }
+}
+
+// Before a try, where memory lacked at the last look: sessions wait for the copier again. So none is
+// ended whose document's turn only comes later.
+fn wait_again<M: Marker, L: StoredLog>(shared: &SharedDocuments<M>, copy: &L, lacked: bool) {
+    if lacked {
+        publish_all(shared, copy);
+    }
+}
+
+// Notifies the observer that the copier goes on, where memory lacked at its last look.
+fn notify_going_on<T: CopyObserver>(observer: &T, lacked: bool) {
+    if lacked {
+        observer.goes_on();
+    }
+}
+
+// Notifies the observer that memory lacks, where it did not at the last look.
+fn notify_lack<T: CopyObserver>(observer: &T, lacked: bool) {
+    if !lacked {
+        observer.lacks_memory();
+    }
+}
+
+// Looks once, and copies what is there. Where memory runs out nobody waits for the file until the
+// next look. The observer is notified where memory runs out and did not at the last look, and where
+// it does no more. The error is any but `Memory`.
+fn look<M: Marker, R: Wait, L: StoredLog, T: CopyObserver>(
+    rt: &R,
+    shared: &SharedDocuments<M>,
+    lacked: bool,
+    copy: &mut L,
+    observer: &T,
+) -> Result<Found, Fault>
+    ensures ok { OnOk result (AddsBatches shared.now.names.items (L.log copy.old) (L.log copy.new)) }
+    ensures err { IfErr result (λ e. (e ≡ Fault.Store)
+        ⊎ AddsBatches shared.now.names.items (L.log copy.old) (L.log copy.new)) }
+    ensures memory { result ≢ Err Fault.Memory }
+    ensures works { OnOk result ((L.log copy.old).has_failed ≡ false → (L.log copy.new).has_failed ≡ false) }
+    ensures failed { result ≡ Err Fault.Store → (L.log copy.new).has_failed ≡ true }
+    ensures alone { (L.log copy.new).is_alone ≡ (L.log copy.old).is_alone }
+{
+    wait_again(shared, copy, lacked);
+    match copy_each(rt, shared, copy, observer) {
+        Ok(most) => {
+            notify_going_on(observer, lacked);
+            Ok(Found::Some(most))
+        }
+        Err(Fault::Memory) => {
+            shared.progress.stop();
+            notify_lack(observer, lacked);
+            Ok(Found::NoMemory)
+        }
+        Err(fault) => Err(fault),
+    }
+}
+
+/// Copies what so many sessions log while they run, and what is left once they have ended. It
+/// sleeps while there is nothing to copy, and holds no lock while it writes. It pauses for some
+/// milliseconds unless a batch was full, so that batches grow: each costs an fsync. Where replies
+/// wait for the file it doesn't pause. It notifies the observer of each batch. Where memory runs out
+/// nobody waits for the file, and it pauses longer and tries again. Once all sessions have ended it
+/// does so 50 times in a row, and then ends with some operations that aren't copied. It ends at the
+/// first other fault, which is the stored log's.
+pub fn keep_up<M: Marker, R: Wait, L: StoredLog, T: CopyObserver>(
+    rt: &R,
+    shared: &SharedDocuments<M>,
+    sessions: u64,
+    copy: &mut L,
+    observer: &T,
+) -> Result<(), Fault>
+    ensures ok { OnOk result (AddsBatches shared.now.names.items (L.log copy.old) (L.log copy.new)) }
+    ensures err { IfErr result (λ e. (e ≡ Fault.Store)
+        ⊎ AddsBatches shared.now.names.items (L.log copy.old) (L.log copy.new)) }
+    ensures works { OnOk result ((L.log copy.old).has_failed ≡ false → (L.log copy.new).has_failed ≡ false) }
+    ensures memory { result ≢ Err Fault.Memory }
+    ensures failed { result ≡ Err Fault.Store → (L.log copy.new).has_failed ≡ true }
+    ensures alone { (L.log copy.new).is_alone ≡ (L.log copy.old).is_alone }
+{
+    let mut seen = Signalled {
+        notified: 0,
+        ended: 0,
+    };
+    let mut lacked = false;
+    let mut tries: u32 = 0;
+    for _ in rt.forever() {
+        match look(rt, shared, lacked, copy, observer) {
+            Ok(found) => {
+                lacked = lacks(found);
+                tries = tries_after(found, seen.ended >= sessions, tries);
+                match wait_after(rt, shared, sessions, seen, found, tries) {
+                    Some(next) => seen = next,
+                    None => return Ok(()),
+                }
+            }
+            Err(fault) => return Err(fault),
+        }
+    }
+    Ok(())
+}
+
+// Notifies the observer if a fault ended the copying.
+fn notify_stopped<T: CopyObserver, L: StoredLog>(observer: &T, fault: &Option<Fault>, copy: &L) {
+    if let Some(fault) = fault {
+        observer.stopped(reason_of(*fault, copy));
+    }
+}
+
+/// Stores what sessions log, as `keep_up`. A fault ends only the copying. The observer is notified
+/// at once, and the fault is kept.
+#[derive(Drop)]
+pub struct Copier<'a, L: StoredLog, T: CopyObserver> {
+    /// The stored log.
+    pub copy: &'a mut L,
+    /// Is notified of each batch and of a fault.
+    pub observer: &'a T,
+    /// The fault that ended the copying, if one did. Without one all is copied, or memory lacked to
+    /// the end.
+    pub fault: Option<Fault>,
+}
+
+impl<'a, L: StoredLog, T: CopyObserver> Copier<'a, L, T> {
+    /// A copier that has copied nothing yet.
+    pub fn new(copy: &'a mut L, observer: &'a T) -> Copier<'a, L, T>
+        ensures same_reference { result.copy.ghost_name ≡ copy.entry.ghost_name }
+        ensures copy { result.copy.now ≡ copy.old }
+        ensures fault { result.fault ≡ None }
+    {
+        Copier {
+            copy,
+            observer,
+            fault: None,
+        }
+    }
+
+    /// Returns the fault that ended the copying, if one did.
+    pub fn end(self) -> Option<Fault>
+        ensures left { self.exit.0.now ≡ self.entry.copy.now }
+        ensures fault { result ≡ self.entry.fault }
+    {
+        let Copier {
+            copy: _,
+            observer: _,
+            fault,
+        } = self;
+        fault
+    }
+}
+
+impl<M: Marker, L: StoredLog, T: CopyObserver> Side<M> for Copier<'_, L, T> {
+    ghost becomes = { λ names old new. (new.copy.ghost_name ≡ old.copy.ghost_name)
+        × HasCopied names (L.log old.copy.now) (L.log new.copy.now) new.fault };
+
+    fn run<R: Wait>(&mut self, rt: &R, shared: &SharedDocuments<M>, sessions: u64) {
+        self.fault = keep_up(rt, shared, sessions, self.copy, self.observer).err();
+        // Nothing is copied from now on, so nobody waits for it.
+        shared.progress.stop();
+        notify_stopped(self.observer, &self.fault, self.copy);
+    }
+}

@@ -1,4 +1,0 @@
-pub mod Keys
-pub mod Rising
-pub mod Bisection
-pub mod Insertion

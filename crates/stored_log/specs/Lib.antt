@@ -1,0 +1,7 @@
+pub mod Limits
+pub mod Log
+pub mod Batch
+pub mod Image
+pub mod Listed
+pub mod Docs
+pub mod Report

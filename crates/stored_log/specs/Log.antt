@@ -1,0 +1,43 @@
+-- What a stored log has.
+use Rattle.std.specs.Prelude.{◌≡◌, ◌⊎◌, ◌+◌, ◌≤◌, ℕ, Bool, List}
+use Rattle.std.proofs.Common.{inl, inr, le_trans, le-add_right, subst, sym, ◌∙◌}
+use Rattle.op_core.specs.Op.{Op}
+use Rattle.stored_log.specs.Docs.{Doc, add_batch}
+
+pub record LogState : Type 0 where
+  -- the last epoch that was given out, 0 if none was
+  pub epoch : ℕ
+  -- the documents with entries, in the order of their names
+  pub docs : List Doc
+  -- nothing else is stored beside it; what is promised of crashes is promised then
+  pub is_alone : Bool
+  -- a call has failed, and each later one fails
+  pub has_failed : Bool
+
+-- the same epoch and the same documents
+pub record HasSame (it : LogState) (epoch : ℕ) (docs : List Doc) : Type 0 where
+  pub same_epoch : epoch ≡ it.epoch
+  pub same_docs : docs ≡ it.docs
+
+-- the same under this epoch or the next
+pub record IsRaisedOrNot (it : LogState) (epoch : ℕ) (docs : List Doc) : Type 0 where
+  pub raised_or_not : (epoch ≡ it.epoch) ⊎ (epoch ≡ it.epoch + 1)
+  pub same_docs : docs ≡ it.docs
+
+-- the same, with all of a batch or with none
+pub record IsAddedOrNot (name : List ℕ) (ops : List Op) (it : LogState) (epoch : ℕ) (docs : List Doc) : Type 0 where
+  pub same_epoch : epoch ≡ it.epoch
+  pub added_or_not : (docs ≡ it.docs) ⊎ (docs ≡ add_batch name ops it.docs)
+
+-- the same under an epoch that is not smaller
+pub record KeepsAll (it : LogState) (epoch : ℕ) (docs : List Doc) : Type 0 where
+  pub no_less : it.epoch ≤ epoch
+  pub same_docs : docs ≡ it.docs
+
+-- what keeps all behind a raised epoch keeps what was kept before it was raised
+pub raised_keeps : (first last : LogState) → KeepsAll first last.epoch last.docs → (epoch : ℕ) (docs : List Doc) → IsRaisedOrNot last epoch docs → KeepsAll first epoch docs
+raised_keeps first last kept epoch docs raised = record { no_less = grows raised.raised_or_not; same_docs = raised.same_docs ∙ kept.same_docs }
+  where
+    grows : (epoch ≡ last.epoch) ⊎ (epoch ≡ last.epoch + 1) → first.epoch ≤ epoch
+    grows (inl same) = subst (λ e. first.epoch ≤ e) (sym same) kept.no_less
+    grows (inr next) = subst (λ e. first.epoch ≤ e) (sym next) (le_trans kept.no_less (le-add_right last.epoch 1))

@@ -1,0 +1,289 @@
+//! A stored log in memory, of which a use can be made to fail.
+ghost use Rattle.std.specs.Prelude.{◌≡◌, false, IfOk, IfErr};
+ghost use Rattle.std.specs.Option.{is_some};
+ghost use Rattle.stored_log.specs.Image.{IsEmpty};
+ghost use Rattle.stored_log.specs.Listed.{AreBoth};
+
+use crate::batch::may_add;
+use crate::list_image::ListImage;
+use crate::port::StoredLog;
+use crate::stored_fault::StoredFault;
+use crate::{Fault, KeptDoc, LAST_EPOCH};
+use op_core::Operation;
+use op_log::OpLog;
+use std::alloc::Global;
+use std::marker::Model;
+
+/// The place of a stored log in memory.
+#[derive(Drop)]
+pub struct ListPlace {
+    /// What a crash leaves.
+    pub kept: ListImage,
+    /// What the file alone holds, without a log of commits beside it.
+    pub alone: ListImage,
+}
+
+impl ListPlace {
+    /// A place where nothing is stored.
+    pub fn new(alloc: Global) -> ListPlace
+        ensures kept { IsEmpty result.kept }
+        ensures alone { IsEmpty result.alone }
+    {
+        ListPlace {
+            kept: ListImage::new(alloc),
+            alone: ListImage::new(alloc),
+        }
+    }
+
+    /// The place with its file alone. The only error is out of memory.
+    pub fn without_log(self, alloc: Global) -> Result<ListPlace, Fault>
+        ensures { IfOk result (AreBoth self.alone) }
+    {
+        let ListPlace { kept: _, alone } = self;
+        let kept = alone.try_clone(alloc)?;
+        Ok(ListPlace { kept, alone })
+    }
+}
+
+/// The use of its store at which a stored log in memory fails. A use is an `epoch_up` that isn't refused, an
+/// `append` of entries that may be added, a `fold` and a `close`.
+#[derive(Clone, Copy, Debug)]
+pub struct FailingUse {
+    /// How many uses come before it.
+    pub after: u32,
+    /// What it fails with.
+    pub fault: StoredFault,
+    /// Whether what it was to store is stored nevertheless.
+    pub stays: bool,
+    /// Whether each later use fails too. What it was to store is not stored.
+    pub lasts: bool,
+}
+
+// Counts a use. It fails if this is some.
+fn next_use(fails: &mut Option<FailingUse>) -> Option<FailingUse> {
+    let mut failing = (*fails)?;
+    if failing.after > 0 {
+        failing.after -= 1;
+        *fails = Some(failing);
+        return None;
+    }
+    let FailingUse {
+        after,
+        fault,
+        stays: _,
+        lasts,
+    } = failing;
+    *fails = lasts.then_some(FailingUse {
+        after,
+        fault,
+        stays: false,
+        lasts,
+    });
+    Some(failing)
+}
+
+// Stores in the file alone what a crash leaves. A fault leaves of a crash what it left before.
+fn folded(
+    alloc: Global,
+    place: ListPlace,
+    fails: &mut Option<FailingUse>,
+) -> Result<ListPlace, (StoredFault, ListPlace)>
+    ensures ok { IfOk result (AreBoth place.kept) }
+    ensures err { IfErr result (λ e. e.1.kept ≡ place.kept) }
+{
+    let ListPlace { kept, alone } = place;
+    let Ok(file) = kept.try_clone(alloc) else {
+        return Err((StoredFault::NoMemory, ListPlace { kept, alone }));
+    };
+    match next_use(fails) {
+        None => Ok(ListPlace { kept, alone: file }),
+        Some(failing) => {
+            let alone = if failing.stays { file } else { alone };
+            Err((failing.fault, ListPlace { kept, alone }))
+        }
+    }
+}
+
+/// A stored log in memory. What is stored is at a place, which is opened again after a fault or a crash.
+pub struct ListLog {
+    place: ListPlace,
+    fails: Option<FailingUse>,
+    // What it failed with.
+    failure: Option<StoredFault>,
+    alloc: Global,
+}
+
+impl Model for ListLog {
+    ghost use Rattle.std.specs.Option.{is_some};
+    ghost use Rattle.stored_log.specs.Listed.{Listed};
+
+    ghost Value = { Listed };
+
+    ghost view = { λ l. record { kept = l.place.kept; alone = l.place.alone; has_failed = is_some l.failure } };
+}
+
+// By hand, so that it is called and not written out where a log is dropped.
+impl Drop for ListLog {
+    fn drop(self) {
+        let ListLog {
+            place: _,
+            fails: _,
+            failure: _,
+            alloc: _,
+        } = self;
+    }
+}
+
+impl ListLog {
+    /// Opens a place. `fails` says at which use of the store it fails, if at one.
+    pub fn open(alloc: Global, place: ListPlace, fails: Option<FailingUse>) -> ListLog
+        ensures { result ≡ record { kept = place.kept; alone = place.alone; has_failed = false } }
+    {
+        ListLog {
+            place,
+            fails,
+            failure: None,
+            alloc,
+        }
+    }
+
+    /// The place as a crash leaves it now.
+    pub fn crash(self) -> ListPlace
+        ensures kept { result.kept ≡ self.kept }
+        ensures alone { result.alone ≡ self.alone }
+    {
+        let ListLog {
+            place,
+            fails: _,
+            failure: _,
+            alloc: _,
+        } = self;
+        place
+    }
+}
+
+impl StoredLog for ListLog {
+    type Left = ListPlace;
+
+    ghost use Rattle.stored_log.specs.Listed.{AreBoth, listed_log};
+    ghost use Rattle.stored_log.specs.Log.{raised_keeps};
+
+    ghost log = { listed_log };
+
+    ghost survives = { λ it may. may it.kept.epoch it.kept.docs };
+
+    ghost was_alone = { λ old new. new.alone ≡ old.kept };
+
+    ghost is_held = { λ it last. AreBoth it.kept last };
+
+    ghost has_moved = { λ it last. AreBoth it.kept last };
+
+    ghost still_holds = { λ it last. last.kept ≡ it.kept };
+
+    ghost still_keeps = { λ it first last kept. raised_keeps first last kept it.kept.epoch it.kept.docs };
+
+    fn cause(&self) -> Option<StoredFault> {
+        self.failure
+    }
+
+    fn epoch(&self) -> Result<u64, Fault> {
+        if self.failure.is_some() {
+            return Err(Fault::Store);
+        }
+        Ok(u64::from(self.place.kept.epoch()))
+    }
+
+    fn epoch_up(&mut self) -> Result<u64, Fault> {
+        if self.failure.is_some() {
+            return Err(Fault::Store);
+        }
+        if self.place.kept.epoch() >= LAST_EPOCH {
+            return Err(Fault::Refused);
+        }
+        match next_use(&mut self.fails) {
+            None => {
+                self.place.kept.raise();
+                Ok(u64::from(self.place.kept.epoch()))
+            }
+            Some(failing) => {
+                if failing.stays {
+                    self.place.kept.raise();
+                }
+                self.failure = Some(failing.fault);
+                Err(Fault::Store)
+            }
+        }
+    }
+
+    fn docs(&self) -> Result<&[KeptDoc], Fault> {
+        let docs = self.place.kept.docs();
+        if self.failure.is_some() {
+            return Err(Fault::Store);
+        }
+        Ok(docs)
+    }
+
+    fn rows(&self, doc: &str) -> Result<usize, Fault> {
+        if self.failure.is_some() {
+            return Err(Fault::Store);
+        }
+        Ok(crate::count(self.place.kept.docs(), doc))
+    }
+
+    fn load(&self, alloc: Global, doc: &str) -> Result<OpLog, Fault> {
+        if self.failure.is_some() {
+            return Err(Fault::Store);
+        }
+        crate::log_clone(self.place.kept.docs(), alloc, doc)
+    }
+
+    fn append(&mut self, doc: &str, from: usize, entries: &[Operation]) -> Result<(), Fault> {
+        if self.failure.is_some() {
+            return Err(Fault::Store);
+        }
+        if !may_add(self.place.kept.docs(), doc, from, entries) {
+            return Err(Fault::Refused);
+        }
+        if entries.is_empty() {
+            return Ok(());
+        }
+        match next_use(&mut self.fails) {
+            None => self.place.kept.add(self.alloc, doc, entries),
+            Some(failing) => {
+                if failing.stays {
+                    self.place.kept.add(self.alloc, doc, entries)?;
+                }
+                self.failure = Some(failing.fault);
+                Err(Fault::Store)
+            }
+        }
+    }
+
+    fn fold(self) -> Result<ListLog, (StoredFault, ListPlace)> {
+        let ListLog {
+            place,
+            mut fails,
+            failure,
+            alloc,
+        } = self;
+        match folded(alloc, place, &mut fails) {
+            Ok(place) => Ok(ListLog {
+                place,
+                fails,
+                failure,
+                alloc,
+            }),
+            Err(fault) => Err(fault),
+        }
+    }
+
+    fn close(self) -> Result<ListPlace, (StoredFault, ListPlace)> {
+        let ListLog {
+            place,
+            mut fails,
+            failure: _,
+            alloc,
+        } = self;
+        folded(alloc, place, &mut fails)
+    }
+}

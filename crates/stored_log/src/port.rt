@@ -1,0 +1,119 @@
+//! The port: what a server needs of the place where its operations are stored.
+ghost use Rattle.std.specs.Prelude.{◌≡◌, ◌≢◌, ◌⊎◌, ◌+◌, ◌≤◌, ◌↔◌, ℕ, List, [], length, true, false, IfOk, IfErr, OnOk, Err, Ok};
+ghost use Rattle.stored_log.specs.Docs.{AreGood, AreInOrder, Doc, IsBatch, add_batch, log_of};
+ghost use Rattle.stored_log.specs.Limits.{last_epoch};
+ghost use Rattle.stored_log.specs.Log.{HasSame, IsAddedOrNot, IsRaisedOrNot, KeepsAll, LogState};
+
+use crate::stored_fault::StoredFault;
+use crate::{Fault, KeptDoc};
+use op_core::Operation;
+use op_log::OpLog;
+use std::alloc::Global;
+
+/// A stored log: the number of the last start (the epoch), and the operations of documents, by name.
+/// After a fault of its store each call answers `Store`, until it is opened again.
+pub trait StoredLog: Drop {
+    /// What is left of it once it is closed: the place alone, to be opened again.
+    type Left: Drop;
+
+    ghost log: { Self → LogState };
+
+    // Whatever a crash leaves of it now is such an epoch and such documents.
+    ghost survives: { Self → (ℕ → List Doc → Type 0) → Type 0 };
+
+    // Between the two, the place where it stays for good held the epoch and the documents of the
+    // first alone, without a log of commits beside it.
+    ghost was_alone: { Self → Self → Type 0 };
+
+    // The place that is left holds the epoch and the documents alone.
+    ghost is_held: { Self → Self.Left → Type 0 };
+
+    // The place that is left holds what was last stored, also after a fault and beside further content.
+    ghost has_moved: { Self → Self.Left → Type 0 };
+
+    // Whatever a crash leaves of the place that is left is the epoch and the documents.
+    ghost still_holds: { Self → Self.Left → Type 0 };
+
+    /// Why it failed, if it has failed and the reason is known. No clause speaks of it.
+    fn cause(&self) -> Option<StoredFault>;
+
+    /// The last epoch that was given out, 0 if none was.
+    fn epoch(&self) -> Result<u64, Fault>
+        ensures failed { (result ≡ Err Fault.Store) ↔ ((log self.now).has_failed ≡ true) }
+        ensures only { (result ≡ Err Fault.Store) ⊎ (result ≡ Ok (log self.now).epoch) };
+
+    /// Stores and answers one more than the stored epoch. It is refused from 9,999,999 on.
+    fn epoch_up(&mut self) -> Result<u64, Fault>
+        ensures ok { IfOk result (λ n. (n ≡ (log self.old).epoch + 1) × ((log self.new).epoch ≡ n)
+            × ((log self.new).docs ≡ (log self.old).docs) × ((log self.new).has_failed ≡ false)) }
+        ensures alone { (log self.new).is_alone ≡ (log self.old).is_alone }
+        ensures refused { (result ≡ Err Fault.Refused) ↔ (((log self.old).has_failed ≡ false)
+            × (last_epoch ≤ (log self.old).epoch)) }
+        ensures never_else { IfErr result (λ e. (e ≡ Fault.Refused) ⊎ (e ≡ Fault.Store)) }
+        ensures unchanged { result ≡ Err Fault.Refused → self.new ≡ self.old }
+        ensures failed { (result ≡ Err Fault.Store) ↔ ((log self.new).has_failed ≡ true) }
+        ensures shut { (log self.old).has_failed ≡ true → (result ≡ Err Fault.Store) × (self.new ≡ self.old) }
+        // A crash leaves all as it was, or the new epoch; and the new one once it was answered.
+        ensures crash { (log self.old).has_failed ≡ false → survives self.new (IsRaisedOrNot (log self.old)) }
+        ensures stays { OnOk result (survives self.new (HasSame (log self.new))) };
+
+    /// The documents with entries, in the order of their names.
+    fn docs(&self) -> Result<&[KeptDoc], Fault>
+        ensures ok { IfOk result (λ docs. docs.now ≡ (log self.now).docs) }
+        ensures in_order { AreInOrder (log self.now).docs }
+        ensures good { AreGood (log self.now).docs }
+        ensures failed { (result ≡ Err Fault.Store) ↔ ((log self.now).has_failed ≡ true) }
+        ensures never_else { IfErr result (λ e. e ≡ Fault.Store) };
+
+    /// How many entries of the document of this name are stored.
+    fn rows(&self, doc: &str) -> Result<usize, Fault>
+        ensures ok { IfOk result (λ rows. rows ≡ length (log_of doc.now (log self.now).docs)) }
+        ensures failed { (result ≡ Err Fault.Store) ↔ ((log self.now).has_failed ≡ true) }
+        ensures never_else { IfErr result (λ e. e ≡ Fault.Store) };
+
+    /// The log of the document, as a clone; empty where no entry of it is stored. No entry is checked
+    /// again.
+    fn load(&self, alloc: Global, doc: &str) -> Result<OpLog, Fault>
+        ensures ok { IfOk result (λ loaded. loaded.operations ≡ log_of doc.now (log self.now).docs) }
+        ensures failed { (result ≡ Err Fault.Store) ↔ ((log self.now).has_failed ≡ true) }
+        ensures never_refused { IfErr result (λ e. (e ≡ Fault.Store) ⊎ (e ≡ Fault.Memory)) };
+
+    /// Adds a batch: the entries behind the `from` entries of the document, all of them or none. It
+    /// is refused where no document has such a name, where there are more than 256 entries, where
+    /// the document has more or fewer entries than `from`, and where an entry doesn't fit those
+    /// before it.
+    fn append(&mut self, doc: &str, from: usize, entries: &[Operation]) -> Result<(), Fault>
+        ensures ok { OnOk result (((log self.new).docs ≡ add_batch doc.now entries.now (log self.old).docs)
+            × ((log self.new).epoch ≡ (log self.old).epoch) × ((log self.new).has_failed ≡ false)) }
+        ensures batch { OnOk result (IsBatch doc.now from entries.now (log self.old).docs) }
+        ensures empty { entries.now ≡ [] → self.new ≡ self.old }
+        ensures alone { (log self.new).is_alone ≡ (log self.old).is_alone }
+        ensures refused { result ≡ Err Fault.Refused → ¬ IsBatch doc.now from entries.now (log self.old).docs }
+        ensures unchanged { (result ≡ Err Fault.Refused) ⊎ (result ≡ Err Fault.Memory) → self.new ≡ self.old }
+        ensures failed { (result ≡ Err Fault.Store) ↔ ((log self.new).has_failed ≡ true) }
+        ensures shut { (log self.old).has_failed ≡ true → (result ≡ Err Fault.Store) × (self.new ≡ self.old) }
+        // A crash leaves all as it was, or the whole batch; and the batch once it was answered.
+        ensures crash { (log self.old).has_failed ≡ false
+            → survives self.new (IsAddedOrNot doc.now entries.now (log self.old)) }
+        ensures stays { OnOk result (survives self.new (HasSame (log self.new))) };
+
+    /// Moves all that is stored to the place where it stays for good, and goes on from there. A fault
+    /// leaves the place.
+    fn fold(self) -> Result<Self, (StoredFault, Self::Left)>
+        ensures same { IfOk result (λ it. log it ≡ log self) }
+        ensures folded { IfOk result (λ it. (log self).has_failed ≡ false → was_alone self it) }
+        // Nothing is lost.
+        ensures left { IfErr result (λ e. (log self).has_failed ≡ false → still_holds self e.1) };
+
+    /// Moves all that is stored to the place where it stays for good, and leaves the place; after a
+    /// fault too.
+    fn close(self) -> Result<Self::Left, (StoredFault, Self::Left)>
+        ensures folded { IfOk result (λ last. (log self).has_failed ≡ false → is_held self last) }
+        ensures copied { IfOk result (has_moved self) }
+        // Nothing is lost.
+        ensures left { IfErr result (λ e. (log self).has_failed ≡ false → still_holds self e.1) };
+
+    // What a crash leaves behind a raised epoch keeps what was kept before it was raised.
+    ghost still_keeps: { (it : Self) (first last : LogState) → KeepsAll first last.epoch last.docs
+        → survives it (IsRaisedOrNot last) → survives it (KeepsAll first) };
+}

@@ -1,0 +1,31 @@
+//! Why a stored log failed.
+use thiserror::Error;
+
+/// Why a stored log failed, as a message for who runs a server.
+#[derive(Clone, Copy, Debug, PartialEq, Eq, Error)]
+pub enum StoredFault {
+    /// There is no room for more.
+    #[error("the disk is full")]
+    DiskFull,
+    /// A device answered an error.
+    #[error("an I/O error")]
+    Io,
+    /// The store ran out of memory.
+    #[error("out of memory")]
+    NoMemory,
+    /// Another program has it locked.
+    #[error("another program uses it")]
+    Busy,
+    /// What is stored can't be read.
+    #[error("the database is damaged")]
+    Damaged,
+    /// It refuses an operation.
+    #[error("the file refuses an operation")]
+    Refused,
+    /// It is closed, since it failed before.
+    #[error("an earlier error has closed the database")]
+    Closed,
+    /// Any other error of the store.
+    #[error("an error of the database")]
+    Other,
+}
