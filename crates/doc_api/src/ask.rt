@@ -25,7 +25,7 @@ pub enum Look {
     Items,
     /// The present values, each with the id of the operation that put it.
     Conflicts,
-    /// All that stands there and below, as JSON text.
+    /// All that is there and below, as JSON text.
     Show,
     /// The sum of the counter.
     Sum,
@@ -36,7 +36,7 @@ pub enum Look {
 pub enum Query {
     /// Where the steps lead.
     Resolve(Place),
-    /// What stands at the place.
+    /// What is at the place.
     Look(Look, Place),
     /// The first so many of the logged operations that the front does not cover.
     Operations(Front, u64),

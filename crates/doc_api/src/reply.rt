@@ -69,7 +69,7 @@ pub enum Reply {
     Items(CompactText),
     /// The present values, each with the id of the operation that put it.
     Conflicts(Conflicts),
-    /// All that stands at the place and below, as JSON text.
+    /// All that is at the place and below, as JSON text.
     Show(CompactText),
     /// The sum of the counter.
     Sum(i128),

@@ -40,7 +40,7 @@ abbrev pub without_list_presence : Node → Node
 without_list_presence node =
     record node { order = (all_absent node.order.0, node.order.1); children = (node.children.0, []) }
 
--- the nodes, with lists that show no element as present, and nothing told of which children are
+-- the nodes, with lists that show no element as present, and nothing said of which children are
 abbrev pub plain : List Node → List Node
 plain nodes = map without_list_presence nodes
 

@@ -19,7 +19,7 @@ pub record Document : Type 0 where
   pub seats_of : List ℕ
   pub seats : ℕ
   pub opened : ℕ
-  -- how many logged operations the copy has
+  -- how many logged operations the stored log has
   pub copied : ℕ
 
 -- ---- shares

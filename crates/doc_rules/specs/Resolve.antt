@@ -21,12 +21,12 @@ abbrev pub is_short : Key → Bool
 is_short (Text text) = nat_le (length text) longest_key
 is_short _ = true
 
--- an element, as the key after the path p, stands in the list there
+-- an element, as the key after the path p, is in the list there
 abbrev pub exists_in : Facts → List Tagged → Key → Bool
 exists_in f p (Element i) = list_any (id_eq i) (f.order p)
 exists_in f p _ = true
 
--- each key is within its limit and stands where it is named; p is the way so far
+-- each key is within its limit and is where it is named; p is the way so far
 abbrev pub path_exists : Facts → List Tagged → List Tagged → Key → Bool
 path_exists f p [] k = is_short k && exists_in f p k
 path_exists f p (t ∷ path) k = is_short (key_of t) && exists_in f p (key_of t) && path_exists f (p ++ t ∷ []) path k

@@ -1,4 +1,4 @@
--- All that stands at a place, as it is shown.
+-- All that is at a place, as it is shown.
 use Rattle.std.specs.Prelude.{◌≡◌, ◌⊎◌, ℕ, ℤ, List, [], ◌∷◌, ◌++◌, map, codes, true, Option, Some, None}
 use Rattle.std.specs.Fmt.{signed_decimal}
 use Rattle.serde_json.specs.Data.{Data, string, array, Items, no_items, item}
@@ -42,11 +42,11 @@ names (field name e fields) = name ∷ names fields
 abbrev pub IsPut : Facts → Values → List Tagged → Key → Val → Type 0
 IsPut f values p k v = (i : Id) × (f.present p k i ≡ true) × (values p k i ≡ Some v)
 
--- a map stands at the place: it has a present key, or is put there
+-- a map is at the place: it has a present key, or is put there
 abbrev pub HasMap : Facts → Values → List Tagged → Key → Type 0
 HasMap f values p k = ((text : List ℕ) × IsPresent f (into_map p k) (Text text)) ⊎ IsPut f values p k EmptyMap
 
--- a list stands at the place: it has a present element, or is put there
+-- a list is at the place: it has a present element, or is put there
 abbrev pub HasList : Facts → Values → List Tagged → Key → List Id → Type 0
 HasList f values p k ids = ¬ (ids ≡ []) ⊎ IsPut f values p k EmptyList
 

@@ -47,7 +47,7 @@ pub fn one_outcome()
         → (x ≡ y) × (s ≡ t) }
 {}
 
-/// An operation of right shape fits a log just where no cause stands against it; and where a change of
+/// An operation of right shape fits a log just where no cause speaks against it; and where a change of
 /// one's own is to be logged, its operation fits.
 pub fn causes_decide()
     ensures fits { (op : Op) (log : List Op) → is_shaped op ≡ true → cause_of op log ≡ Ok tt → Fits op log }
@@ -95,7 +95,7 @@ pub fn first_misfit()
 {}
 
 /// An event of a replica keeps its log good and its held operations waiting for something, and the log goes
-/// on by what the answer tells.
+/// on by what the answer says.
 pub fn events_keep()
     ensures kept { (r s : Replica) (command : Command) (reply : Reply) → is_name r.name ≡ true → IsWellMade command
         → IsKept r
@@ -106,8 +106,8 @@ pub fn events_keep()
 {}
 
 /// A command that is refused, for whatever cause, leaves the replica as it was, and the document that it
-/// stands in: its log, what it holds, its seats and how much of it is copied. The seat has then made one more
-/// call and was told of nothing; so has a seat that reads, whatever it is answered. A document that refuses a
+/// is in: its log, what it holds, its seats and how much of it is copied. The seat has then made one more
+/// call and was notified of nothing; so has a seat that reads, whatever it is answered. A document that refuses a
 /// new seat is as it was.
 pub fn refusals_change_nothing()
     ensures replica { (r : Replica) (command : Command) → RefusalsKeep r (Event r command) }
@@ -133,7 +133,7 @@ pub fn same_operations_same_answers()
 {}
 
 /// A new document is sound over a good log, each event keeps it sound, and a command gives its seat just what
-/// the answer tells, and the others nothing.
+/// the answer says, and the others nothing.
 pub fn documents_stay_sound()
     ensures begins { (name : List ℕ) (log : List Op) (seats : ℕ) → IsGood log → IsSound (new_document name log seats) }
     ensures acts { (d e : Document) (seat : ℕ) (command : Command) (reply : Reply) → is_name d.replica.name ≡ true

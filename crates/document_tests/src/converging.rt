@@ -118,7 +118,7 @@ struct Presence {
     due: bool,
 }
 
-// An element that one deletes while another edits it is made present by the edit alone. What stands
+// An element that one deletes while another edits it is made present by the edit alone. What is
 // below a deleted place is deleted too.
 const PRESENCES: [Presence; 12] = [
     Presence {

@@ -93,7 +93,7 @@ const COUNTED: [(&str, &[&str], &str, (usize, usize, usize)); 6] = [
     ("deepest_place: above it", &[DEEPEST], FIRST, (1, 0, 0)),
 ];
 
-// The name of the first row of which other counts are told, or nothing.
+// The name of the first row of which other counts are given, or nothing.
 fn fault_of_counts(alloc: Global) -> Result<&'static str, Refusal> {
     for (name, texts, at, due) in &COUNTED {
         if counts(alloc, texts, at)? != *due {

@@ -1,4 +1,4 @@
--- Lists that rise: each key is less than those behind it. Where a key stands in one, and what stands at the
+-- Lists that rise: each key is less than those behind it. Where a key is in one, and what is at the
 -- keys of pairs.
 use Rattle.std.specs.Prelude.{◌≡◌, ◌<◌, ◌≤◌, ℕ, List, [], ◌∷◌, length, take, drop, Contains, slice_index_or, Bool}
 use Rattle.std.specs.Prelude.{Option, Some, None, if◌then◌else◌}
@@ -33,7 +33,7 @@ module _ {K X : Type 0} where
   abbrev pub rank_by : (K → K → Ordering) → List (K × X) → K → ℕ
   rank_by cmp entries key = prefix_len (λ e. is_lt (cmp e.0 key)) entries
 
-  -- what stands at a key
+  -- what is at a key
   abbrev pub get_by : (K → K → Bool) → List (K × X) → K → Option X
   get_by eq [] key = None
   get_by eq (e ∷ entries) key = if eq e.0 key then Some e.1 else get_by eq entries key

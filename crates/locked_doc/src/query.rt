@@ -12,7 +12,7 @@ impl<M: Marker> LockedDoc<M> {
     ghost use Rattle.doc_rules.specs.Seats.{IsSeatOf, AnswersFor, TurnsAway, operation_ids};
     ghost use Rattle.locked_doc.specs.Places.{IsReadInEachOrder, IsReadOfSet};
 
-    /// Answers a seat's query, with the document unchanged. It raises the seat's calls by one. Its
+    /// Answers a seat's query, with the document unchanged. It adds one to the seat's calls. Its
     /// answer about a place follows from the facts that the logged operations make, in every causal
     /// order of them, and from those of their set alone. An account takes no memory. A seat of
     /// another document is turned away by `NotOpen`, its calls as they were, and the answer has

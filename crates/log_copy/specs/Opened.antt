@@ -34,11 +34,11 @@ module _ {S : Type 0} (g : Ghosts S) where
     pub shown : ShowsFor g select_meta old between rows
     pub none : IsNoMeta rows ⊎ ((format epoch : ℕ) × IsMeta format epoch rows × ShowsNoLogs g format between)
 
-  -- an older format is raised, and else nothing was run
+  -- an older format is migrated, and else nothing was run
   abbrev pub RaisesFrom : ℕ → Held S → Held S → Type 0
   RaisesFrom format old new = ((format ≡ 2) × (new ≡ old)) ⊎ ((format ≢ 2) × Ran g (update_format 2) old new)
 
-  -- They were read, and the format raised.
+  -- They were read, and the format migrated.
   pub record AreReadAndRaised (old new : Held S) (epoch : ℕ) (docs : List Doc) : Type 0 where
     pub format : ℕ
     pub between : Held S
@@ -58,7 +58,7 @@ module _ {S : Type 0} (g : Ghosts S) where
       ⊎ (HasBoth (state g old).now.schema × AreReadAndRaised old new epoch docs)
 
   -- A crash meanwhile may leave what one of these commits: where there were none, the statements that make the
-  -- tables, and where there were both, the one that raises the format once they were read.
+  -- tables, and where there were both, the one that migrates the format once they were read.
   abbrev pub MayLeave : Held S → Trees → Type 0
   MayLeave old db =
       (HasNeither (state g old).now.schema × CommitsOneOf g making_of_tables old db)

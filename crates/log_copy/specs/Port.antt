@@ -20,7 +20,7 @@ pub record HoldsSuch (such : ℕ → List Doc → Type 0) (db : Trees) : Type 0 
   pub is_such : such epoch docs
   pub holds : Holds (content epoch docs) db
 
--- a log under a raised epoch, or the one before, keeps what that one kept
+-- a log under a new epoch, or the one before, keeps what that one kept
 pub keeps_such : (first last : LogState) → KeepsAll first last.epoch last.docs → (db : Trees)
     → HoldsSuch (IsRaisedOrNot last) db → HoldsSuch (KeepsAll first) db
 keeps_such first last kept db h = record {

@@ -68,7 +68,7 @@ abbrev pub made : Context → Context
 made empty = blank_context
 made (node c r n p o) = node c r n p o
 
--- where the first child at a key stands, or the length
+-- where the first child at a key is, or the length
 abbrev pub place_of_child : List (Tagged × PlainContext) → Tagged → ℕ
 place_of_child children t = prefix_len (λ c. not (tagged_eq c.0 t)) children
 

@@ -184,7 +184,7 @@ fn add(context: &mut PlainContext, key: &Key, id: &Id, number: &i64) -> Result<(
     count(context, key, id, number)
 }
 
-/// Where the first child at a key stands, or the length.
+/// Where the first child at a key is, or the length.
 pub fn child_place(children: &[(Tagged, PlainContext)], key: &Tagged) -> usize
     ensures value { result ≡ place_of_child children.now key.now }
     ensures within { result ≤ length children.now }

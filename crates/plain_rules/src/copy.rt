@@ -1,4 +1,4 @@
-//! Copies of parts of operations, told by what they are, or that memory ran out.
+//! Copies of parts of operations, named by what they are, or that memory ran out.
 ghost use Rattle.std.specs.Prelude.{◌≡◌, IfOk, IfErr};
 ghost use Rattle.json_scalar.specs.declared.refusal.Refusal.TheVariants.{NoMemory};
 

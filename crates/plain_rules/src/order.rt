@@ -42,7 +42,7 @@ fn insert_behind(order: &mut Vec<Id>, previous: &Id, id: &Id) -> Result<(), Refu
     Ok(())
 }
 
-// Where an id stands, or the length.
+// Where an id is, or the length.
 fn place_in(ids: &[Id], id: &Id) -> usize
     ensures value { result ≡ place_of ids.now id.now }
     ensures within { result ≤ length ids.now }

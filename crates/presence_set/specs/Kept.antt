@@ -15,12 +15,12 @@ module _ {X : Type 0} where
   kept_room (One entry) = 1
   kept_room (Listed entries) = max 1 (vec_capacity entries)
 
-  -- one entry stands in place
+  -- one entry is in place
   abbrev pub is_in_place : Kept X → Bool
   is_in_place (One entry) = true
   is_in_place (Listed entries) = false
 
-  -- what stands in place is one entry
+  -- what is in place is one entry
   abbrev pub IsAloneInPlace : Kept X → Type 0
   IsAloneInPlace (One entry) = length entry ≡ 1
   IsAloneInPlace (Listed entries) = Unit {0}

@@ -31,7 +31,7 @@ use std::mem;
 enum Kept<X> {
     /// One entry, in place.
     One([(Id, X); 1]),
-    /// Any entries, in memory of their own. With no memory yet, the next one stands in place.
+    /// Any entries, in memory of their own. With no memory yet, the next one is in place.
     Listed(Vec<(Id, X)>),
 }
 

@@ -7,7 +7,7 @@ use Rattle.replica_c.specs.Serving.{TellsLine}
 abbrev pub put_into : List ℕ → List ℕ → List ℕ
 put_into bytes room = take (length room) bytes ++ drop (length bytes) room
 
--- the length of what was told, or 0
+-- the length of what was reported, or 0
 abbrev pub told_length : Bool → List ℕ → ℕ
 told_length true text = length text
 told_length false text = 0
@@ -32,7 +32,7 @@ abbrev pub CallsAsk : Option OpenReplica → List ℕ → List ℕ → ℕ → O
 CallsAsk None line room n after filled = (n ≡ 0) × (after ≡ None) × (filled ≡ room)
 CallsAsk (Some o) line room n after filled = IsCalledOn o line room n after filled
 
--- the text that was told last is given again
+-- the text that was reported last is given again
 abbrev pub GivesAgain : Option OpenReplica → List ℕ → ℕ → List ℕ → Type 0
 GivesAgain None room n filled = (n ≡ 0) × (filled ≡ room)
 GivesAgain (Some o) room n filled = (n ≡ length o.text.items) × (filled ≡ put_into o.text.items room)

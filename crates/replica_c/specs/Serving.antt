@@ -1,4 +1,4 @@
--- What an open replica does at a line, and what it tells then.
+-- What an open replica does at a line, and what it reports then.
 use Rattle.std.specs.Prelude.{◌≡◌, ◌⊎◌, ℕ, Bool, true, false, List, [], ◌∷◌, ◌++◌, Option, Some, None, Result, Ok, Err}
 use Rattle.serde_json.specs.Written.{compact_text}
 use Rattle.op_core.specs.Op.{Op}
@@ -29,7 +29,7 @@ DoesAsk r (Err cause) reply s = (reply ≡ Refused cause) × (s ≡ r)
 abbrev pub AnswersAsk : Replica → List ℕ → Reply → Replica → Type 0
 AnswersAsk r line reply s = DoesAsk r (ask_of line) reply s ⊎ IsOutOfMemory r reply s
 
--- ---- what is told of it
+-- ---- what is reported of it
 
 -- an operation's line
 abbrev pub op_line : Option Op → List ℕ
@@ -60,7 +60,7 @@ own_line (Err cause) reply log = []
 abbrev pub told_text : Result Ask Refusal → Reply → List Op → List ℕ
 told_text asked reply log = reply_line (Answered reply) ++ own_line asked reply log
 
--- the text, where it was told
+-- the text, where it was reported
 abbrev pub IsTold : Bool → List ℕ → List ℕ → Type 0
 IsTold true due text = text ≡ due
 IsTold false due text = Unit {0}

@@ -13,7 +13,7 @@ pub record Wanted : Type 0 where
 abbrev pub wanted_by : List ℕ → List (List ℕ) → Wanted
 wanted_by name documents = record { name = name; documents = documents }
 
--- no text stands twice
+-- no text is there twice
 abbrev pub all_differ : List (List ℕ) → Bool
 all_differ [] = true
 all_differ (t ∷ ts) = not (list_any (bytes_eq t) ts) && all_differ ts

@@ -23,7 +23,7 @@ abbrev pub ServesAll : Wanted → Option (List ℕ) → Option (List ℕ) → Op
 ServesAll wanted had has held holds =
     (why : Ending) × (why ≢ ReadFault) × (why ≢ WriteFault) × ServesWanted wanted why had has held holds
 
--- a session up to the fault of the source or of the sink, of which it is told whether they have
+-- a session up to the fault of the source or of the sink, of which it is said whether they have
 -- failed
 abbrev pub ServesUntilFault : Wanted → Bool → Bool → Option (List ℕ) → Option (List ℕ) → Option (List ℕ)
     → Option (List ℕ) → Type 0

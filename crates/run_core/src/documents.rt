@@ -73,8 +73,8 @@ impl<M: Marker> Seated<M> {
     ghost use Rattle.run_core.specs.HasTold.{HasTold};
 
     /// Adds up what was done at the document, given the end of its seat, if that was opened. The end that a
-    /// session gave back was told just what is logged for it, so the only refusal is out of memory, and so is
-    /// no end where no seat was opened. Each refusal hands everything back.
+    /// session gave back lists just the ids that are logged for it, so the only refusal is out of memory, and so is
+    /// no end where no seat was opened. Each refusal hands everything back. Only tests call it.
     pub fn gather(self, alloc: Global, ends: Vec<SeatEnd<M>>) -> Result<Totals, Gathering<M>>
         ensures ok { IfOk result (λ t. AreEndsOf self.locked.number self.locked.document ends.items
             × (totals_view t ≡ totals_of self.locked.document ends.items)) }

@@ -30,7 +30,7 @@ pub fn is_among(text: &[u8], texts: &[&str]) -> bool
     texts.iter().any(|other| text == other.as_bytes())
 }
 
-// Whether no text stands twice.
+// Whether no text is there twice.
 fn all_differ(texts: &[&str]) -> bool
     ensures { result ≡ all_differ (map (λ s. s.now) texts.now) }
 {

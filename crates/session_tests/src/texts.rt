@@ -3,7 +3,7 @@ use json_scalar::Refusal;
 use std::alloc::Global;
 use std::fmt::Write;
 
-/// A text that stands once for each number from the first to the last. In it `#` is that number,
+/// A text that is there once for each number from the first to the last. In it `#` is that number,
 /// and `^` the one before it.
 pub struct Part(pub u32, pub u32, pub &'static str);
 

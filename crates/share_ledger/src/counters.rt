@@ -174,7 +174,7 @@ impl<M: Marker> Book<M> {
         self.count
     }
 
-    /// Raises both halves of one counter by the amount; their sum stays below 2^64. It tells that
+    /// Adds the amount to both halves of one counter; their sum stays below 2^64. It ensures that
     /// they had one count before. Their ids stay.
     pub fn credit(&mut self, share: &mut Share<M>, amount: u64)
         requires place { IsSamePlace self.old share.old }
@@ -190,7 +190,7 @@ impl<M: Marker> Book<M> {
         share.count += amount;
     }
 
-    /// Adds ids to both halves of one counter: those acknowledged to its seat. It tells that the
+    /// Adds ids to both halves of one counter: those acknowledged to its seat. It ensures that the
     /// halves were equal before. At run time it does nothing.
     pub fn acknowledge(&mut self, share: &mut Share<M>, ids: &[Id])
         requires { IsSamePlace self.old share.old }

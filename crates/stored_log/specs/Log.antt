@@ -34,7 +34,7 @@ pub record KeepsAll (it : LogState) (epoch : ℕ) (docs : List Doc) : Type 0 whe
   pub no_less : it.epoch ≤ epoch
   pub same_docs : docs ≡ it.docs
 
--- what keeps all behind a raised epoch keeps what was kept before it was raised
+-- what keeps all behind a new epoch keeps what was kept before it
 pub raised_keeps : (first last : LogState) → KeepsAll first last.epoch last.docs → (epoch : ℕ) (docs : List Doc) → IsRaisedOrNot last epoch docs → KeepsAll first epoch docs
 raised_keeps first last kept epoch docs raised = record { no_less = grows raised.raised_or_not; same_docs = raised.same_docs ∙ kept.same_docs }
   where

@@ -113,7 +113,7 @@ pub trait StoredLog: Drop {
         // Nothing is lost.
         ensures left { IfErr result (λ e. (log self).has_failed ≡ false → still_holds self e.1) };
 
-    // What a crash leaves behind a raised epoch keeps what was kept before it was raised.
+    // What a crash leaves behind a new epoch keeps what was kept before it.
     ghost still_keeps: { (it : Self) (first last : LogState) → KeepsAll first last.epoch last.docs
         → survives it (IsRaisedOrNot last) → survives it (KeepsAll first) };
 }

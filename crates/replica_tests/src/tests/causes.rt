@@ -177,7 +177,7 @@ const CAUSES: [Case; 13] = [
         ],
         logged: 256,
     },
-    // It takes half a second, and two minutes under `rt try`, whose limit is then to be raised
+    // It takes half a second, and two minutes under `rt try`, whose limit then has to be higher
     // (`--seconds 600`).
     Case {
         name: "log_full_before_too_many_replicas",

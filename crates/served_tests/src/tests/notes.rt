@@ -114,7 +114,7 @@ fn nearly_full_from_nine_tenths_on(rt: HostRuntime) {
     }
 }
 
-// A clock that tells no time.
+// A clock that gives no time.
 #[derive(Drop)]
 struct Broken;
 

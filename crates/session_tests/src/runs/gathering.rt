@@ -47,7 +47,7 @@ fn session<M: Marker>(
     run_alone(alloc, &mut Reader::new(input), &mut sink, documents).ok()
 }
 
-// What was done at the document that stands last, gathered with its end.
+// What was done at the document that is last, gathered with its end.
 fn last_totals<M: Marker>(
     alloc: Global,
     documents: &mut Vec<Seated<M>>,

@@ -63,7 +63,7 @@ impl Read for Client<'_> {
     }
 }
 
-// The status of a run over the client's lines, which tells whether it waited in vain, and the
+// The status of a run over the client's lines, which says whether it waited in vain, and the
 // replies and writes.
 fn waits<M: Marker>(
     alloc: Global,

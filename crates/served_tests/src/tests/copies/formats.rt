@@ -1,4 +1,4 @@
-//! The format from before there were additions: raised where it is opened, and refused with an
+//! The format from before there were additions: migrated where it is opened, and refused with an
 //! addition in it.
 use super::steps::{Case, Log, REFUSED, Step, StepAnswer, all_answer};
 

@@ -18,7 +18,7 @@ use stored_log::check_over;
 pub enum Step<'a> {
     /// The stored log takes the tables over, once more if it has them.
     Open,
-    /// The epoch is raised.
+    /// A new epoch is started.
     Up,
     Epoch,
     /// The entries of the log between two places are added to the document, behind so many rows.
@@ -32,7 +32,7 @@ pub enum Step<'a> {
     /// The document has as many entries as one of these numbers says, the first ones of the log,
     /// and a replica is restored from them.
     Restore(&'a str, usize, usize),
-    /// The epoch is raised to one that is greater than this.
+    /// A new epoch is started, greater than this.
     UpFrom(u64),
     /// The log of the commits is copied into the database file, and the stored log goes on.
     Fold,
