@@ -26,7 +26,7 @@ pub fn find(nodes: &[Node], path: &[Tagged], key: &Key) -> Option<NodeNumber>
 }
 
 /// The node of a place below a tagged key.
-pub fn find_below(
+fn find_below(
     nodes: &[Node],
     at: NodeNumber,
     tag: &Tagged,

@@ -126,7 +126,7 @@ pub fn reserve_order(nodes: &mut Vec<Node>, at: NodeNumber) -> Result<(), Refusa
 }
 
 /// Makes room for one more id in the presence of a node.
-pub fn reserve_presence(nodes: &mut Vec<Node>, at: NodeNumber) -> Result<(), Refusal>
+fn reserve_presence(nodes: &mut Vec<Node>, at: NodeNumber) -> Result<(), Refusal>
     requires tree { AreTree nodes.old.items }
     requires known { at.0 < length nodes.old.items }
     ensures tree { AreTree nodes.new.items }
@@ -141,7 +141,7 @@ pub fn reserve_presence(nodes: &mut Vec<Node>, at: NodeNumber) -> Result<(), Ref
 }
 
 /// The child of a node at a key, made if there is none.
-pub fn grown_child(nodes: &mut Vec<Node>, at: NodeNumber, key: &Key) -> Result<NodeNumber, Refusal>
+fn grown_child(nodes: &mut Vec<Node>, at: NodeNumber, key: &Key) -> Result<NodeNumber, Refusal>
     requires tree { AreTree nodes.old.items }
     requires known { at.0 < length nodes.old.items }
     ensures tree { AreTree nodes.new.items }

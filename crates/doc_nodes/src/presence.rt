@@ -31,7 +31,7 @@ pub fn add_presence_along(nodes: &mut [Node], path: &[Tagged], key: &Key, id: &I
 }
 
 /// Makes the nodes on the way from a node down to a place present.
-pub fn add_presence_below(
+fn add_presence_below(
     nodes: &mut [Node],
     at: NodeNumber,
     way: &[Tagged],
@@ -66,7 +66,7 @@ pub fn add_presence_below(
 }
 
 /// Makes one node present.
-pub fn add_presence(nodes: &mut [Node], at: NodeNumber, id: &Id, role: Role)
+fn add_presence(nodes: &mut [Node], at: NodeNumber, id: &Id, role: Role)
     requires known { at.0 < length nodes.old }
     requires room { (node_of nodes.old at).presence.1 ≡ true }
     ensures { nodes.new ≡ slice_set nodes.old at.0 (made_present id.now role (node_of nodes.old at)) }
