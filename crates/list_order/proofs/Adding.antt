@@ -17,6 +17,7 @@ use Rattle.list_order.specs.Slots.{slot_at, slots_from, ids_along, number_along,
 use Rattle.list_order.specs.Marks.{mark_at, count_where, is_marked, is_marked_in, from_block, start_of, block_at, block_behind, lowered_in, unmarked, new_mark, entries_along, IsAbove, IsInBlockOrder, IsCounted, IsMarkedOrder}
 use Rattle.list_order.proofs.Paths.{walk-None}
 use Rattle.list_order.proofs.Placing.{last_of}
+use Rattle.list_order.proofs.Linking.{IsLinked}
 use Rattle.list_order.proofs.Inserting.{first_walk, cut, made, new_path, marks_stay, mark_is, entries_inserted, order_inserted, none_ordered}
 use Rattle.std.proofs.Math.ListN.{get_or-append}
 use Rattle.list_order.proofs.Lowering.{counted_lowered, lowered_least, lowered_there}
@@ -74,82 +75,90 @@ module _ {slots : List Slot} {first : Option SlotNumber} {index : List (Id × Sl
     abbrev pub later : List Mark
     later = marks ++ new_mark marks previous ∷ []
 
-    other : (x y : Id) (n : SlotNumber) → get index y ≡ Some n → x ≡ id → (if id_eq x y then Some (fresh_in slots) else get index y) ≡ Some n
+    abbrev fresh : SlotNumber
+    fresh = fresh_in slots
+
+    abbrev grown : List Slot
+    grown = linked slots first previous id
+
+    links : IsLinked slots grown fresh id
+    links = (made k.order marks k.fits.marked after known id new).slots_are
+
+    other : (x y : Id) (n : SlotNumber) → get index y ≡ Some n → x ≡ id → (if id_eq x y then Some fresh else get index y) ≡ Some n
     other x y n mine is = go (id_eq x y) refl
       where
-        go : (b : Bool) → id_eq x y ≡ b → (if b then Some (fresh_in slots) else get index y) ≡ Some n
+        go : (b : Bool) → id_eq x y ≡ b → (if b then Some fresh else get index y) ≡ Some n
         go true e =
             let none : get index id ≡ None = k.order.exact id ∙ new in
             let clash : ◌≡◌ {A = Option SlotNumber} None (Some n) = sym none ∙ ap (get index) (sym is ∙ id_decides.same x y e) ∙ mine in
             absurd (cc)
         go false e = mine
 
-    own_added : (n : SlotNumber) → n.0 < length (linked slots first previous id) → get (put_at_id index id (fresh_in slots)) (slot_at (linked slots first previous id) n).id ≡ Some n
-    own_added n within = get-put index id (fresh_in slots) (slot_at (linked slots first previous id) n).id ∙ go (eqb n.0 (length slots)) refl
+    own_added : (n : SlotNumber) → n.0 < length grown → get (put_at_id index id fresh) (slot_at grown n).id ≡ Some n
+    own_added n within = get-put index id fresh (slot_at grown n).id ∙ go (eqb n.0 (length slots)) refl
       where
         go : (b : Bool) → eqb n.0 (length slots) ≡ b
-            → (if id_eq id (slot_at (linked slots first previous id) n).id then Some (fresh_in slots) else get index (slot_at (linked slots first previous id) n).id) ≡ Some n
+            → (if id_eq id (slot_at grown n).id then Some fresh else get index (slot_at grown n).id) ≡ Some n
         go true e =
-            let here : fresh_in slots ≡ n = λ i. record { 0 = sym (eqb-true n.0 (length slots) e) i } in
-            let is : (slot_at (linked slots first previous id) n).id ≡ id = ap (λ p. (slot_at (linked slots first previous id) p).id) (sym here) ∙ (made k.order marks k.fits.marked after known id new).slots_are.new_id in
-            rw (eq_from id_decides id (slot_at (linked slots first previous id) n).id (sym is)) (ap Some here)
+            let here : fresh ≡ n = λ i. record { 0 = sym (eqb-true n.0 (length slots) e) i } in
+            let is : (slot_at grown n).id ≡ id = ap (λ p. (slot_at grown p).id) (sym here) ∙ links.new_id in
+            rw (eq_from id_decides id (slot_at grown n).id (sym is)) (ap Some here)
         go false e =
-            let less : n.0 < length slots = less_of n.0 (length slots) e (omega (arith, within, (made k.order marks k.fits.marked after known id new).slots_are.longer)) in
-            let is : (slot_at (linked slots first previous id) n).id ≡ (slot_at slots n).id = (made k.order marks k.fits.marked after known id new).slots_are.ids n less in
-            let mine : get index (slot_at (linked slots first previous id) n).id ≡ Some n = ap (get index) is ∙ k.own n less in
-            other id (slot_at (linked slots first previous id) n).id n mine refl
+            let less : n.0 < length slots = less_of n.0 (length slots) e (omega (arith, within, links.longer)) in
+            let is : (slot_at grown n).id ≡ (slot_at slots n).id = links.ids n less in
+            let mine : get index (slot_at grown n).id ≡ Some n = ap (get index) is ∙ k.own n less in
+            other id (slot_at grown n).id n mine refl
 
     abbrev lower : List MarkBlock
     lower = lowered_in blocks (block_behind marks previous) id.counter
 
-    above_fresh : IsAbove (linked slots first previous id) later lower (fresh_in slots)
+    above_fresh : IsAbove grown later lower fresh
     above_fresh =
-        let counter : (slot_at (linked slots first previous id) (fresh_in slots)).id.counter ≡ id.counter = ap (λ i. i.counter) (made k.order marks k.fits.marked after known id new).slots_are.new_id in
-        let least : (block_at lower (mark_at later (fresh_in slots)).block).least_counter ≡ (block_at lower (block_behind marks previous)).least_counter =
+        let counter : (slot_at grown fresh).id.counter ≡ id.counter = ap (λ i. i.counter) links.new_id in
+        let least : (block_at lower (mark_at later fresh).block).least_counter ≡ (block_at lower (block_behind marks previous)).least_counter =
         ap (λ x. (block_at lower x.block).least_counter) (mark_is k.order marks k.fits.marked after known id new) in
         omega (arith, counter, least, lowered_there blocks (block_behind marks previous) id.counter)
 
     above_stays : (at : Option SlotNumber) (path : List SlotNumber) → IsPath slots at path → Along (IsAbove slots marks blocks) path
-        → Along (IsAbove (linked slots first previous id) later lower) path
+        → Along (IsAbove grown later lower) path
     above_stays at [] p a = tt
     above_stays at (n ∷ path) p a =
-        let counter : (slot_at (linked slots first previous id) n).id.counter ≡ (slot_at slots n).id.counter =
-        ap (λ i. i.counter) ((made k.order marks k.fits.marked after known id new).slots_are.ids n p.1) in
+        let counter : (slot_at grown n).id.counter ≡ (slot_at slots n).id.counter =
+        ap (λ i. i.counter) (links.ids n p.1) in
         let mark : mark_at later n ≡ mark_at marks n = get_or-append marks (new_mark marks previous ∷ []) unmarked n.0 (omega (arith, p.1, k.fits.marked)) in
         let least : (block_at lower (mark_at later n).block).least_counter ≡ (block_at lower (mark_at marks n).block).least_counter = ap (λ x. (block_at lower x.block).least_counter) mark in (
           omega (arith, counter, least, lowered_least blocks (block_behind marks previous) id.counter (mark_at marks n).block, a.0),
           above_stays (slot_at slots n).next path p.2 a.1,
         )
 
-    kept_added : (entries : List (Id × SlotNumber)) → entries ≡ put_at_id index id (fresh_in slots) → length entries ≡ length index + 1
-        → IsMarkedOrder (linked slots first previous id) (linked_first slots first previous) entries later lower present
+    kept_added : (entries : List (Id × SlotNumber)) → entries ≡ put_at_id index id fresh → length entries ≡ length index + 1
+        → IsMarkedOrder grown (linked_first slots first previous) entries later lower present
     kept_added entries are longer =
         let c = cut k.order marks k.fits.marked after known id new in
-        let m = made k.order marks k.fits.marked after known id new in
         let path = new_path k.order marks k.fits.marked after known id new in
         let stay = marks_stay k.order marks k.fits.marked after known id new in
         let mark = mark_is k.order marks k.fits.marked after known id new in
         let old : IsCounted marks lower (c.front ++ c.rest) None = counted_lowered (block_behind marks previous) id.counter (subst (λ l. IsCounted marks blocks l None) c.parts k.fits.counted) in
-        let block : (mark_at later (fresh_in slots)).block ≡ last_block 0 marks c.front = ap (λ x. x.block) mark ∙ ap (block_behind marks) (sym c.ends) ∙ behind-last marks None c.front in
-        let absent : (mark_at later (fresh_in slots)).is_present ≡ false = ap (λ x. x.is_present) mark in
+        let block : (mark_at later fresh).block ≡ last_block 0 marks c.front = ap (λ x. x.block) mark ∙ ap (block_behind marks) (sym c.ends) ∙ behind-last marks None c.front in
+        let absent : (mark_at later fresh).is_present ≡ false = ap (λ x. x.is_present) mark in
         let ordered = order_inserted k.order marks k.fits.marked after known id new entries are longer in
         record {
           order = ordered;
-          own = λ n within. ap (λ l. get l (slot_at (linked slots first previous id) n).id) are ∙ own_added n within;
+          own = λ n within. ap (λ l. get l (slot_at grown n).id) are ∙ own_added n within;
           fits = record {
             walk = first_walk ordered;
-            marked = omega (arith, length-append marks (new_mark marks previous ∷ []), k.fits.marked, m.slots_are.longer);
+            marked = omega (arith, length-append marks (new_mark marks previous ∷ []), k.fits.marked, links.longer);
             counted = subst (λ l. IsCounted later lower l None) (sym path) (record {
-              rising = rising_added marks later (fresh_in slots) 0 c.front c.rest block stay old.rising;
-              counted = λ j h. old.counted j h ∙ sym (count_added marks later (fresh_in slots) (is_marked_in j) (ap (λ p. p && nat_eq (mark_at later (fresh_in slots)).block j) absent) c.front c.rest stay);
-              ends = λ j h. old.ends j h ∙ sym (start_added marks later (fresh_in slots) j 0 None c.front c.rest (omega arith) block stay);
+              rising = rising_added marks later fresh 0 c.front c.rest block stay old.rising;
+              counted = λ j h. old.counted j h ∙ sym (count_added marks later fresh (is_marked_in j) (ap (λ p. p && nat_eq (mark_at later fresh).block j) absent) c.front c.rest stay);
+              ends = λ j h. old.ends j h ∙ sym (start_added marks later fresh j 0 None c.front c.rest (omega arith) block stay);
             });
             all =
-                k.fits.all ∙ ap (count_where is_marked marks) c.parts ∙ sym (count_added marks later (fresh_in slots) is_marked absent c.front c.rest stay)
+                k.fits.all ∙ ap (count_where is_marked marks) c.parts ∙ sym (count_added marks later fresh is_marked absent c.front c.rest stay)
                 ∙ ap (count_where is_marked later) (sym path);
             above =
-                subst (Along (IsAbove (linked slots first previous id) later lower)) (sym path)
-                (along-insert (IsAbove (linked slots first previous id) later lower) c.front c.rest (fresh_in slots) above_fresh
+                subst (Along (IsAbove grown later lower)) (sym path)
+                (along-insert (IsAbove grown later lower) c.front c.rest fresh above_fresh
                 (above_stays first (c.front ++ c.rest) (subst (IsPath slots first) c.parts k.order.path) (subst (Along (IsAbove slots marks blocks)) c.parts k.fits.above)));
           };
         }
@@ -164,11 +173,11 @@ module _ {slots : List Slot} {first : Option SlotNumber} {index : List (Id × Sl
         → IsMarkedOrder new_slots new_first entries new_marks new_blocks new_present
         × (entries_along new_slots new_marks (slots_from new_slots new_first) ≡ insert_after entry_cmp (entries_along slots marks (slots_from slots first)) (entry_of_reference after) (absent id))
     kept_made last l new_slots slots_are new_first first_is entries entries_are longer new_marks marks_are new_blocks blocks_are new_present present_is =
-        let a : linked slots first previous id ≡ new_slots = ap (λ p. linked slots first p id) (sym l) ∙ sym slots_are in
+        let a : grown ≡ new_slots = ap (λ p. linked slots first p id) (sym l) ∙ sym slots_are in
         let b : linked_first slots first previous ≡ new_first = ap (linked_first slots first) (sym l) ∙ sym first_is in
         let d : later ≡ new_marks = ap (λ p. marks ++ new_mark marks p ∷ []) (sym l) ∙ sym marks_are in
         let g : lower ≡ new_blocks = ap (λ p. lowered_in blocks (block_behind marks p) id.counter) (sym l) ∙ sym blocks_are in
-        let are : ◌≡◌ {A = List Slot × Option SlotNumber × List Mark × List MarkBlock × ℕ} (linked slots first previous id, linked_first slots first previous, later, lower, present) (new_slots, new_first, new_marks, new_blocks, new_present) =
+        let are : ◌≡◌ {A = List Slot × Option SlotNumber × List Mark × List MarkBlock × ℕ} (grown, linked_first slots first previous, later, lower, present) (new_slots, new_first, new_marks, new_blocks, new_present) =
         λ i. (a i, b i, d i, g i, sym present_is i) in (
           subst (λ t. IsMarkedOrder t.0 t.1 entries t.2 t.3 t.4) are (kept_added entries entries_are longer),
           (λ i. entries_along (sym a i) (sym d i) (slots_from (sym a i) (sym b i))) ∙ entries_inserted k.order marks k.fits.marked after known id new,

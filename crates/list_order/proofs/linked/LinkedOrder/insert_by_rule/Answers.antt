@@ -9,9 +9,10 @@ use Rattle.list_order.specs.declared.slots.SlotNumber.{SlotNumber}
 use Rattle.list_order.specs.declared.marks.Mark.{Mark}
 use Rattle.list_order.specs.declared.marks.MarkBlock.{MarkBlock}
 use Rattle.list_order.specs.declared.marks.Marks.{Marks}
-use Rattle.list_order.specs.Entries.{ids_of}
+use Rattle.list_laws.specs.Order.{insert_after}
+use Rattle.list_order.specs.Entries.{ids_of, absent, entry_cmp, entry_of_reference}
 use Rattle.list_order.specs.Slots.{ids_along, room_in, slots_from}
-use Rattle.list_order.specs.Marks.{entries_along, entries_in, IsMarkedOrder}
+use Rattle.list_order.specs.Marks.{entries_along, entries_in, FitsOrder, IsMarkedOrder}
 use Rattle.list_order.proofs.Placing.{ids_of-entries}
 use Rattle.list_order.proofs.Inserting.{number_from_absent, place_within}
 use Rattle.list_order.proofs.Adding.{kept_made}
@@ -68,50 +69,40 @@ add-requires-clause-known c =
 pub add_entry-requires-clause-new : goal.add_entry-requires-clause-new
 add_entry-requires-clause-new c =
     let ids = ids_are c.self.inside.chain c.self.inside.marks _ c.args.self.now c.self.view_is in
-    let new = number_from_absent c.self.inside.chain.slots.items (slots_from c.self.inside.chain.slots.items c.self.inside.chain.first) c.args.id (λ x. c.requires.new (subst (λ l. Contains l c.args.id) (sym ids) x)) in
+    let slots = c.self.inside.chain.slots.items in
+    let new = number_from_absent slots (slots_from slots c.self.inside.chain.first) c.args.id (λ x. c.requires.new (subst (λ l. Contains l c.args.id) (sym ids) x)) in
     c.self.invariant.order.exact c.args.id ∙ new
 
-pub recut_if_due-requires : goal.recut_if_due-requires
-recut_if_due-requires c =
+-- what is kept when all but the cut is done
+made : (c : goal.After-recut_if_due-arg-2-1) → FitsOrder c.link-fresh.new.self c.add_entry.new.index.0 c.add.new.self
+    × (entries_in c.link-fresh.new.self c.add.new.self ≡ insert_after entry_cmp (entries_in c.self.inside.chain c.self.inside.marks) (entry_of_reference c.args.after) (absent c.args.id))
+made c =
+    let slots = c.self.inside.chain.slots.items in
     let ids = ids_are c.self.inside.chain c.self.inside.marks _ c.args.self.now c.self.view_is in
     let known = subst (λ l. ForSome c.args.after (Contains l)) ids c.requires.known in
-    let new = number_from_absent c.self.inside.chain.slots.items (slots_from c.self.inside.chain.slots.items c.self.inside.chain.first) c.args.id (λ x. c.requires.new (subst (λ l. Contains l c.args.id) (sym ids) x)) in
+    let new = number_from_absent slots (slots_from slots c.self.inside.chain.first) c.args.id (λ x. c.requires.new (subst (λ l. Contains l c.args.id) (sym ids) x)) in
     let chain = c.link-fresh.new.self in
     let marks = c.add.new.self in
-    let made = kept_made c.self.invariant c.args.after known c.args.id new c.place_for-previous.result c.place_for-previous.ensures
+    kept_made c.self.invariant c.args.after known c.args.id new c.place_for-previous.result c.place_for-previous.ensures
     chain.slots.items c.link-fresh.ensures.slots chain.first c.link-fresh.ensures.first
     c.add_entry.new.index.0 (c.add_entry.ensures.items ∙ ap (put_at_id c.self.inside.index.0 c.args.id) c.link-fresh.ensures.fresh) c.add_entry.ensures.len
-    marks.by_slot.items c.add.ensures.by_slot marks.blocks.items c.add.ensures.blocks marks.present c.add.ensures.present in
-    record { fits = made.0.fits }
+    marks.by_slot.items c.add.ensures.by_slot marks.blocks.items c.add.ensures.blocks marks.present c.add.ensures.present
+
+pub recut_if_due-requires : goal.recut_if_due-requires
+recut_if_due-requires c = record { fits = (made c).0.fits }
 
 pub invariant_of-self : goal.invariant_of-self
 invariant_of-self c =
-    let ids = ids_are c.self.inside.chain c.self.inside.marks _ c.args.self.now c.self.view_is in
-    let known = subst (λ l. ForSome c.args.after (Contains l)) ids c.requires.known in
-    let new = number_from_absent c.self.inside.chain.slots.items (slots_from c.self.inside.chain.slots.items c.self.inside.chain.first) c.args.id (λ x. c.requires.new (subst (λ l. Contains l c.args.id) (sym ids) x)) in
-    let chain = c.link-fresh.new.self in
-    let marks = c.add.new.self in
-    let made = kept_made c.self.invariant c.args.after known c.args.id new c.place_for-previous.result c.place_for-previous.ensures
-    chain.slots.items c.link-fresh.ensures.slots chain.first c.link-fresh.ensures.first
-    c.add_entry.new.index.0 (c.add_entry.ensures.items ∙ ap (put_at_id c.self.inside.index.0 c.args.id) c.link-fresh.ensures.fresh) c.add_entry.ensures.len
-    marks.by_slot.items c.add.ensures.by_slot marks.blocks.items c.add.ensures.blocks marks.present c.add.ensures.present in
+    let kept = (made c.before).0 in
     record {
-      order = made.0.order;
-      own = made.0.own;
+      order = kept.order;
+      own = kept.own;
       fits = c.recut_if_due.ensures.fits;
     }
 
 pub returns : goal.returns
 returns c =
-    let ids = ids_are c.self.inside.chain c.self.inside.marks _ c.args.self.now c.self.view_is in
-    let known = subst (λ l. ForSome c.args.after (Contains l)) ids c.requires.known in
-    let new = number_from_absent c.self.inside.chain.slots.items (slots_from c.self.inside.chain.slots.items c.self.inside.chain.first) c.args.id (λ x. c.requires.new (subst (λ l. Contains l c.args.id) (sym ids) x)) in
     let chain = c.link-fresh.new.self in
-    let marks = c.add.new.self in
-    let made = kept_made c.self.invariant c.args.after known c.args.id new c.place_for-previous.result c.place_for-previous.ensures
-    chain.slots.items c.link-fresh.ensures.slots chain.first c.link-fresh.ensures.first
-    c.add_entry.new.index.0 (c.add_entry.ensures.items ∙ ap (put_at_id c.self.inside.index.0 c.args.id) c.link-fresh.ensures.fresh) c.add_entry.ensures.len
-    marks.by_slot.items c.add.ensures.by_slot marks.blocks.items c.add.ensures.blocks marks.present c.add.ensures.present in
     let r = c.recut_if_due.ensures.same in
-    let entries = entries-presence marks.by_slot.items c.recut_if_due.new.self.by_slot.items r.same chain.slots.items (slots_from chain.slots.items chain.first) ∙ made.1 in
+    let entries = entries-presence c.add.new.self.by_slot.items c.recut_if_due.new.self.by_slot.items r.same chain.slots.items (slots_from chain.slots.items chain.first) ∙ (made c.before).1 in
     rw (← c.self.view_is) (λ i. (entries i, min (c.link-fresh.ensures.capacity i) (min (c.add_entry.ensures.room i) ((r.room ∙ c.add.ensures.capacity) i))))
