@@ -9,11 +9,12 @@ use Rattle.list_order.specs.declared.slots.SlotNumber.{SlotNumber}
 use Rattle.list_order.specs.declared.marks.Mark.{Mark}
 use Rattle.list_order.specs.declared.marks.MarkBlock.{MarkBlock}
 use Rattle.list_order.specs.Slots.{slot_at, IsPath, slots_from, LinksEnd}
-use Rattle.list_order.specs.Marks.{mark_at, block_at, no_block, count_where, is_marked_in, from_block, start_of, IsInBlockOrder, IsCounted, bit, set_block, IsAbove, IsClosed, IsRecut}
+use Rattle.list_order.specs.Marks.{mark_at, block_at, no_block, count_where, is_marked_in, from_block, start_of, IsInBlockOrder, IsCounted, bit, set_block, IsAbove, IsClosed, IsMarked}
 use Rattle.list_order.proofs.Scanning.{IsStep}
 use Rattle.list_order.proofs.Paths.{path_from-path, walk_from_path, walk-None, length-path_from}
-use Rattle.list_order.proofs.Counting.{Along, along-map, along-both, along-append, from-zero, count-later, rising-from, length-from, path-from, IsSameMark, not_other, less_of}
+use Rattle.list_order.proofs.Counting.{Along, along, along-map, along-both, along-append, from-zero, count-later, rising-from, length-from, path-from, IsSameMark, not_other, less_of}
 use Rattle.list_order.proofs.Same.{count-same, blocks-same, from-same, rising-same, count-append, count_within, from-none, count-none, start-append, rising-append, along-snoc}
+use Rattle.list_order.proofs.Presence.{count-presence}
 use Rattle.list_order.proofs.Apart.{apart_front, set_here, set_other, set_apart}
 
 -- the blocks as far as the path was gone through
@@ -150,10 +151,10 @@ module _ (slots : List Slot) (first : Option SlotNumber) (before : List Mark) wh
       }
 
   -- from the slot behind the last block on
-  pub begin_cut : (blocks : List MarkBlock) (at : Option SlotNumber) (least : ℕ) → LinksEnd slots first → IsCounted before blocks (slots_from slots first) None
-      → Along (IsAbove slots before blocks) (slots_from slots first) → (length blocks ≡ 0 → at ≡ first) → (0 < length blocks → at ≡ (block_at blocks (length blocks - 1)).end)
+  pub begin_cut : (blocks : List MarkBlock) (total : ℕ) (at : Option SlotNumber) (least : ℕ) → IsMarked slots first before blocks total
+      → (length blocks ≡ 0 → at ≡ first) → (0 < length blocks → at ≡ (block_at blocks (length blocks - 1)).end)
       → LinksEnd slots at × IsPartlyCut slots first before before blocks at 0 least
-  begin_cut blocks at least walk c above none last = go (length blocks) refl
+  begin_cut blocks total at least m none last = go (length blocks) refl
     where
       path : List SlotNumber
       path = slots_from slots first
@@ -161,19 +162,19 @@ module _ (slots : List Slot) (first : Option SlotNumber) (before : List Mark) wh
       go : (k : ℕ) → length blocks ≡ k → LinksEnd slots at × IsPartlyCut slots first before before blocks at 0 least
       go zero e =
           let here : at ≡ first = none e in (
-            subst (LinksEnd slots) (sym here) walk,
-            begin_at blocks at least c above (ap (slots_from slots) here ∙ sym (from-zero before path) ∙ ap (λ m. from_block m before path) (sym e)) (λ h. absurd (omega (arith, e, h))),
+            subst (LinksEnd slots) (sym here) m.walk,
+            begin_at blocks at least m.counted m.above (ap (slots_from slots) here ∙ sym (from-zero before path) ∙ ap (λ m. from_block m before path) (sym e)) (λ h. absurd (omega (arith, e, h))),
           )
       go (suc k) e =
           let within : k < length blocks = omega (arith, e) in
           let before_last : length blocks - 1 ≡ k = omega (arith, e) in
           let here : at ≡ start_of None (from_block (length blocks) before path) =
-          last (omega (arith, e)) ∙ ap (λ m. (block_at blocks m).end) before_last ∙ c.ends k within ∙ ap (λ m. start_of None (from_block m before path)) (sym e) in
+          last (omega (arith, e)) ∙ ap (λ m. (block_at blocks m).end) before_last ∙ m.counted.ends k within ∙ ap (λ m. start_of None (from_block m before path)) (sym e) in
           let on : IsPath slots at (from_block (length blocks) before path) =
-          subst (λ o. IsPath slots o (from_block (length blocks) before path)) (sym here) (path-from before slots (length blocks) first path walk.path) in
+          subst (λ o. IsPath slots o (from_block (length blocks) before path)) (sym here) (path-from before slots (length blocks) first path m.walk.path) in
           let short : length (from_block (length blocks) before path) ≤ length slots = omega (arith, length-from before (length blocks) path, length-path_from slots first) in (
             walk_from_path slots at (from_block (length blocks) before path) on short,
-            begin_at blocks at least c above (path_from-path slots at (from_block (length blocks) before path) on short) (λ h. here),
+            begin_at blocks at least m.counted m.above (path_from-path slots at (from_block (length blocks) before path) on short) (λ h. here),
           )
 
   module _ (walk : LinksEnd slots first) (marked : length before ≡ length slots) where
@@ -311,16 +312,28 @@ module _ (slots : List Slot) (first : Option SlotNumber) (before : List Mark) wh
       → slots_from slots first ≡ c.done
   gone_through c is = c.parts ∙ ap (λ l. c.done ++ l) (ap (slots_from slots) is ∙ walk-None slots) ∙ append-nil c.done
 
-  pub all_above : (marks : List Mark) (blocks : List MarkBlock) (at : Option SlotNumber) (present least : ℕ) → at ≡ None
-      → IsPartlyCut slots first before marks blocks at present least → Along (IsAbove slots marks blocks) (slots_from slots first)
-  all_above marks blocks at present least is c = subst (Along (IsAbove slots marks blocks)) (sym (gone_through c is)) c.above
-
-  pub all_cut : (marks : List Mark) (blocks : List MarkBlock) (at : Option SlotNumber) (present least : ℕ) → at ≡ None
-      → IsPartlyCut slots first before marks blocks at present least → IsRecut before marks blocks (slots_from slots first)
-  all_cut marks blocks at present least is c =
+  pub all_cut : (uncut : List MarkBlock) (total : ℕ) (marks : List Mark) (blocks : List MarkBlock) (at : Option SlotNumber) (present least : ℕ)
+      → IsMarked slots first before uncut total → at ≡ None → IsPartlyCut slots first before marks blocks at present least → IsMarked slots first marks blocks total
+  all_cut uncut total marks blocks at present least m is c =
       let whole : slots_from slots first ≡ c.done = gone_through c is in
       record {
-        same = c.same;
-        len = c.len;
+        walk = m.walk;
+        marked = c.len ∙ m.marked;
         counted = subst (λ l. IsCounted marks blocks l None) (sym whole) (subst (λ o. IsCounted marks blocks c.done o) is c.counted);
+        all = m.all ∙ sym (count-presence before marks c.same (slots_from slots first));
+        above = subst (Along (IsAbove slots marks blocks)) (sym whole) c.above;
       }
+
+  -- without blocks
+  pub all_open : (blocks : List MarkBlock) (total : ℕ) → IsMarked slots first before blocks total → IsMarked slots first before [] total
+  all_open blocks total m = record {
+    walk = m.walk;
+    marked = m.marked;
+    counted = record {
+      rising = m.counted.rising;
+      counted = λ k h. absurd (omega arith);
+      ends = λ k h. absurd (omega arith);
+    };
+    all = m.all;
+    above = along (λ n. omega arith) (slots_from slots first);
+  }

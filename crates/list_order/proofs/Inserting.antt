@@ -10,16 +10,17 @@ use Rattle.presence_set.proofs.ByIdLaws.{get-put}
 use Rattle.presence_set.proofs.Ascending.{put_ascending}
 use Rattle.list_order.specs.declared.slots.Slot.{Slot}
 use Rattle.list_order.specs.declared.slots.SlotNumber.{SlotNumber}
-use Rattle.list_order.specs.Slots.{slot_at, behind, IsPath, slots_from, ids_along, number_along, number_for, slot_after, passed, linked, linked_first, IsOrder, LinksEnd}
+use Rattle.list_order.specs.Slots.{slot_at, behind, IsPath, slots_from, ids_along, number_along, number_for, slot_after, place_in, fresh_in, linked, linked_first, IsOnPath, IsOrder, LinksEnd}
 use Rattle.std.proofs.Math.ListN.{get_or-append}
 use Rattle.std.proofs.Math.Seq.{get_or-append_seam}
 use Rattle.list_order.specs.declared.marks.Mark.{Mark}
 use Rattle.list_order.specs.Entries.{absent, entry_cmp, entry_of_reference}
-use Rattle.list_order.specs.Marks.{mark_at, unmarked, new_mark, entries_along, LeadsTo}
+use Rattle.list_order.specs.Marks.{mark_at, unmarked, new_mark, entries_along}
 use Rattle.list_order.proofs.Counting.{Along, IsSameMark}
 use Rattle.list_order.proofs.Paths.{path_from-path, walk_from_path, walk-None, path-append}
+use Rattle.list_order.proofs.Scanning.{passed_within}
 use Rattle.list_order.proofs.Placing.{IsCut, IsReference, found, insertion_cuts}
-use Rattle.list_order.proofs.Linking.{IsInserted, inserted, fresh_of, entries_linked, number_linked}
+use Rattle.list_order.proofs.Linking.{IsInserted, inserted, entries_linked, number_linked}
 
 module _ (slots : List Slot) where
   or_later : (id : Id) (here : Bool) (n : SlotNumber) (path : List SlotNumber) → (p : SlotNumber) × (number_along slots path id ≡ Some p)
@@ -81,14 +82,32 @@ module _ {slots : List Slot} {first : Option SlotNumber} {index : List (Id × Sl
       let there = number_from_contains slots (slots_from slots first) id (known id refl) in
       (there.0, o.exact id ∙ there.1, there.1)
 
-  pub reference_within : (after : Option Id) → ForSome (number_for index after) (λ p. p.0 < length slots)
-  reference_within None = λ p e. absurd (cc)
-  reference_within (Some id) = λ p e. (number_within id p e).0
+  -- a reference is in the list, or the front
+  pub reference_on : (after : Option Id) (reference : Option SlotNumber) → number_for index after ≡ reference → IsOnPath slots first reference
+  reference_on after None e = record {
+    within = λ p e. absurd (cc);
+    walk = first_walk;
+    leads = ([], refl);
+  }
+  reference_on None (Some p) e = absurd (cc)
+  reference_on (Some id) (Some p) e =
+      let f = found slots [] (slots_from slots first) id p (sym (o.exact id) ∙ e) in
+      let on = path-append slots f.front p f.rest first (subst (λ l. IsPath slots first l) f.parts o.path) in
+      let short : length f.rest ≤ length slots = omega (arith, o.every, ap length f.parts, length-append f.front (p ∷ f.rest)) in
+      record {
+        within = λ n e. let same : p ≡ n = cc in subst (λ k. k.0 < length slots) same on.0;
+        walk = walk_from_path slots (slot_at slots p).next f.rest on.1 short;
+        leads = (
+          f.front ++ p ∷ [],
+          f.parts ∙ sym (append_assoc f.front (p ∷ []) f.rest) ∙ ap (λ l. (f.front ++ p ∷ []) ++ l) (sym (path_from-path slots (slot_at slots p).next f.rest on.1 short)),
+        );
+      }
 
-  pub reference_walk : (after : Option Id) (reference : Option SlotNumber) → number_for index after ≡ reference → LinksEnd slots (behind slots first reference)
-  reference_walk None reference e = subst (λ r. LinksEnd slots (behind slots first r)) e first_walk
-  reference_walk (Some id) None e = first_walk
-  reference_walk (Some id) (Some p) e = (number_within id p e).1
+  -- where a new id comes behind is a slot
+  pub place_within : (after : Option Id) (id : Id) → ForSome (place_in slots first index after id) (λ p. p.0 < length slots)
+  place_within after id =
+      let on = reference_on after (number_for index after) refl in
+      passed_within slots id (number_for index after) (behind slots first (number_for index after)) (slots_from slots (behind slots first (number_for index after))) on.walk.path on.within
 
   -- from the slot after an id the links end
   pub after_walk : (after : Option Id) → LinksEnd slots (slot_after slots first index after)
@@ -99,18 +118,6 @@ module _ {slots : List Slot} {first : Option SlotNumber} {index : List (Id × Sl
       by None e = walk_from_path slots None [] refl (omega arith)
       by (Some p) e = (number_within id p e).1
 
-  -- the links lead to what is behind it
-  pub reference_leads : (after : Option Id) (reference : Option SlotNumber) → number_for index after ≡ reference → LeadsTo slots first (behind slots first reference)
-  reference_leads None reference e = subst (λ r. LeadsTo slots first (behind slots first r)) e ([], refl)
-  reference_leads (Some id) None e = ([], refl)
-  reference_leads (Some id) (Some p) e =
-      let f = found slots [] (slots_from slots first) id p (sym (o.exact id) ∙ e) in
-      let on = path-append slots f.front p f.rest first (subst (λ l. IsPath slots first l) f.parts o.path) in
-      let short : length f.rest ≤ length slots = omega (arith, o.every, ap length f.parts, length-append f.front (p ∷ f.rest)) in (
-        f.front ++ p ∷ [],
-        f.parts ∙ sym (append_assoc f.front (p ∷ []) f.rest) ∙ ap (λ l. (f.front ++ p ∷ []) ++ l) (sym (path_from-path slots (slot_at slots p).next f.rest on.1 short)),
-      )
-
   stays : (marks : List Mark) (mark : Mark) → length marks ≡ length slots → (at : Option SlotNumber) (path : List SlotNumber) → IsPath slots at path
       → Along (IsSameMark marks (marks ++ mark ∷ [])) path
   stays marks mark marked at [] p = tt
@@ -120,7 +127,7 @@ module _ {slots : List Slot} {first : Option SlotNumber} {index : List (Id × Sl
   module _ (marks : List Mark) (marked : length marks ≡ length slots) (after : Option Id) (known : ForSome after (Contains (ids_along slots (slots_from slots first)))) (id : Id)
       (new : number_along slots (slots_from slots first) id ≡ None) where
     abbrev pub previous : Option SlotNumber
-    previous = passed slots id (number_for index after) (slots_from slots (behind slots first (number_for index after)))
+    previous = place_in slots first index after id
 
     abbrev pub later : List Mark
     later = marks ++ new_mark marks previous ∷ []
@@ -131,16 +138,16 @@ module _ {slots : List Slot} {first : Option SlotNumber} {index : List (Id × Sl
     pub made : IsInserted slots first id cut.front cut.rest previous
     made = inserted slots first id cut.front cut.rest previous cut.ends (subst (λ l. IsPath slots first l) cut.parts o.path)
 
-    pub new_path : slots_from (linked slots first previous id) (linked_first slots first previous) ≡ cut.front ++ fresh_of slots ∷ cut.rest
+    pub new_path : slots_from (linked slots first previous id) (linked_first slots first previous) ≡ cut.front ++ fresh_in slots ∷ cut.rest
     new_path =
-        path_from-path (linked slots first previous id) (linked_first slots first previous) (cut.front ++ fresh_of slots ∷ cut.rest) made.path
-        (omega (arith, o.every, ap length cut.parts, length-append cut.front cut.rest, length-append cut.front (fresh_of slots ∷ cut.rest), made.slots_are.longer))
+        path_from-path (linked slots first previous id) (linked_first slots first previous) (cut.front ++ fresh_in slots ∷ cut.rest) made.path
+        (omega (arith, o.every, ap length cut.parts, length-append cut.front cut.rest, length-append cut.front (fresh_in slots ∷ cut.rest), made.slots_are.longer))
 
     -- the marks of the path stay
     pub marks_stay : Along (IsSameMark marks later) (cut.front ++ cut.rest)
     marks_stay = stays marks (new_mark marks previous) marked first (cut.front ++ cut.rest) (subst (λ l. IsPath slots first l) cut.parts o.path)
 
-    pub mark_is : mark_at later (fresh_of slots) ≡ new_mark marks previous
+    pub mark_is : mark_at later (fresh_in slots) ≡ new_mark marks previous
     mark_is = subst (λ n. get_or later n unmarked ≡ new_mark marks previous) marked (get_or-append_seam marks (new_mark marks previous) [] unmarked)
 
     pub entries_inserted : entries_along (linked slots first previous id) later (slots_from (linked slots first previous id) (linked_first slots first previous))
@@ -150,15 +157,15 @@ module _ {slots : List Slot} {first : Option SlotNumber} {index : List (Id × Sl
         ∙ entries_linked made.slots_are marks later first cut.front cut.rest (subst (λ l. IsPath slots first l) cut.parts o.path) marks_stay (ap (λ m. m.is_present) mark_is)
         ∙ sym cut.placed
 
-    pub order_inserted : (entries : List (Id × SlotNumber)) → entries ≡ put_at_id index id (fresh_of slots) → length entries ≡ length index + 1
+    pub order_inserted : (entries : List (Id × SlotNumber)) → entries ≡ put_at_id index id (fresh_in slots) → length entries ≡ length index + 1
         → IsOrder (linked slots first previous id) (linked_first slots first previous) entries
     order_inserted entries are longer = record {
       path = subst (λ l. IsPath (linked slots first previous id) (linked_first slots first previous) l) (sym new_path) made.path;
-      every = omega (arith, ap length new_path, o.every, ap length cut.parts, length-append cut.front cut.rest, length-append cut.front (fresh_of slots ∷ cut.rest), made.slots_are.longer);
-      ascending = subst IsAscending (sym are) (put_ascending index id (fresh_of slots) o.ascending);
+      every = omega (arith, ap length new_path, o.every, ap length cut.parts, length-append cut.front cut.rest, length-append cut.front (fresh_in slots ∷ cut.rest), made.slots_are.longer);
+      ascending = subst IsAscending (sym are) (put_ascending index id (fresh_in slots) o.ascending);
       exact = λ i.
-          ap (λ l. get l i) are ∙ get-put index id (fresh_of slots) i
-          ∙ ap (λ n. if id_eq id i then Some (fresh_of slots) else n) (o.exact i ∙ ap (λ l. number_along slots l i) cut.parts)
+          ap (λ l. get l i) are ∙ get-put index id (fresh_in slots) i
+          ∙ ap (λ n. if id_eq id i then Some (fresh_in slots) else n) (o.exact i ∙ ap (λ l. number_along slots l i) cut.parts)
           ∙ sym (number_linked made.slots_are first cut.front cut.rest (subst (λ l. IsPath slots first l) cut.parts o.path) (subst (λ l. number_along slots l id ≡ None) cut.parts new) i)
           ∙ sym (ap (λ l. number_along (linked slots first previous id) l i) new_path);
       indexed = omega (arith, longer, o.indexed, made.slots_are.longer);

@@ -7,7 +7,7 @@ use Rattle.crdt_rules.specs.Same.{id_eq}
 use Rattle.crdt_rules.proofs.SameLaws.{id_decides}
 use Rattle.list_order.specs.declared.slots.Slot.{Slot}
 use Rattle.list_order.specs.declared.slots.SlotNumber.{SlotNumber}
-use Rattle.list_order.specs.Slots.{blank_slot, slot_at, IsPath, number_along, linked, linked_first}
+use Rattle.list_order.specs.Slots.{blank_slot, slot_at, IsPath, number_along, fresh_in, linked, linked_first}
 use Rattle.list_order.specs.declared.marks.Mark.{Mark}
 use Rattle.list_order.specs.Entries.{absent}
 use Rattle.list_order.specs.Marks.{mark_at, entries_along}
@@ -106,11 +106,9 @@ module _ {slots new : List Slot} {fresh : SlotNumber} {id : Id} (l : IsLinked sl
       by false e there f false g h ih = ih h
 
 -- the number of the slot that comes in
-abbrev pub fresh_of : List Slot → SlotNumber
-fresh_of slots = record { 0 = length slots }
 
 module _ (slots : List Slot) (first : Option SlotNumber) (id : Id) where
-  head_linked : IsLinked slots (linked slots first None id) (fresh_of slots) id
+  head_linked : IsLinked slots (linked slots first None id) (fresh_in slots) id
   head_linked = record {
     number = refl;
     longer = length-append slots (record { id = id; next = first } ∷ []);
@@ -119,10 +117,10 @@ module _ (slots : List Slot) (first : Option SlotNumber) (id : Id) where
   }
 
   -- a path whose front is empty
-  path_at_head : (rest : List SlotNumber) → IsPath slots first rest → IsPath (linked slots first None id) (Some (fresh_of slots)) (fresh_of slots ∷ rest)
+  path_at_head : (rest : List SlotNumber) → IsPath slots first rest → IsPath (linked slots first None id) (Some (fresh_in slots)) (fresh_in slots ∷ rest)
   path_at_head rest p =
       let new : Slot = record { id = id; next = first } in
-      let on : (slot_at (linked slots first None id) (fresh_of slots)).next ≡ first = ap (λ s. s.next) (get_or-append_seam slots new [] blank_slot) in (
+      let on : (slot_at (linked slots first None id) (fresh_in slots)).next ≡ first = ap (λ s. s.next) (get_or-append_seam slots new [] blank_slot) in (
         refl,
         omega (arith, head_linked.longer),
         subst (λ o. IsPath (linked slots first None id) o rest) (sym on)
@@ -131,22 +129,22 @@ module _ (slots : List Slot) (first : Option SlotNumber) (id : Id) where
 
   module _ (p : SlotNumber) (within : p.0 < length slots) where
     abbrev before : List Slot
-    before = set slots p.0 (record { id = (slot_at slots p).id; next = Some (fresh_of slots) })
+    before = set slots p.0 (record { id = (slot_at slots p).id; next = Some (fresh_in slots) })
 
     abbrev added : Slot
     added = record { id = id; next = (slot_at slots p).next }
 
-    read_fresh : slot_at (before ++ added ∷ []) (fresh_of slots) ≡ added
-    read_fresh = subst (λ n. get_or (before ++ added ∷ []) n blank_slot ≡ added) (length-set slots p.0 (record { id = (slot_at slots p).id; next = Some (fresh_of slots) })) (get_or-append_seam before added [] blank_slot)
+    read_fresh : slot_at (before ++ added ∷ []) (fresh_in slots) ≡ added
+    read_fresh = subst (λ n. get_or (before ++ added ∷ []) n blank_slot ≡ added) (length-set slots p.0 (record { id = (slot_at slots p).id; next = Some (fresh_in slots) })) (get_or-append_seam before added [] blank_slot)
 
     read_before : (n : SlotNumber) → n.0 < length slots → slot_at (before ++ added ∷ []) n ≡ slot_at before n
-    read_before n inside = get_or-append before (added ∷ []) blank_slot n.0 (omega (arith, length-set slots p.0 (record { id = (slot_at slots p).id; next = Some (fresh_of slots) })))
+    read_before n inside = get_or-append before (added ∷ []) blank_slot n.0 (omega (arith, length-set slots p.0 (record { id = (slot_at slots p).id; next = Some (fresh_in slots) })))
 
-    read_p : slot_at before p ≡ record { id = (slot_at slots p).id; next = Some (fresh_of slots) }
-    read_p = get_or-set_same slots p.0 (record { id = (slot_at slots p).id; next = Some (fresh_of slots) }) blank_slot within
+    read_p : slot_at before p ≡ record { id = (slot_at slots p).id; next = Some (fresh_in slots) }
+    read_p = get_or-set_same slots p.0 (record { id = (slot_at slots p).id; next = Some (fresh_in slots) }) blank_slot within
 
     read_other : (n : SlotNumber) → n ≢ p → slot_at before n ≡ slot_at slots n
-    read_other n other = get_or-set_other slots p.0 n.0 (record { id = (slot_at slots p).id; next = Some (fresh_of slots) }) blank_slot (λ e. other (λ i. record { 0 = e i }))
+    read_other n other = get_or-set_other slots p.0 n.0 (record { id = (slot_at slots p).id; next = Some (fresh_in slots) }) blank_slot (λ e. other (λ i. record { 0 = e i }))
 
     same_id : (n : SlotNumber) → (slot_at before n).id ≡ (slot_at slots n).id
     same_id n = go (eqb n.0 p.0) refl
@@ -157,15 +155,15 @@ module _ (slots : List Slot) (first : Option SlotNumber) (id : Id) where
             ap (λ m. (slot_at before m).id) here ∙ ap (λ s. s.id) read_p ∙ ap (λ m. (slot_at slots m).id) (sym here)
         go false e = ap (λ s. s.id) (read_other n (λ h. true≢false (sym (eq-eqb n.0 p.0 (ap (λ m. m.0) h)) ∙ e)))
 
-    behind_linked : IsLinked slots (before ++ added ∷ []) (fresh_of slots) id
+    behind_linked : IsLinked slots (before ++ added ∷ []) (fresh_in slots) id
     behind_linked = record {
       number = refl;
-      longer = length-append before (added ∷ []) ∙ ap (λ n. n + 1) (length-set slots p.0 (record { id = (slot_at slots p).id; next = Some (fresh_of slots) }));
+      longer = length-append before (added ∷ []) ∙ ap (λ n. n + 1) (length-set slots p.0 (record { id = (slot_at slots p).id; next = Some (fresh_in slots) }));
       new_id = ap (λ s. s.id) read_fresh;
       ids = λ n inside. ap (λ s. s.id) (read_before n inside) ∙ same_id n;
     }
 
-    path_behind : (front rest : List SlotNumber) → IsPath slots first (front ++ p ∷ rest) → IsPath (before ++ added ∷ []) first (front ++ p ∷ fresh_of slots ∷ rest)
+    path_behind : (front rest : List SlotNumber) → IsPath slots first (front ++ p ∷ rest) → IsPath (before ++ added ∷ []) first (front ++ p ∷ fresh_in slots ∷ rest)
     path_behind front rest h =
         linked_behind behind_linked p rest (path-append slots front p rest first h).1
         (λ n other inside. ap (λ s. s.next) (read_before n inside ∙ read_other n other))
@@ -173,8 +171,8 @@ module _ (slots : List Slot) (first : Option SlotNumber) (id : Id) where
 
   -- what linking in behind the last slot of the front makes
   pub record IsInserted (front rest : List SlotNumber) (previous : Option SlotNumber) : Type 0 where
-    pub slots_are : IsLinked slots (linked slots first previous id) (fresh_of slots) id
-    pub path : IsPath (linked slots first previous id) (linked_first slots first previous) (front ++ fresh_of slots ∷ rest)
+    pub slots_are : IsLinked slots (linked slots first previous id) (fresh_in slots) id
+    pub path : IsPath (linked slots first previous id) (linked_first slots first previous) (front ++ fresh_in slots ∷ rest)
 
   pub inserted : (front rest : List SlotNumber) (previous : Option SlotNumber) → last_of None front ≡ previous → IsPath slots first (front ++ rest)
       → IsInserted front rest previous
@@ -188,6 +186,6 @@ module _ (slots : List Slot) (first : Option SlotNumber) (id : Id) where
       (record {
         slots_are = behind_linked p within;
         path =
-            subst (λ l. IsPath (linked slots first (Some p) id) first l) (sym (ap (λ l. l ++ fresh_of slots ∷ rest) z.2 ∙ append_assoc z.0 (p ∷ []) (fresh_of slots ∷ rest)))
+            subst (λ l. IsPath (linked slots first (Some p) id) first l) (sym (ap (λ l. l ++ fresh_in slots ∷ rest) z.2 ∙ append_assoc z.0 (p ∷ []) (fresh_in slots ∷ rest)))
             (path_behind p within z.0 rest parts);
       })

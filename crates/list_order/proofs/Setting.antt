@@ -11,11 +11,11 @@ use Rattle.list_order.specs.declared.marks.Mark.{Mark}
 use Rattle.list_order.specs.declared.marks.MarkBlock.{MarkBlock}
 use Rattle.list_order.specs.Entries.{with_presence}
 use Rattle.list_order.specs.Slots.{slot_at, IsPath, slots_from, number_along}
-use Rattle.list_order.specs.Marks.{mark_at, block_at, no_block, count_where, is_marked, is_marked_in, start_of, bit, moved, set_mark, moved_in, entries_along, IsMarkedOrder, MayMove, MaySet}
+use Rattle.list_order.specs.Marks.{mark_at, block_at, no_block, count_where, is_marked, is_marked_in, start_of, bit, moved, set_mark, moved_in, entries_along, IsAbove, IsMarkedOrder, MayMove, MaySet}
 use Rattle.list_order.proofs.Paths.{length-path_from}
 use Rattle.list_order.proofs.Placing.{found}
 use Rattle.list_order.proofs.Inserting.{number_within}
-use Rattle.list_order.proofs.Counting.{Along, along, IsSameMark, IsSameBlock, not_other}
+use Rattle.list_order.proofs.Counting.{Along, along, along-map, IsSameMark, IsSameBlock, not_other}
 use Rattle.list_order.proofs.Lowering.{set_keeps}
 use Rattle.list_order.proofs.Same.{count-same, from-same, rising-same, count-append, count_within}
 use Rattle.list_order.proofs.Apart.{apart_front, apart_rest, set_here, set_other, set_apart}
@@ -96,7 +96,7 @@ module _ {slots : List Slot} {first : Option SlotNumber} {index : List (Id × Sl
     within = (number_within k.order id n e).0
 
     here : mark_at new n ≡ mark
-    here = set_here marks n mark (omega (arith, within, k.marked))
+    here = set_here marks n mark (omega (arith, within, k.fits.marked))
 
     -- every count, by a test
     count_is : (test : Mark → Bool) → count_where test new (slots_from slots first) + bit (test was) ≡ count_where test marks (slots_from slots first) + bit (test mark)
@@ -134,9 +134,9 @@ module _ {slots : List Slot} {first : Option SlotNumber} {index : List (Id × Sl
     module _ (small : length slots < 2 ^ 64) where
       pub may_set : MaySet marks blocks present n is
       may_set = record {
-        within = omega (arith, within, k.marked);
-        all = (may_move is_marked present k.all refl refl small).0;
-        in_block = λ h. (may_move (is_marked_in was.block) (block_at blocks was.block).present (k.counted.counted was.block h) in_block in_block_now small).0;
+        within = omega (arith, within, k.fits.marked);
+        all = (may_move is_marked present k.fits.all refl refl small).0;
+        in_block = λ h. (may_move (is_marked_in was.block) (block_at blocks was.block).present (k.fits.counted.counted was.block h) in_block in_block_now small).0;
       }
 
       same_block : (m : SlotNumber) → IsSameBlock marks new m
@@ -164,7 +164,7 @@ module _ {slots : List Slot} {first : Option SlotNumber} {index : List (Id × Sl
           let inside : was.block < length blocks = omega (arith, at, h) in
           ap (λ i. (block_at (set blocks was.block block) i).present) at
           ∙ ap (λ x. x.present) (get_or-set_same blocks was.block block no_block inside)
-          ∙ sym (may_move (is_marked_in was.block) (block_at blocks was.block).present (k.counted.counted was.block inside) in_block in_block_now small).1
+          ∙ sym (may_move (is_marked_in was.block) (block_at blocks was.block).present (k.fits.counted.counted was.block inside) in_block in_block_now small).1
           ∙ ap (λ i. count_where (is_marked_in i) new (slots_from slots first)) (sym at)
       count j false f h =
           let apart : was.block ≢ j = λ g. true≢false (sym (eq-eqb j was.block (sym g)) ∙ f) in
@@ -172,7 +172,7 @@ module _ {slots : List Slot} {first : Option SlotNumber} {index : List (Id × Sl
           let x : bit (is_marked_in j was) ≡ 0 = ap bit (not_other j was.block apart was.is_present) in
           let y : bit (is_marked_in j mark) ≡ 0 = ap bit (not_other j was.block apart is) in
           let same : count_where (is_marked_in j) marks (slots_from slots first) ≡ count_where (is_marked_in j) new (slots_from slots first) = omega (arith, a, x, y) in
-          ap (λ x. x.present) (get_or-set_other blocks was.block j block no_block (λ g. apart (sym g))) ∙ k.counted.counted j h ∙ same
+          ap (λ x. x.present) (get_or-set_other blocks was.block j block no_block (λ g. apart (sym g))) ∙ k.fits.counted.counted j h ∙ same
 
       stays : (j : ℕ) → (b : Bool) → eqb j was.block ≡ b → j < length blocks → (block_at (set blocks was.block block) j).end ≡ (block_at blocks j).end
       stays j true f h =
@@ -182,22 +182,33 @@ module _ {slots : List Slot} {first : Option SlotNumber} {index : List (Id × Sl
           ∙ ap (λ i. (block_at blocks i).end) (sym at)
       stays j false f h = ap (λ x. x.end) (get_or-set_other blocks was.block j block no_block (λ g. true≢false (sym (eq-eqb j was.block g) ∙ f)))
 
-      pub kept_set : IsMarkedOrder slots first index (set_mark marks n is) (moved_in blocks was.block was.is_present is) (moved present was.is_present is)
-      kept_set = record {
+      set_kept : IsMarkedOrder slots first index (set_mark marks n is) (moved_in blocks was.block was.is_present is) (moved present was.is_present is)
+      set_kept = record {
         order = k.order;
         own = k.own;
-        marked = length-set marks n.0 mark ∙ k.marked;
-        counted = record {
-          rising = rising-same marks new 0 (slots_from slots first) same_blocks k.counted.rising;
-          counted = λ j h. count j (eqb j was.block) refl (omega (arith, h, length-set blocks was.block block));
-          ends = λ j h. stays j (eqb j was.block) refl (omega (arith, h, length-set blocks was.block block)) ∙ k.counted.ends j (omega (arith, h, length-set blocks was.block block)) ∙ ap (start_of None) (sym (from-same marks new (suc j) (slots_from slots first) same_blocks));
+        fits = record {
+          walk = k.fits.walk;
+          marked = length-set marks n.0 mark ∙ k.fits.marked;
+          counted = record {
+            rising = rising-same marks new 0 (slots_from slots first) same_blocks k.fits.counted.rising;
+            counted = λ j h. count j (eqb j was.block) refl (omega (arith, h, length-set blocks was.block block));
+            ends = λ j h. stays j (eqb j was.block) refl (omega (arith, h, length-set blocks was.block block)) ∙ k.fits.counted.ends j (omega (arith, h, length-set blocks was.block block)) ∙ ap (start_of None) (sym (from-same marks new (suc j) (slots_from slots first) same_blocks));
+          };
+          all = sym (may_move is_marked present k.fits.all refl refl small).1;
+          above =
+              along-map {P = IsAbove slots marks blocks} {Q = IsAbove slots new (set blocks was.block block)} (λ m a.
+              let in_block : (block_at (set blocks was.block block) (mark_at new m).block).least_counter ≡ (block_at blocks (mark_at marks m).block).least_counter =
+              ap (λ j. (block_at (set blocks was.block block) j).least_counter) (same_block m) ∙ set_keeps (λ x. x.least_counter) blocks was.block block refl (mark_at marks m).block in
+              omega (arith, a, in_block)) (slots_from slots first) k.fits.above;
         };
-        all = sym (may_move is_marked present k.all refl refl small).1;
-        above = λ m h.
-            let in_block : (block_at (set blocks was.block block) (mark_at new m).block).least_counter ≡ (block_at blocks (mark_at marks m).block).least_counter =
-            ap (λ j. (block_at (set blocks was.block block) j).least_counter) (same_block m) ∙ set_keeps (λ x. x.least_counter) blocks was.block block refl (mark_at marks m).block in
-            omega (arith, k.above m h, in_block);
       }
+
+      pub kept_set : (new_marks : List Mark) → new_marks ≡ set_mark marks n is → (new_blocks : List MarkBlock) → new_blocks ≡ moved_in blocks was.block was.is_present is
+          → (new_present : ℕ) → new_present ≡ moved present was.is_present is → IsMarkedOrder slots first index new_marks new_blocks new_present
+      kept_set new_marks marks_are new_blocks blocks_are new_present present_is =
+          let are : ◌≡◌ {A = List Mark × List MarkBlock × ℕ} (set_mark marks n is, moved_in blocks was.block was.is_present is, moved present was.is_present is) (new_marks, new_blocks, new_present) =
+          λ i. (sym marks_are i, sym blocks_are i, sym present_is i) in
+          subst (λ t. IsMarkedOrder slots first index t.0 t.1 t.2) are set_kept
 
     changed : (m : SlotNumber) → m.0 < length slots → (b : Bool) → id_eq (slot_at slots m).id id ≡ b
         → ◌≡◌ {A = Id × Bool} ((slot_at slots m).id, (mark_at new m).is_present) (if b then ((slot_at slots m).id, is) else ((slot_at slots m).id, (mark_at marks m).is_present))

@@ -1,5 +1,5 @@
 -- Blocks that an insertion passes at once.
-use Rattle.std.proofs.Common.{◌≡◌, ◌<◌, ◌≤◌, ℕ, suc, List, [], ◌∷◌, ◌++◌, append_assoc, length, Bool, true, false, eqb, eqb-true, inl, inr, Option, Some, None, refl, sym, ap, ◌∙◌, subst, arith}
+use Rattle.std.proofs.Common.{◌≡◌, ◌<◌, ◌≤◌, ℕ, suc, List, [], ◌∷◌, ◌++◌, append_assoc, length, Bool, true, false, eqb, eqb-true, inl, inr, Option, Some, refl, sym, ap, ◌∙◌, subst, arith}
 use Rattle.std.proofs.lemmas.Bool.{lt-leb, le-ltb}
 use Rattle.std.specs.Ordering.{is_lt}
 use Rattle.doc_api.specs.Words.{Id, id_cmp}
@@ -7,8 +7,8 @@ use Rattle.list_order.specs.declared.slots.Slot.{Slot}
 use Rattle.list_order.specs.declared.slots.SlotNumber.{SlotNumber}
 use Rattle.list_order.specs.declared.marks.Mark.{Mark}
 use Rattle.list_order.specs.declared.marks.MarkBlock.{MarkBlock}
-use Rattle.list_order.specs.Slots.{slot_at, IsPath, slots_from, passed, LinksEnd}
-use Rattle.list_order.specs.Marks.{mark_at, block_at, from_block, IsInBlockOrder, IsCounted, IsAbove, LeadsTo, PassesOn, SkipsTo}
+use Rattle.list_order.specs.Slots.{slot_at, slots_from, passed, LeadsTo, LinksEnd}
+use Rattle.list_order.specs.Marks.{mark_at, block_at, from_block, IsInBlockOrder, IsAbove, IsMarked, PassesOn, SkipsTo}
 use Rattle.list_order.proofs.Paths.{walk-Some}
 use Rattle.list_order.proofs.Scanning.{IsStep, step, passed_on}
 use Rattle.list_order.proofs.Counting.{Along, along-map, along-both, along-append, length-from, block_end}
@@ -49,10 +49,6 @@ module _ (marks : List Mark) where
   from_front k (m ∷ front) ys a = rw (lt-leb k (mark_at marks m).block a.0) (from_front k front ys a.1)
 
 module _ (slots : List Slot) where
-  pub along_path : {P : SlotNumber → Type 0} → ((n : SlotNumber) → n.0 < length slots → P n) → (at : Option SlotNumber) (path : List SlotNumber) → IsPath slots at path → Along P path
-  along_path f at [] p = tt
-  along_path f at (n ∷ path) p = (f n p.1, along_path f (slot_at slots n).next path p.2)
-
   -- what is passed is passed up to the last that is
   passed_over : (id : Id) (previous : Option SlotNumber) (m : SlotNumber) (xs rest : List SlotNumber) → Along (λ x. is_lt (id_cmp (slot_at slots x).id id) ≡ false) xs
       → is_lt (id_cmp (slot_at slots m).id id) ≡ false → passed slots id previous (xs ++ m ∷ rest) ≡ passed slots id (Some m) rest
@@ -66,15 +62,15 @@ pub record IsPassedTo (slots : List Slot) (first at : Option SlotNumber) (id : I
   pub same : passed slots id (Some n) (slots_from slots next) ≡ passed slots id previous (slots_from slots at)
   pub shorter : length (slots_from slots next) < length (slots_from slots at)
 
-module _ (slots : List Slot) (marks : List Mark) (blocks : List MarkBlock) (first : Option SlotNumber) (whole : LinksEnd slots first) (counted : IsCounted marks blocks (slots_from slots first) None)
-    (above : (n : SlotNumber) → n.0 < length slots → IsAbove slots marks blocks n) (id : Id) (previous at : Option SlotNumber) (n : SlotNumber) where
+module _ (slots : List Slot) (marks : List Mark) (blocks : List MarkBlock) (first : Option SlotNumber) (present : ℕ) (fits : IsMarked slots first marks blocks present)
+    (id : Id) (previous at : Option SlotNumber) (n : SlotNumber) where
   -- the ids of a block with greater counters aren't less
-  greater_in : (k : ℕ) → id.counter < (block_at blocks k).least_counter → (m : SlotNumber) → m.0 < length slots → (k ≤ (mark_at marks m).block) → ((mark_at marks m).block < suc k)
+  greater_in : (k : ℕ) → id.counter < (block_at blocks k).least_counter → (m : SlotNumber) → IsAbove slots marks blocks m → (k ≤ (mark_at marks m).block) → ((mark_at marks m).block < suc k)
       → is_lt (id_cmp (slot_at slots m).id id) ≡ false
-  greater_in k less m within from to =
+  greater_in k less m above from to =
       let here : (mark_at marks m).block ≡ k = omega (arith, from, to) in
       let least : (block_at blocks (mark_at marks m).block).least_counter ≡ (block_at blocks k).least_counter = ap (λ j. (block_at blocks j).least_counter) here in
-      greater_counter (slot_at slots m).id id (omega (arith, above m within, least, less))
+      greater_counter (slot_at slots m).id id (omega (arith, above, least, less))
 
   skip_on : IsStep slots at n → LinksEnd slots at → LeadsTo slots first at → (m : SlotNumber) → SkipsTo slots marks blocks id n m → IsPassedTo slots first at id previous n (Some m)
   skip_on s walk leads m to =
@@ -83,22 +79,21 @@ module _ (slots : List Slot) (marks : List Mark) (blocks : List MarkBlock) (firs
       let rest : List SlotNumber = slots_from slots (slot_at slots n).next in
       let xs : List SlotNumber = before_block marks (suc b) (n ∷ rest) in
       let all : slots_from slots first ≡ front ++ n ∷ rest = leads.1 ∙ ap (λ l. front ++ l) s.path in
-      let rising : IsInBlockOrder 0 marks (front ++ n ∷ rest) = subst (IsInBlockOrder 0 marks) all counted.rising in
-      let end = block_end marks slots first blocks whole counted b to.block in
+      let rising : IsInBlockOrder 0 marks (front ++ n ∷ rest) = subst (IsInBlockOrder 0 marks) all fits.counted.rising in
+      let end = block_end marks slots first blocks fits.walk fits.counted b to.block in
       let goes_on : LinksEnd slots (Some m) = subst (LinksEnd slots) to.end end.0 in
       let behind_is : slots_from slots (Some m) ≡ from_block (suc b) marks (n ∷ rest) =
       ap (slots_from slots) (sym to.end) ∙ end.1 ∙ ap (from_block (suc b) marks) all ∙ from_front marks (suc b) front (n ∷ rest) (front_below marks 0 front n rest rising) in
       let parts : n ∷ rest ≡ xs ++ slots_from slots (Some m) = split marks (suc b) (n ∷ rest) ∙ ap (λ l. xs ++ l) (sym behind_is) in
       let on = walk-Some slots m goes_on in
       let after : List SlotNumber = slots_from slots (slot_at slots m).next in
-      let inside : Along (λ x. x.0 < length slots) xs =
-      (along-append (λ x. x.0 < length slots) xs (slots_from slots (Some m))
-      (subst (Along (λ x. x.0 < length slots)) parts (along_path slots {P = λ x. x.0 < length slots} (λ x h. h) at (n ∷ rest) (subst (IsPath slots at) s.path walk.path)))).0 in
+      let later : Along (IsAbove slots marks blocks) (n ∷ rest) = (along-append (IsAbove slots marks blocks) front (n ∷ rest) (subst (Along (IsAbove slots marks blocks)) all fits.above)).1 in
+      let above : Along (IsAbove slots marks blocks) xs = (along-append (IsAbove slots marks blocks) xs (slots_from slots (Some m)) (subst (Along (IsAbove slots marks blocks)) parts later)).0 in
       let from : Along (λ x. b ≤ (mark_at marks x).block) xs = rising_above marks b xs (rising_front marks (suc b) b (n ∷ rest) (rising_rest marks 0 front n rest rising)) in
       let greater : Along (λ x. is_lt (id_cmp (slot_at slots x).id id) ≡ false) xs =
-      along-both {P = λ x. (x.0 < length slots) × (b ≤ (mark_at marks x).block)} {Q = λ x. (mark_at marks x).block < suc b} {R = λ x. is_lt (id_cmp (slot_at slots x).id id) ≡ false}
+      along-both {P = λ x. IsAbove slots marks blocks x × (b ≤ (mark_at marks x).block)} {Q = λ x. (mark_at marks x).block < suc b} {R = λ x. is_lt (id_cmp (slot_at slots x).id id) ≡ false}
       (λ x h l. greater_in b to.above x h.0 h.1 l) xs
-      (along-both {P = λ x. x.0 < length slots} {Q = λ x. b ≤ (mark_at marks x).block} {R = λ x. (x.0 < length slots) × (b ≤ (mark_at marks x).block)} (λ x h l. (h, l)) xs inside from)
+      (along-both {P = IsAbove slots marks blocks} {Q = λ x. b ≤ (mark_at marks x).block} {R = λ x. IsAbove slots marks blocks x × (b ≤ (mark_at marks x).block)} (λ x h l. (h, l)) xs above from)
       (within_front marks (suc b) (n ∷ rest)) in
       let skipped : from_block (suc b) marks (n ∷ rest) ≡ from_block (suc b) marks rest = from_front marks (suc b) (n ∷ []) rest (omega arith, tt) in
       record {

@@ -1,14 +1,16 @@
 -- What is kept of each slot beside its id and link: whether its id is present, and the block that it is in.
 use Rattle.std.specs.Prelude.{◌≡◌, ◌⊎◌, ◌++◌, ◌<◌, ◌≤◌, ◌+◌, ◌-◌, ◌^◌, min, ℕ, suc, List, [], ◌∷◌, map, length, Bool}
-use Rattle.std.specs.Prelude.{false, ◌&&◌, nat_eq, nat_le, Option, Some, None, slice_index_or, slice_set, if◌then◌else◌}
+use Rattle.std.specs.Prelude.{false, ◌&&◌, nat_eq, nat_le, Option, Some, None, slice_index_or, slice_set, vec_capacity, if◌then◌else◌}
 use Rattle.std.specs.Ordering.{is_lt}
 use Rattle.doc_api.specs.Words.{Id, id_cmp}
 use Rattle.presence_set.specs.ById.{get}
+use Rattle.list_order.specs.declared.slots.Chain.{Chain}
 use Rattle.list_order.specs.declared.slots.Slot.{Slot}
 use Rattle.list_order.specs.declared.slots.SlotNumber.{SlotNumber}
 use Rattle.list_order.specs.declared.marks.Mark.{Mark}
 use Rattle.list_order.specs.declared.marks.MarkBlock.{MarkBlock}
-use Rattle.list_order.specs.Slots.{slot_at, slots_from, IsOrder}
+use Rattle.list_order.specs.declared.marks.Marks.{Marks}
+use Rattle.list_order.specs.Slots.{slot_at, slots_from, IsOrder, LinksEnd}
 
 -- a mark for numbers that name none
 abbrev pub unmarked : Mark
@@ -108,10 +110,6 @@ lowered_in blocks k counter =
       least_counter = min (block_at blocks k).least_counter counter;
     })
 
--- the slots from the first one on lead to this one
-abbrev pub LeadsTo : List Slot → Option SlotNumber → Option SlotNumber → Type 0
-LeadsTo slots first at = (front : List SlotNumber) × (slots_from slots first ≡ front ++ slots_from slots at)
-
 -- behind the block of a slot there is this one. The ids of the block and of that slot are greater than the id
 pub record SkipsTo (slots : List Slot) (marks : List Mark) (blocks : List MarkBlock)
     (id : Id) (n m : SlotNumber) : Type 0 where
@@ -124,12 +122,6 @@ pub record SkipsTo (slots : List Slot) (marks : List Mark) (blocks : List MarkBl
 abbrev pub PassesOn : List Slot → List Mark → List MarkBlock → Id → SlotNumber → Option SlotNumber → Type 0
 PassesOn slots marks blocks id n next =
     (next ≡ (slot_at slots n).next) ⊎ ((m : SlotNumber) × (next ≡ Some m) × SkipsTo slots marks blocks id n m)
-
--- the same ids are present, and the blocks are cut anew
-pub record IsRecut (marks new : List Mark) (blocks : List MarkBlock) (path : List SlotNumber) : Type 0 where
-  pub same : (n : SlotNumber) → (mark_at new n).is_present ≡ (mark_at marks n).is_present
-  pub len : length new ≡ length marks
-  pub counted : IsCounted new blocks path None
 
 -- the blocks with one count moved
 abbrev pub moved_in : List MarkBlock → ℕ → Bool → Bool → List MarkBlock
@@ -165,12 +157,39 @@ present_along slots marks (n ∷ path) =
     if (mark_at marks n).is_present then (slot_at slots n).id ∷ present_along slots marks path
     else present_along slots marks path
 
--- the order, its marks and its blocks fit together
+-- the marks fit the links: each block has the count of its present ids, and no id of it has a lesser counter than it says
+pub record IsMarked (slots : List Slot) (first : Option SlotNumber)
+    (marks : List Mark) (blocks : List MarkBlock) (present : ℕ) : Type 0 where
+  pub walk : LinksEnd slots first
+  pub marked : length marks ≡ length slots
+  pub counted : IsCounted marks blocks (slots_from slots first) None
+  pub all : present ≡ count_where is_marked marks (slots_from slots first)
+  pub above : Along (IsAbove slots marks blocks) (slots_from slots first)
+
+abbrev pub FitsChain : Chain → Marks → Type 0
+FitsChain chain m = IsMarked chain.slots.items chain.first m.by_slot.items m.blocks.items m.present
+
+-- the order, its index and its marks fit together
 pub record IsMarkedOrder (slots : List Slot) (first : Option SlotNumber) (index : List (Id × SlotNumber))
     (marks : List Mark) (blocks : List MarkBlock) (present : ℕ) : Type 0 where
   pub order : IsOrder slots first index
   pub own : (n : SlotNumber) → n.0 < length slots → get index (slot_at slots n).id ≡ Some n
-  pub marked : length marks ≡ length slots
-  pub counted : IsCounted marks blocks (slots_from slots first) None
-  pub all : present ≡ count_where is_marked marks (slots_from slots first)
-  pub above : (n : SlotNumber) → n.0 < length slots → IsAbove slots marks blocks n
+  pub fits : IsMarked slots first marks blocks present
+
+abbrev pub FitsOrder : Chain → List (Id × SlotNumber) → Marks → Type 0
+FitsOrder chain index m =
+    IsMarkedOrder chain.slots.items chain.first index m.by_slot.items m.blocks.items m.present
+
+-- the entries of a chain
+abbrev pub entries_in : Chain → Marks → List (Id × Bool)
+entries_in chain m = entries_along chain.slots.items m.by_slot.items (slots_from chain.slots.items chain.first)
+
+-- its present ids from a slot on
+abbrev pub present_from : Chain → Marks → Option SlotNumber → List Id
+present_from chain m at = present_along chain.slots.items m.by_slot.items (slots_from chain.slots.items at)
+
+-- the same ids are present, and there is as much room
+pub record IsRecut (old new : Marks) : Type 0 where
+  pub same : (n : SlotNumber)
+      → (mark_at new.by_slot.items n).is_present ≡ (mark_at old.by_slot.items n).is_present
+  pub room : vec_capacity new.by_slot ≡ vec_capacity old.by_slot

@@ -1,6 +1,7 @@
 -- Linked slots: what the links lead through, and what an insertion makes of them.
 use Rattle.std.specs.Prelude.{◌≡◌, ◌<◌, ◌+◌, ℕ, Bool, zero, suc, List, [], ◌∷◌, ◌++◌, map, length, Option, Some, None}
 use Rattle.std.specs.Prelude.{option_and_then, slice_index_or, slice_set, if◌then◌else◌}
+use Rattle.std.specs.Option.{ForSome}
 use Rattle.std.specs.Ordering.{is_lt}
 use Rattle.doc_api.specs.Words.{Id, id_cmp}
 use Rattle.crdt_rules.specs.Same.{id_eq}
@@ -62,6 +63,15 @@ passed slots id previous [] = previous
 passed slots id previous (n ∷ path) =
     if is_lt (id_cmp (slot_at slots n).id id) then previous else passed slots id (Some n) path
 
+-- the slot that a new id comes behind
+abbrev pub place_in : List Slot → Option SlotNumber → List (Id × SlotNumber) → Option Id → Id → Option SlotNumber
+place_in slots first index after id =
+    passed slots id (number_for index after) (slots_from slots (behind slots first (number_for index after)))
+
+-- the number of a new slot
+abbrev pub fresh_in : List Slot → SlotNumber
+fresh_in slots = record { 0 = length slots }
+
 -- the slots with one more, linked in behind a slot or as the first
 abbrev pub linked : List Slot → Option SlotNumber → Option SlotNumber → Id → List Slot
 linked slots first None id = slots ++ record { id = id; next = first } ∷ []
@@ -84,3 +94,13 @@ pub record IsOrder (slots : List Slot) (first : Option SlotNumber) (index : List
 -- the links from a slot on end
 pub record LinksEnd (slots : List Slot) (at : Option SlotNumber) : Type 0 where
   pub path : IsPath slots at (slots_from slots at)
+
+-- the slots from the first one on lead to this one
+abbrev pub LeadsTo : List Slot → Option SlotNumber → Option SlotNumber → Type 0
+LeadsTo slots first at = (front : List SlotNumber) × (slots_from slots first ≡ front ++ slots_from slots at)
+
+-- a slot that the links lead to, or none for the front. From it they go on to the end
+pub record IsOnPath (slots : List Slot) (first previous : Option SlotNumber) : Type 0 where
+  pub within : ForSome previous (λ p. p.0 < length slots)
+  pub walk : LinksEnd slots (behind slots first previous)
+  pub leads : LeadsTo slots first (behind slots first previous)

@@ -10,60 +10,46 @@ ghost use Rattle.list_laws.specs.Order.{insert_after};
 ghost use Rattle.list_order.specs.Entries.{ids_of, present_of, entry_cmp, absent, entry_of_reference, with_presence};
 ghost use Rattle.list_order.specs.Following.{following};
 
-use crate::marks::{
-    Mark, MarkBlock, NextCuts, add_mark, first_cuts, lower_least, mark_at, nth_along, recut_if_due,
-    recut_if_stale, reserve_blocks, set_presence,
-};
-use crate::passing::last_passed;
+use crate::marks::Marks;
+use crate::passing::place_for;
 use crate::present::present_ids;
-use crate::slots::{
-    Slot, SlotNumber, add_entry, ids_from, link, number_for, number_of, reserve_entry, slot_after,
-    slot_at,
-};
+use crate::slots::{Chain, SlotNumber, add_entry, number_of, reserve_entry};
 use lamport_id::Id;
 use presence_set::IdBlocks;
 use std::alloc::{AllocError, Global};
 use std::marker::Model;
 
-/// The ids of a list in its order, deleted ones included, each with whether it is present: linked slots with marks, an
-/// index from id to slot in blocks, and blocks that count the present ids. Clauses see a pair: the entries, and how many of them
-/// the reserved memory can hold.
+/// The ids of a list in its order, deleted ones included, each with whether it is present: linked slots, an index from
+/// id to slot in blocks, and the marks of the slots. Clauses see a pair: the entries, and how many of them the reserved
+/// memory can hold.
 pub struct LinkedOrder {
-    slots: Vec<Slot>,
-    first: Option<SlotNumber>,
+    chain: Chain,
     index: IdBlocks<SlotNumber>,
-    marks: Vec<Mark>,
-    blocks: Vec<MarkBlock>,
-    present: usize,
-    next_cuts: NextCuts,
+    marks: Marks,
 }
 
 impl Model for LinkedOrder {
     ghost use Rattle.std.specs.Prelude.{List, ℕ, Bool, min, vec_capacity};
     ghost use Rattle.lamport_id.specs.declared.id.Id.{Id};
-    ghost use Rattle.list_order.specs.Slots.{room_in, slots_from};
-    ghost use Rattle.list_order.specs.Marks.{entries_along, IsMarkedOrder};
+    ghost use Rattle.list_order.specs.Slots.{room_in};
+    ghost use Rattle.list_order.specs.Marks.{entries_in, FitsOrder};
 
     ghost Value = { List (Id × Bool) × ℕ };
 
     ghost view = { λ o. (
-      entries_along o.slots.items o.marks.items (slots_from o.slots.items o.first),
-      min (vec_capacity o.slots) (min (room_in o.index) (vec_capacity o.marks)),
+      entries_in o.chain o.marks,
+      min (vec_capacity o.chain.slots) (min (room_in o.index) (vec_capacity o.marks.by_slot)),
     ) };
 
-    ghost invariant = { λ o. IsMarkedOrder o.slots.items o.first o.index.0 o.marks.items o.blocks.items o.present };
+    ghost invariant = { λ o. FitsOrder o.chain o.index.0 o.marks };
 }
 
 impl Drop for LinkedOrder {
     fn drop(self) {
         let LinkedOrder {
-            slots: _,
-            first: _,
+            chain: _,
             index: _,
             marks: _,
-            blocks: _,
-            present: _,
-            next_cuts: _,
         } = self;
     }
 }
@@ -74,13 +60,9 @@ impl LinkedOrder {
         ensures { result.0 ≡ [] }
     {
         LinkedOrder {
-            slots: Vec::new(alloc),
-            first: None,
+            chain: Chain::new(alloc),
             index: IdBlocks::new(alloc),
-            marks: Vec::new(alloc),
-            blocks: Vec::new(alloc),
-            present: 0,
-            next_cuts: first_cuts(),
+            marks: Marks::new(alloc),
         }
     }
 
@@ -92,10 +74,9 @@ impl LinkedOrder {
         ensures room { OnOk result (length self.new.0 < self.new.1) }
         ensures succeeds { length self.old.0 < self.old.1 → IsOk result }
     {
-        self.slots.reserve(1)?;
+        self.chain.slots.reserve(1)?;
         reserve_entry(&mut self.index)?;
-        reserve_blocks(&mut self.blocks, self.slots.len());
-        self.marks.reserve(1)
+        self.marks.reserve_one(self.chain.slots.len())
     }
 
     /// Inserts a new id after another, or at the head of the list, and behind the greater ids that follow there. It is
@@ -106,32 +87,11 @@ impl LinkedOrder {
         requires new { ¬ (Contains (ids_of self.old.0) id) }
         ensures { self.new ≡ (insert_after entry_cmp self.old.0 (entry_of_reference after) (absent id), self.old.1) }
     {
-        let reference = number_for(&self.index, after);
-        let previous = last_passed(
-            self.slots.as_slice(),
-            self.first,
-            reference,
-            self.marks.as_slice(),
-            self.blocks.as_slice(),
-            &id,
-        );
-        let fresh = SlotNumber(self.slots.len());
-        lower_least(
-            &mut self.blocks,
-            self.marks.as_slice(),
-            previous,
-            id.counter,
-        );
-        add_mark(&mut self.marks, previous);
-        link(&mut self.slots, &mut self.first, previous, &id);
+        let previous = place_for(&self.chain, &self.index, &self.marks, after, &id);
+        self.marks.add(previous, id.counter);
+        let fresh = self.chain.link(previous, &id);
         add_entry(&mut self.index, &id, fresh);
-        recut_if_due(
-            self.slots.as_slice(),
-            self.first,
-            &mut self.marks,
-            &mut self.blocks,
-            &mut self.next_cuts,
-        );
+        self.marks.recut_if_due(&self.chain);
     }
 
     /// Says that an id is present, or that it is not. Where the list does not have it, nothing changes.
@@ -141,21 +101,8 @@ impl LinkedOrder {
         match number_of(&self.index, &id) {
             None => {}
             Some(n) => {
-                set_presence(
-                    &mut self.marks,
-                    &mut self.blocks,
-                    &mut self.present,
-                    n,
-                    is_present,
-                );
-                recut_if_stale(
-                    self.slots.as_slice(),
-                    self.first,
-                    &mut self.marks,
-                    &mut self.blocks,
-                    &mut self.next_cuts,
-                    is_present,
-                );
+                self.marks.set_presence(n, is_present);
+                self.marks.recut_if_stale(&self.chain, is_present);
             }
         }
     }
@@ -168,26 +115,22 @@ impl LinkedOrder {
         if let Some(id) = self.newest_at_end(i) {
             return Some(id);
         }
-        nth_along(
-            self.slots.as_slice(),
-            self.first,
-            self.marks.as_slice(),
-            self.blocks.as_slice(),
-            i,
-        )
+        self.marks.nth(&self.chain, i)
     }
 
     // The newest id, if none is behind it and it is the i-th present one.
     fn newest_at_end(&self, i: usize) -> Option<Id>
         ensures { IfSome result (λ id. slice_get (present_of self.now.0) i ≡ Some id) }
     {
-        if self.slots.is_empty() {
+        let len = self.chain.slots.len();
+        if len == 0 {
             return None;
         }
-        let newest = SlotNumber(self.slots.len() - 1);
-        let slot = slot_at(self.slots.as_slice(), newest);
-        let is_present = mark_at(self.marks.as_slice(), newest).is_present;
-        if slot.next.is_none() && is_present && i < self.present && self.present - i == 1 {
+        let newest = SlotNumber(len - 1);
+        let slot = self.chain.slot_at(newest);
+        let is_present = self.marks.at(newest).is_present;
+        let present = self.marks.present;
+        if slot.next.is_none() && is_present && i < present && present - i == 1 {
             Some(slot.id)
         } else {
             None
@@ -198,9 +141,9 @@ impl LinkedOrder {
     pub fn next(&self, after: Option<Id>) -> Option<Id>
         ensures { result ≡ following (ids_of self.now.0) after }
     {
-        match slot_after(self.slots.as_slice(), self.first, &self.index, after) {
+        match self.chain.slot_after(&self.index, after) {
             None => None,
-            Some(n) => Some(slot_at(self.slots.as_slice(), n).id),
+            Some(n) => Some(self.chain.slot_at(n).id),
         }
     }
 
@@ -215,20 +158,13 @@ impl LinkedOrder {
     pub fn ids(&self, alloc: Global) -> Result<Vec<Id>, AllocError>
         ensures { IfOk result (λ ids. ids.items ≡ ids_of self.now.0) }
     {
-        ids_from(alloc, self.slots.as_slice(), self.first)
+        self.chain.ids(alloc)
     }
 
     /// The present ids of the list in its order. The error is out of memory.
     pub fn present_ids(&self, alloc: Global) -> Result<Vec<Id>, AllocError>
         ensures { IfOk result (λ ids. ids.items ≡ present_of self.now.0) }
     {
-        present_ids(
-            alloc,
-            self.slots.as_slice(),
-            self.first,
-            self.marks.as_slice(),
-            self.blocks.as_slice(),
-            self.present,
-        )
+        present_ids(alloc, &self.chain, &self.marks)
     }
 }

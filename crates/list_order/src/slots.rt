@@ -1,11 +1,11 @@
 //! Linked slots, and an index from id to slot.
-ghost use Rattle.std.specs.Prelude.{◌≡◌, ◌+◌, ◌<◌, ◌≤◌, length, true, None, Some, IfOk, IsOk, OnOk, vec_capacity};
+ghost use Rattle.std.specs.Prelude.{◌≡◌, ◌+◌, ◌<◌, ◌≤◌, [], length, true, None, Some, IfOk, IsOk, OnOk, vec_capacity};
 ghost use Rattle.std.specs.Option.{ForSome};
 ghost use Rattle.std.specs.Ordering.{is_lt};
 ghost use Rattle.lamport_id.specs.declared.id.Id.{Id};
 ghost use Rattle.lamport_id.specs.Order.{id_cmp};
 ghost use Rattle.presence_set.specs.ById.{get, put_at_id};
-ghost use Rattle.list_order.specs.Slots.{ids_along, linked, linked_first, passed, room_in, slots_from, LinksEnd};
+ghost use Rattle.list_order.specs.Slots.{fresh_in, ids_along, linked, linked_first, passed, room_in, slots_from, LinksEnd};
 ghost use Rattle.list_order.specs.Slots as Spec;
 
 use lamport_id::Id;
@@ -23,91 +23,97 @@ pub struct Slot {
     pub next: Option<SlotNumber>,
 }
 
-/// The slot with a number.
-pub fn slot_at(slots: &[Slot], n: SlotNumber) -> &Slot
-    requires { n.0 < length slots.now }
-    ensures { result.now ≡ Spec.slot_at slots.now n }
-{
-    &slots[n.0]
+/// The slots of a list, linked in its order.
+#[derive(Drop)]
+pub struct Chain {
+    /// In the order in which they came.
+    pub slots: Vec<Slot>,
+    pub first: Option<SlotNumber>,
 }
 
-/// The slot behind a slot, or the first.
-pub fn behind(
-    slots: &[Slot],
-    first: Option<SlotNumber>,
-    previous: Option<SlotNumber>,
-) -> Option<SlotNumber>
-    requires { ForSome previous (λ p. p.0 < length slots.now) }
-    ensures { result ≡ Spec.behind slots.now first previous }
-{
-    match previous {
-        None => first,
-        Some(p) => slot_at(slots, p).next,
+impl Chain {
+    /// No slots. They take no memory yet.
+    pub fn new(alloc: Global) -> Chain
+        ensures slots { result.slots.items ≡ [] }
+        ensures first { result.first ≡ None }
+    {
+        Chain {
+            slots: Vec::new(alloc),
+            first: None,
+        }
     }
-}
 
-/// The slot behind that of an id, or the first. There is none behind an id without a slot.
-pub fn slot_after(
-    slots: &[Slot],
-    first: Option<SlotNumber>,
-    index: &IdBlocks<SlotNumber>,
-    after: Option<Id>,
-) -> Option<SlotNumber>
-    requires { (id : Id) (p : SlotNumber) → get index.now.0 id ≡ Some p → p.0 < length slots.now }
-    ensures { result ≡ Spec.slot_after slots.now first index.now.0 after }
-{
-    let Some(id) = after else {
-        return first;
-    };
-    let Some(p) = number_of(index, &id) else {
-        return None;
-    };
-    slot_at(slots, p).next
-}
+    /// The slot with a number.
+    pub fn slot_at(&self, n: SlotNumber) -> &Slot
+        requires { n.0 < length self.now.slots.items }
+        ensures { result.now ≡ Spec.slot_at self.now.slots.items n }
+    {
+        &self.slots[n.0]
+    }
 
-/// Links a new id in behind a slot, or as the first.
-pub fn link(
-    slots: &mut Vec<Slot>,
-    first: &mut Option<SlotNumber>,
-    previous: Option<SlotNumber>,
-    id: &Id,
-)
-    requires known { ForSome previous (λ p. p.0 < length slots.old.items) }
-    requires room { length slots.old.items < vec_capacity slots.old }
-    ensures slots { slots.new.items ≡ linked slots.old.items first.old previous id.now }
-    ensures first { first.new ≡ linked_first slots.old.items first.old previous }
-    ensures capacity { vec_capacity slots.new ≡ vec_capacity slots.old }
-{
-    let fresh = Some(SlotNumber(slots.len()));
-    let next = behind(slots.as_slice(), *first, previous);
-    match previous {
-        None => *first = fresh,
-        Some(p) => slots[p.0].next = fresh,
+    /// The slot behind a slot, or the first.
+    pub fn behind(&self, previous: Option<SlotNumber>) -> Option<SlotNumber>
+        requires { ForSome previous (λ p. p.0 < length self.now.slots.items) }
+        ensures { result ≡ Spec.behind self.now.slots.items self.now.first previous }
+    {
+        match previous {
+            None => self.first,
+            Some(p) => self.slot_at(p).next,
+        }
     }
-    let last = slots.len();
-    match slots.insert(last, Slot { id: *id, next }) {
-        Ok(()) => {}
-        Err(_) => unreachable!(),
-    }
-}
 
-/// The ids in the order of the links.
-pub fn ids_from(
-    alloc: Global,
-    slots: &[Slot],
-    first: Option<SlotNumber>,
-) -> Result<Vec<Id>, AllocError>
-    requires { LinksEnd slots.now first }
-    ensures { IfOk result (λ ids. ids.items ≡ ids_along slots.now (slots_from slots.now first)) }
-{
-    let mut ids = Vec::new(alloc);
-    let mut at = first;
-    while let Some(n) = at {
-        let slot = slot_at(slots, n);
-        ids.push(slot.id)?;
-        at = slot.next;
+    /// The slot behind that of an id, or the first. There is none behind an id without a slot.
+    pub fn slot_after(&self, index: &IdBlocks<SlotNumber>, after: Option<Id>) -> Option<SlotNumber>
+        requires { (id : Id) (p : SlotNumber) → get index.now.0 id ≡ Some p → p.0 < length self.now.slots.items }
+        ensures { result ≡ Spec.slot_after self.now.slots.items self.now.first index.now.0 after }
+    {
+        let Some(id) = after else {
+            return self.first;
+        };
+        let Some(p) = number_of(index, &id) else {
+            return None;
+        };
+        self.slot_at(p).next
     }
-    Ok(ids)
+
+    /// Links a new id in behind a slot, or as the first. The answer is its slot.
+    pub fn link(&mut self, previous: Option<SlotNumber>, id: &Id) -> SlotNumber
+        requires known { ForSome previous (λ p. p.0 < length self.old.slots.items) }
+        requires room { length self.old.slots.items < vec_capacity self.old.slots }
+        ensures fresh { result ≡ fresh_in self.old.slots.items }
+        ensures slots { self.new.slots.items ≡ linked self.old.slots.items self.old.first previous id.now }
+        ensures first { self.new.first ≡ linked_first self.old.slots.items self.old.first previous }
+        ensures capacity { vec_capacity self.new.slots ≡ vec_capacity self.old.slots }
+    {
+        let last = self.slots.len();
+        let fresh = SlotNumber(last);
+        let next = self.behind(previous);
+        match previous {
+            None => self.first = Some(fresh),
+            Some(p) => self.slots[p.0].next = Some(fresh),
+        }
+        match self.slots.insert(last, Slot { id: *id, next }) {
+            Ok(()) => {}
+            Err(_) => unreachable!(),
+        }
+        fresh
+    }
+
+    /// The ids in the order of the links.
+    pub fn ids(&self, alloc: Global) -> Result<Vec<Id>, AllocError>
+        requires { LinksEnd self.now.slots.items self.now.first }
+        ensures { IfOk result (λ ids. ids.items
+            ≡ ids_along self.now.slots.items (slots_from self.now.slots.items self.now.first)) }
+    {
+        let mut ids = Vec::new(alloc);
+        let mut at = self.first;
+        while let Some(n) = at {
+            let slot = self.slot_at(n);
+            ids.push(slot.id)?;
+            at = slot.next;
+        }
+        Ok(ids)
+    }
 }
 
 /// The slot of an id.

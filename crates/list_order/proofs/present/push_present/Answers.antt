@@ -12,26 +12,26 @@ pub loop-at-init : goal.loop-at-init
 loop-at-init c = record { walk = c.requires.walk; same = refl }
 
 pub slot_at-slot-requires : goal.slot_at-slot-requires
-slot_at-slot-requires c = (step c.args.slots.now c.loop-at.at c.in-Some.n c.in-Some.is c.loop-at.invariant.walk).within
+slot_at-slot-requires c = (step c.args.chain.now.slots.items c.loop-at.at c.in-Some.n c.in-Some.is c.loop-at.invariant.walk).within
 
-pub mark_at-is_present-requires : goal.mark_at-is_present-requires
-mark_at-is_present-requires c =
-    let s = step c.args.slots.now c.loop-at.at c.in-Some.n c.in-Some.is c.loop-at.invariant.walk in
+pub at-is_present-requires : goal.at-is_present-requires
+at-is_present-requires c =
+    let s = step c.args.chain.now.slots.items c.loop-at.at c.in-Some.n c.in-Some.is c.loop-at.invariant.walk in
     subst (λ m. c.in-Some.n.0 < m) (sym c.requires.marked) s.within
 
 pub loop-at-smaller : goal.loop-at-smaller
 loop-at-smaller c =
-    let slots = c.args.slots.now in
+    let slots = c.args.chain.now.slots.items in
     subst (λ s. length (slots_from slots s.next) < length (slots_from slots c.loop-at.at)) (sym c.slot_at-slot.ensures)
     (step slots c.loop-at.at c.in-Some.n c.in-Some.is c.loop-at.invariant.walk).shorter
 
 pub loop-at-preserved : goal.loop-at-preserved
 loop-at-preserved c =
-    let slots = c.args.slots.now in
-    let marks = c.args.marks.now in
+    let slots = c.args.chain.now.slots.items in
+    let marks = c.args.marks.now.by_slot.items in
     let left = c.loop-at.left in
     let s = step slots c.loop-at.at c.in-Some.n c.in-Some.is c.loop-at.invariant.walk in
-    let is : c.mark_at-is_present.result.is_present ≡ (mark_at marks c.in-Some.n).is_present = ap (λ m. m.is_present) c.mark_at-is_present.ensures in
+    let is : c.at-is_present.result.is_present ≡ (mark_at marks c.in-Some.n).is_present = ap (λ m. m.is_present) c.at-is_present.ensures in
     record {
       walk = subst (λ s. LinksEnd slots s.next) (sym c.slot_at-slot.ensures) s.walk;
       same =
@@ -45,15 +45,15 @@ loop-at-preserved c =
 
 pub returns-then-left-eq0 : goal.returns-then-left-eq0
 returns-then-left-eq0 c =
-    let slots = c.args.slots.now in
+    let slots = c.args.chain.now.slots.items in
     sym (append-nil c.loop-at.ids.items)
-    ∙ ap (λ m. c.loop-at.ids.items ++ take m (present_along slots c.args.marks.now (slots_from slots c.loop-at.at))) (sym c.if-left-eq0.true)
+    ∙ ap (λ m. c.loop-at.ids.items ++ take m (present_along slots c.args.marks.now.by_slot.items (slots_from slots c.loop-at.at))) (sym c.if-left-eq0.true)
     ∙ c.loop-at.invariant.same
 
 pub returns-in_default : goal.returns-in_default
 returns-in_default c =
-    let slots = c.args.slots.now in
-    let marks = c.args.marks.now in
+    let slots = c.args.chain.now.slots.items in
+    let marks = c.args.marks.now.by_slot.items in
     sym (append-nil c.loop-at.ids.items)
     ∙ ap (λ (l : List Id). c.loop-at.ids.items ++ l) (sym (take_all c.loop-at.left [] (omega arith)))
     ∙ ap (λ l. c.loop-at.ids.items ++ take c.loop-at.left (present_along slots marks l)) (sym (ap (slots_from slots) c.in_default.is ∙ walk-None slots))

@@ -8,8 +8,8 @@ use Rattle.list_order.proofs.linked.LinkedOrder.contains.Goals as goal
 
 pub returns : goal.returns
 returns c =
-    let slots = c.self.inside.slots.items in
+    let chain = c.self.inside.chain in
     c.is_some.ensures
     ∙ ap is_some (c.number_of.ensures ∙ c.self.invariant.order.exact c.args.id)
-    ∙ is_some-number_along slots c.self.inside.marks.items (slots_from slots c.self.inside.first) c.args.id
+    ∙ is_some-number_along chain.slots.items c.self.inside.marks.by_slot.items (slots_from chain.slots.items chain.first) c.args.id
     ∙ ap (λ v. list_any (λ e. id_eq e.0 c.args.id) v.0) c.self.view_is
