@@ -27,6 +27,22 @@ use lamport_id::Id;
 use op_core::{Front, Key, Mutation, Operation, Tagged};
 use presence_set::Role;
 
+// A place, and its node.
+#[derive(Clone, Copy)]
+struct Target<'a> {
+    path: &'a [Tagged],
+    key: &'a Key,
+    end: NodeNumber,
+}
+
+// What an operation puts at a place, and what it has seen.
+struct Put<'a> {
+    front: &'a Front,
+    id: &'a Id,
+    role: Role,
+    scalar: Option<Scalar>,
+}
+
 /// Applies an operation for which the nodes are ready, with a clone of its scalar and the nodes where it ends.
 pub fn apply(nodes: &mut [Node], scalar: Option<Scalar>, place: PlaceNodes, op: &Operation)
     requires tree { AreTree nodes.old }
@@ -48,24 +64,42 @@ pub fn apply(nodes: &mut [Node], scalar: Option<Scalar>, place: PlaceNodes, op: 
     let key = &cursor.key;
     let front = op.front();
     let id = op.id();
+    let target = Target {
+        path,
+        key,
+        end: place.node,
+    };
     match op.mutation() {
         Mutation::Assign(val) => {
+            let role = role_for(val);
             put_at(
                 nodes,
-                path,
-                key,
-                place.node,
-                front,
-                &id,
-                role_for(val),
-                scalar,
+                target,
+                Put {
+                    front,
+                    id: &id,
+                    role,
+                    scalar,
+                },
             )
         }
         Mutation::Insert(val) => {
-            insert_at(nodes, path, key, place, front, &id, role_for(val), scalar)
+            let role = role_for(val);
+            insert_at(
+                nodes,
+                path,
+                key,
+                place,
+                Put {
+                    front,
+                    id: &id,
+                    role,
+                    scalar,
+                },
+            )
         }
         Mutation::Delete => clear_at(nodes, path, key, front),
-        Mutation::Add(n) => add_at(nodes, path, key, place.node, &id, *n),
+        Mutation::Add(n) => add_at(nodes, target, &id, *n),
     }
 }
 
@@ -97,86 +131,83 @@ pub fn clear_at(nodes: &mut [Node], path: &[Tagged], key: &Key, front: &Front)
     }
 }
 
-/// Inserts an element into a list, and assigns at it.
-pub fn insert_at(
-    nodes: &mut [Node],
-    path: &[Tagged],
-    after: &Key,
-    place: PlaceNodes,
-    front: &Front,
-    id: &Id,
-    role: Role,
-    scalar: Option<Scalar>,
-)
+// Inserts an element into a list, and assigns at it.
+fn insert_at(nodes: &mut [Node], path: &[Tagged], after: &Key, place: PlaceNodes, put: Put<'_>)
     requires tree { AreTree nodes.old }
     requires list_presence { ListsShowPresence nodes.old }
     requires has_presence { HavePresence nodes.old }
     requires list { list_node_at nodes.old path.now ≡ Some place.above }
     requires list_room { IsReadyList nodes.old path.now }
-    requires node { node_at nodes.old path.now (Element id.now) ≡ Some place.node }
+    requires node { node_at nodes.old path.now (Element put.id.now) ≡ Some place.node }
     requires reference { ForSome (reference after.now) (Contains ((facts_of nodes.old).order path.now)) }
-    requires new { ¬ (Contains ((facts_of nodes.old).order path.now) id.now) }
-    requires ready { IsReadyFor nodes.old path.now (Element id.now) false }
+    requires new { ¬ (Contains ((facts_of nodes.old).order path.now) put.id.now) }
+    requires ready { IsReadyFor nodes.old path.now (Element put.id.now) false }
     ensures facts { facts_of nodes.new
         ≡ put_facts (order_facts (facts_of nodes.old) path.now
-        (λ ids. insert_after id_cmp ids (reference after.now) id.now))
-        path.now (Element id.now) (covers front.now) id.now scalar }
+        (λ ids. insert_after id_cmp ids (reference after.now) put.entry.id.now))
+        path.now (Element put.entry.id.now) (covers put.entry.front.now) put.entry.id.now put.entry.scalar }
     ensures roles { (q : List Tagged) (j : Key) (i : Id) → role_at nodes.new q j i
-        ≡ put_role (role_at nodes.old) path.now (Element id.now) (covers front.now) id.now role q j i }
+        ≡ put_role (role_at nodes.old) path.now (Element put.entry.id.now) (covers put.entry.front.now)
+        put.entry.id.now put.entry.role q j i }
     ensures tree { AreTree nodes.new }
     ensures list_presence { ListsShowPresence nodes.new }
     ensures has_presence { HavePresence nodes.new }
 {
-    link(nodes, place.above, element_in(after), id);
-    let key = Key::Element(*id);
-    put_at(nodes, path, &key, place.node, front, id, role, scalar);
+    link(nodes, place.above, element_in(after), put.id);
+    let key = Key::Element(*put.id);
+    let target = Target {
+        path,
+        key: &key,
+        end: place.node,
+    };
+    put_at(nodes, target, put);
 }
 
-/// Assigns at a place, whose node is `end`: clears there, makes it and those above it present, and enters a scalar.
-pub fn put_at(
-    nodes: &mut [Node],
-    path: &[Tagged],
-    key: &Key,
-    end: NodeNumber,
-    front: &Front,
-    id: &Id,
-    role: Role,
-    scalar: Option<Scalar>,
-)
+// Assigns at a place: clears there, makes it and those above it present, and enters a scalar.
+fn put_at(nodes: &mut [Node], target: Target<'_>, put: Put<'_>)
     requires tree { AreTree nodes.old }
-    requires end { node_at nodes.old path.now key.now ≡ Some end }
-    requires list_presence { ListsShowPresenceBut nodes.old end }
+    requires end { node_at nodes.old target.path.now target.key.now ≡ Some target.end }
+    requires list_presence { ListsShowPresenceBut nodes.old target.end }
     requires has_presence { HavePresence nodes.old }
-    requires ready { IsReadyFor nodes.old path.now key.now false }
+    requires ready { IsReadyFor nodes.old target.path.now target.key.now false }
     ensures facts { facts_of nodes.new
-        ≡ put_facts (facts_of nodes.old) path.now key.now (covers front.now) id.now scalar }
+        ≡ put_facts (facts_of nodes.old) target.entry.path.now target.entry.key.now (covers put.entry.front.now)
+        put.entry.id.now put.entry.scalar }
     ensures roles { (q : List Tagged) (j : Key) (i : Id) → role_at nodes.new q j i
-        ≡ put_role (role_at nodes.old) path.now key.now (covers front.now) id.now role q j i }
+        ≡ put_role (role_at nodes.old) target.entry.path.now target.entry.key.now (covers put.entry.front.now)
+        put.entry.id.now put.entry.role q j i }
     ensures tree { AreTree nodes.new }
     ensures list_presence { ListsShowPresence nodes.new }
     ensures has_presence { HavePresence nodes.new }
 {
-    clear_under(nodes, end, front);
-    add_presence_along(nodes, path, key, id, role);
+    let Put {
+        front,
+        id,
+        role,
+        scalar,
+    } = put;
+    clear_under(nodes, target.end, front);
+    add_presence_along(nodes, target.path, target.key, id, role);
     if let Some(scalar) = scalar {
-        enter(nodes, end, id, scalar);
+        enter(nodes, target.end, id, scalar);
     }
 }
 
-/// Adds at a place, whose node is `end`: makes it and those above it present, and enters a number.
-pub fn add_at(nodes: &mut [Node], path: &[Tagged], key: &Key, end: NodeNumber, id: &Id, n: i64)
+// Adds at a place: makes it and those above it present, and enters a number.
+fn add_at(nodes: &mut [Node], target: Target<'_>, id: &Id, n: i64)
     requires tree { AreTree nodes.old }
     requires list_presence { ListsShowPresence nodes.old }
     requires has_presence { HavePresence nodes.old }
-    requires end { node_at nodes.old path.now key.now ≡ Some end }
-    requires ready { IsReadyFor nodes.old path.now key.now true }
-    ensures facts { facts_of nodes.new ≡ add_facts (facts_of nodes.old) path.now key.now id.now n }
+    requires end { node_at nodes.old target.path.now target.key.now ≡ Some target.end }
+    requires ready { IsReadyFor nodes.old target.path.now target.key.now true }
+    ensures facts { facts_of nodes.new
+        ≡ add_facts (facts_of nodes.old) target.entry.path.now target.entry.key.now id.now n }
     ensures roles { (q : List Tagged) (j : Key) (i : Id) → role_at nodes.new q j i
-        ≡ add_role (role_at nodes.old) path.now key.now id.now Counter q j i }
+        ≡ add_role (role_at nodes.old) target.entry.path.now target.entry.key.now id.now Counter q j i }
     ensures tree { AreTree nodes.new }
     ensures list_presence { ListsShowPresence nodes.new }
     ensures has_presence { HavePresence nodes.new }
 {
-    add_presence_along(nodes, path, key, id, Role::Counter);
-    count(nodes, end, id, n);
+    add_presence_along(nodes, target.path, target.key, id, Role::Counter);
+    count(nodes, target.end, id, n);
 }

@@ -10,10 +10,15 @@ use Rattle.doc_rules.specs.Views.{HaveValues, IsPresent}
 use Rattle.doc_rules.specs.Sorted.{AreThose}
 use Rattle.serde_json.specs.Data.{Data}
 use Rattle.doc_view.specs.Showing.{AreShown}
+use Rattle.doc_view.specs.declared.node_reader.NodeReader.{NodeReader}
 
 -- this holds at the place whose node has this number
 abbrev pub AtNode : TreeValue → NodeNumber → (List Tagged → Key → Type 0) → Type 0
 AtNode tree n holds = (p : List Tagged) (k : Key) → tree_number tree p k ≡ Some n → holds p k
+
+-- this holds of the tree that is read, at the place of the node
+abbrev pub AtReader : NodeReader → (TreeValue → List Tagged → Key → Type 0) → Type 0
+AtReader node holds = AtNode node.tree.now node.at (holds node.tree.now)
 
 -- the node of a text in the map to which the path leads, if the key is a text
 abbrev pub IsTextAt : TreeValue → List Tagged → Key → NodeNumber → Type 0

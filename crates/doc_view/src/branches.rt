@@ -9,7 +9,7 @@ ghost use Rattle.doc_tree.specs.Nodes.{tree_facts};
 ghost use Rattle.doc_rules.specs.Views.{into_list, into_map};
 ghost use Rattle.doc_rules.specs.Shown.{IsPut, ShowsText};
 ghost use Rattle.json_scalar.specs.declared.scalar.Val.TheVariants.{EmptyMap, EmptyList};
-ghost use Rattle.doc_view.specs.ByNumber.{AtNode, IsTextAt, ShowsThose};
+ghost use Rattle.doc_view.specs.ByNumber.{AtReader, IsTextAt, ShowsThose};
 ghost use Rattle.doc_view.specs.Members.{texts_at, texts_in};
 ghost use Rattle.doc_view.specs.Readings.{GivesUnlessMemory, ReadsUnlessMemory};
 ghost use Rattle.doc_view.specs.Showing.{AreFields, IsListShown, IsMapShown, IsShown};
@@ -20,9 +20,10 @@ ghost use Rattle.json_text.specs.Tokens.{data_tokens};
 use crate::elements::present_element;
 use crate::json_parts::{begin_branch, end_branch, write_values};
 use crate::maps::present_text;
+use crate::node_reader::NodeReader;
 use crate::roles::empty_put;
 use doc_api::CompactText;
-use doc_tree::{EachChild, NodeNumber, SearchHint, Tree};
+use doc_tree::{EachChild, SearchHint, Tree};
 use json_scalar::Refusal;
 use json_text::JsonText;
 use lamport_id::Id;
@@ -53,68 +54,63 @@ fn write_place(
 {
     match tree.node_at(path, key) {
         None => text.empty_list(),
-        Some(at) => write_node(alloc, text, tree, at),
+        Some(at) => write_node(NodeReader { alloc, tree, at }, text),
     }
 }
 
 // The numbers of the nodes rise on the way down, so it ends.
 #[cycle(node)]
-fn write_node(
-    alloc: Global,
-    text: &mut JsonText,
-    tree: &Tree,
-    at: NodeNumber,
-) -> Result<(), Refusal>
-    ensures { GivesUnlessMemory (λ _. WritesOne (λ d. AtNode tree.now at
-        (λ p k. IsShown tree.now p k d)) text.old text.new) result }
+fn write_node(node: NodeReader<'_>, text: &mut JsonText) -> Result<(), Refusal>
+    ensures { GivesUnlessMemory (λ _. WritesOne (λ d. AtReader node.entry (λ tree p k. IsShown tree p k d))
+        text.old text.new) result }
 {
     text.begin_list()?;
-    let put = empty_put(tree.presence_of(at), tree.may_put(at));
-    write_map(alloc, text, tree, at, put.map)?;
-    write_list(alloc, text, tree, at, put.list)?;
-    write_values(text, tree.register_of(at), tree.counter_of(at))?;
+    let put = empty_put(node.tree.presence_of(node.at), node.tree.may_put(node.at));
+    write_map(node, text, put.map)?;
+    write_list(node, text, put.list)?;
+    write_values(
+        text,
+        node.tree.register_of(node.at),
+        node.tree.counter_of(node.at),
+    )?;
     text.end_list()
 }
 
 // The branch of the map at a node.
 #[cycle(node)]
-fn write_map(
-    alloc: Global,
-    text: &mut JsonText,
-    tree: &Tree,
-    at: NodeNumber,
-    is_put: bool,
-) -> Result<(), Refusal>
-    requires { AtNode tree.now at
-        (λ p k. Decides is_put (IsPut (tree_facts tree.now) (tree_values tree.now) p k EmptyMap)) }
-    ensures { GivesUnlessMemory (λ _. WritesEach (λ ds. AtNode tree.now at
-        (λ p k. IsMapShown tree.now p k ds)) text.old text.new) result }
+fn write_map(node: NodeReader<'_>, text: &mut JsonText, is_put: bool) -> Result<(), Refusal>
+    requires { AtReader node (λ tree p k. Decides is_put (IsPut (tree_facts tree) (tree_values tree) p k EmptyMap)) }
+    ensures { GivesUnlessMemory (λ _. WritesEach (λ ds. AtReader node.entry (λ tree p k. IsMapShown tree p k ds))
+        text.old text.new) result }
 {
     begin_branch(text, "map", is_put)?;
-    let is_begun = write_fields(alloc, text, tree, at, tree.children_of(at), is_put)?;
+    let is_begun = write_fields(node, text, node.tree.children_of(node.at), is_put)?;
     end_branch(text, is_begun)
 }
 
 // The fields of a map's branch, and whether it is begun then.
 #[cycle(node)]
 fn write_fields(
-    alloc: Global,
+    node: NodeReader<'_>,
     text: &mut JsonText,
-    tree: &Tree,
-    at: NodeNumber,
     children: EachChild<'_>,
     was_begun: bool,
 ) -> Result<bool, Refusal>
-    requires found { (k : Key) (n : NodeNumber) → Contains children (k, n) → child_of tree.now.0 at k ≡ Some n }
+    requires found { (k : Key) (n : NodeNumber) → Contains children (k, n)
+        → child_of node.tree.now.0 node.at k ≡ Some n }
     requires deeper { (k : Key) (n : NodeNumber) → Contains children (k, n)
-        → (at.0 < n.0) × (n.0 < length tree.now.0) }
+        → (node.at.0 < n.0) × (n.0 < length node.tree.now.0) }
     ensures { GivesUnlessMemory (λ is_begun. WritesParts (codes "map") was_begun
-        (λ ds. AtNode tree.now at (λ p k. AreFields tree.now (into_map p k) (texts_in children.entry) ds))
+        (λ ds. AtReader node.entry (λ tree p k. AreFields tree (into_map p k) (texts_in children.entry) ds))
         text.old text.new is_begun) result }
 {
     let mut is_begun = was_begun;
     for child in children {
-        is_begun = write_field(alloc, text, tree, &child.0, child.1, is_begun)?;
+        let field = NodeReader {
+            at: child.1,
+            ..node
+        };
+        is_begun = write_field(field, text, &child.0, is_begun)?;
     }
     Ok(is_begun)
 }
@@ -122,22 +118,21 @@ fn write_fields(
 // A text and what is shown under it, if the key is a text and present.
 #[cycle(node)]
 fn write_field(
-    alloc: Global,
+    node: NodeReader<'_>,
     text: &mut JsonText,
-    tree: &Tree,
     key: &Key,
-    at: NodeNumber,
     was_begun: bool,
 ) -> Result<bool, Refusal>
     ensures { GivesUnlessMemory (λ is_begun. WritesParts (codes "map") was_begun
-        (λ ds. (map : List Tagged) → IsTextAt tree.now map key.now at → AreFields tree.now map (texts_at key.now) ds)
+        (λ ds. (map : List Tagged) → IsTextAt node.entry.tree.now map key.now node.entry.at
+        → AreFields node.entry.tree.now map (texts_at key.now) ds)
         text.old text.new is_begun) result }
 {
-    match present_text(tree, key, at) {
+    match present_text(node.tree, key, node.at) {
         None => Ok(was_begun),
         Some(name) => {
             begin_branch(text, "map", !was_begun)?;
-            write_named_node(alloc, text, tree, name, at)?;
+            write_named_node(node, text, name)?;
             Ok(true)
         }
     }
@@ -146,60 +141,49 @@ fn write_field(
 // A name and what is shown at a node.
 #[cycle(node)]
 fn write_named_node(
-    alloc: Global,
+    node: NodeReader<'_>,
     text: &mut JsonText,
-    tree: &Tree,
     name: &KeyText,
-    at: NodeNumber,
 ) -> Result<(), Refusal>
     ensures { GivesUnlessMemory (λ _. WritesOne (λ field. (d : Data)
-        × AtNode tree.now at (λ p k. IsShown tree.now p k d)
+        × AtReader node.entry (λ tree p k. IsShown tree p k d)
         × (field ≡ list_data (string name.now ∷ d ∷ []))) text.old text.new) result }
 {
     text.begin_list()?;
     text.text(name.as_str())?;
-    write_node(alloc, text, tree, at)?;
+    write_node(node, text)?;
     text.end_list()
 }
 
 // The branch of the list at a node.
 #[cycle(node)]
-fn write_list(
-    alloc: Global,
-    text: &mut JsonText,
-    tree: &Tree,
-    at: NodeNumber,
-    is_put: bool,
-) -> Result<(), Refusal>
-    requires { AtNode tree.now at
-        (λ p k. Decides is_put (IsPut (tree_facts tree.now) (tree_values tree.now) p k EmptyList)) }
-    ensures { GivesUnlessMemory (λ _. WritesEach (λ ds. AtNode tree.now at
-        (λ p k. IsListShown tree.now p k ds)) text.old text.new) result }
+fn write_list(node: NodeReader<'_>, text: &mut JsonText, is_put: bool) -> Result<(), Refusal>
+    requires { AtReader node (λ tree p k. Decides is_put (IsPut (tree_facts tree) (tree_values tree) p k EmptyList)) }
+    ensures { GivesUnlessMemory (λ _. WritesEach (λ ds. AtReader node.entry (λ tree p k. IsListShown tree p k ds))
+        text.old text.new) result }
 {
     begin_branch(text, "list", is_put)?;
-    let ids = tree.present_elements_of(alloc, at)?;
-    let is_begun = write_elements(alloc, text, tree, at, ids.as_slice(), is_put)?;
+    let ids = node.tree.present_elements_of(node.alloc, node.at)?;
+    let is_begun = write_elements(node, text, ids.as_slice(), is_put)?;
     end_branch(text, is_begun)
 }
 
 // The elements of a list's branch, and whether it is begun then.
 #[cycle(node)]
 fn write_elements(
-    alloc: Global,
+    list: NodeReader<'_>,
     text: &mut JsonText,
-    tree: &Tree,
-    list: NodeNumber,
     ids: &[Id],
     was_begun: bool,
 ) -> Result<bool, Refusal>
     ensures { GivesUnlessMemory (λ is_begun. WritesParts (codes "list") was_begun
-        (λ ds. AtNode tree.now list (λ p k. ShowsThose tree.now (into_list p k) ids.now ds))
+        (λ ds. AtReader list.entry (λ tree p k. ShowsThose tree (into_list p k) ids.now ds))
         text.old text.new is_begun) result }
 {
     let mut is_begun = was_begun;
     let mut hint = SearchHint::first();
     for id in ids {
-        is_begun = write_element(alloc, text, tree, list, id, &mut hint, is_begun)?;
+        is_begun = write_element(list, text, id, &mut hint, is_begun)?;
     }
     Ok(is_begun)
 }
@@ -207,23 +191,21 @@ fn write_elements(
 // What is shown at an element of the list at a node, if it is present.
 #[cycle(node)]
 fn write_element(
-    alloc: Global,
+    list: NodeReader<'_>,
     text: &mut JsonText,
-    tree: &Tree,
-    list: NodeNumber,
     id: &Id,
     hint: &mut SearchHint,
     was_begun: bool,
 ) -> Result<bool, Refusal>
     ensures { GivesUnlessMemory (λ is_begun. WritesParts (codes "list") was_begun
-        (λ ds. AtNode tree.now list (λ p k. ShowsThose tree.now (into_list p k) (id.now ∷ []) ds))
+        (λ ds. AtReader list.entry (λ tree p k. ShowsThose tree (into_list p k) (id.now ∷ []) ds))
         text.old text.new is_begun) result }
 {
-    match present_element(tree, list, id, hint) {
+    match present_element(list.tree, list.at, id, hint) {
         None => Ok(was_begun),
         Some(at) => {
             begin_branch(text, "list", !was_begun)?;
-            write_node(alloc, text, tree, at)?;
+            write_node(NodeReader { at, ..list }, text)?;
             Ok(true)
         }
     }

@@ -4,10 +4,11 @@ ghost use Rattle.std.specs.Option.{ForSome};
 ghost use Rattle.doc_tree.specs.Nodes.{tree_facts};
 ghost use Rattle.doc_rules.specs.Views as reads;
 ghost use Rattle.doc_rules.specs.Views.{AreItems, IsPresent};
-ghost use Rattle.doc_view.specs.ByNumber.{AtNode, HasItems, IsElementAt};
+ghost use Rattle.doc_view.specs.ByNumber.{AtNode, AtReader, HasItems, IsElementAt};
 ghost use Rattle.doc_view.specs.Members.{Adds};
 ghost use Rattle.doc_view.specs.Readings.{GivesUnlessMemory, ReadsUnlessMemory};
 
+use crate::node_reader::NodeReader;
 use crate::registers::values_below;
 use doc_api::{Items, Scalars};
 use doc_tree::{NodeNumber, SearchHint, Tree};
@@ -27,45 +28,43 @@ pub fn items(alloc: Global, tree: &Tree, cursor: &Cursor) -> Result<Items, Refus
     }
     match tree.node_at(&cursor.path, &cursor.key) {
         None => Ok(Items::from(Vec::new(alloc))),
-        Some(at) => items_below(alloc, tree, at),
+        Some(at) => items_below(NodeReader { alloc, tree, at }),
     }
 }
 
-fn items_below(alloc: Global, tree: &Tree, at: NodeNumber) -> Result<Items, Refusal>
-    ensures { GivesUnlessMemory (λ items. AtNode tree.now at
-        (λ p k. AreItems (tree_facts tree.now) p k items)) result }
+fn items_below(list: NodeReader<'_>) -> Result<Items, Refusal>
+    ensures { GivesUnlessMemory (λ items. AtReader list.entry
+        (λ tree p k. AreItems (tree_facts tree) p k items)) result }
 {
-    let ids = tree.present_elements_of(alloc, at)?;
-    items_of(alloc, tree, at, ids.as_slice())
+    let ids = list.tree.present_elements_of(list.alloc, list.at)?;
+    items_of(list, ids.as_slice())
 }
 
-fn items_of(alloc: Global, tree: &Tree, list: NodeNumber, ids: &[Id]) -> Result<Items, Refusal>
-    ensures { GivesUnlessMemory (λ items. AtNode tree.now list
-        (λ p k. HasItems (tree_facts tree.now) (reads.into_list p k) ids.now items)) result }
+fn items_of(list: NodeReader<'_>, ids: &[Id]) -> Result<Items, Refusal>
+    ensures { GivesUnlessMemory (λ items. AtReader list.entry
+        (λ tree p k. HasItems (tree_facts tree) (reads.into_list p k) ids.now items)) result }
 {
-    let mut items = Vec::new(alloc);
+    let mut items = Vec::new(list.alloc);
     let mut hint = SearchHint::first();
     for id in ids {
-        push_item(alloc, &mut items, tree, list, id, &mut hint)?;
+        push_item(list, &mut items, id, &mut hint)?;
     }
     Ok(Items::from(items))
 }
 
-// Adds an element of the list at a node with its scalars, if it is present.
+// Adds an element of a list with its scalars, if it is present.
 fn push_item(
-    alloc: Global,
+    list: NodeReader<'_>,
     items: &mut Vec<(Id, Scalars)>,
-    tree: &Tree,
-    list: NodeNumber,
     id: &Id,
     hint: &mut SearchHint,
 ) -> Result<(), Refusal>
-    ensures { GivesUnlessMemory (λ _. Adds (λ added. AtNode tree.now list
-        (λ p k. HasItems (tree_facts tree.now) (reads.into_list p k) (id.now ∷ []) added))
+    ensures { GivesUnlessMemory (λ _. Adds (λ added. AtReader list.entry
+        (λ tree p k. HasItems (tree_facts tree) (reads.into_list p k) (id.now ∷ []) added))
         items.old.items items.new.items) result }
 {
-    if let Some(at) = present_element(tree, list, id, hint) {
-        let scalars = values_below(alloc, tree, at)?;
+    if let Some(at) = present_element(list.tree, list.at, id, hint) {
+        let scalars = values_below(NodeReader { at, ..list })?;
         items.push((*id, scalars))?;
     }
     Ok(())

@@ -8,6 +8,7 @@ mod elements;
 mod json_parts;
 mod known_node;
 mod maps;
+mod node_reader;
 mod registers;
 mod roles;
 

@@ -3,11 +3,12 @@ ghost use Rattle.std.specs.Prelude.{◌≡◌, ◌≢◌, ◌<◌, length, map, 
 ghost use Rattle.json_scalar.specs.declared.refusal.Refusal.TheVariants.{NoMemory};
 ghost use Rattle.doc_tree.specs.Nodes.{tree_facts};
 ghost use Rattle.doc_rules.specs.Views.{AreValues, IsSum, total};
-ghost use Rattle.doc_view.specs.ByNumber.{AtNode};
+ghost use Rattle.doc_view.specs.ByNumber.{AtReader};
 ghost use Rattle.doc_view.specs.Readings.{GivesUnlessMemory, ReadsUnlessMemory};
 
+use crate::node_reader::NodeReader;
 use doc_api::Scalars;
-use doc_tree::{Entries, NodeNumber, Tree};
+use doc_tree::{Entries, Tree};
 use json_scalar::{Refusal, Scalar};
 use lamport_id::Id;
 use op_core::{Cursor, Key, Path};
@@ -25,11 +26,11 @@ pub fn values(alloc: Global, tree: &Tree, cursor: &Cursor) -> Result<Scalars, Re
 }
 
 /// The scalars of the register of a node.
-pub fn values_below(alloc: Global, tree: &Tree, at: NodeNumber) -> Result<Scalars, Refusal>
-    ensures { GivesUnlessMemory (λ scalars. AtNode tree.now at
-        (λ p k. AreValues (tree_facts tree.now) p k scalars)) result }
+pub fn values_below(node: NodeReader<'_>) -> Result<Scalars, Refusal>
+    ensures { GivesUnlessMemory (λ scalars. AtReader node.entry
+        (λ tree p k. AreValues (tree_facts tree) p k scalars)) result }
 {
-    scalars_of(alloc, tree.register_of(at))
+    scalars_of(node.alloc, node.tree.register_of(node.at))
 }
 
 fn scalars_of(alloc: Global, entries: &[(Id, Scalar)]) -> Result<Scalars, Refusal>

@@ -1,7 +1,7 @@
 //! What operations did at a place.
-ghost use Rattle.std.specs.Prelude.{◌≡◌, ◌↔◌, ◌++◌, ◌||◌, ◌&&◌, [], not, option_map, IsTrue};
+ghost use Rattle.std.specs.Prelude.{◌≡◌, ◌↔◌, ◌++◌, ◌||◌, ◌&&◌, [], not, option_map, IsTrue, MatchOption, None};
 ghost use Rattle.json_scalar.specs.declared.scalar.Val.TheVariants.{Scalar as Plain};
-ghost use Rattle.presence_set.specs.ById.{get, rank, IsAscending};
+ghost use Rattle.presence_set.specs.ById.{get, IsAscending};
 ghost use Rattle.list_laws.specs.Sorted.{IsPlace};
 ghost use Rattle.lamport_id.specs.Order.{id_cmp};
 ghost use Rattle.lamport_id.specs.declared.id.Id.{Id as AnId};
@@ -44,7 +44,8 @@ fn values_of_roles(
     requires { IsAscending scalars.now }
     ensures { GivesUnlessMemory (λ values. values ≡ values_of_roles scalars.now roles.entry) result }
 {
-    let mut values = Vec::new(alloc);
+    // Most values are scalars.
+    let mut values = Vec::with_capacity(alloc, scalars.len())?;
     let mut next = 0;
     for entry in roles {
         push_value(&mut values, entry, scalars, &mut next)?;
@@ -93,23 +94,41 @@ fn scalar_of_id(id: &Id, scalars: &[(Id, Scalar)], next: &mut usize) -> Result<O
     requires { IsAscending scalars.now }
     ensures { GivesUnlessMemory (λ value. value ≡ option_map Plain (get scalars.now id.now)) result }
 {
-    let at = place_of(id, scalars, *next);
-    if !is_at(id, scalars, at) {
-        return Ok(None);
+    match place_of(id, scalars, *next) {
+        None => Ok(None),
+        Some(at) => {
+            *next = at + 1;
+            Ok(Some(Val::Scalar(scalars[at].1.try_clone()?)))
+        }
     }
-    *next = at + 1;
-    Ok(Some(Val::Scalar(scalars[at].1.try_clone()?)))
 }
 
-// How many scalars are of a lesser id.
-fn place_of(id: &Id, scalars: &[(Id, Scalar)], next: usize) -> usize
+// The place of the scalar of an id, if it has one.
+fn place_of(id: &Id, scalars: &[(Id, Scalar)], next: usize) -> Option<usize>
     requires { IsAscending scalars.now }
-    ensures { result ≡ rank scalars.now id.now }
+    ensures { MatchOption result (get scalars.now id.now ≡ None)
+        (IsPlace id_cmp (λ (e : AnId × AScalar). e.0) scalars.now id.now) }
 {
     if is_at(id, scalars, next) {
-        next
+        Some(next)
     } else {
-        rank_of(scalars, id)
+        sought_place(id, scalars)
+    }
+}
+
+// The same by a search. Few ids need it, so it is kept out of the loop that asks for each.
+#[cold]
+#[inline(never)]
+fn sought_place(id: &Id, scalars: &[(Id, Scalar)]) -> Option<usize>
+    requires { IsAscending scalars.now }
+    ensures { MatchOption result (get scalars.now id.now ≡ None)
+        (IsPlace id_cmp (λ (e : AnId × AScalar). e.0) scalars.now id.now) }
+{
+    let at = rank_of(scalars, id);
+    if is_at(id, scalars, at) {
+        Some(at)
+    } else {
+        None
     }
 }
 

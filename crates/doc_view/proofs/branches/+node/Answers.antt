@@ -51,7 +51,7 @@ write_elements-loop-id-preserved t c =
     let more = c.in_ok-is_begun.ensures in (
       before.0 ++ more.0,
       λ p k at.
-          shows_step c.args.tree.now (into_list p k) c.args.ids.now c.loop-id.id-index c.id-item.result before.0 more.0 (before.0 ++ more.0) c.loop-id-test.true c.id-item.is
+          shows_step c.args.list.tree.now (into_list p k) c.args.ids.now c.loop-id.id-index c.id-item.result before.0 more.0 (before.0 ++ more.0) c.loop-id-test.true c.id-item.is
           (before.1 p k at) (more.1 p k at) refl,
       begun_more c.args.was_begun c.loop-id.is_begun c.in_ok-is_begun.is_begun before.0 more.0 before.2 more.2,
       more_parts (codes "list") c.args.was_begun c.loop-id.is_begun c.args.text.now c.loop-id.text c.write_element.new.text before.0 more.0 before.2 before.3 more.3,
@@ -60,7 +60,7 @@ write_elements-loop-id-preserved t c =
 pub write_field-returns-in-None : goal.write_field-returns-in-None
 write_field-returns-in-None t c = (
   [],
-  λ members is. no_field c.args.tree.now members (texts_at c.args.key.now) (c.in-None.ensures members is),
+  λ members is. no_field c.args.node.tree.now members (texts_at c.args.key.now) (c.in-None.ensures members is),
   refl,
   no_parts (codes "map") c.args.was_begun c.args.text.now,
 )
@@ -73,7 +73,7 @@ write_field-returns-in_ok-write_named_node-in-Some t c =
       λ members is.
           let kept = c.in-Some.ensures members is in
           let place = is text (one_text c.args.key.now text kept).0 in
-          one_field c.args.tree.now members (texts_at c.args.key.now) text (Text text) one.0 one.1.0 kept refl (one.1.1 members (Text text) place) one.1.2,
+          one_field c.args.node.tree.now members (texts_at c.args.key.now) text (Text text) one.0 one.1.0 kept refl (one.1.1 members (Text text) place) one.1.2,
       refl,
       one.2 ∙ ap (λ ts. ts ++ data_tokens one.0) c.in_ok-begin_branch-in-Some.ensures ∙ one_part (codes "map") c.args.was_begun c.args.text.now one.0,
     )
@@ -82,7 +82,7 @@ pub write_fields-loop-child-init : goal.write_fields-loop-child-init
 write_fields-loop-child-init t c = (
   0,
   sym c.into_iter-child-iterator.ensures.into_iter_gives,
-  ([], λ p k at. no_field c.args.tree.now (into_map p k) [] none, refl, no_parts (codes "map") c.args.was_begun c.args.text.now),
+  ([], λ p k at. no_field c.args.node.tree.now (into_map p k) [] none, refl, no_parts (codes "map") c.args.was_begun c.args.text.now),
 )
 
 pub write_fields-write_field-requires : goal.write_fields-write_field-requires
@@ -106,9 +106,9 @@ write_fields-loop-child-preserved t c =
       (
         before.0 ++ more.0,
         λ p k at.
-            fields_step c.args.tree.now (into_map p k) children i child before.0 more.0 (before.0 ++ more.0) taken.0 taken.1 (before.1 p k at)
+            fields_step c.args.node.tree.now (into_map p k) children i child before.0 more.0 (before.0 ++ more.0) taken.0 taken.1 (before.1 p k at)
             (more.1 (into_map p k)
-            (text_place c.args.tree.now p k c.args.at at children c.requires.found i child taken.0 taken.1))
+            (text_place c.args.node.tree.now p k c.args.node.at at children c.requires.found i child taken.0 taken.1))
             refl,
         begun_more c.args.was_begun c.loop-child.is_begun c.in_ok-is_begun.is_begun before.0 more.0 before.2 more.2,
         more_parts (codes "map") c.args.was_begun c.loop-child.is_begun c.args.text.now c.loop-child.text c.write_field.new.text before.0 more.0 before.2 before.3 more.3,
@@ -120,7 +120,7 @@ write_fields-returns t c =
     let parts = c.loop-child.invariant.2 in (
       parts.0,
       λ p k at.
-          subst (λ (cs : List (Key × NodeNumber)). AreFields c.args.tree.now (into_map p k) (texts_in cs) parts.0)
+          subst (λ (cs : List (Key × NodeNumber)). AreFields c.args.node.tree.now (into_map p k) (texts_in cs) parts.0)
           (drop_none c.args.children c.loop-child.invariant.0 (c.loop-child.invariant.1 ∙ c.in-None.ensures.steps.0)) (parts.1 p k at),
       parts.2,
       parts.3,
@@ -128,8 +128,8 @@ write_fields-returns t c =
 
 pub write_list-returns : goal.write_list-returns
 write_list-returns t c =
-    let tree = c.args.tree.now in
-    let n = c.args.at in
+    let tree = c.args.node.tree.now in
+    let n = c.args.node.at in
     let put = c.args.is_put in
     let parts = c.in_ok-is_begun.ensures in
     branch_put (λ ds. AtNode tree n (λ p k. IsListShown tree p k ds)) (codes "list") put c.in_ok-is_begun.is_begun c.args.text.now c.begin_branch.new.text
@@ -144,8 +144,8 @@ write_list-returns t c =
 
 pub write_map-returns : goal.write_map-returns
 write_map-returns t c =
-    let tree = c.args.tree.now in
-    let n = c.args.at in
+    let tree = c.args.node.tree.now in
+    let n = c.args.node.at in
     let put = c.args.is_put in
     let parts = c.in_ok-is_begun.ensures in
     branch_put (λ ds. AtNode tree n (λ p k. IsMapShown tree p k ds)) (codes "map") put c.in_ok-is_begun.is_begun c.args.text.now c.begin_branch.new.text
@@ -158,15 +158,15 @@ write_map-returns t c =
 
 pub write_named_node-returns : goal.write_named_node-returns
 write_named_node-returns t c =
-    let tree = c.args.tree.now in
-    named_put (λ d. AtNode tree c.args.at (λ p k. IsShown tree p k d)) c.args.name.now c.args.text.now c.begin_list.new.self c.text.new.self c.write_node.new.text
+    let tree = c.args.node.tree.now in
+    named_put (λ d. AtNode tree c.args.node.at (λ p k. IsShown tree p k d)) c.args.name.now c.args.text.now c.begin_list.new.self c.text.new.self c.write_node.new.text
     c.end_list.new.self c.end_list.result c.in_ok-begin_list.ensures
     (c.in_ok-text.ensures ∙ ap (λ s. c.begin_list.new.self ++ token.string s ∷ []) c.as_str.ensures) c.in_ok-write_node.ensures c.end_list.ensures
 
 pub write_node-returns : goal.write_node-returns
 write_node-returns t c =
-    let tree = c.args.tree.now in
-    let n = c.args.at in
+    let tree = c.args.node.tree.now in
+    let n = c.args.node.at in
     let members = c.in_ok-write_map.ensures in
     let elements = c.in_ok-write_list.ensures in
     let entries = c.register_of.result.now in
@@ -182,16 +182,16 @@ pub write_node-write_map-requires : goal.write_node-write_map-requires
 write_node-write_map-requires t c = (
   omega arith,
   λ p k at.
-      let tree = c.args.tree.now in
+      let tree = c.args.node.tree.now in
       subst (λ b. Decides b (IsPut (tree_facts tree) (tree_values tree) p k EmptyMap)) (sym c.empty_put-put.ensures.map)
-      (puts_map_decides tree p k c.presence_of.result (roles_by_number tree p k c.args.at at c.presence_of.result c.presence_of.ensures.value c.presence_of.ensures.ascending)),
+      (puts_map_decides tree p k c.presence_of.result (roles_by_number tree p k c.args.node.at at c.presence_of.result c.presence_of.ensures.value c.presence_of.ensures.ascending)),
 )
 
 pub write_node-write_list-requires : goal.write_node-write_list-requires
 write_node-write_list-requires t c = (
   omega arith,
   λ p k at.
-      let tree = c.args.tree.now in
+      let tree = c.args.node.tree.now in
       subst (λ b. Decides b (IsPut (tree_facts tree) (tree_values tree) p k EmptyList)) (sym c.empty_put-put.ensures.list)
-      (puts_list_decides tree p k c.presence_of.result (roles_by_number tree p k c.args.at at c.presence_of.result c.presence_of.ensures.value c.presence_of.ensures.ascending)),
+      (puts_list_decides tree p k c.presence_of.result (roles_by_number tree p k c.args.node.at at c.presence_of.result c.presence_of.ensures.value c.presence_of.ensures.ascending)),
 )

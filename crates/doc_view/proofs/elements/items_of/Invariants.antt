@@ -6,4 +6,4 @@ use Rattle.doc_view.proofs.elements.items_of.Given as goal
 
 abbrev pub invariant-loop-id : goal.invariant-loop-id
 invariant-loop-id l =
-    AtNode l.tree l.list (λ p k. HasItems (tree_facts l.tree) (into_list p k) (take l.id-index l.ids) l.items.items)
+    AtNode l.fn.list.tree.now l.fn.list.at (λ p k. HasItems (tree_facts l.fn.list.tree.now) (into_list p k) (take l.id-index l.ids) l.items.items)

@@ -9,8 +9,8 @@ use Rattle.doc_view.proofs.registers.values_below.Goals as goal
 
 pub returns : goal.returns
 returns c =
-    let tree = c.args.tree.now in
+    let tree = c.args.node.tree.now in
     let entries = c.register_of.result.now in
-    gives (λ scalars. scalars ≡ map (λ (e : Id × Scalar). e.1) entries) (λ scalars. AtNode tree c.args.at (λ p k. AreValues (tree_facts tree) p k scalars)) c.scalars_of.result
-    (λ scalars is p k at. (entries, entries_by_number tree p k c.args.at at entries c.register_of.ensures.value c.register_of.ensures.ascending, is))
+    gives (λ scalars. scalars ≡ map (λ (e : Id × Scalar). e.1) entries) (λ scalars. AtNode tree c.args.node.at (λ p k. AreValues (tree_facts tree) p k scalars)) c.scalars_of.result
+    (λ scalars is p k at. (entries, entries_by_number tree p k c.args.node.at at entries c.register_of.ensures.value c.register_of.ensures.ascending, is))
     c.scalars_of.ensures

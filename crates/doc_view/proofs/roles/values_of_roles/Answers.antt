@@ -9,7 +9,7 @@ pub loop-entry-init : goal.loop-entry-init
 loop-entry-init c =
     let scalars = c.args.scalars.now in
     ap (λ l. values_of_roles scalars l) (sym c.into_iter-entry-iterator.ensures.into_iter_gives)
-    ∙ ap (λ vs. vs ++ values_of_roles scalars c.into_iter-entry-iterator.result) (sym c.new-values.ensures.items)
+    ∙ ap (λ vs. vs ++ values_of_roles scalars c.into_iter-entry-iterator.result) (sym c.in_ok-values.ensures.items)
 
 pub loop-entry-preserved : goal.loop-entry-preserved
 loop-entry-preserved c =
