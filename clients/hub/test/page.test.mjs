@@ -802,8 +802,13 @@ test("by plain http from another machine, where there are no locks", async () =>
   const tab = await browser.tab(hub.page, { profile });
   await tab.until(ONLINE);
   if (address) equal(await tab.evaluate("navigator.locks === undefined"), true);
+  // The first one is held up again and again while the second begins: it answers late.
+  await tab.evaluate(`window.holding = setInterval(() => {
+    for (const end = Date.now() + 400; Date.now() < end; );
+  }, 420)`);
   const second = await browser.tab(hub.page, { profile });
   await second.until(ONLINE);
+  await tab.evaluate("clearInterval(window.holding)");
   const nameOf = (it) => it.evaluate(`document.querySelector("#ada h2").title`);
   ok((await nameOf(tab)) !== (await nameOf(second)));
   await second.close();
