@@ -12,7 +12,7 @@ import { Busy } from "./stores.mjs";
 /** @typedef {import("./stores.mjs").Store} Store */
 /** @typedef {import("./stores.mjs").Heard} Heard */
 
-const ANSWER_MS = 300; // so long a tab may take to say that a name is its own
+const [TURN_MS, TURNS] = [50, 6]; // so long a tab may take to say that a name is its own
 const [OPERATIONS, NAMES, ABOUT] = ["operations", "names", "about"];
 
 /** A store in the database of a name.
@@ -37,8 +37,11 @@ const endOf = (transaction) => new Promise((resolve, reject) => {
   transaction.onabort = () => reject(transaction.error ?? new Error("it was broken off"));
 });
 
-/** @param {number} ms */
-const pause = (ms) => new Promise((resume) => setTimeout(resume, ms));
+/** Resolves once other tabs have had the time to answer. Where this one gets few turns, as on a busy
+ *  machine, so do they: then it waits longer. */
+async function answersOfOthers() {
+  for (let turn = 0; turn < TURNS; turn++) await new Promise((resume) => setTimeout(resume, TURN_MS));
+}
 
 /** The key of an operation's row, [replica,counter]. A line begins `["op",[COUNTER,"REPLICA"],`.
  *  @param {string} line
@@ -74,7 +77,9 @@ class BrowserStore {
   /** @type {Heard} */
   #heard = () => {};
   /** @type {Set<string>} */
-  #taken = new Set(); // names that other tabs said are theirs
+  #taken = new Set(); // names that other tabs said they take
+  /** @type {Set<string>} */
+  #owned = new Set(); // names that were asked for, and that other tabs said are theirs
   #giveBack = () => {};
   /** @type {IDBDatabase | undefined} */
   #opened;
@@ -153,12 +158,17 @@ class BrowserStore {
   async #isTaken(name) {
     const locks = navigator.locks; // none in a page of another machine that isn't over https
     if (locks ? !(await this.#lock(locks, name)) : !(await this.#ask(name))) return false;
+    const old = this.#name;
     this.#name = name;
     this.#say({ taken: name });
-    await this.#hold(name);
-    if (!locks) await pause(ANSWER_MS); // two tabs that took it at once: the last one has it
+    const before = await this.#hold(name, { holder: this.#token });
+    if (!locks) await answersOfOthers(); // two tabs that took it at once: the last one has it
     const holder = await resultOf(this.#transaction("readonly").objectStore(NAMES).get(name));
-    return holder.holder === this.#token;
+    const isLast = holder?.holder === this.#token;
+    if (isLast && !this.#owned.has(name)) return true;
+    this.#name = old;
+    if (isLast) await this.#hold(name, before); // it is that of a tab that answered late
+    return false;
   }
 
   /** @param {LockManager} locks
@@ -176,18 +186,22 @@ class BrowserStore {
   /** Whether no other tab says that the name is its own.
    *  @param {string} name */
   async #ask(name) {
-    this.#taken.delete(name);
+    for (const names of [this.#taken, this.#owned]) names.delete(name);
     this.#say({ whose: name });
-    await pause(ANSWER_MS);
-    return !this.#taken.has(name);
+    await answersOfOthers();
+    return !this.#taken.has(name) && !this.#owned.has(name);
   }
 
-  /** Writes down that this tab has the name.
-   *  @param {string} name */
-  async #hold(name) {
+  /** Writes down which tab has the name. Returns what was written down before.
+   *  @param {string} name
+   *  @param {{ holder: string } | undefined} holder */
+  async #hold(name, holder) {
     const transaction = this.#transaction("readwrite");
-    transaction.objectStore(NAMES).put({ holder: this.#token }, name);
-    await endOf(transaction);
+    const names = transaction.objectStore(NAMES);
+    const before = resultOf(names.get(name));
+    if (holder) names.put(holder, name);
+    else names.delete(name);
+    return (await Promise.all([before, endOf(transaction)]))[0];
   }
 
   /** Breaks a transaction off, unless this tab still has its name. Another tab has taken it where
@@ -209,9 +223,10 @@ class BrowserStore {
     this.#others?.postMessage(message);
   }
 
-  /** @param {{ whose?: string, taken?: string, lines?: string[], cleared?: true }} message */
-  #hear({ whose, taken, lines, cleared }) {
-    if (whose !== undefined && whose === this.#name) this.#say({ taken: whose });
+  /** @param {{ whose?: string, owned?: string, taken?: string, lines?: string[], cleared?: true }} message */
+  #hear({ whose, owned, taken, lines, cleared }) {
+    if (whose !== undefined && whose === this.#name) this.#say({ owned: whose });
+    if (owned !== undefined) this.#owned.add(owned);
     if (taken !== undefined) this.#taken.add(taken);
     if (lines) this.#heard(lines);
     if (cleared) this.#heard(undefined);

@@ -18,6 +18,8 @@ import { connected } from "../../js/session.mjs";
 const SHOTS = process.env.SHOTS;
 const ONLINE = `["ada", "bob"].every((side) =>
   document.getElementById(side)?.dataset.state === "online")`;
+const STATES = (word) => `[...document.querySelectorAll(".state")].every((it) =>
+  it.textContent.startsWith("offline since") && it.textContent.includes("${word}"))`;
 const skip = missing() || false;
 const test = (name, work, why = skip, seconds = 600) =>
   node(name, { timeout: seconds * 1000, skip: why }, async (context) => {
@@ -74,10 +76,53 @@ async function sessionOf({ server, document }) {
 const sides = ["ada", "bob"];
 const both = async (tab, selector) =>
   Promise.all(sides.map((side) => tab.textOf(`#${side} ${selector}`)));
-const same = (tab, what, selector, expected) => until(what, async () => {
-  const [ada, bob] = (await both(tab, selector)).map((it) => JSON.stringify(it));
-  return ada === bob && (!expected || ada === JSON.stringify(expected));
-});
+const isSame = (one, other) => JSON.stringify(one) === JSON.stringify(other);
+const same = (tab, what, selector, expected) => until(what, async () =>
+  (await both(tab, selector)).every((it) => isSame(it, expected)));
+/** The same, in any order. */
+const sameSet = (tab, what, selector, expected) => until(what, async () =>
+  (await both(tab, selector)).every((it) => isSame(it.sort(), expected)));
+
+/** Waits until a selector's texts are these, and no others are to be shown. */
+const shows = (tab, selector, expected) => until(`${selector} has ${expected}`, async () =>
+  isSame(await tab.textOf(selector), expected));
+
+/** What the page shows of the server's front, once that is what both sides have. */
+async function frontNames(tab) {
+  let front;
+  await until("all three have the same", async () => {
+    front = await tab.textOf("#server-front .name");
+    return front.length > 0 && (await both(tab, ".own-front .name")).every((it) => isSame(it, front));
+  });
+  return front;
+}
+
+/** Waits until an expression holds in the page, which has so many seconds for it. They are its own:
+ *  a busy machine that holds the page up takes none of them. Begins at once. */
+function within(tab, seconds, expression) {
+  const spent = tab.evaluate(`new Promise((resolve) => {
+    let [at, spent] = [performance.now(), 0];
+    const clock = setInterval(() => {
+      const now = performance.now();
+      spent += Math.min(now - at, 200);
+      at = now;
+      if (!(${expression})) return;
+      clearInterval(clock);
+      resolve(spent / 1000);
+    }, 100);
+  })`);
+  return spent.then((it) => ok(it <= seconds, `${it} s: ${expression}`));
+}
+
+/** How many operations a side has stored. */
+const storedBy = (tab, document, side) => tab.evaluate(`new Promise((done, failed) => {
+  const request = indexedDB.open("jcrdt ${document} ${side}");
+  request.onerror = () => failed(request.error);
+  request.onsuccess = () => {
+    const rows = request.result.transaction("operations").objectStore("operations").count();
+    rows.onsuccess = () => { request.result.close(); done(rows.result); };
+  };
+})`);
 
 async function addItem(tab, side, item) {
   await tab.type(`#${side} .add-item input`, item);
@@ -93,6 +138,7 @@ async function setTitle(tab, side, title) {
 
 const shot = async (tab, name) => {
   if (!SHOTS) return;
+  await pause(600); // what has just come is marked
   mkdirSync(SHOTS, { recursive: true });
   await tab.shot(`${SHOTS}/${name}.png`);
 };
@@ -117,12 +163,10 @@ test("apart and together: both edit at once, a conflict is shown and settled", a
   for (const side of sides) await tab.click(`#${side} .online`);
   await same(tab, "the text has both", ".text", ["Dear Grace, how are you? Fine, I hope."]);
   await same(tab, "all votes count", ".votes", ["3"]);
-  await same(tab, "both items are there", ".item");
-  equal((await tab.textOf("#ada .item")).length, 4);
-  await same(tab, "both titles are there", ".field .choice b");
-  deepEqual((await tab.textOf("#ada .choice b")).sort(), ["Plan", "Trip"]);
-  await same(tab, "the fronts agree", ".own-front .name");
-  await pause(600); // the last ones are marked as they come
+  await sameSet(tab, "both items are there", ".item", ["bread", "cheese", "eggs", "milk"]);
+  deepEqual(...(await both(tab, ".item"))); // in one order
+  await sameSet(tab, "both titles are there", ".field .choice b", ["Plan", "Trip"]);
+  await frontNames(tab);
   await shot(tab, "replicas");
   await tab.click("#bob .choice");
   await same(tab, "it is settled", ".choice b", []);
@@ -264,7 +308,10 @@ test("a wrong ?doc= is said in words", async () => {
   await tab.go(`${hub.page}web/?doc=none`);
   await until("it is said", async () =>
     (await tab.textOf("#bob .notice")).join("").includes("the server has no document none"));
-  for (const state of await tab.textOf(".state")) match(state, /^offline since/);
+  await until("both are offline", async () => {
+    const states = await tab.textOf(".state");
+    return states.length === 2 && states.every((it) => it.startsWith("offline since"));
+  });
   await shot(tab, "no-document");
   deepEqual(tab.faults, []);
 });
@@ -275,16 +322,18 @@ test("what is typed offline is there after a reload, and meets the others later"
   const { tab, server, hub } = await ownPage(browser, await browser.profile());
   await tab.type("#ada .text", "one ");
   await same(tab, "both have it", ".text", ["one "]);
+  const names = await frontNames(tab);
+  const isSaid = within(tab, 10, STATES("offline since"));
   await end(hub);
-  await until("it says so", async () =>
-    (await tab.textOf(".state")).every((it) => it.startsWith("offline since")), 10);
+  await isSaid;
   await tab.type("#ada .text", "offline");
   await tab.type("#bob .text", "also ", 0);
   await startHub(server.address, { web: hub.web }); // the page comes from there too
   await tab.reload();
   await tab.until(ONLINE);
   await same(tab, "both have all", ".text", ["also one offline"]);
-  equal((await tab.textOf("#server-front .name")).length, 2); // no name is new
+  equal(names.length, 1);
+  equal((await frontNames(tab)).length, 2); // bob's, and none is new
   // And with no hub at all: the page was loaded before, and is offline.
   await tab.click("#ada .online");
   await tab.type("#ada .text", "!");
@@ -300,14 +349,15 @@ test("a page with edits that aren't stored asks not to be left, and is left once
   await same(tab, "both have it", ".item", ["stored"]);
   await tab.reload();
   await tab.until(ONLINE);
-  // The store gets no turn for three seconds: other transactions have it.
+  // The store doesn't end before the page has asked: the transaction goes on.
   await tab.type("#ada .add-item input", "late");
   await tab.evaluate(`{ const { transaction } = IDBDatabase.prototype;
-    const end = Date.now() + 3000;
+    let hasAsked = false;
+    addEventListener("beforeunload", () => (hasAsked = true));
     IDBDatabase.prototype.transaction = function (...words) {
       const made = transaction.apply(this, words);
       const store = made.objectStore("about");
-      const again = () => { if (Date.now() < end) store.get("document").onsuccess = again; };
+      const again = () => { if (!hasAsked) store.get("document").onsuccess = again; };
       if (words[1] === "readwrite") again();
       return made;
     }; }`);
@@ -332,6 +382,7 @@ test("two tabs: each has its replica, and sees what the other stored; nothing of
     (await tab.textOf("#ada .title"))[0] === "offline in the second tab");
   equal((await tab.textOf("#bob .title"))[0], ""); // nobody has sent it
   await addItem(second, "ada", "from the second tab");
+  await shows(tab, "#ada .item", ["from the second tab"]); // it is stored
   await second.close();
   await tab.reload();
   await tab.until(ONLINE);
@@ -345,7 +396,7 @@ test("two tabs: each has its replica, and sees what the other stored; nothing of
     await tab.reload();
     await tab.until(ONLINE);
   }
-  ok((await tab.textOf("#server-front .name")).length <= 4);
+  ok((await frontNames(tab)).length <= 4);
 });
 
 test("screenshots at 320, 768 and 1300 wide: nothing is cut off", async () => {
@@ -365,20 +416,19 @@ test("screenshots at 320, 768 and 1300 wide: nothing is cut off", async () => {
   await tab.press("Enter");
   await tab.type("#ada .text", `Dear ${long}`);
   for (const side of sides) await tab.click(`#${side} .online`);
-  await same(tab, "titles", ".field .choice b");
-  await until("conflicts", async () => (await tab.textOf("#ada .choice")).length === 4)
+  await until("conflicts", async () => (await both(tab, ".choice")).every((it) => it.length === 4))
     .catch(async (error) => { await shot(tab, "failed"); throw error; });
   await setTitle(tab, "ada", "é".repeat(3000)); // refused
   for (const width of [320, 768, 1300]) {
     await tab.size(width, 900);
-    await pause(300);
-    const wide = await tab.evaluate(`[document.documentElement.scrollWidth, innerWidth]`);
-    ok(wide[0] <= wide[1], `${wide[0]} of ${width}`);
-    const cut = await tab.evaluate(`[...document.querySelectorAll(
-      "main :is(button, input, textarea, output, .name, .choice, .note)")]
-      .filter((it) => it.checkVisibility() && it.getBoundingClientRect().right > innerWidth + 1)
-      .map((it) => it.className)`);
-    deepEqual(cut, []);
+    let seen;
+    await until("nothing is cut off", async () => {
+      seen = await tab.evaluate(`[innerWidth, document.documentElement.scrollWidth,
+        [...document.querySelectorAll("main :is(button, input, textarea, output, .name, .choice, .note)")]
+          .filter((it) => it.checkVisibility() && it.getBoundingClientRect().right > innerWidth + 1)
+          .map((it) => it.className)]`);
+      return seen[0] === width && seen[1] <= width && seen[2].length === 0;
+    }, 30).catch(({ message }) => { throw new Error(`${message} at ${width}: ${JSON.stringify(seen)}`); });
     await shot(tab, `width-${width}`);
   }
   deepEqual(tab.faults, []);
@@ -434,12 +484,16 @@ test("what a screen reader hears: each part has a name of its own, errors are li
   for (const item of ["eggs", "tea"]) await addItem(tab, "ada", item);
   await same(tab, "both have them", ".item", ["eggs", "tea"]);
   await tab.send("Accessibility.enable");
-  const { nodes } = await tab.send("Accessibility.getFullAXTree");
-  const named = nodes.filter(({ ignored }) => !ignored)
-    .map(({ role, name }) => `${role?.value} ${name?.value ?? ""}`.trim());
-  for (const due of ["region Ada", "region Bob", "region Server", "switch ada: online",
+  const all = ["region Ada", "region Bob", "region Server", "switch ada: online",
     "switch bob: online", "textbox ada: title", "textbox bob: text", "button delete eggs",
-    "button bob: undo"]) ok(named.includes(due), `${due} of ${named}`);
+    "button bob: undo"];
+  let named = [];
+  await until("all are named", async () => {
+    const { nodes } = await tab.send("Accessibility.getFullAXTree");
+    named = nodes.filter(({ ignored }) => !ignored)
+      .map(({ role, name }) => `${role?.value} ${name?.value ?? ""}`.trim());
+    return all.every((due) => named.includes(due));
+  }).catch(({ message }) => { throw new Error(`${message}: ${named}`); });
   const controls = named.filter((it) => /^(switch|textbox) /.test(it) && !it.endsWith(": item"));
   equal(new Set(controls).size, controls.length);
   equal(named.filter((it) => /^(switch|textbox|button)$/.test(it)).length, 0); // without a name
@@ -450,10 +504,10 @@ test("a hub that is frozen: it isn't called online, and all arrives later", asyn
   shared ??= sharedParts();
   const { browser } = await shared;
   const { tab, hub } = await ownPage(browser, await browser.profile());
+  const isSaid = within(tab, 10, STATES("doesn't reply"));
   process.kill(hub.child.pid, "SIGSTOP");
   await addItem(tab, "ada", "while it is frozen");
-  await until("it is said", async () =>
-    (await tab.textOf(".state")).every((it) => /^offline since .*doesn't reply/.test(it)), 10);
+  await isSaid;
   await shot(tab, "frozen");
   deepEqual(await both(tab, ".item"), [["while it is frozen"], []]);
   process.kill(hub.child.pid, "SIGCONT");
@@ -476,16 +530,6 @@ async function paste(tab, text, answer) {
   return words;
 }
 
-/** How many operations a side has stored. */
-const storedBy = (tab, document, side) => tab.evaluate(`new Promise((done, failed) => {
-  const request = indexedDB.open("jcrdt ${document} ${side}");
-  request.onerror = () => failed(request.error);
-  request.onsuccess = () => {
-    const rows = request.result.transaction("operations").objectStore("operations").count();
-    rows.onsuccess = () => { request.result.close(); done(rows.result); };
-  };
-})`);
-
 // More than localStorage held, and a third of what a document takes: JCRDT_SLOW=1 pastes so many.
 const LINES = process.env.JCRDT_SLOW ? 1800 : 150;
 const SLOW_SECONDS = 1500; // for the browser at one processor of many
@@ -496,8 +540,7 @@ test(`${LINES * 20} characters pasted offline: all are there after a reload, and
   await tab.type("#ada .text", "short");
   const words = await paste(tab, "x".repeat(3000), "Don't insert");
   match(words, /^This text has 3,000 characters\. Each is one of the 100,000 changes/);
-  deepEqual(await tab.textOf("#ada .text"), ["short"]);
-  await same(tab, "bob has no more", ".text", ["short"]);
+  await same(tab, "neither has more", ".text", ["short"]);
   await tab.click("#ada .online");
   const long = Array.from({ length: LINES }, (_, at) => `${at}: `.padEnd(19, "abcdefghi")).join("\n");
   const [pasted, due] = [`${long}\n`, `short${long}\n`];
@@ -531,7 +574,7 @@ test(`${LINES * 20} characters pasted offline: all are there after a reload, and
     const [state, text] = await fresh.evaluate(`[document.querySelector("#ada")?.dataset.state,
       document.querySelector("#ada .text")?.value]`);
     if (state !== "online") return false;
-    await until("it is shown", async () => (await fresh.textOf("#ada .text"))[0] === due, 5);
+    await until("it is shown", async () => (await fresh.textOf("#ada .text"))[0] === due, 60);
     return text !== undefined;
   }, SLOW_SECONDS);
   await shot(fresh, "long-text");
@@ -539,7 +582,7 @@ test(`${LINES * 20} characters pasted offline: all are there after a reload, and
 }, skip, 3 * SLOW_SECONDS);
 
 test("a full store: what is there is kept, it is said, and edits go on once there is room", async () => {
-  const { tab, browser, profile } = await page({ quota: 300_000 });
+  const { tab, browser, profile, document } = await page({ quota: 300_000 });
   await addItem(tab, "ada", "stored");
   await same(tab, "both have it", ".item", ["stored"]);
   await tab.click("#ada .online");
@@ -550,6 +593,7 @@ test("a full store: what is there is kept, it is said, and edits go on once ther
   await addItem(tab, "ada", "refused");
   match((await tab.textOf("#ada .add-item .note"))[0], /Nothing more can be edited until they are/);
   deepEqual(await tab.textOf("#ada .item"), ["stored"]);
+  equal(await storedBy(tab, document, "ada"), 1); // what was there is kept
   equal((await tab.textOf("#ada .add-item input"))[0], "refused");
   await shot(tab, "full-store");
   // What can be saved: all of it, as a file.
@@ -558,18 +602,19 @@ test("a full store: what is there is kept, it is said, and edits go on once ther
   await browser.send("Browser.setDownloadBehavior", place);
   await tab.click("#ada .notice button");
   const saved = await until("it is saved", () => readdirSync(folder).find((it) => /\.jcrdt$/.test(it)));
-  await pause(500);
-  equal(readFileSync(`${folder}/${saved}`, "utf8").trimEnd().split("\n").length, 1 + 1 + 2500);
+  const countOf = (file) => readFileSync(file, "utf8").trimEnd().split("\n").length;
+  await until("all is in it", () => countOf(`${folder}/${saved}`) === 1 + 1 + 2500);
   // Room again: all is stored by itself.
   await tab.send("Storage.overrideQuotaForOrigin", { origin });
   await until("it is stored", async () => (await notice()) === "");
   await tab.press("Enter");
-  await until("edits go on", async () => (await tab.textOf("#ada .item")).length === 2);
-  await pause(1500);
+  await shows(tab, "#ada .item", ["stored", "refused"]); // edits go on
+  await until("all is stored", async () => (await storedBy(tab, document, "ada")) === 1 + 2500 + 1);
   await tab.reload();
-  await tab.until(ONLINE);
+  await tab.until(ONLINE, SLOW_SECONDS);
+  // Items and text are shown each in its time.
   await same(tab, "all of it is there", ".item", ["stored", "refused"]);
-  equal((await tab.textOf("#bob .text"))[0].length, 2500);
+  await same(tab, "the text, too", ".text", ["z".repeat(2500)]);
   deepEqual(tab.faults, []);
 });
 
@@ -577,10 +622,12 @@ test("New replicas: what no server has is asked for first", async () => {
   const { tab } = await page();
   await setTitle(tab, "ada", "at the server");
   await same(tab, "both have it", ".title", ["at the server"]);
+  await frontNames(tab);
+  await tab.until(`document.querySelector("#travels .from-ada.to-server")`); // ada has the reply
   const name = await tab.evaluate(`document.querySelector("#ada h2").title`);
   await tab.click("#ada .online");
   await addItem(tab, "ada", "nowhere else");
-  await pause(1000);
+  await shows(tab, "#ada .item", ["nowhere else"]);
   const forget = async (answer) => {
     await tab.click("#forget");
     await until("it asks", () => tab.evaluate(`document.querySelector("#question").open`));
@@ -611,7 +658,7 @@ test("a store with a row that can't be read: the others are used, and it can be 
   const { tab, document } = await page();
   for (const item of ["one", "two"]) await addItem(tab, "ada", item);
   await same(tab, "both have them", ".item", ["one", "two"]);
-  await pause(1500);
+  equal(await storedBy(tab, document, "ada"), 2); // before they were sent
   await tab.evaluate(`new Promise((done) => {
     const request = indexedDB.open("jcrdt ${document} ada");
     request.onsuccess = () => {
@@ -635,11 +682,11 @@ test("a browser that is killed: what was edited is there", async () => {
   await tab.until(ONLINE);
   for (const item of ["one", "two"]) await addItem(tab, "ada", item);
   await same(tab, "both have them", ".item", ["one", "two"]);
-  const { length } = await tab.textOf("#server-front .name");
+  const { length } = await frontNames(tab);
   await tab.click("#ada .online");
   const count = await storedBy(tab, "page", "ada");
   await addItem(tab, "ada", "three");
-  await until("it is stored", async () => (await storedBy(tab, "page", "ada")) > count);
+  await until("it is stored", async () => (await storedBy(tab, "page", "ada")) === count + 1);
   first.kill();
   await first.ended;
   const second = await Browser.open({ folder: first.folder });
@@ -647,7 +694,7 @@ test("a browser that is killed: what was edited is there", async () => {
     const again = await second.tab(hub.page);
     await again.until(ONLINE);
     await same(again, "all are there", ".item", ["one", "two", "three"]);
-    equal((await again.textOf("#server-front .name")).length, length); // under the old names
+    equal((await frontNames(again)).length, length); // under the old names
     deepEqual(await again.textOf(".notice"), ["", "", ""]);
   } finally {
     await second.close();
@@ -670,9 +717,10 @@ test("replicas of others that have one word for a name are told apart", async ()
     // The side of this page has its own name and colour, and nobody else has.
     deepEqual(shown.filter((label) => !/^(ada|replica)·[a-z2-7]{3,}$/.test(label)), ["ada"]);
     deepEqual(await tab.textOf("#server-front .name.ada"), ["ada 1"]);
-    await same(tab, "in the fields, too", ".field .choice .name");
+    await until("in the fields, too", async () =>
+      (await both(tab, ".field .choice .name")).every((it) => it.length === 4));
     const choices = await tab.textOf("#ada .field .choice .name");
-    equal(new Set(choices).size, choices.length, choices.join(", "));
+    equal(new Set(choices).size, 4, choices.join(", "));
   } finally {
     await Promise.all(others.map((other) => other.close()));
   }
@@ -694,8 +742,7 @@ test("the text pad: two browsers type into one text", async () => {
   await ada.insert("!");
   await both("Dear Hello 😀!");
   await ada.press("z", 2);
-  await both("Dear Hello 😀");
-  await pause(1000);
+  await both("Dear Hello 😀"); // it was stored before it was sent
   await ada.reload();
   await both("Dear Hello 😀");
   deepEqual([...ada.faults, ...bob.faults], []);
@@ -755,8 +802,13 @@ test("by plain http from another machine, where there are no locks", async () =>
   const tab = await browser.tab(hub.page, { profile });
   await tab.until(ONLINE);
   if (address) equal(await tab.evaluate("navigator.locks === undefined"), true);
+  // The first one is held up again and again while the second begins: it answers late.
+  await tab.evaluate(`window.holding = setInterval(() => {
+    for (const end = Date.now() + 400; Date.now() < end; );
+  }, 420)`);
   const second = await browser.tab(hub.page, { profile });
   await second.until(ONLINE);
+  await tab.evaluate("clearInterval(window.holding)");
   const nameOf = (it) => it.evaluate(`document.querySelector("#ada h2").title`);
   ok((await nameOf(tab)) !== (await nameOf(second)));
   await second.close();
@@ -768,10 +820,9 @@ test("by plain http from another machine, where there are no locks", async () =>
   }
   await tab.click("#ada .online");
   await setTitle(tab, "ada", "an offline edit");
-  await pause(300);
   await tab.reload();
   await tab.until(ONLINE);
   await same(tab, "it is there", ".title", ["an offline edit"]);
-  ok((await tab.textOf("#server-front .name")).length <= 2);
+  ok((await frontNames(tab)).length <= 2);
   deepEqual(tab.faults, []);
 });

@@ -9,7 +9,6 @@ const documentName = new URLSearchParams(location.search).get("doc") ?? "page";
 const [state, text, problem] = ["state", "text", "problem"].map((id) =>
   /** @type {HTMLTextAreaElement} */ (document.getElementById(id)));
 
-keepCopies().catch((error) => console.warn(error));
 try {
   const { open, words } = await engine();
   const pad = await Provider.open({
@@ -33,3 +32,4 @@ try {
 } catch (error) {
   problem.textContent = String(error);
 }
+keepCopies().catch((error) => console.warn(error)); // after the replica: it needs the room more

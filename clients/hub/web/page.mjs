@@ -135,5 +135,5 @@ async function begin() {
   });
 }
 
-keepCopies().catch((error) => console.warn(error));
-begin().catch((error) => showNotice(`This page can't begin: ${error.message}`));
+await begin().catch((error) => showNotice(`This page can't begin: ${error.message}`));
+keepCopies().catch((error) => console.warn(error)); // after the replicas: these need the room more

@@ -105,11 +105,19 @@ export function showFront(place, front) {
   place.replaceChildren(...names);
 }
 
-/** Asks a question in a dialog. Resolves with the answer, or with the first one if it is closed.
+let asked = Promise.resolve(""); // the last question
+
+/** Asks a question in a dialog, once those before it are answered. Resolves with the answer, or with
+ *  the first one if it is closed.
  *  @param {string} words
  *  @param {string[]} answers
  *  @returns {Promise<string>} */
-export function ask(words, answers) {
+export const ask = (words, answers) => (asked = asked.then(() => askNow(words, answers)));
+
+/** @param {string} words
+ *  @param {string[]} answers
+ *  @returns {Promise<string>} */
+function askNow(words, answers) {
   const dialog = /** @type {HTMLDialogElement} */ (find(document, "#question"));
   find(dialog, "p").textContent = words;
   const buttons = answers.map((answer) => {

@@ -14,6 +14,8 @@ const WORDS = ["--headless=new", "--no-sandbox", "--disable-gpu", "--disable-dev
 const STEP_MS = 50;
 const START_SECONDS = 120; // for a browser to begin
 const ANSWER_SECONDS = process.env.JCRDT_SLOW ? 600 : 120; // for one of its answers
+// JCRDT_THROTTLE=8 gives each page an eighth of a processor: so tests fail that don't wait.
+const THROTTLE = Number(process.env.JCRDT_THROTTLE ?? 1);
 const KEYS = { Tab: 9, Enter: 13, Escape: 27, " ": 32, ArrowLeft: 37, ArrowRight: 39, Backspace: 8,
   Delete: 46, Home: 36, End: 35, z: 90 };
 
@@ -152,7 +154,8 @@ export class Browser {
     for (const part of ["Runtime", "Page", "Log"]) await tab.send(`${part}.enable`);
     await tab.send("Emulation.setFocusEmulationEnabled", { enabled: true });
     await tab.size(width, height);
-    await tab.send("Page.navigate", { url });
+    await tab.send("Emulation.setCPUThrottlingRate", { rate: THROTTLE });
+    if (url !== "about:blank") await tab.go(url);
     return tab;
   }
 
@@ -292,17 +295,23 @@ export class Tab {
     writeFileSync(path, Buffer.from(data, "base64"));
   }
 
-  go(url) {
-    return this.send("Page.navigate", { url });
+  /** Loads another page, and resolves once the old one is gone. */
+  go(url, seconds = 100) {
+    return this.#leave(() => this.send("Page.navigate", { url }), seconds);
   }
 
-  /** Loads the page again, and resolves once the old one is gone. A page that asks not to be left is
-   *  stayed at, and tried again until what it was asking for is stored. */
-  async reload(seconds = 100) {
+  /** Loads the page again, and resolves once the old one is gone. */
+  reload(seconds = 100) {
+    return this.#leave(() => this.send("Page.reload"), seconds);
+  }
+
+  /** Leaves the page. One that asks not to be left is stayed at, and tried again until what it was
+   *  asking for is stored. */
+  async #leave(leave, seconds) {
     await this.evaluate("window.isOld = true");
     let asked = -1;
     const isLeft = async () => {
-      if (asked !== this.asked) await this.send("Page.reload");
+      if (asked !== this.asked) await leave();
       asked = this.asked;
       return this.evaluate("window.isOld === undefined").catch(() => false);
     };
