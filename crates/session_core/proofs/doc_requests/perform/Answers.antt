@@ -1,6 +1,6 @@
 use Rattle.line_proto.specs.declared.request.DocRequest.TheVariants as ask
 use Rattle.session_core.proofs.Served.{served_as}
-use Rattle.session_core.proofs.doc_requests.answer_doc_request.Goals as goal
+use Rattle.session_core.proofs.doc_requests.perform.Goals as goal
 
 pub returns-in-Front : goal.returns-in-Front
 returns-in-Front g c =
