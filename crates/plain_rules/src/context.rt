@@ -301,28 +301,34 @@ fn pass(context: &mut PlainContext, key: &Key, id: &Id, mutation: &Mutation) -> 
     }
 }
 
+// An operation that takes its step, and the ids that it depends on.
+#[derive(Clone, Copy)]
+struct Step<'a> {
+    op: &'a Operation,
+    dependencies: &'a [Id],
+}
+
 // An operation on its way down.
 #[cycle(descending)]
 fn descend(
     alloc: Global,
     context: &mut PlainContext,
-    op: &Operation,
+    step: Step<'_>,
     path: &[Tagged],
-    dependencies: &[Id],
 ) -> Result<(), Refusal>
     ensures done { OnOk result (context_of context.new
-        ≡ descend (is_in dependencies.now) op.now path.now (context_of context.old)) }
+        ≡ descend (is_in step.entry.dependencies.now) step.entry.op.now path.now (context_of context.old)) }
     ensures memory { IfErr result (λ e. e ≡ NoMemory) }
 {
     match path {
         [] => mutate(
             context,
-            &op.cursor().key,
-            &op.id(),
-            op.mutation(),
-            dependencies,
+            &step.op.cursor().key,
+            &step.op.id(),
+            step.op.mutation(),
+            step.dependencies,
         ),
-        [first, rest @ ..] => follow(alloc, context, op, first, rest, dependencies),
+        [first, rest @ ..] => follow(alloc, context, step, first, rest),
     }
 }
 
@@ -331,18 +337,17 @@ fn descend(
 fn follow(
     alloc: Global,
     context: &mut PlainContext,
-    op: &Operation,
+    step: Step<'_>,
     first: &Tagged,
     rest: &[Tagged],
-    dependencies: &[Id],
 ) -> Result<(), Refusal>
-    ensures done { OnOk result (context_of context.new
-        ≡ descend (is_in dependencies.now) op.now (first.now ∷ rest.now) (context_of context.old)) }
+    ensures done { OnOk result (context_of context.new ≡ descend (is_in step.entry.dependencies.now)
+        step.entry.op.now (first.now ∷ rest.now) (context_of context.old)) }
     ensures memory { IfErr result (λ e. e ≡ NoMemory) }
 {
-    pass(context, first.key(), &op.id(), op.mutation())?;
+    pass(context, first.key(), &step.op.id(), step.op.mutation())?;
     let mut below = take_child(alloc, &mut context.children, first);
-    descend(alloc, &mut below, op, rest, dependencies)?;
+    descend(alloc, &mut below, step, rest)?;
     put_child(&mut context.children, first, below)?;
     Ok(())
 }
@@ -364,9 +369,8 @@ pub fn plain_step(
     descend(
         alloc,
         &mut changed,
-        op,
+        Step { op, dependencies },
         op.cursor().path.as_slice(),
-        dependencies,
     )?;
     Ok(changed)
 }

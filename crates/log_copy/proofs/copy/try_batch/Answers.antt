@@ -22,23 +22,23 @@ returns-then-not-may_add g c = (
 pub returns-then-is_empty : goal.returns-then-is_empty
 returns-then-is_empty g c =
     let may = rw c.as_slice.ensures.value at (c.may_add.ensures.0 c.if-not-may_add.false) in
-    inl (record { same_conn = refl; same_docs = refl }, may, nil_from_length c.args.entries.now (eqb-true (length c.args.entries.now) 0 (sym c.is_empty.ensures ∙ c.if-is_empty.true)))
+    inl (record { same_conn = refl; same_docs = refl }, may, nil_from_length c.args.batch.entries.now (eqb-true (length c.args.batch.entries.now) 0 (sym c.is_empty.ensures ∙ c.if-is_empty.true)))
 
 pub overflow_cast-from : goal.overflow_cast-from
 overflow_cast-from g c =
     let may = rw c.as_slice.ensures.value at (c.may_add.ensures.0 c.if-not-may_add.false) in
-    omega (arith, batch_rows c.args.doc.now c.args.from c.args.entries.now c.args.docs.now.items may c.in_ok-texts.ensures.ok.1)
+    omega (arith, batch_rows c.args.batch.doc.now c.args.batch.from c.args.batch.entries.now c.args.docs.now.items may c.in_ok-texts.ensures.ok.1)
 
 pub put_entries-requires : goal.put_entries-requires
 put_entries-requires g c =
     let may = rw c.as_slice.ensures.value at (c.may_add.ensures.0 c.if-not-may_add.false) in
     let told = ap (map string_bytes) c.as_slice-2.ensures.value ∙ c.in_ok-texts.ensures.texts in
-    omega (arith, batch_rows c.args.doc.now c.args.from c.args.entries.now c.args.docs.now.items may c.in_ok-texts.ensures.ok.1, same_lengths string_bytes op_text c.as_slice-2.result.now c.args.entries.now told)
+    omega (arith, batch_rows c.args.batch.doc.now c.args.batch.from c.args.batch.entries.now c.args.docs.now.items may c.in_ok-texts.ensures.ok.1, same_lengths string_bytes op_text c.as_slice-2.result.now c.args.batch.entries.now told)
 
 pub returns-in_err-texts : goal.returns-in_err-texts
 returns-in_err-texts g c =
-    let left : IsLeft g.S.Store c.args.doc.now c.args.from c.args.entries.now c.args.conn.now c.args.conn.now c.args.docs.now.items c.add_kept.new.docs.items = record { same_conn = refl; same_docs = c.in_err-texts.ensures.err.0 } in
-    left_by g.S.Store c.args.doc.now c.args.from c.args.entries.now c.args.conn.now c.args.conn.now c.args.docs.now.items c.add_kept.new.docs.items c.from_residual.result c.in_err-texts.field-0.0 c.from_residual.ensures.1 left
+    let left : IsLeft g.S.Store c.args.batch.doc.now c.args.batch.from c.args.batch.entries.now c.args.conn.now c.args.conn.now c.args.docs.now.items c.add_kept.new.docs.items = record { same_conn = refl; same_docs = c.in_err-texts.ensures.err.0 } in
+    left_by g.S.Store c.args.batch.doc.now c.args.batch.from c.args.batch.entries.now c.args.conn.now c.args.conn.now c.args.docs.now.items c.add_kept.new.docs.items c.from_residual.result c.in_err-texts.field-0.0 c.from_residual.ensures.1 left
     c.in_err-texts.ensures.err.1 (λ is. c.in_err-texts.ensures.refused (ap Err is))
 
 pub returns-in-Ok : goal.returns-in-Ok
@@ -48,10 +48,10 @@ returns-in-Ok g c =
     let old = c.args.conn.now in
     let new = c.put_entries.new.conn in
     inr (record {
-      sent = sends g.S.Store c.args.doc.now c.args.from c.args.entries.now old new c.args.docs.now.items c.add_kept.new.docs.items (map string_bytes c.as_slice-2.result.now) told may
-          (some_from c.args.entries.now (sym c.is_empty.ensures ∙ c.if-is_empty.false)) c.in_ok-texts.ensures.ok.1 (texts_writable c.as_slice-2.result.now c.args.entries.now told) c.in_ok-texts.ensures.ok.0 c.put_entries.ensures.crash c.put_entries.ensures.commits;
-      shows = subst (λ (t : List (List ℕ)). HasCleanDisk (state g.S.Store new) → (was : Content) → IsOpenWith was (state g.S.Store old) → IsOpenWith (with_rows (rows_from c.args.doc.now (c.args.from + 1) t) was) (state g.S.Store new)) told c.in-Ok.ensures.ok;
-      ran = subst (λ (t : List (List ℕ)). HasCleanDisk (state g.S.Store new) → RanAll g.S.Store (batch_of (rows_from c.args.doc.now (c.args.from + 1) t)) old new) told c.in-Ok.ensures.ran;
+      sent = sends g.S.Store c.args.batch.doc.now c.args.batch.from c.args.batch.entries.now old new c.args.docs.now.items c.add_kept.new.docs.items (map string_bytes c.as_slice-2.result.now) told may
+          (some_from c.args.batch.entries.now (sym c.is_empty.ensures ∙ c.if-is_empty.false)) c.in_ok-texts.ensures.ok.1 (texts_writable c.as_slice-2.result.now c.args.batch.entries.now told) c.in_ok-texts.ensures.ok.0 c.put_entries.ensures.crash c.put_entries.ensures.commits;
+      shows = subst (λ (t : List (List ℕ)). HasCleanDisk (state g.S.Store new) → (was : Content) → IsOpenWith was (state g.S.Store old) → IsOpenWith (with_rows (rows_from c.args.batch.doc.now (c.args.batch.from + 1) t) was) (state g.S.Store new)) told c.in-Ok.ensures.ok;
+      ran = subst (λ (t : List (List ℕ)). HasCleanDisk (state g.S.Store new) → RanAll g.S.Store (batch_of (rows_from c.args.batch.doc.now (c.args.batch.from + 1) t)) old new) told c.in-Ok.ensures.ran;
     })
 
 pub returns : goal.returns
@@ -60,7 +60,7 @@ returns g c =
     let told = ap (map string_bytes) c.as_slice-2.ensures.value ∙ c.in_ok-texts.ensures.texts in
     let old = c.args.conn.now in
     let new = c.put_entries.new.conn in record {
-      sent = sends g.S.Store c.args.doc.now c.args.from c.args.entries.now old new c.args.docs.now.items c.add_kept.new.docs.items (map string_bytes c.as_slice-2.result.now) told may
-          (some_from c.args.entries.now (sym c.is_empty.ensures ∙ c.if-is_empty.false)) c.in_ok-texts.ensures.ok.1 (texts_writable c.as_slice-2.result.now c.args.entries.now told) c.in_ok-texts.ensures.ok.0 c.put_entries.ensures.crash c.put_entries.ensures.commits;
-      failed = λ clean. subst (λ (t : List (List ℕ)). FailsAmong g.S.Store (batch_of (rows_from c.args.doc.now (c.args.from + 1) t)) old new) told (c.in-Err.error, c.in-Err.ensures.err clean);
+      sent = sends g.S.Store c.args.batch.doc.now c.args.batch.from c.args.batch.entries.now old new c.args.docs.now.items c.add_kept.new.docs.items (map string_bytes c.as_slice-2.result.now) told may
+          (some_from c.args.batch.entries.now (sym c.is_empty.ensures ∙ c.if-is_empty.false)) c.in_ok-texts.ensures.ok.1 (texts_writable c.as_slice-2.result.now c.args.batch.entries.now told) c.in_ok-texts.ensures.ok.0 c.put_entries.ensures.crash c.put_entries.ensures.commits;
+      failed = λ clean. subst (λ (t : List (List ℕ)). FailsAmong g.S.Store (batch_of (rows_from c.args.batch.doc.now (c.args.batch.from + 1) t)) old new) told (c.in-Err.error, c.in-Err.ensures.err clean);
     }

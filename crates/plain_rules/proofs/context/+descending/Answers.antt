@@ -8,9 +8,9 @@ use Rattle.plain_rules.proofs.context.+descending.Goals as goal
 pub follow-returns-clause-done : goal.follow-returns-clause-done
 follow-returns-clause-done t c =
     let before = out-PlainContext c.pass.new.context in
-    let op = c.args.op.now in
+    let op = c.args.step.op.now in
     let first = c.args.first.now in
-    let deps = is_in c.args.dependencies.now in
+    let deps = is_in c.args.step.dependencies.now in
     let put =
     c.in_ok-put_child.ensures.done ∙ ap (λ y. seen (first, c.descend.new.context) ∷ contexts_of y.children.items) (out-roll-PlainContext _) in
     rw (context_of-roll _, out-roll-PlainContext _)
