@@ -1,25 +1,21 @@
 -- A session over documents that were made is one over the wanted documents.
-use Rattle.std.proofs.Common.{◌≡◌, ◌↔◌, ◌⊎◌, inl, inr, ℕ, Bool, List, [], map, Option, IsTrue, ap, ◌∙◌, subst}
-use Rattle.doc_rules.specs.Document.{Document, new_document}
+use Rattle.std.proofs.Common.{◌≡◌, ◌↔◌, ◌⊎◌, inl, inr, ℕ, Bool, List, [], Option, IsTrue, subst}
+use Rattle.doc_rules.specs.Document.{Document}
 use Rattle.session_rules.specs.Alone.{alone, begins_alone}
 use Rattle.session_rules.specs.Session.{Session}
 use Rattle.session_core.specs.Ended.{Ends}
 use Rattle.session_rules.specs.declared.Ending.{Ending}
 use Rattle.session_rules.specs.declared.Ending.TheVariants.{ReadFault, WriteFault}
 use Rattle.run_core.specs.Names.{Wanted, first_replica}
-use Rattle.run_core.specs.Served.{ServesWanted, ServesUntilFault}
+use Rattle.run_core.specs.Served.{AreWanted, ServesWanted, ServesUntilFault}
 
-pub of_wanted : (wanted : Wanted) (replica : List ℕ) (names listed : List (List ℕ)) (documents : List Document) → replica ≡ first_replica wanted.name
-    → names ≡ listed → listed ≡ wanted.documents → documents ≡ map (λ n. new_document replica [] 1) listed
+pub of_wanted : (wanted : Wanted) (names : List (List ℕ)) (documents : List Document) → AreWanted wanted names documents
     → (had has held holds : Option (List ℕ)) (why : Ending) (end : Session (List Document))
     → Ends (alone names) (record { documents = documents; opened = [] }) had has held holds why end
     → Ends (alone wanted.documents) (begins_alone (first_replica wanted.name) wanted.documents) had has held holds why end
-of_wanted wanted replica names listed documents named same_names all_listed made had has held holds why end session =
-    let made_is : documents ≡ map (λ n. new_document (first_replica wanted.name) [] 1) wanted.documents =
-    made ∙ ap (λ (r : List ℕ). map (λ n. new_document r [] 1) listed) named
-    ∙ ap (map (λ n. new_document (first_replica wanted.name) [] 1)) all_listed in
-    subst (λ (ds : List Document). Ends (alone wanted.documents) (record { documents = ds; opened = [] }) had has held holds why end) made_is
-    (subst (λ (ns : List (List ℕ)). Ends (alone ns) (record { documents = documents; opened = [] }) had has held holds why end) (same_names ∙ all_listed) session)
+of_wanted wanted names documents (same_names, made) had has held holds why end session =
+    subst (λ (ds : List Document). Ends (alone wanted.documents) (record { documents = ds; opened = [] }) had has held holds why end) made
+    (subst (λ (ns : List (List ℕ)). Ends (alone ns) (record { documents = documents; opened = [] }) had has held holds why end) same_names session)
 
 -- a fault is told where the device failed
 pub until_fault : (wanted : Wanted) (why : Ending) (source_failed sink_failed : Bool) (had has held holds : Option (List ℕ)) → ServesWanted wanted why had has held holds

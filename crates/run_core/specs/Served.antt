@@ -1,12 +1,19 @@
 -- What a run of the program has read and written.
-use Rattle.std.specs.Prelude.{◌≢◌, ◌⊎◌, ℕ, Bool, List, Option, IsTrue}
-use Rattle.doc_rules.specs.Document.{Document}
+use Rattle.std.specs.Prelude.{◌≡◌, ◌≢◌, ◌⊎◌, ℕ, Bool, List, [], Option, IsTrue, map}
+use Rattle.doc_rules.specs.Document.{Document, new_document}
 use Rattle.session_rules.specs.Alone.{alone, begins_alone}
 use Rattle.session_rules.specs.Session.{Session}
 use Rattle.session_rules.specs.declared.Ending.{Ending}
 use Rattle.session_rules.specs.declared.Ending.TheVariants.{ReadFault, WriteFault}
 use Rattle.session_core.specs.Ended.{Ends}
 use Rattle.run_core.specs.Names.{Wanted, first_replica}
+
+-- Documents of the wanted names, which are new and the server's that has its name with the number of
+-- a first start.
+abbrev pub AreWanted : Wanted → List (List ℕ) → List Document → Type 0
+AreWanted wanted names documents =
+    (names ≡ wanted.documents)
+    × (documents ≡ map (λ n. new_document (first_replica wanted.name) [] 1) wanted.documents)
 
 -- What a source had and has, and what a sink had and has: a session over new documents of the
 -- wanted names, in which the server has its name with the number of a first start, and which ended

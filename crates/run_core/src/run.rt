@@ -1,9 +1,10 @@
 //! A run: one session over new documents, from any source to any sink.
 ghost use Rattle.std.specs.Prelude.{◌≡◌, ◌≢◌, ◌⊎◌, ◌≤◌, ◌+◌, ℕ, [], false, true, length, map, IfOk, IfErr};
 ghost use Rattle.doc_rules.specs.Document.{new_document};
+ghost use Rattle.lamport_id.specs.Name.{is_name};
 ghost use Rattle.run_core.specs.Names.{Wanted, first_replica, is_good, wanted_by};
-ghost use Rattle.run_core.specs.Served.{ServesAll, ServesUntilFault};
-ghost use Rattle.run_core.specs.Limits.{most_documents};
+ghost use Rattle.run_core.specs.Served.{AreWanted, ServesAll, ServesUntilFault};
+ghost use Rattle.run_core.specs.Limits.{longest_server_name, most_documents};
 
 use crate::names::{first_replica, is_good};
 use json_scalar::Refusal;
@@ -79,34 +80,45 @@ fn finish<D: Document>(ended: Ended<D>) -> u8
     status_of(why)
 }
 
-// Runs a session over new documents of these names, for the replica of this name.
-fn serve<M: Maker, R: Source, W: Sink>(
+// New documents of these names, for the first start of the server of this name.
+fn first_documents<M: Maker>(
     alloc: Global,
     maker: &mut M,
-    replica: &ReplicaName,
-    names: &[&str],
+    name: &str,
+    documents: &[&str],
+) -> Result<Alone<M::Made>, Refusal>
+    requires named { (is_name name.now ≡ true) × (length name.now ≤ longest_server_name) }
+    requires room { length documents.now ≤ M.room maker.old }
+    ensures names { IfOk result (λ made. made.names.items ≡ map (λ s. s.now) documents.now) }
+    ensures documents { IfOk result (λ made. map M.Made.document made.documents.items
+        ≡ map (λ n. new_document (first_replica name.now) [] 1) (map (λ s. s.now) documents.now)) }
+{
+    match first_replica(alloc, name)? {
+        Some(replica) => make_all(alloc, maker, &replica, documents),
+        None => unreachable!(),
+    }
+}
+
+// Runs a session over these documents.
+fn serve<D: Document, R: Source, W: Sink>(
+    alloc: Global,
+    documents: Alone<D>,
     source: &mut R,
     sink: &mut W,
 ) -> u8
-    requires room { length names.now ≤ M.room maker.old }
     requires source_works { R.has_failed source.old ≡ false }
     requires sink_works { W.has_failed sink.old ≡ false }
     ensures bound { result ≤ 1 }
-    ensures served { (wanted : Wanted) → replica.now ≡ first_replica wanted.name
-        → map (λ s. s.now) names.now ≡ wanted.documents
+    ensures served { (wanted : Wanted) → AreWanted wanted documents.names.items (map D.document documents.documents.items)
         → result ≡ 0 → ServesAll wanted
         (R.remaining source.old) (R.remaining source.new) (W.contents sink.old) (W.contents sink.new) }
     ensures no_fault { result ≡ 0 → (R.has_failed source.new ≡ false) × (W.has_failed sink.new ≡ false) }
     ensures flushed { W.kept sink.old ≡ [] → result ≡ 0 → W.kept sink.new ≡ [] }
-    ensures failed { (wanted : Wanted) → replica.now ≡ first_replica wanted.name
-        → map (λ s. s.now) names.now ≡ wanted.documents
+    ensures failed { (wanted : Wanted) → AreWanted wanted documents.names.items (map D.document documents.documents.items)
         → result ≡ 1 → ServesUntilFault wanted (R.has_failed source.new) (W.has_failed sink.new)
         (R.remaining source.old) (R.remaining source.new) (W.contents sink.old) (W.contents sink.new)
         ⊎ ((source.new ≡ source.old) × (sink.new ≡ sink.old)) }
 {
-    let Ok(documents) = make_all(alloc, maker, replica, names) else {
-        return 1;
-    };
     match run_alone(alloc, source, sink, documents) {
         Ok(ended) => finish(ended),
         Err(_) => 1,
@@ -146,9 +158,8 @@ pub fn run_over<M: Maker, R: Source, W: Sink>(
     if !is_good(name, documents) {
         return 2;
     }
-    match first_replica(alloc, name) {
-        Ok(Some(replica)) => serve(alloc, maker, &replica, documents, source, sink),
-        Ok(None) => unreachable!(),
-        Err(_) => 1,
-    }
+    let Ok(made) = first_documents(alloc, maker, name, documents) else {
+        return 1;
+    };
+    serve(alloc, made, source, sink)
 }
