@@ -30,6 +30,7 @@ module _ {L Left : Type 0} (g : Ghosts L Left) where
         unknown = subst (λ (docs : List Doc). is_known (replica_name name begun.epoch) docs names ≡ false) (sym kept) (subst (λ (r : List ℕ). is_known r (g.log old).docs names ≡ false) named served.raised.unknown);
         last = (g.log served.served.new).docs;
         any = served.served.copied.any;
-        copied = subst (λ (docs : List Doc). AreAdded names docs served.served.copied.any (g.log served.served.new).docs) same served.served.copied.added;
+        copied = subst (λ (r : List ℕ). AreAdded (origin_at r begun.docs names) names begun.docs served.served.copied.any (g.log served.served.new).docs) named
+            (subst (λ (docs : List Doc). AreAdded (origin_at served.replica begun.docs names) names docs served.served.copied.any (g.log served.served.new).docs) same served.served.copied.added);
         served = subst (λ (r : List ℕ). ServesSessions (origin_at r begun.docs names) (g.log served.served.new).docs names count listens holds) named served.served.sessions;
       }

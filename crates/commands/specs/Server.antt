@@ -10,7 +10,7 @@ use Rattle.tcp_server.specs.Listening.{WritesAddress}
 -- Where the server listens, and then the sessions, over documents that began as some stored log has
 -- them, under the server's name. That is this name and an epoch, greater than the one that the log
 -- had, and it is new to these documents. At the end the log has these last documents: those that it
--- had, with batches behind them.
+-- had, with batches of just the same documents behind them.
 pub record ServesAt (name : List ℕ) (names : List (List ℕ)) (count : ℕ)
     (held holds : Option (List ℕ)) : Type 0 where
   pub listens : Option (List ℕ)
@@ -22,5 +22,5 @@ pub record ServesAt (name : List ℕ) (names : List (List ℕ)) (count : ℕ)
   pub unknown : is_known (replica_name name epoch) docs names ≡ false
   pub last : List Doc
   pub any : Bool
-  pub copied : AreAdded names docs any last
+  pub copied : AreAdded (origin_at (replica_name name epoch) docs names) names docs any last
   pub served : ServesSessions (origin_at (replica_name name epoch) docs names) last names count listens holds

@@ -1,25 +1,8 @@
 //! What a server needs of its host.
-use log::Log;
+use served_log::Host;
 use std::net::{Net, TcpListener, TcpStream};
-use std::sync::Wait;
-use std::thread::Threads;
-use std::time::Clock;
 
-/// A host that a server can run on: TCP, threads, waiting, standard error, notes, and a clock.
-pub trait ServerHost: Net<Listener = TcpListener, Stream = TcpStream>
-    + Threads
-    + Wait
-    + Eprint
-    + Sync
-    + Log
-    + Clock {}
+/// A host that the program's server can run on: TCP and standard error, beside what a `Host` has.
+pub trait ServerHost: Net<Listener = TcpListener, Stream = TcpStream> + Eprint + Host {}
 
-impl<
-    R: Net<Listener = TcpListener, Stream = TcpStream>
-        + Threads
-        + Wait
-        + Eprint
-        + Sync
-        + Log
-        + Clock,
-> ServerHost for R {}
+impl<R: Net<Listener = TcpListener, Stream = TcpStream> + Eprint + Host> ServerHost for R {}

@@ -57,7 +57,6 @@ fn report_causes<R: Eprint>(
 fn listen_and_serve<R: ServerHost, L: StoredLog, W: io::Write>(
     host: &HostRuntime,
     rt: &R,
-    alloc: Global,
     asked: &ServeArgs<'_>,
     opened: Result<L, Fault>,
     out: &mut W,
@@ -68,6 +67,7 @@ fn listen_and_serve<R: ServerHost, L: StoredLog, W: io::Write>(
         asked.now.sessions (W.contents out.old) (W.contents out.new) }
     ensures unwritten { IfErr opened (λ fault. (fault ≡ Fault.Refused) ⊎ (out.new ≡ out.old)) }
 {
+    let alloc = *asked.documents.allocator();
     let copy = match opened {
         Ok(copy) => copy,
         Err(fault) => {
@@ -130,7 +130,7 @@ pub fn parse_and_serve<R: ServerHost, O: OpenLog, W: io::Write>(
     ensures untouched { result ≡ 2 → out.new ≡ out.old }
 {
     match parse_serve(alloc, args) {
-        Ok(asked) => listen_and_serve(host, rt, alloc, &asked, files.open(asked.file), out),
+        Ok(asked) => listen_and_serve(host, rt, &asked, files.open(asked.file), out),
         Err(ArgsFault::Refused) => 2,
         Err(ArgsFault::Memory) => {
             let _ = rt.eprintln(NO_MEMORY);

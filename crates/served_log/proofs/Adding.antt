@@ -1,5 +1,5 @@
 -- Batches that were added one after another.
-use Rattle.std.proofs.Common.{◌≡◌, ◌≢◌, ◌⊎◌, inl, inr, Result, Ok, Err, IfOk, OnOk, length, List, [], ℕ, zero, suc, Bool, true, Contains, max, ltb, ◌<◌, ◌≤◌, ◌∙◌, subst, sym, refl}
+use Rattle.std.proofs.Common.{◌≡◌, ◌≢◌, ◌⊎◌, inl, inr, Result, Ok, Err, IfOk, OnOk, length, List, [], ℕ, zero, suc, Bool, true, get_or, max, ltb, ◌<◌, ◌≤◌, ◌∙◌, subst, sym, refl}
 use Rattle.std.proofs.Math.Nat.{max-zero, zero-lt-suc, le-max_right, lt_of_lt_of_le, lt_irrefl}
 use Rattle.std.proofs.lemmas.Bool.{lt-ltb}
 use Rattle.std.proofs.lemmas.List.{nil_from_length}
@@ -7,7 +7,7 @@ use Rattle.share_ledger.specs.Begun.{Origin}
 use Rattle.doc_api.specs.Words.{Op}
 use Rattle.json_scalar.specs.Refusal.{UnlessMemory}
 use Rattle.json_scalar.specs.declared.refusal.Refusal.{Refusal}
-use Rattle.doc_rules.specs.Document.{tail}
+use Rattle.doc_rules.specs.Document.{IsSound, tail}
 use Rattle.locked_doc.specs.Locked.{Begins, Locked}
 use Rattle.stored_log.specs.Limits.{most_rows}
 use Rattle.stored_log.specs.Docs.{Doc, IsBatch, add_batch, log_of}
@@ -19,18 +19,20 @@ use Rattle.served_log.specs.Batches.AreAdded.{none, more}
 use Rattle.served_log.specs.Batches.AreAddedUpTo.{none_yet, one_more}
 
 -- some, and then some more
-pub added_all : {names : List (List ℕ)} {old mid after : List Doc} {a b : Bool} → AreAdded names old a mid → AreAdded names mid b after → (any : Bool) × AreAdded names old any after
+pub added_all : {origin : ℕ → Origin} {names : List (List ℕ)} {old mid after : List Doc} {a b : Bool} → AreAdded origin names old a mid → AreAdded origin names mid b after
+    → (any : Bool) × AreAdded origin names old any after
 added_all {a = a} first none = (a, first)
-added_all first (more next here adds) = (true, more (added_all first next).1 here adds)
+added_all first (more next within adds) = (true, more (added_all first next).1 within adds)
 
-pub grows_all : {names : List (List ℕ)} {old mid new : LogState} → AddsBatches names old mid → AddsBatches names mid new → AddsBatches names old new
+pub grows_all : {origin : ℕ → Origin} {names : List (List ℕ)} {old mid new : LogState} → AddsBatches origin names old mid → AddsBatches origin names mid new
+    → AddsBatches origin names old new
 grows_all first next =
     let all = added_all first.added next.added in
     record { any = all.0; added = all.1; epoch = next.epoch ∙ first.epoch }
 
 -- the same, up to a fault
-pub grows_until : {names : List (List ℕ)} {old mid new : LogState} {fault : Fault} → AddsBatches names old mid
-    → (fault ≡ Store) ⊎ AddsBatches names mid new → (fault ≡ Store) ⊎ AddsBatches names old new
+pub grows_until : {origin : ℕ → Origin} {names : List (List ℕ)} {old mid new : LogState} {fault : Fault} → AddsBatches origin names old mid
+    → (fault ≡ Store) ⊎ AddsBatches origin names mid new → (fault ≡ Store) ⊎ AddsBatches origin names old new
 grows_until first (inl store) = inl store
 grows_until first (inr next) = inr (grows_all first next)
 
@@ -40,28 +42,36 @@ some_of {count = zero} adds = absurd (adds.next.some (nil_from_length adds.next.
 some_of {count = suc n} adds = zero-lt-suc n
 
 -- whether there was a batch
-pub any_added : {names : List (List ℕ)} {old new : List Doc} {most : ℕ} → AreAddedUpTo names old most new → AreAdded names old (ltb 0 most) new
+pub any_added : {origin : ℕ → Origin} {names : List (List ℕ)} {old new : List Doc} {most : ℕ} → AreAddedUpTo origin names old most new → AreAdded origin names old (ltb 0 most) new
 any_added none_yet = none
-any_added {names = ns} {old = old} (one_more {most = m} {count = n} {after = after} before here adds) =
-    subst (λ any. AreAdded ns old any after) (sym (lt-ltb 0 (max m n) (lt_of_lt_of_le (some_of adds) (le-max_right m n)))) (more (any_added before) here adds.next)
+any_added {origin = o} {names = ns} {old = old} (one_more {most = m} {count = n} {after = after} before within adds) =
+    subst (λ any. AreAdded o ns old any after) (sym (lt-ltb 0 (max m n) (lt_of_lt_of_le (some_of adds.adds) (le-max_right m n)))) (more (any_added before) within adds)
 
 -- the next entries of one document more, if any
-adds_to_max : {names : List (List ℕ)} {old before after : List Doc} {most count : ℕ} {name : List ℕ} → AreAddedUpTo names old most before
-    → Contains names name → (0 < count → AddsMany name count before after) → (count ≡ 0 → after ≡ before) → AreAddedUpTo names old (max most count) after
-adds_to_max {names = ns} {old = old} {before = b} {most = m} {count = zero} so_far here some unless =
-    subst (λ docs. AreAddedUpTo ns old (max m 0) docs) (sym (unless refl)) (subst (λ n. AreAddedUpTo ns old n b) (sym (max-zero m)) so_far)
-adds_to_max {count = suc n} so_far here some unless = one_more so_far here (some (zero-lt-suc n))
+adds_to_max : {origin : ℕ → Origin} {names : List (List ℕ)} {old before after : List Doc} {most count number : ℕ} → AreAddedUpTo origin names old most before
+    → number < length names → (0 < count → AddsOf origin number (get_or names number []) count before after) → (count ≡ 0 → after ≡ before)
+    → AreAddedUpTo origin names old (max most count) after
+adds_to_max {origin = o} {names = ns} {old = old} {before = b} {most = m} {count = zero} so_far within some unless =
+    subst (λ docs. AreAddedUpTo o ns old (max m 0) docs) (sym (unless refl)) (subst (λ n. AreAddedUpTo o ns old n b) (sym (max-zero m)) so_far)
+adds_to_max {count = suc n} so_far within some unless = one_more so_far within (some (zero-lt-suc n))
+
+-- the same under the name of the document
+under_name : {origin : ℕ → Origin} (names : List (List ℕ)) {number count : ℕ} {name : List ℕ} {old new : List Doc} → name ≡ get_or names number []
+    → AddsOf origin number name count old new → AddsOf origin number (get_or names number []) count old new
+under_name {origin = o} names {number = k} {count = n} {old = old} {new = new} named adds = subst (λ it. AddsOf o k it n old new) named adds
 
 -- the same, where the maximum was computed
-pub adds_next : {names : List (List ℕ)} {old before after : List Doc} {most count now : ℕ} {name : List ℕ} → now ≡ max most count → AreAddedUpTo names old most before
-    → Contains names name → (0 < count → AddsMany name count before after) → (count ≡ 0 → after ≡ before) → AreAddedUpTo names old now after
-adds_next {names = ns} {old = old} {after = a} is so_far here some unless = subst (λ n. AreAddedUpTo ns old n a) (sym is) (adds_to_max so_far here some unless)
+pub adds_next : {origin : ℕ → Origin} {names : List (List ℕ)} {old before after : List Doc} {most count now number : ℕ} {name : List ℕ} → now ≡ max most count
+    → AreAddedUpTo origin names old most before → number < length names → name ≡ get_or names number [] → (0 < count → AddsOf origin number name count before after)
+    → (count ≡ 0 → after ≡ before) → AreAddedUpTo origin names old now after
+adds_next {origin = o} {names = ns} {old = old} {after = a} is so_far within named some unless =
+    subst (λ n. AreAddedUpTo o ns old n a) (sym is) (adds_to_max so_far within (λ more. under_name ns named (some more)) unless)
 
 -- no batch
-pub none_added : {names : List (List ℕ)} {old new : List Doc} {most : ℕ} → AreAddedUpTo names old most new → most ≡ 0 → new ≡ old
+pub none_added : {origin : ℕ → Origin} {names : List (List ℕ)} {old new : List Doc} {most : ℕ} → AreAddedUpTo origin names old most new → most ≡ 0 → new ≡ old
 none_added none_yet is_0 = refl
-none_added (one_more {most = m} {count = n} before here adds) is_0 =
-    absurd (lt_irrefl 0 (lt_of_lt_of_le (some_of adds) (subst (λ k. n ≤ k) is_0 (le-max_right m n))))
+none_added (one_more {most = m} {count = n} before within adds) is_0 =
+    absurd (lt_irrefl 0 (lt_of_lt_of_le (some_of adds.adds) (subst (λ k. n ≤ k) is_0 (le-max_right m n))))
 
 -- what a batch that was written makes of the documents
 pub adds_many : {U F : Type 0} (B C : Type 0) (r : Result U F) (name : List ℕ) (old new : List Doc) {from : ℕ} {ops : List Op} → ops ≢ [] → from ≡ length (log_of name old)
@@ -71,13 +81,13 @@ adds_many B C (Ok u) n d new {ops = o} some rows ok batch =
 adds_many B C (Err e) n d new some rows ok batch = tt
 
 -- what is read of a document of this number, behind so many of its operations
-pub next_there : (origin : ℕ → Origin) (number from : ℕ) (d : Locked) (r : Result (List Op) Refusal) → d.number ≡ number → Begins (origin d.number) d.document
+pub next_there : (origin : ℕ → Origin) (number from : ℕ) (d : Locked) (r : Result (List Op) Refusal) → d.number ≡ number → IsSound d.document → Begins (origin d.number) d.document
     → UnlessMemory r (Ok (tail from most_rows d.document)) → IfOk r (IsNextOf origin number from)
-next_there origin number from d (Ok ops) same begun unless =
+next_there origin number from d (Ok ops) same sound begun unless =
     let is : Ok ops ≡ Ok (tail from most_rows d.document) = unless (λ none. cc) in
     let ops_are : ops ≡ tail from most_rows d.document = cc in
-    (d.document, subst (λ n. Begins (origin n) d.document) same begun, ops_are)
-next_there origin number from d (Err cause) same begun unless = tt
+    (d.document, sound, subst (λ n. Begins (origin n) d.document) same begun, ops_are)
+next_there origin number from d (Err cause) same sound begun unless = tt
 
 -- a batch of what was read
 pub adds_of : {name : List ℕ} {count number from : ℕ} {old new : List Doc} {entries next : List Op} (origin : ℕ → Origin) → from ≡ length (log_of name old)

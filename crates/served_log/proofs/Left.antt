@@ -1,5 +1,5 @@
 -- What a server over a stored log has done, and what it leaves.
-use Rattle.std.proofs.Common.{◌≡◌, ◌⊎◌, ◌↔◌, ℕ, Bool, true, false, List, Option, Result, Ok, Err, OnOk, OnErr, sym, ap, subst, refl, ◌∙◌, arith}
+use Rattle.std.proofs.Common.{◌≡◌, ◌⊎◌, ◌↔◌, ℕ, Bool, true, false, List, [], Option, Result, Ok, Err, OnOk, OnErr, sym, ap, subst, refl, ◌∙◌, arith}
 use Rattle.std.specs.Bool.{⊤}
 use Rattle.stored_log.specs.Docs.{Doc}
 use Rattle.stored_log.specs.declared.fault.Fault.{Fault}
@@ -21,18 +21,21 @@ then_err (Ok x) p f = tt
 then_err (Err e) p f = f p
 
 -- batches behind a log keep its rows
-kept_grown : (names : List (List ℕ)) (begun folded new : LogState) → folded ≡ begun → AddsBatches names folded new → KeepsRows names begun new
-kept_grown names begun folded new same more = record {
+kept_grown : (replica : List ℕ) (names : List (List ℕ)) (begun folded new : LogState) → folded ≡ begun → AddsBatches (origin_at replica folded.docs names) names folded new
+    → KeepsRows names begun new
+kept_grown replica names begun folded new same more = record {
+  replica = replica;
   any = more.any;
-  added = subst (λ (k : LogState). AreAdded names k.docs more.any new.docs) same more.added;
+  added = subst (λ (k : LogState). AreAdded (origin_at replica k.docs names) names k.docs more.any new.docs) same more.added;
   epoch = omega (arith, more.epoch, ap (λ (k : LogState). k.epoch) same);
 }
 
 -- and so they do behind a new epoch
 kept_raised : {name replica : List ℕ} (names : List (List ℕ)) (old begun new : LogState) → IsRaised name names replica old begun → KeepsRows names begun new → KeepsRows names old new
 kept_raised names old begun new raised kept = record {
+  replica = kept.replica;
   any = kept.any;
-  added = subst (λ (docs : List Doc). AreAdded names docs kept.any new.docs) raised.kept kept.added;
+  added = subst (λ (docs : List Doc). AreAdded (origin_at kept.replica docs names) names docs kept.any new.docs) raised.kept kept.added;
   epoch = omega (arith, raised.raised, kept.epoch);
 }
 
@@ -47,12 +50,12 @@ module _ {L Left : Type 0} (g : Ghosts L Left) where
   -- sessions over a log that was folded, and was closed behind them
   pub serves_folded : {X F E : Type 0} (replica : List ℕ) (names : List (List ℕ)) (count : ℕ) (begun folded new : L) (served ended : Result X F) (closed : Result ⊤ E) (last : Left) (held holds : Option (List ℕ))
       → ended ≡ served → g.log folded ≡ g.log begun → (g.log begun).has_failed ≡ false → (g.log new).is_alone ≡ (g.log folded).is_alone → g.was_alone begun folded
-      → OnOk served (ServesSessions (origin_at replica (g.log folded).docs names) (g.log new).docs names count held holds) → OnOk served (AddsBatches names (g.log folded) (g.log new)) → OnOk served ((g.log folded).has_failed ≡ false → (g.log new).has_failed ≡ false)
+      → OnOk served (ServesSessions (origin_at replica (g.log folded).docs names) (g.log new).docs names count held holds) → OnOk served (AddsBatches (origin_at replica (g.log folded).docs names) names (g.log folded) (g.log new)) → OnOk served ((g.log folded).has_failed ≡ false → (g.log new).has_failed ≡ false)
       → Held closed new last → OnOk ended (ServesFolded g replica names count begun closed last held holds)
   serves_folded {X} {F} replica names count begun folded new served ended closed last held holds is same fine same_tables alone sessions copied works held_then =
       subst (λ (r : Result X F). OnOk r (ServesFolded g replica names count begun closed last held holds)) (sym is) (go served sessions copied works)
     where
-      go : (r : Result X F) → OnOk r (ServesSessions (origin_at replica (g.log folded).docs names) (g.log new).docs names count held holds) → OnOk r (AddsBatches names (g.log folded) (g.log new)) → OnOk r ((g.log folded).has_failed ≡ false → (g.log new).has_failed ≡ false)
+      go : (r : Result X F) → OnOk r (ServesSessions (origin_at replica (g.log folded).docs names) (g.log new).docs names count held holds) → OnOk r (AddsBatches (origin_at replica (g.log folded).docs names) names (g.log folded) (g.log new)) → OnOk r ((g.log folded).has_failed ≡ false → (g.log new).has_failed ≡ false)
           → OnOk r (ServesFolded g replica names count begun closed last held holds)
       go (Ok x) told added well =
           let still_works = well (ap (λ (k : LogState). k.has_failed) same ∙ fine) in record {
@@ -61,7 +64,7 @@ module _ {L Left : Type 0} (g : Ghosts L Left) where
             same = same;
             was_alone = alone;
             sessions = subst (λ (k : LogState). ServesSessions (origin_at replica k.docs names) (g.log new).docs names count held holds) same told;
-            copied = added;
+            copied = subst (λ (k : LogState). AddsBatches (origin_at replica k.docs names) names (g.log folded) (g.log new)) same added;
             alone = same_tables ∙ ap (λ (k : LogState). k.is_alone) same;
             works = still_works;
             is_held = then_ok closed held_then (λ h. h still_works);
@@ -69,12 +72,12 @@ module _ {L Left : Type 0} (g : Ghosts L Left) where
       go (Err e) told added well = tt
 
   -- what they leave
-  pub leaves_folded : {E : Type 0} (names : List (List ℕ)) (begun folded new : L) (has_failed : Bool) (closed : Result ⊤ E) (last : Left)
-      → has_failed ≡ (g.log new).has_failed → g.log folded ≡ g.log begun → (g.log new).is_alone ≡ (g.log folded).is_alone → ((g.log new).has_failed ≡ false → AddsBatches names (g.log folded) (g.log new))
+  pub leaves_folded : {E : Type 0} (replica : List ℕ) (names : List (List ℕ)) (begun folded new : L) (has_failed : Bool) (closed : Result ⊤ E) (last : Left)
+      → has_failed ≡ (g.log new).has_failed → g.log folded ≡ g.log begun → (g.log new).is_alone ≡ (g.log folded).is_alone → ((g.log new).has_failed ≡ false → AddsBatches (origin_at replica (g.log folded).docs names) names (g.log folded) (g.log new))
       → Held closed new last → Kept closed new last → LeavesStored g names begun has_failed closed last
-  leaves_folded names begun folded new has_failed closed last failed same same_tables grown held left = record {
+  leaves_folded replica names begun folded new has_failed closed last failed same same_tables grown held left = record {
     new = new;
-    kept = λ works. kept_grown names (g.log begun) (g.log folded) (g.log new) same (grown (sym failed ∙ works));
+    kept = λ works. kept_grown replica names (g.log begun) (g.log folded) (g.log new) same (grown (sym failed ∙ works));
     alone = same_tables ∙ ap (λ (k : LogState). k.is_alone) same;
     is_held = then_ok closed held (λ h works. h (sym failed ∙ works));
     left = then_err closed left (λ h works. h (sym failed ∙ works));
@@ -114,7 +117,7 @@ module _ {L Left : Type 0} (g : Ghosts L Left) where
       → g.still_holds begun last → LeavesStored g names begun false (Err why) last
   leaves_unfolded names begun why last left = record {
     new = begun;
-    kept = λ works. record { any = false; added = none; epoch = omega arith };
+    kept = λ works. record { replica = []; any = false; added = none; epoch = omega arith };
     alone = refl;
     is_held = tt;
     left = λ works. left;

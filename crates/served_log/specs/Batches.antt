@@ -1,8 +1,8 @@
 -- What is copied: while sessions run, a copier writes what they log to the stored log, in batches.
-use Rattle.std.specs.Prelude.{◌≡◌, ◌≢◌, ℕ, Bool, true, false, List, [], Contains, length, max, Option, None}
+use Rattle.std.specs.Prelude.{◌≡◌, ◌≢◌, ◌<◌, ℕ, Bool, true, false, List, [], length, get_or, max, Option, None}
 use Rattle.share_ledger.specs.Begun.{Origin}
 use Rattle.doc_api.specs.Words.{Op}
-use Rattle.doc_rules.specs.Document.{Document, tail}
+use Rattle.doc_rules.specs.Document.{Document, IsSound, tail}
 use Rattle.locked_doc.specs.Locked.{Begins}
 use Rattle.stored_log.specs.Docs.{Doc, IsBatch, add_batch, log_of}
 use Rattle.stored_log.specs.Limits.{most_rows}
@@ -21,10 +21,10 @@ pub record AddsMany (name : List ℕ) (count : ℕ) (old new : List Doc) : Type 
   pub next : AddsNext name old new
   pub many : length next.ops ≡ count
 
--- the next operations after so many of the document of this number, in some state
+-- the next operations after so many of the document of this number, in some sound state
 abbrev pub IsNextOf : (ℕ → Origin) → ℕ → ℕ → List Op → Type 0
 IsNextOf origin number from ops =
-    (d : Document) × Begins (origin number) d × (ops ≡ tail from most_rows d)
+    (d : Document) × IsSound d × Begins (origin number) d × (ops ≡ tail from most_rows d)
 
 -- so many were added under a name, and they are the next ones of the document of this number
 pub record AddsOf (origin : ℕ → Origin) (number : ℕ) (name : List ℕ) (count : ℕ)
@@ -32,29 +32,30 @@ pub record AddsOf (origin : ℕ → Origin) (number : ℕ) (name : List ℕ) (co
   pub adds : AddsMany name count old new
   pub of : IsNextOf origin number (length (log_of name old)) adds.next.ops
 
--- One batch after another was added, each of a document of these names; and whether there was one.
-pub data AreAdded (names : List (List ℕ)) (old : List Doc) : Bool → List Doc → Type 0 where
-  none : AreAdded names old false old
-  more : {any : Bool} {before after : List Doc} {name : List ℕ} → AreAdded names old any before
-      → Contains names name → AddsNext name before after → AreAdded names old true after
+-- One batch after another was added, and whether there was one. What is added under a name are the next
+-- operations of the document of which that is the name: the document whose number is the name's place.
+pub data AreAdded (origin : ℕ → Origin) (names : List (List ℕ)) (old : List Doc) : Bool → List Doc → Type 0 where
+  none : AreAdded origin names old false old
+  more : {any : Bool} {before after : List Doc} {number count : ℕ} → AreAdded origin names old any before
+      → number < length names → AddsOf origin number (get_or names number []) count before after → AreAdded origin names old true after
 
 -- The same, with the length of the longest batch: 0 where there was none.
-pub data AreAddedUpTo (names : List (List ℕ)) (old : List Doc) : ℕ → List Doc → Type 0 where
-  none_yet : AreAddedUpTo names old 0 old
-  one_more : {most count : ℕ} {before after : List Doc} {name : List ℕ} → AreAddedUpTo names old most before
-      → Contains names name → AddsMany name count before after → AreAddedUpTo names old (max most count) after
+pub data AreAddedUpTo (origin : ℕ → Origin) (names : List (List ℕ)) (old : List Doc) : ℕ → List Doc → Type 0 where
+  none_yet : AreAddedUpTo origin names old 0 old
+  one_more : {most count number : ℕ} {before after : List Doc} → AreAddedUpTo origin names old most before
+      → number < length names → AddsOf origin number (get_or names number []) count before after → AreAddedUpTo origin names old (max most count) after
 
 -- the stored log has what it had, and then batches of these documents, if any
-pub record AddsBatches (names : List (List ℕ)) (old new : LogState) : Type 0 where
+pub record AddsBatches (origin : ℕ → Origin) (names : List (List ℕ)) (old new : LogState) : Type 0 where
   pub any : Bool
-  pub added : AreAdded names old.docs any new.docs
+  pub added : AreAdded origin names old.docs any new.docs
   pub epoch : new.epoch ≡ old.epoch
 
 -- What a copier made of a stored log, beside documents of these names, and the fault that ended it, if
 -- one did. Without a fault the log has more batches, and still works: of all operations, or where
 -- memory lacked to the end of some. Once it has failed nothing is known.
-pub record HasCopied (names : List (List ℕ)) (old new : LogState) (fault : Option Fault) : Type 0 where
-  pub copied : fault ≡ None → AddsBatches names old new
+pub record HasCopied (origin : ℕ → Origin) (names : List (List ℕ)) (old new : LogState) (fault : Option Fault) : Type 0 where
+  pub copied : fault ≡ None → AddsBatches origin names old new
   pub works : fault ≡ None → old.has_failed ≡ false → new.has_failed ≡ false
-  pub grown : new.has_failed ≡ false → AddsBatches names old new
+  pub grown : new.has_failed ≡ false → AddsBatches origin names old new
   pub alone : new.is_alone ≡ old.is_alone

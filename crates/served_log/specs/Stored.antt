@@ -18,7 +18,7 @@ module _ {L Left : Type 0} (g : Ghosts L Left) where
     pub same : g.log folded ≡ g.log begun
     pub was_alone : g.was_alone begun folded
     pub sessions : ServesSessions (origin_at replica (g.log begun).docs names) (g.log new).docs names count held holds
-    pub copied : AddsBatches names (g.log folded) (g.log new)
+    pub copied : AddsBatches (origin_at replica (g.log begun).docs names) names (g.log folded) (g.log new)
     pub alone : (g.log new).is_alone ≡ (g.log begun).is_alone
     pub works : (g.log new).has_failed ≡ false
     pub is_held : OnOk closed (g.is_held new last)

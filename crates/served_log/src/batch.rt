@@ -1,5 +1,5 @@
 //! Batches: the next entries of a document, from its log into the stored log.
-ghost use Rattle.std.specs.Prelude.{◌≡◌, ◌≢◌, ◌⊎◌, ◌↔◌, ◌<◌, ◌≤◌, ltb, List, [], length, get_or, Contains};
+ghost use Rattle.std.specs.Prelude.{◌≡◌, ◌≢◌, ◌⊎◌, ◌↔◌, ◌<◌, ◌≤◌, ltb, List, [], length};
 ghost use Rattle.std.specs.Prelude.{true, false, IfOk, IfErr, OnOk, Ok, Err};
 ghost use Rattle.json_scalar.specs.Refusal.{UnlessMemory};
 ghost use Rattle.doc_api.specs.Words.{Op};
@@ -8,6 +8,7 @@ ghost use Rattle.stored_log.specs.Docs.{IsBatch, add_batch, log_of};
 ghost use Rattle.stored_log.specs.Log.{IsAddedOrNot};
 ghost use Rattle.served_log.specs.Batches.{AddsMany, AddsOf, AreAdded, AreAddedUpTo, AddsBatches, IsNextOf};
 
+use crate::document_to_copy::DocumentToCopy;
 use crate::observer::CopyObserver;
 use doc_api::Operations;
 use json_scalar::Refusal;
@@ -31,18 +32,16 @@ fn next_of<M: Marker>(
     doc.tail(from, MAX_BATCH)
 }
 
-// The next entries of the document at this index. Its lock is held while they are read.
+// The next entries of the document. Its lock is held while they are read.
 fn next_at<M: Marker, R: Wait>(
     rt: &R,
-    shared: &SharedDocuments<M>,
-    doc_index: usize,
+    document: &DocumentToCopy<'_, M>,
     from: usize,
 ) -> Result<Operations, Refusal>
-    requires { doc_index < length shared.now.names.items }
-    ensures { IfOk result (IsNextOf M.origin doc_index from) }
+    ensures { IfOk result (IsNextOf M.origin document.now.doc_index from) }
 {
-    let doc = lock_document(rt, shared, doc_index, 0);
-    next_of(&doc, doc_index, from)
+    let doc = lock_document(rt, document.shared, document.doc_index, 0);
+    next_of(&doc, document.doc_index, from)
 }
 
 // Notes in the document how many of its entries the stored log has: so many.
@@ -54,21 +53,18 @@ fn note_rows<M: Marker, L: StoredLog>(doc: &mut LockedDoc<M>, _copy: &L, _name: 
     doc.note_copied(rows as u64);
 }
 
-// Notes in the document at this index how many of its entries the stored log has: so many. Its lock is
-// held meanwhile.
+// Notes in the document how many of its entries the stored log has: so many. Its lock is held
+// meanwhile.
 fn note_at<M: Marker, R: Wait, L: StoredLog>(
     rt: &R,
-    shared: &SharedDocuments<M>,
-    doc_index: usize,
+    document: &DocumentToCopy<'_, M>,
     copy: &L,
-    name: &str,
     rows: usize,
 )
-    requires within { doc_index < length shared.now.names.items }
-    requires stored { rows ≡ length (log_of name.now (L.log copy.now).docs) }
+    requires { rows ≡ length (log_of document.now.name.now (L.log copy.now).docs) }
 {
-    let mut doc = lock_document(rt, shared, doc_index, 0);
-    note_rows(&mut doc, copy, name, rows);
+    let mut doc = lock_document(rt, document.shared, document.doc_index, 0);
+    note_rows(&mut doc, copy, document.name, rows);
 }
 
 // Notifies the observer of these entries, which were just added to the document of this name.
@@ -109,55 +105,44 @@ fn add_next<L: StoredLog>(
     copy.append(name, from, entries)
 }
 
-// Tells waiting sessions that the stored log has so many entries of the document at this index.
-fn publish<M: Marker, L: StoredLog>(
-    shared: &SharedDocuments<M>,
-    doc_index: usize,
-    _copy: &L,
-    _name: &str,
-    rows: usize,
-)
-    requires stored { rows ≤ length (log_of _name.now (L.log _copy.now).docs) }
+// Tells waiting sessions that the stored log has so many entries of the document.
+fn publish<M: Marker, L: StoredLog>(document: &DocumentToCopy<'_, M>, _copy: &L, rows: usize)
+    requires stored { rows ≤ length (log_of document.now.name.now (L.log _copy.now).docs) }
 {
-    shared.progress.publish(doc_index, rows as u64);
+    document
+        .shared
+        .progress
+        .publish(document.doc_index, rows as u64);
 }
 
-// Notes in the document at this index how many of its entries the stored log has, and notifies
-// waiting sessions.
+// Notes in the document how many of its entries the stored log has, and notifies waiting sessions.
 fn note_written<M: Marker, R: Wait, L: StoredLog>(
     rt: &R,
-    shared: &SharedDocuments<M>,
-    doc_index: usize,
+    document: &DocumentToCopy<'_, M>,
     copy: &L,
-    name: &str,
 ) -> Result<(), Fault>
-    requires { doc_index < length shared.now.names.items }
     ensures failed { (result ≡ Err Fault.Store) ↔ ((L.log copy.now).has_failed ≡ true) }
     ensures never_else { IfErr result (λ e. e ≡ Fault.Store) }
 {
-    let rows = copy.rows(name)?;
-    note_at(rt, shared, doc_index, copy, name, rows);
-    publish(shared, doc_index, copy, name, rows);
+    let rows = copy.rows(document.name)?;
+    note_at(rt, document, copy, rows);
+    publish(document, copy, rows);
     Ok(())
 }
 
-/// Copies the next entries of the document of this name at this index, at most 256. Then it notes
-/// in the document how many of its entries the stored log has, and notifies the sessions that wait for
-/// them and the observer. It returns how many it copied. The document's lock isn't held while they
-/// are written. The error is `Memory`, or `Refused` for a batch that doesn't follow, with the stored
-/// log unchanged; or `Store` once that has failed. Then nothing is noted.
+/// Copies the next entries of the document, at most 256. Then it notes in the document how many of its
+/// entries the stored log has, and notifies the sessions that wait for them and the observer. It
+/// returns how many it copied. The document's lock isn't held while they are written. The error is
+/// `Memory`, or `Refused` for a batch that doesn't follow, with the stored log unchanged; or `Store`
+/// once that has failed. Then nothing is noted.
 pub fn copy_some<M: Marker, R: Wait, L: StoredLog, T: CopyObserver>(
     rt: &R,
-    shared: &SharedDocuments<M>,
-    doc_index: usize,
-    name: &str,
+    document: &DocumentToCopy<'_, M>,
     copy: &mut L,
     observer: &T,
 ) -> Result<usize, Fault>
-    requires within { doc_index < length shared.now.names.items }
-    requires named { name.now ≡ get_or shared.now.names.items doc_index [] }
-    ensures some { IfOk result (λ count.
-        0 < count → AddsOf M.origin doc_index name.now count (L.log copy.old).docs (L.log copy.new).docs) }
+    ensures some { IfOk result (λ count. 0 < count
+        → AddsOf M.origin document.now.doc_index document.now.name.now count (L.log copy.old).docs (L.log copy.new).docs) }
     ensures none { result ≡ Ok 0 → copy.new ≡ copy.old }
     ensures works { OnOk result (((L.log copy.new).epoch ≡ (L.log copy.old).epoch)
         × ((L.log copy.new).has_failed ≡ false)) }
@@ -165,36 +150,27 @@ pub fn copy_some<M: Marker, R: Wait, L: StoredLog, T: CopyObserver>(
     ensures failed { (result ≡ Err Fault.Store) ↔ ((L.log copy.new).has_failed ≡ true) }
     ensures alone { (L.log copy.new).is_alone ≡ (L.log copy.old).is_alone }
 {
-    let from = copy.rows(name)?;
-    publish(shared, doc_index, copy, name, from);
-    let Ok(next) = next_at(rt, shared, doc_index, from) else {
+    let from = copy.rows(document.name)?;
+    publish(document, copy, from);
+    let Ok(next) = next_at(rt, document, from) else {
         return Err(Fault::Memory);
     };
     if next.as_slice().is_empty() {
         return Ok(0);
     }
-    add_next(copy, name, from, next.as_slice())?;
-    note_written(rt, shared, doc_index, copy, name)?;
-    notify_added(observer, copy, name, next.as_slice());
+    add_next(copy, document.name, from, next.as_slice())?;
+    note_written(rt, document, copy)?;
+    notify_added(observer, copy, document.name, next.as_slice());
     Ok(next.as_slice().len())
-}
-
-// The name of the document at this index.
-fn name_at<M: Marker>(shared: &SharedDocuments<M>, doc_index: usize) -> &str
-    requires { doc_index < length shared.now.names.items }
-    ensures named { result.now ≡ get_or shared.entry.now.names.items doc_index [] }
-    ensures among { Contains shared.entry.now.names.items result.now }
-{
-    shared.names[doc_index].as_str()
 }
 
 /// Publishes to waiting sessions how many entries of each document the stored log has. Once that has
 /// failed it publishes nothing.
 pub(crate) fn publish_all<M: Marker, L: StoredLog>(shared: &SharedDocuments<M>, copy: &L) {
     for doc_index in 0..shared.names.len() {
-        let name = name_at(shared, doc_index);
-        if let Ok(rows) = copy.rows(name) {
-            publish(shared, doc_index, copy, name, rows);
+        let document = DocumentToCopy::at(shared, doc_index);
+        if let Ok(rows) = copy.rows(document.name) {
+            publish(&document, copy, rows);
         }
     }
 }
@@ -208,15 +184,15 @@ pub fn copy_each<M: Marker, R: Wait, L: StoredLog, T: CopyObserver>(
     copy: &mut L,
     observer: &T,
 ) -> Result<usize, Fault>
-    ensures ok { IfOk result (λ most. AreAdded shared.now.names.items
+    ensures ok { IfOk result (λ most. AreAdded M.origin shared.now.names.items
         (L.log copy.old).docs (ltb 0 most) (L.log copy.new).docs) }
-    ensures most { IfOk result (λ most. AreAddedUpTo shared.now.names.items
+    ensures most { IfOk result (λ most. AreAddedUpTo M.origin shared.now.names.items
         (L.log copy.old).docs most (L.log copy.new).docs) }
     ensures none { result ≡ Ok 0 → (L.log copy.new).docs ≡ (L.log copy.old).docs }
     ensures works { OnOk result (((L.log copy.new).epoch ≡ (L.log copy.old).epoch)
         × ((L.log copy.old).has_failed ≡ false → (L.log copy.new).has_failed ≡ false)) }
     ensures err { IfErr result (λ e. (e ≡ Fault.Store)
-        ⊎ AddsBatches shared.now.names.items (L.log copy.old) (L.log copy.new)) }
+        ⊎ AddsBatches M.origin shared.now.names.items (L.log copy.old) (L.log copy.new)) }
     ensures failed { result ≡ Err Fault.Store → (L.log copy.new).has_failed ≡ true }
     ensures works_on { (result ≡ Err Fault.Store)
         ⊎ ((L.log copy.old).has_failed ≡ false → (L.log copy.new).has_failed ≡ false) }
@@ -224,8 +200,8 @@ pub fn copy_each<M: Marker, R: Wait, L: StoredLog, T: CopyObserver>(
 {
     let mut most: usize = 0;
     for doc_index in 0..shared.names.len() {
-        let name = name_at(shared, doc_index);
-        let count = copy_some(rt, shared, doc_index, name, copy, observer)?;
+        let document = DocumentToCopy::at(shared, doc_index);
+        let count = copy_some(rt, &document, copy, observer)?;
         most = most.max(count);
     }
     Ok(most)

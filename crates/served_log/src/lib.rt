@@ -6,7 +6,9 @@
 #![tactic(auto)]
 
 mod batch;
+mod document_to_copy;
 mod failure;
+mod host;
 mod notes;
 mod observer;
 mod output;
@@ -14,14 +16,18 @@ mod replica_name;
 mod restore;
 mod rows;
 mod serve;
+mod serving;
 mod side;
 mod stored;
 
 pub use batch::{copy_each, copy_some};
+pub use document_to_copy::DocumentToCopy;
 pub use failure::{Failure, Step};
+pub use host::Host;
 pub use observer::CopyObserver;
 pub use output::{report_fault, write_totals};
 pub use replica_name::next_replica_name;
-pub use restore::{RestoredDocuments, restore_documents, share_documents};
+pub use restore::{RestoredDocuments, Restoring, restore_documents, share_documents};
+pub use serving::Serving;
 pub use side::{Copier, keep_up};
 pub use stored::{Ended, serve_over, serve_stored};

@@ -37,26 +37,35 @@ fn copy_names(alloc: Global, names: &[&str]) -> Result<Vec<Name>, Refusal>
     Ok(made)
 }
 
-// Restores the document of this name from the stored log, with so many seats, for the replica of this
-// name.
+/// What documents are restored from, and for whom.
+#[derive(Drop)]
+pub struct Restoring<'a, L> {
+    /// The stored log.
+    pub copy: &'a L,
+    /// The replica that has the documents.
+    pub replica: &'a ReplicaName,
+    /// How many seats each has.
+    pub seats: u16,
+}
+
+// Restores the document of this name.
 fn restore_one<M: Marker, L: StoredLog>(
     alloc: Global,
     ledger: &mut Ledger<M>,
-    copy: &L,
-    replica: &ReplicaName,
+    from: &Restoring<'_, L>,
     name: &str,
-    seats: u16,
 ) -> Result<LockedDoc<M>, Fault>
     requires number { 1 ≤ greatest_number - ledger.old }
-    requires begun { log_of name.now (L.log copy.now).docs ≡ (M.origin ledger.old).log }
-    requires named { MayBeNamed (M.origin ledger.old) replica.now }
-    ensures made { IfOk result (λ doc. doc.document ≡ new_document replica.now (log_of name.now (L.log copy.now).docs) seats) }
+    requires begun { log_of name.now (L.log from.now.copy.now).docs ≡ (M.origin ledger.old).log }
+    requires named { MayBeNamed (M.origin ledger.old) from.now.replica.now }
+    ensures made { IfOk result (λ doc. doc.document
+        ≡ new_document from.now.replica.now (log_of name.now (L.log from.now.copy.now).docs) from.now.seats) }
     ensures next { IfOk result (λ doc. ledger.new ≡ ledger.old + 1) }
     ensures never_refused { IfErr result (λ e. (e ≡ Fault.Store) ⊎ (e ≡ Fault.Memory)) }
-    ensures failed { result ≡ Err Fault.Store → (L.log copy.now).has_failed ≡ true }
+    ensures failed { result ≡ Err Fault.Store → (L.log from.now.copy.now).has_failed ≡ true }
 {
-    let log = copy.load(alloc, name)?;
-    match ledger.of_log(alloc, replica, log, seats) {
+    let log = from.copy.load(alloc, name)?;
+    match ledger.of_log(alloc, from.replica, log, from.seats) {
         Ok(doc) => Ok(doc),
         Err(_) => Err(Fault::Memory),
     }
@@ -77,52 +86,49 @@ fn push_doc<M: Marker>(docs: &mut Vec<LockedDoc<M>>, doc: LockedDoc<M>) -> Resul
 fn restore_all<M: Marker, L: StoredLog>(
     alloc: Global,
     ledger: &mut Ledger<M>,
-    copy: &L,
-    replica: &ReplicaName,
+    from: &Restoring<'_, L>,
     names: &[&str],
-    seats: u16,
 ) -> Result<Vec<LockedDoc<M>>, Fault>
     requires few { length names.now ≤ greatest_number }
     requires first { ledger.old ≡ 0 }
-    requires begun { M.origin ≡ origin_at replica.now (L.log copy.now).docs (map (λ s. s.now) names.now) }
+    requires begun { M.origin ≡ origin_at from.now.replica.now (L.log from.now.copy.now).docs (map (λ s. s.now) names.now) }
     ensures documents { IfOk result (λ docs. map (λ d. d.document) docs.items
-        ≡ map (λ n. new_document replica.now (log_of n (L.log copy.now).docs) seats) (map (λ s. s.now) names.now)) }
+        ≡ map (λ n. new_document from.now.replica.now (log_of n (L.log from.now.copy.now).docs) from.now.seats)
+        (map (λ s. s.now) names.now)) }
     ensures each { IfOk result (λ docs. length docs.items ≡ length names.now) }
     ensures never_refused { IfErr result (λ e. (e ≡ Fault.Store) ⊎ (e ≡ Fault.Memory)) }
-    ensures failed { result ≡ Err Fault.Store → (L.log copy.now).has_failed ≡ true }
+    ensures failed { result ≡ Err Fault.Store → (L.log from.now.copy.now).has_failed ≡ true }
 {
     let mut docs = Vec::new(alloc);
     for name in names {
-        let doc = restore_one(alloc, ledger, copy, replica, name, seats)?;
+        let doc = restore_one(alloc, ledger, from, name)?;
         push_doc(&mut docs, doc)?;
     }
     Ok(docs)
 }
 
-/// Restores the documents of these names from the stored log, with so many seats each, for the replica of
-/// this name. Their entries belong to seat 0, and are noted as copied. They are the first documents
-/// of the ledger. The error is `Memory`, or `Store` once the stored log has failed; never `Refused`.
+/// Restores the documents of these names from the stored log. Their entries belong to seat 0, and are
+/// noted as copied. They are the first documents of the ledger. The error is `Memory`, or `Store` once
+/// the stored log has failed; never `Refused`.
 pub fn restore_documents<M: Marker, L: StoredLog>(
     alloc: Global,
     ledger: &mut Ledger<M>,
-    copy: &L,
-    replica: &ReplicaName,
+    from: &Restoring<'_, L>,
     names: &[&str],
-    seats: u16,
 ) -> Result<RestoredDocuments<M>, Fault>
     requires few { length names.now ≤ greatest_number }
     requires first { ledger.old ≡ 0 }
-    requires begun { M.origin ≡ origin_at replica.now (L.log copy.now).docs (map (λ s. s.now) names.now) }
+    requires begun { M.origin ≡ origin_at from.now.replica.now (L.log from.now.copy.now).docs (map (λ s. s.now) names.now) }
     ensures names { IfOk result (λ made. made.names.items ≡ map (λ s. s.now) names.now) }
     ensures documents { IfOk result (λ made. map (λ d. d.document) made.docs.items
-        ≡ restored replica.now (L.log copy.now).docs seats (map (λ s. s.now) names.now)) }
+        ≡ restored from.now.replica.now (L.log from.now.copy.now).docs from.now.seats (map (λ s. s.now) names.now)) }
     ensures never_refused { IfErr result (λ e. (e ≡ Fault.Store) ⊎ (e ≡ Fault.Memory)) }
-    ensures failed { result ≡ Err Fault.Store → (L.log copy.now).has_failed ≡ true }
+    ensures failed { result ≡ Err Fault.Store → (L.log from.now.copy.now).has_failed ≡ true }
 {
     let Ok(made) = copy_names(alloc, names) else {
         return Err(Fault::Memory);
     };
-    let docs = restore_all(alloc, ledger, copy, replica, names, seats)?;
+    let docs = restore_all(alloc, ledger, from, names)?;
     Ok(RestoredDocuments { names: made, docs })
 }
 

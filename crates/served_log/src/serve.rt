@@ -15,21 +15,29 @@ ghost use Rattle.served_log.specs.Unwritten.{IsUnwritten};
 use crate::failure::{Failure, Step};
 use crate::notes::{CopyLogger, note_documents};
 use crate::output::write_totals;
-use crate::restore::{RestoredDocuments, restore_documents, share_documents};
+use crate::restore::{RestoredDocuments, Restoring, restore_documents, share_documents};
 use crate::rows::has_all;
-use crate::{Copier, CopyObserver};
-use lamport_id::ReplicaName;
+use crate::serving::{Begun, Serving};
+use crate::{Copier, CopyObserver, Host};
 use locked_doc::{Ledger, Totals};
-use log::Log;
-use server_core::{Connect, Gathered, OpenGate, Pace, SharedDocuments, run_sessions};
+use server_core::{Connect, Gathered, OpenGate, SharedDocuments, run_sessions};
 use server_notes::{note_ended, note_serving};
 use share_ledger::{Blank, Marker};
 use std::alloc::Global;
 use std::io;
 use std::sync::Wait;
 use std::thread::Threads;
-use std::time::Clock;
 use stored_log::{Fault, StoredLog};
+
+// What a server serves.
+#[derive(Drop)]
+struct Sessions<'a, M: Marker, C> {
+    // The names of the documents, in their order.
+    names: &'a [&'a str],
+    shared: SharedDocuments<M>,
+    // The connections, one session each.
+    connections: Vec<C>,
+}
 
 // How many seats a document has for so many sessions: one for each, up to the greatest seat number.
 fn seats_for(sessions: usize) -> u16
@@ -51,20 +59,24 @@ fn run_beside_copier<
 >(
     rt: &R,
     alloc: Global,
-    shared: SharedDocuments<M>,
-    connections: Vec<C>,
+    sessions: Sessions<'_, M, C>,
     copier: Copier<'a, L, T>,
     ran: &mut Result<Gathered, Failure>,
 ) -> Copier<'a, L, T>
     ensures sessions { IfOk ran.new (λ g. (given : List (List (Option seats.Seat)))
-        × AreAttended M.origin shared.names.items (map C.bytes connections.items) g.endings.items given
+        × AreAttended M.origin sessions.entry.shared.names.items (map C.bytes sessions.entry.connections.items) g.endings.items given
         × AreTotalsFrom M.origin 0 given g.totals.items) }
-    ensures each { IfOk ran.new (λ g. vec_len g.totals ≡ length shared.names.items) }
+    ensures each { IfOk ran.new (λ g. vec_len g.totals ≡ length sessions.entry.shared.names.items) }
     ensures same_reference { result.copy.ghost_name ≡ copier.entry.copy.ghost_name }
     // The copier has run, or memory ran out before the first session.
     ensures left { (OnOk ran.new ⊥ × (result.copy.now ≡ copier.entry.copy.now))
-        ⊎ HasCopied shared.names.items (L.log copier.entry.copy.now) (L.log result.copy.now) result.fault }
+        ⊎ HasCopied M.origin sessions.entry.shared.names.items (L.log copier.entry.copy.now) (L.log result.copy.now) result.fault }
 {
+    let Sessions {
+        names: _,
+        shared,
+        connections,
+    } = sessions;
     let (gathered, copier) = run_sessions(rt, alloc, shared, connections, &OpenGate, copier);
     match gathered {
         Ok(gathered) => {
@@ -80,30 +92,24 @@ fn run_beside_copier<
 
 // Serves the connections while a copier runs. It returns what the sessions did, or why that could
 // not be gathered, and why the copying ended before all was copied, if it did.
-fn serve_with_copier<
-    M: Marker + Send + Sync,
-    R: Threads + Wait + Sync + Log + Clock,
-    C: Connect,
-    L: StoredLog,
->(
+fn serve_with_copier<M: Marker + Send + Sync, R: Host, C: Connect, L: StoredLog>(
     rt: &R,
     alloc: Global,
-    shared: SharedDocuments<M>,
-    connections: Vec<C>,
+    sessions: Sessions<'_, M, C>,
     copy: &mut L,
 ) -> (Result<Gathered, Failure>, Option<Fault>)
     ensures sessions { IfOk result.0 (λ g. (given : List (List (Option seats.Seat)))
-        × AreAttended M.origin shared.names.items (map C.bytes connections.items) g.endings.items given
+        × AreAttended M.origin sessions.entry.shared.names.items (map C.bytes sessions.entry.connections.items) g.endings.items given
         × AreTotalsFrom M.origin 0 given g.totals.items) }
-    ensures each { IfOk result.0 (λ g. vec_len g.totals ≡ length shared.names.items) }
+    ensures each { IfOk result.0 (λ g. vec_len g.totals ≡ length sessions.entry.shared.names.items) }
     ensures left { (OnOk result.0 ⊥ × (copy.new ≡ copy.old))
-        ⊎ HasCopied shared.names.items (L.log copy.old) (L.log copy.new) result.1 }
+        ⊎ HasCopied M.origin sessions.entry.shared.names.items (L.log copy.old) (L.log copy.new) result.1 }
 {
-    let pace = shared.progress.pace();
+    let pace = sessions.shared.progress.pace();
     let logger = CopyLogger { rt, pace };
     let copier = Copier::new(copy, &logger);
     let mut ran = Err(Failure::Memory(Step::Begin));
-    let copier = run_beside_copier(rt, alloc, shared, connections, copier, &mut ran);
+    let copier = run_beside_copier(rt, alloc, sessions, copier, &mut ran);
     let why = copier.end();
     note_ended(rt);
     (ran, why)
@@ -132,38 +138,27 @@ fn outcome_of<L: StoredLog>(
     }
 }
 
-// Serves these connections over the restored documents while a copier runs, and writes the totals
-// at the end. It fails where memory runs out, where the writer fails, or where not all that the
-// sessions logged is stored.
-fn serve_documents<
-    M: Marker + Send + Sync,
-    R: Threads + Wait + Sync + Log + Clock,
-    C: Connect,
-    L: StoredLog,
-    W: io::Write,
->(
+// Serves these sessions while a copier runs, and writes the totals at the end. It fails where memory
+// runs out, where the writer fails, or where not all that the sessions logged is stored.
+fn serve_sessions<M: Marker + Send + Sync, R: Host, C: Connect, L: StoredLog, W: io::Write>(
     rt: &R,
     alloc: Global,
-    restored: RestoredDocuments<M>,
-    names: &[&str],
-    pace: Pace,
-    connections: Vec<C>,
+    sessions: Sessions<'_, M, C>,
     copy: &mut L,
     out: &mut W,
 ) -> Result<(), Failure>
-    requires { restored.names.items ≡ map (λ s. s.now) names.now }
-    ensures served { OnOk result (ServesSessions M.origin (L.log copy.new).docs (map (λ s. s.now) names.now)
-        (length connections.items) (W.contents out.old) (W.contents out.new)) }
+    requires { sessions.shared.names.items ≡ map (λ s. s.now) sessions.names.now }
+    ensures served { OnOk result (ServesSessions M.origin (L.log copy.new).docs (map (λ s. s.now) sessions.entry.names.now)
+        (length sessions.entry.connections.items) (W.contents out.old) (W.contents out.new)) }
     ensures unwritten { IfErr result (λ why. IsUnwritten why → out.new ≡ out.old) }
-    ensures copied { OnOk result (AddsBatches (map (λ s. s.now) names.now) (L.log copy.old) (L.log copy.new)) }
+    ensures copied { OnOk result (AddsBatches M.origin (map (λ s. s.now) sessions.entry.names.now) (L.log copy.old) (L.log copy.new)) }
     ensures works { OnOk result ((L.log copy.old).has_failed ≡ false → (L.log copy.new).has_failed ≡ false) }
-    ensures grown { (L.log copy.new).has_failed ≡ false → AddsBatches (map (λ s. s.now) names.now) (L.log copy.old) (L.log copy.new) }
+    ensures grown { (L.log copy.new).has_failed ≡ false
+        → AddsBatches M.origin (map (λ s. s.now) sessions.entry.names.now) (L.log copy.old) (L.log copy.new) }
     ensures alone { (L.log copy.new).is_alone ≡ (L.log copy.old).is_alone }
 {
-    let Ok(shared) = share_documents(alloc, restored, pace) else {
-        return Err(Failure::Memory(Step::Restore));
-    };
-    let (ran, fault) = serve_with_copier(rt, alloc, shared, connections, copy);
+    let names = sessions.names;
+    let (ran, fault) = serve_with_copier(rt, alloc, sessions, copy);
     let gathered = ran?;
     let totals = gathered.totals.as_slice();
     match write_totals(alloc, names, totals, out) {
@@ -172,13 +167,32 @@ fn serve_documents<
     }
 }
 
-// Restores the documents of these names from the stored log, for this replica, and serves the connections
-// over them, one session each. The replica is named by the server's name and the stored log's epoch. The
-// counters are of a new table, `blank`. The name is bytes, since a call with a `&str` can't pick
-// ghost members.
+// Restores the documents of a start from the stored log. The counters are of a new table, `blank`.
+fn restore<M: Marker, C, L: StoredLog>(
+    alloc: Global,
+    blank: Blank,
+    begun: &Begun<'_, C>,
+    copy: &L,
+) -> Result<RestoredDocuments<M>, Fault>
+    requires blank { blank ≡ M.name }
+    requires begun { M.origin ≡ origin_at begun.now.replica (L.log copy.now).docs (map (λ s. s.now) begun.now.serving.documents.now) }
+    requires few { length begun.now.serving.documents.now ≤ greatest_number }
+    ensures { IfOk result (λ made. made.names.items ≡ map (λ s. s.now) begun.now.serving.documents.now) }
+{
+    let mut ledger = Ledger::<M>::new(blank);
+    let from = Restoring {
+        copy,
+        replica: &begun.replica,
+        seats: seats_for(begun.serving.connections.len()),
+    };
+    restore_documents(alloc, &mut ledger, &from, begun.serving.documents)
+}
+
+// Restores the documents of a start from the stored log, and serves its connections over them, one
+// session each. The counters are of a new table, `blank`.
 pub(crate) fn restore_and_serve<
     M: Marker + Send + Sync,
-    R: Threads + Wait + Sync + Log + Clock,
+    R: Host,
     C: Connect,
     L: StoredLog,
     W: io::Write,
@@ -186,34 +200,43 @@ pub(crate) fn restore_and_serve<
     rt: &R,
     alloc: Global,
     blank: Blank,
-    name: &[u8],
-    replica: &ReplicaName,
-    documents: &[&str],
-    pace: Pace,
-    connections: Vec<C>,
+    begun: Begun<'_, C>,
     copy: &mut L,
     out: &mut W,
 ) -> Result<(), Failure>
     requires blank { blank ≡ M.name }
-    requires named { replica.now ≡ replica_name name.now (L.log copy.old).epoch }
-    requires begun { M.origin ≡ origin_at replica.now (L.log copy.old).docs (map (λ s. s.now) documents.now) }
-    requires few { length documents.now ≤ greatest_number }
-    ensures served { OnOk result (ServesSessions M.origin (L.log copy.new).docs (map (λ s. s.now) documents.now)
-        (length connections.items) (W.contents out.old) (W.contents out.new)) }
+    requires named { begun.replica ≡ replica_name begun.serving.name.now (L.log copy.old).epoch }
+    requires begun { M.origin ≡ origin_at begun.replica (L.log copy.old).docs (map (λ s. s.now) begun.serving.documents.now) }
+    requires few { length begun.serving.documents.now ≤ greatest_number }
+    ensures served { OnOk result (ServesSessions M.origin (L.log copy.new).docs (map (λ s. s.now) begun.entry.serving.documents.now)
+        (length begun.entry.serving.connections.items) (W.contents out.old) (W.contents out.new)) }
     ensures unwritten { IfErr result (λ why. IsUnwritten why → out.new ≡ out.old) }
-    ensures copied { OnOk result (AddsBatches (map (λ s. s.now) documents.now) (L.log copy.old) (L.log copy.new)) }
+    ensures copied { OnOk result
+        (AddsBatches M.origin (map (λ s. s.now) begun.entry.serving.documents.now) (L.log copy.old) (L.log copy.new)) }
     ensures works { OnOk result ((L.log copy.old).has_failed ≡ false → (L.log copy.new).has_failed ≡ false) }
-    ensures grown { (L.log copy.new).has_failed ≡ false → AddsBatches (map (λ s. s.now) documents.now) (L.log copy.old) (L.log copy.new) }
+    ensures grown { (L.log copy.new).has_failed ≡ false
+        → AddsBatches M.origin (map (λ s. s.now) begun.entry.serving.documents.now) (L.log copy.old) (L.log copy.new) }
     ensures alone { (L.log copy.new).is_alone ≡ (L.log copy.old).is_alone }
 {
-    note_serving(rt, replica.as_str());
-    let mut ledger = Ledger::<M>::new(blank);
-    let seats = seats_for(connections.len());
-    match restore_documents(alloc, &mut ledger, copy, replica, documents, seats) {
-        Ok(restored) => {
-            note_documents(rt, copy, documents);
-            serve_documents(rt, alloc, restored, documents, pace, connections, copy, out)
-        }
-        Err(fault) => Err(Failure::of_restoring(fault, copy)),
-    }
+    note_serving(rt, begun.replica.as_str());
+    let restored = match restore::<M, C, L>(alloc, blank, &begun, copy) {
+        Ok(restored) => restored,
+        Err(fault) => return Err(Failure::of_restoring(fault, copy)),
+    };
+    let Serving {
+        name: _,
+        documents,
+        pace,
+        connections,
+    } = begun.serving;
+    note_documents(rt, copy, documents);
+    let Ok(shared) = share_documents(alloc, restored, pace) else {
+        return Err(Failure::Memory(Step::Restore));
+    };
+    let sessions = Sessions {
+        names: documents,
+        shared,
+        connections,
+    };
+    serve_sessions(rt, alloc, sessions, copy, out)
 }

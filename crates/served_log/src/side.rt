@@ -9,25 +9,42 @@ use share_ledger::Marker;
 use std::sync::Wait;
 use stored_log::{Fault, MAX_BATCH, StoredLog, reason_of};
 
+// How far a copier is.
+#[derive(Clone, Copy)]
+struct Watch {
+    // How many sessions there are.
+    sessions: u64,
+    // What the signal had counted before the last look.
+    seen: Signalled,
+    // How often memory has lacked since all sessions ended and anything was found.
+    tries: u32,
+}
+
+impl Watch {
+    // Whether all sessions had ended before the last look.
+    fn all_ended(&self) -> bool {
+        self.seen.ended >= self.sessions
+    }
+}
+
 // Waits until the copier should look again, after a look at which it copied at most so many entries
 // of a document. It returns what the signal has counted by then.
 fn next_look<M: Marker, R: Wait>(
     rt: &R,
     shared: &SharedDocuments<M>,
-    sessions: u64,
-    seen: Signalled,
+    watch: &Watch,
     most: usize,
 ) -> Signalled {
     // A full batch may have left some. Once all have ended, no batch grows.
-    if most >= MAX_BATCH || seen.ended >= sessions {
-        return seen;
+    if most >= MAX_BATCH || watch.all_ended() {
+        return watch.seen;
     }
     // Where sessions wait for each batch, it grows until they all wait again.
     if shared.progress.pace() == Pace::Durable {
         shared.progress.gather(rt);
-        return seen;
+        return watch.seen;
     }
-    shared.signal.pause(rt, seen)
+    shared.signal.pause(rt, watch.seen)
 }
 
 // How often it is tried once all sessions have ended and memory lacks each time, a tenth of a second
@@ -52,39 +69,36 @@ fn lacks(found: Found) -> bool {
 }
 
 // How often memory has lacked since all sessions ended and anything was found, after this one more.
-fn tries_after(found: Found, all_ended: bool, tries: u32) -> u32 {
-    if all_ended && lacks(found) {
-        tries.saturating_add(1)
+fn tries_after(watch: &Watch, found: Found) -> u32 {
+    if watch.all_ended() && lacks(found) {
+        watch.tries.saturating_add(1)
     } else {
         0
     }
 }
 
-// Waits until the copier should look again, after it found this, at the try of this number since all
-// sessions ended. It returns what the signal has counted by then, or none where nothing will come,
-// and all is copied or memory has lacked too often.
+// Waits until the copier should look again, after it found this. It returns what the signal has
+// counted by then, or none where nothing will come, and all is copied or memory has lacked too often.
 fn wait_after<M: Marker, R: Wait>(
     rt: &R,
     shared: &SharedDocuments<M>,
-    sessions: u64,
-    seen: Signalled,
+    watch: &Watch,
     found: Found,
-    tries: u32,
 ) -> Option<Signalled> {
     match found {
         Found::Some(0) => {
             // What was logged before all had ended was just copied.
-            if seen.ended >= sessions {
+            if watch.all_ended() {
                 return None;
             }
-            Some(shared.signal.wait(rt, seen))
+            Some(shared.signal.wait(rt, watch.seen))
         }
-        Found::Some(most) => Some(next_look(rt, shared, sessions, seen, most)),
+        Found::Some(most) => Some(next_look(rt, shared, watch, most)),
         Found::NoMemory => {
-            if tries >= LAST_TRIES {
+            if watch.tries >= LAST_TRIES {
                 return None;
             }
-            Some(shared.signal.pause_longer(rt, seen))
+            Some(shared.signal.pause_longer(rt, watch.seen))
         }
     }
 }
@@ -121,9 +135,9 @@ fn look<M: Marker, R: Wait, L: StoredLog, T: CopyObserver>(
     copy: &mut L,
     observer: &T,
 ) -> Result<Found, Fault>
-    ensures ok { OnOk result (AddsBatches shared.now.names.items (L.log copy.old) (L.log copy.new)) }
+    ensures ok { OnOk result (AddsBatches M.origin shared.now.names.items (L.log copy.old) (L.log copy.new)) }
     ensures err { IfErr result (λ e. (e ≡ Fault.Store)
-        ⊎ AddsBatches shared.now.names.items (L.log copy.old) (L.log copy.new)) }
+        ⊎ AddsBatches M.origin shared.now.names.items (L.log copy.old) (L.log copy.new)) }
     ensures memory { result ≢ Err Fault.Memory }
     ensures works { OnOk result ((L.log copy.old).has_failed ≡ false → (L.log copy.new).has_failed ≡ false) }
     ensures failed { result ≡ Err Fault.Store → (L.log copy.new).has_failed ≡ true }
@@ -158,27 +172,30 @@ pub fn keep_up<M: Marker, R: Wait, L: StoredLog, T: CopyObserver>(
     copy: &mut L,
     observer: &T,
 ) -> Result<(), Fault>
-    ensures ok { OnOk result (AddsBatches shared.now.names.items (L.log copy.old) (L.log copy.new)) }
+    ensures ok { OnOk result (AddsBatches M.origin shared.now.names.items (L.log copy.old) (L.log copy.new)) }
     ensures err { IfErr result (λ e. (e ≡ Fault.Store)
-        ⊎ AddsBatches shared.now.names.items (L.log copy.old) (L.log copy.new)) }
+        ⊎ AddsBatches M.origin shared.now.names.items (L.log copy.old) (L.log copy.new)) }
     ensures works { OnOk result ((L.log copy.old).has_failed ≡ false → (L.log copy.new).has_failed ≡ false) }
     ensures memory { result ≢ Err Fault.Memory }
     ensures failed { result ≡ Err Fault.Store → (L.log copy.new).has_failed ≡ true }
     ensures alone { (L.log copy.new).is_alone ≡ (L.log copy.old).is_alone }
 {
-    let mut seen = Signalled {
-        notified: 0,
-        ended: 0,
+    let mut watch = Watch {
+        sessions,
+        seen: Signalled {
+            notified: 0,
+            ended: 0,
+        },
+        tries: 0,
     };
     let mut lacked = false;
-    let mut tries: u32 = 0;
     for _ in rt.forever() {
         match look(rt, shared, lacked, copy, observer) {
             Ok(found) => {
                 lacked = lacks(found);
-                tries = tries_after(found, seen.ended >= sessions, tries);
-                match wait_after(rt, shared, sessions, seen, found, tries) {
-                    Some(next) => seen = next,
+                watch.tries = tries_after(&watch, found);
+                match wait_after(rt, shared, &watch, found) {
+                    Some(next) => watch.seen = next,
                     None => return Ok(()),
                 }
             }
@@ -238,7 +255,7 @@ impl<'a, L: StoredLog, T: CopyObserver> Copier<'a, L, T> {
 
 impl<M: Marker, L: StoredLog, T: CopyObserver> Side<M> for Copier<'_, L, T> {
     ghost becomes = { λ names old new. (new.copy.ghost_name ≡ old.copy.ghost_name)
-        × HasCopied names (L.log old.copy.now) (L.log new.copy.now) new.fault };
+        × HasCopied M.origin names (L.log old.copy.now) (L.log new.copy.now) new.fault };
 
     fn run<R: Wait>(&mut self, rt: &R, shared: &SharedDocuments<M>, sessions: u64) {
         self.fault = keep_up(rt, shared, sessions, self.copy, self.observer).err();

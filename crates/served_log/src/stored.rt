@@ -5,20 +5,17 @@ ghost use Rattle.served_log.specs.Named.{replica_name};
 ghost use Rattle.served_log.specs.Stored.{LeavesStored, ServesFolded, ServesStored};
 ghost use Rattle.served_log.specs.Unwritten.{IsUnwritten};
 
+use crate::Host;
 use crate::failure::{Failure, Step};
 use crate::output::report_fault;
 use crate::replica_name::next_replica_name;
 use crate::serve::restore_and_serve;
-use lamport_id::ReplicaName;
-use log::Log;
+use crate::serving::{Begun, Serving};
 use server_core::{Connect, Pace};
 use share_ledger::Blank;
 use std::alloc::Global;
 use std::io;
 use std::marker::Brand;
-use std::sync::Wait;
-use std::thread::Threads;
-use std::time::Clock;
 use stored_log::{StoredFault, StoredLog};
 
 /// How a server over a stored log has ended.
@@ -79,27 +76,23 @@ fn end<L: StoredLog>(served: Result<(), Failure>, copy: L) -> Ended<L::Left>
     }
 }
 
-// Folds the stored log, whose epoch is the replica's. Then it serves the connections, as
-// `restore_and_serve`, with a new table of counters, and closes the log.
-fn fold_and_serve<R: Threads + Wait + Sync + Log + Clock, C: Connect, L: StoredLog, W: io::Write>(
+// Folds the stored log, whose epoch is the start's. Then it serves, as `restore_and_serve`, with a new
+// table of counters, and closes the log.
+fn fold_and_serve<R: Host, C: Connect, L: StoredLog, W: io::Write>(
     rt: &R,
     alloc: Global,
-    name: &str,
-    replica: &ReplicaName,
-    documents: &[&str],
-    pace: Pace,
-    connections: Vec<C>,
+    begun: Begun<'_, C>,
     copy: L,
     out: &mut W,
 ) -> Ended<L::Left>
-    requires few { length documents.now ≤ greatest_number }
-    requires named { replica.now ≡ replica_name name.now (L.log copy).epoch }
+    requires few { length begun.serving.documents.now ≤ greatest_number }
+    requires named { begun.replica ≡ replica_name begun.serving.name.now (L.log copy).epoch }
     requires works { (L.log copy).has_failed ≡ false }
-    ensures served { OnOk result.served (ServesFolded L.StoredLog
-        replica.now (map (λ s. s.now) documents.now) (length connections.items)
+    ensures served { OnOk result.served (ServesFolded L.StoredLog begun.entry.replica
+        (map (λ s. s.now) begun.entry.serving.documents.now) (length begun.entry.serving.connections.items)
         copy result.closed result.store (W.contents out.old) (W.contents out.new)) }
     ensures unwritten { IfErr result.served (λ why. IsUnwritten why → out.new ≡ out.old) }
-    ensures left { LeavesStored L.StoredLog (map (λ s. s.now) documents.now)
+    ensures left { LeavesStored L.StoredLog (map (λ s. s.now) begun.entry.serving.documents.now)
         copy result.has_failed result.closed result.store }
 {
     match copy.fold() {
@@ -109,11 +102,7 @@ fn fold_and_serve<R: Threads + Wait + Sync + Log + Clock, C: Connect, L: StoredL
                 rt,
                 alloc,
                 Blank::new(),
-                name.as_bytes(),
-                replica,
-                documents,
-                pace,
-                connections,
+                begun,
                 &mut copy,
                 out,
             );
@@ -129,45 +118,31 @@ fn fold_and_serve<R: Threads + Wait + Sync + Log + Clock, C: Connect, L: StoredL
 }
 
 /// Starts a new epoch of the stored log and folds it, so that the place where it stays for good has
-/// the epoch before anything is served. Then it restores the documents of these names, serves the
-/// connections over them, one session each, stores what they log meanwhile, and writes the totals at
-/// the end. Replies to changes go out at this pace. However it ends, it closes the log, so that the
-/// place that is left has all of it.
+/// the epoch before anything is served. Then it restores the documents, serves the connections over
+/// them, stores what they log meanwhile, and writes the totals at the end. However it ends, it closes
+/// the log, so that the place that is left has all of it.
 ///
 /// The failure says why it did not serve to its end. If the log was refused (no epoch is left, or the
 /// name is too long), it also writes the refusal. If the log fails while sessions run, they go on,
 /// and the failure is `Stopped` at the end.
-pub fn serve_stored<R: Threads + Wait + Sync + Log + Clock, C: Connect, L: StoredLog, W: io::Write>(
+pub fn serve_stored<R: Host, C: Connect, L: StoredLog, W: io::Write>(
     rt: &R,
     alloc: Global,
-    name: &str,
-    documents: &[&str],
-    pace: Pace,
-    connections: Vec<C>,
+    serving: Serving<'_, C>,
     copy: L,
     out: &mut W,
 ) -> Ended<L::Left>
-    requires few { length documents.now ≤ greatest_number }
-    ensures served { OnOk result.served (ServesStored L.StoredLog
-        name.now (map (λ s. s.now) documents.now) (length connections.items)
+    requires few { length serving.documents.now ≤ greatest_number }
+    ensures served { OnOk result.served (ServesStored L.StoredLog serving.entry.name.now
+        (map (λ s. s.now) serving.entry.documents.now) (length serving.entry.connections.items)
         copy result.closed result.store (W.contents out.old) (W.contents out.new)) }
     ensures unwritten { IfErr result.served (λ why. IsUnwritten why → out.new ≡ out.old) }
-    ensures left { LeavesStored L.StoredLog (map (λ s. s.now) documents.now)
+    ensures left { LeavesStored L.StoredLog (map (λ s. s.now) serving.entry.documents.now)
         copy result.has_failed result.closed result.store }
 {
     let mut copy = copy;
-    match next_replica_name(alloc, &mut copy, name, documents) {
-        Ok(replica) => fold_and_serve(
-            rt,
-            alloc,
-            name,
-            &replica,
-            documents,
-            pace,
-            connections,
-            copy,
-            out,
-        ),
+    match next_replica_name(alloc, &mut copy, serving.name, serving.documents) {
+        Ok(replica) => fold_and_serve(rt, alloc, Begun { replica, serving }, copy, out),
         Err(fault) => {
             // Where the writer fails nothing more can be written.
             let _ = report_fault(fault, out);
@@ -179,7 +154,7 @@ pub fn serve_stored<R: Threads + Wait + Sync + Log + Clock, C: Connect, L: Store
 
 /// `serve_stored`, with the status of a program that ends so: 0, or 1 where it failed. What is left of
 /// the log can be opened again, as a restart does.
-pub fn serve_over<R: Threads + Wait + Sync + Log + Clock, C: Connect, L: StoredLog, W: io::Write>(
+pub fn serve_over<R: Host, C: Connect, L: StoredLog, W: io::Write>(
     rt: &R,
     alloc: Global,
     name: &str,
@@ -199,6 +174,12 @@ pub fn serve_over<R: Threads + Wait + Sync + Log + Clock, C: Connect, L: StoredL
     ensures left { LeavesStored L.StoredLog (map (λ s. s.now) documents.now)
         copy result.1.has_failed result.1.closed result.1.store }
 {
-    let ended = serve_stored(rt, alloc, name, documents, pace, connections, copy, out);
+    let serving = Serving {
+        name,
+        documents,
+        pace,
+        connections,
+    };
+    let ended = serve_stored(rt, alloc, serving, copy, out);
     (ended.status(), ended)
 }

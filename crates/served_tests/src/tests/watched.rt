@@ -10,7 +10,7 @@ use lamport_id::ReplicaName;
 use locked_doc::Ledger;
 use log::Log;
 use op_core::Operation;
-use served_log::{Copier, CopyObserver, restore_documents, share_documents};
+use served_log::{Copier, CopyObserver, Restoring, restore_documents, share_documents};
 use server_core::{Pace, SharedDocuments, Side};
 use share_ledger::{Blank, Marker};
 use std::alloc::{AllocError, Global};
@@ -79,7 +79,12 @@ pub fn shared_documents<M: Marker, L: StoredLog>(
     requires few { length documents.now ≤ greatest_number }
 {
     let mut ledger = Ledger::<M>::new(blank);
-    let Ok(restored) = restore_documents(alloc, &mut ledger, copy, replica, documents, 1) else {
+    let from = Restoring {
+        copy,
+        replica,
+        seats: 1,
+    };
+    let Ok(restored) = restore_documents(alloc, &mut ledger, &from, documents) else {
         return Err(AllocError);
     };
     match share_documents(alloc, restored, Pace::Behind(1)) {

@@ -1,4 +1,4 @@
-use Rattle.std.proofs.Common.{◌≡◌, ◌∙◌, ap, rules, sym}
+use Rattle.std.proofs.Common.{◌∙◌, ap, sym}
 use Rattle.stored_log.specs.Log.{LogState}
 use Rattle.served_log.specs.Named.{replica_name}
 use Rattle.served_log.proofs.Left.{leaves_folded, leaves_unfolded, serves_folded}
@@ -6,21 +6,19 @@ use Rattle.served_log.proofs.stored.fold_and_serve.Goals as goal
 
 pub restore_and_serve-served-requires-clause-named : goal.restore_and_serve-served-requires-clause-named
 restore_and_serve-served-requires-clause-named g c κs within =
-    let bytes : c.as_bytes.result.now ≡ c.args.name.now = search rules in
-    let folded = g.L.StoredLog.log c.in-Ok.folded in
-    c.requires.named ∙ ap (λ (k : LogState). replica_name c.args.name.now k.epoch) (sym c.in-Ok.ensures.same) ∙ ap (λ n. replica_name n folded.epoch) (sym bytes)
+    c.requires.named ∙ ap (λ (k : LogState). replica_name c.args.begun.serving.name.now k.epoch) (sym c.in-Ok.ensures.same)
 
 pub returns-in-Ok-clause-served : goal.returns-in-Ok-clause-served
 returns-in-Ok-clause-served g c =
     let folded = c.in-Ok.ensures in
     let served = c.restore_and_serve-served.ensures in
-    serves_folded g.L.StoredLog c.args.replica.now _ _ c.args.copy c.in-Ok.folded c.restore_and_serve-served.new.copy c.restore_and_serve-served.result c.end.result.served c.end.result.closed c.end.result.store _ _
+    serves_folded g.L.StoredLog c.args.begun.replica _ _ c.args.copy c.in-Ok.folded c.restore_and_serve-served.new.copy c.restore_and_serve-served.result c.end.result.served c.end.result.closed c.end.result.store _ _
     c.end.ensures.served folded.same c.requires.works served.alone (folded.folded c.requires.works) served.served served.copied served.works c.end.ensures.held
 
 pub returns-in-Ok-clause-left : goal.returns-in-Ok-clause-left
 returns-in-Ok-clause-left g c =
     let served = c.restore_and_serve-served.ensures in
-    leaves_folded g.L.StoredLog _ c.args.copy c.in-Ok.folded c.restore_and_serve-served.new.copy c.end.result.has_failed c.end.result.closed c.end.result.store
+    leaves_folded g.L.StoredLog c.args.begun.replica _ c.args.copy c.in-Ok.folded c.restore_and_serve-served.new.copy c.end.result.has_failed c.end.result.closed c.end.result.store
     c.end.ensures.failed c.in-Ok.ensures.same served.alone served.grown c.end.ensures.held c.end.ensures.left
 
 pub returns-in-Err-clause-left : goal.returns-in-Err-clause-left
