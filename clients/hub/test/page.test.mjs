@@ -590,6 +590,8 @@ test("a full store: what is there is kept, it is said, and edits go on once ther
   await paste(tab, "z".repeat(2500), "Insert");
   const notice = () => tab.textOf("#ada .notice").then(([text]) => text);
   await until("it is said", async () => /^2500 changes aren't stored: the store is full/.test(await notice()));
+  // Copies of the page's files don't take what room there is.
+  await tab.until(`caches.open("jcrdt").then((it) => it.keys()).then(({ length }) => length === 0)`);
   await addItem(tab, "ada", "refused");
   match((await tab.textOf("#ada .add-item .note"))[0], /Nothing more can be edited until they are/);
   deepEqual(await tab.textOf("#ada .item"), ["stored"]);
@@ -704,6 +706,7 @@ test("a browser that is killed: what was edited is there", async () => {
 test("replicas of others that have one word for a name are told apart", async () => {
   const { server, tab, document } = await page();
   await setTitle(tab, "ada", "of this page");
+  await frontNames(tab); // the server has it: the others replace it
   const others = await Promise.all(["ada", "ada", "replica", "replica"].map((word) =>
     Provider.open({ document, at: server.address, word })));
   try {

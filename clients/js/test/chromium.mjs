@@ -179,7 +179,8 @@ export class Browser {
     await Promise.race([this.send("Browser.close").catch(() => {}), pause(3000)]);
     await Promise.race([this.ended, pause(5000)]);
     this.kill();
-    rmSync(this.folder, { recursive: true, force: true, maxRetries: 5 });
+    // Its processes may write there until they have ended.
+    rmSync(this.folder, { recursive: true, force: true, maxRetries: 10, retryDelay: 200 });
   }
 }
 

@@ -20,7 +20,7 @@ const rooms = new Set();
 after(() => started.forEach(kill));
 process.on("exit", () => {
   started.forEach(kill);
-  for (const room of rooms) rmSync(room, { recursive: true, force: true, maxRetries: 3 });
+  for (const room of rooms) rmSync(room, { recursive: true, force: true, maxRetries: 10, retryDelay: 200 });
 });
 
 for (const signal of ["SIGTERM", "SIGINT"]) process.on(signal, () => process.exit(1)); // ends them
