@@ -84,27 +84,27 @@ list-into nodes p k = ap (option_and_then (walk (child_of nodes) root)) (list_tr
 pub child_deeper : (nodes : List Node) → AreTree nodes → (n : NodeNumber) (k : Key) (c : NodeNumber) → child_of nodes n k ≡ Some c → (n.0 < c.0) × (c.0 < length nodes)
 child_deeper nodes tree n k c e = (tree.rising n k c e, tree.within n k c e)
 
-module _ (nodes : List Node) (p : List Tagged) (k : Key) (x : List ℕ) where
-  -- a key of the map at a place that has a node is a child of the place's node
-  child_at : (c : NodeNumber) → node_at nodes (p ++ MapAt k ∷ []) (Text x) ≡ Some c
-      → (n : NodeNumber) × (node_at nodes p k ≡ Some n) × (child_of nodes n (Text x) ≡ Some c)
-  child_at c e = go (trail p k) refl (sym (ap (option_and_then (walk (child_of nodes) root)) (trail-into p (MapAt k) (Text x) refl)) ∙ e)
+module _ (nodes : List Node) (p : List Tagged) (t : Tagged) (x : Key) (fits : may_follow t x ≡ true) where
+  -- a key of the map at a place, or an element of its list, that has a node is a child of the place's node
+  child_at : (c : NodeNumber) → node_at nodes (p ++ t ∷ []) x ≡ Some c
+      → (n : NodeNumber) × (node_at nodes p (key_of t) ≡ Some n) × (child_of nodes n x ≡ Some c)
+  child_at c e = go (trail p (key_of t)) refl (sym (ap (option_and_then (walk (child_of nodes) root)) (trail-into p t x fits)) ∙ e)
     where
-      go : (o : Option (List Key)) → trail p k ≡ o → option_and_then (walk (child_of nodes) root) (option_map (λ keys. keys ++ Text x ∷ []) o) ≡ Some c
-          → (n : NodeNumber) × (node_at nodes p k ≡ Some n) × (child_of nodes n (Text x) ≡ Some c)
+      go : (o : Option (List Key)) → trail p (key_of t) ≡ o → option_and_then (walk (child_of nodes) root) (option_map (λ keys. keys ++ x ∷ []) o) ≡ Some c
+          → (n : NodeNumber) × (node_at nodes p (key_of t) ≡ Some n) × (child_of nodes n x ≡ Some c)
       go None is f = let none : ◌≡◌ {A = Option NodeNumber} None (Some c) = f in absurd (cc)
       go (Some keys) is f =
-          let parts = walk_split (child_of nodes) root c keys (Text x ∷ []) f in
-          let down = parts_of (child_of nodes) (λ m. walk (child_of nodes) m []) (child_of nodes parts.0 (Text x)) c parts.2 in
-          (parts.0, node_by nodes p k keys parts.0 is parts.1, down.1 ∙ down.2)
+          let parts = walk_split (child_of nodes) root c keys (x ∷ []) f in
+          let down = parts_of (child_of nodes) (λ m. walk (child_of nodes) m []) (child_of nodes parts.0 x) c parts.2 in
+          (parts.0, node_by nodes p (key_of t) keys parts.0 is parts.1, down.1 ∙ down.2)
 
   -- so is one that is present
-  pub present_child : (i : Id) → (facts_of nodes).present (p ++ MapAt k ∷ []) (Text x) i ≡ true
-      → (n : NodeNumber) × (c : NodeNumber) × (node_at nodes p k ≡ Some n) × (child_of nodes n (Text x) ≡ Some c) × (is_node_present nodes (Some c) ≡ true)
+  pub present_child : (i : Id) → (facts_of nodes).present (p ++ t ∷ []) x i ≡ true
+      → (n : NodeNumber) × (c : NodeNumber) × (node_at nodes p (key_of t) ≡ Some n) × (child_of nodes n x ≡ Some c) × (is_node_present nodes (Some c) ≡ true)
   unfolding facts_of role_at
-  present_child i h = go (node_at nodes (p ++ MapAt k ∷ []) (Text x)) refl h
+  present_child i h = go (node_at nodes (p ++ t ∷ []) x) refl h
     where
-      go : (o : Option NodeNumber) → node_at nodes (p ++ MapAt k ∷ []) (Text x) ≡ o → is_some (role_in nodes o i) ≡ true
-          → (n : NodeNumber) × (c : NodeNumber) × (node_at nodes p k ≡ Some n) × (child_of nodes n (Text x) ≡ Some c) × (is_node_present nodes (Some c) ≡ true)
+      go : (o : Option NodeNumber) → node_at nodes (p ++ t ∷ []) x ≡ o → is_some (role_in nodes o i) ≡ true
+          → (n : NodeNumber) × (c : NodeNumber) × (node_at nodes p (key_of t) ≡ Some n) × (child_of nodes n x ≡ Some c) × (is_node_present nodes (Some c) ≡ true)
       go None is f = absurd (cc)
       go (Some c) is f = let at = child_at c is in (at.0, c, at.1, at.2, some_entry (node_of nodes c).presence.0 i f)

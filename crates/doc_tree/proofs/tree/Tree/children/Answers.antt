@@ -30,7 +30,7 @@ returns-in-None-clause-map c = λ text i there.
     let absent : node_at nodes p k ≡ None =
     ap (λ p. node_at nodes p c.args.key.now) (sym c.keys.ensures)
     ∙ ap (λ l. node_at l c.keys.result.now c.args.key.now) (sym c.as_slice.ensures.value) ∙ sym c.find.ensures ∙ c.in-None.is in
-    let child = present_child nodes p k text i (subst (λ t. (tree_facts t).present (p ++ Map k ∷ []) (Text text) i ≡ true) (sym c.self.view_is) there) in
+    let child = present_child nodes p (Map k) (Text text) refl i (subst (λ t. (tree_facts t).present (p ++ Map k ∷ []) (Text text) i ≡ true) (sym c.self.view_is) there) in
     let none : ◌≡◌ {A = Option NodeNumber} None (Some child.0) = sym absent ∙ child.2 in
     absurd (cc)
 
@@ -45,12 +45,43 @@ returns-in-Some-clause-map c = λ text i there.
     let read : c.index.result.now ≡ node_of nodes c.in-Some.at =
     c.index.ensures
     ∙ get_or_default nodes c.in-Some.at.0 c.index.result.now blank_node (node_within nodes c.self.invariant.0 p k c.in-Some.at found) in
-    let child = present_child nodes p k text i (subst (λ t. (tree_facts t).present (p ++ Map k ∷ []) (Text text) i ≡ true) (sym c.self.view_is) there) in
+    let child = present_child nodes p (Map k) (Text text) refl i (subst (λ t. (tree_facts t).present (p ++ Map k ∷ []) (Text text) i ≡ true) (sym c.self.view_is) there) in
     let same = same_found child.2 found in
     let at : child_of nodes c.in-Some.at (Text text) ≡ Some child.1 = subst (λ n. child_of nodes n (Text text) ≡ Some child.1) same child.3 in (
       child.1,
       subst (λ l. Contains l (Text text, child.1)) (sym (c.each.ensures.value ∙ ap (λ z. joined z.children.1) read))
           (c.self.invariant.1.1 c.in-Some.at (Text text) child.1 at child.4),
+    )
+
+pub returns-in-None-clause-list : goal.returns-in-None-clause-list
+returns-in-None-clause-list c = λ e i there.
+    let nodes = c.self.inside.nodes.items in
+    let p = c.args.path.now in
+    let k = c.args.key.now in
+    let absent : node_at nodes p k ≡ None =
+    ap (λ p. node_at nodes p c.args.key.now) (sym c.keys.ensures)
+    ∙ ap (λ l. node_at l c.keys.result.now c.args.key.now) (sym c.as_slice.ensures.value) ∙ sym c.find.ensures ∙ c.in-None.is in
+    let child = present_child nodes p (ListAt k) (Element e) refl i (subst (λ t. (tree_facts t).present (p ++ ListAt k ∷ []) (Element e) i ≡ true) (sym c.self.view_is) there) in
+    let none : ◌≡◌ {A = Option NodeNumber} None (Some child.0) = sym absent ∙ child.2 in
+    absurd (cc)
+
+pub returns-in-Some-clause-list : goal.returns-in-Some-clause-list
+returns-in-Some-clause-list c = λ e i there.
+    let nodes = c.self.inside.nodes.items in
+    let p = c.args.path.now in
+    let k = c.args.key.now in
+    let found : node_at nodes p k ≡ Some c.in-Some.at =
+    ap (λ p. node_at nodes p c.args.key.now) (sym c.keys.ensures)
+    ∙ ap (λ l. node_at l c.keys.result.now c.args.key.now) (sym c.as_slice.ensures.value) ∙ sym c.find.ensures ∙ c.in-Some.is in
+    let read : c.index.result.now ≡ node_of nodes c.in-Some.at =
+    c.index.ensures
+    ∙ get_or_default nodes c.in-Some.at.0 c.index.result.now blank_node (node_within nodes c.self.invariant.0 p k c.in-Some.at found) in
+    let child = present_child nodes p (ListAt k) (Element e) refl i (subst (λ t. (tree_facts t).present (p ++ ListAt k ∷ []) (Element e) i ≡ true) (sym c.self.view_is) there) in
+    let same = same_found child.2 found in
+    let at : child_of nodes c.in-Some.at (Element e) ≡ Some child.1 = subst (λ n. child_of nodes n (Element e) ≡ Some child.1) same child.3 in (
+      child.1,
+      subst (λ l. Contains l (Element e, child.1)) (sym (c.each.ensures.value ∙ ap (λ z. joined z.children.1) read))
+          (c.self.invariant.1.1 c.in-Some.at (Element e) child.1 at child.4),
     )
 
 pub returns-in-None-clause-members : goal.returns-in-None-clause-members
