@@ -22,7 +22,7 @@ loop-one-preserved g c =
     mapped_push _ _ _ _ c.push_reserved-in-loop-one.ensures.items in
     record {
       joined = more_joined _ _ _ _ _ _ _ _ _ _ _ _ _ _ at.invariant.joined c.in-Some.ensures.steps.0 ended given
-          (is_kept c.in-Some.one (λ t. t.promise.names.value) (λ t. t.promise.connection.value) (λ v. v.items) g.C.Connect.bytes g.M.Marker.origin c.args.names.value
+          (is_kept c.in-Some.one (λ t. t.promise.names.value) (λ t. t.promise.connection.value) (λ v. v.items) g.C.Connect.bytes g.M.Marker.origin c.args.server.now.shared.now.names
           c.join_one-why.result.0 c.join_one-why.result.1.items c.join_one-why.ensures);
       left = search rules;
       endings = search rules;

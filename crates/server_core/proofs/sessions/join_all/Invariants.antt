@@ -6,8 +6,8 @@ use Rattle.server_core.proofs.sessions.join_all.Given as goal
 abbrev pub invariant-loop-one : goal.invariant-loop-one
 invariant-loop-one g l =
     record {
-      joined : IsJoined g.C.Connect.bytes (λ c r. IfSome r (λ thread. (thread.promise.names.value ≡ l.names.value) × (thread.promise.connection.value ≡ c)))
-          g.M.Marker.origin l.names.value.items l.connections.value.items (into_iter_items l.one-iterator) l.attended.endings.items (map (λ s. s.items) l.attended.sessions.items);
+      joined : IsJoined g.C.Connect.bytes (λ c r. IfSome r (λ thread. (thread.promise.names.value ≡ l.server.shared.now.names) × (thread.promise.connection.value ≡ c)))
+          g.M.Marker.origin l.server.shared.now.names.items l.connections.value.items (into_iter_items l.one-iterator) l.attended.endings.items (map (λ s. s.items) l.attended.sessions.items);
       left : into_iter_len l.one-iterator ≡ length (into_iter_items l.one-iterator);
       endings : vec_len l.attended.endings + into_iter_len l.one-iterator ≤ vec_capacity l.attended.endings;
       sessions : vec_len l.attended.sessions + into_iter_len l.one-iterator ≤ vec_capacity l.attended.sessions;

@@ -6,7 +6,7 @@ use Rattle.server_core.proofs.sessions.start_all.Given as goal
 abbrev pub invariant-loop-connection : goal.invariant-loop-connection
 invariant-loop-connection g l =
     record {
-      begun : IsBegun (λ c r. IfSome r (λ thread. (thread.promise.names.value ≡ l.shared.names) × (thread.promise.connection.value ≡ c)))
+      begun : IsBegun (λ c r. IfSome r (λ thread. (thread.promise.names.value ≡ l.server.shared.now.names) × (thread.promise.connection.value ≡ c)))
           (into_iter_items l.initial.connection-iterator) (into_iter_items l.connection-iterator) l.running.items;
       left : into_iter_len l.connection-iterator ≡ length (into_iter_items l.connection-iterator);
       each : vec_len l.running + into_iter_len l.connection-iterator ≡ into_iter_len l.initial.connection-iterator;
