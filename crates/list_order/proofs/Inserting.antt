@@ -66,14 +66,6 @@ module _ {slots : List Slot} {first : Option SlotNumber} {index : List (Id × Sl
   pub length-ids : length (ids_along slots (slots_from slots first)) ≡ length slots
   length-ids = length-ids_along slots (slots_from slots first) ∙ o.every
 
-  -- a slot that the index gives is one
-  pub number_within : (id : Id) (p : SlotNumber) → get index id ≡ Some p → (p.0 < length slots) × LinksEnd slots (slot_at slots p).next
-  number_within id p e =
-      let f = found slots [] (slots_from slots first) id p (sym (o.exact id) ∙ e) in
-      let on = path-append slots f.front p f.rest first (subst (λ l. IsPath slots first l) f.parts o.path) in
-      let short : length f.rest ≤ length slots = omega (arith, o.every, ap length f.parts, length-append f.front (p ∷ f.rest)) in
-      (on.0, walk_from_path slots (slot_at slots p).next f.rest on.1 short)
-
   -- the slot that the index gives for a reference is the reference's
   pub is_reference : (after : Option Id) → ForSome after (Contains (ids_along slots (slots_from slots first)))
       → IsReference slots (slots_from slots first) after (number_for index after)
@@ -102,6 +94,10 @@ module _ {slots : List Slot} {first : Option SlotNumber} {index : List (Id × Sl
           f.parts ∙ sym (append_assoc f.front (p ∷ []) f.rest) ∙ ap (λ l. (f.front ++ p ∷ []) ++ l) (sym (path_from-path slots (slot_at slots p).next f.rest on.1 short)),
         );
       }
+
+  -- a slot that the index gives is one
+  pub number_within : (id : Id) (p : SlotNumber) → get index id ≡ Some p → (p.0 < length slots) × LinksEnd slots (slot_at slots p).next
+  number_within id p e = let on = reference_on (Some id) (Some p) e in (on.within p refl, on.walk)
 
   -- where a new id comes behind is a slot
   pub place_within : (after : Option Id) (id : Id) → ForSome (place_in slots first index after id) (λ p. p.0 < length slots)

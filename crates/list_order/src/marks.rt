@@ -17,6 +17,9 @@ const BLOCK_LEN: usize = 48;
 // How many absent ids in a row end a block, so that a reading goes from the last present id before them to the next one.
 const LEAST_RUN: usize = 32;
 
+// How long a list is that is cut for the first time.
+const FIRST_CUT: usize = 128;
+
 /// Whether the id of a slot is present, and the block that the slot is in.
 #[derive(Clone, Copy)]
 pub struct Mark {
@@ -30,6 +33,17 @@ pub struct MarkBlock {
     pub present: usize,
     pub end: Option<SlotNumber>,
     pub least_counter: u64,
+}
+
+// When the blocks of a list are cut the next time.
+#[derive(Clone, Copy)]
+struct NextCuts {
+    // How long it is to be for all of them.
+    whole: usize,
+    // How long it is to be for the slots behind the last of them.
+    tail: usize,
+    // After how many more deletions all of them are cut.
+    deletions: usize,
 }
 
 /// The marks of the slots of a chain, cut into blocks along its links. Slots behind the last block are in none.
@@ -283,20 +297,6 @@ fn closed(blocks: &mut Vec<MarkBlock>, rest: Open, end: Option<SlotNumber>, is_w
         rest
     }
 }
-
-// When the blocks of a list are cut the next time.
-#[derive(Clone, Copy)]
-struct NextCuts {
-    // How long it is to be for all of them.
-    whole: usize,
-    // How long it is to be for the slots behind the last of them.
-    tail: usize,
-    // After how many more deletions all of them are cut.
-    deletions: usize,
-}
-
-// How long a list is that is cut for the first time.
-const FIRST_CUT: usize = 128;
 
 // When a list of this length that was just cut is cut again.
 fn cuts_behind(len: usize) -> NextCuts {
