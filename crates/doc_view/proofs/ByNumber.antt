@@ -110,7 +110,7 @@ module _ (tree : TreeValue) (p : List Tagged) (k : Key) (n : NodeNumber) (at : t
     -- each present key of the map is among the children
     pub has_child : ((q : Key) (c : NodeNumber) → child_of tree.0 n q ≡ Some c → is_node_present tree.0 (Some c) ≡ true → Contains children (q, c)) → (text : List ℕ) (i : Id) → (tree_facts tree).present (into_map p k) (Text text) i ≡ true → (c : NodeNumber) × Contains children (Text text, c)
     has_child present text i here =
-        let below = present_child tree.0 p k text i here in
+        let below = present_child tree.0 p (tagged.Map k) (Text text) refl i here in
         let same = same_found below.2 at in (
           below.1,
           present (Text text) below.1 (subst (λ m. child_of tree.0 m (Text text) ≡ Some below.1) same below.3) below.4,

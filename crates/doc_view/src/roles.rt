@@ -53,6 +53,7 @@ fn values_of_roles(
     Ok(Conflicts::from(values))
 }
 
+// Adds the value that the operation of an id put where it has this role.
 fn push_value(
     values: &mut Vec<(Id, Val)>,
     entry: &(Id, Role),
@@ -63,44 +64,33 @@ fn push_value(
     ensures { GivesUnlessMemory (λ _. values.new.items ≡ values.old.items
         ++ with_value entry.now.0 (value_in entry.now.1 (get scalars.now entry.now.0)) []) result }
 {
-    if let Some(value) = value_of_role(&entry.1, &entry.0, scalars, next)? {
-        values.push((entry.0, value))?;
+    match entry.1 {
+        Role::Through => Ok(()),
+        Role::Map => Ok(values.push((entry.0, Val::EmptyMap))?),
+        Role::List => Ok(values.push((entry.0, Val::EmptyList))?),
+        Role::Scalar => push_scalar(values, &entry.0, scalars, next),
+        Role::Counter => Ok(()),
     }
-    Ok(())
 }
 
-// The value that the operation of an id put where it has this role.
-fn value_of_role(
-    role: &Role,
+// Adds the scalar that the operation of an id put. Ids are asked for in their order, so the one that comes next is
+// looked at first.
+fn push_scalar(
+    values: &mut Vec<(Id, Val)>,
     id: &Id,
     scalars: &[(Id, Scalar)],
     next: &mut usize,
-) -> Result<Option<Val>, Refusal>
+) -> Result<(), Refusal>
     requires { IsAscending scalars.now }
-    ensures { GivesUnlessMemory (λ value. value ≡ value_in role.now (get scalars.now id.now)) result }
+    ensures { GivesUnlessMemory (λ _. values.new.items ≡ values.old.items
+        ++ with_value id.now (option_map Plain (get scalars.now id.now)) []) result }
 {
-    match role {
-        Role::Through => Ok(None),
-        Role::Map => Ok(Some(Val::EmptyMap)),
-        Role::List => Ok(Some(Val::EmptyList)),
-        Role::Scalar => scalar_of_id(id, scalars, next),
-        Role::Counter => Ok(None),
+    if let Some(at) = place_of(id, scalars, *next) {
+        *next = at + 1;
+        let scalar = scalars[at].1.try_clone()?;
+        values.push((*id, Val::Scalar(scalar)))?;
     }
-}
-
-// The scalar that the operation of an id put. Ids are asked for in their order, so the one that comes next is looked
-// at first.
-fn scalar_of_id(id: &Id, scalars: &[(Id, Scalar)], next: &mut usize) -> Result<Option<Val>, Refusal>
-    requires { IsAscending scalars.now }
-    ensures { GivesUnlessMemory (λ value. value ≡ option_map Plain (get scalars.now id.now)) result }
-{
-    match place_of(id, scalars, *next) {
-        None => Ok(None),
-        Some(at) => {
-            *next = at + 1;
-            Ok(Some(Val::Scalar(scalars[at].1.try_clone()?)))
-        }
-    }
+    Ok(())
 }
 
 // The place of the scalar of an id, if it has one.
