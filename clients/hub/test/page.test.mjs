@@ -77,8 +77,8 @@ const sides = ["ada", "bob"];
 const both = async (tab, selector) =>
   Promise.all(sides.map((side) => tab.textOf(`#${side} ${selector}`)));
 const isSame = (one, other) => JSON.stringify(one) === JSON.stringify(other);
-const same = (tab, what, selector, expected) => until(what, async () =>
-  (await both(tab, selector)).every((it) => isSame(it, expected)));
+const same = (tab, what, selector, expected, seconds) => until(what, async () =>
+  (await both(tab, selector)).every((it) => isSame(it, expected)), seconds);
 /** The same, in any order. */
 const sameSet = (tab, what, selector, expected) => until(what, async () =>
   (await both(tab, selector)).every((it) => isSame(it.sort(), expected)));
@@ -615,10 +615,10 @@ test("a full store: what is there is kept, it is said, and edits go on once ther
   await tab.reload();
   await tab.until(ONLINE, SLOW_SECONDS);
   // Items and text are shown each in its time.
-  await same(tab, "all of it is there", ".item", ["stored", "refused"]);
+  await same(tab, "all of it is there", ".item", ["stored", "refused"], SLOW_SECONDS);
   await same(tab, "the text, too", ".text", ["z".repeat(2500)]);
   deepEqual(tab.faults, []);
-});
+}, skip, 2 * SLOW_SECONDS);
 
 test("New replicas: what no server has is asked for first", async () => {
   const { tab } = await page();
