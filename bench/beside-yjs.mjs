@@ -1,4 +1,4 @@
-/* Yjs under the lines of bench/beside-yjs: node beside-yjs.mjs run d
+/* Yjs under the lines of bench/beside-yjs: node beside-yjs.mjs run d, with the modules in NODE_PATH
 
    It makes the change of each line in a Y.Doc, as a transaction of its own, and writes a short reply for each. A path's maps are made
    as they are met; where a key holds a scalar, Yjs replaces it by the map. */
@@ -6,7 +6,7 @@
 import { readSync, writeSync } from "node:fs";
 import { createRequire } from "node:module";
 
-const Y = createRequire(import.meta.url)("/usr/share/nodejs/yjs");
+const Y = createRequire(import.meta.url)("yjs");
 const root = new Y.Doc().getMap("d");
 const isShared = (it) => it instanceof Y.Map || it instanceof Y.Array;
 

@@ -15,7 +15,7 @@ from pythons import python_with
 
 # Where mypy finds the modules of a folder at the top, and those of all other Python.
 MODULES = {"examples": "examples/tests:examples:clients/python", "clients": "clients/python:clients/python/tests"}
-OTHER_MODULES = "tools:tests:tests/whole-program:operations/tests:clients/python"
+OTHER_MODULES = "tools:tests:tests/whole-program:operations/tests:clients/python:bench"
 
 
 class Tool(NamedTuple):
