@@ -41,7 +41,14 @@ class Redis:
         command = ["redis-server", "--port", str(self.port), "--bind", "127.0.0.1", "--unixsocket", self.path, "--save", "",
                    "--appendonly", "no", "--dir", str(self.folder), *self.words]
         self.process = subprocess.Popen(command, stdout=subprocess.DEVNULL)
-        wait_for(lambda: b"PONG" in self.raw("PING") or b"NOAUTH" in self.raw("PING"))
+
+        def answers() -> bool:
+            if self.process.poll() is not None:  # something else had its port for a moment
+                self.process = subprocess.Popen(command, stdout=subprocess.DEVNULL)
+            reply = self.raw("PING")
+            return b"PONG" in reply or b"NOAUTH" in reply
+
+        wait_for(answers)
 
     def raw(self, *words: str) -> bytes:
         """The reply of redis-cli, as it is."""
