@@ -72,7 +72,7 @@ wanted_of rows =
       documents = unwrap_or (all_of (codes "doc") rows) [];
     }
 
--- the same, of matches that clap made
+-- the name and the documents of matches that clap made
 abbrev pub asked_of : ArgMatches → Wanted
 asked_of matches = wanted_of (rows_of (found_of matches))
 

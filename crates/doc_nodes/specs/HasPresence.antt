@@ -19,8 +19,8 @@ pub record HasPresence (node : Node) : Type 0 where
   pub register : (i : Id) → HasEntry node.register.0 i → IsPresentBy node i
   pub counter : (i : Id) → HasEntry node.counter.0 i → IsPresentBy node i
 
--- and each that makes a child present makes its parent present, which then may have a present child; so for each parent
--- whose number is m or greater
+-- Each node has its presence. For each parent whose number is m or greater: an operation that makes a child present makes
+-- the parent present, which then may have a present child.
 pub record HavePresenceFrom (nodes : List Node) (m : ℕ) : Type 0 where
   pub each : (n : NodeNumber) → HasPresence (node_of nodes n)
   pub above : (n : NodeNumber) (k : Key) (c : NodeNumber) (i : Id) → m ≤ n.0 → child_of nodes n k ≡ Some c
@@ -28,6 +28,6 @@ pub record HavePresenceFrom (nodes : List Node) (m : ℕ) : Type 0 where
   pub may_have_present_child : (n : NodeNumber) (k : Key) (c : NodeNumber) (i : Id) → m ≤ n.0
       → child_of nodes n k ≡ Some c → IsPresentBy (node_of nodes c) i → (node_of nodes n).may_have_present_child ≡ true
 
--- the same holds for all nodes
+-- each node has its presence, and each parent that of its children
 abbrev pub HavePresence : List Node → Type 0
 HavePresence nodes = HavePresenceFrom nodes 0

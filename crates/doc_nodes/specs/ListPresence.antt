@@ -49,7 +49,7 @@ abbrev pub ShowsPresence : List Node → NodeNumber → Id → Type 0
 ShowsPresence nodes n i =
     (is : Bool) → Contains (node_of nodes n).order.0 (i, is) → is ≡ is_node_present nodes (child_of nodes n (Element i))
 
--- or the element's node is this one
+-- the element's node is this one, or the list shows whether it is present
 abbrev pub ShowsPresenceBut : List Node → NodeNumber → NodeNumber → Id → Type 0
 ShowsPresenceBut nodes m n i = (child_of nodes n (Element i) ≡ Some m) ⊎ ShowsPresence nodes n i
 
@@ -63,7 +63,7 @@ IsCandidate nodes n k =
     (c : NodeNumber) → child_of nodes n k ≡ Some c → is_node_present nodes (Some c) ≡ true
     → Contains (candidates (node_of nodes n)) (k, c)
 
--- or it is this one
+-- the child at a key is this one, or a candidate if it is present
 abbrev pub IsCandidateBut : List Node → NodeNumber → NodeNumber → Key → Type 0
 IsCandidateBut nodes m n k = (child_of nodes n k ≡ Some m) ⊎ IsCandidate nodes n k
 

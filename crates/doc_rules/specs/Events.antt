@@ -51,7 +51,7 @@ abbrev pub is_same : Op → Option Op → Bool
 is_same op (Some o) = operation_eq o op
 is_same op None = false
 
--- and it is this very operation
+-- the operation of this id among these is this very one
 abbrev pub has_equal : List Op → Op → Bool
 has_equal ops op = is_same op (find_id ops op.id)
 
@@ -76,7 +76,7 @@ changed_rows r c m =
 abbrev pub expected_of_change : Replica → Cursor → Mutation → Expected
 expected_of_change r c m = first_row (changed_rows r c m) (logged (own_op r c m))
 
--- the same where the steps of its place led, if they led anywhere
+-- what is expected of a change where the steps of its place led, if they led anywhere
 abbrev pub expected_at_place : Replica → Result Cursor Refusal → Mutation → Expected
 expected_at_place r (Ok c) m = expected_of_change r c m
 expected_at_place r (Err cause) m = no cause

@@ -36,7 +36,7 @@ AreElements f p k = AreThose (λ i. IsPresent f (into_list p k) (Element i)) (f.
 abbrev pub AreEntries : Facts → List Tagged → Key → List (Id × Scalar) → Type 0
 AreEntries f p k = AreAll id_cmp (λ entry. entry.0) (λ entry. f.register p k entry.0 ≡ Some entry.1)
 
--- and their scalars
+-- the scalars of the register at a place, in the order of their ids
 abbrev pub AreValues : Facts → List Tagged → Key → List Scalar → Type 0
 AreValues f p k scalars =
     (entries : List (Id × Scalar)) × AreEntries f p k entries × (scalars ≡ map (λ entry. entry.1) entries)
@@ -68,7 +68,7 @@ abbrev pub AreConflicts : Facts → Values → List Tagged → Key → List (Id 
 AreConflicts f values p k =
     AreAll id_cmp (λ entry. entry.0) (λ entry. (f.present p k entry.0 ≡ true) × (values p k entry.0 ≡ Some entry.1))
 
--- the same values for the ids that make a place present
+-- two assignments of values agree on the ids that make a place present
 abbrev pub AgreeOnPresent : Facts → Values → Values → Type 0
 AgreeOnPresent f v w = (p : List Tagged) (k : Key) (i : Id) → f.present p k i ≡ true → v p k i ≡ w p k i
 

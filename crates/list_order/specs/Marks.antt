@@ -188,7 +188,7 @@ entries_in chain m = entries_along chain.slots.items m.by_slot.items (slots_from
 abbrev pub present_from : Chain → Marks → Option SlotNumber → List Id
 present_from chain m at = present_along chain.slots.items m.by_slot.items (slots_from chain.slots.items at)
 
--- the same ids are present, and there is as much room
+-- marks after a cut show as present what they showed before, with as much room
 pub record IsRecut (old new : Marks) : Type 0 where
   pub same : (n : SlotNumber)
       → (mark_at new.by_slot.items n).is_present ≡ (mark_at old.by_slot.items n).is_present

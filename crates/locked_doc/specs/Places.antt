@@ -33,6 +33,6 @@ abbrev pub IsReadInEachOrder : List Op → Query → Reply → Type 0
 IsReadInEachOrder log query answer =
     (order : List Op) → IsCausalOrder log order → IsReadOf (facts (replay order)) (value_put_at order) query answer
 
--- and with no order at all, of the facts of their set
+-- read from the facts of the set of the operations, with no order at all
 abbrev pub IsReadOfSet : List Op → Query → Reply → Type 0
 IsReadOfSet log query answer = (f : Facts) → AreFactsOf log f → IsReadOf f (value_put_at log) query answer

@@ -180,7 +180,7 @@ fn greatest_of_all(chunks: &[ArcSlice<u64>]) -> u64
     most
 }
 
-// The same chunks once more, which both then share.
+// A clone of the chunks, which both then share.
 fn cloned(chunks: &Vec<ArcSlice<u64>>) -> Result<Vec<ArcSlice<u64>>, Refusal>
     ensures ok { IfOk result (λ copy. map arc_slice_items copy.items ≡ map arc_slice_items chunks.now.items) }
     ensures err { IfErr result (λ e. e ≡ Refusal.NoMemory) }
@@ -196,7 +196,7 @@ fn share_chunks(chunks: &mut Vec<ArcSlice<u64>>, others: &[ArcSlice<u64>])
     }
 }
 
-// The same counters, in the other's place where they are those and nothing shares them yet.
+// Puts the other's counters in place of equal ones that nothing shares yet.
 fn share_chunk(chunk: &mut ArcSlice<u64>, other: &ArcSlice<u64>)
     ensures { arc_slice_items chunk.new ≡ arc_slice_items chunk.old }
 {

@@ -58,7 +58,7 @@ impl OpLog {
         }
     }
 
-    /// The same log once more: its operations share their parts with clones of them, and its index is
+    /// A clone of the log: its operations share their parts with the clones, and its index is
     /// copied. No operation is checked again. The only error is out of memory.
     pub fn try_clone(&self, alloc: Global) -> Result<OpLog, Refusal>
         ensures ok { IfOk result (λ l. l.operations ≡ self.now.operations) }

@@ -46,7 +46,7 @@ level c = whole c.children.items c.scalars.items c.numbers.items c.marks.items c
 abbrev pub context_of : PlainContext → Context
 context_of = fold-PlainContext Context level
 
--- the same of a child, and of all
+-- a child's context, of its plain one
 abbrev pub seen : Tagged × PlainContext → Tagged × Context
 seen c = (c.0, context_of c.1)
 

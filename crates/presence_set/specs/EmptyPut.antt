@@ -11,7 +11,7 @@ abbrev pub puts_map : Role → Bool
 puts_map role.Map = true
 puts_map _ = false
 
--- or an empty list
+-- an operation of this role put an empty list
 abbrev pub puts_list : Role → Bool
 puts_list role.List = true
 puts_list _ = false

@@ -23,7 +23,7 @@ impl EmptyPut {
         }
     }
 
-    /// The same with an operation of a role more.
+    /// What is put with one operation more, of this role.
     pub fn with(self, role: Role) -> EmptyPut
         ensures map { result.map ≡ (puts_map role || self.map) }
         ensures list { result.list ≡ (puts_list role || self.list) }

@@ -41,7 +41,7 @@ abbrev pub own_after : Reply → List Op → List ℕ
 own_after (Applied count dropped id) log = op_line (find_id log id)
 own_after _ log = []
 
--- the same by the id that was applied
+-- the line of the operation that was applied under this id, if one was
 abbrev pub own_by : Option Id → List Op → List ℕ
 own_by None log = []
 own_by (Some id) log = op_line (find_id log id)

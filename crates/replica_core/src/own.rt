@@ -127,17 +127,14 @@ fn own_operation(
 {
     keeps_good(log);
     let front = log.front()?;
-    let id = next_id(&front, &name);
+    let id = next_id(&front, name);
     Operation::new(alloc, id, front, cursor, mutation)
 }
 
 // One's own next id: greater than all that a front covers, of whatever replica.
-fn next_id(front: &Front, name: &ReplicaName) -> Id
+fn next_id(front: &Front, name: ReplicaName) -> Id
     requires { max_counter front.now < greatest_counter }
-    ensures { (result.counter ≡ max_counter front.now + 1) × (result.replica ≡ name.now) }
+    ensures { (result.counter ≡ max_counter front.now + 1) × (result.replica ≡ name) }
 {
-    Id {
-        counter: front.max_counter() + 1,
-        replica: *name,
-    }
+    Id::successor(front.max_counter(), name).unwrap()
 }

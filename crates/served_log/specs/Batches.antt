@@ -16,7 +16,7 @@ pub record AddsNext (name : List ℕ) (old new : List Doc) : Type 0 where
   pub batch : IsBatch name (length (log_of name old)) ops old
   pub added : new ≡ add_batch name ops old
 
--- the same, and how many they were
+-- so many next entries of the document of this name were added, of which there are some
 pub record AddsMany (name : List ℕ) (count : ℕ) (old new : List Doc) : Type 0 where
   pub next : AddsNext name old new
   pub many : length next.ops ≡ count
@@ -39,7 +39,7 @@ pub data AreAdded (origin : ℕ → Origin) (names : List (List ℕ)) (old : Lis
   more : {any : Bool} {before after : List Doc} {number count : ℕ} → AreAdded origin names old any before
       → number < length names → AddsOf origin number (get_or names number []) count before after → AreAdded origin names old true after
 
--- The same, with the length of the longest batch: 0 where there was none.
+-- One batch after another was added, and the longest one has so many entries: 0 where there was none.
 pub data AreAddedUpTo (origin : ℕ → Origin) (names : List (List ℕ)) (old : List Doc) : ℕ → List Doc → Type 0 where
   none_yet : AreAddedUpTo origin names old 0 old
   one_more : {most count number : ℕ} {before after : List Doc} → AreAddedUpTo origin names old most before

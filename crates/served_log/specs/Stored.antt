@@ -23,7 +23,7 @@ module _ {L Left : Type 0} (g : Ghosts L Left) where
     pub works : (g.log new).has_failed ≡ false
     pub is_held : OnOk closed (g.is_held new last)
 
-  -- The same behind a new epoch, of which the server has its name.
+  -- The server served from a log that began a new epoch, of which it has its name.
   pub record ServesStored {E : Type 0} (name : List ℕ) (names : List (List ℕ)) (count : ℕ) (old : L)
       (closed : Result ⊤ E) (last : Left) (held holds : Option (List ℕ)) : Type 0 where
     pub begun : L

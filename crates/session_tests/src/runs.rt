@@ -125,7 +125,7 @@ fn gives<R: Abort + Threads + Wait + Sync>(
     Ok(())
 }
 
-// The same of each of these rows.
+// Each of these rows gives its output, by a run and by a server.
 fn give_all<R: Abort + Threads + Wait + Sync>(rt: &R, alloc: Global, rows: &[Row]) {
     for row in rows {
         let name = row.name;

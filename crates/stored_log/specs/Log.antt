@@ -14,22 +14,22 @@ pub record LogState : Type 0 where
   -- a call has failed, and each later one fails
   pub has_failed : Bool
 
--- the same epoch and the same documents
+-- a log has the epoch and the documents of another
 pub record HasSame (it : LogState) (epoch : ℕ) (docs : List Doc) : Type 0 where
   pub same_epoch : epoch ≡ it.epoch
   pub same_docs : docs ≡ it.docs
 
--- the same under this epoch or the next
+-- it has the other's documents, under its epoch or the next
 pub record IsRaisedOrNot (it : LogState) (epoch : ℕ) (docs : List Doc) : Type 0 where
   pub raised_or_not : (epoch ≡ it.epoch) ⊎ (epoch ≡ it.epoch + 1)
   pub same_docs : docs ≡ it.docs
 
--- the same, with all of a batch or with none
+-- it has the other's epoch and documents, with all of a batch or with none of it
 pub record IsAddedOrNot (name : List ℕ) (ops : List Op) (it : LogState) (epoch : ℕ) (docs : List Doc) : Type 0 where
   pub same_epoch : epoch ≡ it.epoch
   pub added_or_not : (docs ≡ it.docs) ⊎ (docs ≡ add_batch name ops it.docs)
 
--- the same under an epoch that is not smaller
+-- it has the other's documents, under an epoch that is not smaller
 pub record KeepsAll (it : LogState) (epoch : ℕ) (docs : List Doc) : Type 0 where
   pub no_less : it.epoch ≤ epoch
   pub same_docs : docs ≡ it.docs

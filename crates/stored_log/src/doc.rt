@@ -117,8 +117,8 @@ impl KeptDoc {
         })
     }
 
-    /// The same operation. Where it has no clones, it shares the names of its front with an entry's, where they are the
-    /// same: `add` clones it, and those clones share then. Allocates nothing.
+    /// The operation, unchanged. Where it has no clones, it shares the names of its front with an entry whose front has
+    /// those names: `add` clones it, and those clones share then. Allocates nothing.
     pub fn sharing(&self, op: Operation) -> Operation
         ensures { result ≡ op }
     {

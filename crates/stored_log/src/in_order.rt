@@ -127,7 +127,7 @@ pub fn add_one(
     add(docs, alloc, name, slice::from_ref(&entry))
 }
 
-// The same operation. It may share the names of its front with an entry of the document of this name.
+// The operation, which may share the names of its front with an entry of the document of this name.
 fn sharing(docs: &[KeptDoc], name: &str, op: Operation) -> Operation
     requires { AreInOrder docs.now }
     ensures { result ≡ op }

@@ -60,7 +60,7 @@ impl ListImage {
         self.docs.as_slice()
     }
 
-    /// The same once more. The only error is out of memory.
+    /// A clone of the image. The only error is out of memory.
     pub fn try_clone(&self, alloc: Global) -> Result<ListImage, Fault>
         ensures ok { IfOk result (λ image. image ≡ self.now) }
     {
@@ -108,7 +108,7 @@ fn clone_of(alloc: Global, doc: &KeptDoc) -> Result<KeptDoc, Fault>
     Ok(clone)
 }
 
-// The same documents once more.
+// Clones of the documents.
 fn clones(alloc: Global, docs: &[KeptDoc]) -> Result<Vec<KeptDoc>, Fault>
     ensures { IfOk result (λ clones. clones.items ≡ docs.now) }
 {

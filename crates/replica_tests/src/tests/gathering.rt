@@ -70,7 +70,7 @@ fn is_all<M: Marker>(back: &Gathering<M>, count: usize) -> bool {
         && (back.doc.number(), back.doc.opened()) == (0, 2)
 }
 
-// The same with one more end behind those that were returned.
+// Whether all is returned where one more end is given behind those that were returned.
 fn refuses_with<M: Marker, R: Abort>(
     rt: &R,
     alloc: Global,

@@ -22,7 +22,7 @@ use stored_log::{StoredLog, check_over};
 pub enum Deed<'a> {
     /// A server starts, serves, and ends.
     Serves(Start<'a>),
-    /// The same, and a change is answered once it is stored.
+    /// A server starts, serves, and ends, and answers a change once it is stored.
     ServesDurably(Start<'a>),
     /// A check of it prints this.
     Holds(&'a [u8]),

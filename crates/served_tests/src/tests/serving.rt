@@ -198,7 +198,7 @@ pub fn started_at<R: Threads + Wait + Abort + Sync + Log + Clock, L: StoredLog>(
     Ok(left)
 }
 
-/// The same of a server that replies at once.
+/// Serves from a log with replies at once, and gives what is left of the log.
 pub fn started<R: Threads + Wait + Abort + Sync + Log + Clock, L: StoredLog>(
     rt: &R,
     alloc: Global,

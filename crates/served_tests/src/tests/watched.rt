@@ -109,7 +109,7 @@ fn faults_of<M: Marker, R: Wait, L: StoredLog>(
     times.into_inner()
 }
 
-// The same where the shared is that of a full log, and has a table of its own.
+// How often the observer was notified where the documents are those of a full log, with a table of their own.
 fn faults_beside<M: Marker, R: Wait, F: StoredLog, L: StoredLog>(
     rt: &R,
     alloc: Global,

@@ -79,7 +79,7 @@ fn fails_alone<R: Abort>(rt: &R, row: &Row, ran: &Ran) {
     first_did(rt, row.name, &ran.gathered, all, shares);
 }
 
-/// The same of each of these rows.
+/// In each of these rows the session that fails ends alone, and the other one goes on.
 pub fn fail_alone<R: Threads + Wait + Abort + Sync>(rt: &R, alloc: Global) -> Result<(), Refusal> {
     for row in &ROWS {
         let ran = run_two(rt, alloc, &OpenGate, [TWO, TWO], row.fault)?;

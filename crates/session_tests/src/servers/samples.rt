@@ -115,7 +115,7 @@ pub fn serve_beside<M: Marker + Send + Sync, R: Threads + Wait + Sync, G: Gate +
     }
 }
 
-// The same with no side.
+// Serves the scripts over a table with this blank, with nothing beside the sessions.
 fn serve<M: Marker + Send + Sync, R: Threads + Wait + Sync, G: Gate + Sync>(
     rt: &R,
     alloc: Global,
@@ -133,7 +133,7 @@ fn serve<M: Marker + Send + Sync, R: Threads + Wait + Sync, G: Gate + Sync>(
     Ok(ran.0)
 }
 
-/// The same, over a table of its own.
+/// Serves the scripts over a table of its own.
 pub fn serve_all<R: Threads + Wait + Sync, G: Gate + Sync>(
     rt: &R,
     alloc: Global,

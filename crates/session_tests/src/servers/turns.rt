@@ -108,7 +108,7 @@ fn replies_in_order<R: Threads + Wait + Abort + Sync>(
     Ok(())
 }
 
-/// The same of each of these rows.
+/// In each of these rows both sessions get their replies, and no turn is missed.
 pub fn replies_in_each_order<R: Threads + Wait + Abort + Sync>(
     rt: &R,
     alloc: Global,

@@ -38,7 +38,7 @@ fn opened<S: Alter + Drop>(
     }
 }
 
-// The same of a stored log in these files.
+// The reports of a stored log in these files.
 fn reported_in<D: Disk + Drop>(
     alloc: Global,
     files: Files<D>,

@@ -36,7 +36,7 @@ pub enum Step<'a> {
     UpFrom(u64),
     /// The log of the commits is copied into the database file, and the stored log goes on.
     Fold,
-    /// The same, and the stored log is closed.
+    /// The log of the commits is copied into the database file, and the stored log is closed.
     Close,
     /// The stored log gives the tables back, and these statements run over them.
     Run(&'a str),
