@@ -1,14 +1,12 @@
 -- Names with zeros behind them: what they are without, and their order.
-use Rattle.std.proofs.Common.{◌≡◌, ℕ, ◌+◌, ◌<◌, ◌≤◌, ◌==◌, ◌++◌, zero, suc, true, not, ◌&&◌, nat_eq, nat_le, List, [], ◌∷◌, length, replicate, refl, sym, ap, subst, ◌∙◌, true≢false, cond, ◌-◌, arith, Less, Equal, Greater}
+use Rattle.std.proofs.Common.{◌≡◌, ℕ, ◌+◌, ◌<◌, ◌≤◌, ◌==◌, ◌++◌, zero, suc, true, not, ◌&&◌, nat_eq, nat_le, List, [], ◌∷◌, length, replicate, refl, sym, ap, ◌∙◌, cond, ◌-◌, arith, Less, Equal, Greater}
 use Rattle.std.specs.List.{list_all, take_while}
-use Rattle.std.specs.List.Sorted.{IsPartitionedBy}
 use Rattle.std.specs.Bool.{one_answer}
 use Rattle.std.specs.Ordering.{nat_cmp, ordering_then}
 use Rattle.std.specs.Cmp.{nat_cmp_is}
 use Rattle.std.specs.Cmp.Lexicographic.{slice_cmp}
 use Rattle.std.proofs.lemmas.Bool.{and_parts}
 use Rattle.std.proofs.lemmas.Bool.Decides.{nat_tests}
-use Rattle.std.proofs.lemmas.List.{get_or-replicate, length-replicate}
 use Rattle.std.proofs.lemmas.List.Sums.{take_while-cons}
 use lib.Pointwise.{pointwise, bytes_decides}
 use Rattle.lamport_id.specs.Limits.{longest_name}
@@ -27,15 +25,6 @@ unpadded-zeros (x ∷ a) n h =
     let parts = and_parts (is_name_byte x) (list_all is_name_byte a) h in
     take_while-cons (λ b. not (b == 0)) x (a ++ replicate n 0)
     ∙ (λ i. cond (byte_is_text x parts.0 i) (x ∷ unpadded-zeros a n parts.1 i) [])
-
-pub text_first : (a : List ℕ) (n : ℕ) → list_all is_name_byte a ≡ true → IsPartitionedBy (λ b. not (b == 0)) (a ++ replicate n 0)
-text_first [] n h i j d le within text =
-    let nought : ℕ = 0 in
-    absurd (true≢false (sym text ∙ ap (λ b. not (b == 0)) (get_or-replicate n j nought d (subst (λ k. j < k) (length-replicate n nought) within))))
-text_first (x ∷ a) n h zero j d le within text = byte_is_text x (and_parts (is_name_byte x) (list_all is_name_byte a) h).0
-text_first (x ∷ a) n h (suc i) zero d le within text = absurd (omega arith)
-text_first (x ∷ a) n h (suc i) (suc j) d le within text =
-    text_first a n (and_parts (is_name_byte x) (list_all is_name_byte a) h).1 i j d (omega arith) (omega arith) text
 
 -- zeros are as zeros
 same_zeros : (n : ℕ) → slice_cmp nat_cmp (replicate n 0) (replicate n 0) ≡ Equal
@@ -71,11 +60,6 @@ within name h =
 -- a name is what it was before the zeros
 pub unpadded-padded : (name : List ℕ) → is_name name ≡ true → unpadded (padded name) ≡ name
 unpadded-padded name h = unpadded-zeros name (longest_name - length name) (letters name h)
-
--- the bytes of a name come before its zeros
-pub name_first : (bytes : List ℕ) → is_name (unpadded bytes) ≡ true → bytes ≡ padded (unpadded bytes) → IsPartitionedBy (λ b. not (b == 0)) bytes
-name_first bytes h zeros =
-    subst (IsPartitionedBy (λ b. not (b == 0))) (sym zeros) (text_first (unpadded bytes) (longest_name - length (unpadded bytes)) (letters (unpadded bytes) h))
 
 -- names stand to each other as they do with their zeros
 pub cmp-padded : (a b : List ℕ) → is_name a ≡ true → is_name b ≡ true → slice_cmp nat_cmp (padded a) (padded b) ≡ slice_cmp nat_cmp a b
