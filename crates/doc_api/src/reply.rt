@@ -2,7 +2,7 @@
 ghost use Rattle.std.specs.Prelude.{◌≡◌};
 ghost use Rattle.doc_api.specs.Resolved.{resolved_or};
 
-use crate::lists::{Conflicts, Ids, Scalars, Waiting};
+use crate::lists::{Ids, Scalars, Waiting};
 use json_scalar::Refusal;
 use lamport_id::Id;
 use op_core::{Cursor, Front};
@@ -67,8 +67,8 @@ pub enum Reply {
     Values(Scalars),
     /// The present elements of the list, each with the scalars of its register, as JSON text.
     Items(CompactText),
-    /// The present values, each with the id of the operation that put it.
-    Conflicts(Conflicts),
+    /// The present values, each with the id of the operation that put it, as JSON text.
+    Conflicts(CompactText),
     /// All that is at the place and below, as JSON text.
     Show(CompactText),
     /// The sum of the counter.

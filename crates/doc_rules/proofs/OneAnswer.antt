@@ -32,7 +32,7 @@ use Rattle.doc_rules.specs.Answers.{reply_with, ReadsHere, LooksHere, ReadsAt, R
 use Rattle.doc_rules.specs.Role.{value_put_at}
 use Rattle.doc_rules.specs.Views.{Values, IsPresent, into_map, into_list, AreKeys, AreEntries, AreValues, HaveValues, AreItems, AreTerms, total, IsSum, AreConflicts, ReadsPlace}
 use Rattle.doc_rules.specs.Shown.{Shown, MapShown, ListShown, Fields, Elements, shown, no_map, a_map, no_list, a_list, no_fields, field, no_elements, element, names, HasList, total_shown, ShowsCount, Shows, ShowsMap, ShowsList, ShowsFields, ShowsElements, shown_data, ShowsText}
-use Rattle.doc_rules.specs.Encoded.{item_data, EncodedAs, KeysText, ItemsText}
+use Rattle.doc_rules.specs.Encoded.{item_data, conflict_data, EncodedAs, KeysText, ItemsText, ConflictsText}
 
 -- ---- lists that hold exactly these
 
@@ -152,6 +152,9 @@ module _ (f : Facts) (values : Values) where
   pub one_items_text : (p : List Tagged) (k : Key) (x y : List ℕ) → ItemsText f p k x → ItemsText f p k y → x ≡ y
   one_items_text = one_encoding item_data (AreItems f) one_items
 
+  pub one_conflicts_text : (p : List Tagged) (k : Key) (x y : List ℕ) → ConflictsText f values p k x → ConflictsText f values p k y → x ≡ y
+  one_conflicts_text = one_encoding conflict_data (AreConflicts f values) one_conflicts
+
 -- ---- where steps lead
 
 module _ (f : Facts) where
@@ -191,7 +194,7 @@ pub one_look : (f : Facts) (values : Values) (l : Look) (c : Cursor) (x y : Repl
 one_look f values look.Keys = one_here (KeysText f) reply.Keys (one_keys_text f values)
 one_look f values look.Values = one_here (AreValues f) reply.Values (one_values f values)
 one_look f values look.Items = one_here (ItemsText f) reply.Items (one_items_text f values)
-one_look f values look.Conflicts = one_here (AreConflicts f values) reply.Conflicts (one_conflicts f values)
+one_look f values look.Conflicts = one_here (ConflictsText f values) reply.Conflicts (one_conflicts_text f values)
 one_look f values look.Show = one_here (ShowsText f values) reply.Show (one_text f values)
 one_look f values look.Sum = one_here (IsSum f) reply.Sum (one_sum f values)
 

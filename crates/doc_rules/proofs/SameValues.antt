@@ -9,6 +9,7 @@ use Rattle.op_core.specs.declared.cursor.Key.TheVariants.{Text, Element}
 use Rattle.crdt_rules.specs.Facts.{Facts}
 use Rattle.doc_rules.specs.Views.{Values, AgreeOnPresent, into_map, into_list, AreConflicts}
 use Rattle.doc_rules.specs.Answers.{ReadsHere, LooksHere}
+use Rattle.doc_rules.specs.Encoded.{ConflictsText}
 use Rattle.doc_rules.specs.Shown.{ShowsText, IsPut, HasMap, HasList, Shown, MapShown, ListShown, Fields, Elements, shown, no_map, a_map, no_list, a_list, no_fields, field, no_elements, element, Shows, ShowsMap, ShowsList, ShowsFields, ShowsElements}
 
 put_moved : (f : Facts) (v w : Values) → AgreeOnPresent f v w → (p : List Tagged) (k : Key) (x : Val) → IsPut f v p k x → IsPut f w p k x
@@ -63,7 +64,8 @@ pub looks_same : (f : Facts) (v w : Values) → AgreeOnPresent f v w → (l : Lo
 looks_same f v w same look.Keys c answer h = h
 looks_same f v w same look.Values c answer h = h
 looks_same f v w same look.Items c answer h = h
-looks_same f v w same look.Conflicts c answer h = here_moved (AreConflicts f v) (AreConflicts f w) reply.Conflicts (conflicts_same f v w same) c answer h
+looks_same f v w same look.Conflicts c answer h =
+    here_moved (ConflictsText f v) (ConflictsText f w) reply.Conflicts (λ p k text h. (h.0, conflicts_same f v w same p k h.0 h.1, h.2)) c answer h
 looks_same f v w same look.Show c answer h =
     here_moved (ShowsText f v) (ShowsText f w) reply.Show (λ p k text h. (h.0, shows_same f v w same p k h.0 h.1, h.2)) c answer h
 looks_same f v w same look.Sum c answer h = h

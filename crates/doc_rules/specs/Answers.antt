@@ -12,12 +12,12 @@ use Rattle.doc_api.specs.declared.reply.Reply.TheVariants as reply
 use Rattle.crdt_rules.specs.Dependencies.{missing}
 use Rattle.crdt_rules.specs.Facts.{Facts}
 use Rattle.crdt_rules.specs.Pull.{front_of}
-use Rattle.doc_rules.specs.Views.{Values, AreValues, AreConflicts, IsSum, ReadsPlace}
+use Rattle.doc_rules.specs.Views.{Values, AreValues, IsSum, ReadsPlace}
 use Rattle.doc_rules.specs.Replica.{Replica, replica_facts}
 use Rattle.doc_rules.specs.Resolve.{Resolves}
 use Rattle.doc_rules.specs.Role.{value_put_at}
 use Rattle.doc_rules.specs.Shown.{ShowsText}
-use Rattle.doc_rules.specs.Encoded.{KeysText, ItemsText, operations_text}
+use Rattle.doc_rules.specs.Encoded.{KeysText, ItemsText, ConflictsText, operations_text}
 
 -- the reply to a reading, or the cause against it
 abbrev pub reply_with : {X : Type 0} → (X → Reply) → Result X Refusal → Reply
@@ -34,7 +34,7 @@ abbrev pub LooksHere : Facts → Values → Look → Cursor → Reply → Type 0
 LooksHere f values look.Keys = ReadsHere (KeysText f) reply.Keys
 LooksHere f values look.Values = ReadsHere (AreValues f) reply.Values
 LooksHere f values look.Items = ReadsHere (ItemsText f) reply.Items
-LooksHere f values look.Conflicts = ReadsHere (AreConflicts f values) reply.Conflicts
+LooksHere f values look.Conflicts = ReadsHere (ConflictsText f values) reply.Conflicts
 LooksHere f values look.Show = ReadsHere (ShowsText f values) reply.Show
 LooksHere f values look.Sum = ReadsHere (IsSum f) reply.Sum
 

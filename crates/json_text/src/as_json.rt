@@ -1,5 +1,5 @@
 //! Values that have a form as JSON.
-ghost use Rattle.std.specs.Prelude.{[], ◌∷◌, map};
+ghost use Rattle.std.specs.Prelude.{map};
 ghost use Rattle.std.specs.Fmt.{signed_decimal};
 ghost use Rattle.serde_json.specs.Data.{Data, string};
 ghost use Rattle.json_scalar.specs.Scalar.{scalar_data, val_data};
@@ -82,18 +82,5 @@ impl<X: AsJson> AsJson for Listed<X> {
 
     fn put_in(&self, text: &mut JsonText) -> Result<(), Refusal> {
         text.list(self.as_slice())
-    }
-}
-
-/// An id, and a value that belongs to it.
-impl<X: AsJson> AsJson for (Id, X) {
-    ghost json = { λ e. list_data (id_data e.0 ∷ X.json e.1 ∷ []) };
-
-    #[tactic(auto, using(crate::proofs::Texts::pairs))]
-    fn put_in(&self, text: &mut JsonText) -> Result<(), Refusal> {
-        text.begin_list()?;
-        self.0.put_in(text)?;
-        self.1.put_in(text)?;
-        text.end_list()
     }
 }

@@ -3,9 +3,9 @@ use Rattle.std.specs.Prelude.{ℕ, List, [], ◌∷◌, ◌++◌, map, codes}
 use Rattle.std.specs.Fmt.{signed_decimal}
 use Rattle.serde_json.specs.Data.{Data, null, number, unsigned, string}
 use Rattle.serde_json.specs.Written.{compact_text}
-use Rattle.doc_api.specs.Words.{Id, Scalar, Val, Refusal}
+use Rattle.doc_api.specs.Words.{Id, Scalar, Refusal}
 use Rattle.json_scalar.specs.Refusal.{number_of, name_of}
-use Rattle.json_scalar.specs.Scalar.{scalar_data, val_data}
+use Rattle.json_scalar.specs.Scalar.{scalar_data}
 use Rattle.json_scalar.specs.declared.refusal.Refusal.TheVariants as refusal
 use Rattle.op_core.specs.Wire.{list_data, id_data, front_data, cursor_data}
 use Rattle.doc_api.specs.declared.reply.Reply.{Reply}
@@ -23,20 +23,14 @@ count_data n = number (unsigned n)
 abbrev pub worded : List ℕ → List Data → Data
 worded word ds = list_data (string word ∷ ds)
 
-abbrev pub pair_data : Id → Data → Data
-pair_data id d = list_data (id_data id ∷ d ∷ [])
-
 abbrev pub ids_data : List Id → Data
 ids_data ids = list_data (map id_data ids)
 
 abbrev pub scalars_data : List Scalar → Data
 scalars_data scalars = list_data (map scalar_data scalars)
 
-abbrev pub conflict_data : Id × Val → Data
-conflict_data e = pair_data e.0 (val_data e.1)
-
 abbrev pub waiting_data : Id × List Id → Data
-waiting_data e = pair_data e.0 (ids_data e.1)
+waiting_data e = list_data (id_data e.0 ∷ ids_data e.1 ∷ [])
 
 -- the number and the name; for a fork of a replica its last counter too
 abbrev pub refusal_items : Refusal → List Data
@@ -54,7 +48,7 @@ reply_data (Resolved cursor) = worded (codes "cursor") (cursor_data cursor ∷ [
 reply_data (Keys text) = null
 reply_data (Values scalars) = worded (codes "values") (scalars_data scalars ∷ [])
 reply_data (Items text) = null
-reply_data (Conflicts vals) = worded (codes "conflicts") (list_data (map conflict_data vals) ∷ [])
+reply_data (Conflicts text) = null
 reply_data (Show text) = null
 reply_data (Sum total) = worded (codes "sum") (string (signed_decimal total) ∷ [])
 reply_data (Operations text) = null
@@ -77,6 +71,7 @@ around prefix text = prefix ++ (text ++ 93 ∷ [])
 abbrev pub reply_text : Reply → List ℕ
 reply_text (Keys text) = around (codes "[\"keys\",") text
 reply_text (Items text) = around (codes "[\"items\",") text
+reply_text (Conflicts text) = around (codes "[\"conflicts\",") text
 reply_text (Show text) = around (codes "[\"show\",") text
 reply_text (Operations text) = around (codes "[\"ops\",") text
 reply_text reply = compact_text (reply_data reply)

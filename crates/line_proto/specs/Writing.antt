@@ -2,7 +2,7 @@
 use Rattle.std.specs.Prelude.{◌≡◌, ℕ, List, ◌++◌, Option, Bool, true, false, Result, Ok, Err, ⊤}
 use Rattle.std.specs.Io.KnownBytes.{Appends}
 use Rattle.doc_api.specs.declared.reply.Reply.{Reply}
-use Rattle.doc_api.specs.declared.reply.Reply.TheVariants.{Applied, Known, Held, Waiting, Forgotten, Account, Refused, Keys, Items, Show, Operations}
+use Rattle.doc_api.specs.declared.reply.Reply.TheVariants.{Applied, Known, Held, Waiting, Forgotten, Account, Refused, Keys, Items, Conflicts, Show, Operations}
 use Rattle.line_proto.specs.declared.line_reply.LineReply.{LineReply}
 use Rattle.line_proto.specs.declared.line_reply.LineReply.TheVariants.{Answered}
 use Rattle.line_proto.specs.declared.write.WriteFault.{WriteFault}
@@ -19,6 +19,7 @@ needs_heap (Account n) = false
 needs_heap (Refused r) = false
 needs_heap (Keys text) = false
 needs_heap (Items text) = false
+needs_heap (Conflicts text) = false
 needs_heap (Show text) = false
 needs_heap (Operations text) = false
 needs_heap _ = true
@@ -29,6 +30,7 @@ is_in_pieces (Held missing) = true
 is_in_pieces (Waiting held) = true
 is_in_pieces (Keys text) = true
 is_in_pieces (Items text) = true
+is_in_pieces (Conflicts text) = true
 is_in_pieces (Show text) = true
 is_in_pieces (Operations text) = true
 is_in_pieces _ = false

@@ -3,7 +3,7 @@ ghost use Rattle.std.specs.Prelude.{◌≡◌, ◌≢◌, [], ◌∷◌, true, f
 ghost use Rattle.std.specs.Io.KnownBytes.{Appends};
 ghost use Rattle.serde_json.specs.Data.{Data};
 ghost use Rattle.serde_json.specs.Written.{compact_text};
-ghost use Rattle.doc_api.specs.declared.reply.Reply.TheVariants.{Items, Keys, Operations, Show};
+ghost use Rattle.doc_api.specs.declared.reply.Reply.TheVariants.{Conflicts, Items, Keys, Operations, Show};
 ghost use Rattle.line_feed.specs.Cut.{AppendsCut, line_of};
 ghost use Rattle.line_proto.specs.Replies.{reply_text, line_reply_text, reply_line, worded};
 ghost use Rattle.line_proto.specs.Writing.{needs_heap, is_in_pieces, line_needs_heap, is_device};
@@ -42,7 +42,7 @@ impl LineReply {
     /// Writes the reply as a line, with its newline.
     ///
     /// - `Device`: the sink failed. It has taken a proper prefix of the line.
-    /// - `NoMemory`: nothing was written. It can come only for a cursor, values, conflicts, a sum and a front: their
+    /// - `NoMemory`: nothing was written. It can come only for a cursor, values, a sum and a front: their
     ///   lines are built on the heap before the first byte is written. All others allocate nothing. A text that was
     ///   read of a document, which may have megabytes, is not copied.
     pub fn write<W: Sink>(&self, alloc: Global, sink: &mut W) -> Result<(), WriteFault>
@@ -65,13 +65,15 @@ impl LineReply {
             line_reply_text (Answered (Show (compact_text d))) ≡ compact_text (worded (codes "show") (d ∷ [])) }
     {}
 
-    /// The law that keys, the elements of a list and operations are written as JSON: for the compact text of their
-    /// array, an array of the word and that array.
+    /// The law that keys, the elements of a list, conflicts and operations are written as JSON: for the compact text
+    /// of their array, an array of the word and that array.
     pub fn listed_as_json()
         ensures keys { (d : Data) →
             line_reply_text (Answered (Keys (compact_text d))) ≡ compact_text (worded (codes "keys") (d ∷ [])) }
         ensures items { (d : Data) →
             line_reply_text (Answered (Items (compact_text d))) ≡ compact_text (worded (codes "items") (d ∷ [])) }
+        ensures conflicts { (d : Data) → line_reply_text (Answered (Conflicts (compact_text d)))
+            ≡ compact_text (worded (codes "conflicts") (d ∷ [])) }
         ensures ops { (d : Data) →
             line_reply_text (Answered (Operations (compact_text d))) ≡ compact_text (worded (codes "ops") (d ∷ [])) }
     {}
@@ -105,6 +107,7 @@ fn write_reply<W: Sink>(alloc: Global, reply: &Reply, sink: &mut W) -> Result<()
         Reply::Waiting(waiting) => Ok(write_waiting(waiting.as_slice(), sink)?),
         Reply::Keys(text) => Ok(write_text_line("[\"keys\",", text, sink)?),
         Reply::Items(text) => Ok(write_text_line("[\"items\",", text, sink)?),
+        Reply::Conflicts(text) => Ok(write_text_line("[\"conflicts\",", text, sink)?),
         Reply::Show(text) => Ok(write_text_line("[\"show\",", text, sink)?),
         Reply::Operations(text) => Ok(write_text_line("[\"ops\",", text, sink)?),
         _ => write_whole(alloc, reply, sink),

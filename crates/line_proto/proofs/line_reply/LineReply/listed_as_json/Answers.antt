@@ -10,6 +10,10 @@ pub returns-clause-items : goal.returns-clause-items
 unfolding escape_byte
 returns-clause-items c = λ d. refl
 
+pub returns-clause-conflicts : goal.returns-clause-conflicts
+unfolding escape_byte
+returns-clause-conflicts c = λ d. refl
+
 pub returns-clause-ops : goal.returns-clause-ops
 unfolding escape_byte
 returns-clause-ops c = λ d. refl
