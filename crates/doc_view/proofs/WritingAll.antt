@@ -25,16 +25,17 @@ module _ {X : Type 0} (json : X → Data) where
     all_written xs (Ok done) h w = (xs, h, w)
     all_written xs (Err e) h w = w
 
-    -- the array of all, and the empty one
+    -- the array of all, written in parts or as one
     pub array_written : (begins mid : List Token) (xs : List X) (r : Result ⊤ Refusal) → holds xs → begins ≡ old ++ begin_array ∷ []
         → mid ≡ begins ++ all_tokens (map json xs) → Puts (end_array ∷ []) mid new r → GivesUnlessMemory (λ _. WritesArray json holds old new) r
     array_written begins mid xs (Ok done) h first then w =
         (xs, h, w ∙ ap (λ ts. ts ++ end_array ∷ []) (then ∙ ap (λ ts. ts ++ all_tokens (map json xs)) first) ∙ put_list old (map json xs))
     array_written begins mid xs (Err e) h first then w = w
 
-    pub empty_written : (r : Result ⊤ Refusal) → holds [] → Puts (data_tokens (list_data [])) old new r → GivesUnlessMemory (λ _. WritesArray json holds old new) r
-    empty_written (Ok done) h w = ([], h, w)
-    empty_written (Err e) h w = w
+    pub array_put : (xs : List X) (r : Result ⊤ Refusal) → holds xs → Puts (data_tokens (list_data (map json xs))) old new r
+        → GivesUnlessMemory (λ _. WritesArray json holds old new) r
+    array_put xs (Ok done) h w = (xs, h, w)
+    array_put xs (Err e) h w = w
 
   -- what is written at a node is written at its place
   pub written_at : (tree : TreeValue) (n : NodeNumber) (reads : List Tagged → Key → List X → Type 0) (p : List Tagged) (k : Key) (old new : List Token)

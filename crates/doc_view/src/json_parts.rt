@@ -1,7 +1,7 @@
 //! The parts of branches and items, as JSON text.
-ghost use Rattle.std.specs.Prelude.{◌≡◌, ◌<◌, ◌++◌, length, map, not};
+ghost use Rattle.std.specs.Prelude.{◌≡◌, ◌<◌, ◌++◌, ◌∷◌, [], length, map, not};
 ghost use Rattle.json_scalar.specs.Scalar.{scalar_data};
-ghost use Rattle.op_core.specs.Wire.{list_data};
+ghost use Rattle.op_core.specs.Wire.{id_data, list_data};
 ghost use Rattle.doc_rules.specs.Shown.{value_entry_data, count_branch, total_shown};
 ghost use Rattle.doc_rules.specs.Encoded.{item_data};
 ghost use Rattle.doc_view.specs.Writing.{beginning, ending};
@@ -88,6 +88,17 @@ pub fn write_item(text: &mut JsonText, id: &Id, entries: &[(Id, Scalar)]) -> Res
     text.begin_list()?;
     id.put_in(text)?;
     write_scalars(text, entries)?;
+    text.end_list()
+}
+
+/// An id, and a value that belongs to it.
+#[tactic(auto, using(json_text::proofs::Texts::pairs))]
+pub fn write_with_id<X: AsJson>(text: &mut JsonText, id: &Id, value: &X) -> Result<(), Refusal>
+    ensures { Puts (data_tokens (list_data (id_data id.now ∷ X.json value.now ∷ []))) text.old text.new result }
+{
+    text.begin_list()?;
+    id.put_in(text)?;
+    value.put_in(text)?;
     text.end_list()
 }
 

@@ -18,4 +18,4 @@ pub use cursors::resolve;
 pub use elements::items;
 pub use maps::keys;
 pub use registers::{sum, values};
-pub use roles::conflicts;
+pub use roles::{conflicts, conflicts_text};

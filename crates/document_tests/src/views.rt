@@ -4,7 +4,7 @@ use crate::written::{DEEPEST, operations, push_next};
 use converge_laws::replay_all;
 use doc_api::{CompactText, Scalars, Step};
 use doc_tree::Tree;
-use doc_view::{conflicts, items, items_text, keys, keys_text, resolve, show, sum, values};
+use doc_view::{conflicts, conflicts_text, items, items_text, keys, keys_text, resolve, show, sum, values};
 use json_scalar::Refusal;
 use lamport_id::Id;
 use op_core::{Cursor, Key, KeyText, Operation, Path};
@@ -43,6 +43,7 @@ enum Text {
     Shown,
     Keys,
     Items,
+    Conflicts,
 }
 
 fn compact_text(
@@ -55,6 +56,7 @@ fn compact_text(
         Text::Shown => show(alloc, tree, cursor),
         Text::Keys => keys_text(alloc, tree, cursor),
         Text::Items => items_text(alloc, tree, cursor),
+        Text::Conflicts => conflicts_text(alloc, tree, cursor),
     }
 }
 
@@ -88,6 +90,13 @@ const MAP_AND_LIST: [&str; 4] = [
     r#"["op",[2,"q"],[["q",1]],[[["m",0],["l","a"]],1],["insert","z"]]"#,
 ];
 
+const PUTS: [&str; 4] = [
+    r#"["op",[1,"p"],[],[[["m",0]],"a"],["assign",{}]]"#,
+    r#"["op",[2,"p"],[["p",1]],[[["m",0],["m","a"]],"x"],["assign","y"]]"#,
+    r#"["op",[1,"q"],[],[[["m",0]],"a"],["assign",[]]]"#,
+    r#"["op",[1,"r"],[],[[["m",0]],"a"],["assign","s\"s"]]"#,
+];
+
 const ITEMS: [&str; 7] = [
     r#"["op",[1,"p"],[],[[["m",0]],"l"],["assign",[]]]"#,
     r#"["op",[2,"p"],[["p",1]],[[["m",0],["l","l"]],1],["insert",1]]"#,
@@ -112,7 +121,7 @@ const COUNTER: [&str; 3] = [
     r#"["op",[2,"p"],[["p",1]],[[["m",0]],"n"],["assign","x"]]"#,
 ];
 
-const TEXTS: [Row; 10] = [
+const TEXTS: [Row; 13] = [
     Row {
         name: "todo_deleted_while_edited",
         texts: &TODO,
@@ -152,6 +161,27 @@ const TEXTS: [Row; 10] = [
         name: "items_text: of nothing",
         texts: &ITEMS,
         what: Text::Items,
+        names: &["absent"],
+        due: "[]",
+    },
+    Row {
+        name: "conflicts_text: of a map, a list and a scalar",
+        texts: &PUTS,
+        what: Text::Conflicts,
+        names: &["a"],
+        due: r#"[[[1,"p"],{}],[[1,"q"],[]],[[1,"r"],"s\"s"]]"#,
+    },
+    Row {
+        name: "conflicts_text: of numbers and additions",
+        texts: &COUNTER,
+        what: Text::Conflicts,
+        names: &["n"],
+        due: r#"[[[2,"p"],"x"]]"#,
+    },
+    Row {
+        name: "conflicts_text: of nothing",
+        texts: &PUTS,
+        what: Text::Conflicts,
         names: &["absent"],
         due: "[]",
     },
@@ -285,7 +315,7 @@ enum Asked {
 }
 
 // All that can be asked of a head, each of which is refused.
-const ASKED: [(Asked, &str); 8] = [
+const ASKED: [(Asked, &str); 9] = [
     (Asked::Keys, "reads_at_a_head: keys"),
     (Asked::Values, "reads_at_a_head: values"),
     (Asked::Items, "reads_at_a_head: items"),
@@ -297,6 +327,10 @@ const ASKED: [(Asked, &str); 8] = [
     ),
     (Asked::Text(Text::Keys), "reads_at_a_head: keys as text"),
     (Asked::Text(Text::Items), "reads_at_a_head: items as text"),
+    (
+        Asked::Text(Text::Conflicts),
+        "reads_at_a_head: conflicts as text",
+    ),
 ];
 
 // Why what is asked of a place is refused, if it is.

@@ -7,9 +7,9 @@ ghost use Rattle.doc_api.specs.declared.ask.Query.TheVariants as query;
 ghost use Rattle.replica_core.specs.Whole.{replica_with};
 
 use crate::body::Body;
-use doc_api::{CompactText, Conflicts, Look, Place, Query, Reply, Scalars};
+use doc_api::{CompactText, Look, Place, Query, Reply, Scalars};
 use doc_tree::Tree;
-use doc_view::{conflicts, items_text, keys_text, resolve, show, sum, values};
+use doc_view::{conflicts_text, items_text, keys_text, resolve, show, sum, values};
 use json_scalar::Refusal;
 use op_core::{Cursor, Front};
 use std::alloc::Global;
@@ -97,7 +97,7 @@ fn look_at(alloc: Global, tree: &Tree, look: Look, cursor: &Cursor) -> Reply
         Look::Keys => keys_reply(keys_text(alloc, tree, cursor)),
         Look::Values => values_reply(values(alloc, tree, cursor)),
         Look::Items => items_reply(items_text(alloc, tree, cursor)),
-        Look::Conflicts => conflicts_reply(conflicts(alloc, tree, cursor)),
+        Look::Conflicts => conflicts_reply(conflicts_text(alloc, tree, cursor)),
         Look::Show => show_reply(show(alloc, tree, cursor)),
         Look::Sum => sum_reply(sum(tree, cursor)),
     }
@@ -130,11 +130,11 @@ fn items_reply(answer: Result<CompactText, Refusal>) -> Reply
     }
 }
 
-fn conflicts_reply(answer: Result<Conflicts, Refusal>) -> Reply
+fn conflicts_reply(answer: Result<CompactText, Refusal>) -> Reply
     ensures { result ≡ reply_with (λ x. Reply.Conflicts x) answer }
 {
     match answer {
-        Ok(conflicts) => Reply::Conflicts(conflicts),
+        Ok(text) => Reply::Conflicts(text),
         Err(cause) => Reply::Refused(cause),
     }
 }

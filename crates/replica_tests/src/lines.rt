@@ -1,5 +1,5 @@
-use doc_api::{CompactText, Conflicts, Ids, Look, Reply, Scalars, Waiting};
-use json_scalar::{Refusal, Scalar, Val};
+use doc_api::{CompactText, Ids, Look, Reply, Scalars, Waiting};
+use json_scalar::{Refusal, Scalar};
 use lamport_id::{Id, ReplicaName};
 use line_feed::Writer;
 use line_feed::doubles::FailAfter;
@@ -386,12 +386,12 @@ fn writes_elements(rt: HostRuntime) -> Result<(), Fail> {
 
 #[test]
 fn writes_conflicts(rt: HostRuntime) -> Result<(), Fail> {
-    let vals = vec![in rt.alloc(); (own_id()?, Val::EmptyMap), (own_id()?, Val::EmptyList)]?;
+    let values = String::from_str(rt.alloc(), "[[[3,\"srv-1\"],{}],[[4,\"srv-1\"],[]]]")?;
     assert!(rt;
         is_answered_as(
             rt.alloc(),
-            Reply::Conflicts(Conflicts::from(vals)),
-            "[\"conflicts\",[[[3,\"srv-1\"],{}],[[3,\"srv-1\"],[]]]]\n"
+            Reply::Conflicts(CompactText::from(values)),
+            "[\"conflicts\",[[[3,\"srv-1\"],{}],[[4,\"srv-1\"],[]]]]\n"
         )
     );
     Ok(())

@@ -20,7 +20,7 @@ loop-entry-preserved c =
     c.loop-entry.invariant ∙ ap (λ l. old ++ values_of_roles scalars l) c.in-Some.ensures.steps
     ∙ ap (λ l. old ++ l) (with_value-append e.0 (value_in e.1 (get scalars e.0)) rest)
     ∙ sym (append_assoc old (with_value e.0 (value_in e.1 (get scalars e.0)) []) rest)
-    ∙ ap (λ l. l ++ rest) (sym c.in_ok-push_value.ensures)
+    ∙ ap (λ l. l ++ rest) (sym (c.in_ok-push_value.ensures ∙ ap (λ o. old ++ with_value e.0 o []) c.value_put.ensures))
 
 pub returns : goal.returns
 returns c =

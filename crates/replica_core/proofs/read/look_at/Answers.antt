@@ -6,9 +6,9 @@ use Rattle.doc_api.specs.declared.reply.Reply.TheVariants as reply
 use Rattle.doc_tree.specs.Nodes.{tree_facts}
 use Rattle.doc_view.specs.TreeValues.{tree_values}
 use Rattle.doc_rules.specs.Answers.{LooksHere}
-use Rattle.doc_rules.specs.Views.{AreValues, AreConflicts, IsSum}
+use Rattle.doc_rules.specs.Views.{AreValues, IsSum}
 use Rattle.doc_rules.specs.Shown.{ShowsText}
-use Rattle.doc_rules.specs.Encoded.{KeysText, ItemsText}
+use Rattle.doc_rules.specs.Encoded.{KeysText, ItemsText, ConflictsText}
 use Rattle.replica_core.proofs.Looking.{reading_answered}
 use Rattle.replica_core.proofs.read.look_at.Goals as goal
 
@@ -34,7 +34,7 @@ pub returns-in-Conflicts : goal.returns-in-Conflicts
 returns-in-Conflicts c =
     rw c.in-Conflicts.is
     (subst (λ (a : Reply). (a ≡ reply.Refused NoMemory) ⊎ LooksHere (tree_facts c.args.tree.now) (tree_values c.args.tree.now) look.Conflicts c.args.cursor.now a)
-    (sym c.conflicts_reply.ensures) (reading_answered (AreConflicts (tree_facts c.args.tree.now) (tree_values c.args.tree.now)) (λ x. reply.Conflicts x) c.args.cursor.now c.conflicts.result c.conflicts.ensures))
+    (sym c.conflicts_reply.ensures) (reading_answered (ConflictsText (tree_facts c.args.tree.now) (tree_values c.args.tree.now)) (λ x. reply.Conflicts x) c.args.cursor.now c.conflicts_text.result c.conflicts_text.ensures))
 
 pub returns-in-Show : goal.returns-in-Show
 returns-in-Show c =
