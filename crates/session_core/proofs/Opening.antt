@@ -1,6 +1,5 @@
 -- What a session that opens a document has done, and what it does for a document of some name.
 use Rattle.std.proofs.Common.{◌≡◌, ◌≢◌, ◌⊎◌, inl, inr, ℕ, List, [], ◌∷◌, ◌++◌, map, get_or, Option, Some, None, refl, sym, ap, ap₂, ◌∙◌, subst}
-use Rattle.std.specs.Prelude.{slice_get}
 use Rattle.doc_api.specs.Words.{NoMemory, Cursor}
 use Rattle.line_proto.specs.declared.request.DocRequest.{DocRequest}
 use Rattle.line_proto.specs.declared.request.DocRequest.TheVariants as asked
@@ -12,26 +11,26 @@ use Rattle.session_core.specs.Asked.{AsksOr, OnDocumentOr}
 use Rattle.session_core.specs.OpenDocuments.{opened_of, session_of, IsKeptAt}
 use Rattle.session_core.proofs.Lists.{got_or, map-push}
 
-module _ {D S : Type 0} (a : Access D) (known : S → KnownSeat) (os slice : List (kept.OpenDocument S)) (same : slice ≡ os) (number : ℕ) where
+module _ {A S R D : Type 0} (a : Access D) (known : S → KnownSeat) (os : List (kept.OpenDocument A S R D)) (number : ℕ) where
   -- it is opened
-  pub opens_again : (documents : D) (i : ℕ) (d : kept.OpenDocument S) (response : ℕ) → IsKeptAt known slice number i → d ≡ get_or os i d → response ≡ (known d.seat).number
+  pub opens_again : (documents : D) (i : ℕ) (d : kept.OpenDocument A S R D) (response : ℕ) → IsKeptAt known os number i → d ≡ get_or os i d → response ≡ (known d.seat).number
       → Opens a (session_of known documents os) number (opened_at number (map (opened_of known) os)) (line_reply.Opened response) (session_of known documents os)
   opens_again documents i d response k is number_is =
-      let here : d ≡ k.here = is ∙ got_or os i k.here d (ap (λ (l : List (kept.OpenDocument S)). slice_get l i) (sym same) ∙ k.at) in
+      let here : d ≡ k.here = is ∙ got_or os i k.here d k.at in
       subst (λ (o : Option OpenDocument). Opens a (session_of known documents os) number o (line_reply.Opened response) (session_of known documents os))
-      (sym (ap (λ (l : List (kept.OpenDocument S)). opened_at number (map (opened_of known) l)) (sym same) ∙ k.found))
-      (ap line_reply.Opened (number_is ∙ ap (λ (x : kept.OpenDocument S). (known x.seat).number) here), refl)
+      (sym k.found)
+      (ap line_reply.Opened (number_is ∙ ap (λ (x : kept.OpenDocument A S R D). (known x.seat).number) here), refl)
 
   -- it isn't
-  pub opens_anew : (s t : Session D) (response : LineReply) → opened_at number (map (opened_of known) slice) ≡ None
+  pub opens_anew : (s t : Session D) (response : LineReply) → opened_at number (map (opened_of known) os) ≡ None
       → Opens a s number None response t ⊎ Refuses a s NoMemory response t
       → Opens a s number (opened_at number (map (opened_of known) os)) response t ⊎ Refuses a s NoMemory response t
   opens_anew s t response none opens =
       subst (λ (o : Option OpenDocument). Opens a s number o response t ⊎ Refuses a s NoMemory response t)
-      (sym (ap (λ (l : List (kept.OpenDocument S)). opened_at number (map (opened_of known) l)) (sym same) ∙ none)) opens
+      (sym none) opens
 
 -- a document more
-pub opened_more : {D S : Type 0} (known : S → KnownSeat) (documents : D) (os mid new : List (kept.OpenDocument S)) (o : kept.OpenDocument S) (n : ℕ)
+pub opened_more : {A S R D : Type 0} (known : S → KnownSeat) (documents : D) (os mid new : List (kept.OpenDocument A S R D)) (o : kept.OpenDocument A S R D) (n : ℕ)
     → new ≡ mid ++ o ∷ [] → mid ≡ os → known o.seat ≡ new_seat n → o.variables ≡ []
     → session_of known documents new ≡ record { documents = documents; opened = map (opened_of known) os ++ record { number = o.number; seat = new_seat n; variables = [] } ∷ [] }
 opened_more known documents os mid new o n e f seat variables =

@@ -12,7 +12,7 @@ use Rattle.session_core.specs.OpenDocuments.{opened_of}
 use Rattle.session_core.specs.Seats.{known_by}
 use Rattle.session_core.specs.Serving.{IsServed}
 
-module _ {A S R D : Type 0} (g : reached.Ghosts A S R D) (x y : A) (o p : kept.OpenDocument S) (response : LineReply) where
+module _ {A S R D : Type 0} (g : reached.Ghosts A S R D) (x y : A) (o p : kept.OpenDocument A S R D) (response : LineReply) where
   -- the request is this one
   pub served_as : (ask made : DocRequest) → ask ≡ made → IsServed g x o (deed_of (opened_of (known_by g.seat_view) o) made) response y p
       → IsServed g x o (deed_of (opened_of (known_by g.seat_view) o) ask) response y p

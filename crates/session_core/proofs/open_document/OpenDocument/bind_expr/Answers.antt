@@ -4,9 +4,9 @@ use Rattle.session_rules.specs.Session.{bind_to, place_at}
 use Rattle.session_core.specs.OpenDocuments.{opened_of}
 use Rattle.session_core.specs.Seats.{known_by}
 use Rattle.session_core.proofs.Served.{served_at}
-use Rattle.session_core.proofs.doc_requests.bind_expr.Goals as goal
+use Rattle.session_core.proofs.open_document.OpenDocument.bind_expr.Goals as goal
 
 pub returns-in-Ok : goal.returns-in-Ok
 returns-in-Ok g c =
-    served_at g.A.DocAccess c.args.access.now c.bind.new.access c.args.opened.now c.bind.new.opened c.bind.result (bind_to c.args.name)
-    (ok_or (place_at (opened_of (known_by g.A.DocAccess.seat_view) c.args.opened.now) c.args.expr) NoSuchVariable) c.in-Ok.place c.in-Ok.ensures c.bind.ensures
+    served_at g.A.DocAccess c.args.access.now c.bind.new.access c.args.self.now c.bind.new.self c.bind.result (bind_to c.args.name)
+    (ok_or (place_at (opened_of (known_by g.A.DocAccess.seat_view) c.args.self.now) c.args.expr) NoSuchVariable) c.in-Ok.place c.in-Ok.ensures c.bind.ensures
