@@ -1,0 +1,6 @@
+//! Values that take little memory.
+#![tactic(auto)]
+
+mod lazy;
+
+pub use lazy::Lazy;
