@@ -1,37 +1,73 @@
 //! The numbers that operations add at a place.
-ghost use Rattle.std.specs.Prelude.{◌≡◌, ◌<◌, [], length, true, false, IfOk, IsOk, OnOk};
+ghost use Rattle.std.specs.Prelude.{◌≡◌, ◌<◌, [], length, true, false, IsOk, OnOk};
 ghost use Rattle.presence_set.specs.ById.{put_at_id, uncovered, IsAscending};
 
-use crate::numbers::Numbers;
 use lamport_id::Id;
 use op_core::Front;
-use presence_set::Entries;
+use presence_set::{Entries, IdBlocks};
+use small_values::Lazy;
 use std::alloc::{AllocError, Global};
 use std::marker::Model;
+
+// At most one number for each id, in blocks, and fewer than 2^64, so that their total is within 128 bits.
+struct Numbers {
+    entries: IdBlocks<i64>,
+    // There are no more entries than this: it counts each that was put.
+    most: u64,
+}
+
+impl Model for Numbers {
+    ghost use Rattle.std.specs.Prelude.{List, Bool, ℤ};
+    ghost use Rattle.lamport_id.specs.declared.id.Id.{Id};
+    ghost use Rattle.doc_nodes.specs.Numbers.{AreCounted};
+
+    ghost Value = { List (Id × ℤ) × Bool };
+
+    ghost view = { λ n. n.entries };
+
+    ghost invariant = { λ n. AreCounted n.entries n.most };
+}
+
+impl Drop for Numbers {
+    fn drop(self) {
+        let Numbers {
+            entries: _,
+            most: _,
+        } = self;
+    }
+}
+
+impl Numbers {
+    // No number. It takes no memory yet.
+    fn new(alloc: Global) -> Numbers
+        ensures { result.0 ≡ [] }
+    {
+        Numbers {
+            entries: IdBlocks::new(alloc),
+            most: 0,
+        }
+    }
+}
 
 /// The numbers that operations add at a place, by the operations' ids. Few places of a document are counters, so this
 /// takes memory only from the first reservation on. Clauses see a pair: the ids with their numbers, and whether there is
 /// room for one more.
 pub struct Counter {
-    numbers: Option<Box<Numbers>>,
-    alloc: Global,
+    numbers: Lazy<Numbers>,
 }
 
 impl Model for Counter {
-    ghost use Rattle.std.specs.Prelude.{List, Bool, ℤ, [], false, unwrap_or, option_map};
+    ghost use Rattle.std.specs.Prelude.{List, Bool, ℤ, [], false, unwrap_or};
     ghost use Rattle.lamport_id.specs.declared.id.Id.{Id};
 
     ghost Value = { List (Id × ℤ) × Bool };
 
-    ghost view = { λ c. unwrap_or (option_map (λ b. b.value) c.numbers) ([], false) };
+    ghost view = { λ c. unwrap_or c.numbers ([], false) };
 }
 
 impl Drop for Counter {
     fn drop(self) {
-        let Counter {
-            numbers: _,
-            alloc: _,
-        } = self;
+        let Counter { numbers: _ } = self;
     }
 }
 
@@ -41,8 +77,7 @@ impl Counter {
         ensures { result.0 ≡ [] }
     {
         Counter {
-            numbers: None,
-            alloc,
+            numbers: Lazy::new(alloc),
         }
     }
 
@@ -53,11 +88,11 @@ impl Counter {
         ensures room { OnOk result (self.new.1 ≡ true) }
         ensures succeeds { self.old.1 ≡ true → IsOk result }
     {
-        if let Some(numbers) = &mut self.numbers {
-            return numbers.reserve_one();
+        let numbers = self.numbers.get_or_make(Numbers::new)?;
+        if numbers.most == u64::MAX {
+            return Err(AllocError);
         }
-        self.numbers = Some(first_room(self.alloc)?);
-        Ok(())
+        numbers.entries.reserve_one()
     }
 
     /// Gives the id this number, in place of any other. The room for one more is taken by it.
@@ -65,10 +100,13 @@ impl Counter {
         requires { self.old.1 ≡ true }
         ensures { self.new ≡ (put_at_id self.old.0 id number, false) }
     {
-        match &mut self.numbers {
+        match self.numbers.get_mut() {
             // There is room.
             None => unreachable!(),
-            Some(numbers) => numbers.put(id, number),
+            Some(numbers) => {
+                numbers.most += 1;
+                numbers.entries.put(id, number);
+            }
         }
     }
 
@@ -76,9 +114,9 @@ impl Counter {
     pub fn retain_uncovered(&mut self, front: &Front)
         ensures { self.new ≡ (uncovered front.now self.old.0, self.old.1) }
     {
-        match &mut self.numbers {
+        match self.numbers.get_mut() {
             None => {}
-            Some(numbers) => numbers.retain_uncovered(front),
+            Some(numbers) => numbers.entries.retain_uncovered(front),
         }
     }
 
@@ -88,19 +126,9 @@ impl Counter {
         ensures ascending { IsAscending result }
         ensures few { length result < 18446744073709551616 }
     {
-        let Some(numbers) = &self.numbers else {
+        let Some(numbers) = self.numbers.get() else {
             return Entries::none();
         };
-        numbers.entries()
+        numbers.entries.entries()
     }
-}
-
-// No number, with room for one.
-fn first_room(alloc: Global) -> Result<Box<Numbers>, AllocError>
-    ensures none { IfOk result (λ numbers. numbers.value.0 ≡ []) }
-    ensures room { IfOk result (λ numbers. numbers.value.1 ≡ true) }
-{
-    let mut numbers = Numbers::new(alloc);
-    numbers.reserve_one()?;
-    Ok(Box::new(alloc, numbers)?)
 }

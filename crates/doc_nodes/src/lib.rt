@@ -9,7 +9,6 @@ mod finding;
 mod growth;
 mod list_presence;
 mod node;
-mod numbers;
 mod presence;
 mod write;
 

@@ -1,5 +1,0 @@
-use Rattle.std.proofs.Common.{ap, length, arith}
-use Rattle.doc_nodes.proofs.numbers.Numbers.entries.Goals as goal
-
-pub returns-clause-few : goal.returns-clause-few
-returns-clause-few c = omega (arith, ap length c.entries.ensures.value, c.self.invariant.few, c.self.invariant.within)
