@@ -2,7 +2,7 @@
 use Rattle.std.proofs.Common.{◌≡◌, ℕ, zero, suc, ◌<◌, ◌≤◌, ◌+◌, List, [], ◌∷◌, ◌++◌, append-nil, append_assoc, length, get_or, set, take, drop, Contains, Bool, true, false, if◌then◌else◌, ◌⊎◌, inl, inr, ⊎_elim, refl, sym, ap, ◌∙◌, subst, true≢false, arith}
 use Rattle.std.specs.Prelude.{insert, is_some, IfSome, Option, Some, None}
 use Rattle.std.proofs.lemmas.Bool.{cases_eq, cases_lt}
-use Rattle.std.proofs.lemmas.List.{get_or_past, get_or_append_left, get_or-set_same, get_or-set_other, take-append-drop}
+use Rattle.std.proofs.lemmas.List.{set_past, get_or_past, get_or_append_left, get_or-set_same, get_or-set_other, take-append-drop}
 use Rattle.std.proofs.lemmas.List.Elements.{Contains-append_left, Contains-append_right, Contains-append_cases}
 use Rattle.op_core.specs.declared.cursor.Key.{Key}
 use Rattle.list_laws.proofs.Members.{Contains-nil}
@@ -74,9 +74,15 @@ but_gone-kept gone fewer old new e less more =
     (subst (λ l. Contains l e) (get_or-but_gone gone old m) there)))
 
 -- one is not gone any more
-pub less_gone : (gone : List Bool) (n m : ℕ) → n < length gone → get_or (set gone n false) m false ≡ true → get_or gone m false ≡ true
-less_gone gone n m within is = ⊎_elim
-    (λ same. absurd (true≢false (sym is ∙ ap (λ z. get_or (set gone n false) z false) same ∙ get_or-set_same gone n false false within)))
+pub not_gone : (gone : List Bool) (n : ℕ) → get_or (set gone n false) n false ≡ false
+not_gone gone n = ⊎_elim
+    (λ within. get_or-set_same gone n false false within)
+    (λ past. ap (λ l. get_or l n false) (set_past gone n false past) ∙ get_or_past gone n false past)
+    (cases_lt n (length gone))
+
+pub less_gone : (gone : List Bool) (n m : ℕ) → get_or (set gone n false) m false ≡ true → get_or gone m false ≡ true
+less_gone gone n m is = ⊎_elim
+    (λ same. absurd (true≢false (sym is ∙ ap (λ z. get_or (set gone n false) z false) same ∙ not_gone gone n)))
     (λ apart. sym (get_or-set_other gone n m false false apart) ∙ is)
     (cases_eq m n)
 

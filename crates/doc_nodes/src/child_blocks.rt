@@ -59,15 +59,17 @@ impl Drop for Block {
     }
 }
 
-/// The nodes below a node, in the order of their keys: in blocks, so that a new one moves few of the others. A search
+/// The children of a node, in the order of their keys: in blocks, so that a new one moves few of the others. A search
 /// first looks at the child that was added or found last, which an operation asks for next. A block is gone once it is
 /// known that none of its children is present, until one may be again. Clauses see the list of all keys and numbers,
 /// and the blocks, with nothing in place of those that are gone.
 pub struct ChildBlocks {
-    blocks: Vec<Block>,
-    // Whether a block is gone. It may be shorter than the blocks, and those past its end aren't gone.
-    gone: Vec<bool>,
-    latest: SearchHint,
+    /// The blocks.
+    pub blocks: Vec<Block>,
+    /// Whether a block is gone. It may be shorter than the blocks, and those past its end aren't gone.
+    pub gone: Vec<bool>,
+    /// Where the child is that was added or found last.
+    pub latest: SearchHint,
 }
 
 impl Model for ChildBlocks {
@@ -104,147 +106,15 @@ impl ChildBlocks {
             latest: SearchHint::first(),
         }
     }
-
-    /// The number of the child at a key, found by bisection.
-    pub fn find(&self, key: &Key) -> Option<NodeNumber>
-        ensures { result ≡ number_at self.now.0 key.now }
-    {
-        if let Some(number) = number_there(self.blocks.as_slice(), self.latest, key) {
-            return Some(number);
-        }
-        number_there(
-            self.blocks.as_slice(),
-            hint_for(self.blocks.as_slice(), key),
-            key,
-        )
-    }
-
-    /// The same as `find`, which then finds the child at once. Asking for keys in their order is fast: each child is
-    /// right behind the one before.
-    pub fn seek(&mut self, key: &Key) -> Option<NodeNumber>
-        ensures same { self.new ≡ self.old }
-        ensures value { result ≡ number_at self.old.0 key.now }
-    {
-        if let Some(number) = number_there(self.blocks.as_slice(), self.latest, key) {
-            return Some(number);
-        }
-        let next = hint_behind(self.blocks.as_slice(), self.latest);
-        if let Some(number) = number_there(self.blocks.as_slice(), next, key) {
-            self.latest = next;
-            return Some(number);
-        }
-        self.latest = hint_for(self.blocks.as_slice(), key);
-        number_there(self.blocks.as_slice(), self.latest, key)
-    }
-
-    /// The same as `find`, fast if the child is right behind the hint or right before it. The hint is then where the
-    /// child is.
-    pub fn find_beside(&self, key: &Key, hint: &mut SearchHint) -> Option<NodeNumber>
-        ensures { result ≡ number_at self.now.0 key.now }
-    {
-        let next = hint_behind(self.blocks.as_slice(), *hint);
-        if let Some(number) = number_there(self.blocks.as_slice(), next, key) {
-            *hint = next;
-            return Some(number);
-        }
-        let last = hint_before(self.blocks.as_slice(), *hint);
-        if let Some(number) = number_there(self.blocks.as_slice(), last, key) {
-            *hint = last;
-            return Some(number);
-        }
-        *hint = hint_for(self.blocks.as_slice(), key);
-        number_there(self.blocks.as_slice(), *hint, key)
-    }
-
-    /// Adds a child at a key that has none, in the order of keys. It fails only when out of memory.
-    pub fn insert(&mut self, key: Key, number: NodeNumber) -> Result<(), AllocError>
-        requires { number_at self.old.0 key ≡ None }
-        ensures ok { OnOk result
-            (self.new.0 ≡ insert self.old.0 (KeyOrder.key_rank self.old.0 key) (key, number)) }
-        ensures err { OnErr result (self.new.0 ≡ self.old.0) }
-        ensures kept { (e : Key × NodeNumber) → Contains (joined self.old.1) e → Contains (joined self.new.1) e }
-    {
-        make_flag(&mut self.gone, self.blocks.len())?;
-        let at = block_for(&mut self.blocks, &mut self.gone, &key)?;
-        self.latest = add_entry(&mut self.blocks, at, key, number)?;
-        Ok(())
-    }
-
-    /// The children in blocks that aren't gone, in the order of their keys.
-    pub fn each(&self) -> EachChild<'_>
-        ensures value { result ≡ joined self.now.1 }
-        ensures rising { IsInKeyOrder result }
-        ensures some { (e : Key × NodeNumber) → Contains result e → number_at self.now.0 e.0 ≡ Some e.1 }
-    {
-        EachChild {
-            entries: &[],
-            gone: self.gone.as_slice(),
-            blocks: self.blocks.as_slice(),
-        }
-    }
-
-    /// How many blocks there are, those that are gone included.
-    pub fn block_count(&self) -> usize
-        ensures { result ≡ length self.now.1 }
-    {
-        self.blocks.len()
-    }
-
-    /// The children in a block, or none if it is gone, or there is no such block.
-    pub fn block(&self, at: usize) -> &[(Key, NodeNumber)]
-        ensures value { result.now ≡ slice_index_or self.now.1 at [] }
-        ensures some { (e : Key × NodeNumber) → Contains result.now e → number_at self.now.0 e.0 ≡ Some e.1 }
-    {
-        if is_gone(self.gone.as_slice(), at) {
-            return &[];
-        }
-        entries_of(self.blocks.as_slice(), at)
-    }
-
-    /// The number of the block that has the child at a key. Without such a child, any number.
-    pub fn block_with(&self, key: &Key) -> usize
-        ensures has { (n : NodeNumber) → number_at self.now.0 key.now ≡ Some n
-            → Contains (slice_index_or self.now.1 result []) (key.now, n) ⊎ (slice_index_or self.now.1 result [] ≡ []) }
-        ensures within { (n : NodeNumber) → number_at self.now.0 key.now ≡ Some n → result < length self.now.1 }
-    {
-        block_beside(self.blocks.as_slice(), self.latest, key)
-    }
-
-    /// Notes that the child at a key may be present, so that its block isn't gone.
-    pub fn note_present(&mut self, key: &Key)
-        ensures same { self.new.0 ≡ self.old.0 }
-        ensures kept { (e : Key × NodeNumber) → Contains (joined self.old.1) e → Contains (joined self.new.1) e }
-        ensures noted { (n : NodeNumber) → number_at self.old.0 key.now ≡ Some n
-            → Contains (joined self.new.1) (key.now, n) }
-    {
-        if self.gone.is_empty() {
-            return;
-        }
-        let at = block_beside(self.blocks.as_slice(), self.latest, key);
-        if at < self.gone.len() {
-            self.gone[at] = false;
-        }
-    }
-
-    /// Notes that a block is gone, if there is room to note it.
-    pub fn note_gone(&mut self, at: usize)
-        ensures same { self.new.0 ≡ self.old.0 }
-        ensures count { length self.new.1 ≡ length self.old.1 }
-        ensures others { (m : ℕ) → m ≢ at → slice_index_or self.new.1 m [] ≡ slice_index_or self.old.1 m [] }
-    {
-        if at < self.gone.len() {
-            self.gone[at] = true;
-        }
-    }
 }
 
 /// Children one after another, in the order of their keys, seen as the list of those that are left. It passes blocks by
 /// that are gone.
 #[derive(Drop)]
 pub struct EachChild<'a> {
-    entries: &'a [(Key, NodeNumber)],
-    gone: &'a [bool],
-    blocks: &'a [Block],
+    pub(crate) entries: &'a [(Key, NodeNumber)],
+    pub(crate) gone: &'a [bool],
+    pub(crate) blocks: &'a [Block],
 }
 
 impl<'a> Model for EachChild<'a> {
@@ -361,8 +231,8 @@ fn all_but_first(gone: &[bool]) -> &[bool]
     }
 }
 
-// Whether a block is gone.
-fn is_gone(gone: &[bool], at: usize) -> bool
+/// Whether a block is gone.
+pub fn is_gone(gone: &[bool], at: usize) -> bool
     ensures { result ≡ slice_index_or gone.now at false }
 {
     match gone.get(at) {
@@ -371,8 +241,8 @@ fn is_gone(gone: &[bool], at: usize) -> bool
     }
 }
 
-// The children in a block, gone or not.
-fn entries_of(blocks: &[Block], at: usize) -> &[(Key, NodeNumber)]
+/// The children in a block, gone or not.
+pub fn entries_of(blocks: &[Block], at: usize) -> &[(Key, NodeNumber)]
     ensures { result.now ≡ slice_index_or blocks.now at [] }
 {
     let Some(block) = blocks.get(at) else {
@@ -381,8 +251,8 @@ fn entries_of(blocks: &[Block], at: usize) -> &[(Key, NodeNumber)]
     block.entries.as_slice()
 }
 
-// The block that has the child at a key, if there is such a child.
-fn block_beside(blocks: &[Block], hint: SearchHint, key: &Key) -> usize
+/// The block that has the child at a key, if there is such a child.
+pub fn block_beside(blocks: &[Block], hint: SearchHint, key: &Key) -> usize
     requires { AreBlocks blocks.now }
     ensures { (n : NodeNumber) → number_at (joined blocks.now) key.now ≡ Some n
         → Contains (slice_index_or blocks.now result []) (key.now, n) }
@@ -393,8 +263,8 @@ fn block_beside(blocks: &[Block], hint: SearchHint, key: &Key) -> usize
     block_of(blocks, key)
 }
 
-// Has it noted of one more block that it isn't gone, unless it is noted of all. A node with one block needs no notes.
-fn make_flag(gone: &mut Vec<bool>, count: usize) -> Result<(), AllocError>
+/// Has it noted of one more block that it isn't gone, unless it is noted of all. A node with one block needs no notes.
+pub fn make_flag(gone: &mut Vec<bool>, count: usize) -> Result<(), AllocError>
     ensures { (blocks : List (List (Key × NodeNumber)))
         → but_gone gone.new.items blocks ≡ but_gone gone.old.items blocks }
 {
@@ -404,8 +274,17 @@ fn make_flag(gone: &mut Vec<bool>, count: usize) -> Result<(), AllocError>
     Ok(())
 }
 
-// Where a key is, or would be, found by bisection.
-fn hint_for(blocks: &[Block], key: &Key) -> SearchHint
+/// Notes of a block whether it is gone, if there is room to note it.
+pub fn note(gone: &mut Vec<bool>, at: usize, is: bool)
+    ensures { gone.new.items ≡ slice_set gone.old.items at is }
+{
+    if at < gone.len() {
+        gone[at] = is;
+    }
+}
+
+/// Where a key is, or would be, found by bisection.
+pub fn hint_for(blocks: &[Block], key: &Key) -> SearchHint
     requires { AreBlocks blocks.now }
     ensures block { result.block ≡ block_rank key.now blocks.now }
     ensures place { result.place ≡ KeyOrder.key_rank (slice_index_or blocks.now result.block []) key.now }
@@ -423,8 +302,8 @@ fn hint_for(blocks: &[Block], key: &Key) -> SearchHint
     }
 }
 
-// The place behind a hint: in its block, or at the start of the next one.
-fn hint_behind(blocks: &[Block], hint: SearchHint) -> SearchHint {
+/// The place behind a hint: in its block, or at the start of the next one.
+pub fn hint_behind(blocks: &[Block], hint: SearchHint) -> SearchHint {
     let Some(block) = blocks.get(hint.block) else {
         return hint;
     };
@@ -445,8 +324,8 @@ fn hint_behind(blocks: &[Block], hint: SearchHint) -> SearchHint {
     }
 }
 
-// The place before a hint: in its block, or at the end of the block before.
-fn hint_before(blocks: &[Block], hint: SearchHint) -> SearchHint {
+/// The place before a hint: in its block, or at the end of the block before.
+pub fn hint_before(blocks: &[Block], hint: SearchHint) -> SearchHint {
     if hint.place > 0 {
         return SearchHint {
             block: hint.block,
@@ -465,9 +344,9 @@ fn hint_before(blocks: &[Block], hint: SearchHint) -> SearchHint {
     }
 }
 
-// The number of the entry at a hint, if its key is this one. Where bisection ends, it is what all blocks have at the
-// key.
-fn number_there(blocks: &[Block], hint: SearchHint, key: &Key) -> Option<NodeNumber>
+/// The number of the entry at a hint, if its key is this one. Where bisection ends, it is what all blocks have at the
+/// key.
+pub fn number_there(blocks: &[Block], hint: SearchHint, key: &Key) -> Option<NodeNumber>
     requires { AreBlocks blocks.now }
     ensures found { IfSome result (λ number. number_at (joined blocks.now) key.now ≡ Some number) }
     ensures sought { hint.block ≡ block_rank key.now blocks.now
@@ -494,8 +373,12 @@ fn number_here(entries: &[(Key, NodeNumber)], place: usize, key: &Key) -> Option
     }
 }
 
-// How many blocks end with a lesser key, once the block to which the key belongs is cut in two if it was full.
-fn block_for(blocks: &mut Vec<Block>, gone: &mut Vec<bool>, key: &Key) -> Result<usize, AllocError>
+/// How many blocks end with a lesser key, once the block to which the key belongs is cut in two if it was full.
+pub fn block_for(
+    blocks: &mut Vec<Block>,
+    gone: &mut Vec<bool>,
+    key: &Key,
+) -> Result<usize, AllocError>
     requires { AreBlocks blocks.old.items }
     ensures blocks { AreBlocks blocks.new.items }
     ensures same { joined blocks.new.items ≡ joined blocks.old.items }
@@ -564,8 +447,8 @@ fn repeat(gone: &mut Vec<bool>, at: usize)
     }
 }
 
-// Adds an entry at a key that has none and belongs to the block at a place.
-fn add_entry(
+/// Adds an entry at a key that has none and belongs to the block at a place.
+pub fn add_entry(
     blocks: &mut Vec<Block>,
     at: usize,
     key: Key,

@@ -7,9 +7,13 @@ ghost use Rattle.doc_nodes.specs.KeyOrder.{IsInKeyOrder};
 ghost use Rattle.doc_nodes.specs.KeyOrder as KeyOrder;
 ghost use Rattle.doc_nodes.specs.Blocks.{joined};
 
-use crate::child_blocks::{ChildBlocks, EachChild, SearchHint};
+use crate::child_blocks::{
+    ChildBlocks, EachChild, SearchHint, add_entry, block_beside, block_for, entries_of,
+    hint_before, hint_behind, hint_for, is_gone, make_flag, note, number_there,
+};
 use crate::node::NodeNumber;
 use op_core::Key;
+use small_values::Lazy;
 use std::alloc::{AllocError, Global};
 use std::marker::Model;
 
@@ -17,26 +21,22 @@ use std::marker::Model;
 /// with the first child. Clauses see the list of all keys and numbers, and the blocks, with nothing in place of those
 /// that are gone: `ChildBlocks` says what they are.
 pub struct Children {
-    blocks: Option<Box<ChildBlocks>>,
-    alloc: Global,
+    blocks: Lazy<ChildBlocks>,
 }
 
 impl Model for Children {
-    ghost use Rattle.std.specs.Prelude.{List, [], unwrap_or, option_map};
+    ghost use Rattle.std.specs.Prelude.{List, [], unwrap_or};
     ghost use Rattle.op_core.specs.declared.cursor.Key.{Key};
     ghost use Rattle.doc_nodes.specs.declared.node.NodeNumber.{NodeNumber};
 
     ghost Value = { List (Key × NodeNumber) × List (List (Key × NodeNumber)) };
 
-    ghost view = { λ c. unwrap_or (option_map (λ b. b.value) c.blocks) ([], []) };
+    ghost view = { λ c. unwrap_or c.blocks ([], []) };
 }
 
 impl Drop for Children {
     fn drop(self) {
-        let Children {
-            blocks: _,
-            alloc: _,
-        } = self;
+        let Children { blocks: _ } = self;
     }
 }
 
@@ -46,8 +46,7 @@ impl Children {
         ensures { result ≡ ([], []) }
     {
         Children {
-            blocks: None,
-            alloc,
+            blocks: Lazy::new(alloc),
         }
     }
 
@@ -55,10 +54,15 @@ impl Children {
     pub fn find(&self, key: &Key) -> Option<NodeNumber>
         ensures { result ≡ number_at self.now.0 key.now }
     {
-        match &self.blocks {
-            None => None,
-            Some(blocks) => blocks.find(key),
+        let children = self.blocks.get()?;
+        if let Some(number) = number_there(children.blocks.as_slice(), children.latest, key) {
+            return Some(number);
         }
+        number_there(
+            children.blocks.as_slice(),
+            hint_for(children.blocks.as_slice(), key),
+            key,
+        )
     }
 
     /// The same as `find`, which then finds the child at once. Asking for keys in their order is fast: each child is
@@ -67,10 +71,17 @@ impl Children {
         ensures same { self.new ≡ self.old }
         ensures value { result ≡ number_at self.old.0 key.now }
     {
-        match &mut self.blocks {
-            None => None,
-            Some(blocks) => blocks.seek(key),
+        let children = self.blocks.get_mut()?;
+        if let Some(number) = number_there(children.blocks.as_slice(), children.latest, key) {
+            return Some(number);
         }
+        let next = hint_behind(children.blocks.as_slice(), children.latest);
+        if let Some(number) = number_there(children.blocks.as_slice(), next, key) {
+            children.latest = next;
+            return Some(number);
+        }
+        children.latest = hint_for(children.blocks.as_slice(), key);
+        number_there(children.blocks.as_slice(), children.latest, key)
     }
 
     /// The same as `find`, fast if the child is right behind the hint or right before it. The hint is then where the
@@ -78,10 +89,19 @@ impl Children {
     pub fn find_beside(&self, key: &Key, hint: &mut SearchHint) -> Option<NodeNumber>
         ensures { result ≡ number_at self.now.0 key.now }
     {
-        match &self.blocks {
-            None => None,
-            Some(blocks) => blocks.find_beside(key, hint),
+        let children = self.blocks.get()?;
+        let next = hint_behind(children.blocks.as_slice(), *hint);
+        if let Some(number) = number_there(children.blocks.as_slice(), next, key) {
+            *hint = next;
+            return Some(number);
         }
+        let last = hint_before(children.blocks.as_slice(), *hint);
+        if let Some(number) = number_there(children.blocks.as_slice(), last, key) {
+            *hint = last;
+            return Some(number);
+        }
+        *hint = hint_for(children.blocks.as_slice(), key);
+        number_there(children.blocks.as_slice(), *hint, key)
     }
 
     /// Adds a child at a key that has none, in the order of keys. It fails only when out of memory.
@@ -92,10 +112,10 @@ impl Children {
         ensures err { OnErr result (self.new.0 ≡ self.old.0) }
         ensures kept { (e : Key × NodeNumber) → Contains (joined self.old.1) e → Contains (joined self.new.1) e }
     {
-        if let Some(blocks) = &mut self.blocks {
-            return blocks.insert(key, number);
-        }
-        self.blocks = Some(first_child(self.alloc, key, number)?);
+        let children = self.blocks.get_or_make(ChildBlocks::new)?;
+        make_flag(&mut children.gone, children.blocks.len())?;
+        let at = block_for(&mut children.blocks, &mut children.gone, &key)?;
+        children.latest = add_entry(&mut children.blocks, at, key, number)?;
         Ok(())
     }
 
@@ -105,9 +125,13 @@ impl Children {
         ensures rising { IsInKeyOrder result }
         ensures some { (e : Key × NodeNumber) → Contains result e → number_at self.now.0 e.0 ≡ Some e.1 }
     {
-        match &self.blocks {
-            None => EachChild::none(),
-            Some(blocks) => blocks.each(),
+        let Some(children) = self.blocks.get() else {
+            return EachChild::none();
+        };
+        EachChild {
+            entries: &[],
+            gone: children.gone.as_slice(),
+            blocks: children.blocks.as_slice(),
         }
     }
 
@@ -115,10 +139,10 @@ impl Children {
     pub fn block_count(&self) -> usize
         ensures { result ≡ length self.now.1 }
     {
-        match &self.blocks {
-            None => 0,
-            Some(blocks) => blocks.block_count(),
-        }
+        let Some(children) = self.blocks.get() else {
+            return 0;
+        };
+        children.blocks.len()
     }
 
     /// The children in a block, or none if it is gone, or there is no such block.
@@ -126,10 +150,13 @@ impl Children {
         ensures value { result.now ≡ slice_index_or self.now.1 at [] }
         ensures some { (e : Key × NodeNumber) → Contains result.now e → number_at self.now.0 e.0 ≡ Some e.1 }
     {
-        match &self.blocks {
-            None => &[],
-            Some(blocks) => blocks.block(at),
+        let Some(children) = self.blocks.get() else {
+            return &[];
+        };
+        if is_gone(children.gone.as_slice(), at) {
+            return &[];
         }
+        entries_of(children.blocks.as_slice(), at)
     }
 
     /// The number of the block that has the child at a key. Without such a child, any number.
@@ -138,10 +165,10 @@ impl Children {
             → Contains (slice_index_or self.now.1 result []) (key.now, n) ⊎ (slice_index_or self.now.1 result [] ≡ []) }
         ensures within { (n : NodeNumber) → number_at self.now.0 key.now ≡ Some n → result < length self.now.1 }
     {
-        match &self.blocks {
-            None => 0,
-            Some(blocks) => blocks.block_with(key),
-        }
+        let Some(children) = self.blocks.get() else {
+            return 0;
+        };
+        block_beside(children.blocks.as_slice(), children.latest, key)
     }
 
     /// Notes that the child at a key may be present, so that its block isn't gone.
@@ -151,10 +178,14 @@ impl Children {
         ensures noted { (n : NodeNumber) → number_at self.old.0 key.now ≡ Some n
             → Contains (joined self.new.1) (key.now, n) }
     {
-        let Some(blocks) = &mut self.blocks else {
+        let Some(children) = self.blocks.get_mut() else {
             return;
         };
-        blocks.note_present(key);
+        if children.gone.is_empty() {
+            return;
+        }
+        let at = block_beside(children.blocks.as_slice(), children.latest, key);
+        note(&mut children.gone, at, false);
     }
 
     /// Notes that a block is gone, if there is room to note it.
@@ -163,18 +194,9 @@ impl Children {
         ensures count { length self.new.1 ≡ length self.old.1 }
         ensures others { (m : ℕ) → m ≢ at → slice_index_or self.new.1 m [] ≡ slice_index_or self.old.1 m [] }
     {
-        match &mut self.blocks {
-            None => {}
-            Some(blocks) => blocks.note_gone(at),
-        }
+        let Some(children) = self.blocks.get_mut() else {
+            return;
+        };
+        note(&mut children.gone, at, true);
     }
-}
-
-// The first child of a node.
-fn first_child(alloc: Global, key: Key, number: NodeNumber) -> Result<Box<ChildBlocks>, AllocError>
-    ensures { IfOk result (λ blocks. blocks.value.0 ≡ insert [] 0 (key, number)) }
-{
-    let mut blocks = ChildBlocks::new(alloc);
-    blocks.insert(key, number)?;
-    Ok(Box::new(alloc, blocks)?)
 }

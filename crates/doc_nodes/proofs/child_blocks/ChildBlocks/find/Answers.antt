@@ -1,8 +1,0 @@
-use Rattle.doc_nodes.proofs.Blocks.{where_sought}
-use Rattle.doc_nodes.proofs.child_blocks.ChildBlocks.find.Goals as goal
-
-pub returns : goal.returns
-returns c =
-    rw (← c.self.view_is)
-    (where_sought c.args.key.now c.self.inside.blocks.items c.as_slice-3.result.now c.as_slice-2.result.now c.hint_for.result.block c.hint_for.result.place c.number_there-2.result
-    c.as_slice-3.ensures.value c.as_slice-2.ensures.value c.hint_for.ensures.block c.hint_for.ensures.place c.number_there-2.ensures.sought)
