@@ -2,12 +2,11 @@
 #![tactic(auto)]
 
 ghost use Rattle.std.specs.Prelude.{◌≡◌, ◌+◌, ◌<◌, ◌≤◌, ◌↔◌, [], length, take, drop, max, not, true, IsTrue, IfOk, IsOk, MatchOption, None, Some, OnOk, OnErr};
-ghost use Rattle.std.specs.Vec.{vec_capacity};
 ghost use Rattle.std.specs.Ordering.{is_lt};
 ghost use Rattle.op_core.specs.Front.{covers};
 ghost use Rattle.lamport_id.specs.Order.{id_cmp};
 ghost use Rattle.presence_set.specs.ById.{put_at_id, get, contains, uncovered, rank, IsAscending};
-ghost use Rattle.presence_set.specs.Kept.{kept_entries, is_in_place};
+ghost use Rattle.small_values.specs.SmallVec.{elements, room};
 
 mod blocks;
 mod empty_put;
@@ -21,24 +20,15 @@ pub use crate::id_blocks::IdBlocks;
 pub use doc_api::Role;
 use lamport_id::Id;
 use op_core::Front;
+use small_values::SmallVec;
 use std::alloc::{AllocError, Global};
 use std::cmp::Ordering;
 use std::marker::Model;
-use std::mem;
-
-// How the entries of an id list are kept: most places have one and never a second.
-#[derive(Drop)]
-enum Kept<X> {
-    /// One entry, in place.
-    One([(Id, X); 1]),
-    /// Any entries, in memory of their own. With no memory yet, the next one is in place.
-    Listed(Vec<(Id, X)>),
-}
 
 /// At most one value for each id, in id order; one alone takes no memory of its own. Clauses see a pair: the ids with
 /// their values, and how many of them there is room for.
 pub struct ById<X> {
-    kept: Kept<X>,
+    entries: SmallVec<(Id, X)>,
     alloc: Global,
 }
 
@@ -46,18 +36,21 @@ impl<X> Model for ById<X> {
     ghost use Rattle.std.specs.Prelude.{List, ℕ};
     ghost use Rattle.lamport_id.specs.declared.id.Id.{Id};
     ghost use Rattle.presence_set.specs.ById.{IsAscending};
-    ghost use Rattle.presence_set.specs.Kept.{kept_entries, kept_room, IsAloneInPlace};
+    ghost use Rattle.small_values.specs.SmallVec.{elements, room};
 
     ghost Value = { List (Id × X) × ℕ };
 
-    ghost view = { λ p. (kept_entries p.kept, kept_room p.kept) };
+    ghost view = { λ p. (elements p.entries, room p.entries) };
 
-    ghost invariant = { λ p. IsAscending (kept_entries p.kept) × IsAloneInPlace p.kept };
+    ghost invariant = { λ p. IsAscending (elements p.entries) };
 }
 
 impl<X: Drop> Drop for ById<X> {
     fn drop(self) {
-        let ById { kept: _, alloc: _ } = self;
+        let ById {
+            entries: _,
+            alloc: _,
+        } = self;
     }
 }
 
@@ -67,7 +60,7 @@ impl<X: Drop> ById<X> {
         ensures { result.0 ≡ [] }
     {
         ById {
-            kept: Kept::Listed(Vec::new(alloc)),
+            entries: SmallVec::new(),
             alloc,
         }
     }
@@ -79,15 +72,7 @@ impl<X: Drop> ById<X> {
         ensures room { OnOk result (length self.new.0 < self.new.1) }
         ensures succeeds { length self.old.0 < self.old.1 → IsOk result }
     {
-        match &mut self.kept {
-            Kept::One(_) => {
-                let room = Vec::with_capacity(self.alloc, 2)?;
-                let one = mem::replace(&mut self.kept, Kept::Listed(Vec::new(self.alloc)));
-                self.kept = Kept::Listed(moved(one, room));
-                Ok(())
-            }
-            Kept::Listed(entries) => reserve_behind(entries),
-        }
+        self.entries.reserve_one(self.alloc)
     }
 
     /// Gives the id this value, in place of any other.
@@ -95,16 +80,7 @@ impl<X: Drop> ById<X> {
         requires { length self.old.0 < self.old.1 }
         ensures { self.new ≡ (put_at_id self.old.0 id value, self.old.1) }
     {
-        match &mut self.kept {
-            Kept::One(_) => unreachable!(),
-            Kept::Listed(entries) => {
-                if has_nothing(entries) {
-                    self.kept = Kept::One([(id, value)]);
-                } else {
-                    put_listed(entries, id, value);
-                }
-            }
-        }
+        put_listed(&mut self.entries, id, value);
     }
 
     // Moves the entries from a place on into a set of their own. Out of memory, they stay.
@@ -115,36 +91,21 @@ impl<X: Drop> ById<X> {
         ensures room { OnOk result (at < length self.old.0 → at < self.new.1) }
         ensures err { OnErr result (self.new ≡ self.old) }
     {
-        match &mut self.kept {
-            Kept::One(_) => {
-                if at > 0 {
-                    return Ok(ById::new(self.alloc));
-                }
-                let kept = mem::replace(&mut self.kept, Kept::Listed(Vec::new(self.alloc)));
-                Ok(ById {
-                    kept,
-                    alloc: self.alloc,
-                })
-            }
-            Kept::Listed(entries) => Ok(ById {
-                kept: Kept::Listed(entries.split_off(at)?),
-                alloc: self.alloc,
-            }),
-        }
+        Ok(ById {
+            entries: self.entries.split_off(at)?,
+            alloc: self.alloc,
+        })
     }
 
     /// Drops the ids that the front covers.
     pub fn retain_uncovered(&mut self, front: &Front)
         ensures { self.new ≡ (uncovered front.now self.old.0, self.old.1) }
     {
-        match &mut self.kept {
-            Kept::One(entry) => {
-                if front.covers(entry[0].0) {
-                    self.kept = Kept::Listed(Vec::new(self.alloc));
-                }
-            }
-            Kept::Listed(entries) => retain_listed(entries, front),
-        }
+        self.entries.retain(
+            |entry: &(Id, X)| -> bool
+                ensures { result ≡ not (covers front.entry.now entry.now.0) }
+            { !front.covers(entry.0) },
+        );
     }
 
     /// Whether there is no id.
@@ -158,10 +119,7 @@ impl<X: Drop> ById<X> {
     fn has_room(&self) -> bool
         ensures { IsTrue result ↔ (length self.now.0 < self.now.1) }
     {
-        match &self.kept {
-            Kept::One(_) => false,
-            Kept::Listed(entries) => entries.is_empty() || entries.len() < entries.capacity(),
-        }
+        self.entries.has_room()
     }
 
     /// The ids with their values, in id order.
@@ -169,10 +127,7 @@ impl<X: Drop> ById<X> {
         ensures value { result.now ≡ self.now.0 }
         ensures ascending { IsAscending result.now }
     {
-        match &self.kept {
-            Kept::One(entry) => entry.as_slice(),
-            Kept::Listed(entries) => entries.as_slice(),
-        }
+        self.entries.as_slice()
     }
 
     /// Whether some entry has this id. It is found by bisection.
@@ -198,71 +153,20 @@ impl<X: Drop> ById<X> {
     }
 }
 
-// The entry that stood in place, in memory that has room for it.
-fn moved<X: Drop>(kept: Kept<X>, room: Vec<(Id, X)>) -> Vec<(Id, X)>
-    requires empty { room.items ≡ [] }
-    requires room { vec_capacity room ≡ 2 }
-    ensures items { is_in_place kept ≡ true → result.items ≡ kept_entries kept }
-    ensures room { is_in_place kept ≡ true → vec_capacity result ≡ 2 }
+// Gives the id this value, in place of any other, where there is room.
+fn put_listed<X: Drop>(entries: &mut SmallVec<(Id, X)>, id: Id, value: X)
+    requires rising { IsAscending (elements entries.old) }
+    requires room { length (elements entries.old) < room entries.old }
+    ensures items { elements entries.new ≡ put_at_id (elements entries.old) id value }
+    ensures room { room entries.new ≡ room entries.old }
 {
-    match kept {
-        Kept::One([entry]) => {
-            let mut entries = room;
-            entries.push_reserved(entry);
-            entries
-        }
-        Kept::Listed(entries) => entries,
-    }
-}
-
-// Makes room for one more entry behind those in memory. The first needs none.
-fn reserve_behind<X: Drop>(entries: &mut Vec<(Id, X)>) -> Result<(), AllocError>
-    ensures same { entries.new.items ≡ entries.old.items }
-    ensures grows { vec_capacity entries.old ≤ vec_capacity entries.new }
-    ensures room { OnOk result (length entries.new.items < max 1 (vec_capacity entries.new)) }
-    ensures succeeds { length entries.old.items < max 1 (vec_capacity entries.old) → IsOk result }
-{
-    if entries.is_empty() {
-        return Ok(());
-    }
-    entries.reserve(1)
-}
-
-// Whether there is no entry, and no memory for one.
-fn has_nothing<X: Drop>(entries: &Vec<(Id, X)>) -> bool
-    ensures { IsTrue result ↔ (vec_capacity entries.now ≡ 0) }
-{
-    entries.capacity() == 0
-}
-
-// Gives the id this value, in place of any other, where there is room in memory.
-fn put_listed<X: Drop>(entries: &mut Vec<(Id, X)>, id: Id, value: X)
-    requires rising { IsAscending entries.old.items }
-    requires room { length entries.old.items < vec_capacity entries.old }
-    ensures items { entries.new.items ≡ put_at_id entries.old.items id value }
-    ensures room { vec_capacity entries.new ≡ vec_capacity entries.old }
-{
-    let at = rank_of(entries.as_slice(), &id);
-    if at < entries.len() && entries[at].0 == id {
-        entries[at] = (id, value);
+    let listed = entries.as_slice();
+    let at = rank_of(listed, &id);
+    if at < listed.len() && listed[at].0 == id {
+        entries.set(at, (id, value));
     } else {
-        match entries.insert(at, (id, value)) {
-            Ok(()) => {}
-            Err(_) => unreachable!(),
-        }
+        entries.insert_reserved(at, (id, value));
     }
-}
-
-// Drops the ids that the front covers from entries in memory.
-fn retain_listed<X: Drop>(entries: &mut Vec<(Id, X)>, front: &Front)
-    ensures items { entries.new.items ≡ uncovered front.now entries.old.items }
-    ensures room { vec_capacity entries.new ≡ vec_capacity entries.old }
-{
-    entries.retain(
-        |entry: &(Id, X)| -> bool
-            ensures { result ≡ not (covers front.entry.now entry.now.0) }
-        { !front.covers(entry.0) },
-    );
 }
 
 /// How many entries have a lesser id, found by bisection.

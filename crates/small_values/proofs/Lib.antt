@@ -1,1 +1,2 @@
 pub mod Made
+mod OneElement
