@@ -1,10 +1,8 @@
--- The keys of a way: in place, in memory of their own, or shared.
-use Rattle.std.specs.Prelude.{List, [], ◌∷◌}
+-- The keys of a way: its own, or shared ones in place of them.
+use Rattle.std.specs.Prelude.{List, [], Option, unwrap_or}
+use Rattle.small_values.specs.declared.small_vec.SmallVec.{SmallVec}
+use Rattle.small_values.specs.SmallVec.{elements_by}
 use Rattle.op_core.specs.declared.cursor.Tagged.{Tagged}
-use Rattle.op_core.specs.declared.cursor.Keys.{Keys}
-use Rattle.op_core.specs.declared.cursor.Keys.TheVariants.{One, Listed, Shared}
 
-abbrev pub kept_keys : Keys → List Tagged
-kept_keys (One key) = key ∷ []
-kept_keys (Listed keys) = keys.items
-kept_keys (Shared keys) = keys
+abbrev pub kept_keys : SmallVec Tagged (Option (List Tagged)) → List Tagged
+kept_keys = elements_by (λ shared. unwrap_or shared [])

@@ -44,7 +44,12 @@ impl<X: Drop, O: Drop> SmallVec<X, O> {
                 }
                 Ok(())
             }
-            SmallVec::One(_) => self.move_out(alloc, additional),
+            SmallVec::One(_) => {
+                if additional > 0 {
+                    return self.move_out(alloc, additional);
+                }
+                Ok(())
+            }
             SmallVec::Listed(elements) => elements.reserve_exact(additional),
         }
     }
