@@ -14,12 +14,33 @@ use op_core::{Operation, read_wire};
 use serde_json::{Error, Value};
 use std::alloc::Global;
 
+// The room of a text at first, in bytes. Most texts have less.
+const FIRST_ROOM: usize = 128;
+
+// How many bytes more than it writes a writer may want at the end of a text.
+const SPARE: usize = 32;
+
+// Room for a text of the same length.
+fn room_like(text: &str) -> usize {
+    text.len().saturating_add(SPARE)
+}
+
 /// The text of an operation.
 pub fn text_of(alloc: Global, op: &Operation) -> Result<String, Fault>
     ensures ok { IfOk result (λ text. string_bytes text ≡ op_text op.now) }
     ensures err { IfErr result (λ e. e ≡ Fault.Memory) }
 {
-    let mut text = JsonText::new(alloc);
+    text_in(alloc, op, FIRST_ROOM)
+}
+
+// The text of an operation, which has room for so many bytes at first.
+fn text_in(alloc: Global, op: &Operation, room: usize) -> Result<String, Fault>
+    ensures ok { IfOk result (λ text. string_bytes text ≡ op_text op.now) }
+    ensures err { IfErr result (λ e. e ≡ Fault.Memory) }
+{
+    let Ok(mut text) = JsonText::with_room(alloc, room) else {
+        return Err(Fault::Memory);
+    };
     match op.put_in(&mut text) {
         Ok(()) => Ok(text.into_string()),
         Err(_) => Err(Fault::Memory),
@@ -32,8 +53,10 @@ pub fn texts_of(alloc: Global, ops: &[Operation]) -> Result<Vec<String>, Fault>
     ensures err { IfErr result (λ e. e ≡ Fault.Memory) }
 {
     let mut texts = Vec::new(alloc);
+    let mut room = FIRST_ROOM;
     for op in ops {
-        let text = text_of(alloc, op)?;
+        let text = text_in(alloc, op, room)?;
+        room = room_like(text.as_str());
         if texts.push(text).is_err() {
             return Err(Fault::Memory);
         }
@@ -49,7 +72,7 @@ pub fn operation_of(alloc: Global, text: &str) -> Result<Operation, Fault>
     ensures accepts { (op : Op) → IsTrue (is_shaped op) → op_text op ≡ text.now → UnlessNoMemory result (Ok op) }
 {
     let op = read(alloc, text)?;
-    let again = text_of(alloc, &op)?;
+    let again = text_in(alloc, &op, room_like(text))?;
     if again.as_str() != text {
         return Err(Fault::Refused);
     }
