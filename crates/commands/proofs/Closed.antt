@@ -13,10 +13,10 @@ use Rattle.tcp_server.specs.Listening.{WritesAddress}
 use Rattle.commands.specs.Server.{ServesAt}
 
 module _ {L Left : Type 0} (g : Ghosts L Left) where
-  pub serves_at : {E : Type 0} (name : List ℕ) (names : List (List ℕ)) (connections count : ℕ) (old : L) (closed : Result ⊤ E) (last : Left) (held listens holds : Option (List ℕ))
-      → connections ≡ count → WritesAddress held listens → ServesStored g name names connections old closed last listens holds → ServesAt name names count held holds
-  serves_at name names connections count old closed last held listens holds many listening stored =
-      let served : ServesStored g name names count old closed last listens holds = subst (λ (n : ℕ). ServesStored g name names n old closed last listens holds) many stored in
+  pub serves_at : {E : Type 0} (name : List ℕ) (names : List (List ℕ)) (connections count : ℕ) (old : L) (closed : Result ⊤ E) (last : Left) (out_before listens out_after : Option (List ℕ))
+      → connections ≡ count → WritesAddress out_before listens → ServesStored g name names connections old closed last listens out_after → ServesAt name names count out_before out_after
+  serves_at name names connections count old closed last out_before listens out_after many listening stored =
+      let served : ServesStored g name names count old closed last listens out_after = subst (λ (n : ℕ). ServesStored g name names n old closed last listens out_after) many stored in
       let begun = g.log served.begun in
       let named = served.raised.named in
       let kept = served.raised.kept in
@@ -32,5 +32,5 @@ module _ {L Left : Type 0} (g : Ghosts L Left) where
         any = served.served.copied.any;
         copied = subst (λ (r : List ℕ). AreAdded (origin_at r begun.docs names) names begun.docs served.served.copied.any (g.log served.served.new).docs) named
             (subst (λ (docs : List Doc). AreAdded (origin_at served.replica begun.docs names) names docs served.served.copied.any (g.log served.served.new).docs) same served.served.copied.added);
-        served = subst (λ (r : List ℕ). ServesSessions (origin_at r begun.docs names) (g.log served.served.new).docs names count listens holds) named served.served.sessions;
+        served = subst (λ (r : List ℕ). ServesSessions (origin_at r begun.docs names) (g.log served.served.new).docs names count listens out_after) named served.served.sessions;
       }

@@ -12,9 +12,9 @@ use Rattle.tcp_server.specs.Listening.{WritesAddress}
 -- had, and it is new to these documents. At the end the log has these last documents: those that it
 -- had, with batches of just the same documents behind them.
 pub record ServesAt (name : List ℕ) (names : List (List ℕ)) (count : ℕ)
-    (held holds : Option (List ℕ)) : Type 0 where
+    (out_before out_after : Option (List ℕ)) : Type 0 where
   pub listens : Option (List ℕ)
-  pub listening : WritesAddress held listens
+  pub listening : WritesAddress out_before listens
   pub docs : List Doc
   pub before : ℕ
   pub epoch : ℕ
@@ -23,4 +23,4 @@ pub record ServesAt (name : List ℕ) (names : List (List ℕ)) (count : ℕ)
   pub last : List Doc
   pub any : Bool
   pub copied : AreAdded (origin_at (replica_name name epoch) docs names) names docs any last
-  pub served : ServesSessions (origin_at (replica_name name epoch) docs names) last names count listens holds
+  pub served : ServesSessions (origin_at (replica_name name epoch) docs names) last names count listens out_after

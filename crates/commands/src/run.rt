@@ -45,7 +45,7 @@ pub fn run_words<M: Maker, R: Source, W: Sink>(
         × ServesAll wanted
         (R.remaining source.old) (R.remaining source.new) (W.contents sink.old) (W.contents sink.new) }
     ensures no_fault { result ≡ 0 → (R.has_failed source.new ≡ false) × (W.has_failed sink.new ≡ false) }
-    ensures flushed { W.kept sink.old ≡ [] → result ≡ 0 → W.kept sink.new ≡ [] }
+    ensures flushed { W.unflushed sink.old ≡ [] → result ≡ 0 → W.unflushed sink.new ≡ [] }
 
     // What was written is a transcript up to a device's fault, or memory ran out before it began.
     ensures failed { result ≡ 1 → ((wanted : Wanted) × AsksToRun (map (λ s. s.now) args.now) wanted

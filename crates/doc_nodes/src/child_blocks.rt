@@ -23,18 +23,18 @@ use std::marker::Model;
 // How many children a block takes: enough that there are few blocks, few enough that an insertion moves little.
 const FULL: usize = 128;
 
-/// Where a search for a child starts: a block, and a place in it. It is only a hint: one that is out of date, or that
+/// Where a search for a child starts: a block, and an index in it. It is only a hint: one that is out of date, or that
 /// belongs to other children, costs time and changes no result.
 #[derive(Clone, Copy)]
 pub struct SearchHint {
     block: usize,
-    place: usize,
+    index: usize,
 }
 
 impl SearchHint {
-    /// The first place of the first block.
+    /// The first entry of the first block.
     pub fn first() -> SearchHint {
-        SearchHint { block: 0, place: 0 }
+        SearchHint { block: 0, index: 0 }
     }
 }
 
@@ -257,7 +257,7 @@ pub fn block_beside(blocks: &[Block], hint: SearchHint, key: &Key) -> usize
     ensures { (n : NodeNumber) → number_at (joined blocks.now) key.now ≡ Some n
         → Contains (slice_index_or blocks.now result []) (key.now, n) }
 {
-    if number_here(entries_of(blocks, hint.block), hint.place, key).is_some() {
+    if number_here(entries_of(blocks, hint.block), hint.index, key).is_some() {
         return hint.block;
     }
     block_of(blocks, key)
@@ -287,49 +287,49 @@ pub fn note(gone: &mut Vec<bool>, at: usize, is: bool)
 pub fn hint_for(blocks: &[Block], key: &Key) -> SearchHint
     requires { AreBlocks blocks.now }
     ensures block { result.block ≡ block_rank key.now blocks.now }
-    ensures place { result.place ≡ KeyOrder.key_rank (slice_index_or blocks.now result.block []) key.now }
+    ensures index { result.index ≡ KeyOrder.key_rank (slice_index_or blocks.now result.block []) key.now }
 {
     let at = block_of(blocks, key);
     match blocks.get(at) {
         None => SearchHint {
             block: at,
-            place: 0,
+            index: 0,
         },
         Some(block) => SearchHint {
             block: at,
-            place: rank_of_key(block.entries.as_slice(), key),
+            index: rank_of_key(block.entries.as_slice(), key),
         },
     }
 }
 
-/// The place behind a hint: in its block, or at the start of the next one.
+/// The index behind a hint: in its block, or at the start of the next one.
 pub fn hint_behind(blocks: &[Block], hint: SearchHint) -> SearchHint {
     let Some(block) = blocks.get(hint.block) else {
         return hint;
     };
     let count = block.entries.len();
-    if hint.place >= count {
+    if hint.index >= count {
         return hint;
     }
-    if hint.place + 1 < count {
+    if hint.index + 1 < count {
         SearchHint {
             block: hint.block,
-            place: hint.place + 1,
+            index: hint.index + 1,
         }
     } else {
         SearchHint {
             block: hint.block + 1,
-            place: 0,
+            index: 0,
         }
     }
 }
 
-/// The place before a hint: in its block, or at the end of the block before.
+/// The index before a hint: in its block, or at the end of the block before.
 pub fn hint_before(blocks: &[Block], hint: SearchHint) -> SearchHint {
-    if hint.place > 0 {
+    if hint.index > 0 {
         return SearchHint {
             block: hint.block,
-            place: hint.place - 1,
+            index: hint.index - 1,
         };
     }
     if hint.block == 0 {
@@ -339,7 +339,7 @@ pub fn hint_before(blocks: &[Block], hint: SearchHint) -> SearchHint {
         None => hint,
         Some(block) => SearchHint {
             block: hint.block - 1,
-            place: block.entries.len().saturating_sub(1),
+            index: block.entries.len().saturating_sub(1),
         },
     }
 }
@@ -350,24 +350,24 @@ pub fn number_there(blocks: &[Block], hint: SearchHint, key: &Key) -> Option<Nod
     requires { AreBlocks blocks.now }
     ensures found { IfSome result (λ number. number_at (joined blocks.now) key.now ≡ Some number) }
     ensures sought { hint.block ≡ block_rank key.now blocks.now
-        → hint.place ≡ KeyOrder.key_rank (slice_index_or blocks.now hint.block []) key.now
+        → hint.index ≡ KeyOrder.key_rank (slice_index_or blocks.now hint.block []) key.now
         → result ≡ number_at (joined blocks.now) key.now }
 {
     match blocks.get(hint.block) {
         None => None,
-        Some(block) => number_here(block.entries.as_slice(), hint.place, key),
+        Some(block) => number_here(block.entries.as_slice(), hint.index, key),
     }
 }
 
-// The number of the entry at a place in one block, if its key is this one. Where bisection ends, it is what the block
+// The number of the entry at an index of one block, if its key is this one. Where bisection ends, it is what the block
 // has at the key.
-fn number_here(entries: &[(Key, NodeNumber)], place: usize, key: &Key) -> Option<NodeNumber>
+fn number_here(entries: &[(Key, NodeNumber)], index: usize, key: &Key) -> Option<NodeNumber>
     requires { IsInKeyOrder entries.now }
     ensures found { IfSome result (λ number. Contains entries.now (key.now, number)) }
-    ensures sought { place ≡ KeyOrder.key_rank entries.now key.now → result ≡ number_at entries.now key.now }
+    ensures sought { index ≡ KeyOrder.key_rank entries.now key.now → result ≡ number_at entries.now key.now }
 {
-    if place < entries.len() && is_same_key(&entries[place].0, key) {
-        Some(entries[place].1)
+    if index < entries.len() && is_same_key(&entries[index].0, key) {
+        Some(entries[index].1)
     } else {
         None
     }
@@ -447,7 +447,7 @@ fn repeat(gone: &mut Vec<bool>, at: usize)
     }
 }
 
-/// Adds an entry at a key that has none and belongs to the block at a place.
+/// Adds an entry at a key that has none and belongs to the block at an index.
 pub fn add_entry(
     blocks: &mut Vec<Block>,
     at: usize,
@@ -470,7 +470,7 @@ pub fn add_entry(
     }
 }
 
-// The block for a key that belongs to the block at a place: this one, or the last if the key is greater than all.
+// The block for a key that belongs to the block at a index: this one, or the last if the key is greater than all.
 fn open_block(blocks: &[Block], at: usize) -> Option<usize>
     requires { at ≤ length blocks.now }
     ensures open { IfSome result
@@ -501,9 +501,9 @@ fn put_in(
     ensures err { OnErr result (blocks.new.items ≡ blocks.old.items) }
 {
     let block = &mut blocks[at];
-    let place = rank_of_key(block.entries.as_slice(), &key);
-    block.entries.insert(place, (key, number))?;
-    Ok(SearchHint { block: at, place })
+    let index = rank_of_key(block.entries.as_slice(), &key);
+    block.entries.insert(index, (key, number))?;
+    Ok(SearchHint { block: at, index })
 }
 
 // Puts an entry behind all others, in a block of its own.
@@ -524,7 +524,7 @@ fn put_behind(
     entries.reserve_exact(1)?;
     entries.push((key, number))?;
     blocks.push(Block { entries })?;
-    Ok(SearchHint { block, place: 0 })
+    Ok(SearchHint { block, index: 0 })
 }
 
 // How many blocks end with a lesser key.

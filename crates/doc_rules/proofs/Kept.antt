@@ -13,7 +13,7 @@ use Rattle.crdt_rules.proofs.SameLaws.{id_decides, eq_from}
 use Rattle.crdt_rules.proofs.Tests.{any_none}
 use Rattle.doc_rules.specs.Cause.{cause_of}
 use Rattle.doc_rules.specs.Events.{Expected, replied, held, logged, Settles, expected_by_cause, has_id_of, changed_rows, expected_at_place, delivered_rows, expected_of_delivery, Forgets, Does, Event, IsWellMade}
-use Rattle.doc_rules.specs.Replica.{Replica, replica_facts, find_id, hold, without_held, own_op, IsKept}
+use Rattle.doc_rules.specs.Replica.{Replica, replica_facts, find_id, hold, without_held, own_op, IsValidReplica}
 use Rattle.doc_rules.specs.Resolve.{Resolves}
 use Rattle.doc_api.specs.declared.place.Place.{Place}
 use Rattle.doc_api.specs.declared.ask.Command.{Command}
@@ -43,7 +43,7 @@ IsSafe r (replied reply) = Unit {0}
 IsSafe r (held op) = MayHold r op
 IsSafe r (logged op) = MayLog r op
 
-hold_keeps : {r : Replica} (op : Op) → IsKept r → MayHold r op → IsKept (hold op r)
+hold_keeps : {r : Replica} (op : Op) → IsValidReplica r → MayHold r op → IsValidReplica (hold op r)
 hold_keeps {r} op k h =
     kept_from
     (record {
@@ -55,9 +55,9 @@ hold_keeps {r} op k h =
     })
     (λ o c. elim (put_among_from op r.held c) [ inl is ↦ subst (λ z. is_ready z r.log ≡ false) is h.waits | inr old ↦ k.waits o old ])
 
-settles_keeps : {r s : Replica} (reply : Reply) (due : Expected) → IsKept r → IsSafe r due → Settles r due reply s → IsKept s
-settles_keeps reply (replied answer) k safe h = subst IsKept (sym h.1) k
-settles_keeps reply (held op) k safe h = subst IsKept (sym h.1) (hold_keeps op k safe)
+settles_keeps : {r s : Replica} (reply : Reply) (due : Expected) → IsValidReplica r → IsSafe r due → Settles r due reply s → IsValidReplica s
+settles_keeps reply (replied answer) k safe h = subst IsValidReplica (sym h.1) k
+settles_keeps reply (held op) k safe h = subst IsValidReplica (sym h.1) (hold_keeps op k safe)
 settles_keeps reply (logged op) k safe h = drain_keeps h.drains (append_tidy op (tidy_from k) safe.fits safe.unheld)
 
 -- ---- delivered operations
@@ -121,17 +121,17 @@ delivered_safe r op shaped =
       ),
     )
 
-forgets_keeps : (r s : Replica) (i : Id) (found : Option Op) (reply : Reply) → IsKept r → Forgets r i found reply s → IsKept s
-forgets_keeps r s i None reply k h = subst IsKept (sym h.1) k
+forgets_keeps : (r s : Replica) (i : Id) (found : Option Op) (reply : Reply) → IsValidReplica r → Forgets r i found reply s → IsValidReplica s
+forgets_keeps r s i None reply k h = subst IsValidReplica (sym h.1) k
 forgets_keeps r s i (Some o) reply k h =
-    subst IsKept (sym h.1) (kept_from (without_held_tidy i (tidy_from k)) (λ o c. k.waits o (held_before o c)))
+    subst IsValidReplica (sym h.1) (kept_from (without_held_tidy i (tidy_from k)) (λ o c. k.waits o (held_before o c)))
   where
     held_before : (o : Op) → Contains (without_held i r).held o → Contains r.held o
     held_before o c = (filter-Contains (λ o. not (id_eq o.id i)) r.held c).0
 
 -- ---- changes of one's own
 
-placed_safe : (r : Replica) (place : Place) (m : Mutation) (c : Result Cursor Refusal) → is_name r.name ≡ true → is_mutation m ≡ true → IsKept r
+placed_safe : (r : Replica) (place : Place) (m : Mutation) (c : Result Cursor Refusal) → is_name r.name ≡ true → is_mutation m ≡ true → IsValidReplica r
     → Resolves (replica_facts r) place.start place.steps c → IsSafe r (expected_at_place r c m)
 placed_safe r place m (Err cause) named value k resolves = tt
 placed_safe r place m (Ok c) named value k resolves =
@@ -155,12 +155,12 @@ placed_safe r place m (Ok c) named value k resolves =
 
 -- ---- commands
 
-does_keeps : (r s : Replica) (command : Command) (reply : Reply) → is_name r.name ≡ true → IsWellMade command → IsKept r → Does r command reply s → IsKept s
+does_keeps : (r s : Replica) (command : Command) (reply : Reply) → is_name r.name ≡ true → IsWellMade command → IsValidReplica r → Does r command reply s → IsValidReplica s
 does_keeps r s (Change place m) reply named value k h =
     settles_keeps reply (expected_at_place r h.0 m) k (placed_safe r place m h.0 named value k h.1) h.2
 does_keeps r s (Deliver op) reply named shaped k h = settles_keeps reply (expected_of_delivery r op) k (delivered_safe r op shaped) h
 does_keeps r s (Forget i) reply named made k h = forgets_keeps r s i (find_id r.held i) reply k h
 
-pub event_keeps : (r s : Replica) (command : Command) (reply : Reply) → is_name r.name ≡ true → IsWellMade command → IsKept r → Event r command reply s → IsKept s
+pub event_keeps : (r s : Replica) (command : Command) (reply : Reply) → is_name r.name ≡ true → IsWellMade command → IsValidReplica r → Event r command reply s → IsValidReplica s
 event_keeps r s command reply named made k (inl does) = does_keeps r s command reply named made k does
-event_keeps r s command reply named made k (inr lacks) = subst IsKept (sym lacks.1) k
+event_keeps r s command reply named made k (inr lacks) = subst IsValidReplica (sym lacks.1) k

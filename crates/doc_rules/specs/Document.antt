@@ -8,7 +8,7 @@ use Rattle.doc_api.specs.declared.ask.Command.{Command}
 use Rattle.doc_api.specs.declared.ask.Query.{Query}
 use Rattle.doc_api.specs.declared.reply.Reply.{Reply}
 use Rattle.doc_api.specs.declared.reply.Reply.TheVariants.{Applied}
-use Rattle.doc_rules.specs.Replica.{Replica, IsKept}
+use Rattle.doc_rules.specs.Replica.{Replica, IsValidReplica}
 use Rattle.doc_rules.specs.Events as replica
 use Rattle.doc_rules.specs.Answers as replica_answers
 
@@ -86,7 +86,7 @@ tail from most d = take most (drop from d.replica.log)
 -- ---- what a document keeps
 
 pub record IsSound (d : Document) : Type 0 where
-  pub kept : IsKept d.replica
+  pub kept : IsValidReplica d.replica
   pub each_has_a_seat : length d.seats_of ≡ length d.replica.log
   pub opened_alone : All (λ s. s ≤ d.opened) d.seats_of
   pub few : d.opened ≤ d.seats

@@ -16,12 +16,12 @@ pub record Seat : Type 0 where
   pub told : List Id
   pub calls : ℕ
 
--- a reply, and to which call of which seat it was given; no call has place 0
+-- a reply, and to which call of which seat it was given; 0 is no call
 pub record Answer : Type 0 where
   pub reply : Reply
   pub number : ℕ
   pub seat : ℕ
-  pub place : ℕ
+  pub call : ℕ
 
 abbrev pub operation_ids : List Op → List Id
 operation_ids ops = map (λ op. op.id) ops
@@ -34,7 +34,7 @@ IsSeatOf number d s = (s.number ≡ number) × (0 < s.seat) × (s.seat ≤ d.ope
 pub record IsAnswerTo (s t : Seat) (a : Answer) : Type 0 where
   pub same : (t.number ≡ s.number) × (t.seat ≡ s.seat)
   pub calls : t.calls ≡ s.calls + 1
-  pub of : (a.number ≡ s.number) × (a.seat ≡ s.seat) × (a.place ≡ t.calls)
+  pub of : (a.number ≡ s.number) × (a.seat ≡ s.seat) × (a.call ≡ t.calls)
 
 -- a command for a seat: one event, acknowledged to the seat. It has as many operations as its told list has
 -- ids, before and after; the list grows by as many as the reply counts
@@ -56,7 +56,7 @@ pub record AnswersFor (d : Document) (s : Seat) (query : Query) (a : Answer) (t 
 -- a call with a seat of another document: the answer is to that seat, and of no call of it
 pub record TurnsAway (d : Document) (s : Seat) (a : Answer) (e : Document) (t : Seat) : Type 0 where
   pub same : (e ≡ d) × (t ≡ s)
-  pub answer : (a.reply ≡ Refused NotOpen) × (a.place ≡ 0)
+  pub answer : (a.reply ≡ Refused NotOpen) × (a.call ≡ 0)
   pub of : (a.number ≡ s.number) × (a.seat ≡ s.seat)
 
 -- ---- at the end

@@ -27,7 +27,7 @@ ghost use Rattle.doc_rules.specs.Document.{new_document, opens, total_of};
 ghost use Rattle.doc_rules.specs.Events.{Event, IsWellMade, expected_of_change, logged};
 ghost use Rattle.doc_rules.specs.Memory.{DoesFully};
 ghost use Rattle.doc_rules.specs.Views.{AgreeOnPresent, AreConflicts, Values};
-ghost use Rattle.doc_rules.specs.Replica.{Replica, GoesOn, IsKept, replica_facts, own_op};
+ghost use Rattle.doc_rules.specs.Replica.{Replica, GoesOn, IsValidReplica, replica_facts, own_op};
 ghost use Rattle.doc_rules.specs.Resolve.{Resolves};
 ghost use Rattle.doc_rules.specs.Role.{logged_role, role_here, roles_of, step_roles, value_put_at, value_in, values_in};
 ghost use Rattle.doc_rules.specs.Seats.{Seat, Answer, ActsFor, AnswersFor, AreEndsOf, told_counts};
@@ -98,8 +98,8 @@ pub fn first_misfit()
 /// on by what the answer says.
 pub fn events_keep()
     ensures kept { (r s : Replica) (command : Command) (reply : Reply) → is_name r.name ≡ true → IsWellMade command
-        → IsKept r
-        → Event r command reply s → IsKept s }
+        → IsValidReplica r
+        → Event r command reply s → IsValidReplica s }
     ensures lacks { (op : Op) (log : List Op) → is_ready op log ≡ false → missing op log ≢ [] }
     ensures goes_on { (r s : Replica) (command : Command) (reply : Reply) → Event r command reply s
         → GoesOn r (count_in reply) s }

@@ -23,23 +23,23 @@ known_longer tree path (Some known) t on =
       key = on.key;
       way = on.way ++ t ∷ [];
       parts = ap (λ p. p ++ t ∷ []) on.parts ∙ append_assoc on.before (on.key ∷ on.way) (t ∷ []);
-      place = on.place;
+      depth = on.depth;
       node = on.node;
     }
 
 module _ (tree : TreeValue) (path : List Tagged) where
-  -- its place is within the path, and the list at the end is found from it
-  pub within_way : (known : KnownNode) → IsOnWay tree path known → known.place ≤ length path
-  within_way known on = omega (arith, on.place, ap length on.parts, length-append on.before (on.key ∷ on.way))
+  -- its depth is within the path, and the list at the end is found from it
+  pub within_way : (known : KnownNode) → IsOnWay tree path known → known.depth ≤ length path
+  within_way known on = omega (arith, on.depth, ap length on.parts, length-append on.before (on.key ∷ on.way))
 
   pub list_on_way : (known : KnownNode) → IsOnWay tree path known
-      → tree_list_below tree known.node (take (length path - known.place) (drop known.place path)) ≡ tree_list tree path
+      → tree_list_below tree known.node (take (length path - known.depth) (drop known.depth path)) ≡ tree_list tree path
   list_on_way known on =
-      ap (tree_list_below tree known.node) (take_all (length path - known.place) (drop known.place path) (omega (arith, length-drop known.place path)) ∙ left)
+      ap (tree_list_below tree known.node) (take_all (length path - known.depth) (drop known.depth path) (omega (arith, length-drop known.depth path)) ∙ left)
       ∙ sym (ap (list_node_at tree.0) on.parts ∙ list_from tree.0 on.before on.key on.way known.node on.node)
     where
-      left : drop known.place path ≡ on.key ∷ on.way
-      left = ap (λ n. drop n path) (sym on.place) ∙ front_rest path on.before (on.key ∷ on.way) on.parts
+      left : drop known.depth path ≡ on.key ∷ on.way
+      left = ap (λ n. drop n path) (sym on.depth) ∙ front_rest path on.before (on.key ∷ on.way) on.parts
 
   -- a list has its node at the last key
   pub list_not_first : (n : NodeNumber) → tree_list tree path ≡ Some n → 0 < length path
@@ -47,7 +47,7 @@ module _ (tree : TreeValue) (path : List Tagged) where
       let last = list_end tree.0 path n e in
       omega (arith, ap length last.2, length-append last.0 (ListAt last.1 ∷ []))
 
-  pub list_known : (n : NodeNumber) → tree_list tree path ≡ Some n → IsOnWay tree path (record { node = n; place = length path - 1 })
+  pub list_known : (n : NodeNumber) → tree_list tree path ≡ Some n → IsOnWay tree path (record { node = n; depth = length path - 1 })
   list_known n e =
       let last = list_end tree.0 path n e in
       record {
@@ -55,7 +55,7 @@ module _ (tree : TreeValue) (path : List Tagged) where
         key = ListAt last.1;
         way = [];
         parts = last.2;
-        place = omega (arith, ap length last.2, length-append last.0 (ListAt last.1 ∷ []));
+        depth = omega (arith, ap length last.2, length-append last.0 (ListAt last.1 ∷ []));
         node = last.3;
       }
 

@@ -9,7 +9,7 @@ use Rattle.crdt_rules.specs.Same.{id_eq}
 use Rattle.presence_set.specs.ById.{get, rank, IsAscending}
 use Rattle.presence_set.proofs.Ascending.{ids_ordered}
 use Rattle.presence_set.proofs.ByIdLaws.{not_less_itself}
-use Rattle.list_laws.specs.Sorted.{IsPlace}
+use Rattle.list_laws.specs.Sorted.{IsIndexOf}
 use Rattle.list_laws.proofs.Keys.{same, not_less_back}
 use Rattle.list_laws.proofs.Bisection.{rank_is, get-missing, get-own}
 use Rattle.list_laws.proofs.Rising.{rising_index}
@@ -17,7 +17,7 @@ use Rattle.list_laws.proofs.Rising.{rising_index}
 module _ {X : Type 0} where
   -- the entry at this place has the id
   abbrev pub IsOf : List (Id × X) → Id → ℕ → Type 0
-  IsOf entries id at = IsPlace id_cmp (λ (e : Id × X). e.0) entries id at
+  IsOf entries id at = IsIndexOf id_cmp (λ (e : Id × X). e.0) entries id at
 
   -- all entries before it have a lesser id, and no other has
   pub rank_place : (entries : List (Id × X)) (id : Id) (at : ℕ) → IsAscending entries → IsOf entries id at → at ≡ rank entries id

@@ -6,11 +6,11 @@ ghost use Rattle.doc_view.specs.OnWay.{IsOnWay};
 use doc_tree::{NodeNumber, Tree};
 use op_core::Tagged;
 
-/// The node of the key at a place of a path. The list at a longer path is found from it, and not from the root.
+/// The node of a key of a path, and how many keys are before it. The list at a longer path is found from it, and not from the root.
 #[derive(Clone, Copy)]
 pub struct KnownNode {
     pub node: NodeNumber,
-    pub place: usize,
+    pub depth: usize,
 }
 
 /// The node whose list a path leads to. From then on it is the known one.
@@ -22,7 +22,7 @@ pub fn list_node(tree: &Tree, path: &[Tagged], known: &mut Option<KnownNode>) ->
     let node = list_from(tree, path, *known)?;
     *known = Some(KnownNode {
         node,
-        place: path.len() - 1,
+        depth: path.len() - 1,
     });
     Some(node)
 }
@@ -34,6 +34,6 @@ fn list_from(tree: &Tree, path: &[Tagged], known: Option<KnownNode>) -> Option<N
 {
     match known {
         None => tree.list_at(path),
-        Some(known) => tree.list_below(known.node, &path[known.place..]),
+        Some(known) => tree.list_below(known.node, &path[known.depth..]),
     }
 }

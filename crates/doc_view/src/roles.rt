@@ -2,7 +2,7 @@
 ghost use Rattle.std.specs.Prelude.{◌≡◌, ◌↔◌, ◌++◌, ◌∷◌, ◌||◌, ◌&&◌, [], map, not, option_map, IsTrue, MatchOption, None};
 ghost use Rattle.json_scalar.specs.declared.scalar.Val.TheVariants.{Scalar as Plain};
 ghost use Rattle.presence_set.specs.ById.{get, IsAscending};
-ghost use Rattle.list_laws.specs.Sorted.{IsPlace};
+ghost use Rattle.list_laws.specs.Sorted.{IsIndexOf};
 ghost use Rattle.lamport_id.specs.Order.{id_cmp};
 ghost use Rattle.lamport_id.specs.declared.id.Id.{Id as AnId};
 ghost use Rattle.json_scalar.specs.declared.scalar.Scalar.{Scalar as AScalar};
@@ -187,7 +187,7 @@ fn scalar_put<'a>(id: &Id, scalars: &'a [(Id, Scalar)], next: &mut usize) -> Put
 fn place_of(id: &Id, scalars: &[(Id, Scalar)], next: usize) -> Option<usize>
     requires { IsAscending scalars.now }
     ensures { MatchOption result (get scalars.now id.now ≡ None)
-        (IsPlace id_cmp (λ (e : AnId × AScalar). e.0) scalars.now id.now) }
+        (IsIndexOf id_cmp (λ (e : AnId × AScalar). e.0) scalars.now id.now) }
 {
     if is_at(id, scalars, next) {
         Some(next)
@@ -202,7 +202,7 @@ fn place_of(id: &Id, scalars: &[(Id, Scalar)], next: usize) -> Option<usize>
 fn sought_place(id: &Id, scalars: &[(Id, Scalar)]) -> Option<usize>
     requires { IsAscending scalars.now }
     ensures { MatchOption result (get scalars.now id.now ≡ None)
-        (IsPlace id_cmp (λ (e : AnId × AScalar). e.0) scalars.now id.now) }
+        (IsIndexOf id_cmp (λ (e : AnId × AScalar). e.0) scalars.now id.now) }
 {
     let at = rank_of(scalars, id);
     if is_at(id, scalars, at) {
@@ -214,7 +214,7 @@ fn sought_place(id: &Id, scalars: &[(Id, Scalar)]) -> Option<usize>
 
 // Whether the scalar of an id is at this place.
 fn is_at(id: &Id, scalars: &[(Id, Scalar)], place: usize) -> bool
-    ensures { IsTrue result ↔ IsPlace id_cmp (λ (e : AnId × AScalar). e.0) scalars.now id.now place }
+    ensures { IsTrue result ↔ IsIndexOf id_cmp (λ (e : AnId × AScalar). e.0) scalars.now id.now place }
 {
     place < scalars.len() && scalars[place].0 == *id
 }

@@ -4,7 +4,9 @@ use crate::written::{DEEPEST, operations, push_next};
 use converge_laws::replay_all;
 use doc_api::{CompactText, Scalars, Step};
 use doc_tree::Tree;
-use doc_view::{conflicts, conflicts_text, items, items_text, keys, keys_text, resolve, show, sum, values};
+use doc_view::{
+    conflicts, conflicts_text, items, items_text, keys, keys_text, resolve, show, sum, values,
+};
 use json_scalar::Refusal;
 use lamport_id::Id;
 use op_core::{Cursor, Key, KeyText, Operation, Path};

@@ -14,7 +14,7 @@ use Rattle.crdt_rules.proofs.SameLaws.{id_decides}
 use Rattle.doc_rules.specs.Sorted.{IsRising}
 use Rattle.list_laws.proofs.Members.{split_at, Contains-here, Contains-there, Contains-cases, Contains-map, map-from, Contains-insert_new, Contains-insert_old, Contains-insert_cases}
 use Rattle.list_laws.proofs.Filters.{filter-Contains, Contains-filter, filter-failed, length-filter}
-use Rattle.list_laws.specs.Sorted.{IsPlace, IsGap}
+use Rattle.list_laws.specs.Sorted.{IsIndexOf, IsGap}
 use Rattle.list_laws.proofs.Keys.{less≢equal}
 use Rattle.list_laws.proofs.Rising.{rising-filter, rising_same, gap_none, IsRising-split}
 use Rattle.hold_buffer.specs.Order.{is_free, ListsFree}
@@ -130,7 +130,7 @@ ready-held {ready} {new} {order} at t is within rising members room = record {
 }
 
 -- what is left when the id at a place goes
-pub without_place : (ids : List Id) (id : Id) (at : ℕ) → IsRising id_cmp (λ i. i) ids → IsPlace id_cmp (λ i. i) ids id at
+pub without_place : (ids : List Id) (id : Id) (at : ℕ) → IsRising id_cmp (λ i. i) ids → IsIndexOf id_cmp (λ i. i) ids id at
     → take at ids ++ drop (suc at) ids ≡ filter (λ i. not (id_eq i id)) ids
 without_place ids id at rising place =
     let test : Id → Bool = λ i. not (id_eq i id) in

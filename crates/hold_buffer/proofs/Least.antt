@@ -4,7 +4,7 @@ use Rattle.doc_api.specs.Words.{id_cmp, Id}
 use Rattle.crdt_rules.proofs.WalkLaws.{id_order}
 use Rattle.doc_rules.specs.Sorted.{IsRising}
 use Rattle.list_laws.proofs.Members.{Contains-nil, Contains-cases}
-use Rattle.list_laws.specs.Sorted.{IsPlace, IsGap}
+use Rattle.list_laws.specs.Sorted.{IsIndexOf, IsGap}
 use Rattle.hold_buffer.specs.declared.entry.Entry.{Entry}
 
 pub only_gap : (order : List Entry) (id : Id) → length order ≤ 0 → IsGap id_cmp (λ t. t.id) order id 0
@@ -29,7 +29,7 @@ least_gap (x ∷ order) t id rising within read less = record {
       ];
 }
 
-pub least_place : (order : List Entry) (t : Entry) (id : Id) → 0 < length order → t ≡ get_or order 0 t → id_cmp id t.id ≡ Equal → IsPlace id_cmp (λ u. u.id) order id 0
+pub least_place : (order : List Entry) (t : Entry) (id : Id) → 0 < length order → t ≡ get_or order 0 t → id_cmp id t.id ≡ Equal → IsIndexOf id_cmp (λ u. u.id) order id 0
 least_place [] t id within read same = absurd (omega (arith, within))
 least_place (x ∷ order) t id within read same = record {
   within = within;

@@ -15,7 +15,7 @@ use Rattle.crdt_rules.specs.Same.{id_eq}
 use Rattle.doc_rules.specs.Replica.{find_id}
 use Rattle.crdt_rules.specs.Dependencies.{is_logged}
 use Rattle.doc_rules.specs.Sorted.{IsRising}
-use Rattle.list_laws.specs.Sorted.{IsPlace, IsGap}
+use Rattle.list_laws.specs.Sorted.{IsIndexOf, IsGap}
 use Rattle.list_laws.proofs.Members.{Contains-nil, Contains-here, Contains-there, Contains-cases, Contains-take, Contains-drop, Contains-insert_cases}
 use Rattle.crdt_rules.proofs.SameLaws.{id_decides}
 use Rattle.crdt_rules.proofs.Tests.{some_same, some≢none}
@@ -101,7 +101,7 @@ read_within (x ∷ xs) (suc i) c d within = read_within xs i c d (omega arith)
 
 module _ {slots : Slab Op} {order : List Entry} (is : IsOrdered slots order) where
   -- a place leads to the operation of its id
-  pub found_at : (id : Id) (i : ℕ) (t : Entry) → IsPlace id_cmp (λ u. u.id) order id i → t ≡ get_or order i t → get slots t.key ≡ find_id (operations_of slots order) id
+  pub found_at : (id : Id) (i : ℕ) (t : Entry) → IsIndexOf id_cmp (λ u. u.id) order id i → t ≡ get_or order i t → get slots t.key ≡ find_id (operations_of slots order) id
   found_at id i t place read =
       let among : Contains order t = subst (Contains order) (sym read) (Contains-get_or order i t place.within) in
       let r = is.right t among in
@@ -116,7 +116,7 @@ module _ {slots : Slab Op} {order : List Entry} (is : IsOrdered slots order) whe
       let u = operations-from slots order is.right c in
       gap_none id_order (λ t. t.id) order id i gap u.0 u.1 (sym (entry_id slots order is.right u.0 o u.1 u.2) ∙ same))
 
-  pub held_at : (id : Id) (i : ℕ) → IsPlace id_cmp (λ u. u.id) order id i → is_logged (operations_of slots order) id ≡ true
+  pub held_at : (id : Id) (i : ℕ) → IsIndexOf id_cmp (λ u. u.id) order id i → is_logged (operations_of slots order) id ≡ true
   held_at id i place =
       let t = get_or order i (record { id = id; key = 0; missing = [] }) in
       let r = is.right t (Contains-get_or order i (record { id = id; key = 0; missing = [] }) place.within) in

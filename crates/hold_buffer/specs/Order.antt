@@ -67,7 +67,7 @@ AreNoted order waiters =
     (t : Entry) → Contains order t → (i : Id) → Contains t.missing i → Contains (waiters_of waiters i) t.key
 
 -- all of a buffer
-pub record KeepsWaits (slots : Slab Op) (order : List Entry) (ready : Vec Id) (waiters : Waiters) : Type 0 where
+pub record HasWaits (slots : Slab Op) (order : List Entry) (ready : Vec Id) (waiters : Waiters) : Type 0 where
   pub intact : IsIntact slots order
   pub lists : ListsFree order ready
   pub noted : AreNoted order waiters

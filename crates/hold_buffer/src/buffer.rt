@@ -41,13 +41,13 @@ pub struct HoldBuffer {
 
 impl Model for HoldBuffer {
     ghost use Rattle.hold_buffer.specs.Held.{Buffer};
-    ghost use Rattle.hold_buffer.specs.Order.{operations_of, waits_of, KeepsWaits};
+    ghost use Rattle.hold_buffer.specs.Order.{operations_of, waits_of, HasWaits};
 
     ghost Value = { Buffer };
 
     ghost view = { λ b. record { held = operations_of b.slots b.order.items; waits = waits_of b.order.items } };
 
-    ghost invariant = { λ b. KeepsWaits b.slots b.order.items b.ready b.waiters };
+    ghost invariant = { λ b. HasWaits b.slots b.order.items b.ready b.waiters };
 }
 
 impl HoldBuffer {

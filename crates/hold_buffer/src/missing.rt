@@ -4,7 +4,7 @@ ghost use Rattle.std.specs.Prelude.{filter, ◌==◌, Ok, MatchResult, MatchOpti
 ghost use Rattle.doc_api.specs.Words.{Id, UnlessMemory, name_cmp};
 ghost use Rattle.crdt_rules.specs.Same.{id_eq};
 ghost use Rattle.doc_rules.specs.Sorted.{IsRising};
-ghost use Rattle.list_laws.specs.Sorted.{IsPlace, IsGap};
+ghost use Rattle.list_laws.specs.Sorted.{IsIndexOf, IsGap};
 ghost use Rattle.hold_buffer.specs.Missing.{is_left, left_of, arrived};
 
 use doc_api::Ids;
@@ -73,7 +73,7 @@ impl Missing {
     pub fn remove(&mut self, id: &Id)
         ensures { self.new ≡ filter (λ i. not (id_eq i id.now)) self.old }
     {
-        if let Some(at) = place_of(&self.ids, id) {
+        if let Some(at) = index_of(&self.ids, id) {
             if id.counter < LOGGED {
                 clear(&mut self.ids, at);
                 self.count -= 1;
@@ -95,7 +95,7 @@ fn left_of(alloc: Global, ids: &[Id]) -> Result<Vec<Id>, AllocError>
         .collect(alloc)
 }
 
-// Notes that the id at a place was logged.
+// Notes that the id at an index was logged.
 fn clear(ids: &mut Vec<Id>, at: usize)
     requires within { at < length ids.old.items }
     requires left { (d : Id) → is_left (slice_index_or ids.old.items at d) ≡ true }
@@ -108,21 +108,21 @@ fn clear(ids: &mut Vec<Id>, at: usize)
 // compare than a name.
 const FEW: usize = 8;
 
-// The place of the id.
-fn place_of(ids: &[Id], id: &Id) -> Option<usize>
+// The index of the id.
+fn index_of(ids: &[Id], id: &Id) -> Option<usize>
     requires { IsRising name_cmp (λ i. i.replica) ids.now }
     ensures { MatchOption result (¬ (Contains ids.now id.now))
         (λ at. (at < length ids.now) × ((d : Id) → slice_index_or ids.now at d ≡ id.now)) }
 {
     if ids.len() <= FEW {
-        first_place(ids, id)
+        scanned_index(ids, id)
     } else {
-        searched_place(ids, id)
+        searched_index(ids, id)
     }
 }
 
-// The place of the id, by a look at each.
-fn first_place(ids: &[Id], id: &Id) -> Option<usize>
+// The index of the id, by a look at each.
+fn scanned_index(ids: &[Id], id: &Id) -> Option<usize>
     ensures { MatchOption result (¬ (Contains ids.now id.now))
         (λ at. (at < length ids.now) × ((d : Id) → slice_index_or ids.now at d ≡ id.now)) }
 {
@@ -141,8 +141,8 @@ fn is_same(id: &Id, other: &Id) -> bool
     id.counter == other.counter && id.replica == other.replica
 }
 
-// The place of the id, by one search.
-fn searched_place(ids: &[Id], id: &Id) -> Option<usize>
+// The index of the id, by one search.
+fn searched_index(ids: &[Id], id: &Id) -> Option<usize>
     requires { IsRising name_cmp (λ i. i.replica) ids.now }
     ensures { MatchOption result (¬ (Contains ids.now id.now))
         (λ at. (at < length ids.now) × ((d : Id) → slice_index_or ids.now at d ≡ id.now)) }
@@ -153,11 +153,11 @@ fn searched_place(ids: &[Id], id: &Id) -> Option<usize>
     }
 }
 
-// The place of a replica's id, or where it would go.
+// The index of a replica's id, or where it would go.
 fn search(ids: &[Id], name: ReplicaName) -> Result<usize, usize>
     requires { IsRising name_cmp (λ i. i.replica) ids.now }
     ensures { MatchResult result
-        (IsPlace name_cmp (λ i. i.replica) ids.now name) (IsGap name_cmp (λ i. i.replica) ids.now name) }
+        (IsIndexOf name_cmp (λ i. i.replica) ids.now name) (IsGap name_cmp (λ i. i.replica) ids.now name) }
 {
     ids.binary_search_by_key(&name, |id| id.replica)
 }

@@ -10,7 +10,7 @@ ghost use Rattle.crdt_rules.specs.Dependencies as deps;
 ghost use Rattle.op_core.specs.Front.{is_ascending};
 ghost use Rattle.crdt_rules.specs.Same.{id_eq};
 ghost use Rattle.doc_rules.specs.Sorted.{IsRising};
-ghost use Rattle.list_laws.specs.Sorted.{IsPlace, IsGap};
+ghost use Rattle.list_laws.specs.Sorted.{IsIndexOf, IsGap};
 ghost use Rattle.doc_rules.specs.Replica.{find_id, put_among};
 ghost use Rattle.hold_buffer.specs.Held.{hold_cause};
 ghost use Rattle.hold_buffer.specs.Order.{operations_of, IsOrdered, AreNoted};
@@ -32,10 +32,10 @@ use std::collections::VecDeque;
 /// The most operations that are held.
 pub const MAX_HELD: usize = 256;
 
-/// The place of the id in the order, or where it would go.
+/// The index of the id in the order, or where it would go.
 pub fn search(order: &VecDeque<Entry>, id: &Id) -> Result<usize, usize>
     requires { IsRising id_cmp (λ t. t.id) order.now.items }
-    ensures { MatchResult result (IsPlace id_cmp (λ t. t.id) order.now.items id.now)
+    ensures { MatchResult result (IsIndexOf id_cmp (λ t. t.id) order.now.items id.now)
         (IsGap id_cmp (λ t. t.id) order.now.items id.now) }
 {
     // Usually the id is the least: of an operation that arrives backwards, or that is released.
@@ -49,10 +49,10 @@ pub fn search(order: &VecDeque<Entry>, id: &Id) -> Result<usize, usize>
     }
 }
 
-// The place of the id in the order, or where it would go, by bisection.
+// The index of the id in the order, or where it would go, by bisection.
 fn bisect(order: &VecDeque<Entry>, id: &Id) -> Result<usize, usize>
     requires { IsRising id_cmp (λ t. t.id) order.now.items }
-    ensures { MatchResult result (IsPlace id_cmp (λ t. t.id) order.now.items id.now)
+    ensures { MatchResult result (IsIndexOf id_cmp (λ t. t.id) order.now.items id.now)
         (IsGap id_cmp (λ t. t.id) order.now.items id.now) }
 {
     // `binary_search_by_key` would copy the id of each entry that it compares.
@@ -160,7 +160,7 @@ pub fn admit(
     }
 }
 
-/// Stores an operation at its place, with the ids that it waits for.
+/// Stores an operation where it belongs, with the ids that it waits for.
 pub fn store(
     slots: &mut Slab<Operation>,
     order: &mut VecDeque<Entry>,
@@ -185,7 +185,7 @@ pub fn store(
     order.insert(at, entry).unwrap();
 }
 
-/// Takes the operation of the entry at a place out.
+/// Takes the operation of the entry at an index out.
 pub fn take_at(
     slots: &mut Slab<Operation>,
     order: &mut VecDeque<Entry>,
@@ -194,14 +194,14 @@ pub fn take_at(
     requires ordered { IsOrdered slots.old order.old.items }
     requires within { at < length order.old.items }
     ensures ordered { IsOrdered slots.new order.new.items }
-    ensures value { (id : Id) → IsPlace id_cmp (λ t. t.id) order.old.items id at
+    ensures value { (id : Id) → IsIndexOf id_cmp (λ t. t.id) order.old.items id at
         → result ≡ find_id (operations_of slots.old order.old.items) id }
     ensures len { length (operations_of slots.new order.new.items) + 1
         ≡ length (operations_of slots.old order.old.items) }
-    ensures operations { (id : Id) → IsPlace id_cmp (λ t. t.id) order.old.items id at
+    ensures operations { (id : Id) → IsIndexOf id_cmp (λ t. t.id) order.old.items id at
         → operations_of slots.new order.new.items
         ≡ filter (λ o. not (id_eq o.id id)) (operations_of slots.old order.old.items) }
-    ensures entries { (id : Id) → IsPlace id_cmp (λ t. t.id) order.old.items id at
+    ensures entries { (id : Id) → IsIndexOf id_cmp (λ t. t.id) order.old.items id at
         → order.new.items ≡ filter (λ t. not (id_eq t.id id)) order.old.items }
 {
     let entry = order.remove(at).unwrap();
@@ -230,12 +230,12 @@ fn push_waiting(alloc: Global, waiting: &mut Vec<(Id, Ids)>, entry: &Entry) -> R
     Ok(())
 }
 
-/// Takes the key of the entry at a place out of the index.
+/// Takes the key of the entry at an index out of the index.
 pub fn forget_waits(order: &VecDeque<Entry>, waiters: &mut Waiters, at: usize)
     requires within { at < length order.now.items }
     requires apart { (t u : Entry) → Contains order.now.items t → Contains order.now.items u → t.key ≡ u.key → t.id ≡ u.id }
     requires noted { AreNoted order.now.items waiters.old }
-    ensures { (id : Id) → IsPlace id_cmp (λ t. t.id) order.now.items id at
+    ensures { (id : Id) → IsIndexOf id_cmp (λ t. t.id) order.now.items id at
         → AreNoted (filter (λ t. not (id_eq t.id id)) order.now.items) waiters.new }
 {
     let entry = &order[at];

@@ -6,16 +6,16 @@ ghost use Rattle.std.specs.Option.{option_map};
 ghost use Rattle.doc_api.specs.Words.{id_cmp, Id};
 ghost use Rattle.crdt_rules.specs.Same.{id_eq};
 ghost use Rattle.doc_rules.specs.Sorted.{IsRising};
-ghost use Rattle.list_laws.specs.Sorted.{IsPlace, IsGap};
+ghost use Rattle.list_laws.specs.Sorted.{IsIndexOf, IsGap};
 ghost use Rattle.hold_buffer.specs.Order.{ListsFree, without_id};
 
 use crate::entry::Entry;
 use lamport_id::Id;
 
-/// The place of an id, or where it would go.
+/// The index of an id, or where it would go.
 fn search(ready: &[Id], id: &Id) -> Result<usize, usize>
     requires { IsRising id_cmp (λ i. i) ready.now }
-    ensures { MatchResult result (IsPlace id_cmp (λ i. i) ready.now id.now) (IsGap id_cmp (λ i. i) ready.now id.now) }
+    ensures { MatchResult result (IsIndexOf id_cmp (λ i. i) ready.now id.now) (IsGap id_cmp (λ i. i) ready.now id.now) }
 {
     ready.binary_search(id)
 }

@@ -55,7 +55,7 @@ fn release_one(
     }
 }
 
-// Notes the logged id at the operation at a place, which is ready if it then waits for nothing.
+// Notes the logged id at the operation at an index, which is ready if it then waits for nothing.
 fn release_at(order: &mut VecDeque<Entry>, ready: &mut Vec<Id>, at: usize, id: &Id)
     requires within { at < length order.old.items }
     requires rising { IsRising id_cmp (λ t. t.id) order.old.items }
@@ -73,7 +73,7 @@ fn release_at(order: &mut VecDeque<Entry>, ready: &mut Vec<Id>, at: usize, id: &
     }
 }
 
-// Takes an id out of those that the operation at a place waits for.
+// Takes an id out of those that the operation at an index waits for.
 fn arrive(order: &mut VecDeque<Entry>, at: usize, id: &Id)
     requires { at < length order.old.items }
     ensures { (d : Entry) → order.new.items

@@ -57,7 +57,7 @@ impl<W: Sink> Sink for FailAfter<W> {
 
     ghost has_failed = { λ s. s.failed || W.has_failed s.device };
 
-    ghost kept = { λ s. W.kept s.device };
+    ghost unflushed = { λ s. W.unflushed s.device };
 
     fn write_some(&mut self, bytes: &[u8]) -> Result<usize, DeviceFault> {
         let room = bytes.len().min(self.left);
@@ -129,7 +129,7 @@ impl<W: Sink> Sink for InPieces<W> {
 
     ghost has_failed = { λ s. W.has_failed s.device };
 
-    ghost kept = { λ s. W.kept s.device };
+    ghost unflushed = { λ s. W.unflushed s.device };
 
     fn write_some(&mut self, bytes: &[u8]) -> Result<usize, DeviceFault> {
         let room = bytes.len().min(self.most);

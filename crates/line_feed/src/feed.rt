@@ -103,21 +103,21 @@ fn read_behind<R: Source>(
     source.read_some(&mut buffer[len..])
 }
 
-// Reads after the first `held` bytes until a newline comes, the buffer is full, or nothing more comes.
-fn fill<R: Source>(source: &mut R, buffer: &mut [u8], held: usize) -> Filled
+// Reads after the first `buffered` bytes until a newline comes, the buffer is full, or nothing more comes.
+fn fill<R: Source>(source: &mut R, buffer: &mut [u8], buffered: usize) -> Filled
     requires works { R.has_failed source.old ≡ false }
-    requires within { held ≤ length buffer.old }
-    requires unended { HasNoNewline (take held buffer.old) }
+    requires within { buffered ≤ length buffer.old }
+    requires unended { HasNoNewline (take buffered buffer.old) }
 
     ensures within { result.len ≤ length buffer.new }
     ensures bytes { (read : List ℕ) × Consumes (R.remaining source.old) (R.remaining source.new) read
-        × (take result.len buffer.new ≡ take held buffer.old ++ read) }
+        × (take result.len buffer.new ≡ take buffered buffer.old ++ read) }
     ensures stop { Stops (take result.len buffer.new) (length buffer.new) result.stop }
     ensures at_end { result.stop ≡ Stop.End → IsAtEnd (R.remaining source.new) }
     ensures failed { IsTrue (R.has_failed source.new) ↔ (result.stop ≡ Stop.Fault) }
     ensures reads { R.reads source.new ≤ R.reads source.old + length buffer.new }
 {
-    let mut len = held;
+    let mut len = buffered;
     while len < buffer.len() {
         match read_behind(source, buffer, len) {
             Err(_) => {
@@ -174,7 +174,7 @@ impl Model for LineFeed {
 
     ghost view = { λ f. record {
       line = slice_range f.buffer.items f.line_start f.line_end;
-      held = slice_range f.buffer.items f.start f.end;
+      buffered = slice_range f.buffer.items f.start f.end;
       ended = f.ended;
     } };
 
@@ -186,7 +186,7 @@ impl Model for LineFeed {
 impl LineFeed {
     /// Allocates its buffer of 65,537 bytes; no later call allocates. `AllocError` if there is no memory for it.
     pub fn new(alloc: Global) -> Result<Self, AllocError>
-        ensures { IfOk result (λ feed. (feed.held ≡ []) × (feed.ended ≡ false)) }
+        ensures { IfOk result (λ feed. (feed.buffered ≡ []) × (feed.ended ≡ false)) }
     {
         Ok(LineFeed {
             buffer: vec![in alloc; 0; LINE_ROOM]?,
@@ -209,7 +209,7 @@ impl LineFeed {
 
     /// Whether a whole line is buffered already, so that `next` won't read.
     pub fn has_line(&self) -> bool
-        ensures { result ≡ list_any is_newline self.now.held }
+        ensures { result ≡ list_any is_newline self.now.buffered }
     {
         self.newline.is_some()
     }
@@ -222,14 +222,14 @@ impl LineFeed {
     /// - `TooLong`: the line has more than 65,536 bytes. They stay buffered.
     /// - `Fault`: the source failed before the line's end. What it gave before stays buffered.
     ///
-    /// Where there is no line, all that was read and not returned is still held (`stays`).
+    /// Where there is no line, all that was read and not returned is still buffered (`stays`).
     pub fn next<R: Source>(&mut self, source: &mut R) -> Outcome
         requires works { R.has_failed source.old ≡ false }
         ensures gives { (read : List ℕ) × Consumes (R.remaining source.old) (R.remaining source.new) read
             × Gives self.old read result self.new }
         ensures stays { result ≢ Outcome.Line → (read : List ℕ)
-            × Consumes (R.remaining source.old) (R.remaining source.new) read × (self.new.held ≡ self.old.held ++ read) }
-        ensures held { list_any is_newline self.old.held ≡ true → result ≡ Outcome.Line }
+            × Consumes (R.remaining source.old) (R.remaining source.new) read × (self.new.buffered ≡ self.old.buffered ++ read) }
+        ensures buffered { list_any is_newline self.old.buffered ≡ true → result ≡ Outcome.Line }
         ensures stays_ended { self.old.ended ≡ true → result ≡ Outcome.End }
         ensures at_end { (self.old.ended ≡ true → IsAtEnd (R.remaining source.old))
             → self.new.ended ≡ true → IsAtEnd (R.remaining source.new) }
@@ -249,8 +249,8 @@ impl LineFeed {
         requires open { self.old.ended ≡ false }
         ensures open { self.new.ended ≡ false }
         ensures bytes { (read : List ℕ) × Consumes (R.remaining source.old) (R.remaining source.new) read
-            × (self.new.held ≡ self.old.held ++ read) }
-        ensures stop { Stops self.new.held line_room result }
+            × (self.new.buffered ≡ self.old.buffered ++ read) }
+        ensures stop { Stops self.new.buffered line_room result }
         ensures at_end { result ≡ Stop.End → IsAtEnd (R.remaining source.new) }
         ensures failed { IsTrue (R.has_failed source.new) ↔ (result ≡ Stop.Fault) }
         ensures reads { R.reads source.new ≤ R.reads source.old + line_room }
@@ -266,12 +266,12 @@ impl LineFeed {
         stop
     }
 
-    // Takes the line out of what is held, and returns the outcome, given why reading stopped.
+    // Takes the line out of what is buffered, and returns the outcome, given why reading stopped.
     fn give(&mut self, stop: Stop) -> Outcome
         requires open { self.old.ended ≡ false }
-        requires stops { Stops self.old.held line_room stop }
-        ensures advances { Advances self.old.held result self.new }
-        ensures stays { result ≢ Outcome.Line → self.new.held ≡ self.old.held }
+        requires stops { Stops self.old.buffered line_room stop }
+        ensures advances { Advances self.old.buffered result self.new }
+        ensures stays { result ≢ Outcome.Line → self.new.buffered ≡ self.old.buffered }
         ensures ended { self.new.ended ≡ true → stop ≡ Stop.End }
         ensures fault { (result ≡ Outcome.Fault) ↔ (stop ≡ Stop.Fault) }
     {

@@ -18,7 +18,7 @@ pub trait Sink {
     ghost has_failed: { Self → Bool };
 
     /// What it has taken and its device may not have yet: nothing after a flush.
-    ghost kept: { Self → List ℕ } = { λ _. [] };
+    ghost unflushed: { Self → List ℕ } = { λ _. [] };
 
     /// Takes a prefix of `bytes`, of at least one byte, and returns its length. It calls the device once, and doesn't
     /// try again. `DeviceFault` if that call fails; then the device has taken none, and the sink has failed.
@@ -30,13 +30,13 @@ pub trait Sink {
         ensures bytes { WriteAppends (contents self.old) (contents self.new) result bytes.now }
         ensures failed { has_failed self.new ≡ is_err result };
 
-    /// Writes to the device what the sink and all below it still keep. `DeviceFault` if the device fails before it has
+    /// Writes to the device what the sink and all below it have not flushed. `DeviceFault` if the device fails before it has
     /// taken all of that; then at least the last byte counts as not taken, and the sink has failed.
     fn flush(&mut self) -> Result<(), DeviceFault>
         requires works { has_failed self.old ≡ false }
         ensures bytes { OnOk result (Keeps (contents self.old) (contents self.new)) }
         ensures lost { OnErr result (LosesLast (contents self.old) (contents self.new)) }
-        ensures empty { OnOk result (kept self.new ≡ []) }
+        ensures empty { OnOk result (unflushed self.new ≡ []) }
         ensures failed { has_failed self.new ≡ is_err result };
 
     /// Whether a call has failed, after which the device isn't written to again.
@@ -49,7 +49,7 @@ pub trait Sink {
 pub struct Writer<W> {
     writer: W,
     // it took bytes since it was flushed last
-    unflushed: bool,
+    is_dirty: bool,
     write_failed: bool,
     flush_failed: bool,
 }
@@ -58,13 +58,13 @@ impl<W: Write> Writer<W> {
     /// A sink that writes to the writer, and hasn't failed.
     pub fn new(writer: W) -> Self
         ensures writer { result.writer ≡ writer }
-        ensures flushed { result.unflushed ≡ false }
+        ensures flushed { result.is_dirty ≡ false }
         ensures flushes { result.flush_failed ≡ false }
         ensures works { (result.write_failed || result.flush_failed) ≡ false }
     {
         Writer {
             writer,
-            unflushed: false,
+            is_dirty: false,
             write_failed: false,
             flush_failed: false,
         }
@@ -75,7 +75,7 @@ impl<W: Write> Writer<W> {
         ensures writer { result ≡ self.writer }
         // Where no call has failed, it has all that counts as taken.
         ensures bytes { (self.write_failed || self.flush_failed) ≡ false
-            → Keeps (taken (W.contents self.writer) self.unflushed self.flush_failed) (W.contents result) }
+            → Keeps (taken (W.contents self.writer) self.is_dirty self.flush_failed) (W.contents result) }
     {
         let Writer { writer, .. } = self;
         writer
@@ -83,16 +83,16 @@ impl<W: Write> Writer<W> {
 }
 
 impl<W: Write> Sink for Writer<W> {
-    ghost contents = { λ s. taken (W.contents s.writer) s.unflushed s.flush_failed };
+    ghost contents = { λ s. taken (W.contents s.writer) s.is_dirty s.flush_failed };
 
     ghost has_failed = { λ s. s.write_failed || s.flush_failed };
 
-    ghost kept = { λ s. if s.unflushed then unwrap_or (W.contents s.writer) [] else [] };
+    ghost unflushed = { λ s. if s.is_dirty then unwrap_or (W.contents s.writer) [] else [] };
 
     fn write_some(&mut self, bytes: &[u8]) -> Result<usize, DeviceFault> {
         match self.writer.write(bytes) {
             Ok(n) if n > 0 => {
-                self.unflushed = true;
+                self.is_dirty = true;
                 Ok(n)
             }
             _ => {
@@ -103,11 +103,11 @@ impl<W: Write> Sink for Writer<W> {
     }
 
     fn flush(&mut self) -> Result<(), DeviceFault> {
-        if self.unflushed && self.writer.flush().is_err() {
+        if self.is_dirty && self.writer.flush().is_err() {
             self.flush_failed = true;
             return Err(DeviceFault);
         }
-        self.unflushed = false;
+        self.is_dirty = false;
         Ok(())
     }
 

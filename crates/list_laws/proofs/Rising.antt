@@ -11,7 +11,7 @@ use Rattle.list_laws.specs.Order.{EachOnce}
 use Rattle.list_laws.proofs.IdOrder.{IsIdOrder, irreflexive, asymmetric}
 use Rattle.list_laws.proofs.Members.{Contains-nil, Contains-here, Contains-there, Contains-cases, Contains-parts, map-from}
 use Rattle.list_laws.proofs.Filters.{filter-Contains}
-use Rattle.list_laws.specs.Sorted.{IsRising, IsPlace, IsGap}
+use Rattle.list_laws.specs.Sorted.{IsRising, IsIndexOf, IsGap}
 use Rattle.list_laws.proofs.Keys.{less≢equal, less_back, not_less_back}
 
 module _ {X K : Type 0} {cmp : K → K → Ordering} (o : IsIdOrder cmp) (key : X → K) where
@@ -29,7 +29,7 @@ module _ {X K : Type 0} {cmp : K → K → Ordering} (o : IsIdOrder cmp) (key : 
 
   -- what a binary search finds
   pub searched : (xs : List X) (k : K) (r : Result ℕ ℕ) → IsRising cmp key xs → IsSearchInRange r (length xs)
-      → IsBinarySearchResult (λ y. cmp (key y) k) xs r → MatchResult r (IsPlace cmp key xs k) (IsGap cmp key xs k)
+      → IsBinarySearchResult (λ y. cmp (key y) k) xs r → MatchResult r (IsIndexOf cmp key xs k) (IsGap cmp key xs k)
   searched xs k (Ok i) rising bound found = record { within = bound; has_key = λ d. o.exact (key (get_or xs i d)) k (found d) }
   searched xs k (Err i) rising bound found =
       let parts = found (non_decreasing xs k rising) in

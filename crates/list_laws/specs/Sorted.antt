@@ -13,12 +13,12 @@ module _ {X K : Type 0} (cmp : K → K → Ordering) (key : X → K) where
   IsRising [] = Unit {0}
   IsRising (x ∷ xs) = ((y : X) → Contains xs y → cmp (key x) (key y) ≡ Less) × IsRising xs
 
-  -- the element at place i has the key
-  pub record IsPlace (xs : List X) (k : K) (i : ℕ) : Type 0 where
+  -- the element at index i has the key
+  pub record IsIndexOf (xs : List X) (k : K) (i : ℕ) : Type 0 where
     pub within : i < length xs
     pub has_key : (d : X) → key (slice_index_or xs i d) ≡ k
 
-  -- the key would go at place i: smaller keys before it, and greater keys from it on
+  -- the key would go at index i: smaller keys before it, and greater keys from it on
   pub record IsGap (xs : List X) (k : K) (i : ℕ) : Type 0 where
     pub within : i ≤ length xs
     pub smaller_before : (y : X) → Contains (take i xs) y → cmp (key y) k ≡ Less

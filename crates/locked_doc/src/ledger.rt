@@ -28,13 +28,13 @@ pub struct Ledger<M: Marker> {
 
 impl<M: Marker> Model for Ledger<M> {
     ghost use Rattle.std.specs.Prelude.{ℕ, ◌≤◌};
-    ghost use Rattle.share_ledger.specs.Counters.{ledger_place};
+    ghost use Rattle.share_ledger.specs.Counters.{counter_number};
 
     ghost Value = { ℕ };
 
     ghost view = { λ l. l.next };
 
-    ghost invariant = { λ l. l.table ≤ ledger_place l.next 0 };
+    ghost invariant = { λ l. l.table ≤ counter_number l.next 0 };
 }
 
 // The document of the replica, which has the counters.

@@ -15,8 +15,8 @@ impl<M: Marker> LockedDoc<M> {
     /// Answers a seat's query, with the document unchanged. It adds one to the seat's calls. Its
     /// answer about a place follows from the facts that the logged operations make, in every causal
     /// order of them, and from those of their set alone. An account takes no memory. A seat of
-    /// another document is turned away by `NotOpen`, its calls as they were, and the answer has
-    /// place 0. The ids acknowledged to a seat are just those of its operations in the document.
+    /// another document is turned away by `NotOpen`, its calls as they were, and the answer is of
+    /// call 0. The ids acknowledged to a seat are just those of its operations in the document.
     pub fn read(&self, seat: &mut Seat<M>, query: Query) -> Answer<M>
         ensures own { IsSeatOf self.now.number self.now.document seat.old
             → AnswersFor self.now.document seat.old query result seat.new }

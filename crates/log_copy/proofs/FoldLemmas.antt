@@ -23,7 +23,7 @@ use Rattle.stored_rows.specs.Content.{Holds}
 use Rattle.stored_rows.specs.Steps.{IsOpenWith}
 use Rattle.stored_log.specs.Docs.{Doc}
 use Rattle.log_copy.specs.Kept.{IsSoundCopy, content}
-use Rattle.log_copy.specs.Folded.{IsInFileAlone, Quiets, KeepsCommit, HasFolded, Reopens, StillHolds, IsHeld, WasAlone}
+use Rattle.log_copy.specs.Folded.{IsInFileAlone, Quiets, KeepsCommit, HasFolded, Reopens, StoreHas, FileHas, WasAlone}
 use Rattle.log_copy.proofs.SoundLemmas.{IsSettled}
 
 pub on_ok3 : {T E P Q R Z : Type 0} (r : Result T E) → OnOk r P → OnOk r Q → OnOk r R → (P → Q → R → Z) → OnOk r Z
@@ -74,13 +74,13 @@ module _ {S : Type 0} (g : Ghosts S) (alone_in : S → Trees → Type 0) (old : 
   }
 
   module _ (epoch : ℕ) (docs : List Doc) (is_alone has_failed : Bool) (sound : IsSoundCopy g (record { conn = old; epoch = epoch; docs = docs; is_alone = is_alone; has_failed = has_failed })) where
-    pub still_holds : (last : S) → KeepsCommit g old last → has_failed ≡ false → is_alone ≡ true → StillHolds g (content epoch docs) last
-    still_holds last k works alone clean db may = elim (k.left clean db may) [
+    pub is_in_store : (last : S) → KeepsCommit g old last → has_failed ≡ false → is_alone ≡ true → StoreHas g (content epoch docs) last
+    is_in_store last k works alone clean db may = elim (k.left clean db may) [
       | inl was ↦ sound.left works alone (k.was_clean clean) db was
       | inr is ↦ let s = sound.serves works alone (k.was_clean clean) in subst (Holds (content epoch docs)) (sym (is ∙ ap (λ (d : Database). d.trees) s.committed)) s.holds
     ]
 
-    pub held : (last : S) → HasFolded g alone_in old last → has_failed ≡ false → is_alone ≡ true → IsHeld g alone_in (content epoch docs) last
+    pub held : (last : S) → HasFolded g alone_in old last → has_failed ≡ false → is_alone ≡ true → FileHas g alone_in (content epoch docs) last
     held last f works alone clean =
         let s = sound.serves works alone (omega (arith, f.quiet.clean)) in
         ((g.view last).committed, f.alone clean, subst (Holds (content epoch docs)) (sym (f.same clean ∙ ap (λ (d : Database). d.trees) s.committed)) s.holds)

@@ -20,8 +20,8 @@ pub record IsInFileAlone {D : Type 0} {g : Disk D} (it : FileStore D g) (db : Tr
   pub left : (image : Image) → outcomes g (files it).0 (files it).1 image → HoldsAlone image db
 
 -- whatever a crash leaves of the store holds this
-abbrev pub StillHolds : {S : Type 0} → Ghosts S → Content → S → Type 0
-StillHolds g what last = IsClean (g.view last) → (db : Trees) → g.recovers last db → Holds what db
+abbrev pub StoreHas : {S : Type 0} → Ghosts S → Content → S → Type 0
+StoreHas g what last = IsClean (g.view last) → (db : Trees) → g.recovers last db → Holds what db
 
 module _ {S : Type 0} (g : Ghosts S) where
   abbrev pub Quiets : S → S → Type 0
@@ -60,5 +60,5 @@ module _ {S : Type 0} (g : Ghosts S) (holds_alone : S → Trees → Type 0) wher
     pub holds : Holds what db
 
   -- The store's database file alone holds this.
-  abbrev pub IsHeld : Content → S → Type 0
-  IsHeld what last = IsClean (g.view last) → (db : Trees) × holds_alone last db × Holds what db
+  abbrev pub FileHas : Content → S → Type 0
+  FileHas what last = IsClean (g.view last) → (db : Trees) × holds_alone last db × Holds what db

@@ -7,14 +7,14 @@ use Rattle.sqlite.specs.State.{HasCleanDisk}
 use Rattle.stored_rows.specs.Content.{Holds}
 use Rattle.stored_log.specs.Docs.{Doc}
 use Rattle.stored_log.specs.Log.{IsRaisedOrNot, KeepsAll, LogState, raised_keeps}
-use Rattle.log_copy.specs.Folded.{HasFolded, IsHeld, StillHolds, WasAlone}
+use Rattle.log_copy.specs.Folded.{HasFolded, FileHas, StoreHas, WasAlone}
 use Rattle.log_copy.specs.Kept.{Kept, content}
 
 abbrev pub copied_log : {S : Type 0} → Kept S → LogState
 copied_log c = record { epoch = c.epoch; docs = c.docs; is_alone = c.is_alone; has_failed = c.has_failed }
 
 -- these tables hold such an epoch and documents
-pub record HoldsSuch (such : ℕ → List Doc → Type 0) (db : Trees) : Type 0 where
+pub record HasSuch (such : ℕ → List Doc → Type 0) (db : Trees) : Type 0 where
   pub epoch : ℕ
   pub docs : List Doc
   pub is_such : such epoch docs
@@ -22,7 +22,7 @@ pub record HoldsSuch (such : ℕ → List Doc → Type 0) (db : Trees) : Type 0 
 
 -- a log under a new epoch, or the one before, keeps what that one kept
 pub keeps_such : (first last : LogState) → KeepsAll first last.epoch last.docs → (db : Trees)
-    → HoldsSuch (IsRaisedOrNot last) db → HoldsSuch (KeepsAll first) db
+    → HasSuch (IsRaisedOrNot last) db → HasSuch (KeepsAll first) db
 keeps_such first last kept db h = record {
   epoch = h.epoch;
   docs = h.docs;
@@ -34,11 +34,11 @@ module _ {S : Type 0} (g : Ghosts S) where
   -- In a database with only our tables, whatever a crash leaves holds such an epoch and documents.
   abbrev pub CrashLeaves : Kept S → (ℕ → List Doc → Type 0) → Type 0
   CrashLeaves c such = c.is_alone ≡ true → HasCleanDisk (state g c.conn) → (db : Trees)
-      → (state g c.conn).may_leave db → HoldsSuch such db
+      → (state g c.conn).may_leave db → HasSuch such db
 
   -- Whatever a crash leaves of the store holds the epoch and the documents.
   abbrev pub IsInStore : Kept S → S → Type 0
-  IsInStore c last = c.is_alone ≡ true → StillHolds g (content c.epoch c.docs) last
+  IsInStore c last = c.is_alone ≡ true → StoreHas g (content c.epoch c.docs) last
 
   module _ (holds_alone : S → Trees → Type 0) where
     -- In between, the database file alone held the epoch and the documents of the first.
@@ -48,7 +48,7 @@ module _ {S : Type 0} (g : Ghosts S) where
 
     -- The database file alone holds the epoch and the documents.
     abbrev pub IsInFile : Kept S → S → Type 0
-    IsInFile c last = c.is_alone ≡ true → IsHeld g holds_alone (content c.epoch c.docs) last
+    IsInFile c last = c.is_alone ≡ true → FileHas g holds_alone (content c.epoch c.docs) last
 
     -- It holds what was last committed, also beside other tables and after a fault.
     abbrev pub HasCommitted : Kept S → S → Type 0

@@ -5,7 +5,7 @@ use op_core::Operation;
 use op_log::OpLog;
 use sqlite::ErrorCode;
 use std::alloc::Global;
-use stored_log::{Fault, KeptDoc, StoredFault, StoredLog};
+use stored_log::{Fault, StoredDoc, StoredFault, StoredLog};
 
 /// The error of the database as one of a stored log.
 pub fn stored_fault_of(code: ErrorCode) -> StoredFault {
@@ -32,9 +32,9 @@ impl<S: Foldable + Drop> StoredLog for LogCopy<S> {
 
     ghost was_alone = { WasInFile S.Store S.Foldable.holds_alone };
 
-    ghost is_held = { IsInFile S.Store S.Foldable.holds_alone };
+    ghost is_in_file = { IsInFile S.Store S.Foldable.holds_alone };
 
-    ghost still_holds = { IsInStore S.Store };
+    ghost is_in_store = { IsInStore S.Store };
 
     ghost has_moved = { HasCommitted S.Store S.Foldable.holds_alone };
 
@@ -55,7 +55,7 @@ impl<S: Foldable + Drop> StoredLog for LogCopy<S> {
         LogCopy::epoch_up(self)
     }
 
-    fn docs(&self) -> Result<&[KeptDoc], Fault> {
+    fn docs(&self) -> Result<&[StoredDoc], Fault> {
         LogCopy::docs(self)
     }
 

@@ -3,7 +3,7 @@ use crate::{LogCopy, SqliteFile};
 use op_core::Operation;
 use op_log::OpLog;
 use std::alloc::Global;
-use stored_log::{Fault, KeptDoc, StoredFault, StoredLog};
+use stored_log::{Fault, StoredDoc, StoredFault, StoredLog};
 
 /// The stored log of a SQLite file.
 #[derive(Drop)]
@@ -28,9 +28,9 @@ impl StoredLog for SqliteLog {
 
     ghost was_alone = { λ old new. ⟦<LogCopy<SqliteFile> as StoredLog>⟧.was_alone old.log new.log };
 
-    ghost is_held = { λ it last. ⟦<LogCopy<SqliteFile> as StoredLog>⟧.is_held it.log last.file };
+    ghost is_in_file = { λ it last. ⟦<LogCopy<SqliteFile> as StoredLog>⟧.is_in_file it.log last.file };
 
-    ghost still_holds = { λ it last. ⟦<LogCopy<SqliteFile> as StoredLog>⟧.still_holds it.log last.file };
+    ghost is_in_store = { λ it last. ⟦<LogCopy<SqliteFile> as StoredLog>⟧.is_in_store it.log last.file };
 
     ghost has_moved = { λ it last. ⟦<LogCopy<SqliteFile> as StoredLog>⟧.has_moved it.log last.file };
 
@@ -48,7 +48,7 @@ impl StoredLog for SqliteLog {
         StoredLog::epoch_up(&mut self.log)
     }
 
-    fn docs(&self) -> Result<&[KeptDoc], Fault> {
+    fn docs(&self) -> Result<&[StoredDoc], Fault> {
         StoredLog::docs(&self.log)
     }
 

@@ -5,7 +5,7 @@ use sqlite::{Alter, Connection, Row};
 use sqlite_schema::schema::Schema;
 use std::alloc::Global;
 use std::{fmt, slice};
-use stored_log::{Fault, KeptDoc, is_doc_name, operation_of};
+use stored_log::{Fault, StoredDoc, is_doc_name, operation_of};
 use stored_rows::{FORMAT, Found, OLD_FORMAT, find_tables, meta_in, read_meta};
 
 /// What is wrong with a database as a stored log.
@@ -140,7 +140,7 @@ fn wrong_entries<S: Alter>(alloc: Global, conn: &mut Connection<S>, format: u32)
         return Wrong::Unknown;
     };
     // No document has this name.
-    let Ok(mut doc) = KeptDoc::new(alloc, "") else {
+    let Ok(mut doc) = StoredDoc::new(alloc, "") else {
         return Wrong::Unknown;
     };
     for at in 1..u64::MAX {
@@ -159,7 +159,7 @@ fn wrong_entries<S: Alter>(alloc: Global, conn: &mut Connection<S>, format: u32)
 // What is wrong with this row, if anything. Otherwise its operation is added to its document, which replaces the one of
 // the rows before.
 fn wrong_part(
-    doc: &mut KeptDoc,
+    doc: &mut StoredDoc,
     alloc: Global,
     format: u32,
     row: &Row,
@@ -182,14 +182,14 @@ fn wrong_part(
 }
 
 // Replaces a document of another name: rows come by document, so it gets no further row.
-fn keep_one(doc: &mut KeptDoc, alloc: Global, name: &str) -> Result<(), Fault> {
+fn keep_one(doc: &mut StoredDoc, alloc: Global, name: &str) -> Result<(), Fault> {
     if doc.name() != name {
-        *doc = KeptDoc::new(alloc, name)?;
+        *doc = StoredDoc::new(alloc, name)?;
     }
     Ok(())
 }
 
-fn is_next(doc: &KeptDoc, row: &Row) -> bool {
+fn is_next(doc: &StoredDoc, row: &Row) -> bool {
     match row.get::<u32>(1) {
         Ok(place) => place != 0 && place as usize - 1 == doc.len(),
         Err(_) => false,
@@ -207,7 +207,7 @@ fn operation_at(alloc: Global, format: u32, row: &Row) -> Result<Operation, Faul
     Ok(entry)
 }
 
-fn wrong_order(doc: &mut KeptDoc, entry: Operation) -> Result<Option<Part>, Fault> {
+fn wrong_order(doc: &mut StoredDoc, entry: Operation) -> Result<Option<Part>, Fault> {
     let entry = doc.sharing(entry);
     match doc.add(slice::from_ref(&entry)) {
         Ok(()) => Ok(None),

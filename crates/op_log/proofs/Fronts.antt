@@ -9,7 +9,7 @@ use lib.Pointwise.{bytes_decides}
 use Rattle.lamport_id.specs.Order.{name_cmp}
 use Rattle.crdt_rules.specs.Dependencies.{entry_of}
 use Rattle.op_log.specs.Front.{PutsEntry}
-use Rattle.list_laws.specs.Sorted.{KeysRise, get_by, IsPlace, IsGap}
+use Rattle.list_laws.specs.Sorted.{KeysRise, get_by, IsIndexOf, IsGap}
 use Rattle.list_laws.proofs.Members.{Contains-here, Contains-there, Contains-cases, Contains-take}
 use Rattle.list_laws.proofs.Keys.{IsKeyOrder, less≢equal}
 use Rattle.list_laws.proofs.Bisection.{get-own}
@@ -27,7 +27,7 @@ pub names_differ : (a b : List ℕ) → a ≢ b → bytes_eq a b ≡ false
 names_differ a b other = false_from_ne_true (bytes_eq a b) (λ h. other ((bytes_decides a b).0 h))
 
 module _ {X : Type 0} where
-  pub get_by-place : (pairs : List (List ℕ × X)) (name : List ℕ) (i : ℕ) (d : List ℕ × X) → NamesRise pairs → IsPlace name_cmp (λ e. e.0) pairs name i
+  pub get_by-place : (pairs : List (List ℕ × X)) (name : List ℕ) (i : ℕ) (d : List ℕ × X) → NamesRise pairs → IsIndexOf name_cmp (λ e. e.0) pairs name i
       → get_by bytes_eq pairs name ≡ Some (get_or pairs i d).1
   get_by-place pairs name i d r place =
       subst (λ n. get_by bytes_eq pairs n ≡ Some (get_or pairs i d).1) (place.has_key d)
@@ -71,7 +71,7 @@ module _ {X : Type 0} where
   within_rest : (front : List (List ℕ × X)) (i : ℕ) → suc i < suc (length front) → i < length front
   within_rest front i h = omega arith
 
-  pub put_at_place : (front : List (List ℕ × X)) (name : List ℕ) (c : X) (i : ℕ) → NamesRise front → IsPlace name_cmp (λ e. e.0) front name i
+  pub put_at_place : (front : List (List ℕ × X)) (name : List ℕ) (c : X) (i : ℕ) → NamesRise front → IsIndexOf name_cmp (λ e. e.0) front name i
       → PutsEntry front (set front i (name, c)) name c
   put_at_place [] name c i r place n = let none : i < 0 = place.within in absurd (omega arith)
   put_at_place (e ∷ front) name c zero r place n = same (bytes_eq name n) refl
@@ -80,7 +80,7 @@ module _ {X : Type 0} where
       same true is = refl
       same false is = rw (ap (λ m. bytes_eq m n) (place.has_key e) ∙ is) refl
   put_at_place (e ∷ front) name c (suc i) r place n =
-      let rest : IsPlace name_cmp (λ f. f.0) front name i = record { within = within_rest front i place.within; has_key = place.has_key } in
+      let rest : IsIndexOf name_cmp (λ f. f.0) front name i = record { within = within_rest front i place.within; has_key = place.has_key } in
       ap (λ l. if bytes_eq e.0 n then Some e.1 else l) (put_at_place front name c i r.1 rest n)
       ∙ swap_tests (bytes_eq e.0 n) (bytes_eq name n) (Some e.1) (Some c) (get_by bytes_eq front n) (behind_other e name n other)
     where
@@ -89,15 +89,15 @@ module _ {X : Type 0} where
           less≢equal name_order e.0 name
           (subst (λ m. name_cmp e.0 m ≡ Less) (place.has_key e) (r.0 (get_or front i e) (Contains-get_or front i e (within_rest front i place.within)))) same
 
-  pub NamesRise-set : (front : List (List ℕ × X)) (name : List ℕ) (c : X) (i : ℕ) → NamesRise front → IsPlace name_cmp (λ e. e.0) front name i → NamesRise (set front i (name, c))
+  pub NamesRise-set : (front : List (List ℕ × X)) (name : List ℕ) (c : X) (i : ℕ) → NamesRise front → IsIndexOf name_cmp (λ e. e.0) front name i → NamesRise (set front i (name, c))
   NamesRise-set [] name c i r place = r
   NamesRise-set (e ∷ front) name c zero r place =
       ((λ y h. subst (λ m. name_cmp m y.0 ≡ Less) (place.has_key e) (r.0 y h)), r.1)
   NamesRise-set (e ∷ front) name c (suc i) r place =
-      let rest : IsPlace name_cmp (λ f. f.0) front name i = record { within = within_rest front i place.within; has_key = place.has_key } in
+      let rest : IsIndexOf name_cmp (λ f. f.0) front name i = record { within = within_rest front i place.within; has_key = place.has_key } in
       ((λ y h. first y (set_cases front i rest.within y h) rest), NamesRise-set front name c i r.1 rest)
     where
-      first : (y : List ℕ × X) → ((name, c) ≡ y) ⊎ Contains front y → IsPlace name_cmp (λ f. f.0) front name i → name_cmp e.0 y.0 ≡ Less
+      first : (y : List ℕ × X) → ((name, c) ≡ y) ⊎ Contains front y → IsIndexOf name_cmp (λ f. f.0) front name i → name_cmp e.0 y.0 ≡ Less
       first y (inl here) rest =
           subst (λ m. name_cmp e.0 m ≡ Less) (rest.has_key e ∙ ap (λ z. z.0) here) (r.0 (get_or front i e) (Contains-get_or front i e rest.within))
       first y (inr there) rest = r.0 y there

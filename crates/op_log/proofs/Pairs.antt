@@ -13,7 +13,7 @@ use Rattle.op_core.proofs.FrontPairs.{length-pairs, name-at}
 use Rattle.list_laws.proofs.Reading.{drop_at}
 use Rattle.doc_rules.proofs.OneAnswer.{name_order}
 use Rattle.doc_rules.proofs.WholeFront.{rising_from_ascending}
-use Rattle.list_laws.specs.Sorted.{IsPlace, IsGap}
+use Rattle.list_laws.specs.Sorted.{IsIndexOf, IsGap}
 use Rattle.list_laws.proofs.Rising.{searched}
 
 module _ (names : List (List ℕ)) (counters : List ℕ) (len : length names ≡ length counters) where
@@ -47,7 +47,7 @@ module _ (names : List (List ℕ)) (counters : List ℕ) (len : length names ≡
 
   module _ (ascends : is_ascending (zip names counters) ≡ true) (name : List ℕ) where
     pub place_found : (i : ℕ) → i < length names → IsBinarySearchResult (λ (n : List ℕ). name_cmp n name) names (Ok i)
-        → IsPlace name_cmp (λ (e : List ℕ × ℕ). e.0) (zip names counters) name i
+        → IsIndexOf name_cmp (λ (e : List ℕ × ℕ). e.0) (zip names counters) name i
     place_found i bound found =
         searched name_order (λ (e : List ℕ × ℕ). e.0) (zip names counters) name (Ok i) (rising_from_ascending (zip names counters) ascends)
         (bound_pairs (Ok i) bound) (searched_pairs name (Ok i) bound found)

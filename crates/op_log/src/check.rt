@@ -131,7 +131,7 @@ impl OpLog {
         }
     }
 
-    // Whether the pair at a place is a logged operation, whose own front is at most this one. The pairs
+    // Whether the pair at an index is a logged operation, whose own front is at most this one. The pairs
     // of an operation below are.
     fn knows_pair(&self, front: &Front, below: Option<&Operation>, at: usize) -> bool
         requires ascending { is_ascending front.now ≡ true }

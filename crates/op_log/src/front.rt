@@ -11,7 +11,7 @@ ghost use Rattle.lamport_id.specs.Order.{name_cmp};
 ghost use Rattle.op_core.specs.Front.{is_ascending, is_le};
 ghost use Rattle.crdt_rules.specs.Dependencies.{entry_of};
 ghost use Rattle.op_log.specs.Front.{PutsEntry};
-ghost use Rattle.list_laws.specs.Sorted.{IsPlace, IsGap, KeysRise, get_by};
+ghost use Rattle.list_laws.specs.Sorted.{IsIndexOf, IsGap, KeysRise, get_by};
 
 use json_scalar::Refusal;
 use lamport_id::ReplicaName;
@@ -26,12 +26,12 @@ pub type Entry = (ReplicaName, u64);
 fn search<X>(pairs: &[(ReplicaName, X)], name: ReplicaName) -> Result<usize, usize>
     requires { KeysRise name_cmp pairs.now }
     ensures { MatchResult result
-        (IsPlace name_cmp (λ e. e.0) pairs.now name) (IsGap name_cmp (λ e. e.0) pairs.now name) }
+        (IsIndexOf name_cmp (λ e. e.0) pairs.now name) (IsGap name_cmp (λ e. e.0) pairs.now name) }
 {
     pairs.binary_search_by_key(&name, |pair| pair.0)
 }
 
-/// The counter or the place of the replica's last operation, if it has one.
+/// The counter or the position of the replica's last operation, if it has one.
 pub fn last_of<X: Copy>(pairs: &[(ReplicaName, X)], name: ReplicaName) -> Option<X>
     requires { KeysRise name_cmp pairs.now }
     ensures { result ≡ get_by bytes_eq pairs.now name }
@@ -42,7 +42,7 @@ pub fn last_of<X: Copy>(pairs: &[(ReplicaName, X)], name: ReplicaName) -> Option
     }
 }
 
-/// Makes the counter or the place the last of the replica, in room that was reserved, and returns the
+/// Makes the counter or the position the last of the replica, in room that was reserved, and returns the
 /// one that it had, if it had one.
 pub fn put_last<X: Copy>(pairs: &mut Vec<(ReplicaName, X)>, name: ReplicaName, last: X) -> Option<X>
     requires rising { KeysRise name_cmp pairs.old.items }
@@ -136,7 +136,7 @@ pub fn beside_last(alloc: Global, pairs: &[Entry], entries: &[Operation]) -> Res
 }
 
 /// Returns the operation as it was. Where it has no clones, it shares the names of its front with the
-/// operation at a place, the one of its replica before it, or with the last one, where they have the
+/// operation at a position, the one of its replica before it, or with the last one, where they have the
 /// same, and the keys of its path where they begin the other's. It shares the chunks of counters that
 /// the last one has too.
 pub fn sharing(op: Operation, entries: &[Operation], at: usize) -> Operation
@@ -163,7 +163,7 @@ fn alike<'a>(
     }
 }
 
-/// Whether the operation's front has the pair at this place of a front, at the same place.
+/// Whether the operation's front has the pair at this index of a front, at the same index.
 pub fn has_pair(op: Option<&Operation>, front: &Front, at: usize) -> bool
     requires { at < length front.now }
     ensures { IsTrue result

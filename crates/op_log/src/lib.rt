@@ -7,7 +7,7 @@ mod encode;
 mod front;
 mod index;
 mod log;
-mod place;
+mod log_position;
 
 pub use check::{MAX_OPERATIONS, MAX_REPLICAS};
 pub use clones::clone_all;

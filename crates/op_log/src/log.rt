@@ -159,7 +159,7 @@ impl OpLog {
         ensures { result ≡ op }
     {
         let before = match self.index.last_of(op.id().replica) {
-            Some(place) => place.number(),
+            Some(position) => position.number(),
             None => self.entries.len(),
         };
         front::sharing(op, &self.entries, before)
@@ -193,8 +193,8 @@ impl OpLog {
         text_of_uncovered(alloc, self, front, limit)
     }
 
-    // The place of the first operation from a place on that the front does not cover, or the number of operations.
-    // The one right before that place, if there is one, isn't covered.
+    // The position of the first operation from a position on that the front does not cover, or the number of operations.
+    // The one right before that position, if there is one, isn't covered.
     pub(crate) fn next_uncovered(&self, front: &Front, from: usize) -> usize
         requires within { from ≤ length self.now.operations }
         requires before { (k : ℕ) → k + 1 ≡ from → IsUncovered front.now self.now.operations k }
@@ -245,7 +245,7 @@ impl OpLog {
         true
     }
 
-    // Whether the id of the pair at a place is logged.
+    // Whether the id of the pair at an index is logged.
     fn logs_pair(&self, front: &Front, last: Option<&Operation>, at: usize) -> bool
         requires within { at < length front.now }
         requires logged { IfSome (option_copied last) (λ op. Contains self.now.operations op) }

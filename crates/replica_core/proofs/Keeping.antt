@@ -5,7 +5,7 @@ use Rattle.list_laws.proofs.Members.{Contains-nil}
 use Rattle.doc_api.specs.declared.ask.Command.{Command}
 use Rattle.doc_api.specs.declared.reply.Reply.{Reply}
 use Rattle.doc_rules.specs.Events.{Event, IsWellMade}
-use Rattle.doc_rules.specs.Replica.{IsKept}
+use Rattle.doc_rules.specs.Replica.{IsValidReplica}
 use Rattle.doc_rules.proofs.Kept.{event_keeps}
 use Rattle.crdt_rules.specs.Log.{IsGood}
 use Rattle.replica_core.specs.Whole.{Contents, IsWhole, replica_of, replica_with}
@@ -14,7 +14,7 @@ use Rattle.replica_core.specs.Whole.{Contents, IsWhole, replica_of, replica_with
 pub whole_log : (name : List ℕ) (b : Contents) → is_name name ≡ true → IsGood b.log → b.held ≡ [] → IsWhole name b
 whole_log name b named good none = record {
   named = named;
-  kept = subst (λ h. IsKept (replica_of name b.log h)) (sym none)
+  kept = subst (λ h. IsValidReplica (replica_of name b.log h)) (sym none)
       (record {
         good = good;
         in_order = tt;

@@ -5,7 +5,7 @@ use Rattle.op_core.specs.Limits.{most_held}
 use Rattle.doc_api.specs.Words.{Id, Op}
 use Rattle.crdt_rules.specs.Same.{id_eq}
 use Rattle.doc_tree.specs.Nodes.{TreeValue}
-use Rattle.doc_rules.specs.Replica.{Replica, IsKept, put_among}
+use Rattle.doc_rules.specs.Replica.{Replica, IsValidReplica, put_among}
 use Rattle.hold_buffer.specs.Held.{Buffer, IsCurrent}
 use Rattle.replica_core.specs.AgreesWith.{AgreesWith}
 
@@ -45,4 +45,4 @@ pub record IsBody (tree : TreeValue) (log : List Op) (buffer : Buffer) : Type 0 
 -- the log is good, and what is held waits
 pub record IsWhole (name : List ℕ) (b : Contents) : Type 0 where
   pub named : is_name name ≡ true
-  pub kept : IsKept (replica_with name b)
+  pub kept : IsValidReplica (replica_with name b)

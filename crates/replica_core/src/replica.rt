@@ -4,7 +4,7 @@ ghost use Rattle.json_scalar.specs.declared.refusal.Refusal.TheVariants.{NoMemor
 ghost use Rattle.crdt_rules.specs.Log.{IsGood};
 ghost use Rattle.doc_rules.specs.Answers.{MayAnswer};
 ghost use Rattle.doc_rules.specs.Events.{Does, Event};
-ghost use Rattle.doc_rules.specs.Replica.{IsKept};
+ghost use Rattle.doc_rules.specs.Replica.{IsValidReplica};
 ghost use Rattle.doc_api.specs.declared.ask.Command.TheVariants as command;
 ghost use Rattle.replica_core.specs.Memory.{MayLack};
 ghost use Rattle.replica_core.specs.Misfits.{IsMisfitOf};
@@ -114,7 +114,7 @@ impl Replica {
     /// Its log.
     pub fn log(&self) -> &OpLog
         ensures log { result.now.operations ≡ self.now.log }
-        ensures kept { IsKept self.now }
+        ensures kept { IsValidReplica self.now }
     {
         self.body.log()
     }

@@ -20,20 +20,20 @@ AreWanted wanted names documents =
 -- for this cause.
 abbrev pub ServesWanted : Wanted → Ending → Option (List ℕ) → Option (List ℕ) → Option (List ℕ) → Option (List ℕ)
     → Type 0
-ServesWanted wanted why had has held holds =
+ServesWanted wanted why had has out_before out_after =
     (end : Session (List Document))
     × Ends (alone wanted.documents) (begins_alone (first_replica wanted.name) wanted.documents)
-    had has held holds why end
+    had has out_before out_after why end
 
 -- a whole session, which no device's fault ended
 abbrev pub ServesAll : Wanted → Option (List ℕ) → Option (List ℕ) → Option (List ℕ) → Option (List ℕ) → Type 0
-ServesAll wanted had has held holds =
-    (why : Ending) × (why ≢ ReadFault) × (why ≢ WriteFault) × ServesWanted wanted why had has held holds
+ServesAll wanted had has out_before out_after =
+    (why : Ending) × (why ≢ ReadFault) × (why ≢ WriteFault) × ServesWanted wanted why had has out_before out_after
 
 -- a session up to the fault of the source or of the sink, of which it is said whether they have
 -- failed
 abbrev pub ServesUntilFault : Wanted → Bool → Bool → Option (List ℕ) → Option (List ℕ) → Option (List ℕ)
     → Option (List ℕ) → Type 0
-ServesUntilFault wanted source_failed sink_failed had has held holds =
-    (IsTrue source_failed × ServesWanted wanted ReadFault had has held holds)
-    ⊎ (IsTrue sink_failed × ServesWanted wanted WriteFault had has held holds)
+ServesUntilFault wanted source_failed sink_failed had has out_before out_after =
+    (IsTrue source_failed × ServesWanted wanted ReadFault had has out_before out_after)
+    ⊎ (IsTrue sink_failed × ServesWanted wanted WriteFault had has out_before out_after)

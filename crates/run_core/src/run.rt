@@ -113,7 +113,7 @@ fn serve<D: Document, R: Source, W: Sink>(
         → result ≡ 0 → ServesAll wanted
         (R.remaining source.old) (R.remaining source.new) (W.contents sink.old) (W.contents sink.new) }
     ensures no_fault { result ≡ 0 → (R.has_failed source.new ≡ false) × (W.has_failed sink.new ≡ false) }
-    ensures flushed { W.kept sink.old ≡ [] → result ≡ 0 → W.kept sink.new ≡ [] }
+    ensures flushed { W.unflushed sink.old ≡ [] → result ≡ 0 → W.unflushed sink.new ≡ [] }
     ensures failed { (wanted : Wanted) → AreWanted wanted documents.names.items (map D.document documents.documents.items)
         → result ≡ 1 → ServesUntilFault wanted (R.has_failed source.new) (W.has_failed sink.new)
         (R.remaining source.old) (R.remaining source.new) (W.contents sink.old) (W.contents sink.new)
@@ -147,7 +147,7 @@ pub fn run_over<M: Maker, R: Source, W: Sink>(
         → ServesAll (wanted_by name.now (map (λ s. s.now) documents.now))
         (R.remaining source.old) (R.remaining source.new) (W.contents sink.old) (W.contents sink.new) }
     ensures no_fault { result ≡ 0 → (R.has_failed source.new ≡ false) × (W.has_failed sink.new ≡ false) }
-    ensures flushed { W.kept sink.old ≡ [] → result ≡ 0 → W.kept sink.new ≡ [] }
+    ensures flushed { W.unflushed sink.old ≡ [] → result ≡ 0 → W.unflushed sink.new ≡ [] }
     ensures failed { result ≡ 1
         → ServesUntilFault (wanted_by name.now (map (λ s. s.now) documents.now))
         (R.has_failed source.new) (W.has_failed sink.new)

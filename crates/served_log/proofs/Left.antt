@@ -42,32 +42,32 @@ kept_raised names old begun new raised kept = record {
 module _ {L Left : Type 0} (g : Ghosts L Left) where
   -- what is held where the log was closed, and what it still holds otherwise
   abbrev pub Held : {E : Type 0} → Result ⊤ E → L → Left → Type 0
-  Held closed new last = OnOk closed ((g.log new).has_failed ≡ false → g.is_held new last)
+  Held closed new last = OnOk closed ((g.log new).has_failed ≡ false → g.is_in_file new last)
 
   abbrev pub Kept : {E : Type 0} → Result ⊤ E → L → Left → Type 0
-  Kept closed new last = OnErr closed ((g.log new).has_failed ≡ false → g.still_holds new last)
+  Kept closed new last = OnErr closed ((g.log new).has_failed ≡ false → g.is_in_store new last)
 
   -- sessions over a log that was folded, and was closed behind them
-  pub serves_folded : {X F E : Type 0} (replica : List ℕ) (names : List (List ℕ)) (count : ℕ) (begun folded new : L) (served ended : Result X F) (closed : Result ⊤ E) (last : Left) (held holds : Option (List ℕ))
+  pub serves_folded : {X F E : Type 0} (replica : List ℕ) (names : List (List ℕ)) (count : ℕ) (begun folded new : L) (served ended : Result X F) (closed : Result ⊤ E) (last : Left) (out_before out_after : Option (List ℕ))
       → ended ≡ served → g.log folded ≡ g.log begun → (g.log begun).has_failed ≡ false → (g.log new).is_alone ≡ (g.log folded).is_alone → g.was_alone begun folded
-      → OnOk served (ServesSessions (origin_at replica (g.log folded).docs names) (g.log new).docs names count held holds) → OnOk served (AddsBatches (origin_at replica (g.log folded).docs names) names (g.log folded) (g.log new)) → OnOk served ((g.log folded).has_failed ≡ false → (g.log new).has_failed ≡ false)
-      → Held closed new last → OnOk ended (ServesFolded g replica names count begun closed last held holds)
-  serves_folded {X} {F} replica names count begun folded new served ended closed last held holds is same fine same_tables alone sessions copied works held_then =
-      subst (λ (r : Result X F). OnOk r (ServesFolded g replica names count begun closed last held holds)) (sym is) (go served sessions copied works)
+      → OnOk served (ServesSessions (origin_at replica (g.log folded).docs names) (g.log new).docs names count out_before out_after) → OnOk served (AddsBatches (origin_at replica (g.log folded).docs names) names (g.log folded) (g.log new)) → OnOk served ((g.log folded).has_failed ≡ false → (g.log new).has_failed ≡ false)
+      → Held closed new last → OnOk ended (ServesFolded g replica names count begun closed last out_before out_after)
+  serves_folded {X} {F} replica names count begun folded new served ended closed last out_before out_after is same fine same_tables alone sessions copied works held_then =
+      subst (λ (r : Result X F). OnOk r (ServesFolded g replica names count begun closed last out_before out_after)) (sym is) (go served sessions copied works)
     where
-      go : (r : Result X F) → OnOk r (ServesSessions (origin_at replica (g.log folded).docs names) (g.log new).docs names count held holds) → OnOk r (AddsBatches (origin_at replica (g.log folded).docs names) names (g.log folded) (g.log new)) → OnOk r ((g.log folded).has_failed ≡ false → (g.log new).has_failed ≡ false)
-          → OnOk r (ServesFolded g replica names count begun closed last held holds)
+      go : (r : Result X F) → OnOk r (ServesSessions (origin_at replica (g.log folded).docs names) (g.log new).docs names count out_before out_after) → OnOk r (AddsBatches (origin_at replica (g.log folded).docs names) names (g.log folded) (g.log new)) → OnOk r ((g.log folded).has_failed ≡ false → (g.log new).has_failed ≡ false)
+          → OnOk r (ServesFolded g replica names count begun closed last out_before out_after)
       go (Ok x) told added well =
           let still_works = well (ap (λ (k : LogState). k.has_failed) same ∙ fine) in record {
             folded = folded;
             new = new;
             same = same;
             was_alone = alone;
-            sessions = subst (λ (k : LogState). ServesSessions (origin_at replica k.docs names) (g.log new).docs names count held holds) same told;
+            sessions = subst (λ (k : LogState). ServesSessions (origin_at replica k.docs names) (g.log new).docs names count out_before out_after) same told;
             copied = subst (λ (k : LogState). AddsBatches (origin_at replica k.docs names) names (g.log folded) (g.log new)) same added;
             alone = same_tables ∙ ap (λ (k : LogState). k.is_alone) same;
             works = still_works;
-            is_held = then_ok closed held_then (λ h. h still_works);
+            is_in_file = then_ok closed held_then (λ h. h still_works);
           }
       go (Err e) told added well = tt
 
@@ -79,7 +79,7 @@ module _ {L Left : Type 0} (g : Ghosts L Left) where
     new = new;
     kept = λ works. kept_grown replica names (g.log begun) (g.log folded) (g.log new) same (grown (sym failed ∙ works));
     alone = same_tables ∙ ap (λ (k : LogState). k.is_alone) same;
-    is_held = then_ok closed held (λ h works. h (sym failed ∙ works));
+    is_in_file = then_ok closed held (λ h works. h (sym failed ∙ works));
     left = then_err closed left (λ h works. h (sym failed ∙ works));
   }
 
@@ -90,14 +90,14 @@ module _ {L Left : Type 0} (g : Ghosts L Left) where
     new = leaves.new;
     kept = λ works. kept_raised names (g.log old) (g.log begun) (g.log leaves.new) raised (leaves.kept works);
     alone = leaves.alone ∙ same_tables;
-    is_held = leaves.is_held;
+    is_in_file = leaves.is_in_file;
     left = leaves.left;
   }
 
-  pub serves_stored : {X F E : Type 0} {name replica : List ℕ} (names : List (List ℕ)) (count : ℕ) (old begun : L) (ended : Result X F) (closed : Result ⊤ E) (last : Left) (held holds : Option (List ℕ))
-      → IsRaised name names replica (g.log old) (g.log begun) → (g.log begun).is_alone ≡ (g.log old).is_alone → OnOk ended (ServesFolded g replica names count begun closed last held holds)
-      → OnOk ended (ServesStored g name names count old closed last held holds)
-  serves_stored {replica = replica} names count old begun ended closed last held holds raised same_tables served =
+  pub serves_stored : {X F E : Type 0} {name replica : List ℕ} (names : List (List ℕ)) (count : ℕ) (old begun : L) (ended : Result X F) (closed : Result ⊤ E) (last : Left) (out_before out_after : Option (List ℕ))
+      → IsRaised name names replica (g.log old) (g.log begun) → (g.log begun).is_alone ≡ (g.log old).is_alone → OnOk ended (ServesFolded g replica names count begun closed last out_before out_after)
+      → OnOk ended (ServesStored g name names count old closed last out_before out_after)
+  serves_stored {replica = replica} names count old begun ended closed last out_before out_after raised same_tables served =
       then_ok ended served (λ s. record { begun = begun; replica = replica; raised = raised; same_tables = same_tables; served = s })
 
   -- a start that came to nothing
@@ -108,17 +108,17 @@ module _ {L Left : Type 0} (g : Ghosts L Left) where
     new = new;
     kept = λ works. kept_by_start {names = names} faults kept (sym failed ∙ works);
     alone = same_tables;
-    is_held = then_ok closed held (λ h works. h (sym failed ∙ works));
+    is_in_file = then_ok closed held (λ h works. h (sym failed ∙ works));
     left = then_err closed left (λ h works. h (sym failed ∙ works));
   }
 
   -- a log that could not be folded
   pub leaves_unfolded : {E : Type 0} (names : List (List ℕ)) (begun : L) (why : E) (last : Left)
-      → g.still_holds begun last → LeavesStored g names begun false (Err why) last
+      → g.is_in_store begun last → LeavesStored g names begun false (Err why) last
   leaves_unfolded names begun why last left = record {
     new = begun;
     kept = λ works. record { replica = []; any = false; added = none; epoch = omega arith };
     alone = refl;
-    is_held = tt;
+    is_in_file = tt;
     left = λ works. left;
   }

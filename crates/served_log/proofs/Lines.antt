@@ -25,12 +25,12 @@ lines_end names totals i past = rw (drop_all i names past) refl
 
 -- what sessions did over documents of these names, and what was written of it
 pub serves : (origin : ℕ → Origin) (last : List Doc) (shelved names : List (List ℕ)) (connections : List Bytes) (count : ℕ) {F : Type 0} {ran : Result Gathered F} (gathered : Gathered)
-    (held holds : Option (List ℕ)) → ran ≡ Ok gathered
+    (out_before out_after : Option (List ℕ)) → ran ≡ Ok gathered
     → IfOk ran (λ g. (given : List (List (Option Seat))) × AreAttended origin shelved connections g.endings.items given × AreTotalsFrom origin 0 given g.totals.items)
     → IfOk ran (λ g. vec_len g.totals ≡ length shelved)
     → shelved ≡ names → length connections ≡ count → AreStored last names gathered.totals.items
-    → Appends held holds (total_lines names gathered.totals.items) → ServesSessions origin last names count held holds
-serves origin last shelved names connections count gathered held holds is sessions each same so_many stored written =
+    → Appends out_before out_after (total_lines names gathered.totals.items) → ServesSessions origin last names count out_before out_after
+serves origin last shelved names connections count gathered out_before out_after is sessions each same so_many stored written =
     let (given, attended, added) = subst
     (λ ran. IfOk ran (λ g. (given : List (List (Option Seat))) × AreAttended origin shelved connections g.endings.items given × AreTotalsFrom origin 0 given g.totals.items)) is sessions in
     let many : vec_len gathered.totals ≡ length shelved = subst (λ ran. IfOk ran (λ g. vec_len g.totals ≡ length shelved)) is each in

@@ -38,7 +38,7 @@ AreStored docs names totals = AllZip (IsStored docs) names totals
 -- has these last documents: of each it has as many operations as the totals say. Where they are
 -- known, the bytes are what a connection's source has and what its sink has taken.
 pub record ServesSessions (origin : ℕ → Origin) (last : List Doc) (names : List (List ℕ)) (count : ℕ)
-    (held holds : Option (List ℕ)) : Type 0 where
+    (out_before out_after : Option (List ℕ)) : Type 0 where
   pub connections : List Bytes
   pub endings : List (Option Ending)
   pub given : List (List (Option Seat))
@@ -48,4 +48,4 @@ pub record ServesSessions (origin : ℕ → Origin) (last : List Doc) (names : L
   pub each : length totals ≡ length names
   pub added : AreTotalsFrom origin 0 given totals
   pub stored : AreStored last names totals
-  pub written : Appends held holds (total_lines names totals)
+  pub written : Appends out_before out_after (total_lines names totals)

@@ -9,7 +9,7 @@ use server_notes::{
     Fill, note_ending, note_going_on, note_lacking, note_nearly_full, note_restored, note_stopped,
 };
 use std::time::Clock;
-use stored_log::{KeptDoc, StoredFault, StoredLog, find};
+use stored_log::{StoredDoc, StoredFault, StoredLog, find};
 
 // So many operations of those that a document may have.
 fn operations(count: usize) -> Fill {
@@ -46,7 +46,7 @@ fn warn_if_crossed<R: Log + Clock>(rt: &R, name: &str, fill: Fill, more: usize, 
 }
 
 // Notes a document that is stored. Without memory for its front the note is lost.
-fn note_document<R: Log + Clock>(rt: &R, document: &KeptDoc) {
+fn note_document<R: Log + Clock>(rt: &R, document: &StoredDoc) {
     let Ok(front) = document.front() else {
         return;
     };
@@ -87,7 +87,7 @@ pub(crate) struct CopyLogger<'a, R> {
 }
 
 impl<R: Log + Clock> CopyObserver for CopyLogger<'_, R> {
-    fn added(&self, document: &KeptDoc, entries: &[Operation]) {
+    fn added(&self, document: &StoredDoc, entries: &[Operation]) {
         let logged = operations(document.len());
         warn_if_crossed(
             self.rt,

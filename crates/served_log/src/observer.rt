@@ -1,13 +1,13 @@
 //! What a copier reports while it runs.
 use op_core::Operation;
-use stored_log::{KeptDoc, StoredFault};
+use stored_log::{StoredDoc, StoredFault};
 
 /// Is notified of what a copier does. The copier waits for each call, and holds no lock meanwhile.
 /// No clause says anything of it.
 pub trait CopyObserver {
     /// Called after each batch, with the document as it is stored and the entries that were just
     /// written.
-    fn added(&self, document: &KeptDoc, entries: &[Operation]);
+    fn added(&self, document: &StoredDoc, entries: &[Operation]);
 
     /// Called where memory ran out, and the copier pauses before it tries again. Nobody waits for it
     /// meanwhile. Called once until it goes on.

@@ -9,7 +9,7 @@ ghost use Rattle.served_log.specs.Named.{IsRaised, is_known, replica_name};
 
 use lamport_id::ReplicaName;
 use std::alloc::Global;
-use stored_log::{Fault, KeptDoc, StoredLog, find};
+use stored_log::{Fault, StoredDoc, StoredLog, find};
 
 // The replica name of a server of this name in this epoch. `Refused` where that is no name.
 fn replica_at(alloc: Global, name: &str, epoch: u64) -> Result<ReplicaName, Fault>
@@ -27,7 +27,7 @@ fn replica_at(alloc: Global, name: &str, epoch: u64) -> Result<ReplicaName, Faul
 }
 
 // Whether the stored log has operations of the replica in the document of this name.
-fn is_known_in(docs: &[KeptDoc], name: &str, replica: &ReplicaName) -> bool
+fn is_known_in(docs: &[StoredDoc], name: &str, replica: &ReplicaName) -> bool
     requires { AreInOrder docs.now }
     ensures { result ≡ list_any (is_by replica.now) (log_of name.now docs.now) }
 {
@@ -38,7 +38,7 @@ fn is_known_in(docs: &[KeptDoc], name: &str, replica: &ReplicaName) -> bool
 }
 
 // Whether the stored log has operations of the replica in one of these documents.
-fn is_known(docs: &[KeptDoc], names: &[&str], replica: &ReplicaName) -> bool
+fn is_known(docs: &[StoredDoc], names: &[&str], replica: &ReplicaName) -> bool
     requires { AreInOrder docs.now }
     ensures { result ≡ is_known replica.now docs.now (map (λ s. s.now) names.now) }
 {

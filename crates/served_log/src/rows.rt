@@ -4,10 +4,10 @@ ghost use Rattle.stored_log.specs.Docs.{AreInOrder};
 ghost use Rattle.served_log.specs.Totals.{AreStored, IsStored};
 
 use locked_doc::Totals;
-use stored_log::{KeptDoc, StoredLog, count};
+use stored_log::{StoredDoc, StoredLog, count};
 
 // Whether all operations of the document of this name are stored, and are counted as copied.
-fn is_stored(docs: &[KeptDoc], name: &str, totals: &Totals) -> bool
+fn is_stored(docs: &[StoredDoc], name: &str, totals: &Totals) -> bool
     requires { AreInOrder docs.now }
     ensures { IsTrue result ↔ IsStored docs.now name.now totals.now }
 {
@@ -16,7 +16,7 @@ fn is_stored(docs: &[KeptDoc], name: &str, totals: &Totals) -> bool
 }
 
 // Whether that holds of each document, in order.
-fn are_stored(docs: &[KeptDoc], names: &[&str], totals: &[Totals]) -> bool
+fn are_stored(docs: &[StoredDoc], names: &[&str], totals: &[Totals]) -> bool
     requires order { AreInOrder docs.now }
     requires each { length totals.now ≡ length names.now }
     ensures { IsTrue result ↔ AreStored docs.now (map (λ s. s.now) names.now) totals.now }

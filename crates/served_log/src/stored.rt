@@ -56,8 +56,8 @@ fn has_failed<L: StoredLog>(copy: &L) -> bool
 fn end<L: StoredLog>(served: Result<(), Failure>, copy: L) -> Ended<L::Left>
     ensures served { result.served ≡ served }
     ensures failed { result.has_failed ≡ (L.log copy).has_failed }
-    ensures held { OnOk result.closed ((L.log copy).has_failed ≡ false → L.is_held copy result.store) }
-    ensures left { OnErr result.closed ((L.log copy).has_failed ≡ false → L.still_holds copy result.store) }
+    ensures held { OnOk result.closed ((L.log copy).has_failed ≡ false → L.is_in_file copy result.store) }
+    ensures left { OnErr result.closed ((L.log copy).has_failed ≡ false → L.is_in_store copy result.store) }
 {
     let has_failed = has_failed(&copy);
     match copy.close() {

@@ -24,7 +24,7 @@ one_attended origin names (h ∷ all) [] sessions connection why ends are is = a
 one_attended origin names (h ∷ all) (w ∷ endings) [] connection why ends are is = absurd are
 one_attended origin names (h ∷ all) (w ∷ endings) (x ∷ sessions) connection why ends are is = (are.0, one_attended origin names all endings sessions connection why ends are.1 is)
 
--- what holds of the items of two lists, place by place, and of one more
+-- what holds of the items of two lists, index by index, and of one more
 pub zip_more : {A B : Type 0} (R : A → B → Type 0) (xs : List A) (ys : List B) (x : A) (y : B) → AllZip R xs ys → R x y → AllZip R (xs ++ x ∷ []) (ys ++ y ∷ [])
 zip_more R [] [] x y are is = (is, tt)
 zip_more R [] (b ∷ ys) x y are is = absurd are

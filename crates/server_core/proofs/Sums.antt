@@ -22,7 +22,7 @@ one_more origin n sessions (x ∷ totals) t are next =
           (subst (λ k. AreTotals origin k (flat_map first_end (ends_behind (length totals) (map later_ends sessions))) t) there next),
     )
 
--- a document that differs, in the place behind those that were gathered
+-- a document that differs, at the index behind those that were gathered
 pub differs_there : {P Q : Type 0} {number n : ℕ} {sessions behind : List (List (Option Seat))} (d : Locked) (ends : List Seat) → number ≡ n → sessions ≡ behind
     → P ⊎ (Q × Differs number (flat_map first_end sessions) d ends) → P ⊎ (Q × Differs n (flat_map first_end behind) d ends)
 differs_there {P} {Q} {number} {n} {sessions} {behind} d ends there is differs =

@@ -11,14 +11,14 @@ abbrev pub allowed : Pace → ℕ
 allowed (Behind most) = most
 allowed Durable = 0
 
--- The reply to a change at this place of the log may go out, where the file has so many of the
--- document's operations; or nothing copies.
+-- The reply to a change after which the log has so many operations may go out, where the file has so
+-- many of them; or nothing copies.
 abbrev pub MayGo : Pace → Option ℕ → ℕ → Type 0
-MayGo pace (Some stored) place = place ≤ stored + allowed pace
-MayGo (Behind most) None place = Unit {0}
-MayGo Durable None place = ⊥
+MayGo pace (Some stored) count = count ≤ stored + allowed pace
+MayGo (Behind most) None count = Unit {0}
+MayGo Durable None count = ⊥
 
 -- How many of the document's operations the file must have before this reply is durable: all that
 -- are logged, where it says of an operation that it is logged; else none.
-abbrev pub owed_place : Reply → Document → ℕ
-owed_place reply d = if says_logged reply then length d.replica.log else 0
+abbrev pub owed_count : Reply → Document → ℕ
+owed_count reply d = if says_logged reply then length d.replica.log else 0

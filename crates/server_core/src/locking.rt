@@ -29,7 +29,7 @@ pub(crate) fn spin_then_lock<'a, T, R: Wait>(rt: &R, mutex: &'a Mutex<T>) -> Mut
 }
 
 /// Takes the lock of the document of this number, at which so many seats are opened. No clause can say
-/// what a lock holds, so it looks: the document at the number's place in the shelf has that number, and
+/// what a lock holds, so it looks: the document whose index in the shelf is the number has that number, and
 /// its seats stay opened, so the first look finds it so. In a shelf of another order it would look
 /// forever.
 pub fn lock_document<'a, M: Marker, R: Wait>(

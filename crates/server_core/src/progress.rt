@@ -30,25 +30,25 @@ enum Turn {
 }
 
 // Whether the file has all but the allowed ones of so many operations.
-fn has_enough(pace: Pace, stored: u64, place: u64) -> bool
-    ensures yes { IsTrue result → place ≤ stored + allowed pace }
-    ensures no { result ≡ false → stored + allowed pace < place }
+fn has_enough(pace: Pace, stored: u64, count: u64) -> bool
+    ensures yes { IsTrue result → count ≤ stored + allowed pace }
+    ensures no { result ≡ false → stored + allowed pace < count }
 {
     match pace {
-        Pace::Behind(most) => place <= stored || place - stored <= most,
-        Pace::Durable => place <= stored,
+        Pace::Behind(most) => count <= stored || count - stored <= most,
+        Pace::Durable => count <= stored,
     }
 }
 
-// What a session does whose reply is to a change at this place of the log, where the file has so
-// many of the document's operations, or nothing copies.
-fn next_step(pace: Pace, stored: Option<u64>, place: u64) -> Turn
-    ensures goes { result ≡ Turn.Goes → MayGo pace stored place }
-    ensures waits { result ≡ Turn.Waits → MatchOption stored ⊥ (λ n. n + allowed pace < place) }
+// What a session does whose reply is to a change after which the log has so many operations, where
+// the file has so many of them, or nothing copies.
+fn next_step(pace: Pace, stored: Option<u64>, count: u64) -> Turn
+    ensures goes { result ≡ Turn.Goes → MayGo pace stored count }
+    ensures waits { result ≡ Turn.Waits → MatchOption stored ⊥ (λ n. n + allowed pace < count) }
     ensures ends { result ≡ Turn.Ends → (pace ≡ Pace.Durable) × (stored ≡ None) }
 {
     match stored {
-        Some(count) => if has_enough(pace, count, place) {
+        Some(stored) => if has_enough(pace, stored, count) {
             Turn::Goes
         } else {
             Turn::Waits
@@ -227,12 +227,12 @@ impl Progress {
     }
 
     // `wait_for`, once the session counts as one that waits.
-    fn wait_counted<R: Wait>(&self, rt: &R, document: usize, place: u64) -> bool
-        ensures { IsTrue result → (stored : Option ℕ) × MayGo self.now.pace stored place }
+    fn wait_counted<R: Wait>(&self, rt: &R, document: usize, count: u64) -> bool
+        ensures { IsTrue result → (stored : Option ℕ) × MayGo self.now.pace stored count }
     {
         for _ in rt.forever() {
             let stored = self.stored(document);
-            match next_step(self.pace, stored, place) {
+            match next_step(self.pace, stored, count) {
                 Turn::Goes => return true,
                 Turn::Waits => self.sleep(rt, document, stored.unwrap_or(0)),
                 Turn::Ends => return false,
@@ -241,17 +241,17 @@ impl Progress {
         false
     }
 
-    /// Waits until the reply to a change at this place of the document's log may go out. False
-    /// where it never may: the file has the operation not, and nothing copies.
-    pub fn wait_for<R: Wait>(&self, rt: &R, signal: &Signal, document: usize, place: u64) -> bool
-        ensures goes { IsTrue result → (stored : Option ℕ) × MayGo self.now.pace stored place }
+    /// Waits until the reply to a change may go out after which the document's log has so many
+    /// operations. False where it never may: the file has the operation not, and nothing copies.
+    pub fn wait_for<R: Wait>(&self, rt: &R, signal: &Signal, document: usize, count: u64) -> bool
+        ensures goes { IsTrue result → (stored : Option ℕ) × MayGo self.now.pace stored count }
     {
-        match next_step(self.pace, self.stored(document), place) {
+        match next_step(self.pace, self.stored(document), count) {
             Turn::Goes => true,
             Turn::Ends => false,
             Turn::Waits => {
                 self.begin(signal);
-                let goes = self.wait_counted(rt, document, place);
+                let goes = self.wait_counted(rt, document, count);
                 self.waiting.fetch_sub(1, Ordering::SeqCst);
                 goes
             }

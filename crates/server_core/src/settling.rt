@@ -10,12 +10,11 @@ use std::alloc::{AllocError, Global};
 use std::sync::Wait;
 use std::sync::atomic::{AtomicU64, Ordering};
 
-/// What a session waits for before its next reply goes out: of each document, up to which place of
-/// its log the file must have it. The session's two halves share it: the documents owe, the sink
-/// settles.
+/// What a session waits for before its next reply goes out: of each document, how many of its operations
+/// the file must have. The session's two halves share it: the documents owe, the sink settles.
 #[derive(Drop)]
 pub struct Debts {
-    places: Vec<AtomicU64>,
+    owed: Vec<AtomicU64>,
 }
 
 // That nothing is owed. Only `Debts::settle` makes one.
@@ -25,25 +24,25 @@ struct Settled;
 impl Debts {
     /// Of so many documents. It owes nothing.
     pub fn new(alloc: Global, documents: usize) -> Result<Debts, AllocError> {
-        let mut places = Vec::new(alloc);
+        let mut owed = Vec::new(alloc);
         for _ in 0..documents {
-            places.push(AtomicU64::new(0))?;
+            owed.push(AtomicU64::new(0))?;
         }
-        Ok(Debts { places })
+        Ok(Debts { owed })
     }
 
     /// Of no documents: it never owes anything. It takes no memory.
     pub fn none(alloc: Global) -> Debts {
         Debts {
-            places: Vec::new(alloc),
+            owed: Vec::new(alloc),
         }
     }
 
-    /// The file must have the document of this number up to this place. 0 changes nothing.
-    pub fn owe(&self, document: usize, place: u64) {
-        if place > 0 {
-            if let Some(owed) = self.places.get(document) {
-                owed.store(place, Ordering::SeqCst);
+    /// The file must have the document of this number with so many operations. 0 changes nothing.
+    pub fn owe(&self, document: usize, count: u64) {
+        if count > 0 {
+            if let Some(owed) = self.owed.get(document) {
+                owed.store(count, Ordering::SeqCst);
             }
         }
     }
@@ -51,9 +50,9 @@ impl Debts {
     // Waits until the replies to all changes may go out, and then owes nothing. None where they
     // never may.
     fn settle<R: Wait>(&self, rt: &R, signal: &Signal, progress: &Progress) -> Option<Settled> {
-        for document in 0..self.places.len() {
-            let place = self.places[document].swap(0, Ordering::SeqCst);
-            if place > 0 && !progress.wait_for(rt, signal, document, place) {
+        for document in 0..self.owed.len() {
+            let count = self.owed[document].swap(0, Ordering::SeqCst);
+            if count > 0 && !progress.wait_for(rt, signal, document, count) {
                 return None;
             }
         }
@@ -113,7 +112,7 @@ impl<R: Wait, W: Sink> Sink for Settling<'_, R, W> {
 
     ghost has_failed = { λ s. s.failed || W.has_failed s.device };
 
-    ghost kept = { λ s. W.kept s.device };
+    ghost unflushed = { λ s. W.unflushed s.device };
 
     fn write_some(&mut self, bytes: &[u8]) -> Result<usize, DeviceFault> {
         match self.debts.settle(self.rt, self.signal, self.progress) {

@@ -8,7 +8,7 @@ use Rattle.line_feed.specs.declared.feed.Outcome.TheVariants as outcome
 use Rattle.session_rules.specs.declared.Ending.{Ending}
 use Rattle.session_rules.specs.declared.Ending.TheVariants.{WriteFault}
 use Rattle.session_rules.specs.Limits.{most_lines}
-use Rattle.session_core.specs.Ended.{KeepsBack}
+use Rattle.session_core.specs.Ended.{LeavesUnflushed}
 
 -- nothing is kept, or a whole line is held
 abbrev pub KeepsFor : List ℕ → List ℕ → Type 0
@@ -44,7 +44,7 @@ keeps_on kept held answered waits is more empty = by (answered + 1 == most_lines
 
 -- a session that ends keeps nothing
 pub ends_empty : (given : Outcome) (waits : Bool) (kept keeps held : List ℕ) (why : Ending) → KeepsFor kept held
-    → (list_any is_newline held ≡ true → given ≡ outcome.Line) → KeepsBack given waits kept (Some why) keeps → why ≢ WriteFault → keeps ≡ []
+    → (list_any is_newline held ≡ true → given ≡ outcome.Line) → LeavesUnflushed given waits kept (Some why) keeps → why ≢ WriteFault → keeps ≡ []
 ends_empty outcome.Line waits kept keeps held why for line back well = back well
 ends_empty outcome.TooLong waits kept keeps held why for line back well = back (λ e. well cc)
 ends_empty outcome.End waits kept keeps held why for line back well = back ∙ unkept outcome.End kept held for line (λ e. cc)
@@ -52,7 +52,7 @@ ends_empty outcome.Fault waits kept keeps held why for line back well = back ∙
 
 -- one that goes on and waits keeps nothing, either
 pub goes_on_empty : (given : Outcome) (waits : Bool) (kept keeps held : List ℕ) → KeepsFor kept held
-    → (list_any is_newline held ≡ true → given ≡ outcome.Line) → KeepsBack given waits kept None keeps → waits ≡ true → keeps ≡ []
+    → (list_any is_newline held ≡ true → given ≡ outcome.Line) → LeavesUnflushed given waits kept None keeps → waits ≡ true → keeps ≡ []
 goes_on_empty outcome.Line waits kept keeps held for line back is = back is
 goes_on_empty outcome.TooLong waits kept keeps held for line back is = back (λ e. cc)
 goes_on_empty outcome.End waits kept keeps held for line back is = back ∙ unkept outcome.End kept held for line (λ e. cc)

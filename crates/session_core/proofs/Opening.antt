@@ -6,20 +6,20 @@ use Rattle.line_proto.specs.declared.request.DocRequest.TheVariants as asked
 use Rattle.line_proto.specs.declared.line_reply.LineReply.{LineReply}
 use Rattle.line_proto.specs.declared.line_reply.LineReply.TheVariants as line_reply
 use Rattle.session_rules.specs.Session.{Access, KnownSeat, Session, OpenDocument, new_seat, opened_at, Asks, AsksOf, Opens, Refuses}
-use Rattle.session_core.specs.declared.open_document.OpenDocument as kept
+use Rattle.session_core.specs.declared.open_document.OpenDocument as code
 use Rattle.session_core.specs.Asked.{AsksOr, OnDocumentOr}
-use Rattle.session_core.specs.OpenDocuments.{opened_of, session_of, IsKeptAt}
+use Rattle.session_core.specs.OpenDocuments.{opened_of, session_of, IsOpenedAt}
 use Rattle.session_core.proofs.Lists.{got_or, map-push}
 
-module _ {A S R D : Type 0} (a : Access D) (known : S → KnownSeat) (os : List (kept.OpenDocument A S R D)) (number : ℕ) where
+module _ {A S R D : Type 0} (a : Access D) (known : S → KnownSeat) (os : List (code.OpenDocument A S R D)) (number : ℕ) where
   -- it is opened
-  pub opens_again : (documents : D) (i : ℕ) (d : kept.OpenDocument A S R D) (response : ℕ) → IsKeptAt known os number i → d ≡ get_or os i d → response ≡ (known d.seat).number
+  pub opens_again : (documents : D) (i : ℕ) (d : code.OpenDocument A S R D) (response : ℕ) → IsOpenedAt known os number i → d ≡ get_or os i d → response ≡ (known d.seat).number
       → Opens a (session_of known documents os) number (opened_at number (map (opened_of known) os)) (line_reply.Opened response) (session_of known documents os)
   opens_again documents i d response k is number_is =
       let here : d ≡ k.here = is ∙ got_or os i k.here d k.at in
       subst (λ (o : Option OpenDocument). Opens a (session_of known documents os) number o (line_reply.Opened response) (session_of known documents os))
       (sym k.found)
-      (ap line_reply.Opened (number_is ∙ ap (λ (x : kept.OpenDocument A S R D). (known x.seat).number) here), refl)
+      (ap line_reply.Opened (number_is ∙ ap (λ (x : code.OpenDocument A S R D). (known x.seat).number) here), refl)
 
   -- it isn't
   pub opens_anew : (s t : Session D) (response : LineReply) → opened_at number (map (opened_of known) os) ≡ None
@@ -30,7 +30,7 @@ module _ {A S R D : Type 0} (a : Access D) (known : S → KnownSeat) (os : List 
       (sym none) opens
 
 -- a document more
-pub opened_more : {A S R D : Type 0} (known : S → KnownSeat) (documents : D) (os mid new : List (kept.OpenDocument A S R D)) (o : kept.OpenDocument A S R D) (n : ℕ)
+pub opened_more : {A S R D : Type 0} (known : S → KnownSeat) (documents : D) (os mid new : List (code.OpenDocument A S R D)) (o : code.OpenDocument A S R D) (n : ℕ)
     → new ≡ mid ++ o ∷ [] → mid ≡ os → known o.seat ≡ new_seat n → o.variables ≡ []
     → session_of known documents new ≡ record { documents = documents; opened = map (opened_of known) os ++ record { number = o.number; seat = new_seat n; variables = [] } ∷ [] }
 opened_more known documents os mid new o n e f seat variables =

@@ -7,12 +7,12 @@ use Rattle.line_proto.specs.declared.request.DocRequest.{DocRequest}
 use Rattle.line_proto.specs.declared.line_reply.LineReply.{LineReply}
 use Rattle.session_rules.specs.Session.{Deed, deed_of}
 use Rattle.session_core.specs.declared.access.DocAccess as reached
-use Rattle.session_core.specs.declared.open_document.OpenDocument as kept
+use Rattle.session_core.specs.declared.open_document.OpenDocument as code
 use Rattle.session_core.specs.OpenDocuments.{opened_of}
 use Rattle.session_core.specs.Seats.{known_by}
 use Rattle.session_core.specs.Serving.{IsServed}
 
-module _ {A S R D : Type 0} (g : reached.Ghosts A S R D) (x y : A) (o p : kept.OpenDocument A S R D) (response : LineReply) where
+module _ {A S R D : Type 0} (g : reached.Ghosts A S R D) (x y : A) (o p : code.OpenDocument A S R D) (response : LineReply) where
   -- the request is this one
   pub served_as : (ask made : DocRequest) → ask ≡ made → IsServed g x o (deed_of (opened_of (known_by g.seat_view) o) made) response y p
       → IsServed g x o (deed_of (opened_of (known_by g.seat_view) o) ask) response y p

@@ -34,7 +34,7 @@ impl Model for Stamp {
 
     ghost Value = { Counted };
 
-    ghost view = { λ s. counted_to s.half.table s.half.place };
+    ghost view = { λ s. counted_to s.half.table s.half.counter };
 }
 
 impl Calls {
@@ -47,7 +47,7 @@ impl Calls {
         Calls { rest }
     }
 
-    /// Counts one call, and stamps it with its place in the line.
+    /// Counts one call, and stamps it with its number in the line.
     pub fn count(&mut self) -> Stamp
         ensures calls { self.new ≡ counted_to self.old.line (self.old.calls + 1) }
         ensures stamp { result ≡ self.new }

@@ -1,6 +1,6 @@
 ghost use Rattle.std.specs.Prelude.{◌≡◌, ℕ, ◌+◌, ◌^◌, ◌<◌, ◌≤◌, [], ◌++◌};
 ghost use Rattle.share_ledger.specs.Begun.{Origin, empty_origin};
-ghost use Rattle.share_ledger.specs.Counters.{seat_counter, ledger_place, IsSamePlace};
+ghost use Rattle.share_ledger.specs.Counters.{seat_counter, counter_number, AreOfOneCounter};
 
 use crate::halves::{Half, Rest};
 use lamport_id::Id;
@@ -39,8 +39,8 @@ impl Model for Blank {
     ghost invariant = { λ b. b.rest.next ≡ 0 };
 }
 
-/// The places that are not opened yet, in the order of `ledger_place`: by document number, then by
-/// seat. Contracts see it as the first place of which that is known. It takes no bytes.
+/// The counters that are not opened yet, in the order of `counter_number`: by document number, then by
+/// seat. Contracts see it as the first number of which that is known. It takes no bytes.
 #[derive(Drop)]
 pub struct Table<M: Marker> {
     rest: Rest,
@@ -70,13 +70,13 @@ pub struct Book<M: Marker> {
 
 impl<M: Marker> Model for Book<M> {
     ghost use Rattle.std.specs.Prelude.{◌≡◌};
-    ghost use Rattle.share_ledger.specs.Counters.{Counter, seat_counter, ledger_place};
+    ghost use Rattle.share_ledger.specs.Counters.{Counter, seat_counter, counter_number};
 
     ghost Value = { Counter };
 
     ghost view = { λ b. seat_counter b.number b.seat b.count b.half.ids };
 
-    ghost invariant = { λ b. (b.half.table ≡ M.name) × (b.half.place ≡ ledger_place b.number b.seat)
+    ghost invariant = { λ b. (b.half.table ≡ M.name) × (b.half.counter ≡ counter_number b.number b.seat)
         × (b.half.count ≡ b.count) };
 }
 
@@ -93,13 +93,13 @@ pub struct Share<M: Marker> {
 
 impl<M: Marker> Model for Share<M> {
     ghost use Rattle.std.specs.Prelude.{◌≡◌};
-    ghost use Rattle.share_ledger.specs.Counters.{Counter, seat_counter, ledger_place};
+    ghost use Rattle.share_ledger.specs.Counters.{Counter, seat_counter, counter_number};
 
     ghost Value = { Counter };
 
     ghost view = { λ s. seat_counter s.number s.seat s.count s.half.ids };
 
-    ghost invariant = { λ s. (s.half.table ≡ M.name) × (s.half.place ≡ ledger_place s.number s.seat)
+    ghost invariant = { λ s. (s.half.table ≡ M.name) × (s.half.counter ≡ counter_number s.number s.seat)
         × (s.half.count ≡ s.count) };
 }
 
@@ -109,7 +109,7 @@ impl Blank {
         Blank { rest: Rest::new() }
     }
 
-    /// The table under its marker, with every place still to be opened.
+    /// The table under its marker, with every counter still to be opened.
     pub fn named<M: Marker>(self) -> Table<M>
         requires { self ≡ M.name }
         ensures { result ≡ 0 }
@@ -123,12 +123,12 @@ impl Blank {
 }
 
 impl<M: Marker> Table<M> {
-    /// Two halves of one counter at 0 with no ids, at the place of a document number and a seat,
-    /// which comes after every opened place. So no third half of a place is ever made. It takes no
+    /// Two halves of one counter at 0 with no ids, under the number of a document number and a seat,
+    /// which comes after every opened one. So no third half of a counter is ever made. It takes no
     /// memory.
     pub fn open(&mut self, number: u16, seat: u16) -> (Book<M>, Share<M>)
-        requires { self.old ≤ ledger_place number seat }
-        ensures table { self.new ≡ ledger_place number seat + 1 }
+        requires { self.old ≤ counter_number number seat }
+        ensures table { self.new ≡ counter_number number seat + 1 }
         ensures book { result.0 ≡ seat_counter number seat 0 [] }
         ensures share { result.1 ≡ seat_counter number seat 0 [] }
     {
@@ -177,7 +177,7 @@ impl<M: Marker> Book<M> {
     /// Adds the amount to both halves of one counter; their sum stays below 2^64. It ensures that
     /// they had one count before. Their ids stay.
     pub fn credit(&mut self, share: &mut Share<M>, amount: u64)
-        requires place { IsSamePlace self.old share.old }
+        requires counter { AreOfOneCounter self.old share.old }
         requires fits { self.old.count + amount < 2 ^ 64 }
         ensures book { self.new
             ≡ seat_counter self.old.number self.old.seat (self.old.count + amount) self.old.ids }
@@ -193,7 +193,7 @@ impl<M: Marker> Book<M> {
     /// Adds ids to both halves of one counter: those acknowledged to its seat. It ensures that the
     /// halves were equal before. At run time it does nothing.
     pub fn acknowledge(&mut self, share: &mut Share<M>, ids: &[Id])
-        requires { IsSamePlace self.old share.old }
+        requires { AreOfOneCounter self.old share.old }
         ensures book { self.new
             ≡ seat_counter self.old.number self.old.seat self.old.count (self.old.ids ++ ids.now) }
         ensures share { share.new
@@ -206,7 +206,7 @@ impl<M: Marker> Book<M> {
     /// Tells that both halves of one counter have one count and the same ids. At run time it does
     /// nothing.
     pub fn agree(&self, share: &Share<M>)
-        requires { IsSamePlace self.now share.now }
+        requires { AreOfOneCounter self.now share.now }
         ensures { self.now ≡ share.now }
     {
         self.half.agree(&share.half);
@@ -214,7 +214,7 @@ impl<M: Marker> Book<M> {
 
     /// The count for good, which both halves had, as they had the same ids.
     pub fn close(self, share: Share<M>) -> u64
-        requires { IsSamePlace self share }
+        requires { AreOfOneCounter self share }
         ensures count { result ≡ self.count }
         ensures agree { self ≡ share }
     {

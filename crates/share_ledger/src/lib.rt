@@ -1,4 +1,4 @@
-//! Counters in two halves that agree for ever, one pair for each place of a table, and counts of
+//! Counters in two halves that agree for ever, one pair for each number of a table, and counts of
 //! calls that take no bytes.
 //!
 //! `Book` is the authoritative half of a counter, which its document keeps; `Share` is the

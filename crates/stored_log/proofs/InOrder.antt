@@ -10,7 +10,7 @@ use Rattle.std.proofs.lemmas.Slice.Eq.{bytes_eq-Decides}
 use Rattle.op_log.proofs.Fronts.{names_differ}
 use Rattle.doc_api.specs.Words.{name_cmp, Op}
 use Rattle.list_laws.proofs.IdOrder.{transitive, compared}
-use Rattle.list_laws.specs.Sorted.{IsPlace, IsGap}
+use Rattle.list_laws.specs.Sorted.{IsIndexOf, IsGap}
 use Rattle.list_laws.proofs.Keys.{is_Less, less≢equal, not_less_back}
 use Rattle.list_laws.proofs.Rising.{rising_index, gap_none}
 use Rattle.doc_rules.proofs.OneAnswer.{name_order}
@@ -81,7 +81,7 @@ module _ (docs : List Doc) (name : List ℕ) (at : ℕ) (rising : AreInOrder doc
     }
 
 module _ (docs : List Doc) (name : List ℕ) (at : ℕ) where
-  module _ (rising : AreInOrder docs) (place : IsPlace name_cmp name_of docs name at) where
+  module _ (rising : AreInOrder docs) (place : IsIndexOf name_cmp name_of docs name at) where
     hit : (d : Doc) → is_named name (get_or docs at d) ≡ true
     hit d = (bytes_eq-Decides (get_or docs at d).name name).1 (place.has_key d)
 

@@ -9,27 +9,27 @@ use Rattle.stored_log.specs.Report.{IsReport, Reports, StopsShort, refusal_line,
 is_report : (docs : List Doc) (epoch : ℕ) → AreInOrder docs × AreGood docs → IsReport (report docs epoch)
 is_report docs epoch (in_order, good) = record { docs = docs; epoch = epoch; in_order = in_order; good = good; reported = refl }
 
-pub reports : {L F : Type 0} (log : L → LogState) (held holds : Option (List ℕ)) (r : Result L F) → IfOk r (λ c. AreInOrder (log c).docs × AreGood (log c).docs)
-    → IsOkAnd r (λ c. Appends held holds (report (log c).docs (log c).epoch)) → Reports held holds
-reports log held holds (Ok c) good reported = (report (log c).docs (log c).epoch, is_report (log c).docs (log c).epoch good, reported)
-reports log held holds (Err e) good reported = absurd reported
+pub reports : {L F : Type 0} (log : L → LogState) (out_before out_after : Option (List ℕ)) (r : Result L F) → IfOk r (λ c. AreInOrder (log c).docs × AreGood (log c).docs)
+    → IsOkAnd r (λ c. Appends out_before out_after (report (log c).docs (log c).epoch)) → Reports out_before out_after
+reports log out_before out_after (Ok c) good reported = (report (log c).docs (log c).epoch, is_report (log c).docs (log c).epoch good, reported)
+reports log out_before out_after (Err e) good reported = absurd reported
 
 -- a part of a report, or nothing
-pub cut_short : {Same : Type 0} (held holds : Option (List ℕ)) (docs : List Doc) (epoch : ℕ) → AreInOrder docs × AreGood docs
-    → AppendsCut held holds (report docs epoch) ⊎ Same → StopsShort held holds ⊎ Same
-cut_short held holds docs epoch good (inl cut) = inl (inr (report docs epoch, inl (is_report docs epoch good), cut))
-cut_short held holds docs epoch good (inr same) = inr same
+pub cut_short : {Same : Type 0} (out_before out_after : Option (List ℕ)) (docs : List Doc) (epoch : ℕ) → AreInOrder docs × AreGood docs
+    → AppendsCut out_before out_after (report docs epoch) ⊎ Same → StopsShort out_before out_after ⊎ Same
+cut_short out_before out_after docs epoch good (inl cut) = inl (inr (report docs epoch, inl (is_report docs epoch good), cut))
+cut_short out_before out_after docs epoch good (inr same) = inr same
 
 -- the refusal, or a part of it
-pub refused_short : {Same : Type 0} (held holds : Option (List ℕ)) → Appends held holds refusal_line ⊎ AppendsCut held holds refusal_line → StopsShort held holds ⊎ Same
-refused_short held holds (inl whole) = inl (inl whole)
-refused_short held holds (inr cut) = inl (inr (refusal_line, inr refl, cut))
+pub refused_short : {Same : Type 0} (out_before out_after : Option (List ℕ)) → Appends out_before out_after refusal_line ⊎ AppendsCut out_before out_after refusal_line → StopsShort out_before out_after ⊎ Same
+refused_short out_before out_after (inl whole) = inl (inl whole)
+refused_short out_before out_after (inr cut) = inl (inr (refusal_line, inr refl, cut))
 
-pub cut_of : {T E : Type 0} (Same : Type 0) (r : Result T E) (held holds : Option (List ℕ)) (text due : List ℕ) → text ≡ due → IfErr r (λ _. AppendsCut held holds text) → IfErr r (λ _. AppendsCut held holds due ⊎ Same)
-cut_of Same (Ok x) held holds text due is cut = tt
-cut_of Same (Err e) held holds text due is cut = inl (subst (AppendsCut held holds) is cut)
+pub cut_of : {T E : Type 0} (Same : Type 0) (r : Result T E) (out_before out_after : Option (List ℕ)) (text due : List ℕ) → text ≡ due → IfErr r (λ _. AppendsCut out_before out_after text) → IfErr r (λ _. AppendsCut out_before out_after due ⊎ Same)
+cut_of Same (Ok x) out_before out_after text due is cut = tt
+cut_of Same (Err e) out_before out_after text due is cut = inl (subst (AppendsCut out_before out_after) is cut)
 
-pub short_of : {T E : Type 0} (Same : Type 0) (r : Result T E) (held holds : Option (List ℕ)) (docs : List Doc) (epoch : ℕ) → AreInOrder docs × AreGood docs
-    → IfErr r (λ _. AppendsCut held holds (report docs epoch) ⊎ Same) → IfErr r (λ _. StopsShort held holds ⊎ Same)
-short_of Same (Ok x) held holds docs epoch good cut = tt
-short_of Same (Err e) held holds docs epoch good cut = cut_short held holds docs epoch good cut
+pub short_of : {T E : Type 0} (Same : Type 0) (r : Result T E) (out_before out_after : Option (List ℕ)) (docs : List Doc) (epoch : ℕ) → AreInOrder docs × AreGood docs
+    → IfErr r (λ _. AppendsCut out_before out_after (report docs epoch) ⊎ Same) → IfErr r (λ _. StopsShort out_before out_after ⊎ Same)
+short_of Same (Ok x) out_before out_after docs epoch good cut = tt
+short_of Same (Err e) out_before out_after docs epoch good cut = cut_short out_before out_after docs epoch good cut

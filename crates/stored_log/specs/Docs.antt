@@ -1,4 +1,4 @@
--- The documents of a stored log: each with its entries by place, in the order of their names.
+-- The documents of a stored log: each with its entries in their order, in the order of the documents' names.
 use Rattle.std.specs.Prelude.{◌≡◌, ◌≢◌, ℕ, ◌≤◌, true, Bool, List, [], ◌∷◌, ◌++◌, length, if◌then◌else◌, Result, Err}
 use Rattle.std.specs.List.{AllByRecursion, list_any}
 use Rattle.std.specs.Ordering.{is_lt}
@@ -13,7 +13,7 @@ use Rattle.stored_log.specs.declared.fault.Fault.{Fault}
 use Rattle.stored_log.specs.declared.fault.Fault.TheVariants.{Memory}
 use Rattle.stored_log.specs.Limits.{most_rows}
 
--- a document's name, and its entries by place
+-- a document's name, and its entries in their order
 pub record Doc : Type 0 where
   pub name : List ℕ
   pub log : List Op

@@ -1,4 +1,4 @@
--- What a place in memory holds.
+-- What a store in memory has.
 use Rattle.std.specs.Prelude.{◌≡◌, ◌≤◌, ℕ, List, []}
 use Rattle.stored_log.specs.Docs.{Doc, AreInOrder, AreGood}
 use Rattle.stored_log.specs.Limits.{last_epoch}

@@ -40,10 +40,10 @@ pub record IsReport (text : List ℕ) : Type 0 where
   pub reported : text ≡ report docs epoch
 
 abbrev pub Reports : Option (List ℕ) → Option (List ℕ) → Type 0
-Reports held holds = (text : List ℕ) × IsReport text × Appends held holds text
+Reports out_before out_after = (text : List ℕ) × IsReport text × Appends out_before out_after text
 
 -- the refusal, or a part of it or of a report
 abbrev pub StopsShort : Option (List ℕ) → Option (List ℕ) → Type 0
-StopsShort held holds =
-    Appends held holds refusal_line ⊎ ((text : List ℕ) × (IsReport text ⊎ (text ≡ refusal_line))
-    × AppendsCut held holds text)
+StopsShort out_before out_after =
+    Appends out_before out_after refusal_line ⊎ ((text : List ℕ) × (IsReport text ⊎ (text ≡ refusal_line))
+    × AppendsCut out_before out_after text)

@@ -16,8 +16,8 @@ use op_log::{OpLog, keeps_good};
 use std::alloc::Global;
 use std::marker::Model;
 
-/// A document with rows: its name, and its entries by place.
-pub struct KeptDoc {
+/// A document with rows: its name, and its entries in the order of the log.
+pub struct StoredDoc {
     name: String,
     log: OpLog,
     // How many operations of the log are rows. A batch that was refused may have left more.
@@ -25,7 +25,7 @@ pub struct KeptDoc {
     alloc: Global,
 }
 
-impl Model for KeptDoc {
+impl Model for StoredDoc {
     ghost use Rattle.std.specs.Prelude.{◌≤◌, length, take, string_bytes};
     ghost use Rattle.stored_log.specs.Docs.{Doc};
 
@@ -37,9 +37,9 @@ impl Model for KeptDoc {
 }
 
 // By hand, so that it is called and not written out where a document is dropped.
-impl Drop for KeptDoc {
+impl Drop for StoredDoc {
     fn drop(self) {
-        let KeptDoc {
+        let StoredDoc {
             name: _,
             log: _,
             rows: _,
@@ -48,7 +48,7 @@ impl Drop for KeptDoc {
     }
 }
 
-impl KeptDoc {
+impl StoredDoc {
     /// The name.
     pub fn name(&self) -> &str
         ensures { result.now ≡ self.now.name }
@@ -83,7 +83,7 @@ impl KeptDoc {
         self.entries().iter().any(|op| is_by(op, replica))
     }
 
-    /// Its entries by place.
+    /// Its entries, in the order of the log.
     pub fn entries(&self) -> &[Operation]
         ensures { result.now ≡ self.now.log }
     {
@@ -102,14 +102,14 @@ impl KeptDoc {
     }
 
     /// The document of this name with no entry.
-    pub fn new(alloc: Global, name: &str) -> Result<KeptDoc, Fault>
+    pub fn new(alloc: Global, name: &str) -> Result<StoredDoc, Fault>
         ensures ok { IfOk result (λ d. d ≡ record { name = name.now; log = [] }) }
         ensures err { IfErr result (λ e. e ≡ Fault.Memory) }
     {
         let Ok(name) = String::from_str(alloc, name) else {
             return Err(Fault::Memory);
         };
-        Ok(KeptDoc {
+        Ok(StoredDoc {
             name,
             log: OpLog::new(alloc),
             rows: 0,
@@ -182,8 +182,8 @@ fn trimmed(alloc: Global, log: &OpLog, rows: usize) -> Result<OpLog, Refusal>
     let mut first = OpLog::new(alloc);
     first.reserve(rows)?;
     keeps_good(log);
-    for place in 0..rows {
-        let clone = log.as_slice()[place].try_clone()?;
+    for at in 0..rows {
+        let clone = log.as_slice()[at].try_clone()?;
         first.append(clone);
     }
     Ok(first)
@@ -199,8 +199,8 @@ fn append_all(log: &mut OpLog, entries: &[Operation]) -> Result<(), Fault>
     ensures begins { take (length log.old.operations) log.new.operations ≡ log.old.operations }
     ensures longer { length log.old.operations ≤ length log.new.operations }
 {
-    for place in 0..entries.len() {
-        append_one(log, &entries[place])?;
+    for at in 0..entries.len() {
+        append_one(log, &entries[at])?;
     }
     keeps_good(log);
     Ok(())

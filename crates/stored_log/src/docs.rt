@@ -8,7 +8,7 @@ ghost use Rattle.lamport_id.specs.Name.{is_name};
 ghost use Rattle.crdt_rules.specs.Log.{IsGood};
 ghost use Rattle.stored_log.specs.Docs.{Doc, log_of, add_batch};
 
-use crate::doc::KeptDoc;
+use crate::doc::StoredDoc;
 use crate::fault::Fault;
 use lamport_id::ReplicaName;
 use op_core::Operation;
@@ -43,17 +43,17 @@ pub(crate) fn clones(alloc: Global, ops: &[Operation]) -> Result<Vec<Operation>,
 }
 
 // A document of this name with clones of these entries.
-pub(crate) fn made(alloc: Global, name: &str, entries: &[Operation]) -> Result<KeptDoc, Fault>
+pub(crate) fn made(alloc: Global, name: &str, entries: &[Operation]) -> Result<StoredDoc, Fault>
     ensures ok { IfOk result (λ d. (d ≡ record { name = name.now; log = entries.now }) × IsGood entries.now) }
     ensures err { IfErr result (λ e. e ≢ Fault.Store) }
     ensures refused { result ≡ Err Fault.Refused → ¬ IsGood entries.now }
 {
-    let mut doc = KeptDoc::new(alloc, name)?;
+    let mut doc = StoredDoc::new(alloc, name)?;
     doc.add(entries)?;
     Ok(doc)
 }
 
-pub(crate) fn put(docs: &mut Vec<KeptDoc>, at: usize, doc: KeptDoc) -> Result<(), Fault>
+pub(crate) fn put(docs: &mut Vec<StoredDoc>, at: usize, doc: StoredDoc) -> Result<(), Fault>
     requires { at ≤ length docs.old.items }
     ensures ok { OnOk result (docs.new.items ≡ insert docs.old.items at doc) }
     ensures err { IfErr result (λ e. (docs.new.items ≡ docs.old.items) × (e ≡ Fault.Memory)) }

@@ -6,11 +6,11 @@ ghost use Rattle.std.specs.List.Sorted.{IsPartitionPoint};
 ghost use Rattle.std.specs.Ordering.{is_lt};
 ghost use Rattle.doc_api.specs.Words.{name_cmp};
 ghost use Rattle.lamport_id.specs.Name.{is_name};
-ghost use Rattle.list_laws.specs.Sorted.{IsPlace, IsGap};
+ghost use Rattle.list_laws.specs.Sorted.{IsIndexOf, IsGap};
 ghost use Rattle.crdt_rules.specs.Log.{IsGood};
 ghost use Rattle.stored_log.specs.Docs.{AreInOrder, log_of, add_log};
 
-use crate::doc::KeptDoc;
+use crate::doc::StoredDoc;
 use crate::docs::{clones, is_doc_name, is_less, made, put};
 use crate::fault::Fault;
 use op_core::Operation;
@@ -19,10 +19,10 @@ use std::alloc::Global;
 use std::slice;
 
 // The index of the document of this name, or where it would go.
-fn search(docs: &[KeptDoc], name: &str) -> Result<usize, usize>
+fn search(docs: &[StoredDoc], name: &str) -> Result<usize, usize>
     requires { AreInOrder docs.now }
     ensures { MatchResult result
-        (IsPlace name_cmp (λ d. d.name) docs.now name.now) (IsGap name_cmp (λ d. d.name) docs.now name.now) }
+        (IsIndexOf name_cmp (λ d. d.name) docs.now name.now) (IsGap name_cmp (λ d. d.name) docs.now name.now) }
 {
     let at = rank(docs, name);
     if at < docs.len() && docs[at].name() == name {
@@ -33,7 +33,7 @@ fn search(docs: &[KeptDoc], name: &str) -> Result<usize, usize>
 }
 
 // How many documents have a lesser name.
-fn rank(docs: &[KeptDoc], name: &str) -> usize
+fn rank(docs: &[StoredDoc], name: &str) -> usize
     requires { AreInOrder docs.now }
     ensures within { result ≤ length docs.now }
     ensures point { IsPartitionPoint (λ d. is_lt (name_cmp d.name name.now) ≡ true)
@@ -46,14 +46,14 @@ fn rank(docs: &[KeptDoc], name: &str) -> usize
     docs.partition_point(|doc| is_before(doc, name))
 }
 
-fn is_before(doc: &KeptDoc, name: &str) -> bool
+fn is_before(doc: &StoredDoc, name: &str) -> bool
     ensures { result ≡ is_lt (name_cmp doc.now.name name.now) }
 {
     is_less(doc.name(), name)
 }
 
 /// The document of this name, if it has rows.
-pub fn find<'a>(docs: &'a [KeptDoc], name: &str) -> Option<&'a KeptDoc>
+pub fn find<'a>(docs: &'a [StoredDoc], name: &str) -> Option<&'a StoredDoc>
     requires { AreInOrder docs.now }
     ensures named { IfSome result (λ d. d.now.name ≡ name.now) }
     ensures log { MatchOption result (log_of name.now docs.now ≡ []) (λ d. d.now.log ≡ log_of name.now docs.now) }
@@ -65,7 +65,7 @@ pub fn find<'a>(docs: &'a [KeptDoc], name: &str) -> Option<&'a KeptDoc>
 }
 
 /// How many rows the document of this name has.
-pub fn count(docs: &[KeptDoc], name: &str) -> usize
+pub fn count(docs: &[StoredDoc], name: &str) -> usize
     requires { AreInOrder docs.now }
     ensures { result ≡ length (log_of name.now docs.now) }
 {
@@ -76,7 +76,7 @@ pub fn count(docs: &[KeptDoc], name: &str) -> usize
 }
 
 /// Clones of the entries of the document of this name. The only error is out of memory.
-pub fn entries(docs: &[KeptDoc], alloc: Global, name: &str) -> Result<Vec<Operation>, Fault>
+pub fn entries(docs: &[StoredDoc], alloc: Global, name: &str) -> Result<Vec<Operation>, Fault>
     requires { AreInOrder docs.now }
     ensures ok { IfOk result (λ ops. ops.items ≡ log_of name.now docs.now) }
     ensures err { IfErr result (λ e. e ≡ Fault.Memory) }
@@ -89,7 +89,7 @@ pub fn entries(docs: &[KeptDoc], alloc: Global, name: &str) -> Result<Vec<Operat
 
 /// A clone of the log of the document of this name, empty where it has no rows. The only error is out of
 /// memory.
-pub fn log_clone(docs: &[KeptDoc], alloc: Global, name: &str) -> Result<OpLog, Fault>
+pub fn log_clone(docs: &[StoredDoc], alloc: Global, name: &str) -> Result<OpLog, Fault>
     requires { AreInOrder docs.now }
     ensures ok { IfOk result (λ log. log.operations ≡ log_of name.now docs.now) }
     ensures err { IfErr result (λ e. e ≡ Fault.Memory) }
@@ -101,7 +101,7 @@ pub fn log_clone(docs: &[KeptDoc], alloc: Global, name: &str) -> Result<OpLog, F
 }
 
 /// Whether entries of a document of this name may follow so many.
-pub fn may_follow(docs: &[KeptDoc], name: &str, from: usize) -> bool
+pub fn may_follow(docs: &[StoredDoc], name: &str, from: usize) -> bool
     requires { AreInOrder docs.now }
     ensures { IsTrue result ↔ ((is_name name.now ≡ true) × (from ≡ length (log_of name.now docs.now))) }
 {
@@ -112,7 +112,7 @@ pub fn may_follow(docs: &[KeptDoc], name: &str, from: usize) -> bool
 /// names of its front with an entry of the document, where they are the same. After an error the documents are as they
 /// were.
 pub fn add_one(
-    docs: &mut Vec<KeptDoc>,
+    docs: &mut Vec<StoredDoc>,
     alloc: Global,
     name: &str,
     entry: Operation,
@@ -128,7 +128,7 @@ pub fn add_one(
 }
 
 // The operation, which may share the names of its front with an entry of the document of this name.
-fn sharing(docs: &[KeptDoc], name: &str, op: Operation) -> Operation
+fn sharing(docs: &[StoredDoc], name: &str, op: Operation) -> Operation
     requires { AreInOrder docs.now }
     ensures { result ≡ op }
 {
@@ -141,7 +141,7 @@ fn sharing(docs: &[KeptDoc], name: &str, op: Operation) -> Operation
 /// Adds clones of the entries behind those of the document of this name, if each fits those before it. Otherwise the
 /// documents are as they were.
 pub fn add(
-    docs: &mut Vec<KeptDoc>,
+    docs: &mut Vec<StoredDoc>,
     alloc: Global,
     name: &str,
     entries: &[Operation],

@@ -1,4 +1,4 @@
-//! The stored log: what a server needs of the place where its operations are stored, whatever it is.
+//! The stored log: what a server needs of the store of its operations, whatever it is.
 //!
 //! It holds documents, each with a name and a valid log, and the texts of their operations.
 #![tactic(auto)]
@@ -18,12 +18,12 @@ mod stored_fault;
 mod text;
 
 pub use batch::may_add;
-pub use doc::KeptDoc;
+pub use doc::StoredDoc;
 pub use docs::{MAX_BATCH, batches_append, is_doc_name};
 pub use fault::Fault;
 pub use in_order::{add, add_one, count, entries, find, log_clone, may_follow};
 pub use list_image::ListImage;
-pub use list_log::{FailingUse, ListLog, ListPlace};
+pub use list_log::{FailingUse, ListLog, ListStore};
 pub use open::OpenLog;
 pub use port::StoredLog;
 pub use reason::reason_of;

@@ -1,4 +1,4 @@
-//! What a place in memory holds: an epoch and documents.
+//! What a store in memory has: an epoch and documents.
 ghost use Rattle.std.specs.Prelude.{◌≡◌, ◌≢◌, ◌+◌, ◌<◌, ◌++◌, [], true, IfOk, IfErr, OnOk, Err};
 ghost use Rattle.lamport_id.specs.Name.{is_name};
 ghost use Rattle.crdt_rules.specs.Log.{IsGood};
@@ -6,7 +6,7 @@ ghost use Rattle.stored_log.specs.Docs.{add_log, log_of};
 ghost use Rattle.stored_log.specs.Limits.{last_epoch};
 ghost use Rattle.stored_log.specs.Image.{IsSoundImage};
 
-use crate::{Fault, KeptDoc};
+use crate::{Fault, StoredDoc};
 use op_core::Operation;
 use std::alloc::Global;
 use std::marker::Model;
@@ -14,7 +14,7 @@ use std::marker::Model;
 /// An epoch, and the documents that are stored under it.
 pub struct ListImage {
     epoch: u32,
-    docs: Vec<KeptDoc>,
+    docs: Vec<StoredDoc>,
 }
 
 impl Model for ListImage {
@@ -53,7 +53,7 @@ impl ListImage {
     }
 
     /// The documents with entries, in the order of their names.
-    pub fn docs(&self) -> &[KeptDoc]
+    pub fn docs(&self) -> &[StoredDoc]
         ensures docs { result.now ≡ self.now.docs }
         ensures sound { IsSoundImage self.now }
     {
@@ -100,16 +100,16 @@ impl ListImage {
 }
 
 // A document of the same name with clones of its entries.
-fn clone_of(alloc: Global, doc: &KeptDoc) -> Result<KeptDoc, Fault>
+fn clone_of(alloc: Global, doc: &StoredDoc) -> Result<StoredDoc, Fault>
     ensures { IfOk result (λ clone. clone ≡ doc.now) }
 {
-    let mut clone = KeptDoc::new(alloc, doc.name())?;
+    let mut clone = StoredDoc::new(alloc, doc.name())?;
     clone.add(doc.entries())?;
     Ok(clone)
 }
 
 // Clones of the documents.
-fn clones(alloc: Global, docs: &[KeptDoc]) -> Result<Vec<KeptDoc>, Fault>
+fn clones(alloc: Global, docs: &[StoredDoc]) -> Result<Vec<StoredDoc>, Fault>
     ensures { IfOk result (λ clones. clones.items ≡ docs.now) }
 {
     let mut clones = Vec::new(alloc);

@@ -8,40 +8,40 @@ use crate::batch::may_add;
 use crate::list_image::ListImage;
 use crate::port::StoredLog;
 use crate::stored_fault::StoredFault;
-use crate::{Fault, KeptDoc, LAST_EPOCH};
+use crate::{Fault, LAST_EPOCH, StoredDoc};
 use op_core::Operation;
 use op_log::OpLog;
 use std::alloc::Global;
 use std::marker::Model;
 
-/// The place of a stored log in memory.
+/// The store of a stored log in memory.
 #[derive(Drop)]
-pub struct ListPlace {
+pub struct ListStore {
     /// What a crash leaves.
     pub kept: ListImage,
     /// What the file alone holds, without a log of commits beside it.
     pub alone: ListImage,
 }
 
-impl ListPlace {
-    /// A place where nothing is stored.
-    pub fn new(alloc: Global) -> ListPlace
+impl ListStore {
+    /// A store where nothing is stored.
+    pub fn new(alloc: Global) -> ListStore
         ensures kept { IsEmpty result.kept }
         ensures alone { IsEmpty result.alone }
     {
-        ListPlace {
+        ListStore {
             kept: ListImage::new(alloc),
             alone: ListImage::new(alloc),
         }
     }
 
-    /// The place with its file alone. The only error is out of memory.
-    pub fn without_log(self, alloc: Global) -> Result<ListPlace, Fault>
+    /// The store with its file alone. The only error is out of memory.
+    pub fn without_log(self, alloc: Global) -> Result<ListStore, Fault>
         ensures { IfOk result (AreBoth self.alone) }
     {
-        let ListPlace { kept: _, alone } = self;
+        let ListStore { kept: _, alone } = self;
         let kept = alone.try_clone(alloc)?;
-        Ok(ListPlace { kept, alone })
+        Ok(ListStore { kept, alone })
     }
 }
 
@@ -85,28 +85,28 @@ fn next_use(fails: &mut Option<FailingUse>) -> Option<FailingUse> {
 // Stores in the file alone what a crash leaves. A fault leaves of a crash what it left before.
 fn folded(
     alloc: Global,
-    place: ListPlace,
+    store: ListStore,
     fails: &mut Option<FailingUse>,
-) -> Result<ListPlace, (StoredFault, ListPlace)>
-    ensures ok { IfOk result (AreBoth place.kept) }
-    ensures err { IfErr result (λ e. e.1.kept ≡ place.kept) }
+) -> Result<ListStore, (StoredFault, ListStore)>
+    ensures ok { IfOk result (AreBoth store.kept) }
+    ensures err { IfErr result (λ e. e.1.kept ≡ store.kept) }
 {
-    let ListPlace { kept, alone } = place;
+    let ListStore { kept, alone } = store;
     let Ok(file) = kept.try_clone(alloc) else {
-        return Err((StoredFault::NoMemory, ListPlace { kept, alone }));
+        return Err((StoredFault::NoMemory, ListStore { kept, alone }));
     };
     match next_use(fails) {
-        None => Ok(ListPlace { kept, alone: file }),
+        None => Ok(ListStore { kept, alone: file }),
         Some(failing) => {
             let alone = if failing.stays { file } else { alone };
-            Err((failing.fault, ListPlace { kept, alone }))
+            Err((failing.fault, ListStore { kept, alone }))
         }
     }
 }
 
-/// A stored log in memory. What is stored is at a place, which is opened again after a fault or a crash.
+/// A stored log in memory. What is stored is in a store, which is opened again after a fault or a crash.
 pub struct ListLog {
-    place: ListPlace,
+    store: ListStore,
     fails: Option<FailingUse>,
     // What it failed with.
     failure: Option<StoredFault>,
@@ -119,14 +119,14 @@ impl Model for ListLog {
 
     ghost Value = { Listed };
 
-    ghost view = { λ l. record { kept = l.place.kept; alone = l.place.alone; has_failed = is_some l.failure } };
+    ghost view = { λ l. record { kept = l.store.kept; alone = l.store.alone; has_failed = is_some l.failure } };
 }
 
 // By hand, so that it is called and not written out where a log is dropped.
 impl Drop for ListLog {
     fn drop(self) {
         let ListLog {
-            place: _,
+            store: _,
             fails: _,
             failure: _,
             alloc: _,
@@ -135,35 +135,35 @@ impl Drop for ListLog {
 }
 
 impl ListLog {
-    /// Opens a place. `fails` says at which use of the store it fails, if at one.
-    pub fn open(alloc: Global, place: ListPlace, fails: Option<FailingUse>) -> ListLog
-        ensures { result ≡ record { kept = place.kept; alone = place.alone; has_failed = false } }
+    /// Opens a store. `fails` says at which use of it it fails, if at one.
+    pub fn open(alloc: Global, store: ListStore, fails: Option<FailingUse>) -> ListLog
+        ensures { result ≡ record { kept = store.kept; alone = store.alone; has_failed = false } }
     {
         ListLog {
-            place,
+            store,
             fails,
             failure: None,
             alloc,
         }
     }
 
-    /// The place as a crash leaves it now.
-    pub fn crash(self) -> ListPlace
+    /// The store as a crash leaves it now.
+    pub fn crash(self) -> ListStore
         ensures kept { result.kept ≡ self.kept }
         ensures alone { result.alone ≡ self.alone }
     {
         let ListLog {
-            place,
+            store,
             fails: _,
             failure: _,
             alloc: _,
         } = self;
-        place
+        store
     }
 }
 
 impl StoredLog for ListLog {
-    type Left = ListPlace;
+    type Left = ListStore;
 
     ghost use Rattle.stored_log.specs.Listed.{AreBoth, listed_log};
     ghost use Rattle.stored_log.specs.Log.{raised_keeps};
@@ -174,11 +174,11 @@ impl StoredLog for ListLog {
 
     ghost was_alone = { λ old new. new.alone ≡ old.kept };
 
-    ghost is_held = { λ it last. AreBoth it.kept last };
+    ghost is_in_file = { λ it last. AreBoth it.kept last };
 
     ghost has_moved = { λ it last. AreBoth it.kept last };
 
-    ghost still_holds = { λ it last. last.kept ≡ it.kept };
+    ghost is_in_store = { λ it last. last.kept ≡ it.kept };
 
     ghost still_keeps = { λ it first last kept. raised_keeps first last kept it.kept.epoch it.kept.docs };
 
@@ -190,24 +190,24 @@ impl StoredLog for ListLog {
         if self.failure.is_some() {
             return Err(Fault::Store);
         }
-        Ok(u64::from(self.place.kept.epoch()))
+        Ok(u64::from(self.store.kept.epoch()))
     }
 
     fn epoch_up(&mut self) -> Result<u64, Fault> {
         if self.failure.is_some() {
             return Err(Fault::Store);
         }
-        if self.place.kept.epoch() >= LAST_EPOCH {
+        if self.store.kept.epoch() >= LAST_EPOCH {
             return Err(Fault::Refused);
         }
         match next_use(&mut self.fails) {
             None => {
-                self.place.kept.raise();
-                Ok(u64::from(self.place.kept.epoch()))
+                self.store.kept.raise();
+                Ok(u64::from(self.store.kept.epoch()))
             }
             Some(failing) => {
                 if failing.stays {
-                    self.place.kept.raise();
+                    self.store.kept.raise();
                 }
                 self.failure = Some(failing.fault);
                 Err(Fault::Store)
@@ -215,8 +215,8 @@ impl StoredLog for ListLog {
         }
     }
 
-    fn docs(&self) -> Result<&[KeptDoc], Fault> {
-        let docs = self.place.kept.docs();
+    fn docs(&self) -> Result<&[StoredDoc], Fault> {
+        let docs = self.store.kept.docs();
         if self.failure.is_some() {
             return Err(Fault::Store);
         }
@@ -227,31 +227,31 @@ impl StoredLog for ListLog {
         if self.failure.is_some() {
             return Err(Fault::Store);
         }
-        Ok(crate::count(self.place.kept.docs(), doc))
+        Ok(crate::count(self.store.kept.docs(), doc))
     }
 
     fn load(&self, alloc: Global, doc: &str) -> Result<OpLog, Fault> {
         if self.failure.is_some() {
             return Err(Fault::Store);
         }
-        crate::log_clone(self.place.kept.docs(), alloc, doc)
+        crate::log_clone(self.store.kept.docs(), alloc, doc)
     }
 
     fn append(&mut self, doc: &str, from: usize, entries: &[Operation]) -> Result<(), Fault> {
         if self.failure.is_some() {
             return Err(Fault::Store);
         }
-        if !may_add(self.place.kept.docs(), doc, from, entries) {
+        if !may_add(self.store.kept.docs(), doc, from, entries) {
             return Err(Fault::Refused);
         }
         if entries.is_empty() {
             return Ok(());
         }
         match next_use(&mut self.fails) {
-            None => self.place.kept.add(self.alloc, doc, entries),
+            None => self.store.kept.add(self.alloc, doc, entries),
             Some(failing) => {
                 if failing.stays {
-                    self.place.kept.add(self.alloc, doc, entries)?;
+                    self.store.kept.add(self.alloc, doc, entries)?;
                 }
                 self.failure = Some(failing.fault);
                 Err(Fault::Store)
@@ -259,16 +259,16 @@ impl StoredLog for ListLog {
         }
     }
 
-    fn fold(self) -> Result<ListLog, (StoredFault, ListPlace)> {
+    fn fold(self) -> Result<ListLog, (StoredFault, ListStore)> {
         let ListLog {
-            place,
+            store,
             mut fails,
             failure,
             alloc,
         } = self;
-        match folded(alloc, place, &mut fails) {
-            Ok(place) => Ok(ListLog {
-                place,
+        match folded(alloc, store, &mut fails) {
+            Ok(store) => Ok(ListLog {
+                store,
                 fails,
                 failure,
                 alloc,
@@ -277,13 +277,13 @@ impl StoredLog for ListLog {
         }
     }
 
-    fn close(self) -> Result<ListPlace, (StoredFault, ListPlace)> {
+    fn close(self) -> Result<ListStore, (StoredFault, ListStore)> {
         let ListLog {
-            place,
+            store,
             mut fails,
             failure: _,
             alloc,
         } = self;
-        folded(alloc, place, &mut fails)
+        folded(alloc, store, &mut fails)
     }
 }

@@ -4,7 +4,7 @@ ghost use Rattle.std.specs.Prelude.{◌≡◌, false, IfOk};
 use crate::Fault;
 use crate::port::StoredLog;
 
-/// A place where stored logs have names, as files have paths.
+/// Where stored logs have names, as files have paths.
 pub trait OpenLog {
     type Opened: StoredLog;
 

@@ -1,11 +1,11 @@
-//! The port: what a server needs of the place where its operations are stored.
+//! The port: what a server needs of the store of its operations.
 ghost use Rattle.std.specs.Prelude.{◌≡◌, ◌≢◌, ◌⊎◌, ◌+◌, ◌≤◌, ◌↔◌, ℕ, List, [], length, true, false, IfOk, IfErr, OnOk, Err, Ok};
 ghost use Rattle.stored_log.specs.Docs.{AreGood, AreInOrder, Doc, IsBatch, add_batch, log_of};
 ghost use Rattle.stored_log.specs.Limits.{last_epoch};
 ghost use Rattle.stored_log.specs.Log.{HasSame, IsAddedOrNot, IsRaisedOrNot, KeepsAll, LogState};
 
 use crate::stored_fault::StoredFault;
-use crate::{Fault, KeptDoc};
+use crate::{Fault, StoredDoc};
 use op_core::Operation;
 use op_log::OpLog;
 use std::alloc::Global;
@@ -13,7 +13,7 @@ use std::alloc::Global;
 /// A stored log: the number of the last start (the epoch), and the operations of documents, by name.
 /// After a fault of its store each call answers `Store`, until it is opened again.
 pub trait StoredLog: Drop {
-    /// What is left of it once it is closed: the place alone, to be opened again.
+    /// What is left of it once it is closed: the store alone, to be opened again.
     type Left: Drop;
 
     ghost log: { Self → LogState };
@@ -21,18 +21,18 @@ pub trait StoredLog: Drop {
     // Whatever a crash leaves of it now is such an epoch and such documents.
     ghost survives: { Self → (ℕ → List Doc → Type 0) → Type 0 };
 
-    // Between the two, the place where it stays for good held the epoch and the documents of the
+    // Between the two, the file alone held the epoch and the documents of the
     // first alone, without a log of commits beside it.
     ghost was_alone: { Self → Self → Type 0 };
 
-    // The place that is left holds the epoch and the documents alone.
-    ghost is_held: { Self → Self.Left → Type 0 };
+    // The store that is left holds the epoch and the documents alone.
+    ghost is_in_file: { Self → Self.Left → Type 0 };
 
-    // The place that is left holds what was last stored, also after a fault and beside further content.
+    // The store that is left holds what was last stored, also after a fault and beside further content.
     ghost has_moved: { Self → Self.Left → Type 0 };
 
-    // Whatever a crash leaves of the place that is left is the epoch and the documents.
-    ghost still_holds: { Self → Self.Left → Type 0 };
+    // Whatever a crash leaves of the store that is left is the epoch and the documents.
+    ghost is_in_store: { Self → Self.Left → Type 0 };
 
     /// Why it failed, if it has failed and the reason is known. No clause speaks of it.
     fn cause(&self) -> Option<StoredFault>;
@@ -58,7 +58,7 @@ pub trait StoredLog: Drop {
         ensures stays { OnOk result (survives self.new (HasSame (log self.new))) };
 
     /// The documents with entries, in the order of their names.
-    fn docs(&self) -> Result<&[KeptDoc], Fault>
+    fn docs(&self) -> Result<&[StoredDoc], Fault>
         ensures ok { IfOk result (λ docs. docs.now ≡ (log self.now).docs) }
         ensures in_order { AreInOrder (log self.now).docs }
         ensures good { AreGood (log self.now).docs }
@@ -97,21 +97,21 @@ pub trait StoredLog: Drop {
             → survives self.new (IsAddedOrNot doc.now entries.now (log self.old)) }
         ensures stays { OnOk result (survives self.new (HasSame (log self.new))) };
 
-    /// Moves all that is stored to the place where it stays for good, and goes on from there. A fault
-    /// leaves the place.
+    /// Moves all that is stored to the file alone, and goes on from there. A fault
+    /// leaves the store.
     fn fold(self) -> Result<Self, (StoredFault, Self::Left)>
         ensures same { IfOk result (λ it. log it ≡ log self) }
         ensures folded { IfOk result (λ it. (log self).has_failed ≡ false → was_alone self it) }
         // Nothing is lost.
-        ensures left { IfErr result (λ e. (log self).has_failed ≡ false → still_holds self e.1) };
+        ensures left { IfErr result (λ e. (log self).has_failed ≡ false → is_in_store self e.1) };
 
-    /// Moves all that is stored to the place where it stays for good, and leaves the place; after a
+    /// Moves all that is stored to the file alone, and leaves the store; after a
     /// fault too.
     fn close(self) -> Result<Self::Left, (StoredFault, Self::Left)>
-        ensures folded { IfOk result (λ last. (log self).has_failed ≡ false → is_held self last) }
+        ensures folded { IfOk result (λ last. (log self).has_failed ≡ false → is_in_file self last) }
         ensures copied { IfOk result (has_moved self) }
         // Nothing is lost.
-        ensures left { IfErr result (λ e. (log self).has_failed ≡ false → still_holds self e.1) };
+        ensures left { IfErr result (λ e. (log self).has_failed ≡ false → is_in_store self e.1) };
 
     // What a crash leaves behind a new epoch keeps what was kept before it.
     ghost still_keeps: { (it : Self) (first last : LogState) → KeepsAll first last.epoch last.docs

@@ -10,13 +10,13 @@ ghost use Rattle.line_feed.specs.Cut.{AppendsCut, line_of};
 ghost use Rattle.stored_log.specs.Docs.{AreInOrder, AreGood};
 ghost use Rattle.stored_log.specs.Report.{doc_data, epoch_data, doc_line, report, refusal_line, StopsShort};
 
-use crate::{Fault, KeptDoc, StoredFault, StoredLog};
+use crate::{Fault, StoredDoc, StoredFault, StoredLog};
 use json_scalar::Refusal;
 use json_text::{AsJson, JsonText};
 use line_feed::{Sink, write_all};
 use std::alloc::Global;
 
-/// What is reported in place of a report where a file holds no stored log.
+/// What is reported instead of a report where a file holds no stored log.
 pub const REFUSED_LINE: &[u8] = b"[\"no\",26,\"copy-refused\"]\n";
 
 /// Why there is no whole report.
@@ -43,8 +43,8 @@ pub fn check_opened<L: StoredLog, W: Sink>(
     ensures reported { OnOk result (IsOkAnd opened (λ copy.
         Appends (W.contents sink.old) (W.contents sink.new) (report (L.log copy).docs (L.log copy).epoch))) }
     ensures good { IfOk opened (λ copy. AreInOrder (L.log copy).docs × AreGood (L.log copy).docs) }
-    // The place that is left alone has all of it, also beside further content.
-    ensures closed { OnOk result (IsOkAnd opened (λ copy. (last : L.Left) × L.has_moved copy last × L.is_held copy last)) }
+    // The store that is left has all of it, also beside further content.
+    ensures closed { OnOk result (IsOkAnd opened (λ copy. (last : L.Left) × L.has_moved copy last × L.is_in_file copy last)) }
     ensures refused { opened ≡ Err Fault.Refused → Appends (W.contents sink.old) (W.contents sink.new) refusal_line
         ⊎ AppendsCut (W.contents sink.old) (W.contents sink.new) refusal_line }
     ensures whole { opened ≡ Err Fault.Refused → W.has_failed sink.new ≡ false
@@ -74,7 +74,7 @@ fn check_closed<L: StoredLog, W: Sink>(
     ensures reported { OnOk result (Appends (W.contents sink.old) (W.contents sink.new)
         (report (L.log copy).docs (L.log copy).epoch)) }
     ensures good { AreInOrder (L.log copy).docs × AreGood (L.log copy).docs }
-    ensures closed { OnOk result ((last : L.Left) × L.has_moved copy last × L.is_held copy last) }
+    ensures closed { OnOk result ((last : L.Left) × L.has_moved copy last × L.is_in_file copy last) }
     ensures cut { IfErr result (λ _. AppendsCut (W.contents sink.old) (W.contents sink.new)
         (report (L.log copy).docs (L.log copy).epoch) ⊎ (sink.new ≡ sink.old)) }
     ensures opened { result ≢ Err CheckFailure.Unopened }
@@ -168,7 +168,7 @@ fn report_of<L: StoredLog>(alloc: Global, copy: &L) -> Result<String, Refusal>
     }
 }
 
-fn lines_of(alloc: Global, docs: &[KeptDoc], epoch: u64) -> Result<String, Refusal>
+fn lines_of(alloc: Global, docs: &[StoredDoc], epoch: u64) -> Result<String, Refusal>
     ensures { IfOk result (λ text. string_bytes text ≡ report docs.now epoch) }
 {
     let mut text = String::new(alloc);
@@ -179,7 +179,7 @@ fn lines_of(alloc: Global, docs: &[KeptDoc], epoch: u64) -> Result<String, Refus
     Ok(text)
 }
 
-fn add_doc(alloc: Global, text: &mut String, doc: &KeptDoc) -> Result<(), Refusal>
+fn add_doc(alloc: Global, text: &mut String, doc: &StoredDoc) -> Result<(), Refusal>
     ensures { OnOk result (string_bytes text.new ≡ string_bytes text.old ++ doc_line doc.now) }
 {
     let mut line = JsonText::new(alloc);
@@ -205,7 +205,7 @@ fn add_line(text: &mut String, line: JsonText) -> Result<(), Refusal>
 }
 
 #[tactic(auto, using(crate::proofs::Lines::fours))]
-fn put_doc(line: &mut JsonText, doc: &KeptDoc) -> Result<(), Refusal>
+fn put_doc(line: &mut JsonText, doc: &StoredDoc) -> Result<(), Refusal>
     ensures { OnOk result (line.new ≡ line.old ++ data_tokens (doc_data doc.now)) }
 {
     line.begin_list()?;

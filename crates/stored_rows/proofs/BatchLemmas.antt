@@ -15,7 +15,7 @@ use Rattle.stored_rows.specs.Content.{entry_row}
 use Rattle.stored_log.specs.Docs.{Doc, op_text, is_named, log_of, longer_by, extend, put_doc, add_log}
 use Rattle.stored_rows.specs.Rows.{rows_of}
 use Rattle.stored_rows.specs.Accepted.{IsWritable, AreWritable}
-use Rattle.stored_rows.specs.Parsed.{HoldsRows}
+use Rattle.stored_rows.specs.Parsed.{HasRows}
 use Rattle.stored_log.proofs.DocLemmas.{still_in_order, still_good}
 use Rattle.stored_rows.proofs.RowLemmas.{rows_added}
 
@@ -58,7 +58,7 @@ one_more op e = absurd cc
 
 -- the row that was read comes next in its document
 pub adds_one : (format : ℕ) (name : List ℕ) (place : ℕ) (text : List ℕ) (op : Op) (docs new : List Doc) (rows : List Row) → (format ≡ 1 → is_add op.mutation ≡ false) → 1 ≤ place → is_name name ≡ true → place - 1 ≡ length (log_of name docs) → op_text op ≡ text → IsUtf8 text
-    → IsGood (log_of name docs ++ op ∷ []) → new ≡ add_log name (op ∷ []) docs → HoldsRows format rows docs → HoldsRows format (rows ++ entry_row name place text ∷ []) new
+    → IsGood (log_of name docs ++ op ∷ []) → new ≡ add_log name (op ∷ []) docs → HasRows format rows docs → HasRows format (rows ++ entry_row name place text ∷ []) new
 adds_one format name place text op docs new rows in_format first named counted text_is utf8 good is held =
     let at : length (log_of name docs) + 1 ≡ place = omega arith in
     let row = λ (p : ℕ). rows_of docs ++ entry_row name p (op_text op) ∷ [] in

@@ -24,7 +24,7 @@ use Rattle.sqlite.specs.Listing.{understood}
 use Rattle.sqlite.specs.State.{State, Executes, CommitsBy, Writes, mode_of}
 use Rattle.sqlite.proofs.Callers.{statement_of, runs_as, one_step}
 use Rattle.stored_rows.specs.Tables.{meta_text, entry_text, meta, entry, no_schema, meta_schema, copy_schema}
-use Rattle.stored_rows.specs.Content.{Holds, HoldsPair, first_content, meta_tree, entry_tree, meta_row}
+use Rattle.stored_rows.specs.Content.{Holds, HasPair, first_content, meta_tree, entry_tree, meta_row}
 use Rattle.stored_rows.specs.Steps.{IsBare, IsOpenWith, Writing}
 use Rattle.stored_rows.specs.Statements.{RanAll, CommitsOneOf, create_meta_it, create_entry_it, insert_numbers, commit_it, making_of_tables}
 use Rattle.stored_rows.proofs.TextLemmas.{meta_is, entry_is, create_meta, create_entry, create_plain, create_statements, begin_text, begin_bare, first_rows_text, first_rows_is, first_terms}
@@ -92,7 +92,7 @@ first_rows = meta_row (pos 1) (codes "format") 2 ∷ meta_row (pos 2) (codes "ep
 edited_is : (db : Trees) (all : List Row) → db meta_tree ≡ [] → all ≡ sources → edited db (edit_of db meta_table [] Chosen 0 all) ≡ first_rows
 edited_is db all none is = ap (λ a. edited db (edit_of db meta_table [] Chosen 0 a)) is ∙ rw (none, cast_null, cast_int (pos 2), cast_int (pos 0), value_cmp-Int (pos 1) (pos 2)) refl
 
-holds_first : HoldsPair (codes "format") (codes "epoch") 2 0 first_rows
+holds_first : HasPair (codes "format") (codes "epoch") 2 0 first_rows
 holds_first = record { id = pos 1; other_id = pos 2; apart = λ e. absurd (let same : ◌≡◌ {A = ℕ} 1 2 = cc in omega arith); rows_are = IsPermutation-refl first_rows }
 
 puts_rows : (s : State) (statement : List ℕ) (tally : Tally) (after : Database) → Making copy_schema s

@@ -21,7 +21,7 @@ use Rattle.op_core.specs.Op.{Op}
 use Rattle.stored_log.specs.Docs.{Doc, AreInOrder, AreGood, add_log}
 use Rattle.stored_rows.specs.Accepted.{AreWritable, IsNext, IsSoundContent}
 use Rattle.stored_rows.specs.Shown.{AreAnswered, ShowsNoLogs}
-use Rattle.stored_rows.specs.Parsed.{HoldsRows, AddsRow}
+use Rattle.stored_rows.specs.Parsed.{HasRows, AddsRow}
 use Rattle.stored_rows.specs.Rows.{rows_of}
 use Rattle.stored_rows.proofs.NextLemmas.{AreNext, all_next}
 use Rattle.stored_rows.proofs.SortLemmas.{entries_are}
@@ -44,7 +44,7 @@ module _ {S : Type 0} (g : Ghosts S) (old : Held S) (format : ℕ) where
   -- The rows that were given stand in the documents, and nothing is changed.
   pub record HasReadTo (now : Held S) (docs : List Doc) : Type 0 where
     pub given : List Row
-    pub held : HoldsRows format given docs
+    pub held : HasRows format given docs
     pub next : (more : List Row) → AreNext format [] (given ++ more) → AreNext format docs more
     pub reads : IsGiven now given
     pub crash : LeavesAll now

@@ -22,7 +22,7 @@ use Rattle.sqlite.specs.Effect.{Database}
 use Rattle.sqlite.specs.State.{State, mode_of}
 use Rattle.sqlite.proofs.Callers.{one_step, one_permutation}
 use Rattle.stored_rows.specs.Tables.{copy_schema}
-use Rattle.stored_rows.specs.Content.{HoldsPair, meta_tree, entry_tree, meta_columns, meta_row}
+use Rattle.stored_rows.specs.Content.{HasPair, meta_tree, entry_tree, meta_columns, meta_row}
 use Rattle.stored_rows.proofs.TextLemmas.{set_query}
 use Rattle.stored_rows.proofs.TextRowLemmas.{meta_table, two_orders, two_mapped, went, same_value, put_row_moves, cast_int}
 
@@ -66,7 +66,7 @@ leaves rows x y a b apart (inr is) at_x at_y = rw (is, at_x, at_y, apart_test a 
 -- the value of this name is set, and nothing else
 pub record Sets (name other : List ℕ) (value at_other : ℕ) (now after : Database) : Type 0 where
   pub schema : after.schema ≡ copy_schema
-  pub meta : HoldsPair other name at_other value (after.trees meta_tree)
+  pub meta : HasPair other name at_other value (after.trees meta_tree)
   pub entry : after.trees entry_tree ≡ now.trees entry_tree
 
 module _ (name other : List ℕ) (sees : Sees name other) where
@@ -90,10 +90,10 @@ module _ (name other : List ℕ) (sees : Sees name other) where
       → found ≡ (Int b ∷ the_stored b value) ∷ [] → edited db (the_edit db found) ≡ put_row (the_stored b value) (x ∷ [])
   writes db x y a b value found apart rows at_x at_y is = ap (λ f. edited db (the_edit db f)) is ∙ rw (leaves (db meta_tree) x y a b apart rows at_x at_y, cast_int b, cast_int (pos value)) refl
 
-  module _ (at_other before value : ℕ) (db : Trees) (found : List Row) (held : HoldsPair other name at_other before (db meta_tree))
+  module _ (at_other before value : ℕ) (db : Trees) (found : List Row) (held : HasPair other name at_other before (db meta_tree))
       (a : IsAnswer (set_query name) (overlay db []) (the_params value) found) where
     after : (x y : Row) → AreRows x y (db meta_tree) → meta_columns x ≡ meta_row held.id other at_other → meta_columns y ≡ meta_row held.other_id name before
-        → HoldsPair other name at_other value (edited db (the_edit db found))
+        → HasPair other name at_other value (edited db (the_edit db found))
     after x y rows x_is y_is =
         let new = the_stored held.other_id value in
         let at_x : column x 0 ≡ Int held.id = let e = x_is in cc in
@@ -111,7 +111,7 @@ module _ (name other : List ℕ) (sees : Sees name other) where
               (IsPermutation-trans _ _ _ swapped moved);
         }
 
-    holds_after : HoldsPair other name at_other value (edited db (the_edit db found))
+    holds_after : HasPair other name at_other value (edited db (the_edit db found))
     holds_after =
         let p = meta_row held.id other at_other in
         let q = meta_row held.other_id name before in
@@ -120,7 +120,7 @@ module _ (name other : List ℕ) (sees : Sees name other) where
           | inr is ↦ let m = two_mapped meta_columns (db meta_tree) q p is in after m.1 m.0 (inr m.2) m.4 m.3
         ]
 
-  pub updates : (s : State) (at_other before value : ℕ) (statement : List ℕ) (tally : Tally) (after : Database) → s.now.schema ≡ copy_schema → HoldsPair other name at_other before (s.now.trees meta_tree)
+  pub updates : (s : State) (at_other before value : ℕ) (statement : List ℕ) (tally : Tally) (after : Database) → s.now.schema ≡ copy_schema → HasPair other name at_other before (s.now.trees meta_tree)
       → Does s.step_limit (mode_of s) (the_params value) s.now statement None (Update 0 (record { lets = []; body = set_query name })) (Ok (tally, after)) → Sets name other value at_other s.now after
   updates s at_other before value statement tally after has held does =
       let params = the_params value in
@@ -135,13 +135,13 @@ module _ (name other : List ℕ) (sees : Sees name other) where
       let step = one_step copy_schema _ db written.0 (edit_of db meta_table (ids_of found.0) Given 1 found.0) refl written.1 in
       record {
         schema = ap (λ (d : Database). d.schema) now;
-        meta = subst (HoldsPair other name at_other value) (sym (ap (λ (d : Database). d.trees meta_tree) now ∙ ap (λ (t : Trees). t meta_tree) trees ∙ step.rows)) (holds_after at_other before value db found.0 held a);
+        meta = subst (HasPair other name at_other value) (sym (ap (λ (d : Database). d.trees meta_tree) now ∙ ap (λ (t : Trees). t meta_tree) trees ∙ step.rows)) (holds_after at_other before value db found.0 held a);
         entry = ap (λ (d : Database). d.trees entry_tree) now ∙ ap (λ (t : Trees). t entry_tree) trees ∙ step.tables.1.0 (λ e. absurd (omega arith));
       }
 
 -- ---- the two numbers
 
-flipped : (name other : List ℕ) (value at_other : ℕ) (rows : List Row) → HoldsPair name other value at_other rows → HoldsPair other name at_other value rows
+flipped : (name other : List ℕ) (value at_other : ℕ) (rows : List Row) → HasPair name other value at_other rows → HasPair other name at_other value rows
 flipped name other value at_other rows held = record {
   id = held.other_id;
   other_id = held.id;
@@ -151,16 +151,16 @@ flipped name other value at_other rows held = record {
 
 abbrev pub Epochs : Database → ℕ → ℕ → Database → Type 0
 Epochs now format epoch after =
-    (after.schema ≡ copy_schema) × HoldsPair (codes "format") (codes "epoch") format epoch (after.trees meta_tree) × (after.trees entry_tree ≡ now.trees entry_tree)
+    (after.schema ≡ copy_schema) × HasPair (codes "format") (codes "epoch") format epoch (after.trees meta_tree) × (after.trees entry_tree ≡ now.trees entry_tree)
 
 pub sets_epoch : (s : State) (format before epoch : ℕ) (statement : List ℕ) (tally : Tally) (after : Database) → s.now.schema ≡ copy_schema
-    → HoldsPair (codes "format") (codes "epoch") format before (s.now.trees meta_tree)
+    → HasPair (codes "format") (codes "epoch") format before (s.now.trees meta_tree)
     → Does s.step_limit (mode_of s) (the_params epoch) s.now statement None (Update 0 (record { lets = []; body = set_query (codes "epoch") })) (Ok (tally, after)) → Epochs s.now format epoch after
 sets_epoch s format before epoch statement tally after has held does =
     let sets = updates (codes "epoch") (codes "format") sees_epoch s format before epoch statement tally after has held does in (sets.schema, sets.meta, sets.entry)
 
 pub sets_format : (s : State) (before format epoch : ℕ) (statement : List ℕ) (tally : Tally) (after : Database) → s.now.schema ≡ copy_schema
-    → HoldsPair (codes "format") (codes "epoch") before epoch (s.now.trees meta_tree)
+    → HasPair (codes "format") (codes "epoch") before epoch (s.now.trees meta_tree)
     → Does s.step_limit (mode_of s) (the_params format) s.now statement None (Update 0 (record { lets = []; body = set_query (codes "format") })) (Ok (tally, after)) → Epochs s.now format epoch after
 sets_format s before format epoch statement tally after has held does =
     let sets = updates (codes "format") (codes "epoch") sees_format s epoch before format statement tally after has (flipped _ _ _ _ _ held) does in

@@ -65,7 +65,7 @@ abbrev pub entry_columns : Row → Row
 entry_columns r = column r 1 ∷ column r 2 ∷ column r 3 ∷ []
 
 -- Two rows of these names and values, in any order. Their rowids differ, so an UPDATE of one leaves the other.
-pub record HoldsPair (name other : List ℕ) (value at_other : ℕ) (rows : List Row) : Type 0 where
+pub record HasPair (name other : List ℕ) (value at_other : ℕ) (rows : List Row) : Type 0 where
   pub id : ℤ
   pub other_id : ℤ
   pub apart : id ≢ other_id
@@ -73,5 +73,5 @@ pub record HoldsPair (name other : List ℕ) (value at_other : ℕ) (rows : List
 
 -- The tables hold this and nothing else, in any order.
 pub record Holds (what : Content) (trees : Trees) : Type 0 where
-  pub meta : HoldsPair (codes "format") (codes "epoch") what.format what.epoch (trees meta_tree)
+  pub meta : HasPair (codes "format") (codes "epoch") what.format what.epoch (trees meta_tree)
   pub entry : IsPermutation what.rows (map entry_columns (trees entry_tree))

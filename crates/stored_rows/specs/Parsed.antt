@@ -17,7 +17,7 @@ pub record IsMeta (format epoch : ℕ) (rows : List Row) : Type 0 where
 
 -- The documents are good and in order, a file of this format may hold them, and they have these rows and no
 -- others, in any order.
-pub record HoldsRows (format : ℕ) (rows : List Row) (docs : List Doc) : Type 0 where
+pub record HasRows (format : ℕ) (rows : List Row) (docs : List Doc) : Type 0 where
   pub in_order : AreInOrder docs
   pub good : AreGood docs
   pub writable : AreWritable 2 docs
@@ -26,7 +26,7 @@ pub record HoldsRows (format : ℕ) (rows : List Row) (docs : List Doc) : Type 0
 
 -- one row more
 abbrev pub AddsRow : ℕ → Row → List Doc → List Doc → Type 0
-AddsRow format row old new = (rows : List Row) → HoldsRows format rows old → HoldsRows format (rows ++ row ∷ []) new
+AddsRow format row old new = (rows : List Row) → HasRows format rows old → HasRows format (rows ++ row ∷ []) new
 
 -- The tables hold this, and reading them changed nothing.
 pub record ReadsContent (what : Content) (old new : State) : Type 0 where

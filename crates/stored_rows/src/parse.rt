@@ -16,7 +16,7 @@ use op_core::{Mutation, Operation};
 use sqlite::types::{FromSql, ValueRef};
 use sqlite::{Error, ErrorCode, Row};
 use std::alloc::Global;
-use stored_log::{Fault, KeptDoc, LAST_EPOCH, add_one, may_follow, operation_of};
+use stored_log::{Fault, LAST_EPOCH, StoredDoc, add_one, may_follow, operation_of};
 
 /// The format that is written.
 pub const FORMAT: u32 = 2;
@@ -144,7 +144,7 @@ fn is_addition(op: &Operation) -> bool
 
 /// Adds the entry of one row. It has to come next in its document.
 pub(crate) fn add_row(
-    docs: &mut Vec<KeptDoc>,
+    docs: &mut Vec<StoredDoc>,
     alloc: Global,
     format: u32,
     row: &Row,

@@ -9,9 +9,9 @@ abbrev pub listening_line : SocketAddr → List ℕ
 listening_line address = codes "[\"listening\",\"" ++ (socket_text address ++ codes "\"]\n")
 
 -- it was written of some address that the server listens there
-pub record WritesAddress (held holds : Option (List ℕ)) : Type 0 where
+pub record WritesAddress (out_before out_after : Option (List ℕ)) : Type 0 where
   pub address : SocketAddr
-  pub written : Appends held holds (listening_line address)
+  pub written : Appends out_before out_after (listening_line address)
 
 -- what an address should be
 abbrev pub hint : List ℕ

@@ -1,6 +1,6 @@
 //! Seats of a document and of another, and what their ends add up to.
 ghost use Rattle.std.specs.Prelude.{◌≡◌, ◌≤◌};
-ghost use Rattle.share_ledger.specs.Counters.{ledger_place};
+ghost use Rattle.share_ledger.specs.Counters.{counter_number};
 ghost use Rattle.share_ledger.specs.Begun.{BeginEmpty};
 
 use super::samples::{
@@ -88,7 +88,7 @@ fn refuses_with<M: Marker, R: Abort>(
 
 // A list of the end of a seat of the document of number 1.
 fn elsewhere<M: Marker>(alloc: Global, table: &mut Table<M>) -> Result<Vec<SeatEnd<M>>, Refusal>
-    requires place { table.old ≤ ledger_place 1 0 }
+    requires place { table.old ≤ counter_number 1 0 }
     requires begun { BeginEmpty M.origin }
 {
     let mut ends = Vec::new(alloc);

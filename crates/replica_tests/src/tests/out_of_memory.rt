@@ -7,7 +7,7 @@
 //! they expect ample memory.
 ghost use Rattle.std.specs.Prelude.{◌≡◌, ◌≤◌, ℕ, IfOk};
 ghost use Rattle.share_ledger.specs.Begun.{MayBeNamed};
-ghost use Rattle.share_ledger.specs.Counters.{ledger_place};
+ghost use Rattle.share_ledger.specs.Counters.{counter_number};
 
 use super::is_conflict_at;
 use super::samples::{
@@ -251,7 +251,7 @@ fn replica_again(alloc: Global) -> Result<Replica, Refusal> {
 }
 
 fn ledgers_again<M: Marker>(alloc: Global, table: &mut Table<M>) -> Result<Ledgers<M>, Refusal>
-    requires { table.old ≤ ledger_place 0 0 }
+    requires { table.old ≤ counter_number 0 0 }
     ensures { IfOk result (λ l. l.number ≡ 0) }
 {
     match Ledgers::make(alloc, table, 0, 2) {

@@ -2,7 +2,7 @@
 //! document to try them on.
 ghost use Rattle.std.specs.Prelude.{◌≡◌, [], ◌+◌, ◌≤◌, IfOk, OnOk};
 ghost use Rattle.share_ledger.specs.Begun.{BeginEmpty, MayBeNamed};
-ghost use Rattle.share_ledger.specs.Counters.{ledger_place};
+ghost use Rattle.share_ledger.specs.Counters.{counter_number};
 
 use doc_api::{Command, Look, Place, Query, Reply, Steps};
 use json_scalar::{Refusal, Scalar};
@@ -272,10 +272,10 @@ pub fn document<M: Marker>(
     number: u16,
     seats: u16,
 ) -> Result<LockedDoc<M>, Refusal>
-    requires place { table.old ≤ ledger_place number 0 }
+    requires place { table.old ≤ counter_number number 0 }
     requires begun { BeginEmpty M.origin }
     ensures ok { IfOk result (λ d. d.number ≡ number) }
-    ensures table { OnOk result (table.new ≤ ledger_place number seats + 1) }
+    ensures table { OnOk result (table.new ≤ counter_number number seats + 1) }
 {
     let ledgers = Ledgers::make(alloc, table, number, seats)?;
     holding(alloc, server(alloc)?, ledgers)

@@ -11,7 +11,7 @@ use std::str;
 use std::sync::Wait;
 use std::thread::Threads;
 use std::time::Clock;
-use stored_log::{FailingUse, ListLog, ListPlace, StoredFault, StoredLog};
+use stored_log::{FailingUse, ListLog, ListStore, StoredFault, StoredLog};
 
 // A start whose three changes are written in one batch or in several.
 static CHANGES: Start<'static> = Start {
@@ -42,14 +42,14 @@ fn kept_in(log: &ListLog) -> Kept {
 }
 
 // A place whose file alone holds what this one's does, and after a crash too.
-fn file_alone(alloc: Global, place: &ListPlace) -> Result<ListPlace, AllocError> {
+fn file_alone(alloc: Global, place: &ListStore) -> Result<ListStore, AllocError> {
     let Ok(kept) = place.alone.try_clone(alloc) else {
         return Err(AllocError);
     };
     let Ok(alone) = place.alone.try_clone(alloc) else {
         return Err(AllocError);
     };
-    Ok(ListPlace { kept, alone })
+    Ok(ListStore { kept, alone })
 }
 
 // Starts a server over what is left, under a new epoch, which has just the rows that are left; and
@@ -58,7 +58,7 @@ fn restarts<R: Threads + Wait + Abort + Sync + Log + Clock>(
     rt: &R,
     alloc: Global,
     case: &str,
-    place: ListPlace,
+    place: ListStore,
 ) -> Result<Kept, AllocError> {
     let log = ListLog::open(alloc, place, None);
     let kept = kept_in(&log);
@@ -93,7 +93,7 @@ fn is_left<R: Threads + Wait + Abort + Sync + Log + Clock>(
     alloc: Global,
     case: &str,
     answers: usize,
-    place: ListPlace,
+    place: ListStore,
 ) -> Result<Kept, AllocError> {
     let file = file_alone(alloc, &place)?;
     let kept = restarts(rt, alloc, case, place)?;
@@ -111,7 +111,7 @@ fn ends<R: Threads + Wait + Abort + Sync + Log + Clock>(
     case: &str,
     fails: FailingUse,
 ) -> Result<u8, AllocError> {
-    let log = ListLog::open(alloc, ListPlace::new(alloc), Some(fails));
+    let log = ListLog::open(alloc, ListStore::new(alloc), Some(fails));
     let done = serve_start(rt, alloc, &["d"], &CHANGES, Pace::Durable, log)?;
     let Done { served, replies } = done;
     let Served {

@@ -4,7 +4,7 @@ use log_copy::LogCopy;
 use sqlite::{Connection, FileStore};
 use sqlite_disk::Disk;
 use std::alloc::{AllocError, Global};
-use stored_log::{Fault, ListLog, ListPlace, OpenLog, StoredFault, StoredLog};
+use stored_log::{Fault, ListLog, ListStore, OpenLog, StoredFault, StoredLog};
 
 /// The stored log over this connection, or, as if out of memory, none.
 pub fn adopted<D: Disk + Drop>(
@@ -19,7 +19,7 @@ pub fn adopted<D: Disk + Drop>(
 
 /// An empty log in memory.
 pub fn new_list(alloc: Global) -> ListLog {
-    ListLog::open(alloc, ListPlace::new(alloc), None)
+    ListLog::open(alloc, ListStore::new(alloc), None)
 }
 
 /// Opens an empty log in memory under each name, or fails.
@@ -35,7 +35,7 @@ impl OpenLog for NewLists {
     fn open(&self, _name: &str) -> Result<ListLog, Fault> {
         match self.fault {
             Some(fault) => Err(fault),
-            None => Ok(ListLog::open(self.alloc, ListPlace::new(self.alloc), None)),
+            None => Ok(ListLog::open(self.alloc, ListStore::new(self.alloc), None)),
         }
     }
 }
@@ -47,7 +47,7 @@ pub trait Reopens: StoredLog {
 }
 
 impl Reopens for ListLog {
-    fn reopen(alloc: Global, left: ListPlace) -> Result<ListLog, AllocError> {
+    fn reopen(alloc: Global, left: ListStore) -> Result<ListLog, AllocError> {
         Ok(ListLog::open(alloc, left, None))
     }
 }

@@ -19,7 +19,7 @@ use std::process::Abort;
 use std::sync::{Mutex, Wait};
 use std::thread::Threads;
 use std::time::Clock;
-use stored_log::{KeptDoc, ListLog, StoredFault, StoredLog};
+use stored_log::{ListLog, StoredDoc, StoredFault, StoredLog};
 
 // Counts how often it is notified of a fault.
 #[derive(Drop)]
@@ -29,7 +29,7 @@ struct Counting<'a, R: Wait> {
 }
 
 impl<R: Wait> CopyObserver for Counting<'_, R> {
-    fn added(&self, _document: &KeptDoc, _entries: &[Operation]) {}
+    fn added(&self, _document: &StoredDoc, _entries: &[Operation]) {}
 
     fn lacks_memory(&self) {}
 

@@ -44,7 +44,7 @@ static ROWS: [Row; 3] = [
             write_after: 20,
             ..NO_FAULT
         },
-        // Replies go out once no whole line is held, so all lines are answered before.
+        // Replies go out once no whole line is buffered, so all lines are answered before.
         done: 2,
         why: Some(Ending::WriteFault),
         seated_first: &[2, 2],

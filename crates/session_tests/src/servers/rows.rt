@@ -122,7 +122,7 @@ impl<M: Marker, D: Sink> Sink for Looking<'_, M, D> {
 
     ghost has_failed = { λ s. D.has_failed s.device };
 
-    ghost kept = { λ s. D.kept s.device };
+    ghost unflushed = { λ s. D.unflushed s.device };
 
     fn write_some(&mut self, bytes: &[u8]) -> Result<usize, DeviceFault> {
         if is_locked(self.shared) {

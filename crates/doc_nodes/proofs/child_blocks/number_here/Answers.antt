@@ -5,39 +5,39 @@ use Rattle.list_laws.proofs.Keys.{same}
 use Rattle.doc_nodes.specs.KeyOrder.{key_rank}
 use Rattle.doc_nodes.proofs.KeyOrder.{keys_ordered}
 use Rattle.doc_nodes.proofs.ChildrenLaws.{number_at-rank, number_at-missing}
-use Rattle.doc_nodes.proofs.child_blocks.number_here.Goals.{else-place-entries-via-then-place-entries+else-is_same_key, else-place-entries-via-else-place-entries}
+use Rattle.doc_nodes.proofs.child_blocks.number_here.Goals.{else-at-entries-via-then-at-entries+else-is_same_key, else-at-entries-via-else-at-entries}
 use Rattle.doc_nodes.proofs.child_blocks.number_here.Goals as goal
 
 pub returns-then-is_same_key-clause-found : goal.returns-then-is_same_key-clause-found
 returns-then-is_same_key-clause-found c =
     let entries = c.args.entries.now in
     let key = c.args.key.now in
-    let place = c.args.place in
-    let d = c.index-entries-place.result in
-    let e = c.index-entries-place-then-is_same_key.result in
-    let within : place < length entries = c.if-place-entries.true in
-    let found : key_eq (get_or entries place d).0 key ≡ true = sym c.if-is_same_key.ensures in
-    let here : (get_or entries place e).0 ≡ key = ap (λ x. x.0) (get_or_default entries place e d within) ∙ same keys_ordered (get_or entries place d).0 key found in
-    (place, within, get_or_default entries place (key, (get_or entries place e).1) e within ∙ (λ i. (here i, (get_or entries place e).1)))
+    let at = c.args.index in
+    let d = c.index-entries-index.result in
+    let e = c.index-entries-index-then-is_same_key.result in
+    let within : at < length entries = c.if-index-entries.true in
+    let found : key_eq (get_or entries at d).0 key ≡ true = sym c.if-is_same_key.ensures in
+    let here : (get_or entries at e).0 ≡ key = ap (λ x. x.0) (get_or_default entries at e d within) ∙ same keys_ordered (get_or entries at d).0 key found in
+    (at, within, get_or_default entries at (key, (get_or entries at e).1) e within ∙ (λ i. (here i, (get_or entries at e).1)))
 
 pub returns-then-is_same_key-clause-sought : goal.returns-then-is_same_key-clause-sought
 returns-then-is_same_key-clause-sought c = λ at.
     let entries = c.args.entries.now in
     let key = c.args.key.now in
-    let d = c.index-entries-place.result in
-    let within : c.args.place < length entries = c.if-place-entries.true in
+    let d = c.index-entries-index.result in
+    let within : c.args.index < length entries = c.if-index-entries.true in
     let found : key_eq (get_or entries (key_rank entries key) d).0 key ≡ true =
     subst (λ n. key_eq (get_or entries n d).0 key ≡ true) at (sym c.if-is_same_key.ensures) in
-    ap (λ e. Some e.1) (get_or_default entries c.args.place c.index-entries-place-then-is_same_key.result d within ∙ ap (λ n. get_or entries n d) at)
+    ap (λ e. Some e.1) (get_or_default entries c.args.index c.index-entries-index-then-is_same_key.result d within ∙ ap (λ n. get_or entries n d) at)
     ∙ sym (number_at-rank entries key d (subst (λ n. n < length entries) at within) found)
 
-pub returns-else-place-entries-clause-sought : goal.returns-else-place-entries-clause-sought
-returns-else-place-entries-clause-sought c = λ at.
+pub returns-else-at-entries-clause-sought : goal.returns-else-at-entries-clause-sought
+returns-else-at-entries-clause-sought c = λ at.
     let entries = c.args.entries.now in
     let key = c.args.key.now in
-    elim c.else-place-entries.branch [
-      | else-place-entries-via-then-place-entries+else-is_same_key w ↦ sym (number_at-missing entries key w.index-entries-place.result c.requires
-          (λ within. subst (λ n. key_eq (get_or entries n w.index-entries-place.result).0 key ≡ false) at (sym w.if-is_same_key.ensures)))
-      | else-place-entries-via-else-place-entries w ↦ sym (number_at-missing entries key (key, record { 0 = 0 }) c.requires
-          (λ within. absurd (omega (arith, at, w.if-place-entries.false))))
+    elim c.else-at-entries.branch [
+      | else-at-entries-via-then-at-entries+else-is_same_key w ↦ sym (number_at-missing entries key w.index-entries-index.result c.requires
+          (λ within. subst (λ n. key_eq (get_or entries n w.index-entries-index.result).0 key ≡ false) at (sym w.if-is_same_key.ensures)))
+      | else-at-entries-via-else-at-entries w ↦ sym (number_at-missing entries key (key, record { 0 = 0 }) c.requires
+          (λ within. absurd (omega (arith, at, w.if-index-entries.false))))
     ]

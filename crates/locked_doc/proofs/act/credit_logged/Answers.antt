@@ -8,14 +8,14 @@ use Rattle.doc_rules.specs.Seats.{operation_ids}
 use Rattle.locked_doc.proofs.act.credit_logged.Goals as goal
 
 pub acknowledge-requires : goal.acknowledge-requires
-acknowledge-requires g c = c.requires.place
+acknowledge-requires g c = c.requires.counter
 
-pub credit-requires-clause-place : goal.credit-requires-clause-place
-credit-requires-clause-place g c =
+pub credit-requires-clause-counter : goal.credit-requires-clause-counter
+credit-requires-clause-counter g c =
     let book = c.acknowledge.ensures.book in
     let share = c.acknowledge.ensures.share in (
-      ap (λ (x : Counter). x.number) book ∙ (c.requires.place.0 ∙ sym (ap (λ (x : Counter). x.number) share)),
-      ap (λ (x : Counter). x.seat) book ∙ (c.requires.place.1 ∙ sym (ap (λ (x : Counter). x.seat) share)),
+      ap (λ (x : Counter). x.number) book ∙ (c.requires.counter.0 ∙ sym (ap (λ (x : Counter). x.number) share)),
+      ap (λ (x : Counter). x.seat) book ∙ (c.requires.counter.1 ∙ sym (ap (λ (x : Counter). x.seat) share)),
     )
 
 pub credit-requires-clause-fits : goal.credit-requires-clause-fits

@@ -22,6 +22,6 @@ pub returns : goal.returns
 returns c =
     let first = c.new-sink.ensures in
     let last = c.write.new.sink in
-    told_by c.write.result c.is_ok-is_told.result _ _ (taken (Some last.writer.items) last.unflushed last.flush_failed) c.args.text.items _ c.into_inner.result.items
+    told_by c.write.result c.is_ok-is_told.result _ _ (taken (Some last.writer.items) last.is_dirty last.flush_failed) c.args.text.items _ c.into_inner.result.items
     c.is_ok-is_told.ensures.value (λ i. taken (Some (first.writer i).items) (first.flushed i) (first.flushes i)) c.write.ensures.ok c.write.ensures.failed
     c.into_inner.ensures.bytes

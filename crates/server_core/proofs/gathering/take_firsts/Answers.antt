@@ -6,7 +6,7 @@ use Rattle.server_core.proofs.Columns.{all_through, begun, head_is, one_through}
 use Rattle.server_core.proofs.gathering.take_firsts.Goals as goal
 
 pub loop-init : goal.loop-init
-loop-init g c = record { through = begun _ _; as_many = refl; place = search rules; room = search rules }
+loop-init g c = record { through = begun _ _; as_many = refl; within = search rules; room = search rules }
 
 pub loop-preserved : goal.loop-preserved
 loop-preserved g c =
@@ -26,7 +26,7 @@ loop-preserved g c =
     record {
       through = one_through at.invariant.through within first.items (map (λ s. s.items) left) _ _ now moved c.take_into.ensures.taken;
       as_many = search rules;
-      place = search rules;
+      within = search rules;
       room = search rules;
     }
 

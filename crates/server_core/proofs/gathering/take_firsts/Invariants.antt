@@ -7,6 +7,6 @@ invariant-loop g l =
     record {
       through : IsThrough (map (λ s. s.items) l.fn.sessions.items) (map (λ s. s.items) l.sessions.items) l.counter l.fn.ends.items l.ends.items;
       as_many : vec_len l.sessions ≡ vec_len l.fn.sessions;
-      place : vec_len l.sessions ≤ vec_capacity l.sessions;
+      within : vec_len l.sessions ≤ vec_capacity l.sessions;
       room : vec_len l.ends + vec_len l.fn.sessions ≤ vec_capacity l.ends + l.counter;
     }

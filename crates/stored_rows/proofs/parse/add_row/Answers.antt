@@ -1,7 +1,7 @@
 use Rattle.std.proofs.Common.{rules, ◌≡◌, ◌+◌, length, ◌∙◌, ◌++◌, ◌∷◌, [], sym, subst, arith}
 use Rattle.std.proofs.lemmas.Result.{on_ok_weaker}
 use Rattle.lamport_id.proofs.Names.{IsUtf8-name}
-use Rattle.stored_rows.specs.Parsed.{HoldsRows}
+use Rattle.stored_rows.specs.Parsed.{HasRows}
 use Rattle.stored_log.specs.Docs.{op_text, log_of}
 use Rattle.stored_rows.proofs.BatchLemmas.{adds_one}
 use Rattle.stored_rows.proofs.NextLemmas.{same_entry, next_shaped, next_place, wanting, read_as, only_memory}
@@ -14,7 +14,7 @@ returns-clause-ok c =
     let may = rw c.as_slice.ensures.value at (c.may_follow.ensures.0 c.if-not-may_follow.false) in
     let told = c.in_ok-entry.ensures.ok in
     on_ok_weaker c.add_one.result (λ it rows held.
-    subst (λ r. HoldsRows c.args.format (rows ++ r ∷ []) c.add_one.new.docs.items) (sym c.in_ok-name.ensures.ok)
+    subst (λ r. HasRows c.args.format (rows ++ r ∷ []) c.add_one.new.docs.items) (sym c.in_ok-name.ensures.ok)
     (adds_one c.args.format name c.in_ok-name.place c.in_ok-name.text.now op c.args.docs.now.items c.add_one.new.docs.items rows c.in_ok-entry.ensures.in_format (omega arith) may.0 may.1 told c.in_ok-name.ensures.text it.1 it.0 held)) c.add_one.ensures.ok
 
 pub returns-in_err-name-clause-accepts : goal.returns-in_err-name-clause-accepts

@@ -10,7 +10,7 @@ returns-in-Some-clause-bytes g c = ([], Consumes-nil _, sym (append-nil _))
 
 pub returns-in-Some-clause-stop : goal.returns-in-Some-clause-stop
 returns-in-Some-clause-stop g c =
-    subst (λ (f : Feed). EndsFirstLine f.held c.in-Some.at) c.self.view_is (rw c.in-Some.is at c.self.invariant.4)
+    subst (λ (f : Feed). EndsFirstLine f.buffered c.in-Some.at) c.self.view_is (rw c.in-Some.is at c.self.invariant.4)
 
 pub fill-len-requires-clause-unended : goal.fill-len-requires-clause-unended
 fill-len-requires-clause-unended g c =

@@ -10,4 +10,4 @@ returns c =
     let a = c.self.inside in
     c.is_some.ensures
     ∙ is_some_first (slice_range a.buffer.items a.start a.end) a.newline c.self.invariant.4
-    ∙ ap (λ (f : Feed). list_any is_newline f.held) c.self.view_is
+    ∙ ap (λ (f : Feed). list_any is_newline f.buffered) c.self.view_is

@@ -6,5 +6,5 @@ pub returns-in-Err-clause-lost : goal.returns-in-Err-clause-lost
 returns-in-Err-clause-lost g c =
     let (same, from, part, appends) = c.in-Err.ensures.err in
     let popped = c.pop-lost.ensures in
-    lost_last _ _ c.args.self.now.kept.items c.pop-lost.new.self.items c.pop-lost.result c.args.self.now.sent c.send_kept.new.self.sent
+    lost_last _ _ c.args.self.now.buffer.items c.pop-lost.new.self.items c.pop-lost.result c.args.self.now.sent c.send_buffer.new.self.sent
     appends from part (sym same ∙ popped.items) (popped.variant.1 (omega (arith, part, ap length same)))

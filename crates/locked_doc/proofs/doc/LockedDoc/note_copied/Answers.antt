@@ -9,7 +9,7 @@ pub invariant_of-self : goal.invariant_of-self
 invariant_of-self g c =
     let d = c.self.inside in
     let within : c.args.copied ≤ length d.replica.log = omega (arith, c.if-copied-len.true, c.len.ensures.len, ap length c.log.ensures.log) in (
-      counted_copied d.number (document_of d.replica d.seats_of.items (length d.books.items) d.opened d.copied) d.books.items d.kept.items c.args.copied c.self.invariant.0 within,
+      counted_copied d.number (document_of d.replica d.seats_of.items (length d.books.items) d.opened d.copied) d.books.items d.unopened.items c.args.copied c.self.invariant.0 within,
       c.self.invariant.1,
     )
 

@@ -17,7 +17,7 @@ returns-clause-answers g c =
     let some : 0 < s = omega (arith, mine.1, c.seat-seat_number.ensures) in
     let within : s ≤ d.opened = omega (arith, mine.2, c.seat-seat_number.ensures) in
     let book : c.index.result.now ≡ counter_of d.number d.replica.log d.seats_of.items s =
-    book_at d.number (document_of d.replica d.seats_of.items (length d.books.items) d.opened d.copied) d.books.items d.kept.items s c.index.result.now c.self.invariant.0 some within c.index.ensures in
+    book_at d.number (document_of d.replica d.seats_of.items (length d.books.items) d.opened d.copied) d.books.items d.unopened.items s c.index.result.now c.self.invariant.0 some within c.index.ensures in
     let share : c.seat.inside.share.count ≡ count_of c.seat.inside.share.seat d.seats_of.items =
     sym (ap (λ (b : Counter). b.count) c.agree.ensures) ∙ (ap (λ (b : Counter). b.count) book ∙ ap (λ k. count_of k d.seats_of.items) c.seat-seat_number.ensures) in
     rw (← c.self.view_is, ← c.seat.view_is)
@@ -44,7 +44,7 @@ returns-clause-told g c =
     let some : 0 < s = omega (arith, mine.1, c.seat-seat_number.ensures) in
     let within : s ≤ d.opened = omega (arith, mine.2, c.seat-seat_number.ensures) in
     let book =
-    book_at d.number (document_of d.replica d.seats_of.items (length d.books.items) d.opened d.copied) d.books.items d.kept.items s c.index.result.now c.self.invariant.0 some within c.index.ensures in
+    book_at d.number (document_of d.replica d.seats_of.items (length d.books.items) d.opened d.copied) d.books.items d.unopened.items s c.index.result.now c.self.invariant.0 some within c.index.ensures in
     rw (← c.self.view_is, ← c.seat.view_is)
     (ap (λ k. operation_ids (by k d.replica.log d.seats_of.items)) (sym c.seat-seat_number.ensures)
     ∙ (sym (ap (λ (b : Counter). b.ids) book) ∙ (ap (λ (b : Counter). b.ids) c.agree.ensures ∙ c.seat.invariant.1)))

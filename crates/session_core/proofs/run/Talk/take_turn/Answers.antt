@@ -57,22 +57,22 @@ returns-in-Fault-clause-turns g c = λ names same.
 
 pub returns-in-Ok-true-clause-flushed : goal.returns-in-Ok-true-clause-flushed
 returns-in-Ok-true-clause-flushed g c =
-    quit_keeps c.args.outcome c.args.line.now.waits (g.W.Sink.kept c.args.sink.now) (g.W.Sink.kept c.answer_line.new.sink)
+    quit_keeps c.args.outcome c.args.line.now.waits (g.W.Sink.unflushed c.args.sink.now) (g.W.Sink.unflushed c.answer_line.new.sink)
     c.in-Ok-true.field-0 c.in-Line.is c.in-Ok-true.field-0-test c.in-Ok-true.ensures.flushed
 
 pub returns-in-Ok-false-clause-flushed : goal.returns-in-Ok-false-clause-flushed
 returns-in-Ok-false-clause-flushed g c =
-    goes_on_keeps c.args.outcome c.args.line.now.waits (g.W.Sink.kept c.args.sink.now) (g.W.Sink.kept c.answer_line.new.sink)
+    goes_on_keeps c.args.outcome c.args.line.now.waits (g.W.Sink.unflushed c.args.sink.now) (g.W.Sink.unflushed c.answer_line.new.sink)
     c.in-Ok-false.field-0 c.in-Line.is c.in-Ok-false.ensures.flushed
 
 pub returns-in-Err-clause-flushed : goal.returns-in-Err-clause-flushed
 returns-in-Err-clause-flushed g c =
-    cut_keeps c.args.outcome c.args.line.now.waits (g.W.Sink.kept c.args.sink.now) (g.W.Sink.kept c.answer_line.new.sink) c.in-Line.is
+    cut_keeps c.args.outcome c.args.line.now.waits (g.W.Sink.unflushed c.args.sink.now) (g.W.Sink.unflushed c.answer_line.new.sink) c.in-Line.is
 
 pub returns-in-Ok-clause-flushed : goal.returns-in-Ok-clause-flushed
 returns-in-Ok-clause-flushed g c =
-    long_keeps c.args.outcome c.args.line.now.waits (g.W.Sink.kept c.args.sink.now) (g.W.Sink.kept c.refuse.new.sink) c.in-TooLong.is c.in-Ok.ensures.flushed
+    long_keeps c.args.outcome c.args.line.now.waits (g.W.Sink.unflushed c.args.sink.now) (g.W.Sink.unflushed c.refuse.new.sink) c.in-TooLong.is c.in-Ok.ensures.flushed
 
 pub returns-in-Err-refuse-clause-flushed : goal.returns-in-Err-refuse-clause-flushed
 returns-in-Err-refuse-clause-flushed g c =
-    long_cut_keeps c.args.outcome c.args.line.now.waits (g.W.Sink.kept c.args.sink.now) (g.W.Sink.kept c.refuse.new.sink) c.in-TooLong.is
+    long_cut_keeps c.args.outcome c.args.line.now.waits (g.W.Sink.unflushed c.args.sink.now) (g.W.Sink.unflushed c.refuse.new.sink) c.in-TooLong.is

@@ -38,15 +38,15 @@ acknowledge_spec 𝓤 𝓛 𝓜 𝓡 wired =
     let xt : Tally = (x.count, x.ids) in let zt : Tally = (z.count, z.ids) in let more : Tally → Tally = λ t. (t.0, t.1 ++ told.now) in
     let us = mut_vals r in let vs = mut_vals s in let y : W.Ghost = ((κs, qs, bounds, a, (us, (vs, (shr_slice_vals told, tt)))), tt) in
     let x' : R.Denot = record x { ids = x.ids ++ told.now } in let z' : R.Denot = record z { ids = z.ids ++ told.now } in
-    qed 𝓛 (((‵ (flft κs.0 qs.0) ⊛ ‵ (flft κs.1.0 qs.1.0) ⊛ ‵ (flft κs.1.1.0 qs.1.1.0) ⊛ ‵ ftrue) ⊛ ‵ (owns (types_at f.signature.params κs) a y.0.4)) ∷ raw (fact 𝓤 ((x.table ≡ z.table) × (x.place ≡ z.place))) ∷ []) ∵
-    move ! (1 ∷ []) $ heard ! _ (λ one_place.
-    let there : Path (ℕ × ℕ) (z.table, z.place) (x.table, x.place) = λ i. (sym one_place.0 i, sym one_place.1 i) in
+    qed 𝓛 (((‵ (flft κs.0 qs.0) ⊛ ‵ (flft κs.1.0 qs.1.0) ⊛ ‵ (flft κs.1.1.0 qs.1.1.0) ⊛ ‵ ftrue) ⊛ ‵ (owns (types_at f.signature.params κs) a y.0.4)) ∷ raw (fact 𝓤 ((x.table ≡ z.table) × (x.counter ≡ z.counter))) ∷ []) ∵
+    move ! (1 ∷ []) $ heard ! _ (λ one_counter.
+    let there : Path (ℕ × ℕ) (z.table, z.counter) (x.table, x.counter) = λ i. (sym one_counter.0 i, sym one_counter.1 i) in
     split ! $ split ! $ move ! (1 ∷ []) $ split ! $ move ! (3 ∷ []) $ fsplit ! $ fsplit3 ! $ drop ! $ move ! (2 ∷ []) $ fsplit ! $ fsplit3 ! $ drop ! $
     keep ! (3 ∷ 4 ∷ 7 ∷ 0 ∷ 1 ∷ 5 ∷ 2 ∷ 6 ∷ []) $ enter ! _ _ _ _ _ $ alloc_all ! (λ l. pass_all ! refl ((tt, tt), ((tt, tt), ((tt, (tt, (record { fits = are.1.1.0.0.1.0 }, tt))), tt))) $
     opens ! tt R r.ref_ptr.0 r.ref_ptr.1 (λ cs. move ! (5 ∷ 6 ∷ 7 ∷ []) $ opens ! tt R s.ref_ptr.0 s.ref_ptr.1 (λ ds. move ! (1 ∷ []) $ fsplit ! $ move ! (7 ∷ []) $ fsplit ! $ move ! (1 ∷ 3 ∷ []) $
     -- [two halves; what the fields own, twice; four entries for each reference]
     rewrite ! 1 (λ (p : ℕ × ℕ). ‵ (half_owns p.0 p.1 zt)) there refl $
-    use2 𝓛 (later (given (xt ≡ zt) (‵ (half_owns x.table x.place (more xt)) ⊛ ‵ (half_owns x.table x.place (more zt))))) (changes 𝓛 x.table x.place xt zt more) $ await ! tt $ learn ! (λ same. split ! $
+    use2 𝓛 (later (given (xt ≡ zt) (‵ (half_owns x.table x.counter (more xt)) ⊛ ‵ (half_owns x.table x.counter (more zt))))) (changes 𝓛 x.table x.counter xt zt more) $ await ! tt $ learn ! (λ same. split ! $
     rewrite ! 1 (λ (p : ℕ × ℕ). ‵ (half_owns p.0 p.1 (more zt))) (sym there) refl $
     move ! (2 ∷ 0 ∷ []) $ fjoin ! $ move ! (2 ∷ 1 ∷ []) $ fjoin ! $ move ! (2 ∷ 0 ∷ 3 ∷ 4 ∷ 5 ∷ []) $ closes ! tt R z' ds s.ref_ptr.0 s.ref_ptr.1 $
     move ! (4 ∷ 3 ∷ 5 ∷ 6 ∷ 7 ∷ []) $ closes ! tt R x' cs r.ref_ptr.0 r.ref_ptr.1 $

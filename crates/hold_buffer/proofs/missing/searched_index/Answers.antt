@@ -1,7 +1,7 @@
 use Rattle.std.proofs.Common.{◌≡◌, ◌∙◌, sym, ap}
 use Rattle.doc_api.specs.Words.{Id}
 use Rattle.hold_buffer.proofs.Names.{other_counter, gap_absent}
-use Rattle.hold_buffer.proofs.missing.searched_place.Goals as goal
+use Rattle.hold_buffer.proofs.missing.searched_index.Goals as goal
 
 pub returns-in_default : goal.returns-in_default
 returns-in_default c =
