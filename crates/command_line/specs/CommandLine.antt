@@ -1,5 +1,6 @@
 -- What the arguments of a command line ask for.
-use Rattle.std.specs.Prelude.{◌≡◌, ◌≤◌, ℕ, Bool, true, false, List, [], ◌∷◌, codes, map, Some, unwrap_or}
+use Rattle.std.specs.Prelude.{◌≡◌, ◌≤◌, ℕ, Bool, true, false, List, [], ◌∷◌, codes, map, Some}
+use Rattle.std.specs.Prelude.{unwrap_or}
 use Rattle.std.specs.Str.{bytes_eq}
 use Rattle.std.specs.Str.Parse.{IsNumeral, digits_value, without_leading_plus}
 use Rattle.clap.specs.Words.{App, Row, Rule, Text, all_of, fault_of, first_of, found_of, matches_of}
@@ -44,7 +45,8 @@ pub record IsCount (text : Text) (sessions : ℕ) : Type 0 where
   pub some : 1 ≤ sessions
   pub few : sessions ≤ most_sessions
 
--- the text is a number of operations: decimal digits, before which a plus may stand, for 1 to 100,000
+-- the text is a number of operations: decimal digits, before which a
+-- plus may stand, for 1 to 100,000
 pub record IsBacklog (text : Text) (backlog : ℕ) : Type 0 where
   pub digits : IsNumeral 10 (without_leading_plus text)
   pub value : backlog ≡ digits_value 10 (without_leading_plus text)

@@ -1,8 +1,11 @@
 //! The commands, and what clap finds in the arguments of each.
 ghost use Rattle.std.specs.Prelude.{◌≡◌, ◌≢◌, [], false, map, IfOk, IfErr};
-ghost use Rattle.clap.specs.Words.{app_of, fault_of, found_of, kind_of, matches_of, rows_of, rule_of};
-ghost use Rattle.command_line.specs.CommandLine.{backlog_rule, check_command, document_rule, durable_rule};
-ghost use Rattle.command_line.specs.CommandLine.{name_rule, required_rule, run_command, serve_command, argument_of};
+ghost use Rattle.clap.specs.Words.{app_of, fault_of, found_of, kind_of, matches_of, rows_of};
+ghost use Rattle.clap.specs.Words.{rule_of};
+ghost use Rattle.command_line.specs.CommandLine.{backlog_rule, check_command, document_rule};
+ghost use Rattle.command_line.specs.CommandLine.{durable_rule};
+ghost use Rattle.command_line.specs.CommandLine.{name_rule, required_rule, run_command};
+ghost use Rattle.command_line.specs.CommandLine.{serve_command, argument_of};
 
 use clap::error::ErrorKind;
 use clap::{Arg, ArgAction, ArgMatches, Command, Error};
@@ -61,7 +64,8 @@ fn documents_argument<'a>(alloc: Global) -> Arg<'a>
 /// What clap finds in the arguments of `run [--name NAME] DOC..`.
 pub(crate) fn run_matches<'a>(alloc: Global, args: &'a [&'a str]) -> Result<ArgMatches<'a>, Error>
     ensures taken { IfOk result (λ m. fault_of run_command (map (λ s. s.now) args.entry.now) ≡ []) }
-    ensures rows { IfOk result (λ m. rows_of (found_of m) ≡ matches_of run_command (map (λ s. s.now) args.entry.now)) }
+    ensures rows { IfOk result
+        (λ m. rows_of (found_of m) ≡ matches_of run_command (map (λ s. s.now) args.entry.now)) }
     ensures refused { IfErr result (λ e. kind_of e ≢ ErrorKind.OutOfMemory
         → fault_of run_command (map (λ s. s.now) args.entry.now) ≢ []) }
 {
@@ -85,9 +89,11 @@ fn server_command<'a>(alloc: Global) -> Result<Command<'a>, AllocError>
         .arg(documents_argument(alloc))
 }
 
-/// What clap finds in the arguments of `serve --addr A --sessions N --file F [--name NAME] [--backlog N] [--durable] DOC..`.
+/// What clap finds in the arguments of `serve --addr A --sessions N --file F [--name NAME]
+/// [--backlog N] [--durable] DOC..`.
 pub(crate) fn serve_matches<'a>(alloc: Global, args: &'a [&'a str]) -> Result<ArgMatches<'a>, Error>
-    ensures taken { IfOk result (λ m. fault_of serve_command (map (λ s. s.now) args.entry.now) ≡ []) }
+    ensures taken { IfOk result
+        (λ m. fault_of serve_command (map (λ s. s.now) args.entry.now) ≡ []) }
     ensures rows { IfOk result (λ m.
         rows_of (found_of m) ≡ matches_of serve_command (map (λ s. s.now) args.entry.now)) }
     ensures refused { IfErr result (λ e. kind_of e ≢ ErrorKind.OutOfMemory
@@ -98,7 +104,8 @@ pub(crate) fn serve_matches<'a>(alloc: Global, args: &'a [&'a str]) -> Result<Ar
 
 /// What clap finds in the arguments of `check --file F`.
 pub(crate) fn check_matches<'a>(alloc: Global, args: &'a [&'a str]) -> Result<ArgMatches<'a>, Error>
-    ensures taken { IfOk result (λ m. fault_of check_command (map (λ s. s.now) args.entry.now) ≡ []) }
+    ensures taken { IfOk result
+        (λ m. fault_of check_command (map (λ s. s.now) args.entry.now) ≡ []) }
     ensures rows { IfOk result (λ m.
         rows_of (found_of m) ≡ matches_of check_command (map (λ s. s.now) args.entry.now)) }
     ensures refused { IfErr result (λ e. kind_of e ≢ ErrorKind.OutOfMemory

@@ -1,9 +1,12 @@
 //! Arguments as plain records.
-ghost use Rattle.std.specs.Prelude.{◌≡◌, ◌≢◌, false, true, codes, map, IfOk, IfErr, MatchOption, OnOk};
+ghost use Rattle.std.specs.Prelude.{◌≡◌, ◌≢◌, false, true, codes, map, IfOk, IfErr, MatchOption};
+ghost use Rattle.std.specs.Prelude.{OnOk};
 ghost use Rattle.clap.specs.Words.{found_of, kind_of, matches_of, rows_of};
 ghost use Rattle.run_core.specs.Names.{Wanted, is_good};
-ghost use Rattle.command_line.specs.CommandLine.{AsksToCheck, AsksToRun, AsksToServe, NamesServer, SaysPace};
-ghost use Rattle.command_line.specs.CommandLine.{WantedServer, asked_of, check_command, is_check, is_run, is_serve};
+ghost use Rattle.command_line.specs.CommandLine.{AsksToCheck, AsksToRun, AsksToServe, NamesServer};
+ghost use Rattle.command_line.specs.CommandLine.{SaysPace};
+ghost use Rattle.command_line.specs.CommandLine.{WantedServer, asked_of, check_command, is_check};
+ghost use Rattle.command_line.specs.CommandLine.{is_run, is_serve};
 ghost use Rattle.command_line.specs.CommandLine.{run_of, serve_command, server_of, argument_of};
 
 use crate::args::{ArgsFault, CheckArgs, RunArgs, ServeArgs};
@@ -62,7 +65,8 @@ pub fn parse_run<'a>(alloc: Global, args: &'a [&'a str]) -> Result<RunArgs<'a>, 
     ensures asked { IfOk result (λ it. AsksToRun (map (λ s. s.now) args.entry.now) (run_of it)) }
     ensures refused { result ≡ Err ArgsFault.Refused
         → (wanted : Wanted) → AsksToRun (map (λ s. s.now) args.entry.now) wanted → ⊥ }
-    ensures first_word { is_run (map (λ s. s.now) args.entry.now) ≡ false → result ≡ Err ArgsFault.Refused }
+    ensures first_word { is_run (map (λ s. s.now) args.entry.now) ≡ false
+        → result ≡ Err ArgsFault.Refused }
 {
     if !is_run(args) {
         return Err(ArgsFault::Refused);
@@ -75,7 +79,8 @@ pub fn parse_run<'a>(alloc: Global, args: &'a [&'a str]) -> Result<RunArgs<'a>, 
 
 // When replies to changes go out, where the number of operations is 1 to 100,000.
 fn pace_in(matches: &ArgMatches<'_>) -> Option<Pace>
-    ensures { MatchOption result ((pace : Pace) → SaysPace (rows_of (found_of matches.now)) pace → ⊥)
+    ensures { MatchOption result ((pace : Pace) → SaysPace (rows_of (found_of matches.now)) pace
+        → ⊥)
         (SaysPace (rows_of (found_of matches.now))) }
 {
     match backlog_of(matches.get_str("backlog").unwrap_or(DEFAULT_BACKLOG)) {
@@ -87,10 +92,12 @@ fn pace_in(matches: &ArgMatches<'_>) -> Option<Pace>
 // What clap's matches of a `serve` ask for. It is refused where a name is bad, there are too many
 // documents, the number of sessions isn't 1 to 256, or that of operations 1 to 100,000.
 fn serve_args<'a>(alloc: Global, matches: &ArgMatches<'a>) -> Result<ServeArgs<'a>, ArgsFault>
-    ensures asked { IfOk result (λ it. NamesServer (rows_of (found_of matches.now)) (server_of it)) }
+    ensures asked { IfOk result
+        (λ it. NamesServer (rows_of (found_of matches.now)) (server_of it)) }
     ensures refused { result ≡ Err ArgsFault.Refused
         → (wanted : WantedServer) → NamesServer (rows_of (found_of matches.now)) wanted → ⊥ }
-    ensures file { IfOk result (λ it. it.file.now ≡ argument_of (codes "file") (rows_of (found_of matches.now))) }
+    ensures file { IfOk result
+        (λ it. it.file.now ≡ argument_of (codes "file") (rows_of (found_of matches.now))) }
 {
     let sessions = match sessions_of(argument_of(matches, "sessions")) {
         Some(sessions) => sessions,
@@ -114,10 +121,12 @@ fn serve_args<'a>(alloc: Global, matches: &ArgMatches<'a>) -> Result<ServeArgs<'
 /// What the arguments ask `serve` for:
 /// `serve --addr A --sessions N --file F [--name NAME] [--backlog N] [--durable] DOC..`.
 pub fn parse_serve<'a>(alloc: Global, args: &'a [&'a str]) -> Result<ServeArgs<'a>, ArgsFault>
-    ensures asked { IfOk result (λ it. AsksToServe (map (λ s. s.now) args.entry.now) (server_of it)) }
+    ensures asked { IfOk result
+        (λ it. AsksToServe (map (λ s. s.now) args.entry.now) (server_of it)) }
     ensures refused { result ≡ Err ArgsFault.Refused
         → (wanted : WantedServer) → AsksToServe (map (λ s. s.now) args.entry.now) wanted → ⊥ }
-    ensures first_word { is_serve (map (λ s. s.now) args.entry.now) ≡ false → result ≡ Err ArgsFault.Refused }
+    ensures first_word { is_serve (map (λ s. s.now) args.entry.now) ≡ false
+        → result ≡ Err ArgsFault.Refused }
     ensures file { IfOk result (λ it. it.file.now
         ≡ argument_of (codes "file") (matches_of serve_command (map (λ s. s.now) args.entry.now))) }
 {
@@ -133,8 +142,10 @@ pub fn parse_serve<'a>(alloc: Global, args: &'a [&'a str]) -> Result<ServeArgs<'
 /// What the arguments ask `check` for: `check --file F`.
 pub fn parse_check<'a>(alloc: Global, args: &'a [&'a str]) -> Result<CheckArgs<'a>, ArgsFault>
     ensures asked { OnOk result (AsksToCheck (map (λ s. s.now) args.entry.now)) }
-    ensures refused { result ≡ Err ArgsFault.Refused → ¬ AsksToCheck (map (λ s. s.now) args.entry.now) }
-    ensures first_word { is_check (map (λ s. s.now) args.entry.now) ≡ false → result ≡ Err ArgsFault.Refused }
+    ensures refused { result ≡ Err ArgsFault.Refused
+        → ¬ AsksToCheck (map (λ s. s.now) args.entry.now) }
+    ensures first_word { is_check (map (λ s. s.now) args.entry.now) ≡ false
+        → result ≡ Err ArgsFault.Refused }
     ensures file { IfOk result (λ it. it.file.now
         ≡ argument_of (codes "file") (matches_of check_command (map (λ s. s.now) args.entry.now))) }
 {

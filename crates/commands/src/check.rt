@@ -9,8 +9,8 @@ use std::alloc::Global;
 use std::rt::HostRuntime;
 use stored_log::{CheckFailure, Fault, OpenLog, StoredLog, check_opened};
 
-// Reports on standard error why there is no report, unless the stored log could not be opened, which
-// is reported already. An error there changes nothing.
+// Reports on standard error why there is no report, unless the stored log could not be opened,
+// which is reported already. An error there changes nothing.
 fn report_failure(rt: &HostRuntime, why: CheckFailure) {
     let _ = match why {
         CheckFailure::Unopened => Ok(()),
@@ -32,7 +32,8 @@ fn report_opened<L: StoredLog, W: Sink>(
     requires { W.has_failed sink.old ≡ false }
     ensures status { (result ≡ 0) ⊎ (result ≡ 1) }
     ensures reported { result ≡ 0 → Reports (W.contents sink.old) (W.contents sink.new) }
-    ensures stopped { result ≡ 1 → StopsShort (W.contents sink.old) (W.contents sink.new) ⊎ (sink.new ≡ sink.old) }
+    ensures stopped { result ≡ 1 → StopsShort (W.contents sink.old) (W.contents sink.new)
+        ⊎ (sink.new ≡ sink.old) }
 {
     match check_opened(alloc, opened, sink) {
         Ok(()) => 0,
@@ -64,10 +65,12 @@ pub fn parse_and_check<O: OpenLog, W: Sink>(
 
     // What was written is a report of some copy.
     ensures reported { result ≡ 0
-        → AsksToCheck (map (λ s. s.now) args.now) × Reports (W.contents sink.old) (W.contents sink.new) }
+        → AsksToCheck (map (λ s. s.now) args.now)
+        × Reports (W.contents sink.old) (W.contents sink.new) }
 
     // What was written is the refusal of a stored log, a part of it or of a report, or nothing.
-    ensures failed { result ≡ 1 → StopsShort (W.contents sink.old) (W.contents sink.new) ⊎ (sink.new ≡ sink.old) }
+    ensures failed { result ≡ 1 → StopsShort (W.contents sink.old) (W.contents sink.new)
+        ⊎ (sink.new ≡ sink.old) }
 
     ensures refused { result ≡ 2 → ¬ AsksToCheck (map (λ s. s.now) args.now) }
     ensures untouched { result ≡ 2 → sink.new ≡ sink.old }

@@ -44,7 +44,8 @@ pub fn run_words<M: Maker, R: Source, W: Sink>(
     ensures served { result ≡ 0 → (wanted : Wanted) × AsksToRun (map (λ s. s.now) args.now) wanted
         × ServesAll wanted
         (R.remaining source.old) (R.remaining source.new) (W.contents sink.old) (W.contents sink.new) }
-    ensures no_fault { result ≡ 0 → (R.has_failed source.new ≡ false) × (W.has_failed sink.new ≡ false) }
+    ensures no_fault { result ≡ 0 → (R.has_failed source.new ≡ false)
+        × (W.has_failed sink.new ≡ false) }
     ensures flushed { W.unflushed sink.old ≡ [] → result ≡ 0 → W.unflushed sink.new ≡ [] }
 
     // What was written is a transcript up to a device's fault, or memory ran out before it began.
@@ -53,7 +54,8 @@ pub fn run_words<M: Maker, R: Source, W: Sink>(
         (R.remaining source.old) (R.remaining source.new) (W.contents sink.old) (W.contents sink.new))
         ⊎ ((source.new ≡ source.old) × (sink.new ≡ sink.old)) }
 
-    ensures refused { result ≡ 2 → (wanted : Wanted) → AsksToRun (map (λ s. s.now) args.now) wanted → ⊥ }
+    ensures refused { result ≡ 2 → (wanted : Wanted) → AsksToRun (map (λ s. s.now) args.now) wanted
+        → ⊥ }
     ensures untouched { result ≡ 2 → (source.new ≡ source.old) × (sink.new ≡ sink.old) }
 {
     match parse_run(alloc, args) {

@@ -63,7 +63,8 @@ fn listen_and_serve<R: ServerHost, L: StoredLog, W: io::Write>(
 ) -> u8
     requires few { length asked.now.documents.items ≤ greatest_number }
     ensures status { result ≤ 1 }
-    ensures served { result ≡ 0 → ServesAt asked.now.name.now (map (λ s. s.now) asked.now.documents.items)
+    ensures served { result ≡ 0
+        → ServesAt asked.now.name.now (map (λ s. s.now) asked.now.documents.items)
         asked.now.sessions (W.contents out.old) (W.contents out.new) }
     ensures unwritten { IfErr opened (λ fault. (fault ≡ Fault.Refused) ⊎ (out.new ≡ out.old)) }
 {
@@ -119,14 +120,17 @@ pub fn parse_and_serve<R: ServerHost, O: OpenLog, W: io::Write>(
 
     // As many sessions as the arguments say, over their documents. What was written is where the
     // server listens, and then the totals of what these sessions did.
-    ensures served { result ≡ 0 → (wanted : WantedServer) × AsksToServe (map (λ s. s.now) args.now) wanted
+    ensures served { result ≡ 0 → (wanted : WantedServer)
+        × AsksToServe (map (λ s. s.now) args.now) wanted
         × ServesAt wanted.name wanted.documents wanted.sessions (W.contents out.old) (W.contents out.new) }
 
     // The arguments asked for a server, or nothing was written.
     ensures failed { result ≡ 1
-        → ((wanted : WantedServer) × AsksToServe (map (λ s. s.now) args.now) wanted) ⊎ (out.new ≡ out.old) }
+        → ((wanted : WantedServer) × AsksToServe (map (λ s. s.now) args.now) wanted)
+        ⊎ (out.new ≡ out.old) }
 
-    ensures refused { result ≡ 2 → (wanted : WantedServer) → AsksToServe (map (λ s. s.now) args.now) wanted → ⊥ }
+    ensures refused { result ≡ 2 → (wanted : WantedServer)
+        → AsksToServe (map (λ s. s.now) args.now) wanted → ⊥ }
     ensures untouched { result ≡ 2 → out.new ≡ out.old }
 {
     match parse_serve(alloc, args) {

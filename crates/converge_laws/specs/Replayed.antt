@@ -12,7 +12,8 @@ use Rattle.crdt_rules.specs.Log.{IsGood, IsCausalOrder, replay}
 use Rattle.doc_rules.specs.Replica.{find_id}
 use Rattle.doc_rules.specs.Role.{roles_of}
 
--- a good list whose facts these are: those of the set of its operations, and of each causal order of them
+-- a good list whose facts these are: those of the set of its operations,
+-- and of each causal order of them
 pub record AreFactsOfEach (ops : List Op) (f : Facts) : Type 0 where
   pub good : IsGood ops
   pub set : AreFactsOf ops f
@@ -22,7 +23,8 @@ pub record AreFactsOfEach (ops : List Op) (f : Facts) : Type 0 where
 abbrev pub AreRolesOfEach : List Op → (List Tagged → Key → Id → Option Role) → Type 0
 AreRolesOfEach ops roles =
     (order : List Op) → IsCausalOrder ops order
-    → (p : List Tagged) (k : Key) (i : Id) → roles p k i ≡ roles_of (facts (replay order)) order p k i
+    → (p : List Tagged) (k : Key) (i : Id)
+    → roles p k i ≡ roles_of (facts (replay order)) order p k i
 
 -- two good lists of one set of operations
 pub record Agree (ops others : List Op) : Type 0 where
@@ -38,8 +40,8 @@ is_it op (Some found) = operation_eq found op
 abbrev pub holds : List Op → Op → Bool
 holds ops op = is_it op (find_id ops op.id)
 
--- two good logs, in which what the front of either covers of the other's operations is in both, and which are together
--- within the limits of a log
+-- two good logs, in which what the front of either covers of the other's operations is in both, and
+-- which are together within the limits of a log
 pub record MayPull (log other : List Op) : Type 0 where
   pub good : IsGood log
   pub other_good : IsGood other

@@ -12,11 +12,12 @@ use op_core::Operation;
 use op_log::OpLog;
 use std::alloc::Global;
 
-/// Whether each operation of both lists fits those before it, and both hold the same set of operations.
-/// Then both make the same facts. The only error is out of memory (22).
+/// Whether each operation of both lists fits those before it, and both hold the same set of
+/// operations. Then both make the same facts. The only error is out of memory (22).
 pub fn orders_agree(alloc: Global, ops: &[Operation], others: &[Operation]) -> Result<bool, Refusal>
     ensures agree { IfOk result (λ agree. IsTrue agree ↔ Agree ops.now others.now) }
-    ensures facts { IfOk result (λ agree. IsTrue agree → facts (replay ops.now) ≡ facts (replay others.now)) }
+    ensures facts { IfOk result
+        (λ agree. IsTrue agree → facts (replay ops.now) ≡ facts (replay others.now)) }
     ensures memory { IfErr result (λ cause. cause ≡ NoMemory) }
 {
     match good_log(alloc, ops)? {
@@ -38,7 +39,8 @@ fn agrees_with(alloc: Global, log: &OpLog, others: &[Operation]) -> Result<bool,
 
 // The log of a list, if each of its operations fits those before it.
 fn good_log(alloc: Global, ops: &[Operation]) -> Result<Option<OpLog>, Refusal>
-    ensures ok { IfOk result (λ found. MatchOption found (¬ (IsGood ops.now)) (λ log. log.operations ≡ ops.now)) }
+    ensures ok { IfOk result
+        (λ found. MatchOption found (¬ (IsGood ops.now)) (λ log. log.operations ≡ ops.now)) }
     ensures memory { IfErr result (λ cause. cause ≡ NoMemory) }
 {
     match log_of(alloc, ops) {

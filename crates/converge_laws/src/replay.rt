@@ -14,31 +14,34 @@ use op_core::Operation;
 use op_log::OpLog;
 use std::alloc::Global;
 
-/// The tree of a list each of whose operations fits those before it. Its facts are those of every causal
-/// order of the operations, and those that the set of them has without any order. Each id that makes a
-/// place present has the role there that its operation gives it, in every causal order: so `{}` differs
-/// from `[]`.
+/// The tree of a list each of whose operations fits those before it. Its facts are those of every
+/// causal order of the operations, and those that the set of them has without any order. Each id
+/// that makes a place present has the role there that its operation gives it, in every causal
+/// order: so `{}` differs from `[]`.
 ///
 /// For another list the error is the cause against the first operation that doesn't fit: its id is
-/// logged before (15), a front id isn't logged before or that operation's front isn't at most this one
-/// (13), its replica's chain forks (14), its cursor names an element that it doesn't know (7), or the
-/// list has passed 100,000 operations (18) or 256 replicas (19). Whose name the operations bear isn't
-/// looked at. 22 is out of memory.
+/// logged before (15), a front id isn't logged before or that operation's front isn't at most this
+/// one (13), its replica's chain forks (14), its cursor names an element that it doesn't know (7),
+/// or the list has passed 100,000 operations (18) or 256 replicas (19). Whose name the operations
+/// bear isn't looked at. 22 is out of memory.
 pub fn replay_all(alloc: Global, ops: &[Operation]) -> Result<Tree, Refusal>
     ensures replayed { IfOk result (λ tree. AreFactsOfEach ops.now (tree_facts tree)) }
     ensures roles { IfOk result (λ tree. AreRolesOfEach ops.now (tree_role tree)) }
-    ensures misfit { IfErr result (λ cause. cause ≢ NoMemory → (place : ℕ) × IsFirstMisfit ops.now place cause) }
+    ensures misfit { IfErr result
+        (λ cause. cause ≢ NoMemory → (place : ℕ) × IsFirstMisfit ops.now place cause) }
 {
     // frees the log before the tree grows
     drop(log_of(alloc, ops)?);
     grown(alloc, ops)
 }
 
-/// The log of a list each of whose operations fits those before it, or the cause against the first that doesn't.
+/// The log of a list each of whose operations fits those before it, or the cause
+/// against the first that doesn't.
 pub fn log_of(alloc: Global, ops: &[Operation]) -> Result<OpLog, Refusal>
     ensures ok { IfOk result (λ log. log.operations ≡ ops.now) }
     ensures good { IsOk result → IsGood ops.now }
-    ensures misfit { IfErr result (λ cause. cause ≢ NoMemory → (place : ℕ) × IsFirstMisfit ops.now place cause) }
+    ensures misfit { IfErr result
+        (λ cause. cause ≢ NoMemory → (place : ℕ) × IsFirstMisfit ops.now place cause) }
 {
     let mut log = OpLog::new(alloc);
     for i in 0..ops.len() {
@@ -51,7 +54,8 @@ pub fn log_of(alloc: Global, ops: &[Operation]) -> Result<OpLog, Refusal>
 fn log_next(log: &mut OpLog, op: &Operation) -> Result<(), Refusal>
     ensures ok { OnOk result (log.new.operations ≡ log.old.operations ++ op.now ∷ []) }
     ensures fits { IsOk result → Fits op.now log.old.operations }
-    ensures misfit { IfErr result (λ cause. cause ≢ NoMemory → misfit_of op.now log.old.operations ≡ Err cause) }
+    ensures misfit { IfErr result
+        (λ cause. cause ≢ NoMemory → misfit_of op.now log.old.operations ≡ Err cause) }
 {
     log.check_next(op)?;
     let clone = op.try_clone()?;

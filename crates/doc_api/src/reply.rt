@@ -85,7 +85,8 @@ pub enum Reply {
     Refused(Refusal),
 }
 
-// One function for all the places where a reply is dropped: a derived `drop` is written out at each.
+// One function for all the places where a reply is dropped: a derived
+// `drop` is written out at each.
 impl Drop for Reply {
     fn drop(self) {
         match self {

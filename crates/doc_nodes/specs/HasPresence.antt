@@ -19,14 +19,16 @@ pub record HasPresence (node : Node) : Type 0 where
   pub register : (i : Id) → HasEntry node.register.0 i → IsPresentBy node i
   pub counter : (i : Id) → HasEntry node.counter.0 i → IsPresentBy node i
 
--- Each node has its presence. For each parent whose number is m or greater: an operation that makes a child present makes
--- the parent present, which then may have a present child.
+-- Each node has its presence. For each parent whose number is m or greater: an operation that makes
+-- a child present makes the parent present, which then may have a present child.
 pub record HavePresenceFrom (nodes : List Node) (m : ℕ) : Type 0 where
   pub each : (n : NodeNumber) → HasPresence (node_of nodes n)
-  pub above : (n : NodeNumber) (k : Key) (c : NodeNumber) (i : Id) → m ≤ n.0 → child_of nodes n k ≡ Some c
+  pub above : (n : NodeNumber) (k : Key) (c : NodeNumber) (i : Id) → m ≤ n.0
+      → child_of nodes n k ≡ Some c
       → IsPresentBy (node_of nodes c) i → IsPresentBy (node_of nodes n) i
   pub may_have_present_child : (n : NodeNumber) (k : Key) (c : NodeNumber) (i : Id) → m ≤ n.0
-      → child_of nodes n k ≡ Some c → IsPresentBy (node_of nodes c) i → (node_of nodes n).may_have_present_child ≡ true
+      → child_of nodes n k ≡ Some c → IsPresentBy (node_of nodes c) i
+      → (node_of nodes n).may_have_present_child ≡ true
 
 -- each node has its presence, and each parent that of its children
 abbrev pub HavePresence : List Node → Type 0

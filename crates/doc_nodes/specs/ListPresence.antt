@@ -1,5 +1,6 @@
 -- Each list stores with each of its elements whether the element is present.
-use Rattle.std.specs.Prelude.{◌≡◌, ◌≢◌, ◌⊎◌, ℕ, List, [], ◌∷◌, map, Bool, true, false, Option, Some, None, Contains}
+use Rattle.std.specs.Prelude.{◌≡◌, ◌≢◌, ◌⊎◌, ℕ, List, [], ◌∷◌, map, Bool, true, false, Option, Some}
+use Rattle.std.specs.Prelude.{None, Contains}
 use Rattle.std.specs.Prelude.{slice_index_or, slice_set}
 use Rattle.lamport_id.specs.declared.id.Id.{Id}
 use Rattle.op_core.specs.declared.cursor.Key.{Key}
@@ -47,7 +48,8 @@ plain nodes = map without_list_presence nodes
 -- the list of a node shows of an element whether the element's node is present
 abbrev pub ShowsPresence : List Node → NodeNumber → Id → Type 0
 ShowsPresence nodes n i =
-    (is : Bool) → Contains (node_of nodes n).order.0 (i, is) → is ≡ is_node_present nodes (child_of nodes n (Element i))
+    (is : Bool) → Contains (node_of nodes n).order.0 (i, is)
+    → is ≡ is_node_present nodes (child_of nodes n (Element i))
 
 -- the element's node is this one, or the list shows whether it is present
 abbrev pub ShowsPresenceBut : List Node → NodeNumber → NodeNumber → Id → Type 0
@@ -71,13 +73,16 @@ IsCandidateBut nodes m n k = (child_of nodes n k ≡ Some m) ⊎ IsCandidate nod
 abbrev pub HaveCandidates : List Node → Type 0
 HaveCandidates nodes = (n : NodeNumber) (k : Key) → IsCandidate nodes n k
 
--- the lists show which of their elements are present, and blocks of children without a present one alone are gone
+-- the lists show which of their elements are present, and blocks of children
+-- without a present one alone are gone
 abbrev pub ListsShowPresence : List Node → Type 0
-ListsShowPresence nodes = ((n : NodeNumber) (i : Id) → ShowsPresence nodes n i) × HaveCandidates nodes
+ListsShowPresence nodes = ((n : NodeNumber) (i : Id) → ShowsPresence nodes n i)
+    × HaveCandidates nodes
 
 -- but for the element of one node
 abbrev pub ListsShowPresenceBut : List Node → NodeNumber → Type 0
-ListsShowPresenceBut nodes m = ((n : NodeNumber) (i : Id) → ShowsPresenceBut nodes m n i) × HaveCandidates nodes
+ListsShowPresenceBut nodes m = ((n : NodeNumber) (i : Id) → ShowsPresenceBut nodes m n i)
+    × HaveCandidates nodes
 
 -- at one node other blocks of children aren't gone
 pub record ChangesBlocks (old new : List Node) (at : NodeNumber) : Type 0 where
@@ -87,8 +92,10 @@ pub record ChangesBlocks (old new : List Node) (at : NodeNumber) : Type 0 where
 -- of the old ones none is gone, nor is that of the child at a key
 pub record KeepsBlocks (old new : List Node) (at : NodeNumber) (key : Key) : Type 0 where
   pub changes : ChangesBlocks old new at
-  pub kept : (e : Key × NodeNumber) → Contains (candidates (node_of old at)) e → Contains (joined changes.blocks) e
-  pub noted : (c : NodeNumber) → child_of old at key ≡ Some c → Contains (joined changes.blocks) (key, c)
+  pub kept : (e : Key × NodeNumber) → Contains (candidates (node_of old at)) e
+      → Contains (joined changes.blocks) e
+  pub noted : (c : NodeNumber) → child_of old at key ≡ Some c
+      → Contains (joined changes.blocks) (key, c)
 
 -- at most one of the old ones is gone, and only if none of its children is present
 pub record MayDropBlock (old new : List Node) (at : NodeNumber) (block : ℕ) : Type 0 where

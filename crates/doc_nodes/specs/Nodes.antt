@@ -1,5 +1,6 @@
 -- The facts of a document that is kept as numbered nodes.
-use Rattle.std.specs.Prelude.{◌≡◌, ◌≢◌, ℕ, ℤ, List, [], Bool, ◌&&◌, not, Option, Some, None, is_some, option_and_then}
+use Rattle.std.specs.Prelude.{◌≡◌, ◌≢◌, ℕ, ℤ, List, [], Bool, ◌&&◌, not, Option, Some, None}
+use Rattle.std.specs.Prelude.{is_some, option_and_then}
 use Rattle.std.specs.Prelude.{slice_index_or, if◌then◌else◌, ◌⊎◌, length, false, Contains}
 use Rattle.doc_api.specs.Words.{Id, Scalar, Key, Tagged}
 use Rattle.crdt_rules.specs.Within.{is_within}
@@ -43,7 +44,8 @@ abbrev pub role_in : List Node → Option NodeNumber → Id → Option Role
 role_in nodes None i = None
 role_in nodes (Some n) i = get (node_of nodes n).presence.0 i
 
-abbrev pub part_in : {X : Type 0} → (Node → List (Id × X)) → List Node → Option NodeNumber → Id → Option X
+abbrev pub part_in : {X : Type 0} → (Node → List (Id × X)) → List Node → Option NodeNumber → Id
+    → Option X
 part_in part nodes None i = None
 part_in part nodes (Some n) i = get (part (node_of nodes n)) i
 
@@ -86,9 +88,11 @@ cleared front node =
 
 -- the nodes from n down are cleared, and no other
 pub record ClearsUnder (front : List (List ℕ × ℕ)) (old new : List Node) (n : NodeNumber) : Type 0 where
-  pub each : (j : NodeNumber) → (node_of new j ≡ node_of old j) ⊎ (node_of new j ≡ cleared front (node_of old j))
+  pub each : (j : NodeNumber) → (node_of new j ≡ node_of old j)
+      ⊎ (node_of new j ≡ cleared front (node_of old j))
   pub changed : (j : NodeNumber)
-      → (node_of new j ≡ node_of old j) ⊎ ((keys : List Key) × (walk (child_of old) n keys ≡ Some j))
+      → (node_of new j ≡ node_of old j)
+      ⊎ ((keys : List Key) × (walk (child_of old) n keys ≡ Some j))
   pub inside : (j : NodeNumber) (keys : List Key) → walk (child_of old) n keys ≡ Some j
       → node_of new j ≡ cleared front (node_of old j)
   pub outside : (j : NodeNumber) → ((keys : List Key) → walk (child_of old) n keys ≢ Some j)
@@ -97,14 +101,16 @@ pub record ClearsUnder (front : List (List ℕ × ℕ)) (old new : List Node) (n
 -- each node stays, or is cleared
 abbrev pub IsPartCleared : List (List ℕ × ℕ) → List Node → List Node → Type 0
 IsPartCleared front old new =
-    (j : NodeNumber) → (node_of new j ≡ node_of old j) ⊎ (node_of new j ≡ cleared front (node_of old j))
+    (j : NodeNumber) → (node_of new j ≡ node_of old j)
+    ⊎ (node_of new j ≡ cleared front (node_of old j))
 
 -- a node is cleared, with these children and all below them, and no other that isn't below it
 pub record ClearsFirst (front : List (List ℕ × ℕ)) (old new : List Node) (n : NodeNumber)
     (done : List (Key × NodeNumber)) : Type 0 where
   pub each : IsPartCleared front old new
   pub changed : (j : NodeNumber)
-      → (node_of new j ≡ node_of old j) ⊎ ((keys : List Key) × (walk (child_of old) n keys ≡ Some j))
+      → (node_of new j ≡ node_of old j)
+      ⊎ ((keys : List Key) × (walk (child_of old) n keys ≡ Some j))
   pub here : node_of new n ≡ cleared front (node_of old n)
   pub below : (e : Key × NodeNumber) → Contains done e → (j : NodeNumber) (keys : List Key)
       → walk (child_of old) e.1 keys ≡ Some j → node_of new j ≡ cleared front (node_of old j)

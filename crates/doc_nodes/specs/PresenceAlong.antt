@@ -1,5 +1,6 @@
 -- An operation makes the node where it ends present, and those above it.
-use Rattle.std.specs.Prelude.{◌≡◌, ◌≢◌, ◌⊎◌, ◌<◌, List, [], ◌∷◌, ◌++◌, length, map, Some, ◌&&◌, ◌||◌, IsSome, Bool}
+use Rattle.std.specs.Prelude.{◌≡◌, ◌≢◌, ◌⊎◌, ◌<◌, List, [], ◌∷◌, ◌++◌, length, map, Some, ◌&&◌}
+use Rattle.std.specs.Prelude.{◌||◌, IsSome, Bool}
 use Rattle.std.specs.Prelude.{true, false}
 use Rattle.doc_api.specs.Words.{Id, Key, Tagged}
 use Rattle.op_core.specs.Shape.{key_of}
@@ -20,9 +21,11 @@ abbrev pub passes : Role → Bool
 passes Through = true
 passes _ = false
 
--- whether a child may be present after an operation in a role: if it may be before, while the node is present
+-- whether a child may be present after an operation in a role: if it may be
+-- before, while the node is present
 abbrev pub may_have_present_child_after : Role → Node → Bool
-may_have_present_child_after role node = passes role || (node.may_have_present_child && is_some_entry node.presence.0)
+may_have_present_child_after role node = passes role
+    || (node.may_have_present_child && is_some_entry node.presence.0)
 
 -- a node that an operation makes present, in a role; it takes the room that was made for it
 abbrev pub made_present : Id → Role → Node → Node
@@ -54,13 +57,15 @@ keys_above (t ∷ way) = map key_of way
 -- there is room for one more id in the presence of each node on the way
 abbrev pub HasRoomAlong : List Node → NodeNumber → List Key → Type 0
 HasRoomAlong nodes n keys =
-    (front rest : List Key) (j : NodeNumber) → keys ≡ front ++ rest → walk (child_of nodes) n front ≡ Some j
+    (front rest : List Key) (j : NodeNumber) → keys ≡ front ++ rest
+    → walk (child_of nodes) n front ≡ Some j
     → (node_of nodes j).presence.1 ≡ true
 
 -- the nodes on the way from n by the keys are made present, and no other
 pub record AddsPresenceAlong (id : Id) (role : Role) (old new : List Node) (n : NodeNumber)
     (keys : List Key) : Type 0 where
-  pub along : (front rest : List Key) (j : NodeNumber) → keys ≡ front ++ rest → walk (child_of old) n front ≡ Some j
+  pub along : (front rest : List Key) (j : NodeNumber) → keys ≡ front ++ rest
+      → walk (child_of old) n front ≡ Some j
       → node_of new j ≡ made_present id (role_before rest role) (node_of old j)
   pub outside : (j : NodeNumber)
       → ((front rest : List Key) → keys ≡ front ++ rest → walk (child_of old) n front ≢ Some j)
@@ -69,7 +74,8 @@ pub record AddsPresenceAlong (id : Id) (role : Role) (old new : List Node) (n : 
       ⊎ ((front : List Key) × (rest : List Key) × (keys ≡ front ++ rest) × (walk (child_of old) n front ≡ Some j))
   pub shape : child_of new ≡ child_of old
   pub kept : (j : NodeNumber) → ((node_of new j).register ≡ (node_of old j).register)
-      × ((node_of new j).counter ≡ (node_of old j).counter) × ((node_of new j).order ≡ (node_of old j).order)
+      × ((node_of new j).counter ≡ (node_of old j).counter)
+      × ((node_of new j).order ≡ (node_of old j).order)
 
 -- what making the nodes on the way from n present needs
 pub record IsReady (nodes : List Node) (n : NodeNumber) (keys : List Key) : Type 0 where

@@ -1,5 +1,6 @@
 -- Writes to one node, and how they change the facts.
-use Rattle.std.specs.Prelude.{◌≡◌, ◌<◌, ℤ, List, length, Bool, true, false, Option, Some, None, IsSome, ◌&&◌}
+use Rattle.std.specs.Prelude.{◌≡◌, ◌<◌, ℤ, List, length, Bool, true, false, Option, Some, None}
+use Rattle.std.specs.Prelude.{IsSome, ◌&&◌}
 use Rattle.std.specs.Prelude.{if◌then◌else◌}
 use Rattle.doc_api.specs.Words.{Id, Scalar, Key, Tagged}
 use Rattle.crdt_rules.specs.Same.{id_eq, key_eq, path_eq}
@@ -53,10 +54,12 @@ abbrev pub put_facts : Facts → List Tagged → Key → (Id → Bool) → Id �
 put_facts f p k deps id scalar = enter_if (presence_facts (clear_facts_at f p k deps) p k id) p k id scalar
 
 -- the roles after that
-abbrev pub put_role : (List Tagged → Key → Id → Option Role) → List Tagged → Key → (Id → Bool) → Id → Role
+abbrev pub put_role : (List Tagged → Key → Id → Option Role) → List Tagged → Key → (Id → Bool) → Id
+    → Role
     → List Tagged → Key → Id → Option Role
 put_role before p k deps id role q j i =
-    if is_within p k q j && id_eq id i then Some (if path_eq p q && key_eq k j then role else Through)
+    if is_within p k q j && id_eq id i then Some (if path_eq p q && key_eq k j then role
+    else Through)
     else if is_within q j p k && deps i then None else before q j i
 
 -- an add at a place makes it and those above it present, and enters a number
@@ -67,9 +70,11 @@ add_facts f p k id n = count_facts (presence_facts f p k id) p k id n
 abbrev pub add_role : (List Tagged → Key → Id → Option Role) → List Tagged → Key → Id → Role
     → List Tagged → Key → Id → Option Role
 add_role before p k id role q j i =
-    if is_within p k q j && id_eq id i then Some (if path_eq p q && key_eq k j then role else Through) else before q j i
+    if is_within p k q j
+    && id_eq id i then Some (if path_eq p q && key_eq k j then role else Through) else before q j i
 
--- a place has a node, with room for one more id on the way, and at the end for one more number, or for one more scalar
+-- a place has a node, with room for one more id on the way, and at the end for one more
+-- number, or for one more scalar
 pub record IsReadyFor (nodes : List Node) (p : List Tagged) (k : Key) (adds : Bool) : Type 0 where
   pub found : IsSome (node_at nodes p k)
   pub along : HasRoomAlong nodes root (keys_to p k)

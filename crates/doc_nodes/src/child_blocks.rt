@@ -2,10 +2,12 @@
 ghost use Rattle.std.specs.Ordering.{is_lt, nat_cmp};
 ghost use Rattle.std.specs.Vec.{vec_len, vec_capacity};
 ghost use Rattle.std.specs.Cmp.Lexicographic.{slice_cmp};
-ghost use Rattle.std.specs.Prelude.{◌≡◌, ◌≢◌, ◌<◌, ◌≤◌, ◌+◌, ◌++◌, ◌∷◌, ◌⊎◌, ℕ, List, Bool, [], length, take, drop};
+ghost use Rattle.std.specs.Prelude.{◌≡◌, ◌≢◌, ◌<◌, ◌≤◌, ◌+◌, ◌++◌, ◌∷◌, ◌⊎◌, ℕ, List, Bool, []};
+ghost use Rattle.std.specs.Prelude.{length, take, drop};
 ghost use Rattle.std.specs.Prelude.{false, MatchOption};
 ghost use Rattle.std.specs.Prelude.{insert, None, Some};
-ghost use Rattle.std.specs.Prelude.{OnOk, OnErr, IfOk, IfSome, IfNone, Contains, slice_index_or, slice_set};
+ghost use Rattle.std.specs.Prelude.{OnOk, OnErr, IfOk, IfSome, IfNone, Contains, slice_index_or};
+ghost use Rattle.std.specs.Prelude.{slice_set};
 ghost use Rattle.crdt_rules.specs.Same.{key_eq};
 ghost use Rattle.op_core.specs.declared.cursor.Key.{Key};
 ghost use Rattle.doc_nodes.specs.declared.node.NodeNumber.{NodeNumber};
@@ -20,11 +22,12 @@ use op_core::Key;
 use std::alloc::{AllocError, Global};
 use std::marker::Model;
 
-// How many children a block takes: enough that there are few blocks, few enough that an insertion moves little.
+// How many children a block takes: enough that there are few blocks, few enough
+// that an insertion moves little.
 const FULL: usize = 128;
 
-/// Where a search for a child starts: a block, and an index in it. It is only a hint: one that is out of date, or that
-/// belongs to other children, costs time and changes no result.
+/// Where a search for a child starts: a block, and an index in it. It is only a hint: one that is
+/// out of date, or that belongs to other children, costs time and changes no result.
 #[derive(Clone, Copy)]
 pub struct SearchHint {
     block: usize,
@@ -59,14 +62,16 @@ impl Drop for Block {
     }
 }
 
-/// The children of a node, in the order of their keys: in blocks, so that a new one moves few of the others. A search
-/// first looks at the child that was added or found last, which an operation asks for next. A block is gone once it is
-/// known that none of its children is present, until one may be again. Clauses see the list of all keys and numbers,
-/// and the blocks, with nothing in place of those that are gone.
+/// The children of a node, in the order of their keys: in blocks, so that a new one moves few of
+/// the others. A search first looks at the child that was added or found last, which an operation
+/// asks for next. A block is gone once it is known that none of its children is present, until
+/// one may be again. Clauses see the list of all keys and numbers, and the blocks, with nothing
+/// in place of those that are gone.
 pub struct ChildBlocks {
     /// The blocks.
     pub blocks: Vec<Block>,
-    /// Whether a block is gone. It may be shorter than the blocks, and those past its end aren't gone.
+    /// Whether a block is gone. It may be shorter than the blocks, and
+    /// those past its end aren't gone.
     pub gone: Vec<bool>,
     /// Where the child is that was added or found last.
     pub latest: SearchHint,
@@ -108,8 +113,8 @@ impl ChildBlocks {
     }
 }
 
-/// Children one after another, in the order of their keys, seen as the list of those that are left. It passes blocks by
-/// that are gone.
+/// Children one after another, in the order of their keys, seen as the list of those that are left.
+/// It passes blocks by that are gone.
 #[derive(Drop)]
 pub struct EachChild<'a> {
     pub(crate) entries: &'a [(Key, NodeNumber)],
@@ -182,7 +187,8 @@ impl<'a> Iterator for EachChild<'a> {
     }
 }
 
-// The children in the first block that isn't gone, with what is noted of the blocks behind it, and those blocks.
+// The children in the first block that isn't gone, with what is noted of the
+// blocks behind it, and those blocks.
 fn first_block<'a>(
     gone: &'a [bool],
     blocks: &'a [Block],
@@ -191,7 +197,8 @@ fn first_block<'a>(
     ensures none { IfNone result (joined (but_gone gone.now blocks.now) ≡ []) }
     ensures some { IfSome result (λ r. 0 < length r.0.now) }
     ensures all { IfSome result
-        (λ r. joined (but_gone gone.now blocks.now) ≡ r.0.now ++ joined (but_gone r.1.now r.2.now)) }
+        (λ r. joined (but_gone gone.now blocks.now) ≡ r.0.now
+        ++ joined (but_gone r.1.now r.2.now)) }
     ensures filled { IfSome result (λ r. AreFilled r.2.now) }
 {
     let (gone, blocks) = open_blocks(gone, blocks);
@@ -202,7 +209,8 @@ fn first_block<'a>(
 // The blocks from the first on that isn't gone, and what is noted of them.
 fn open_blocks<'a>(gone: &'a [bool], blocks: &'a [Block]) -> (&'a [bool], &'a [Block])
     requires { AreFilled blocks.now }
-    ensures same { joined (but_gone result.0.now result.1.now) ≡ joined (but_gone gone.now blocks.now) }
+    ensures same { joined (but_gone result.0.now result.1.now)
+        ≡ joined (but_gone gone.now blocks.now) }
     ensures open { slice_index_or result.0.now 0 false ≡ false ⊎ (result.1.now ≡ []) }
     ensures filled { AreFilled result.1.now }
 {
@@ -263,7 +271,8 @@ pub fn block_beside(blocks: &[Block], hint: SearchHint, key: &Key) -> usize
     block_of(blocks, key)
 }
 
-/// Has it noted of one more block that it isn't gone, unless it is noted of all. A node with one block needs no notes.
+/// Has it noted of one more block that it isn't gone, unless it is noted of all. A node
+/// with one block needs no notes.
 pub fn make_flag(gone: &mut Vec<bool>, count: usize) -> Result<(), AllocError>
     ensures { (blocks : List (List (Key × NodeNumber)))
         → but_gone gone.new.items blocks ≡ but_gone gone.old.items blocks }
@@ -287,7 +296,8 @@ pub fn note(gone: &mut Vec<bool>, at: usize, is: bool)
 pub fn hint_for(blocks: &[Block], key: &Key) -> SearchHint
     requires { AreBlocks blocks.now }
     ensures block { result.block ≡ block_rank key.now blocks.now }
-    ensures index { result.index ≡ KeyOrder.key_rank (slice_index_or blocks.now result.block []) key.now }
+    ensures index { result.index
+        ≡ KeyOrder.key_rank (slice_index_or blocks.now result.block []) key.now }
 {
     let at = block_of(blocks, key);
     match blocks.get(at) {
@@ -344,8 +354,8 @@ pub fn hint_before(blocks: &[Block], hint: SearchHint) -> SearchHint {
     }
 }
 
-/// The number of the entry at a hint, if its key is this one. Where bisection ends, it is what all blocks have at the
-/// key.
+/// The number of the entry at a hint, if its key is this one. Where bisection ends, it is
+/// what all blocks have at the key.
 pub fn number_there(blocks: &[Block], hint: SearchHint, key: &Key) -> Option<NodeNumber>
     requires { AreBlocks blocks.now }
     ensures found { IfSome result (λ number. number_at (joined blocks.now) key.now ≡ Some number) }
@@ -359,12 +369,13 @@ pub fn number_there(blocks: &[Block], hint: SearchHint, key: &Key) -> Option<Nod
     }
 }
 
-// The number of the entry at an index of one block, if its key is this one. Where bisection ends, it is what the block
-// has at the key.
+// The number of the entry at an index of one block, if its key is this one. Where bisection ends,
+// it is what the block has at the key.
 fn number_here(entries: &[(Key, NodeNumber)], index: usize, key: &Key) -> Option<NodeNumber>
     requires { IsInKeyOrder entries.now }
     ensures found { IfSome result (λ number. Contains entries.now (key.now, number)) }
-    ensures sought { index ≡ KeyOrder.key_rank entries.now key.now → result ≡ number_at entries.now key.now }
+    ensures sought { index ≡ KeyOrder.key_rank entries.now key.now
+        → result ≡ number_at entries.now key.now }
 {
     if index < entries.len() && is_same_key(&entries[index].0, key) {
         Some(entries[index].1)
@@ -373,7 +384,8 @@ fn number_here(entries: &[(Key, NodeNumber)], index: usize, key: &Key) -> Option
     }
 }
 
-/// How many blocks end with a lesser key, once the block to which the key belongs is cut in two if it was full.
+/// How many blocks end with a lesser key, once the block to which the key
+/// belongs is cut in two if it was full.
 pub fn block_for(
     blocks: &mut Vec<Block>,
     gone: &mut Vec<bool>,
@@ -461,7 +473,8 @@ pub fn add_entry(
     ensures ok { OnOk result (joined blocks.new.items
         ≡ insert (joined blocks.old.items) (KeyOrder.key_rank (joined blocks.old.items) key) (key, number)) }
     ensures err { OnErr result (joined blocks.new.items ≡ joined blocks.old.items) }
-    ensures kept { (gone : List Bool) (e : Key × NodeNumber) → Contains (joined (but_gone gone blocks.old.items)) e
+    ensures kept { (gone : List Bool) (e : Key × NodeNumber)
+        → Contains (joined (but_gone gone blocks.old.items)) e
         → Contains (joined (but_gone gone blocks.new.items)) e }
 {
     match open_block(blocks.as_slice(), at) {
@@ -470,7 +483,8 @@ pub fn add_entry(
     }
 }
 
-// The block for a key that belongs to the block at a index: this one, or the last if the key is greater than all.
+// The block for a key that belongs to the block at a index: this one, or the last
+// if the key is greater than all.
 fn open_block(blocks: &[Block], at: usize) -> Option<usize>
     requires { at ≤ length blocks.now }
     ensures open { IfSome result

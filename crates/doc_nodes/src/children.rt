@@ -1,5 +1,6 @@
 //! The nodes below a node, in a box that a node has once it has a child.
-ghost use Rattle.std.specs.Prelude.{◌≡◌, ◌≢◌, ◌⊎◌, ◌<◌, ℕ, [], length, insert, None, Some, OnOk, OnErr, IfOk, Contains, slice_index_or};
+ghost use Rattle.std.specs.Prelude.{◌≡◌, ◌≢◌, ◌⊎◌, ◌<◌, ℕ, [], length, insert, None, Some, OnOk};
+ghost use Rattle.std.specs.Prelude.{OnErr, IfOk, Contains, slice_index_or};
 ghost use Rattle.op_core.specs.declared.cursor.Key.{Key};
 ghost use Rattle.doc_nodes.specs.declared.node.NodeNumber.{NodeNumber};
 ghost use Rattle.doc_nodes.specs.Children.{number_at};
@@ -17,9 +18,9 @@ use small_values::Lazy;
 use std::alloc::{AllocError, Global};
 use std::marker::Model;
 
-/// The nodes below a node, in the order of their keys. Most places of a document have none, so this takes memory only
-/// with the first child. Clauses see the list of all keys and numbers, and the blocks, with nothing in place of those
-/// that are gone: `ChildBlocks` says what they are.
+/// The nodes below a node, in the order of their keys. Most places of a document have none, so this
+/// takes memory only with the first child. Clauses see the list of all keys and numbers, and the
+/// blocks, with nothing in place of those that are gone: `ChildBlocks` says what they are.
 pub struct Children {
     blocks: Lazy<ChildBlocks>,
 }
@@ -65,8 +66,8 @@ impl Children {
         )
     }
 
-    /// The same as `find`, which then finds the child at once. Asking for keys in their order is fast: each child is
-    /// right behind the one before.
+    /// The same as `find`, which then finds the child at once. Asking for keys in their order is
+    /// fast: each child is right behind the one before.
     pub fn seek(&mut self, key: &Key) -> Option<NodeNumber>
         ensures same { self.new ≡ self.old }
         ensures value { result ≡ number_at self.old.0 key.now }
@@ -84,8 +85,8 @@ impl Children {
         number_there(children.blocks.as_slice(), children.latest, key)
     }
 
-    /// The same as `find`, fast if the child is right behind the hint or right before it. The hint is then where the
-    /// child is.
+    /// The same as `find`, fast if the child is right behind the hint or right before it. The
+    /// hint is then where the child is.
     pub fn find_beside(&self, key: &Key, hint: &mut SearchHint) -> Option<NodeNumber>
         ensures { result ≡ number_at self.now.0 key.now }
     {
@@ -110,7 +111,8 @@ impl Children {
         ensures ok { OnOk result
             (self.new.0 ≡ insert self.old.0 (KeyOrder.key_rank self.old.0 key) (key, number)) }
         ensures err { OnErr result (self.new.0 ≡ self.old.0) }
-        ensures kept { (e : Key × NodeNumber) → Contains (joined self.old.1) e → Contains (joined self.new.1) e }
+        ensures kept { (e : Key × NodeNumber) → Contains (joined self.old.1) e
+            → Contains (joined self.new.1) e }
     {
         let children = self.blocks.get_or_make(ChildBlocks::new)?;
         make_flag(&mut children.gone, children.blocks.len())?;
@@ -123,7 +125,8 @@ impl Children {
     pub fn each(&self) -> EachChild<'_>
         ensures value { result ≡ joined self.now.1 }
         ensures rising { IsInKeyOrder result }
-        ensures some { (e : Key × NodeNumber) → Contains result e → number_at self.now.0 e.0 ≡ Some e.1 }
+        ensures some { (e : Key × NodeNumber) → Contains result e
+            → number_at self.now.0 e.0 ≡ Some e.1 }
     {
         let Some(children) = self.blocks.get() else {
             return EachChild::none();
@@ -148,7 +151,8 @@ impl Children {
     /// The children in a block, or none if it is gone, or there is no such block.
     pub fn block(&self, at: usize) -> &[(Key, NodeNumber)]
         ensures value { result.now ≡ slice_index_or self.now.1 at [] }
-        ensures some { (e : Key × NodeNumber) → Contains result.now e → number_at self.now.0 e.0 ≡ Some e.1 }
+        ensures some { (e : Key × NodeNumber) → Contains result.now e
+            → number_at self.now.0 e.0 ≡ Some e.1 }
     {
         let Some(children) = self.blocks.get() else {
             return &[];
@@ -162,8 +166,10 @@ impl Children {
     /// The number of the block that has the child at a key. Without such a child, any number.
     pub fn block_with(&self, key: &Key) -> usize
         ensures has { (n : NodeNumber) → number_at self.now.0 key.now ≡ Some n
-            → Contains (slice_index_or self.now.1 result []) (key.now, n) ⊎ (slice_index_or self.now.1 result [] ≡ []) }
-        ensures within { (n : NodeNumber) → number_at self.now.0 key.now ≡ Some n → result < length self.now.1 }
+            → Contains (slice_index_or self.now.1 result []) (key.now, n)
+            ⊎ (slice_index_or self.now.1 result [] ≡ []) }
+        ensures within { (n : NodeNumber) → number_at self.now.0 key.now ≡ Some n
+            → result < length self.now.1 }
     {
         let Some(children) = self.blocks.get() else {
             return 0;
@@ -174,7 +180,8 @@ impl Children {
     /// Notes that the child at a key may be present, so that its block isn't gone.
     pub fn note_present(&mut self, key: &Key)
         ensures same { self.new.0 ≡ self.old.0 }
-        ensures kept { (e : Key × NodeNumber) → Contains (joined self.old.1) e → Contains (joined self.new.1) e }
+        ensures kept { (e : Key × NodeNumber) → Contains (joined self.old.1) e
+            → Contains (joined self.new.1) e }
         ensures noted { (n : NodeNumber) → number_at self.old.0 key.now ≡ Some n
             → Contains (joined self.new.1) (key.now, n) }
     {
@@ -192,7 +199,8 @@ impl Children {
     pub fn note_gone(&mut self, at: usize)
         ensures same { self.new.0 ≡ self.old.0 }
         ensures count { length self.new.1 ≡ length self.old.1 }
-        ensures others { (m : ℕ) → m ≢ at → slice_index_or self.new.1 m [] ≡ slice_index_or self.old.1 m [] }
+        ensures others { (m : ℕ) → m ≢ at
+            → slice_index_or self.new.1 m [] ≡ slice_index_or self.old.1 m [] }
     {
         let Some(children) = self.blocks.get_mut() else {
             return;

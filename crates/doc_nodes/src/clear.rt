@@ -1,5 +1,6 @@
 //! Clearing a node and those below it.
-ghost use Rattle.std.specs.Prelude.{◌≡◌, ◌≢◌, ◌<◌, ◌+◌, ◌++◌, ℕ, List, [], length, Some, IsSome, slice_index_or};
+ghost use Rattle.std.specs.Prelude.{◌≡◌, ◌≢◌, ◌<◌, ◌+◌, ◌++◌, ℕ, List, [], length, Some, IsSome};
+ghost use Rattle.std.specs.Prelude.{slice_index_or};
 ghost use Rattle.doc_nodes.specs.declared.node.Node.{Node};
 ghost use Rattle.lamport_id.specs.declared.id.Id.{Id};
 ghost use Rattle.op_core.specs.declared.cursor.Key.{Key};
@@ -9,7 +10,8 @@ ghost use Rattle.crdt_rules.specs.Context.{reference};
 ghost use Rattle.doc_nodes.specs.Nodes.{AreTree, ClearsUnder, ClearsFirst, node_of, child_of};
 ghost use Rattle.doc_nodes.specs.PresenceAlong.{keys_below, keys_to};
 ghost use Rattle.doc_nodes.specs.HasPresence.{HavePresence, HavePresenceFrom};
-ghost use Rattle.doc_nodes.specs.ListPresence.{plain, ListsShowPresence, ShowsPresence, ShowsPresenceBut};
+ghost use Rattle.doc_nodes.specs.ListPresence.{plain, ListsShowPresence, ShowsPresence};
+ghost use Rattle.doc_nodes.specs.ListPresence.{ShowsPresenceBut};
 ghost use Rattle.doc_nodes.specs.ListPresence.{HaveCandidates};
 
 use crate::list_presence::{
@@ -20,8 +22,9 @@ use crate::presence::known_child;
 use lamport_id::Id;
 use op_core::{Front, Key, Tagged};
 
-/// Clears a node and those below it. The caller updates the list that this node is an element of. A node that isn't
-/// present holds nothing, nor does any below it, so it goes no further there; nor where no child is present.
+/// Clears a node and those below it. The caller updates the list that this node is an element of.
+/// A node that isn't present holds nothing, nor does any below it, so it goes no further there;
+/// nor where no child is present.
 #[cycle(clearing)]
 pub fn clear_under(nodes: &mut [Node], at: NodeNumber, front: &Front)
     requires tree { AreTree nodes.old }
@@ -32,7 +35,8 @@ pub fn clear_under(nodes: &mut [Node], at: NodeNumber, front: &Front)
     ensures list_presence { (n : NodeNumber) (i : Id)
         → ShowsPresence nodes.old n i → ShowsPresenceBut nodes.new at n i }
     ensures candidates { HaveCandidates nodes.new }
-    ensures above { (n : NodeNumber) → n.0 < at.0 → (node_of nodes.new n).children ≡ (node_of nodes.old n).children }
+    ensures above { (n : NodeNumber) → n.0 < at.0
+        → (node_of nodes.new n).children ≡ (node_of nodes.old n).children }
 {
     if !is_present(nodes, at) {
         return;
@@ -48,7 +52,8 @@ pub fn clear_under(nodes: &mut [Node], at: NodeNumber, front: &Front)
     }
 }
 
-// Clears the children of a node in a block and those below them. If none is present then, the block is gone.
+// Clears the children of a node in a block and those below them. If none is
+// present then, the block is gone.
 #[cycle(clearing)]
 fn clear_block(nodes: &mut [Node], at: NodeNumber, block: usize, front: &Front)
     requires tree { AreTree nodes.old }
@@ -63,7 +68,8 @@ fn clear_block(nodes: &mut [Node], at: NodeNumber, block: usize, front: &Front)
         → ShowsPresenceBut nodes.old at n i → ShowsPresenceBut nodes.new at n i }
     ensures has_presence { HavePresenceFrom nodes.new (at.0 + 1) }
     ensures candidates { HaveCandidates nodes.new }
-    ensures above { (n : NodeNumber) → n.0 < at.0 → (node_of nodes.new n).children ≡ (node_of nodes.old n).children }
+    ensures above { (n : NodeNumber) → n.0 < at.0
+        → (node_of nodes.new n).children ≡ (node_of nodes.old n).children }
     ensures others { (m : ℕ) → m ≢ block → slice_index_or (node_of nodes.new at).children.1 m []
         ≡ slice_index_or (node_of nodes.old at).children.1 m [] }
 {
@@ -81,7 +87,8 @@ fn child_at(nodes: &[Node], at: NodeNumber, block: usize, place: usize) -> (Node
     requires known { at.0 < length nodes.now }
     requires within { place < length (slice_index_or (node_of nodes.now at).children.1 block []) }
     ensures number { (d : Key × NodeNumber)
-        → (slice_index_or (slice_index_or (node_of nodes.now at).children.1 block []) place d).1 ≡ result.0 }
+        → (slice_index_or (slice_index_or (node_of nodes.now at).children.1 block []) place d).1
+        ≡ result.0 }
     ensures found { (d : Key × NodeNumber)
         → child_of nodes.now at (slice_index_or (slice_index_or (node_of nodes.now at).children.1 block []) place d).0
         ≡ Some result.0 }
@@ -99,7 +106,8 @@ pub fn clear_way(nodes: &mut [Node], path: &[Tagged], key: &Key, front: &Front)
     requires has_presence { HavePresence nodes.old }
     requires candidates { HaveCandidates nodes.old }
     requires reached { IsSome (walk (child_of nodes.old) root (keys_to path.now key.now)) }
-    ensures clears { (m : NodeNumber) → walk (child_of nodes.old) root (keys_to path.now key.now) ≡ Some m
+    ensures clears { (m : NodeNumber)
+        → walk (child_of nodes.old) root (keys_to path.now key.now) ≡ Some m
         → ClearsUnder front.now (plain nodes.old) (plain nodes.new) m }
     ensures list_presence { ListsShowPresence nodes.old → ListsShowPresence nodes.new }
 {
@@ -116,9 +124,11 @@ fn clear_below(nodes: &mut [Node], at: NodeNumber, way: &[Tagged], key: &Key, fr
     requires has_presence { HavePresence nodes.old }
     requires candidates { HaveCandidates nodes.old }
     requires reached { IsSome (walk (child_of nodes.old) at (keys_below way.now key.now)) }
-    ensures clears { (m : NodeNumber) → walk (child_of nodes.old) at (keys_below way.now key.now) ≡ Some m
+    ensures clears { (m : NodeNumber)
+        → walk (child_of nodes.old) at (keys_below way.now key.now) ≡ Some m
         → ClearsUnder front.now (plain nodes.old) (plain nodes.new) m }
-    ensures list_presence { (n : NodeNumber) (i : Id) → ShowsPresence nodes.old n i → ShowsPresence nodes.new n i }
+    ensures list_presence { (n : NodeNumber) (i : Id) → ShowsPresence nodes.old n i
+        → ShowsPresence nodes.new n i }
     ensures candidates { HaveCandidates nodes.new }
 {
     match way.split_first() {

@@ -9,7 +9,8 @@ use small_values::Lazy;
 use std::alloc::{AllocError, Global};
 use std::marker::Model;
 
-// At most one number for each id, in blocks, and fewer than 2^64, so that their total is within 128 bits.
+// At most one number for each id, in blocks, and fewer than 2^64, so that
+// their total is within 128 bits.
 struct Numbers {
     entries: IdBlocks<i64>,
     // There are no more entries than this: it counts each that was put.
@@ -49,9 +50,9 @@ impl Numbers {
     }
 }
 
-/// The numbers that operations add at a place, by the operations' ids. Few places of a document are counters, so this
-/// takes memory only from the first reservation on. Clauses see a pair: the ids with their numbers, and whether there is
-/// room for one more.
+/// The numbers that operations add at a place, by the operations' ids. Few places of a document are
+/// counters, so this takes memory only from the first reservation on. Clauses see a pair: the ids
+/// with their numbers, and whether there is room for one more.
 pub struct Counter {
     numbers: Lazy<Numbers>,
 }
@@ -81,7 +82,8 @@ impl Counter {
         }
     }
 
-    /// Makes room for one more number. It never fails where there is room. Out of memory, the numbers stay as they are.
+    /// Makes room for one more number. It never fails where there is room. Out of
+    /// memory, the numbers stay as they are.
     pub fn reserve_one(&mut self) -> Result<(), AllocError>
         ensures same { self.new.0 ≡ self.old.0 }
         ensures grows { self.old.1 ≡ true → self.new.1 ≡ true }

@@ -33,7 +33,8 @@ fn find_below(
     way: &[Tagged],
     key: &Key,
 ) -> Option<NodeNumber>
-    ensures { result ≡ option_and_then (walk (child_of nodes.now) at) (trail_below tag.now way.now key.now) }
+    ensures { result
+        ≡ option_and_then (walk (child_of nodes.now) at) (trail_below tag.now way.now key.now) }
 {
     match way.split_first() {
         None => child(nodes, at, tag, key),
@@ -67,7 +68,8 @@ pub fn find_list_below(
     tag: &Tagged,
     way: &[Tagged],
 ) -> Option<NodeNumber>
-    ensures { result ≡ option_and_then (walk (child_of nodes.now) at) (list_trail_below tag.now way.now) }
+    ensures { result
+        ≡ option_and_then (walk (child_of nodes.now) at) (list_trail_below tag.now way.now) }
 {
     match way.split_first() {
         None => { if tag.is_list() { Some(at) } else { None } }
@@ -80,7 +82,8 @@ pub fn find_list_below(
 
 /// The child of a node at a key, if the tagged key leads to keys of that kind.
 pub fn child(nodes: &[Node], at: NodeNumber, tag: &Tagged, key: &Key) -> Option<NodeNumber>
-    ensures { result ≡ (if may_follow tag.now key.now then child_of nodes.now at key.now else None) }
+    ensures { result
+        ≡ (if may_follow tag.now key.now then child_of nodes.now at key.now else None) }
 {
     if !tag.leads_to(key) {
         return None;

@@ -1,19 +1,22 @@
 //! Growth that changes no fact.
-ghost use Rattle.std.specs.Prelude.{◌≡◌, ◌<◌, ◌≤◌, ◌+◌, ◌++◌, ◌∷◌, [], length, map, slice_set, true, false};
+ghost use Rattle.std.specs.Prelude.{◌≡◌, ◌<◌, ◌≤◌, ◌+◌, ◌++◌, ◌∷◌, [], length, map, slice_set};
+ghost use Rattle.std.specs.Prelude.{true, false};
 ghost use Rattle.std.specs.Prelude.{Some, None, IsSome, OnOk, OnErr, IfOk, IfErr};
 ghost use Rattle.json_scalar.specs.declared.refusal.Refusal.TheVariants.{NoMemory};
 ghost use Rattle.doc_nodes.specs.Nodes.{AreTree, node_of, child_of};
 ghost use Rattle.op_core.specs.Shape.{key_of};
 ghost use Rattle.doc_nodes.specs.PresenceAlong.{keys_above, keys_below, keys_to};
 ghost use Rattle.doc_nodes.specs.Walk.{root, walk};
-ghost use Rattle.doc_nodes.specs.Growth.{Grows, IsMade, AddsChild, ChangesBlocksOnly, missing_along};
+ghost use Rattle.doc_nodes.specs.Growth.{Grows, IsMade, AddsChild, ChangesBlocksOnly};
+ghost use Rattle.doc_nodes.specs.Growth.{missing_along};
 
 use crate::node::{Node, NodeNumber, PlaceNodes, ROOT};
 use json_scalar::Refusal;
 use op_core::{Key, Tagged};
 
-/// Makes the nodes on the way from the root down to a place, with room for one more id in each, and returns the last
-/// two. There is at most one new node for each key on the way that leads to none yet.
+/// Makes the nodes on the way from the root down to a place, with room for one more
+/// id in each, and returns the last two. There is at most one new node for each key
+/// on the way that leads to none yet.
 pub fn prepare_way(nodes: &mut Vec<Node>, path: &[Tagged], key: &Key) -> Result<PlaceNodes, Refusal>
     requires tree { AreTree nodes.old.items }
     ensures tree { AreTree nodes.new.items }
@@ -23,7 +26,8 @@ pub fn prepare_way(nodes: &mut Vec<Node>, path: &[Tagged], key: &Key) -> Result<
         ≤ length nodes.old.items + missing_along nodes.old.items root (keys_to path.now key.now) }
     ensures ok { OnOk result (IsMade nodes.new.items root (keys_to path.now key.now)) }
     ensures node { IfOk result
-        (λ place. walk (child_of nodes.new.items) root (keys_to path.now key.now) ≡ Some place.node) }
+        (λ place. walk (child_of nodes.new.items) root (keys_to path.now key.now)
+        ≡ Some place.node) }
     ensures above { IfOk result
         (λ place. walk (child_of nodes.new.items) root (keys_above path.now) ≡ Some place.above) }
     ensures memory { IfErr result (λ cause. cause ≡ NoMemory) }
@@ -38,7 +42,8 @@ pub fn prepare_way(nodes: &mut Vec<Node>, path: &[Tagged], key: &Key) -> Result<
     }
 }
 
-// Makes the nodes on the way from a node that has room down to a place, with room for one more id in each.
+// Makes the nodes on the way from a node that has room down to a place,
+// with room for one more id in each.
 fn prepare_below(
     nodes: &mut Vec<Node>,
     at: NodeNumber,
@@ -55,7 +60,8 @@ fn prepare_below(
         ≤ length nodes.old.items + missing_along nodes.old.items at (keys_below way.now key.now) }
     ensures ok { OnOk result (IsMade nodes.new.items at (keys_below way.now key.now)) }
     ensures node { IfOk result
-        (λ place. walk (child_of nodes.new.items) at (keys_below way.now key.now) ≡ Some place.node) }
+        (λ place. walk (child_of nodes.new.items) at (keys_below way.now key.now)
+        ≡ Some place.node) }
     ensures above { IfOk result
         (λ place. walk (child_of nodes.new.items) at (map key_of way.now) ≡ Some place.above) }
     ensures memory { IfErr result (λ cause. cause ≡ NoMemory) }
@@ -79,7 +85,8 @@ fn ready_child(nodes: &mut Vec<Node>, at: NodeNumber, key: &Key) -> Result<NodeN
     ensures tree { AreTree nodes.new.items }
     ensures grows { Grows nodes.old.items nodes.new.items }
     ensures few { length nodes.new.items ≤ length nodes.old.items + 1 }
-    ensures there { IsSome (child_of nodes.old.items at key.now) → length nodes.new.items ≡ length nodes.old.items }
+    ensures there { IsSome (child_of nodes.old.items at key.now)
+        → length nodes.new.items ≡ length nodes.old.items }
     ensures child { IfOk result (λ c. child_of nodes.new.items at key.now ≡ Some c) }
     ensures room { IfOk result (λ c. (node_of nodes.new.items c).presence.1 ≡ true) }
     ensures memory { IfErr result (λ cause. cause ≡ NoMemory) }
@@ -147,7 +154,8 @@ fn grown_child(nodes: &mut Vec<Node>, at: NodeNumber, key: &Key) -> Result<NodeN
     ensures tree { AreTree nodes.new.items }
     ensures grows { Grows nodes.old.items nodes.new.items }
     ensures few { length nodes.new.items ≤ length nodes.old.items + 1 }
-    ensures there { IsSome (child_of nodes.old.items at key.now) → length nodes.new.items ≡ length nodes.old.items }
+    ensures there { IsSome (child_of nodes.old.items at key.now)
+        → length nodes.new.items ≡ length nodes.old.items }
     ensures child { IfOk result (λ c. child_of nodes.new.items at key.now ≡ Some c) }
     ensures memory { IfErr result (λ cause. cause ≡ NoMemory) }
 {

@@ -1,4 +1,5 @@
-//! The numbered nodes of a document's tree: how they are found, made, made present, written and cleared.
+//! The numbered nodes of a document's tree: how they are found, made,
+//! made present, written and cleared.
 #![tactic(auto)]
 
 mod child_blocks;

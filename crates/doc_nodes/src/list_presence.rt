@@ -1,12 +1,13 @@
-//! Each list stores with each of its elements whether the element is present, and each node which blocks of its
-//! children are gone.
+//! Each list stores with each of its elements whether the element is present, and each node which
+//! blocks of its children are gone.
 ghost use Rattle.std.specs.Prelude.{◌≡◌, ◌<◌, length, Some, Contains, false};
 ghost use Rattle.op_core.specs.declared.cursor.Key.{Key};
 ghost use Rattle.lamport_id.specs.declared.id.Id.{Id};
 ghost use Rattle.doc_nodes.specs.declared.node.NodeNumber.{NodeNumber};
 ghost use Rattle.std.specs.Prelude.{slice_index_or, []};
 ghost use Rattle.doc_nodes.specs.Nodes.{AreTree, node_of};
-ghost use Rattle.doc_nodes.specs.ListPresence.{with_list_presence, plain, ShowsPresence, HaveCandidates};
+ghost use Rattle.doc_nodes.specs.ListPresence.{with_list_presence, plain, ShowsPresence};
+ghost use Rattle.doc_nodes.specs.ListPresence.{HaveCandidates};
 ghost use Rattle.doc_nodes.specs.ListPresence.{KeepsBlocks, MayDropBlock};
 ghost use Rattle.doc_nodes.specs.ListPresence as Spec;
 
@@ -14,7 +15,8 @@ use crate::node::{Node, NodeNumber};
 use lamport_id::Id;
 use op_core::Key;
 
-/// Stores in the list of a node whether the child at an element is present. Without an element, nothing changes.
+/// Stores in the list of a node whether the child at an element is present.
+/// Without an element, nothing changes.
 pub fn update_list_presence(
     nodes: &mut [Node],
     at: NodeNumber,
@@ -63,7 +65,8 @@ pub fn note_gone_child(nodes: &mut [Node], at: NodeNumber, key: &Key, child: Nod
     requires known { at.0 < length nodes.old }
     requires child { child.0 < length nodes.old }
     ensures facts { plain nodes.new ≡ plain nodes.old }
-    ensures list_presence { (n : NodeNumber) (i : Id) → ShowsPresence nodes.old n i → ShowsPresence nodes.new n i }
+    ensures list_presence { (n : NodeNumber) (i : Id) → ShowsPresence nodes.old n i
+        → ShowsPresence nodes.new n i }
     ensures candidates { HaveCandidates nodes.old → HaveCandidates nodes.new }
 {
     if is_present(nodes, child) {

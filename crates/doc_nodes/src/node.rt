@@ -23,7 +23,8 @@ pub const ROOT: NodeNumber = NodeNumber(0);
 pub struct PlaceNodes {
     /// The node of the place.
     pub node: NodeNumber,
-    /// The node above it, which has the list that the place is an element of; the root if the place is the root.
+    /// The node above it, which has the list that the place is an element of; the
+    /// root if the place is the root.
     pub above: NodeNumber,
 }
 
@@ -40,8 +41,8 @@ pub fn element_in(key: &Key) -> Option<Id>
     }
 }
 
-/// A place of the document: what makes it present, its register, its counter, the order of its list, and the nodes
-/// below it.
+/// A place of the document: what makes it present, its register, its counter, the order of
+/// its list, and the nodes below it.
 pub struct Node {
     /// The operations that make the place present, each with its role.
     pub presence: Presence,

@@ -7,7 +7,8 @@ ghost use Rattle.doc_nodes.specs.Nodes.{AreTree, node_of, child_of};
 ghost use Rattle.doc_nodes.specs.PresenceAlong.{made_present, keys_below, keys_to};
 ghost use Rattle.doc_nodes.specs.PresenceAlong.{HasRoomAlong, IsReady, AddsPresenceAlong};
 ghost use Rattle.doc_nodes.specs.PresenceAlong as Spec;
-ghost use Rattle.doc_nodes.specs.ListPresence.{plain, ListsShowPresence, ListsShowPresenceBut, ShowsPresenceBut};
+ghost use Rattle.doc_nodes.specs.ListPresence.{plain, ListsShowPresence, ListsShowPresenceBut};
+ghost use Rattle.doc_nodes.specs.ListPresence.{ShowsPresenceBut};
 ghost use Rattle.doc_nodes.specs.ListPresence.{IsCandidate, IsCandidateBut};
 ghost use Rattle.op_core.specs.declared.cursor.Key.{Key};
 
@@ -17,11 +18,13 @@ use lamport_id::Id;
 use op_core::{Key, Tagged};
 use presence_set::Role;
 
-/// Makes the nodes on the way from the root down to a place present, and updates the list presence of each.
+/// Makes the nodes on the way from the root down to a place present, and
+/// updates the list presence of each.
 pub fn add_presence_along(nodes: &mut [Node], path: &[Tagged], key: &Key, id: &Id, role: Role)
     requires { IsReady nodes.old root (keys_to path.now key.now) }
     ensures added { AddsPresenceAlong id.now role (plain nodes.old) (plain nodes.new) root (keys_to path.now key.now) }
-    ensures list_presence { (m : NodeNumber) → walk (child_of nodes.old) root (keys_to path.now key.now) ≡ Some m
+    ensures list_presence { (m : NodeNumber)
+        → walk (child_of nodes.old) root (keys_to path.now key.now) ≡ Some m
         → ListsShowPresenceBut nodes.old m → ListsShowPresence nodes.new }
 {
     match path.split_first() {
@@ -44,9 +47,12 @@ fn add_presence_below(
     requires reached { IsSome (walk (child_of nodes.old) at (keys_below way.now key.now)) }
     requires room { HasRoomAlong nodes.old at (keys_below way.now key.now) }
     ensures added { AddsPresenceAlong id.now role (plain nodes.old) (plain nodes.new) at (keys_below way.now key.now) }
-    ensures list_presence { (m : NodeNumber) → walk (child_of nodes.old) at (keys_below way.now key.now) ≡ Some m
-        → (n : NodeNumber) (i : Id) → ShowsPresenceBut nodes.old m n i → ShowsPresenceBut nodes.new at n i }
-    ensures candidates { (n : NodeNumber) (k : Key) → IsCandidate nodes.old n k → IsCandidateBut nodes.new at n k }
+    ensures list_presence { (m : NodeNumber)
+        → walk (child_of nodes.old) at (keys_below way.now key.now) ≡ Some m
+        → (n : NodeNumber) (i : Id) → ShowsPresenceBut nodes.old m n i
+        → ShowsPresenceBut nodes.new at n i }
+    ensures candidates { (n : NodeNumber) (k : Key) → IsCandidate nodes.old n k
+        → IsCandidateBut nodes.new at n k }
 {
     add_presence(nodes, at, id, Role::Through);
     match way.split_first() {
@@ -69,15 +75,16 @@ fn add_presence_below(
 fn add_presence(nodes: &mut [Node], at: NodeNumber, id: &Id, role: Role)
     requires known { at.0 < length nodes.old }
     requires room { (node_of nodes.old at).presence.1 ≡ true }
-    ensures { nodes.new ≡ slice_set nodes.old at.0 (made_present id.now role (node_of nodes.old at)) }
+    ensures { nodes.new
+        ≡ slice_set nodes.old at.0 (made_present id.now role (node_of nodes.old at)) }
 {
     let node = &mut nodes[at.0];
     node.may_have_present_child = may_have_present_child_after(node, role);
     node.presence.put(*id, role);
 }
 
-// Whether a child of a node may be present after an operation in a role. A node that isn't present has no present
-// child.
+// Whether a child of a node may be present after an operation in a role. A node that
+// isn't present has no present child.
 fn may_have_present_child_after(node: &Node, role: Role) -> bool
     ensures { result ≡ Spec.may_have_present_child_after role node.now }
 {

@@ -23,7 +23,8 @@ pub fn count(nodes: &mut [Node], at: NodeNumber, id: &Id, n: i64)
 pub fn enter(nodes: &mut [Node], at: NodeNumber, id: &Id, scalar: Scalar)
     requires known { at.0 < length nodes.old }
     requires room { length (node_of nodes.old at).register.0 < (node_of nodes.old at).register.1 }
-    ensures { nodes.new ≡ slice_set nodes.old at.0 (with_scalar id.now scalar (node_of nodes.old at)) }
+    ensures { nodes.new
+        ≡ slice_set nodes.old at.0 (with_scalar id.now scalar (node_of nodes.old at)) }
 {
     let node = &mut nodes[at.0];
     node.register.put(*id, scalar);
@@ -35,7 +36,8 @@ pub fn link(nodes: &mut [Node], at: NodeNumber, after: Option<Id>, id: &Id)
     requires room { length (node_of nodes.old at).order.0 < (node_of nodes.old at).order.1 }
     requires reference { ForSome after (Contains (ids_of (node_of nodes.old at).order.0)) }
     requires new { ¬ (Contains (ids_of (node_of nodes.old at).order.0) id.now) }
-    ensures { nodes.new ≡ slice_set nodes.old at.0 (with_entry after id.now (node_of nodes.old at)) }
+    ensures { nodes.new
+        ≡ slice_set nodes.old at.0 (with_entry after id.now (node_of nodes.old at)) }
 {
     let node = &mut nodes[at.0];
     node.order.insert_by_rule(after, *id);

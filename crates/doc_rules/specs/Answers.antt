@@ -1,5 +1,6 @@
 -- What a replica answers where it is only read.
-use Rattle.std.specs.Prelude.{◌≡◌, ◌⊎◌, ℕ, List, map, filter, take, not, Result, Ok, Err, MatchResult}
+use Rattle.std.specs.Prelude.{◌≡◌, ◌⊎◌, ℕ, List, map, filter, take, not, Result, Ok, Err}
+use Rattle.std.specs.Prelude.{MatchResult}
 use Rattle.doc_api.specs.Words.{Refusal, NoMemory, Cursor, Key, Tagged, Op}
 use Rattle.op_core.specs.Front.{covers}
 use Rattle.doc_api.specs.declared.ask.Look.{Look}
@@ -25,7 +26,8 @@ reply_with reply_of (Ok x) = reply_of x
 reply_with reply_of (Err cause) = reply.Refused cause
 
 -- a reading of this kind at a cursor, with that reply
-abbrev pub ReadsHere : {X : Type 0} → (List Tagged → Key → X → Type 0) → (X → Reply) → Cursor → Reply → Type 0
+abbrev pub ReadsHere : {X : Type 0} → (List Tagged → Key → X → Type 0) → (X → Reply) → Cursor
+    → Reply → Type 0
 ReadsHere {X} reads reply_of c answer =
     (result : Result X Refusal) × ReadsPlace reads c result × (answer ≡ reply_with reply_of result)
 
@@ -63,7 +65,8 @@ Reads r mine query.Account answer = answer ≡ reply.Account mine
 abbrev pub MayAnswer : Replica → ℕ → Query → Reply → Type 0
 MayAnswer r mine q answer = Reads r mine q answer ⊎ (answer ≡ reply.Refused NoMemory)
 
--- the operations alone answer it, whatever their order: where steps lead, a look at a place, and the front
+-- the operations alone answer it, whatever their order: where steps lead, a
+-- look at a place, and the front
 abbrev pub IsOfOperations : Query → Type 0
 IsOfOperations (query.Resolve place) = Unit {0}
 IsOfOperations (query.Look look place) = Unit {0}

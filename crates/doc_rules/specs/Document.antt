@@ -1,5 +1,6 @@
 -- A document that many seats share, and its events.
-use Rattle.std.specs.Prelude.{◌≡◌, ◌≢◌, ℕ, zero, suc, ◌+◌, ◌-◌, ◌≤◌, nat_lt, nat_le, ◌==◌, ◌&&◌, List, [], ◌∷◌, ◌++◌}
+use Rattle.std.specs.Prelude.{◌≡◌, ◌≢◌, ℕ, zero, suc, ◌+◌, ◌-◌, ◌≤◌, nat_lt, nat_le, ◌==◌, ◌&&◌}
+use Rattle.std.specs.Prelude.{List, [], ◌∷◌, ◌++◌}
 use Rattle.std.specs.Prelude.{length, replicate, take, drop, Result, Ok, Err, if◌then◌else◌}
 use Rattle.std.specs.List.{All}
 use Rattle.doc_api.specs.Words.{Refusal, Op}
@@ -56,7 +57,8 @@ for_seat seat s d =
 
 -- a command for a seat
 abbrev pub Acts : Document → ℕ → Command → Reply → Document → Type 0
-Acts d seat command reply e = (s : Replica) × replica.Event d.replica command reply s × (e ≡ for_seat seat s d)
+Acts d seat command reply e = (s : Replica) × replica.Event d.replica command reply s
+    × (e ≡ for_seat seat s d)
 
 -- what an event for a seat gave it
 pub record GivesTo (d : Document) (seat : ℕ) (reply : Reply) (e : Document) : Type 0 where
@@ -77,7 +79,8 @@ opens d =
 
 -- so many are copied, where that is no fewer than were and no more than are logged
 abbrev pub copied_to : ℕ → Document → Document
-copied_to n d = if nat_le d.copied n && nat_le n (length d.replica.log) then record d { copied = n } else d
+copied_to n d = if nat_le d.copied n && nat_le n (length d.replica.log) then record d { copied = n }
+    else d
 
 -- the operations after the first `from`, at most so many
 abbrev pub tail : ℕ → ℕ → Document → List Op

@@ -17,9 +17,11 @@ abbrev pub conflict_data : Id × Val → Data
 conflict_data e = list_data (id_data e.0 ∷ val_data e.1 ∷ [])
 
 -- the compact text of an array of all that is read so, each written as this JSON
-abbrev pub EncodedAs : {X : Type 0} → (X → Data) → (List Tagged → Key → List X → Type 0) → List Tagged → Key → List ℕ
+abbrev pub EncodedAs : {X : Type 0} → (X → Data) → (List Tagged → Key → List X → Type 0)
+    → List Tagged → Key → List ℕ
     → Type 0
-EncodedAs {X} json reads p k text = (xs : List X) × reads p k xs × (text ≡ compact_text (list_data (map json xs)))
+EncodedAs {X} json reads p k text = (xs : List X) × reads p k xs
+    × (text ≡ compact_text (list_data (map json xs)))
 
 -- the text of the present keys of the map at a place
 abbrev pub KeysText : Facts → List Tagged → Key → List ℕ → Type 0
@@ -29,7 +31,8 @@ KeysText f = EncodedAs string (AreKeys f)
 abbrev pub ItemsText : Facts → List Tagged → Key → List ℕ → Type 0
 ItemsText f = EncodedAs item_data (AreItems f)
 
--- the text of the ids that make a place present and put a value at this very place, each with that value
+-- the text of the ids that make a place present and put a value at this
+-- very place, each with that value
 abbrev pub ConflictsText : Facts → Values → List Tagged → Key → List ℕ → Type 0
 ConflictsText f values = EncodedAs conflict_data (AreConflicts f values)
 

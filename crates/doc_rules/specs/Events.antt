@@ -1,10 +1,13 @@
--- What a command does to a replica, and what it answers. The tables have the rows of docs/FORMATS.md, "The
--- order of causes".
-use Rattle.std.specs.Prelude.{◌≡◌, ◌⊎◌, ℕ, suc, nat_le, length, bytes_eq, ◌&&◌, not, Bool, true, false, List, [], ◌∷◌}
+-- What a command does to a replica, and what it answers. The tables have the rows of
+-- docs/FORMATS.md, "The order of causes".
+use Rattle.std.specs.Prelude.{◌≡◌, ◌⊎◌, ℕ, suc, nat_le, length, bytes_eq, ◌&&◌, not, Bool, true}
+use Rattle.std.specs.Prelude.{false, List, [], ◌∷◌}
 use Rattle.std.specs.Prelude.{Option, Some, None, is_some, Result, Ok, Err, if◌then◌else◌, ⊤}
 use Rattle.doc_api.specs.Words.{Id, Refusal, NoMemory, Op, Cursor, Mutation}
-use Rattle.json_scalar.specs.declared.refusal.Refusal.TheVariants.{AtHead, NotInList, LogFull, TooManyReplicas}
-use Rattle.json_scalar.specs.declared.refusal.Refusal.TheVariants.{IdConflict, OwnName, HeldFull, NotHeld}
+use Rattle.json_scalar.specs.declared.refusal.Refusal.TheVariants.{AtHead, NotInList, LogFull}
+use Rattle.json_scalar.specs.declared.refusal.Refusal.TheVariants.{TooManyReplicas}
+use Rattle.json_scalar.specs.declared.refusal.Refusal.TheVariants.{IdConflict, OwnName, HeldFull}
+use Rattle.json_scalar.specs.declared.refusal.Refusal.TheVariants.{NotHeld}
 use Rattle.op_core.specs.Equality.{operation_eq}
 use Rattle.op_core.specs.Limits.{most_held, most_operations, most_replicas}
 use Rattle.op_core.specs.Shape.{is_head, ends_in_list, is_mutation, is_shaped}
@@ -16,7 +19,8 @@ use Rattle.crdt_rules.specs.Dependencies.{is_ready, missing}
 use Rattle.crdt_rules.specs.Effect.{is_insertion}
 use Rattle.crdt_rules.specs.Fits.{replicas}
 use Rattle.doc_rules.specs.Cause.{cause_of}
-use Rattle.doc_rules.specs.Replica.{Replica, replica_facts, find_id, hold, without_held, append, Drains, own_op}
+use Rattle.doc_rules.specs.Replica.{Replica, replica_facts, find_id, hold, without_held, append}
+use Rattle.doc_rules.specs.Replica.{Drains, own_op}
 use Rattle.doc_rules.specs.Resolve.{Resolves}
 
 -- the outcome that the rules expect of a change of one's own, or of a delivered operation

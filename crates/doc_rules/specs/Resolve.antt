@@ -1,9 +1,12 @@
 -- Where a cursor's steps lead.
-use Rattle.std.specs.Prelude.{◌≡◌, ℕ, zero, suc, List, [], ◌∷◌, ◌++◌, length, nat_le, Bool, true, ◌&&◌, Option, Some}
-use Rattle.std.specs.Prelude.{option_map, slice_get, Result, Ok, Err, ok_or, MatchResult, if◌then◌else◌, ⊤}
+use Rattle.std.specs.Prelude.{◌≡◌, ℕ, zero, suc, List, [], ◌∷◌, ◌++◌, length, nat_le, Bool, true}
+use Rattle.std.specs.Prelude.{◌&&◌, Option, Some}
+use Rattle.std.specs.Prelude.{option_map, slice_get, Result, Ok, Err, ok_or, MatchResult}
+use Rattle.std.specs.Prelude.{if◌then◌else◌, ⊤}
 use Rattle.std.specs.List.{list_any}
 use Rattle.doc_api.specs.Words.{Id, Refusal, Cursor, Key, Tagged}
-use Rattle.json_scalar.specs.declared.refusal.Refusal.TheVariants.{BadCursor, IndexPastEnd, AtHead, TooDeep}
+use Rattle.json_scalar.specs.declared.refusal.Refusal.TheVariants.{BadCursor, IndexPastEnd, AtHead}
+use Rattle.json_scalar.specs.declared.refusal.Refusal.TheVariants.{TooDeep}
 use Rattle.json_scalar.specs.Refusal.{and_then}
 use Rattle.op_core.specs.Limits.{longest_key, longest_path}
 use Rattle.op_core.specs.declared.cursor.Key.TheVariants.{Text, Element, Head}
@@ -29,7 +32,8 @@ exists_in f p _ = true
 -- each key is within its limit and is where it is named; p is the way so far
 abbrev pub path_exists : Facts → List Tagged → List Tagged → Key → Bool
 path_exists f p [] k = is_short k && exists_in f p k
-path_exists f p (t ∷ path) k = is_short (key_of t) && exists_in f p (key_of t) && path_exists f (p ++ t ∷ []) path k
+path_exists f p (t ∷ path) k = is_short (key_of t) && exists_in f p (key_of t)
+    && path_exists f (p ++ t ∷ []) path k
 
 -- the first cause against a start, if there is one
 abbrev pub checked_start : Facts → Cursor → Result Cursor Refusal
@@ -54,13 +58,15 @@ key_at ids (suc n) = option_map Element (slice_get ids n)
 
 abbrev pub at_index : Cursor → List Id → ℕ → Result Cursor Refusal
 at_index c ids n =
-    and_then (ok_or (key_at ids n) IndexPastEnd) (λ k. Ok (record { path = into_list c.path c.key; key = k }))
+    and_then (ok_or (key_at ids n) IndexPastEnd)
+    (λ k. Ok (record { path = into_list c.path c.key; key = k }))
 
 -- one step leads here, or is refused
 abbrev pub Goes : Facts → Cursor → Step → Result Cursor Refusal → Type 0
 Goes f c (Get text) r = r ≡ and_then (may_go_on c) (λ _. at_text c text)
 Goes f c (Index n) r =
-    (ids : List Id) × AreElements f c.path c.key ids × (r ≡ and_then (may_go_on c) (λ _. at_index c ids n))
+    (ids : List Id) × AreElements f c.path c.key ids
+    × (r ≡ and_then (may_go_on c) (λ _. at_index c ids n))
 
 -- ---- all steps
 

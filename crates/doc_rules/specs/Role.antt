@@ -1,7 +1,9 @@
 -- What the operation of an id did at a place.
-use Rattle.std.specs.Prelude.{◌≡◌, List, [], ◌∷◌, Bool, ◌&&◌, Option, Some, None, option_map, option_and_then}
+use Rattle.std.specs.Prelude.{◌≡◌, List, [], ◌∷◌, Bool, ◌&&◌, Option, Some, None, option_map}
+use Rattle.std.specs.Prelude.{option_and_then}
 use Rattle.std.specs.Prelude.{if◌then◌else◌}
-use Rattle.doc_api.specs.Words.{Id, Scalar, Val, Key, Tagged, Mutation, Assign, Insert, Delete, Add, Op}
+use Rattle.doc_api.specs.Words.{Id, Scalar, Val, Key, Tagged, Mutation, Assign, Insert, Delete, Add}
+use Rattle.doc_api.specs.Words.{Op}
 use Rattle.json_scalar.specs.declared.scalar.Val.TheVariants.{Scalar as Plain, EmptyMap, EmptyList}
 use Rattle.doc_api.specs.declared.role.Role.{Role}
 use Rattle.doc_api.specs.declared.role.Role.TheVariants as role
@@ -35,7 +37,8 @@ logged_role (o ∷ log) p k i = if ends_here o p k i then role_put o.mutation el
 
 -- what an operation does at a place
 abbrev pub role_here : Op → List Tagged → Key → Role
-role_here op p k = if path_eq (path_of op) p && key_eq (end_key op) k then role_put op.mutation else role.Through
+role_here op p k = if path_eq (path_of op) p && key_eq (end_key op) k then role_put op.mutation
+    else role.Through
 
 -- the value that a role and a register's entry give
 abbrev pub value_in : Role → Option Scalar → Option Val
@@ -55,11 +58,13 @@ pub record AreOf (log : List Op) (f : Facts) (roles : List Tagged → Key → Id
   pub roles_are : (p : List Tagged) (k : Key) (i : Id) → roles p k i ≡ roles_of f log p k i
 
 -- the values that roles give, with the entries of the registers
-abbrev pub values_in : Facts → (List Tagged → Key → Id → Option Role) → List Tagged → Key → Id → Option Val
+abbrev pub values_in : Facts → (List Tagged → Key → Id → Option Role) → List Tagged → Key → Id
+    → Option Val
 values_in f roles p k i = option_and_then (λ role. value_in role (f.register p k i)) (roles p k i)
 
 -- the roles after one more operation, which clears what deps covers
-abbrev pub step_roles : (List Tagged → Key → Id → Option Role) → Op → (Id → Bool) → List Tagged → Key → Id → Option Role
+abbrev pub step_roles : (List Tagged → Key → Id → Option Role) → Op → (Id → Bool) → List Tagged
+    → Key → Id → Option Role
 step_roles roles op deps p k i =
     if marks op p k && id_eq op.id i then Some (role_here op p k) else
     (if clears op p k && deps i then None else roles p k i)

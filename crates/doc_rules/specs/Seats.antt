@@ -1,5 +1,7 @@
--- Seats of a document (session handles): the told list of each (the ids acknowledged to it), and the sums at the end.
-use Rattle.std.specs.Prelude.{◌≡◌, ℕ, suc, ◌+◌, ◌<◌, ◌≤◌, List, [], ◌∷◌, ◌++◌, length, map, drop, sum}
+-- Seats of a document (session handles): the told list of each (the ids acknowledged
+-- to it), and the sums at the end.
+use Rattle.std.specs.Prelude.{◌≡◌, ℕ, suc, ◌+◌, ◌<◌, ◌≤◌, List, [], ◌∷◌, ◌++◌, length, map, drop}
+use Rattle.std.specs.Prelude.{sum}
 use Rattle.doc_api.specs.Words.{Id, Op}
 use Rattle.json_scalar.specs.declared.refusal.Refusal.TheVariants.{NotOpen}
 use Rattle.doc_api.specs.declared.ask.Command.{Command}
@@ -36,8 +38,8 @@ pub record IsAnswerTo (s t : Seat) (a : Answer) : Type 0 where
   pub calls : t.calls ≡ s.calls + 1
   pub of : (a.number ≡ s.number) × (a.seat ≡ s.seat) × (a.call ≡ t.calls)
 
--- a command for a seat: one event, acknowledged to the seat. It has as many operations as its told list has
--- ids, before and after; the list grows by as many as the reply counts
+-- a command for a seat: one event, acknowledged to the seat. It has as many operations as its told
+-- list has ids, before and after; the list grows by as many as the reply counts
 pub record ActsFor (d : Document) (s : Seat) (command : Command) (a : Answer) (e : Document) (t : Seat) : Type 0 where
   pub event : Acts d s.seat command a.reply e
   pub told : t.told ≡ s.told ++ operation_ids (drop (length d.replica.log) e.replica.log)
@@ -61,9 +63,11 @@ pub record TurnsAway (d : Document) (s : Seat) (a : Answer) (e : Document) (t : 
 
 -- ---- at the end
 
--- a seat's end is the seat as its session returned it; its told list has just its operations, in order
+-- a seat's end is the seat as its session returned it; its told list
+-- has just its operations, in order
 abbrev pub IsEndOf : ℕ → Document → ℕ → Seat → Type 0
-IsEndOf number d seat s = (s.number ≡ number) × (s.seat ≡ seat) × (s.told ≡ operation_ids (logged_by seat d))
+IsEndOf number d seat s = (s.number ≡ number) × (s.seat ≡ seat)
+    × (s.told ≡ operation_ids (logged_by seat d))
 
 -- one end for each seat behind n, in the order of seats
 abbrev pub AreEndsAfter : ℕ → Document → ℕ → List Seat → Type 0

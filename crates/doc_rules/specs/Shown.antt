@@ -1,5 +1,6 @@
 -- All that is at a place, as it is shown.
-use Rattle.std.specs.Prelude.{◌≡◌, ◌⊎◌, ℕ, ℤ, List, [], ◌∷◌, ◌++◌, map, codes, true, Option, Some, None}
+use Rattle.std.specs.Prelude.{◌≡◌, ◌⊎◌, ℕ, ℤ, List, [], ◌∷◌, ◌++◌, map, codes, true, Option, Some}
+use Rattle.std.specs.Prelude.{None}
 use Rattle.std.specs.Fmt.{signed_decimal}
 use Rattle.serde_json.specs.Data.{Data, string, array, Items, no_items, item}
 use Rattle.serde_json.specs.Written.{compact_text}
@@ -9,12 +10,13 @@ use Rattle.json_scalar.specs.declared.scalar.Val.TheVariants.{EmptyMap, EmptyLis
 use Rattle.op_core.specs.declared.cursor.Key.TheVariants.{Text, Element}
 use Rattle.op_core.specs.Wire.{list_data, id_data}
 use Rattle.crdt_rules.specs.Facts.{Facts}
-use Rattle.doc_rules.specs.Views.{Values, into_map, into_list, IsPresent, AreKeys, AreElements, AreEntries, AreTerms}
+use Rattle.doc_rules.specs.Views.{Values, into_map, into_list, IsPresent, AreKeys, AreElements}
+use Rattle.doc_rules.specs.Views.{AreEntries, AreTerms}
 use Rattle.doc_rules.specs.Views.{total}
 
 mutual
-  -- what is shown: the map and the list of the place, where they stand there, the entries of its register,
-  -- and the total of its counter, where that has an entry
+  -- what is shown: the map and the list of the place, where they stand there, the entries of its
+  -- register, and the total of its counter, where that has an entry
   pub data Shown : Type 0 where
     shown : MapShown → ListShown → List (Id × Scalar) → Option ℤ → Shown
 
@@ -44,7 +46,8 @@ IsPut f values p k v = (i : Id) × (f.present p k i ≡ true) × (values p k i �
 
 -- a map is at the place: it has a present key, or is put there
 abbrev pub HasMap : Facts → Values → List Tagged → Key → Type 0
-HasMap f values p k = ((text : List ℕ) × IsPresent f (into_map p k) (Text text)) ⊎ IsPut f values p k EmptyMap
+HasMap f values p k = ((text : List ℕ) × IsPresent f (into_map p k) (Text text))
+    ⊎ IsPut f values p k EmptyMap
 
 -- a list is at the place: it has a present element, or is put there
 abbrev pub HasList : Facts → Values → List Tagged → Key → List Id → Type 0
@@ -55,7 +58,8 @@ total_shown [] = None
 total_shown (term ∷ terms) = Some (total (term ∷ terms))
 
 abbrev pub ShowsCount : Facts → List Tagged → Key → Option ℤ → Type 0
-ShowsCount f p k count = (terms : List (Id × ℤ)) × AreTerms f p k terms × (count ≡ total_shown terms)
+ShowsCount f p k count = (terms : List (Id × ℤ)) × AreTerms f p k terms
+    × (count ≡ total_shown terms)
 
 module _ (f : Facts) (values : Values) where
   abbrev mutual
@@ -66,12 +70,14 @@ module _ (f : Facts) (values : Values) where
 
     pub ShowsMap : List Tagged → Key → MapShown → Type 0
     ShowsMap p k no_map = ¬ (HasMap f values p k)
-    ShowsMap p k (a_map fields) = HasMap f values p k × AreKeys f p k (names fields) × ShowsFields (into_map p k) fields
+    ShowsMap p k (a_map fields) = HasMap f values p k × AreKeys f p k (names fields)
+        × ShowsFields (into_map p k) fields
 
     pub ShowsList : List Tagged → Key → ListShown → Type 0
     ShowsList p k no_list = (ids : List Id) × AreElements f p k ids × ¬ (HasList f values p k ids)
     ShowsList p k (a_list es) =
-        (ids : List Id) × AreElements f p k ids × HasList f values p k ids × ShowsElements (into_list p k) ids es
+        (ids : List Id) × AreElements f p k ids × HasList f values p k ids
+        × ShowsElements (into_list p k) ids es
 
     -- each under its name, in the map at the path
     pub ShowsFields : List Tagged → Fields → Type 0
@@ -82,7 +88,8 @@ module _ (f : Facts) (values : Values) where
     pub ShowsElements : List Tagged → List Id → Elements → Type 0
     ShowsElements p ids no_elements = ids ≡ []
     ShowsElements p ids (element e es) =
-        (i : Id) × (rest : List Id) × (ids ≡ i ∷ rest) × Shows p (Element i) e × ShowsElements p rest es
+        (i : Id) × (rest : List Id) × (ids ≡ i ∷ rest) × Shows p (Element i) e
+        × ShowsElements p rest es
 
 -- ---- how it is written: an array of its branches
 
@@ -116,4 +123,5 @@ abbrev mutual
 
 -- the text of what is shown at a place
 abbrev pub ShowsText : Facts → Values → List Tagged → Key → List ℕ → Type 0
-ShowsText f values p k text = (e : Shown) × Shows f values p k e × (text ≡ compact_text (shown_data e))
+ShowsText f values p k text = (e : Shown) × Shows f values p k e
+    × (text ≡ compact_text (shown_data e))

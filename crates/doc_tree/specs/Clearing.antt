@@ -2,7 +2,8 @@
 use Rattle.std.specs.Prelude.{List, [], ◌∷◌, Bool, if◌then◌else◌}
 use Rattle.doc_api.specs.Words.{Id, Key, Tagged}
 use Rattle.crdt_rules.specs.Same.{tagged_eq}
-use Rattle.crdt_rules.specs.Context.{Context, node, child, register, counter, present, order, clear_elem}
+use Rattle.crdt_rules.specs.Context.{Context, node, child, register, counter, present, order}
+use Rattle.crdt_rules.specs.Context.{clear_elem}
 
 -- the context at the end of a path is cleared at a key, and all else stays
 abbrev pub clear_at : (Id → Bool) → List Tagged → Key → Context → Context

@@ -29,7 +29,8 @@ tree_number tree = node_at tree.0
 abbrev pub tree_list : TreeValue → List Tagged → Option NodeNumber
 tree_list tree = list_node_at tree.0
 
--- the number of the node whose list a way from a node on leads to: it begins with the node's own key
+-- the number of the node whose list a way from a node on leads to: it
+-- begins with the node's own key
 abbrev pub tree_list_below : TreeValue → NodeNumber → List Tagged → Option NodeNumber
 tree_list_below tree at [] = None
 tree_list_below tree at (t ∷ way) = option_and_then (walk (child_of tree.0) at) (list_trail_below t way)

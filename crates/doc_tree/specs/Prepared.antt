@@ -19,12 +19,14 @@ pub record IsReadyList (nodes : List Node) (p : List Tagged) : Type 0 where
   pub room : (n : NodeNumber) → list_node_at nodes p ≡ Some n
       → length (node_of nodes n).order.0 < (node_of nodes n).order.1
 
--- the nodes have what an operation needs, and these are the node where it ends and, for an insertion, that of its list;
--- a delete needs nothing
+-- the nodes have what an operation needs, and these are the node where it ends and, for an
+-- insertion, that of its list; a delete needs nothing
 pub record AreReady (nodes : List Node) (place : PlaceNodes) (op : Op) : Type 0 where
-  pub room : is_delete op.mutation ≡ false → IsReadyFor nodes (path_of op) (end_key op) (is_add op.mutation)
+  pub room : is_delete op.mutation ≡ false
+      → IsReadyFor nodes (path_of op) (end_key op) (is_add op.mutation)
   pub list_room : is_insertion op.mutation ≡ true → IsReadyList nodes (path_of op)
-  pub node : is_delete op.mutation ≡ false → node_at nodes (path_of op) (end_key op) ≡ Some place.node
+  pub node : is_delete op.mutation ≡ false
+      → node_at nodes (path_of op) (end_key op) ≡ Some place.node
   pub list : is_insertion op.mutation ≡ true → list_node_at nodes (path_of op) ≡ Some place.above
 
 -- so does the tree, which keeps these nodes and a clone of the operation's scalar
@@ -35,7 +37,8 @@ pub record IsPrepared (tree : TreeValue) (op : Op) : Type 0 where
 -- an insertion comes after the head or an element of its list
 abbrev pub KnowsReference : Facts → Op → Type 0
 KnowsReference f op =
-    is_insertion op.mutation ≡ true → ForSome (reference op.cursor.key) (Contains (f.order (path_of op)))
+    is_insertion op.mutation ≡ true
+    → ForSome (reference op.cursor.key) (Contains (f.order (path_of op)))
 
 -- the id of an insertion is new in its list
 abbrev pub IsNewElement : Facts → Op → Type 0

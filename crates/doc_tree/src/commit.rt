@@ -1,5 +1,6 @@
 //! What an operation does to the nodes.
-ghost use Rattle.std.specs.Prelude.{◌≡◌, List, true, false, ◌&&◌, Some, None, Contains, if◌then◌else◌};
+ghost use Rattle.std.specs.Prelude.{◌≡◌, List, true, false, ◌&&◌, Some, None, Contains};
+ghost use Rattle.std.specs.Prelude.{if◌then◌else◌};
 ghost use Rattle.std.specs.Option.{ForSome};
 ghost use Rattle.doc_api.specs.Words.{Id, Key, Tagged, id_cmp};
 ghost use Rattle.op_core.specs.Front.{covers};
@@ -11,10 +12,12 @@ ghost use Rattle.crdt_rules.specs.Context.{reference};
 ghost use Rattle.crdt_rules.specs.Facts.{step_facts};
 ghost use Rattle.doc_api.specs.declared.role.Role.TheVariants.{Counter};
 ghost use Rattle.doc_nodes.specs.declared.node.NodeNumber.{NodeNumber};
-ghost use Rattle.doc_nodes.specs.Nodes.{AreTree, node_at, list_node_at, facts_of, role_at, clear_facts_at};
+ghost use Rattle.doc_nodes.specs.Nodes.{AreTree, node_at, list_node_at, facts_of, role_at};
+ghost use Rattle.doc_nodes.specs.Nodes.{clear_facts_at};
 ghost use Rattle.doc_nodes.specs.ListPresence.{ListsShowPresence, ListsShowPresenceBut};
 ghost use Rattle.doc_nodes.specs.HasPresence.{HavePresence};
-ghost use Rattle.doc_nodes.specs.Writes.{add_facts, add_role, put_facts, put_role, order_facts, IsReadyFor};
+ghost use Rattle.doc_nodes.specs.Writes.{add_facts, add_role, put_facts, put_role, order_facts};
+ghost use Rattle.doc_nodes.specs.Writes.{IsReadyFor};
 ghost use Rattle.doc_rules.specs.Role.{role_of, step_roles};
 ghost use Rattle.doc_tree.specs.Prepared.{AreReady, IsNewElement, IsReadyList, KnowsReference};
 
@@ -43,7 +46,8 @@ struct Put<'a> {
     scalar: Option<Scalar>,
 }
 
-/// Applies an operation for which the nodes are ready, with a clone of its scalar and the nodes where it ends.
+/// Applies an operation for which the nodes are ready, with a clone of its
+/// scalar and the nodes where it ends.
 pub fn apply(nodes: &mut [Node], scalar: Option<Scalar>, place: PlaceNodes, op: &Operation)
     requires tree { AreTree nodes.old }
     requires list_presence { ListsShowPresence nodes.old }
@@ -52,7 +56,8 @@ pub fn apply(nodes: &mut [Node], scalar: Option<Scalar>, place: PlaceNodes, op: 
     requires scalar { scalar ≡ scalar_put op.now.mutation }
     requires reference { KnowsReference (facts_of nodes.old) op.now }
     requires new { IsNewElement (facts_of nodes.old) op.now }
-    ensures facts { facts_of nodes.new ≡ step_facts (facts_of nodes.old) op.now (covers op.now.front) }
+    ensures facts { facts_of nodes.new
+        ≡ step_facts (facts_of nodes.old) op.now (covers op.now.front) }
     ensures roles { (q : List Tagged) (j : Key) (i : Id) → role_at nodes.new q j i
         ≡ step_roles (role_at nodes.old) op.now (covers op.now.front) q j i }
     ensures tree { AreTree nodes.new }
@@ -119,9 +124,11 @@ pub fn clear_at(nodes: &mut [Node], path: &[Tagged], key: &Key, front: &Front)
     requires tree { AreTree nodes.old }
     requires list_presence { ListsShowPresence nodes.old }
     requires has_presence { HavePresence nodes.old }
-    ensures facts { facts_of nodes.new ≡ clear_facts_at (facts_of nodes.old) path.now key.now (covers front.now) }
+    ensures facts { facts_of nodes.new
+        ≡ clear_facts_at (facts_of nodes.old) path.now key.now (covers front.now) }
     ensures roles { (q : List Tagged) (j : Key) (i : Id) → role_at nodes.new q j i
-        ≡ (if is_within q j path.now key.now && covers front.now i then None else role_at nodes.old q j i) }
+        ≡ (if is_within q j path.now key.now
+        && covers front.now i then None else role_at nodes.old q j i) }
     ensures tree { AreTree nodes.new }
     ensures list_presence { ListsShowPresence nodes.new }
     ensures has_presence { HavePresence nodes.new }

@@ -27,12 +27,14 @@ IsTextAt tree map k n = (text : List ℕ) → k ≡ Text text → tree_number tr
 -- each of these children that is a text has its node in the map
 abbrev pub AreIn : TreeValue → List Tagged → List (Key × NodeNumber) → Type 0
 AreIn tree map children =
-    (text : List ℕ) (n : NodeNumber) → Contains children (Text text, n) → tree_number tree map (Text text) ≡ Some n
+    (text : List ℕ) (n : NodeNumber) → Contains children (Text text, n)
+    → tree_number tree map (Text text) ≡ Some n
 
 -- the present ones of these elements of a list, each with its scalars
 abbrev pub HasItems : Facts → List Tagged → List Id → List (Id × List Scalar) → Type 0
 HasItems f list ids items =
-    (kept : List Id) × AreThose (λ i. IsPresent f list (Element i)) ids kept × HaveValues f list kept items
+    (kept : List Id) × AreThose (λ i. IsPresent f list (Element i)) ids kept
+    × HaveValues f list kept items
 
 -- the node of an element of the list to which the path leads, if it is present
 abbrev pub IsElementAt : TreeValue → List Tagged → Id → Option NodeNumber → Type 0

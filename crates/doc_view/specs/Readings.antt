@@ -9,5 +9,6 @@ abbrev pub GivesUnlessMemory : {X : Type 0} → (X → Type 0) → Result X Refu
 GivesUnlessMemory holds r = MatchResult r holds (λ e. e ≡ NoMemory)
 
 -- a reading of this kind at a cursor; there is none at a head
-abbrev pub ReadsUnlessMemory : {X : Type 0} → (List Tagged → Key → X → Type 0) → Cursor → Result X Refusal → Type 0
+abbrev pub ReadsUnlessMemory : {X : Type 0} → (List Tagged → Key → X → Type 0) → Cursor
+    → Result X Refusal → Type 0
 ReadsUnlessMemory reads c r = MatchBool (is_head c.key) (r ≡ Err AtHead) (GivesUnlessMemory (reads c.path c.key) r)

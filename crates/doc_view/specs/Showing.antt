@@ -7,7 +7,8 @@ use Rattle.op_core.specs.Wire.{list_data}
 use Rattle.doc_tree.specs.Nodes.{TreeValue}
 use Rattle.doc_tree.specs.Nodes.{tree_facts}
 use Rattle.doc_rules.specs.Views.{IsPresent}
-use Rattle.doc_rules.specs.Shown.{Shown, MapShown, ListShown, Shows, ShowsMap, ShowsList, shown_data, map_branch}
+use Rattle.doc_rules.specs.Shown.{Shown, MapShown, ListShown, Shows, ShowsMap, ShowsList}
+use Rattle.doc_rules.specs.Shown.{shown_data, map_branch}
 use Rattle.doc_rules.specs.Shown.{list_branch}
 use Rattle.doc_rules.specs.Sorted.{AreThose}
 use Rattle.doc_view.specs.TreeValues.{tree_values}
@@ -36,7 +37,8 @@ module _ (tree : TreeValue) (p : List Tagged) where
   -- each text with what is shown under it in the map to which the path leads
   abbrev pub EachField : List (List ℕ × Shown) → Type 0
   EachField [] = Unit {0}
-  EachField (field ∷ fields) = Shows (tree_facts tree) (tree_values tree) p (Text field.0) field.1 × EachField fields
+  EachField (field ∷ fields) = Shows (tree_facts tree) (tree_values tree) p (Text field.0) field.1
+      × EachField fields
 
   -- these are the fields of the present ones of the texts
   pub record AreFields (texts : List (List ℕ)) (ds : List Data) : Type 0 where
@@ -49,7 +51,8 @@ module _ (tree : TreeValue) (p : List Tagged) where
   -- what is shown at each element of the list to which the path leads
   abbrev pub EachElement : List Id → List Shown → Type 0
   EachElement [] [] = Unit {0}
-  EachElement (i ∷ ids) (e ∷ es) = Shows (tree_facts tree) (tree_values tree) p (Element i) e × EachElement ids es
+  EachElement (i ∷ ids) (e ∷ es) = Shows (tree_facts tree) (tree_values tree) p (Element i) e
+      × EachElement ids es
   EachElement _ _ = ⊥
 
   -- these are the elements of the ids

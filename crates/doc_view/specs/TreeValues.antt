@@ -14,7 +14,8 @@ use Rattle.doc_view.specs.declared.roles.PutValue.TheVariants as put
 -- what the operation of each id put at each place
 abbrev pub tree_values : TreeValue → Values
 tree_values tree p k i =
-    option_and_then (λ role. value_in role ((tree_facts tree).register p k i)) (tree_role tree p k i)
+    option_and_then
+    (λ role. value_in role ((tree_facts tree).register p k i)) (tree_role tree p k i)
 
 -- the pair of an id and its value, if it has one
 abbrev pub with_value : Id → Option Val → List (Id × Val) → List (Id × Val)

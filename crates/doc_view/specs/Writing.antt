@@ -14,12 +14,16 @@ abbrev pub WritesEach : (List Data → Type 0) → List Token → List Token →
 WritesEach holds old new = (ds : List Data) × holds ds × (new ≡ old ++ all_tokens ds)
 
 -- all of which this holds are written behind the old text, each as this JSON
-abbrev pub WritesAll : {X : Type 0} → (X → Data) → (List X → Type 0) → List Token → List Token → Type 0
-WritesAll {X} json holds old new = (xs : List X) × holds xs × (new ≡ old ++ all_tokens (map json xs))
+abbrev pub WritesAll : {X : Type 0} → (X → Data) → (List X → Type 0) → List Token → List Token
+    → Type 0
+WritesAll {X} json holds old new = (xs : List X) × holds xs
+    × (new ≡ old ++ all_tokens (map json xs))
 
 -- all of which this holds are written behind the old text, as one array
-abbrev pub WritesArray : {X : Type 0} → (X → Data) → (List X → Type 0) → List Token → List Token → Type 0
-WritesArray {X} json holds old new = (xs : List X) × holds xs × (new ≡ old ++ data_tokens (list_data (map json xs)))
+abbrev pub WritesArray : {X : Type 0} → (X → Data) → (List X → Type 0) → List Token → List Token
+    → Type 0
+WritesArray {X} json holds old new = (xs : List X) × holds xs
+    × (new ≡ old ++ data_tokens (list_data (map json xs)))
 
 -- ---- a branch, whose beginning is written with its first part, unless it was written before
 
@@ -43,6 +47,7 @@ parts_tokens tag false [] = []
 parts_tokens tag false (d ∷ ds) = beginning tag true ++ all_tokens (d ∷ ds)
 
 -- parts for which this holds are written behind the old text
-abbrev pub WritesParts : List ℕ → Bool → (List Data → Type 0) → List Token → List Token → Bool → Type 0
+abbrev pub WritesParts : List ℕ → Bool → (List Data → Type 0) → List Token → List Token → Bool
+    → Type 0
 WritesParts tag was holds old new is =
     (ds : List Data) × holds ds × (is ≡ begun was ds) × (new ≡ old ++ parts_tokens tag was ds)

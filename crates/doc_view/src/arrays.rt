@@ -38,7 +38,8 @@ pub fn keys_text(alloc: Global, tree: &Tree, cursor: &Cursor) -> Result<CompactT
 }
 
 fn write_keys(text: &mut JsonText, tree: &Tree, path: &Path, key: &Key) -> Result<(), Refusal>
-    ensures { GivesUnlessMemory (λ _. WritesArray string (AreKeys (tree_facts tree.now) path.now key.now)
+    ensures { GivesUnlessMemory
+        (λ _. WritesArray string (AreKeys (tree_facts tree.now) path.now key.now)
         text.old text.new) result }
 {
     text.begin_list()?;
@@ -52,8 +53,10 @@ fn write_present_texts(
     tree: &Tree,
     mut children: EachChild<'_>,
 ) -> Result<(), Refusal>
-    ensures { GivesUnlessMemory (λ _. WritesAll string (λ names. (map : List Tagged) → AreIn tree.now map children.entry
-        → AreThose (λ t. IsPresent (tree_facts tree.now) map (Text t)) (texts_in children.entry) names)
+    ensures { GivesUnlessMemory
+        (λ _. WritesAll string (λ names. (map : List Tagged) → AreIn tree.now map children.entry
+        → AreThose
+        (λ t. IsPresent (tree_facts tree.now) map (Text t)) (texts_in children.entry) names)
         text.old text.new) result }
 {
     while let Some(block) = children.next_block() {
@@ -65,7 +68,8 @@ fn write_present_texts(
 // The texts of those of these children that are present. Nodes are far apart in memory: to look at
 // those of a block one right behind another takes less time than to write between two looks.
 fn write_block(text: &mut JsonText, tree: &Tree, block: &[(Key, NodeNumber)]) -> Result<(), Refusal>
-    ensures { GivesUnlessMemory (λ _. WritesAll string (λ names. (map : List Tagged) → AreIn tree.now map block.now
+    ensures { GivesUnlessMemory
+        (λ _. WritesAll string (λ names. (map : List Tagged) → AreIn tree.now map block.now
         → AreThose (λ t. IsPresent (tree_facts tree.now) map (Text t)) (texts_in block.now) names)
         text.old text.new) result }
 {
@@ -104,8 +108,10 @@ fn write_each_present_text(
     tree: &Tree,
     children: &[(Key, NodeNumber)],
 ) -> Result<(), Refusal>
-    ensures { GivesUnlessMemory (λ _. WritesAll string (λ names. (map : List Tagged) → AreIn tree.now map children.now
-        → AreThose (λ t. IsPresent (tree_facts tree.now) map (Text t)) (texts_in children.now) names)
+    ensures { GivesUnlessMemory
+        (λ _. WritesAll string (λ names. (map : List Tagged) → AreIn tree.now map children.now
+        → AreThose
+        (λ t. IsPresent (tree_facts tree.now) map (Text t)) (texts_in children.now) names)
         text.old text.new) result }
 {
     for child in children {
@@ -121,7 +127,8 @@ fn write_present_text(
     key: &Key,
     at: NodeNumber,
 ) -> Result<(), Refusal>
-    ensures { GivesUnlessMemory (λ _. WritesAll string (λ names. (map : List Tagged) → IsTextAt tree.now map key.now at
+    ensures { GivesUnlessMemory
+        (λ _. WritesAll string (λ names. (map : List Tagged) → IsTextAt tree.now map key.now at
         → AreThose (λ t. IsPresent (tree_facts tree.now) map (Text t)) (texts_at key.now) names)
         text.old text.new) result }
 {
@@ -150,7 +157,8 @@ fn write_items(
     path: &Path,
     key: &Key,
 ) -> Result<(), Refusal>
-    ensures { GivesUnlessMemory (λ _. WritesArray item_data (AreItems (tree_facts tree.now) path.now key.now)
+    ensures { GivesUnlessMemory
+        (λ _. WritesArray item_data (AreItems (tree_facts tree.now) path.now key.now)
         text.old text.new) result }
 {
     match tree.node_at(path, key) {

@@ -1,5 +1,6 @@
 //! All that is at a place and below it, as JSON branches.
-ghost use Rattle.std.specs.Prelude.{◌≡◌, ◌<◌, ◌∷◌, [], List, length, Contains, codes, Decides, Some};
+ghost use Rattle.std.specs.Prelude.{◌≡◌, ◌<◌, ◌∷◌, [], List, length, Contains, codes, Decides};
+ghost use Rattle.std.specs.Prelude.{Some};
 ghost use Rattle.serde_json.specs.Data.{Data, string};
 ghost use Rattle.doc_api.specs.Words.{Key, Tagged};
 ghost use Rattle.op_core.specs.Wire.{list_data};
@@ -50,7 +51,8 @@ fn write_place(
     path: &Path,
     key: &Key,
 ) -> Result<(), Refusal>
-    ensures { GivesUnlessMemory (λ _. WritesOne (IsShown tree.now path.now key.now) text.old text.new) result }
+    ensures { GivesUnlessMemory
+        (λ _. WritesOne (IsShown tree.now path.now key.now) text.old text.new) result }
 {
     match tree.node_at(path, key) {
         None => text.empty_list(),
@@ -61,7 +63,8 @@ fn write_place(
 // The numbers of the nodes rise on the way down, so it ends.
 #[cycle(node)]
 fn write_node(node: NodeReader<'_>, text: &mut JsonText) -> Result<(), Refusal>
-    ensures { GivesUnlessMemory (λ _. WritesOne (λ d. AtReader node.entry (λ tree p k. IsShown tree p k d))
+    ensures { GivesUnlessMemory
+        (λ _. WritesOne (λ d. AtReader node.entry (λ tree p k. IsShown tree p k d))
         text.old text.new) result }
 {
     text.begin_list()?;
@@ -79,8 +82,10 @@ fn write_node(node: NodeReader<'_>, text: &mut JsonText) -> Result<(), Refusal>
 // The branch of the map at a node.
 #[cycle(node)]
 fn write_map(node: NodeReader<'_>, text: &mut JsonText, is_put: bool) -> Result<(), Refusal>
-    requires { AtReader node (λ tree p k. Decides is_put (IsPut (tree_facts tree) (tree_values tree) p k EmptyMap)) }
-    ensures { GivesUnlessMemory (λ _. WritesEach (λ ds. AtReader node.entry (λ tree p k. IsMapShown tree p k ds))
+    requires { AtReader node
+        (λ tree p k. Decides is_put (IsPut (tree_facts tree) (tree_values tree) p k EmptyMap)) }
+    ensures { GivesUnlessMemory
+        (λ _. WritesEach (λ ds. AtReader node.entry (λ tree p k. IsMapShown tree p k ds))
         text.old text.new) result }
 {
     begin_branch(text, "map", is_put)?;
@@ -101,7 +106,8 @@ fn write_fields(
     requires deeper { (k : Key) (n : NodeNumber) → Contains children (k, n)
         → (node.at.0 < n.0) × (n.0 < length node.tree.now.0) }
     ensures { GivesUnlessMemory (λ is_begun. WritesParts (codes "map") was_begun
-        (λ ds. AtReader node.entry (λ tree p k. AreFields tree (into_map p k) (texts_in children.entry) ds))
+        (λ ds. AtReader node.entry
+        (λ tree p k. AreFields tree (into_map p k) (texts_in children.entry) ds))
         text.old text.new is_begun) result }
 {
     let mut is_begun = was_begun;
@@ -158,8 +164,10 @@ fn write_named_node(
 // The branch of the list at a node.
 #[cycle(node)]
 fn write_list(node: NodeReader<'_>, text: &mut JsonText, is_put: bool) -> Result<(), Refusal>
-    requires { AtReader node (λ tree p k. Decides is_put (IsPut (tree_facts tree) (tree_values tree) p k EmptyList)) }
-    ensures { GivesUnlessMemory (λ _. WritesEach (λ ds. AtReader node.entry (λ tree p k. IsListShown tree p k ds))
+    requires { AtReader node
+        (λ tree p k. Decides is_put (IsPut (tree_facts tree) (tree_values tree) p k EmptyList)) }
+    ensures { GivesUnlessMemory
+        (λ _. WritesEach (λ ds. AtReader node.entry (λ tree p k. IsListShown tree p k ds))
         text.old text.new) result }
 {
     begin_branch(text, "list", is_put)?;

@@ -34,7 +34,8 @@ pub fn resolve(tree: &Tree, start: Cursor, steps: &[Step]) -> Result<Cursor, Ref
 }
 
 fn follow(tree: &Tree, start: Cursor, steps: &[Step]) -> Result<Cursor, Refusal>
-    ensures { result ≢ Err NoMemory → rules.Leads (tree_facts tree.now) steps.now (Ok start) result }
+    ensures { result ≢ Err NoMemory
+        → rules.Leads (tree_facts tree.now) steps.now (Ok start) result }
 {
     let mut cursor = start;
     let mut known = None;
@@ -107,7 +108,8 @@ fn to_index(
     known: &mut Option<KnownNode>,
 ) -> Result<Cursor, Refusal>
     requires { IfSome known.old (IsOnWay tree.now from.path) }
-    ensures value { result ≢ Err NoMemory → (ids : List Id) × AreElements (tree_facts tree.now) from.path from.key ids
+    ensures value { result ≢ Err NoMemory → (ids : List Id)
+        × AreElements (tree_facts tree.now) from.path from.key ids
         × (result ≡ rules.at_index from ids index) }
     ensures known { IfOk result (λ cursor. IfSome known.new (IsOnWay tree.now cursor.path)) }
 {
@@ -149,7 +151,8 @@ fn checked(tree: &Tree, start: Cursor) -> Result<Cursor, Refusal>
 }
 
 fn exists(tree: &Tree, path: &[Tagged], key: &Key) -> bool
-    ensures { result ≡ (is_placed path.now key.now && rules.path_exists (tree_facts tree.now) [] path.now key.now) }
+    ensures { result ≡ (is_placed path.now key.now
+        && rules.path_exists (tree_facts tree.now) [] path.now key.now) }
 {
     is_placed(path, key) && all_exist(tree, path, key)
 }
@@ -171,7 +174,8 @@ fn all_exist(tree: &Tree, path: &[Tagged], key: &Key) -> bool
 // exist.
 fn exists_in(tree: &Tree, path: &[Tagged], key: &Key, known: &mut Option<KnownNode>) -> bool
     requires { IfSome known.old (IsOnWay tree.now path.now) }
-    ensures value { result ≡ (rules.is_short key.now && rules.exists_in (tree_facts tree.now) path.now key.now) }
+    ensures value { result
+        ≡ (rules.is_short key.now && rules.exists_in (tree_facts tree.now) path.now key.now) }
     ensures known { IfSome known.new (IsOnWay tree.now path.now) }
 {
     match key {

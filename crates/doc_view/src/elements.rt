@@ -17,9 +17,9 @@ use lamport_id::Id;
 use op_core::{Cursor, Key};
 use std::alloc::Global;
 
-/// The present elements of the list at a cursor in list order, each with the scalars of its
-/// register in the order of their ids. `AtHead` where the cursor is at a head. The program itself calls
-/// `items_text`.
+/// The present elements of the list at a cursor in list order, each with the scalars of
+/// its register in the order of their ids. `AtHead` where the cursor is at a head. The
+/// program itself calls `items_text`.
 pub fn items(alloc: Global, tree: &Tree, cursor: &Cursor) -> Result<Items, Refusal>
     ensures { ReadsUnlessMemory (AreItems (tree_facts tree.now)) cursor.now result }
 {
@@ -78,7 +78,8 @@ pub fn present_element(
     id: &Id,
     hint: &mut SearchHint,
 ) -> Option<NodeNumber>
-    ensures value { AtNode tree.now list (λ p k. IsElementAt tree.now (reads.into_list p k) id.now result) }
+    ensures value { AtNode tree.now list
+        (λ p k. IsElementAt tree.now (reads.into_list p k) id.now result) }
     ensures deeper { ForSome result (λ n. (list.0 < n.0) × (n.0 < length tree.now.0)) }
 {
     match tree.child_by(list, &Key::Element(*id), hint) {

@@ -20,7 +20,8 @@ pub fn write_values(
     terms: Entries<'_, i64>,
 ) -> Result<(), Refusal>
     requires { length terms < 18446744073709551616 }
-    ensures { Puts (all_tokens (map value_entry_data entries.now) ++ all_tokens (count_branch (total_shown terms.entry)))
+    ensures { Puts (all_tokens (map value_entry_data entries.now)
+        ++ all_tokens (count_branch (total_shown terms.entry)))
         text.old text.new result }
 {
     write_entries(text, entries)?;

@@ -6,7 +6,8 @@ ghost use Rattle.doc_view.specs.OnWay.{IsOnWay};
 use doc_tree::{NodeNumber, Tree};
 use op_core::Tagged;
 
-/// The node of a key of a path, and how many keys are before it. The list at a longer path is found from it, and not from the root.
+/// The node of a key of a path, and how many keys are before it. The list at a longer path is found
+/// from it, and not from the root.
 #[derive(Clone, Copy)]
 pub struct KnownNode {
     pub node: NodeNumber,

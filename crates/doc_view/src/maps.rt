@@ -31,7 +31,8 @@ pub fn keys(alloc: Global, tree: &Tree, cursor: &Cursor) -> Result<Texts, Refusa
 // The texts of those of a map's children that are present.
 fn present_texts(alloc: Global, tree: &Tree, children: EachChild<'_>) -> Result<Texts, Refusal>
     ensures { GivesUnlessMemory (λ texts. (map : List Tagged) → AreIn tree.now map children.entry
-        → AreThose (λ t. IsPresent (tree_facts tree.now) map (Text t)) (texts_in children.entry) texts) result }
+        → AreThose
+        (λ t. IsPresent (tree_facts tree.now) map (Text t)) (texts_in children.entry) texts) result }
 {
     let mut texts = Vec::new(alloc);
     for child in children {
@@ -86,7 +87,8 @@ fn push_text(
     key: &Key,
     at: NodeNumber,
 ) -> Result<(), Refusal>
-    ensures { GivesUnlessMemory (λ _. Adds (λ added. (map : List Tagged) → IsTextAt tree.now map key.now at
+    ensures { GivesUnlessMemory
+        (λ _. Adds (λ added. (map : List Tagged) → IsTextAt tree.now map key.now at
         → AreThose (λ t. IsPresent (tree_facts tree.now) map (Text t)) (texts_at key.now) added)
         texts.old.items texts.new.items) result }
 {

@@ -1,5 +1,6 @@
 //! What operations did at a place.
-ghost use Rattle.std.specs.Prelude.{◌≡◌, ◌↔◌, ◌++◌, ◌∷◌, ◌||◌, ◌&&◌, [], map, not, option_map, IsTrue, MatchOption, None};
+ghost use Rattle.std.specs.Prelude.{◌≡◌, ◌↔◌, ◌++◌, ◌∷◌, ◌||◌, ◌&&◌, [], map, not, option_map};
+ghost use Rattle.std.specs.Prelude.{IsTrue, MatchOption, None};
 ghost use Rattle.json_scalar.specs.declared.scalar.Val.TheVariants.{Scalar as Plain};
 ghost use Rattle.presence_set.specs.ById.{get, IsAscending};
 ghost use Rattle.list_laws.specs.Sorted.{IsIndexOf};
@@ -79,7 +80,8 @@ fn values_of_roles(
     scalars: &[(Id, Scalar)],
 ) -> Result<Conflicts, Refusal>
     requires { IsAscending scalars.now }
-    ensures { GivesUnlessMemory (λ values. values ≡ values_of_roles scalars.now roles.entry) result }
+    ensures { GivesUnlessMemory
+        (λ values. values ≡ values_of_roles scalars.now roles.entry) result }
 {
     // Most values are scalars.
     let mut values = Vec::with_capacity(alloc, scalars.len())?;
@@ -168,8 +170,8 @@ fn value_put<'a>(entry: &(Id, Role), scalars: &'a [(Id, Scalar)], next: &mut usi
     }
 }
 
-// The scalar that the operation of an id put. Ids are asked for in their order, so the one that comes next is
-// looked at first.
+// The scalar that the operation of an id put. Ids are asked for in their order, so the one that
+// comes next is looked at first.
 fn scalar_put<'a>(id: &Id, scalars: &'a [(Id, Scalar)], next: &mut usize) -> PutValue<'a>
     requires { IsAscending scalars.now }
     ensures { value_of_put result ≡ option_map Plain (get scalars.now id.now) }
@@ -214,13 +216,14 @@ fn sought_place(id: &Id, scalars: &[(Id, Scalar)]) -> Option<usize>
 
 // Whether the scalar of an id is at this place.
 fn is_at(id: &Id, scalars: &[(Id, Scalar)], place: usize) -> bool
-    ensures { IsTrue result ↔ IsIndexOf id_cmp (λ (e : AnId × AScalar). e.0) scalars.now id.now place }
+    ensures { IsTrue result ↔ IsIndexOf id_cmp
+        (λ (e : AnId × AScalar). e.0) scalars.now id.now place }
 {
     place < scalars.len() && scalars[place].0 == *id
 }
 
-/// Whether some id has the role of one that put an empty map, or an empty list. It looks at roles only until it has
-/// found what may be put.
+/// Whether some id has the role of one that put an empty map, or an empty list. It looks at roles
+/// only until it has found what may be put.
 pub fn empty_put(roles: Entries<'_, Role>, may: EmptyPut) -> EmptyPut
     requires { CoversPut may roles }
     ensures map { result.map ≡ list_any (λ e. puts_map e.1) roles.entry }

@@ -1,4 +1,5 @@
-//! One place where a test fails: each place of its own would be proved again, for all that is dropped there.
+//! One place where a test fails: each place of its own would be proved again,
+//! for all that is dropped there.
 use std::process::Abort;
 
 /// Stops, saying what does not hold.

@@ -1,5 +1,5 @@
--- The ids that one held operation waits for: of those that it waited for at first, one that was logged since has the
--- counter beyond those of operations.
+-- The ids that one held operation waits for: of those that it waited for at first, one that was
+-- logged since has the counter beyond those of operations.
 use Rattle.std.specs.Prelude.{◌≡◌, ℕ, Bool, List, length, filter, nat_lt, ◌+◌}
 use Rattle.doc_api.specs.Words.{Id, name_cmp}
 use Rattle.doc_rules.specs.Sorted.{IsRising}

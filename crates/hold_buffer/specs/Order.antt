@@ -1,5 +1,6 @@
 -- How the held operations stand in their slots, and what is kept of what they wait for.
-use Rattle.std.specs.Prelude.{◌≡◌, ◌++◌, ◌≤◌, ◌==◌, Bool, List, [], ◌∷◌, Some, Contains, filter, filter_map, map}
+use Rattle.std.specs.Prelude.{◌≡◌, ◌++◌, ◌≤◌, ◌==◌, Bool, List, [], ◌∷◌, Some, Contains, filter}
+use Rattle.std.specs.Prelude.{filter_map, map}
 use Rattle.std.specs.Prelude.{length, not, true}
 use Rattle.std.specs.Global.{Vec}
 use Rattle.std.specs.Vec.{vec_capacity}
@@ -20,7 +21,8 @@ operations_of slots order = filter_map (λ t. get slots t.key) order
 -- the entries rise by id, and each leads to the operation of its id
 pub record IsOrdered (slots : Slab Op) (order : List Entry) : Type 0 where
   pub rising : IsRising id_cmp (λ t. t.id) order
-  pub right : (t : Entry) → Contains order t → (op : Op) × (get slots t.key ≡ Some op) × (op.id ≡ t.id)
+  pub right : (t : Entry) → Contains order t → (op : Op) × (get slots t.key ≡ Some op)
+      × (op.id ≡ t.id)
 
 -- an operation waits for an id
 abbrev pub wait_of : Id → Id → Wait
@@ -57,14 +59,16 @@ is_free t = length t.missing == 0
 -- the ready ids are those of the entries that wait for nothing, in their order, with room for all
 pub record ListsFree (order : List Entry) (ready : Vec Id) : Type 0 where
   pub rising : IsRising id_cmp (λ i. i) ready.items
-  pub free : (i : Id) → Contains ready.items i → (t : Entry) × Contains order t × (t.id ≡ i) × (is_free t ≡ true)
+  pub free : (i : Id) → Contains ready.items i → (t : Entry) × Contains order t × (t.id ≡ i)
+      × (is_free t ≡ true)
   pub all : (t : Entry) → Contains order t → is_free t ≡ true → Contains ready.items t.id
   pub room : length order ≤ vec_capacity ready
 
 -- each entry is noted at each id that it waits for
 abbrev pub AreNoted : List Entry → Waiters → Type 0
 AreNoted order waiters =
-    (t : Entry) → Contains order t → (i : Id) → Contains t.missing i → Contains (waiters_of waiters i) t.key
+    (t : Entry) → Contains order t → (i : Id) → Contains t.missing i
+    → Contains (waiters_of waiters i) t.key
 
 -- all of a buffer
 pub record HasWaits (slots : Slab Op) (order : List Entry) (ready : Vec Id) (waiters : Waiters) : Type 0 where

@@ -1,5 +1,6 @@
 //! The buffer.
-ghost use Rattle.std.specs.Prelude.{◌≡◌, ◌↔◌, List, [], ◌∷◌, ◌++◌, ◌+◌, length, ◌==◌, map, filter, find, not, true};
+ghost use Rattle.std.specs.Prelude.{◌≡◌, ◌↔◌, List, [], ◌∷◌, ◌++◌, ◌+◌, length, ◌==◌, map, filter};
+ghost use Rattle.std.specs.Prelude.{find, not, true};
 ghost use Rattle.std.specs.Prelude.{false, IsTrue, OnOk, OnErr, OnSome, Some, IfSome, Ok, Contains};
 ghost use Rattle.std.specs.Option.{option_map, option_copied};
 ghost use Rattle.doc_api.specs.Words.{id_cmp, UnlessMemory, Op};
@@ -26,9 +27,9 @@ use std::alloc::Global;
 use std::collections::VecDeque;
 use std::marker::Model;
 
-/// Operations that wait for others to be logged (a causal buffer). A contract sees the held operations,
-/// by rising id (`held`), and which of them waits for which id (`waits`): `IsCurrent` says that they
-/// wait for exactly the ids of their fronts that are not in a log.
+/// Operations that wait for others to be logged (a causal buffer). A contract sees the held
+/// operations, by rising id (`held`), and which of them waits for which id (`waits`): `IsCurrent`
+/// says that they wait for exactly the ids of their fronts that are not in a log.
 #[derive(Debug)]
 pub struct HoldBuffer {
     slots: Slab<Operation>,
@@ -79,16 +80,16 @@ impl HoldBuffer {
         self.len() == 0
     }
 
-    /// The ids of the held operations, in their order. The only error is out of memory. The program itself
-    /// calls `waiting`.
+    /// The ids of the held operations, in their order. The only error is out of memory. The
+    /// program itself calls `waiting`.
     pub fn ids(&self) -> Result<Ids, Refusal>
         ensures { UnlessMemory result (Ok (map (λ o. o.id) self.now.held)) }
     {
         Ok(Ids::from(ids_of(*self.order.allocator(), &self.order)?))
     }
 
-    /// The ids of the held operations, in their order, each with those that it waits for, in the order of
-    /// its front. The only error is out of memory.
+    /// The ids of the held operations, in their order, each with those that it waits for, in the
+    /// order of its front. The only error is out of memory.
     pub fn waiting(&self, log: &OpLog) -> Result<Waiting, Refusal>
         requires { IsCurrent self.now log.now.operations }
         ensures { UnlessMemory result (Ok (map (λ o. (o.id, missing o log.now.operations)) self.now.held)) }
@@ -125,9 +126,9 @@ impl HoldBuffer {
         }
     }
 
-    /// Holds an operation that is not ready, unless another one is held under its id (id-conflict), or
-    /// 256 are held (held-full), or out of memory. An error leaves the buffer as it was. The program itself calls
-    /// `hold_with_missing`.
+    /// Holds an operation that is not ready, unless another one is held under its id (id-conflict),
+    /// or 256 are held (held-full), or out of memory. An error leaves the buffer as it was. The
+    /// program itself calls `hold_with_missing`.
     pub fn hold(&mut self, log: &OpLog, op: Operation) -> Result<(), Refusal>
         requires waits { is_ready op log.now.operations ≡ false }
         requires new_id { is_logged log.now.operations op.id ≡ false }
@@ -192,7 +193,8 @@ impl HoldBuffer {
     /// The least id of the ready operations.
     pub fn next_ready(&self, log: &OpLog) -> Option<Id>
         requires { IsCurrent self.now log.now.operations }
-        ensures least { result ≡ option_map (λ o. o.id) (find (λ o. is_ready o log.now.operations) self.now.held) }
+        ensures least { result
+            ≡ option_map (λ o. o.id) (find (λ o. is_ready o log.now.operations) self.now.held) }
         ensures operation { IfSome result (λ id.
             find_id self.now.held id ≡ find (λ o. is_ready o log.now.operations) self.now.held) }
     {

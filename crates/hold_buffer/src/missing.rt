@@ -1,5 +1,6 @@
 //! What one held operation waits for.
-ghost use Rattle.std.specs.Prelude.{◌≡◌, true, ◌↔◌, ◌<◌, IsTrue, Contains, slice_index_or, slice_set, not, length};
+ghost use Rattle.std.specs.Prelude.{◌≡◌, true, ◌↔◌, ◌<◌, IsTrue, Contains, slice_index_or};
+ghost use Rattle.std.specs.Prelude.{slice_set, not, length};
 ghost use Rattle.std.specs.Prelude.{filter, ◌==◌, Ok, MatchResult, MatchOption, IfOk};
 ghost use Rattle.doc_api.specs.Words.{Id, UnlessMemory, name_cmp};
 ghost use Rattle.crdt_rules.specs.Same.{id_eq};
@@ -13,8 +14,8 @@ use lamport_id::{Id, ReplicaName};
 use std::alloc::{AllocError, Global};
 use std::marker::Model;
 
-/// The ids for which one operation waits, of different replicas, in the order of its front. A contract
-/// sees them as a list.
+/// The ids for which one operation waits, of different replicas, in the order of its front.
+/// A contract sees them as a list.
 #[derive(Debug)]
 pub struct Missing {
     // all that it waited for at first; what was logged since has a counter that no operation has
@@ -61,15 +62,16 @@ impl Missing {
         Ok(Ids::from(left_of(alloc, &self.ids)?))
     }
 
-    /// The ids, in their order, among those that were logged since: these have greater counters than
-    /// operations have.
+    /// The ids, in their order, among those that were logged since: these have greater
+    /// counters than operations have.
     pub fn among(&self) -> &[Id]
         ensures { left_of result.now ≡ self.now }
     {
         self.ids.as_slice()
     }
 
-    /// Takes an id out, if it is there: in time by one search, since the others stay where they are.
+    /// Takes an id out, if it is there: in time by one search, since
+    /// the others stay where they are.
     pub fn remove(&mut self, id: &Id)
         ensures { self.new ≡ filter (λ i. not (id_eq i id.now)) self.old }
     {
@@ -99,7 +101,8 @@ fn left_of(alloc: Global, ids: &[Id]) -> Result<Vec<Id>, AllocError>
 fn clear(ids: &mut Vec<Id>, at: usize)
     requires within { at < length ids.old.items }
     requires left { (d : Id) → is_left (slice_index_or ids.old.items at d) ≡ true }
-    ensures { (d : Id) → ids.new.items ≡ slice_set ids.old.items at (arrived (slice_index_or ids.old.items at d)) }
+    ensures { (d : Id)
+        → ids.new.items ≡ slice_set ids.old.items at (arrived (slice_index_or ids.old.items at d)) }
 {
     ids[at].counter += LOGGED;
 }
@@ -157,7 +160,8 @@ fn searched_index(ids: &[Id], id: &Id) -> Option<usize>
 fn search(ids: &[Id], name: ReplicaName) -> Result<usize, usize>
     requires { IsRising name_cmp (λ i. i.replica) ids.now }
     ensures { MatchResult result
-        (IsIndexOf name_cmp (λ i. i.replica) ids.now name) (IsGap name_cmp (λ i. i.replica) ids.now name) }
+        (IsIndexOf name_cmp (λ i. i.replica) ids.now name) (IsGap name_cmp
+        (λ i. i.replica) ids.now name) }
 {
     ids.binary_search_by_key(&name, |id| id.replica)
 }

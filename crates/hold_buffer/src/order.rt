@@ -1,6 +1,8 @@
 //! The order of the held operations.
-ghost use Rattle.std.specs.Prelude.{◌≡◌, ◌≢◌, ◌<◌, ◌+◌, not, length, filter, map, ◌≤◌, ℕ, insert, List, ◌++◌};
-ghost use Rattle.std.specs.Prelude.{◌∷◌, [], true, OnOk, OnSome, IfOk, IfErr, Ok, Err, MatchResult, Some, Contains};
+ghost use Rattle.std.specs.Prelude.{◌≡◌, ◌≢◌, ◌<◌, ◌+◌, not, length, filter, map, ◌≤◌, ℕ, insert};
+ghost use Rattle.std.specs.Prelude.{List, ◌++◌};
+ghost use Rattle.std.specs.Prelude.{◌∷◌, [], true, OnOk, OnSome, IfOk, IfErr, Ok, Err, MatchResult};
+ghost use Rattle.std.specs.Prelude.{Some, Contains};
 ghost use Rattle.std.specs.Vec.{vec_capacity};
 ghost use Rattle.std.specs.VecDeque.{deque_len, deque_capacity};
 ghost use Rattle.std.specs.Option.{option_map};
@@ -80,13 +82,16 @@ pub fn prepare(
     requires { IsOrdered slots.old order.old.items }
     ensures order { order.new.items ≡ order.old.items }
     ensures slots { slots.new ≡ record slots.old { capacity = slots.new.capacity } }
-    ensures ready { (ready.new.items ≡ ready.old.items) × (vec_capacity ready.old ≤ vec_capacity ready.new) }
+    ensures ready { (ready.new.items ≡ ready.old.items)
+        × (vec_capacity ready.old ≤ vec_capacity ready.new) }
     ensures gap { IfOk result (IsGap id_cmp (λ t. t.id) order.old.items id) }
     ensures slot { OnOk result (HasRoomFor slots.new 1) }
     ensures entry { OnOk result (deque_len order.new < deque_capacity order.new) }
     ensures room { OnOk result (deque_len order.new < vec_capacity ready.new) }
-    ensures cause { MatchResult result (λ _. hold_cause id (operations_of slots.old order.old.items) ≡ Ok tt)
-        (λ e. e ≢ Refusal.NoMemory → hold_cause id (operations_of slots.old order.old.items) ≡ Err e) }
+    ensures cause { MatchResult result
+        (λ _. hold_cause id (operations_of slots.old order.old.items) ≡ Ok tt)
+        (λ e. e ≢ Refusal.NoMemory
+        → hold_cause id (operations_of slots.old order.old.items) ≡ Err e) }
 {
     match search(order, &id) {
         Ok(_) => Err(Refusal::IdConflict),
@@ -123,8 +128,8 @@ fn await_ids(
     Ok(awaited)
 }
 
-/// Makes room for one more operation that waits for these ids, notes it at each of them, and returns where
-/// it is to be stored, and the ids; or the first cause against it.
+/// Makes room for one more operation that waits for these ids, notes it at each of them, and
+/// returns where it is to be stored, and the ids; or the first cause against it.
 pub fn admit(
     op: &Operation,
     missing: &Ids,
@@ -137,7 +142,8 @@ pub fn admit(
     requires missed { (log : List Op) × (missing.now ≡ deps.missing op.now log) }
     ensures order { order.new.items ≡ order.old.items }
     ensures slots { slots.new ≡ record slots.old { capacity = slots.new.capacity } }
-    ensures ready { (ready.new.items ≡ ready.old.items) × (vec_capacity ready.old ≤ vec_capacity ready.new) }
+    ensures ready { (ready.new.items ≡ ready.old.items)
+        × (vec_capacity ready.old ≤ vec_capacity ready.new) }
     ensures kept { (i : Id) (k : ℕ) (o : Op) → get slots.old k ≡ Some o
         → Contains (waiters_of waiters.old i) k → Contains (waiters_of waiters.new i) k }
     ensures gap { IfOk result (λ r. IsGap id_cmp (λ t. t.id) order.old.items op.now.id r.0) }
@@ -147,8 +153,10 @@ pub fn admit(
     ensures slot { OnOk result (HasRoomFor slots.new 1) }
     ensures entry { OnOk result (deque_len order.new < deque_capacity order.new) }
     ensures room { OnOk result (deque_len order.new < vec_capacity ready.new) }
-    ensures cause { MatchResult result (λ _. hold_cause op.now.id (operations_of slots.old order.old.items) ≡ Ok tt)
-        (λ e. e ≢ Refusal.NoMemory → hold_cause op.now.id (operations_of slots.old order.old.items) ≡ Err e) }
+    ensures cause { MatchResult result
+        (λ _. hold_cause op.now.id (operations_of slots.old order.old.items) ≡ Ok tt)
+        (λ e. e ≢ Refusal.NoMemory
+        → hold_cause op.now.id (operations_of slots.old order.old.items) ≡ Err e) }
 {
     let alloc = *order.allocator();
     match prepare(slots, order, ready, op.id()) {
@@ -222,7 +230,8 @@ pub fn waiting_of(alloc: Global, order: &VecDeque<Entry>) -> Result<Waiting, Ref
 
 // One more of them. The only error is out of memory.
 fn push_waiting(alloc: Global, waiting: &mut Vec<(Id, Ids)>, entry: &Entry) -> Result<(), Refusal>
-    ensures ok { OnOk result (waiting.new.items ≡ waiting.old.items ++ (entry.now.id, entry.now.missing) ∷ []) }
+    ensures ok { OnOk result (waiting.new.items ≡ waiting.old.items
+        ++ (entry.now.id, entry.now.missing) ∷ []) }
     ensures err { IfErr result (λ e. e ≡ Refusal.NoMemory) }
 {
     let missing = entry.missing.ids(alloc)?;
@@ -233,7 +242,8 @@ fn push_waiting(alloc: Global, waiting: &mut Vec<(Id, Ids)>, entry: &Entry) -> R
 /// Takes the key of the entry at an index out of the index.
 pub fn forget_waits(order: &VecDeque<Entry>, waiters: &mut Waiters, at: usize)
     requires within { at < length order.now.items }
-    requires apart { (t u : Entry) → Contains order.now.items t → Contains order.now.items u → t.key ≡ u.key → t.id ≡ u.id }
+    requires apart { (t u : Entry) → Contains order.now.items t → Contains order.now.items u
+        → t.key ≡ u.key → t.id ≡ u.id }
     requires noted { AreNoted order.now.items waiters.old }
     ensures { (id : Id) → IsIndexOf id_cmp (λ t. t.id) order.now.items id at
         → AreNoted (filter (λ t. not (id_eq t.id id)) order.now.items) waiters.new }

@@ -1,5 +1,6 @@
 //! The held operations that wait for nothing, in id order.
-ghost use Rattle.std.specs.Prelude.{true, ◌≡◌, ◌≢◌, ◌<◌, ◌≤◌, not, slice_get, length, filter, vec_len, find, ◌==◌};
+ghost use Rattle.std.specs.Prelude.{true, ◌≡◌, ◌≢◌, ◌<◌, ◌≤◌, not, slice_get, length, filter};
+ghost use Rattle.std.specs.Prelude.{vec_len, find, ◌==◌};
 ghost use Rattle.std.specs.Prelude.{OnOk, IfOk, MatchResult, ◌↔◌, ◌⊎◌, Contains};
 ghost use Rattle.std.specs.Vec.{vec_capacity};
 ghost use Rattle.std.specs.Option.{option_map};
@@ -15,12 +16,14 @@ use lamport_id::Id;
 /// The index of an id, or where it would go.
 fn search(ready: &[Id], id: &Id) -> Result<usize, usize>
     requires { IsRising id_cmp (λ i. i) ready.now }
-    ensures { MatchResult result (IsIndexOf id_cmp (λ i. i) ready.now id.now) (IsGap id_cmp (λ i. i) ready.now id.now) }
+    ensures { MatchResult result (IsIndexOf id_cmp (λ i. i) ready.now id.now) (IsGap id_cmp
+        (λ i. i) ready.now id.now) }
 {
     ready.binary_search(id)
 }
 
-/// Puts the id of one more operation among the others, for which there is room, if it waits for nothing.
+/// Puts the id of one more operation among the others, for which there is
+/// room, if it waits for nothing.
 pub fn announce(ready: &mut Vec<Id>, id: &Id, is_free: bool)
     requires rising { IsRising id_cmp (λ i. i) ready.old.items }
     requires room { vec_len ready.old < vec_capacity ready.old }
@@ -39,7 +42,8 @@ pub fn put(ready: &mut Vec<Id>, id: &Id)
     requires rising { IsRising id_cmp (λ i. i) ready.old.items }
     requires room { vec_len ready.old < vec_capacity ready.old }
     ensures rising { IsRising id_cmp (λ i. i) ready.new.items }
-    ensures members { (i : Id) → Contains ready.new.items i ↔ ((i ≡ id.now) ⊎ Contains ready.old.items i) }
+    ensures members { (i : Id)
+        → Contains ready.new.items i ↔ ((i ≡ id.now) ⊎ Contains ready.old.items i) }
     ensures room { vec_capacity ready.old ≤ vec_capacity ready.new }
 {
     if let Err(at) = search(ready, id) {

@@ -1,5 +1,6 @@
 //! What a logged id releases.
-ghost use Rattle.std.specs.Prelude.{◌≡◌, ◌≢◌, ◌<◌, ◌==◌, true, length, map, Contains, slice_index_or, slice_set};
+ghost use Rattle.std.specs.Prelude.{◌≡◌, ◌≢◌, ◌<◌, ◌==◌, true, length, map, Contains};
+ghost use Rattle.std.specs.Prelude.{slice_index_or, slice_set};
 ghost use Rattle.doc_api.specs.Words.{id_cmp};
 ghost use Rattle.doc_rules.specs.Sorted.{IsRising};
 ghost use Rattle.hold_buffer.specs.declared.entry.Entry.{Entry};
@@ -13,8 +14,8 @@ use op_core::Operation;
 use slab::Slab;
 use std::collections::VecDeque;
 
-/// Notes that the operation of this id was logged, with those of these keys, which are all that wait for
-/// it. Those that wait for nothing now are ready.
+/// Notes that the operation of this id was logged, with those of these keys, which are all that
+/// wait for it. Those that wait for nothing now are ready.
 pub fn release(
     slots: &Slab<Operation>,
     order: &mut VecDeque<Entry>,
@@ -24,7 +25,8 @@ pub fn release(
 )
     requires ordered { IsOrdered slots.now order.old.items }
     requires ready { ListsFree order.old.items ready.old }
-    requires noted { (t : Entry) → Contains order.old.items t → Contains t.missing id.now → Contains keys.now t.key }
+    requires noted { (t : Entry) → Contains order.old.items t → Contains t.missing id.now
+        → Contains keys.now t.key }
     ensures order { order.new.items ≡ map (without_id id.now) order.old.items }
     ensures ready { ListsFree order.new.items ready.new }
 {
@@ -43,7 +45,8 @@ fn release_one(
 )
     requires ordered { IsOrdered slots.now order.old.items }
     requires ready { ListsFree order.old.items ready.old }
-    ensures same { map (without_id id.now) order.new.items ≡ map (without_id id.now) order.old.items }
+    ensures same { map (without_id id.now) order.new.items
+        ≡ map (without_id id.now) order.old.items }
     ensures released { (t : Entry) → Contains order.new.items t → Contains t.missing id.now
         → Contains order.old.items t × (t.key ≢ key) }
     ensures ready { ListsFree order.new.items ready.new }

@@ -1,5 +1,6 @@
 //! Who may wait for which id.
-ghost use Rattle.std.specs.Prelude.{IsTrue, ◌∷◌, ◌≡◌, ◌≢◌, ◌<◌, ◌≤◌, ◌==◌, [], ℕ, Contains, OnOk, length, not, filter};
+ghost use Rattle.std.specs.Prelude.{IsTrue, ◌∷◌, ◌≡◌, ◌≢◌, ◌<◌, ◌≤◌, ◌==◌, [], ℕ, Contains, OnOk};
+ghost use Rattle.std.specs.Prelude.{length, not, filter};
 ghost use Rattle.std.specs.Prelude.{slice_index_or, slice_set};
 ghost use Rattle.doc_api.specs.Words.{Id};
 ghost use Rattle.std.specs.List.{fold};
@@ -81,8 +82,8 @@ impl Drop for Row {
     }
 }
 
-/// The index of the missing ids, by a hash of each: a row has the keys of the operations that waited for an
-/// id of the row when they were held.
+/// The index of the missing ids, by a hash of each: a row has the keys of the operations that
+/// waited for an id of the row when they were held.
 #[derive(Debug, Drop)]
 pub struct Waiters {
     rows: Vec<Row>,
@@ -110,11 +111,13 @@ impl Waiters {
         }
     }
 
-    /// Notes that the operation of this key waits for each of these ids. Out of memory, it is noted at none.
+    /// Notes that the operation of this key waits for each of these ids. Out
+    /// of memory, it is noted at none.
     pub fn note_all(&mut self, alloc: Global, ids: &[Id], key: usize) -> Result<(), AllocError>
         ensures kept { (i : Id) (k : ℕ) → k ≢ key
             → Contains (waiters_of self.old i) k → Contains (waiters_of self.new i) k }
-        ensures noted { OnOk result ((i : Id) → Contains ids.now i → Contains (waiters_of self.new i) key) }
+        ensures noted { OnOk result ((i : Id) → Contains ids.now i
+            → Contains (waiters_of self.new i) key) }
     {
         fill(&mut self.rows, alloc)?;
         match note_each(&mut self.rows, ids, key) {
@@ -184,8 +187,10 @@ fn fill(rows: &mut Vec<Row>, alloc: Global) -> Result<(), AllocError>
 // Notes a key at each of these ids.
 fn note_each(rows: &mut Vec<Row>, ids: &[Id], key: usize) -> Result<(), AllocError>
     requires { 4096 ≤ length rows.old.items }
-    ensures kept { (n k : ℕ) → Contains (row_at rows.old.items n) k → Contains (row_at rows.new.items n) k }
-    ensures noted { OnOk result ((i : Id) → Contains ids.now i → Contains (row_at rows.new.items (row_of i)) key) }
+    ensures kept { (n k : ℕ) → Contains (row_at rows.old.items n) k
+        → Contains (row_at rows.new.items n) k }
+    ensures noted { OnOk result ((i : Id) → Contains ids.now i
+        → Contains (row_at rows.new.items (row_of i)) key) }
 {
     for id in ids {
         note_in(rows, row_of(id), key)?;
@@ -197,7 +202,8 @@ fn note_each(rows: &mut Vec<Row>, ids: &[Id], key: usize) -> Result<(), AllocErr
 fn note_in(rows: &mut Vec<Row>, at: usize, key: usize) -> Result<(), AllocError>
     requires { at < length rows.old.items }
     ensures len { length rows.new.items ≡ length rows.old.items }
-    ensures kept { (n k : ℕ) → Contains (row_at rows.old.items n) k → Contains (row_at rows.new.items n) k }
+    ensures kept { (n k : ℕ) → Contains (row_at rows.old.items n) k
+        → Contains (row_at rows.new.items n) k }
     ensures noted { OnOk result (Contains (row_at rows.new.items at) key) }
 {
     let row = &mut rows[at];
@@ -206,7 +212,8 @@ fn note_in(rows: &mut Vec<Row>, at: usize, key: usize) -> Result<(), AllocError>
 
 // Takes a key out of those that are noted at these ids.
 fn forget_each(rows: &mut Vec<Row>, ids: &[Id], key: usize)
-    ensures { (n k : ℕ) → k ≢ key → Contains (row_at rows.old.items n) k → Contains (row_at rows.new.items n) k }
+    ensures { (n k : ℕ) → k ≢ key → Contains (row_at rows.old.items n) k
+        → Contains (row_at rows.new.items n) k }
 {
     for id in ids {
         forget_at(rows, row_of(id), key);
@@ -215,7 +222,8 @@ fn forget_each(rows: &mut Vec<Row>, ids: &[Id], key: usize)
 
 // Takes a key out of a row, if there are rows.
 fn forget_at(rows: &mut Vec<Row>, at: usize, key: usize)
-    ensures { (n k : ℕ) → k ≢ key → Contains (row_at rows.old.items n) k → Contains (row_at rows.new.items n) k }
+    ensures { (n k : ℕ) → k ≢ key → Contains (row_at rows.old.items n) k
+        → Contains (row_at rows.new.items n) k }
 {
     if at < rows.len() {
         forget_in(rows, at, key);
@@ -225,7 +233,8 @@ fn forget_at(rows: &mut Vec<Row>, at: usize, key: usize)
 // Takes a key out of a row.
 fn forget_in(rows: &mut Vec<Row>, at: usize, key: usize)
     requires { at < length rows.old.items }
-    ensures { (n k : ℕ) → k ≢ key → Contains (row_at rows.old.items n) k → Contains (row_at rows.new.items n) k }
+    ensures { (n k : ℕ) → k ≢ key → Contains (row_at rows.old.items n) k
+        → Contains (row_at rows.new.items n) k }
 {
     let row = &mut rows[at];
     row.forget(key);

@@ -17,7 +17,8 @@ enum Spelling<const N: usize> {
     Long(String),
 }
 
-/// A text of any length, which takes no memory of its own up to `N` bytes. A contract sees it as its bytes.
+/// A text of any length, which takes no memory of its own up to `N` bytes. A
+/// contract sees it as its bytes.
 pub struct ShortText<const N: usize> {
     spelling: Spelling<N>,
 }

@@ -1,10 +1,11 @@
-//! How values are read from JSON, and written as JSON. They are functions beside the types: a method would
-//! carry the library of JSON into each crate that names a value.
+//! How values are read from JSON, and written as JSON. They are functions beside the types: a
+//! method would carry the library of JSON into each crate that names a value.
 ghost use Rattle.std.specs.Prelude.{◌≡◌, Ok, IsTrue};
 ghost use Rattle.serde_json.specs.Data.{Data};
 ghost use Rattle.serde_json.specs.View.{view, items_view, members_view};
 ghost use Rattle.json_scalar.specs.Refusal.{UnlessMemory};
-ghost use Rattle.json_scalar.specs.Scalar.{ReadsVal, is_val, scalar_data, val_data, val_of, list_of, map_of};
+ghost use Rattle.json_scalar.specs.Scalar.{ReadsVal, is_val, scalar_data, val_data, val_of};
+ghost use Rattle.json_scalar.specs.Scalar.{list_of, map_of};
 ghost use Rattle.json_scalar.specs.Writing.{Writes};
 ghost use Rattle.json_scalar.specs.declared.scalar.Val.{Val};
 
@@ -13,11 +14,13 @@ use crate::scalar::{Scalar, Text, Val};
 use serde_json::{Map, Value};
 use std::alloc::Global;
 
-/// The value that this JSON writes. `BadValue` where it writes none: a number that is no integer of 64 bits,
-/// a text of more than 4,096 bytes, a map with members or a list with items. `NoMemory` when out of memory.
+/// The value that this JSON writes. `BadValue` where it writes none: a number that is no integer
+/// of 64 bits, a text of more than 4,096 bytes, a map with members or a list with items.
+/// `NoMemory` when out of memory.
 pub fn val_from_json(alloc: Global, value: &Value) -> Result<Val, Refusal>
     ensures reads { ReadsVal (view value.now) result }
-    ensures complete { (v : Val) → IsTrue (is_val v) → val_data v ≡ view value.now → UnlessMemory result (Ok v) }
+    ensures complete { (v : Val) → IsTrue (is_val v) → val_data v ≡ view value.now
+        → UnlessMemory result (Ok v) }
     ensures answer { UnlessMemory result (val_of (view value.now)) }
 {
     read_val(alloc, value)
@@ -34,8 +37,8 @@ pub fn val_to_json(alloc: Global, val: &Val) -> Result<Value, Refusal>
     }
 }
 
-/// The law that each value has one JSON of its own. No two values have the same one, a value is read from its own, and
-/// nothing else is read as that value.
+/// The law that each value has one JSON of its own. No two values have the same one, a value is
+/// read from its own, and nothing else is read as that value.
 pub fn one_json_each()
     ensures one { (v other : Val) → IsTrue (is_val v) → IsTrue (is_val other)
         → val_data v ≡ val_data other → v ≡ other }

@@ -3,7 +3,8 @@ ghost use Rattle.std.specs.Prelude.{◌≡◌, [], ◌∷◌, map, string_bytes,
 ghost use Rattle.json_scalar.specs.declared.refusal.Refusal.TheVariants.{NoMemory};
 ghost use Rattle.json.specs.Token.{begin_array, end_array, string};
 ghost use Rattle.op_core.specs.Wire.{list_data};
-ghost use Rattle.serde_json.specs.Data.{Data, array, boolean, no_items, no_members, null, number, object};
+ghost use Rattle.serde_json.specs.Data.{Data, array, boolean, no_items, no_members, null, number};
+ghost use Rattle.serde_json.specs.Data.{object};
 ghost use Rattle.serde_json.specs.Data.{string as text_data, unsigned};
 ghost use Rattle.serde_json.specs.Find.{of_integer};
 ghost use Rattle.serde_json.specs.Written.{compact_text};
@@ -15,8 +16,8 @@ use json_scalar::Refusal;
 use std::alloc::Global;
 use std::marker::Model;
 
-/// JSON text that is written part by part. Commas are put in by themselves. A contract sees its tokens. Each call
-/// that adds a part can fail with `NoMemory`, and with no other refusal.
+/// JSON text that is written part by part. Commas are put in by themselves. A contract sees its
+/// tokens. Each call that adds a part can fail with `NoMemory`, and with no other refusal.
 #[derive(Drop)]
 pub struct JsonText {
     writer: Writer,
@@ -45,7 +46,8 @@ impl JsonText {
         }
     }
 
-    /// Empty text, with room for so many bytes. `NoMemory` if there is no memory for it, and no other refusal.
+    /// Empty text, with room for so many bytes. `NoMemory` if there is no
+    /// memory for it, and no other refusal.
     pub fn with_room(alloc: Global, bytes: usize) -> Result<JsonText, Refusal>
         ensures { MatchResult result (λ text. text ≡ []) (λ e. e ≡ NoMemory) }
     {

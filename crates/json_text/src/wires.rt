@@ -1,5 +1,6 @@
 //! Places, fronts and operations as JSON.
-ghost use Rattle.op_core.specs.Wire.{cursor_data, entry_data, front_data, id_data, key_data, mutation_data};
+ghost use Rattle.op_core.specs.Wire.{cursor_data, entry_data, front_data, id_data, key_data};
+ghost use Rattle.op_core.specs.Wire.{mutation_data};
 ghost use Rattle.op_core.specs.Wire.{tagged_data, wire};
 ghost use Rattle.op_core.specs.declared.mutation.Mutation.TheVariants.{Delete};
 ghost use Rattle.serde_json.specs.Data.{string};
@@ -122,7 +123,8 @@ fn put_stamp(text: &mut JsonText, op: &Operation) -> Result<(), Refusal>
 }
 
 fn put_change(text: &mut JsonText, op: &Operation) -> Result<(), Refusal>
-    ensures { Puts (data_tokens (cursor_data op.now.cursor) ++ data_tokens (mutation_data op.now.mutation))
+    ensures { Puts (data_tokens (cursor_data op.now.cursor)
+        ++ data_tokens (mutation_data op.now.mutation))
         text.old text.new result }
 {
     op.cursor().put_in(text)?;

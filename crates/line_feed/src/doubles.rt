@@ -79,7 +79,8 @@ impl<W: Sink> Sink for FailAfter<W> {
     }
 }
 
-/// A source or a sink over another one that gives or takes at most so many bytes at once, and counts its reads.
+/// A source or a sink over another one that gives or takes at most so many bytes
+/// at once, and counts its reads.
 #[derive(Debug, Drop)]
 pub struct InPieces<D> {
     /// What the bytes are read from or written to.

@@ -1,6 +1,8 @@
 //! The lines of a source, one at a time.
-ghost use Rattle.std.specs.Prelude.{◌≡◌, ◌≢◌, ◌-◌, ℕ, Bool, true, false, List, [], ◌++◌, ◌+◌, ◌<◌, ◌≤◌, ◌↔◌, length};
-ghost use Rattle.std.specs.Prelude.{take, IsTrue, IfOk, MatchResult, is_err, position, slice_range, vec_len};
+ghost use Rattle.std.specs.Prelude.{◌≡◌, ◌≢◌, ◌-◌, ℕ, Bool, true, false, List, [], ◌++◌, ◌+◌, ◌<◌};
+ghost use Rattle.std.specs.Prelude.{◌≤◌, ◌↔◌, length};
+ghost use Rattle.std.specs.Prelude.{take, IsTrue, IfOk, MatchResult, is_err, position, slice_range};
+ghost use Rattle.std.specs.Prelude.{vec_len};
 ghost use Rattle.std.specs.List.{list_any};
 ghost use Rattle.std.specs.Io.KnownBytes.{Consumes, IsAtEnd, Keeps};
 ghost use Rattle.line_feed.specs.Lines.{is_newline, HasNoNewline};
@@ -55,7 +57,8 @@ struct Filled {
 
 // Where reading stopped at a newline, its index.
 fn newline_of(stop: &Stop) -> Option<usize>
-    ensures { (bytes : List ℕ) (room : ℕ) → Stops bytes room stop.now → IsFirstNewline bytes result }
+    ensures { (bytes : List ℕ) (room : ℕ) → Stops bytes room stop.now
+        → IsFirstNewline bytes result }
 {
     match stop {
         Stop::Newline(at) => Some(*at),
@@ -103,14 +106,16 @@ fn read_behind<R: Source>(
     source.read_some(&mut buffer[len..])
 }
 
-// Reads after the first `buffered` bytes until a newline comes, the buffer is full, or nothing more comes.
+// Reads after the first `buffered` bytes until a newline comes, the buffer
+// is full, or nothing more comes.
 fn fill<R: Source>(source: &mut R, buffer: &mut [u8], buffered: usize) -> Filled
     requires works { R.has_failed source.old ≡ false }
     requires within { buffered ≤ length buffer.old }
     requires unended { HasNoNewline (take buffered buffer.old) }
 
     ensures within { result.len ≤ length buffer.new }
-    ensures bytes { (read : List ℕ) × Consumes (R.remaining source.old) (R.remaining source.new) read
+    ensures bytes { (read : List ℕ)
+        × Consumes (R.remaining source.old) (R.remaining source.new) read
         × (take result.len buffer.new ≡ take buffered buffer.old ++ read) }
     ensures stop { Stops (take result.len buffer.new) (length buffer.new) result.stop }
     ensures at_end { result.stop ≡ Stop.End → IsAtEnd (R.remaining source.new) }
@@ -184,7 +189,8 @@ impl Model for LineFeed {
 }
 
 impl LineFeed {
-    /// Allocates its buffer of 65,537 bytes; no later call allocates. `AllocError` if there is no memory for it.
+    /// Allocates its buffer of 65,537 bytes; no later call allocates.
+    /// `AllocError` if there is no memory for it.
     pub fn new(alloc: Global) -> Result<Self, AllocError>
         ensures { IfOk result (λ feed. (feed.buffered ≡ []) × (feed.ended ≡ false)) }
     {
@@ -199,8 +205,8 @@ impl LineFeed {
         })
     }
 
-    /// The line that `next` found last, without its newline: at most 65,536 bytes. It is empty before the first, and
-    /// unspecified after an outcome other than `Line`.
+    /// The line that `next` found last, without its newline: at most 65,536 bytes. It is empty
+    /// before the first, and unspecified after an outcome other than `Line`.
     pub fn line(&self) -> &[u8]
         ensures { result.now ≡ self.now.line }
     {
@@ -214,8 +220,9 @@ impl LineFeed {
         self.newline.is_some()
     }
 
-    /// Looks for the next line, with at most 65,537 reads, each of as much as the source gives. Once the source has
-    /// come to its end, it isn't read again. A last piece without a newline is a line too, if it isn't empty.
+    /// Looks for the next line, with at most 65,537 reads, each of as much as the source gives.
+    /// Once the source has come to its end, it isn't read again. A last piece without a newline is
+    /// a line too, if it isn't empty.
     ///
     /// - `Line`: there is one, and `line` returns it.
     /// - `End`: the source came to its end with nothing after the last line.
@@ -225,10 +232,12 @@ impl LineFeed {
     /// Where there is no line, all that was read and not returned is still buffered (`stays`).
     pub fn next<R: Source>(&mut self, source: &mut R) -> Outcome
         requires works { R.has_failed source.old ≡ false }
-        ensures gives { (read : List ℕ) × Consumes (R.remaining source.old) (R.remaining source.new) read
+        ensures gives { (read : List ℕ)
+            × Consumes (R.remaining source.old) (R.remaining source.new) read
             × Gives self.old read result self.new }
         ensures stays { result ≢ Outcome.Line → (read : List ℕ)
-            × Consumes (R.remaining source.old) (R.remaining source.new) read × (self.new.buffered ≡ self.old.buffered ++ read) }
+            × Consumes (R.remaining source.old) (R.remaining source.new) read
+            × (self.new.buffered ≡ self.old.buffered ++ read) }
         ensures buffered { list_any is_newline self.old.buffered ≡ true → result ≡ Outcome.Line }
         ensures stays_ended { self.old.ended ≡ true → result ≡ Outcome.End }
         ensures at_end { (self.old.ended ≡ true → IsAtEnd (R.remaining source.old))
@@ -248,7 +257,8 @@ impl LineFeed {
         requires works { R.has_failed source.old ≡ false }
         requires open { self.old.ended ≡ false }
         ensures open { self.new.ended ≡ false }
-        ensures bytes { (read : List ℕ) × Consumes (R.remaining source.old) (R.remaining source.new) read
+        ensures bytes { (read : List ℕ)
+            × Consumes (R.remaining source.old) (R.remaining source.new) read
             × (self.new.buffered ≡ self.old.buffered ++ read) }
         ensures stop { Stops self.new.buffered line_room result }
         ensures at_end { result ≡ Stop.End → IsAtEnd (R.remaining source.new) }

@@ -1,5 +1,6 @@
 //! A sink that writes in larger pieces.
-ghost use Rattle.std.specs.Prelude.{◌≡◌, ◌≤◌, ◌<◌, ◌++◌, [], false, length, drop, slice_range, is_err, if◌then◌else◌};
+ghost use Rattle.std.specs.Prelude.{◌≡◌, ◌≤◌, ◌<◌, ◌++◌, [], false, length, drop, slice_range};
+ghost use Rattle.std.specs.Prelude.{is_err, if◌then◌else◌};
 ghost use Rattle.std.specs.Prelude.{OnOk, OnErr};
 ghost use Rattle.std.specs.Io.KnownBytes.{Appends};
 ghost use Rattle.std.specs.Option.{option_map};
@@ -11,8 +12,8 @@ use std::alloc::Global;
 // Bytes for which an outbox has room.
 const OUTBOX_ROOM: usize = 16_384;
 
-/// A buffered sink over another one: it buffers what it takes, as far as it has room, until it is flushed. Bytes for
-/// which it has no room are written at once, after those that it has buffered.
+/// A buffered sink over another one: it buffers what it takes, as far as it has room, until it is
+/// flushed. Bytes for which it has no room are written at once, after those that it has buffered.
 #[derive(Drop)]
 pub struct Outbox<W> {
     sink: W,
@@ -23,7 +24,8 @@ pub struct Outbox<W> {
 }
 
 impl<W: Sink> Outbox<W> {
-    /// An empty outbox over the sink. If there is no memory for its 16 KB, it writes at once what it takes.
+    /// An empty outbox over the sink. If there is no memory for its 16 KB,
+    /// it writes at once what it takes.
     pub fn new(alloc: Global, sink: W) -> Self
         ensures sink { result.sink ≡ sink }
         ensures empty { drop result.sent result.buffer.items ≡ [] }
@@ -91,7 +93,8 @@ impl<W: Sink> Outbox<W> {
 }
 
 impl<W: Sink> Sink for Outbox<W> {
-    ghost contents = { λ s. option_map (λ taken. taken ++ drop s.sent s.buffer.items) (W.contents s.sink) };
+    ghost contents = { λ s. option_map
+        (λ taken. taken ++ drop s.sent s.buffer.items) (W.contents s.sink) };
 
     ghost has_failed = { λ s. W.has_failed s.sink };
 

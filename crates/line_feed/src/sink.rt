@@ -1,5 +1,6 @@
 //! Sinks: devices that take bytes.
-ghost use Rattle.std.specs.Prelude.{◌≡◌, ℕ, Bool, false, List, [], Option, ◌<◌, ◌||◌, length, is_err, if◌then◌else◌};
+ghost use Rattle.std.specs.Prelude.{◌≡◌, ℕ, Bool, false, List, [], Option, ◌<◌, ◌||◌, length};
+ghost use Rattle.std.specs.Prelude.{is_err, if◌then◌else◌};
 ghost use Rattle.std.specs.Prelude.{IfOk, OnOk, OnErr};
 ghost use Rattle.std.specs.Io.{WritesAtMost};
 ghost use Rattle.std.specs.Io.KnownBytes.{Appends, Keeps, WriteAppends};
@@ -20,8 +21,9 @@ pub trait Sink {
     /// What it has taken and its device may not have yet: nothing after a flush.
     ghost unflushed: { Self → List ℕ } = { λ _. [] };
 
-    /// Takes a prefix of `bytes`, of at least one byte, and returns its length. It calls the device once, and doesn't
-    /// try again. `DeviceFault` if that call fails; then the device has taken none, and the sink has failed.
+    /// Takes a prefix of `bytes`, of at least one byte, and returns its length. It calls the device
+    /// once, and doesn't try again. `DeviceFault` if that call fails; then the device has taken
+    /// none, and the sink has failed.
     fn write_some(&mut self, bytes: &[u8]) -> Result<usize, DeviceFault>
         requires works { has_failed self.old ≡ false }
         requires some { 0 < length bytes.now }
@@ -30,8 +32,9 @@ pub trait Sink {
         ensures bytes { WriteAppends (contents self.old) (contents self.new) result bytes.now }
         ensures failed { has_failed self.new ≡ is_err result };
 
-    /// Writes to the device what the sink and all below it have not flushed. `DeviceFault` if the device fails before it has
-    /// taken all of that; then at least the last byte counts as not taken, and the sink has failed.
+    /// Writes to the device what the sink and all below it have not flushed. `DeviceFault` if the
+    /// device fails before it has taken all of that; then at least the last byte counts as not
+    /// taken, and the sink has failed.
     fn flush(&mut self) -> Result<(), DeviceFault>
         requires works { has_failed self.old ≡ false }
         ensures bytes { OnOk result (Keeps (contents self.old) (contents self.new)) }
@@ -116,8 +119,8 @@ impl<W: Write> Sink for Writer<W> {
     }
 }
 
-/// Writes all the bytes, in as many calls of the device as it needs. `DeviceFault` if the sink fails before it has
-/// taken them all; then it has taken a proper prefix of them.
+/// Writes all the bytes, in as many calls of the device as it needs. `DeviceFault` if the sink
+/// fails before it has taken them all; then it has taken a proper prefix of them.
 pub fn write_all<W: Sink>(sink: &mut W, bytes: &[u8]) -> Result<(), DeviceFault>
     requires { W.has_failed sink.old ≡ false }
     ensures ok { OnOk result (Appends (W.contents sink.old) (W.contents sink.new) bytes.now) }

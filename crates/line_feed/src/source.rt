@@ -1,5 +1,6 @@
 //! Sources: devices that give bytes.
-ghost use Rattle.std.specs.Prelude.{◌≡◌, ℕ, Bool, false, List, Option, ◌+◌, ◌<◌, ◌≤◌, length, is_err};
+ghost use Rattle.std.specs.Prelude.{◌≡◌, ℕ, Bool, false, List, Option, ◌+◌, ◌<◌, ◌≤◌, length};
+ghost use Rattle.std.specs.Prelude.{is_err};
 ghost use Rattle.std.specs.Io.{ReadsAtMost};
 ghost use Rattle.std.specs.Io.KnownBytes.{ReadConsumes};
 
@@ -18,9 +19,9 @@ pub trait Source {
     /// How often it was read, for a source that counts.
     ghost reads: { Self → ℕ } = { λ _. 0 };
 
-    /// Puts some bytes at the start of `buf`, and returns how many: 0 only at the end. It calls the device once, and
-    /// doesn't try again. `DeviceFault` if that call fails; then no byte is taken from the device, and the source
-    /// has failed.
+    /// Puts some bytes at the start of `buf`, and returns how many: 0 only at the end. It calls the
+    /// device once, and doesn't try again. `DeviceFault` if that call fails; then no byte is taken
+    /// from the device, and the source has failed.
     fn read_some(&mut self, buf: &mut [u8]) -> Result<usize, DeviceFault>
         requires works { has_failed self.old ≡ false }
         requires room { 0 < length buf.old }

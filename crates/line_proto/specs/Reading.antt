@@ -1,20 +1,24 @@
 -- How requests are read from JSON: the request that has this JSON, or the first cause against it.
-use Rattle.std.specs.Prelude.{ℕ, ℤ, zero, suc, ◌&&◌, nat_le, List, [], ◌∷◌, codes, length, Option, Some, None}
+use Rattle.std.specs.Prelude.{ℕ, ℤ, zero, suc, ◌&&◌, nat_le, List, [], ◌∷◌, codes, length, Option}
+use Rattle.std.specs.Prelude.{Some, None}
 use Rattle.std.specs.Prelude.{option_map, Result, Ok, Err, ok_or, if◌then◌else◌}
 use Rattle.std.specs.Str.{bytes_eq, is_utf8}
-use Rattle.serde_json.specs.Data.{Data, null, boolean, number, string, array, object, Items, no_items, item}
+use Rattle.serde_json.specs.Data.{Data, null, boolean, number, string, array, object, Items}
+use Rattle.serde_json.specs.Data.{no_items, item}
 use Rattle.serde_json.specs.Find.{as_u64, as_number, as_str, as_array}
 use Rattle.serde_json.specs.Read.{read}
 use Rattle.json_scalar.specs.Refusal.{and_then}
 use Rattle.json_scalar.specs.Scalar.{val_of, int_of}
 use Rattle.doc_api.specs.Words.{Refusal, Mutation, Assign, Insert, Delete, Add}
-use Rattle.json_scalar.specs.declared.refusal.Refusal.TheVariants.{NotJson, BadRequest, BadValue, BadFront}
+use Rattle.json_scalar.specs.declared.refusal.Refusal.TheVariants.{NotJson, BadRequest, BadValue}
+use Rattle.json_scalar.specs.declared.refusal.Refusal.TheVariants.{BadFront}
 use Rattle.op_core.specs.Front.{is_ascending}
 use Rattle.op_core.specs.Reading.{◌>>=◌, some_if, u64_of, id_from, front_of_json, op_from}
 use Rattle.doc_api.specs.declared.place.Step.{Step}
 use Rattle.doc_api.specs.declared.place.Step.TheVariants.{Get, Index}
 use Rattle.doc_api.specs.declared.ask.Look.{Look}
-use Rattle.doc_api.specs.declared.ask.Look.TheVariants.{Keys, Values, Items as Elements, Conflicts, Show, Sum}
+use Rattle.doc_api.specs.declared.ask.Look.TheVariants.{Keys, Values, Items as Elements, Conflicts}
+use Rattle.doc_api.specs.declared.ask.Look.TheVariants.{Show, Sum}
 use Rattle.line_proto.specs.declared.request.Start.{Start}
 use Rattle.line_proto.specs.declared.request.Start.TheVariants.{Document, Variable}
 use Rattle.line_proto.specs.declared.request.CursorExpr.{CursorExpr}
@@ -134,7 +138,8 @@ in_order front = if is_ascending front then Ok front else Err BadFront
 abbrev pub ops_from : Data → Data → Result DocRequest Refusal
 ops_from f n =
     and_then (ok_or (limit_from n) BadRequest) (λ limit.
-    and_then (and_then (ok_or (front_of_json f) BadRequest) in_order) (λ front. Ok (ask.Operations front limit)))
+    and_then (and_then (ok_or (front_of_json f) BadRequest) in_order)
+    (λ front. Ok (ask.Operations front limit)))
 
 -- an integer of 64 bits
 abbrev pub amount_of : Data → Option ℤ
@@ -170,7 +175,8 @@ doc_request_items verb (item a (item b no_items)) = long_request verb a b
 doc_request_items verb (item a (item b (item c ds))) = Err BadRequest
 
 abbrev pub bare_from : Data → Result Request Refusal
-bare_from verb = and_then (ok_or (as_str verb) BadRequest) (λ verb. ok_or (bare_request verb) BadRequest)
+bare_from verb = and_then (ok_or (as_str verb) BadRequest)
+    (λ verb. ok_or (bare_request verb) BadRequest)
 
 -- a request on a document, with the items after the document's name
 abbrev pub named_from : Data → Data → Items → Result Request Refusal

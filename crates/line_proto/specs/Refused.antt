@@ -1,9 +1,11 @@
 -- For which causes a line that is no request is refused, stated by the written forms alone.
-use Rattle.std.specs.Prelude.{◌≡◌, ◌≢◌, ◌⊎◌, ℕ, false, List, [], ◌∷◌, codes, Option, Some, None, Err, IsTrue, ⊤}
+use Rattle.std.specs.Prelude.{◌≡◌, ◌≢◌, ◌⊎◌, ℕ, false, List, [], ◌∷◌, codes, Option, Some, None}
+use Rattle.std.specs.Prelude.{Err, IsTrue, ⊤}
 use Rattle.std.specs.List.{list_all}
 use Rattle.serde_json.specs.Data.{Data, number, unsigned}
 use Rattle.doc_api.specs.Words.{Refusal, NoMemory}
-use Rattle.json_scalar.specs.declared.refusal.Refusal.TheVariants.{NotJson, BadRequest, BadValue, BadOperation}
+use Rattle.json_scalar.specs.declared.refusal.Refusal.TheVariants.{NotJson, BadRequest, BadValue}
+use Rattle.json_scalar.specs.declared.refusal.Refusal.TheVariants.{BadOperation}
 use Rattle.json_scalar.specs.declared.refusal.Refusal.TheVariants.{BadFront, TooDeep}
 use Rattle.op_core.specs.Front.{is_ascending}
 use Rattle.op_core.specs.Shape.{is_entry}
@@ -50,8 +52,9 @@ pub record AsksForOperations (d : Data) (front : List (List ℕ × ℕ)) : Type 
 abbrev pub IsNoRequest : Data → Type 0
 IsNoRequest d = (r : Request) → IsTrue (is_request r) → request_data r ≢ d
 
--- The causes for which JSON that is no request may be refused: it has no form of a request; or it has one, and
--- what is put is no value, what is delivered is refused so, or the front doesn't ascend. Or there is no memory.
+-- The causes for which JSON that is no request may be refused: it has no form of a request; or it
+-- has one, and what is put is no value, what is delivered is refused so, or the front doesn't
+-- ascend. Or there is no memory.
 abbrev pub IsRefusedFor : Data → Refusal → Type 0
 IsRefusedFor d BadRequest =
     IsNoRequest d × ¬ AsksToPut d × ((op : Data) → ¬ AsksToDeliver d op)

@@ -9,12 +9,15 @@ use Rattle.json_scalar.specs.Scalar.{scalar_data}
 use Rattle.json_scalar.specs.declared.refusal.Refusal.TheVariants as refusal
 use Rattle.op_core.specs.Wire.{list_data, id_data, front_data, cursor_data}
 use Rattle.doc_api.specs.declared.reply.Reply.{Reply}
-use Rattle.doc_api.specs.declared.reply.Reply.TheVariants.{Applied, Known, Held, Forgotten, Resolved, Keys, Values}
-use Rattle.doc_api.specs.declared.reply.Reply.TheVariants.{Items, Conflicts, Show, Sum, Operations, Front, Waiting}
+use Rattle.doc_api.specs.declared.reply.Reply.TheVariants.{Applied, Known, Held, Forgotten}
+use Rattle.doc_api.specs.declared.reply.Reply.TheVariants.{Resolved, Keys, Values}
+use Rattle.doc_api.specs.declared.reply.Reply.TheVariants.{Items, Conflicts, Show, Sum, Operations}
+use Rattle.doc_api.specs.declared.reply.Reply.TheVariants.{Front, Waiting}
 use Rattle.doc_api.specs.declared.reply.Reply.TheVariants.{Account, Refused}
 use Rattle.line_feed.specs.Cut.{line_of}
 use Rattle.line_proto.specs.declared.line_reply.LineReply.{LineReply}
-use Rattle.line_proto.specs.declared.line_reply.LineReply.TheVariants.{Opened, Bound, Version, Bye, Answered}
+use Rattle.line_proto.specs.declared.line_reply.LineReply.TheVariants.{Opened, Bound, Version, Bye}
+use Rattle.line_proto.specs.declared.line_reply.LineReply.TheVariants.{Answered}
 
 abbrev pub count_data : ℕ → Data
 count_data n = number (unsigned n)

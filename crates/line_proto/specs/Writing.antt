@@ -2,13 +2,16 @@
 use Rattle.std.specs.Prelude.{◌≡◌, ℕ, List, ◌++◌, Option, Bool, true, false, Result, Ok, Err, ⊤}
 use Rattle.std.specs.Io.KnownBytes.{Appends}
 use Rattle.doc_api.specs.declared.reply.Reply.{Reply}
-use Rattle.doc_api.specs.declared.reply.Reply.TheVariants.{Applied, Known, Held, Waiting, Forgotten, Account, Refused, Keys, Items, Conflicts, Show, Operations}
+use Rattle.doc_api.specs.declared.reply.Reply.TheVariants.{Applied, Known, Held, Waiting, Forgotten}
+use Rattle.doc_api.specs.declared.reply.Reply.TheVariants.{Account, Refused, Keys, Items, Conflicts}
+use Rattle.doc_api.specs.declared.reply.Reply.TheVariants.{Show, Operations}
 use Rattle.line_proto.specs.declared.line_reply.LineReply.{LineReply}
 use Rattle.line_proto.specs.declared.line_reply.LineReply.TheVariants.{Answered}
 use Rattle.line_proto.specs.declared.write.WriteFault.{WriteFault}
 use Rattle.line_proto.specs.declared.write.WriteFault.TheVariants.{NoMemory, Device}
 
--- whether the reply's line is built on the heap before it is written, so that memory may lack for it
+-- whether the reply's line is built on the heap before it is written,
+-- so that memory may lack for it
 abbrev pub needs_heap : Reply → Bool
 needs_heap (Applied count dropped id) = false
 needs_heap Known = false
@@ -47,4 +50,5 @@ is_device (Err Device) = true
 
 -- the text comes after the piece: a prefix of both is written, and the rest is left in the piece
 abbrev pub WritesText : Option (List ℕ) → Option (List ℕ) → List ℕ → List ℕ → List ℕ → Type 0
-WritesText old new piece left text = (written : List ℕ) × Appends old new written × (piece ++ text ≡ written ++ left)
+WritesText old new piece left text = (written : List ℕ) × Appends old new written
+    × (piece ++ text ≡ written ++ left)

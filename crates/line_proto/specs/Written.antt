@@ -1,5 +1,6 @@
 -- The written form of requests.
-use Rattle.std.specs.Prelude.{ℕ, ℤ, pos, negsuc, ◌^◌, ◌&&◌, nat_le, nat_lt, Bool, true, List, [], ◌∷◌, map, codes}
+use Rattle.std.specs.Prelude.{ℕ, ℤ, pos, negsuc, ◌^◌, ◌&&◌, nat_le, nat_lt, Bool, true, List, []}
+use Rattle.std.specs.Prelude.{◌∷◌, map, codes}
 use Rattle.std.specs.Prelude.{length}
 use Rattle.serde_json.specs.Data.{Data, number, unsigned, string}
 use Rattle.serde_json.specs.Find.{of_integer}
@@ -111,7 +112,8 @@ is_doc_request (ask.Change expr change) = is_start expr.start && is_change chang
 is_doc_request (ask.Look expr look) = is_start expr.start
 is_doc_request (ask.Let name expr) = is_variable name && is_start expr.start
 is_doc_request (ask.Deliver op) = is_shaped op
-is_doc_request (ask.Operations front limit) = (list_all is_entry front && is_ascending front) && is_limit limit
+is_doc_request (ask.Operations front limit) = (list_all is_entry front && is_ascending front)
+    && is_limit limit
 is_doc_request (ask.Forget id) = is_id id
 
 abbrev pub is_request : Request → Bool

@@ -3,7 +3,8 @@ ghost use Rattle.std.specs.Prelude.{◌≡◌, option_map, ok_or};
 ghost use Rattle.serde_json.specs.View.{view, items_view};
 ghost use Rattle.json_scalar.specs.Refusal.{UnlessMemory};
 ghost use Rattle.json_scalar.specs.declared.refusal.Refusal.TheVariants.{BadRequest};
-ghost use Rattle.line_proto.specs.Reading.{step_from, steps_from, variable_of, variable_from, start_of_number};
+ghost use Rattle.line_proto.specs.Reading.{step_from, steps_from, variable_of, variable_from};
+ghost use Rattle.line_proto.specs.Reading.{start_of_number};
 ghost use Rattle.line_proto.specs.Reading.{start_from, expr_items, expr_from};
 
 use crate::name::Name;

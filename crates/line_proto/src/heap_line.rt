@@ -31,7 +31,8 @@ pub(crate) fn heap_line(alloc: Global, reply: &Reply) -> Result<Vec<u8>, Refusal
 }
 
 fn tagged_line<X: AsJson>(alloc: Global, word: &str, part: &X) -> Result<Vec<u8>, Refusal>
-    ensures { IfOk result (λ line. line.items ≡ line_text (worded word.now (X.json part.now ∷ []))) }
+    ensures { IfOk result
+        (λ line. line.items ≡ line_text (worded word.now (X.json part.now ∷ []))) }
 {
     let mut text = JsonText::with_room(alloc, FIRST_ROOM)?;
     text.tagged(word, part)?;

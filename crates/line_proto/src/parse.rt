@@ -3,12 +3,17 @@ ghost use Rattle.std.specs.Prelude.{◌≡◌, ok_or};
 ghost use Rattle.serde_json.specs.Read.{read};
 ghost use Rattle.serde_json.specs.View.{view, items_view};
 ghost use Rattle.json_scalar.specs.Refusal.{UnlessMemory, and_then};
-ghost use Rattle.json_scalar.specs.declared.refusal.Refusal.TheVariants.{BadRequest, BadValue, NotJson, NoMemory};
+ghost use Rattle.json_scalar.specs.declared.refusal.Refusal.TheVariants.{BadRequest, BadValue};
+ghost use Rattle.json_scalar.specs.declared.refusal.Refusal.TheVariants.{NotJson, NoMemory};
 ghost use Rattle.op_core.specs.Reading.{front_of_json};
-ghost use Rattle.line_proto.specs.Reading.{bare_request, plain_request, look_of, look_from, deletion_request};
-ghost use Rattle.line_proto.specs.Reading.{delivery_from, forgetting_from, short_request, naming_from, limit_of};
-ghost use Rattle.line_proto.specs.Reading.{limit_from, in_order, ops_from, addition_of, mutation_of_verb, amount_of};
-ghost use Rattle.line_proto.specs.Reading.{change_request, long_request, doc_request_items, bare_from, named_from};
+ghost use Rattle.line_proto.specs.Reading.{bare_request, plain_request, look_of, look_from};
+ghost use Rattle.line_proto.specs.Reading.{deletion_request};
+ghost use Rattle.line_proto.specs.Reading.{delivery_from, forgetting_from, short_request};
+ghost use Rattle.line_proto.specs.Reading.{naming_from, limit_of};
+ghost use Rattle.line_proto.specs.Reading.{limit_from, in_order, ops_from, addition_of};
+ghost use Rattle.line_proto.specs.Reading.{mutation_of_verb, amount_of};
+ghost use Rattle.line_proto.specs.Reading.{change_request, long_request, doc_request_items};
+ghost use Rattle.line_proto.specs.Reading.{bare_from, named_from};
 ghost use Rattle.line_proto.specs.Reading.{request_items, request_from, line_data, request_of};
 ghost use Rattle.line_proto.specs.Loading.{Loads};
 
@@ -32,21 +37,25 @@ impl Request {
     ghost use Rattle.line_proto.specs.Refused.{IsLineRefusedFor};
     ghost use Rattle.line_proto.specs.declared.request.Request.{Request};
 
-    /// Parses a line, without its newline, as a request. The line's length is checked by the line feed, the document
-    /// by the session.
+    /// Parses a line, without its newline, as a request. The line's length is checked by the line
+    /// feed, the document by the session.
     ///
-    /// `NotJson` where the bytes aren't JSON text, are nested more than 127 deep or have a number that is neither a
-    /// finite float nor an integer; then `BadRequest` where no request has this form: not an array, an unknown word, a
-    /// wrong number of items, an item of a wrong kind, a name of a variable of more than 128 bytes, a limit outside 1
-    /// to 64; then `BadValue` for what is assigned, inserted or added; `TooDeep`, `BadOperation` or `BadFront` for an
-    /// operation to deliver; `BadFront` for a front that doesn't ascend. `NoMemory` may come in place of any
-    /// answer.
+    /// `NotJson` where the bytes aren't JSON text, are nested more than 127 deep or have a
+    /// number that is neither a finite float nor an integer; then `BadRequest` where no request
+    /// has this form: not an array, an unknown word, a wrong number of items, an item of a
+    /// wrong kind, a name of a variable of more than 128 bytes, a limit outside 1 to 64; then
+    /// `BadValue` for what is assigned, inserted or added; `TooDeep`, `BadOperation` or
+    /// `BadFront` for an operation to deliver; `BadFront` for a front that doesn't ascend.
+    /// `NoMemory` may come in place of any answer.
     pub fn read(alloc: Global, line: &[u8]) -> Result<Request, Refusal>
-        ensures reads { IfOk result (λ r. (line_data line.now ≡ Some (request_data r)) × IsTrue (is_request r)) }
+        ensures reads { IfOk result
+            (λ r. (line_data line.now ≡ Some (request_data r)) × IsTrue (is_request r)) }
         ensures refuses { IfErr result (IsLineRefusedFor (line_data line.now)) }
-        ensures complete { (r : Request) → IsTrue (is_request r) → line_data line.now ≡ Some (request_data r)
+        ensures complete { (r : Request) → IsTrue (is_request r)
+            → line_data line.now ≡ Some (request_data r)
             → UnlessMemory result (Ok r) }
-        ensures due { (cause : Refusal) → cause ≢ NoMemory → IsLineRefusedFor (line_data line.now) cause
+        ensures due { (cause : Refusal) → cause ≢ NoMemory
+            → IsLineRefusedFor (line_data line.now) cause
             → UnlessMemory result (Err cause) }
         ensures answer { UnlessMemory result (request_of line.now) }
     {
@@ -59,8 +68,8 @@ impl Request {
             → request_data r ≡ request_data other → r ≡ other }
     {}
 
-    /// The law that `request_of`, by which a session is defined, is what the written forms say: a line is the request
-    /// that has its JSON, or is refused for the cause that no request has it.
+    /// The law that `request_of`, by which a session is defined, is what the written forms say: a
+    /// line is the request that has its JSON, or is refused for the cause that no request has it.
     pub fn read_as_written()
         ensures reads { (line : List ℕ) (r : Request) → request_of line ≡ Ok r
             → (line_data line ≡ Some (request_data r)) × IsTrue (is_request r) }

@@ -1,5 +1,7 @@
-//! How ids of pending operations are written: in pieces, since there may be many, and without allocating.
-ghost use Rattle.std.specs.Prelude.{◌≡◌, ◌≤◌, ◌++◌, ℕ, List, [], ◌∷◌, length, map, false, is_err, OnOk, OnErr};
+//! How ids of pending operations are written: in pieces, since there may
+//! be many, and without allocating.
+ghost use Rattle.std.specs.Prelude.{◌≡◌, ◌≤◌, ◌++◌, ℕ, List, [], ◌∷◌, length, map, false, is_err};
+ghost use Rattle.std.specs.Prelude.{OnOk, OnErr};
 ghost use Rattle.std.specs.Io.KnownBytes.{Appends};
 ghost use Rattle.serde_json.specs.View.{items_of};
 ghost use Rattle.serde_json.specs.Written.{comma_if, compact_text, items_text};
@@ -126,7 +128,8 @@ fn put<W: Sink>(text: &str, piece: &mut Piece, sink: &mut W) -> Result<(), Devic
 
 // A held operation's id, and the beginning of the array of those that it waits for.
 fn waiting_start(later: bool, id: &Id) -> Line
-    ensures bytes { result.bytes ≡ comma_if later ++ (91 ∷ (compact_text (id_data id.now) ++ 44 ∷ 91 ∷ [])) }
+    ensures bytes { result.bytes ≡ comma_if later
+        ++ (91 ∷ (compact_text (id_data id.now) ++ 44 ∷ 91 ∷ [])) }
     ensures len { length result.bytes ≤ SHORT_LINE }
 {
     let mut line = Line::new();
@@ -142,7 +145,8 @@ fn waiting_start(later: bool, id: &Id) -> Line
 // Writes the piece and empties it, if it has no room for one more short text.
 fn make_room<W: Sink>(piece: &mut Piece, sink: &mut W) -> Result<(), DeviceFault>
     requires { W.has_failed sink.old ≡ false }
-    ensures ok { OnOk result ((written : List ℕ) × Appends (W.contents sink.old) (W.contents sink.new) written
+    ensures ok { OnOk result ((written : List ℕ)
+        × Appends (W.contents sink.old) (W.contents sink.new) written
         × (piece.old.bytes ≡ written ++ piece.new.bytes) × (length piece.new.bytes ≤ 896)) }
     ensures cut { OnErr result (AppendsCut (W.contents sink.old) (W.contents sink.new) piece.old.bytes) }
     ensures failed { W.has_failed sink.new ≡ is_err result }

@@ -41,7 +41,8 @@ pub enum DocRequest {
     Let(Name, CursorExpr),
     /// Deliver an operation of another replica.
     Deliver(Operation),
-    /// The first so many of the logged operations that the front doesn't cover: 1 to 64 in a request that was read.
+    /// The first so many of the logged operations that the front doesn't cover: 1 to
+    /// 64 in a request that was read.
     Operations(Front, u64),
     /// Drop a held operation.
     Forget(Id),

@@ -122,7 +122,8 @@ fn forked(last: u64) -> Line
 
 fn refused(number: u64, name: &str) -> Line
     requires { IsTrue (is_name name.now) }
-    ensures { result.bytes ≡ line_text (worded (codes "no") (count_data number ∷ string name.now ∷ [])) }
+    ensures { result.bytes
+        ≡ line_text (worded (codes "no") (count_data number ∷ string name.now ∷ [])) }
 {
     let mut line = Line::new();
     line.push_str("[\"no\",");

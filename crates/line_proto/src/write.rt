@@ -3,7 +3,8 @@ ghost use Rattle.std.specs.Prelude.{◌≡◌, ◌≢◌, [], ◌∷◌, true, f
 ghost use Rattle.std.specs.Io.KnownBytes.{Appends};
 ghost use Rattle.serde_json.specs.Data.{Data};
 ghost use Rattle.serde_json.specs.Written.{compact_text};
-ghost use Rattle.doc_api.specs.declared.reply.Reply.TheVariants.{Conflicts, Items, Keys, Operations, Show};
+ghost use Rattle.doc_api.specs.declared.reply.Reply.TheVariants.{Conflicts, Items, Keys};
+ghost use Rattle.doc_api.specs.declared.reply.Reply.TheVariants.{Operations, Show};
 ghost use Rattle.line_feed.specs.Cut.{AppendsCut, line_of};
 ghost use Rattle.line_proto.specs.Replies.{reply_text, line_reply_text, reply_line, worded};
 ghost use Rattle.line_proto.specs.Writing.{needs_heap, is_in_pieces, line_needs_heap, is_device};
@@ -42,15 +43,16 @@ impl LineReply {
     /// Writes the reply as a line, with its newline.
     ///
     /// - `Device`: the sink failed. It has taken a proper prefix of the line.
-    /// - `NoMemory`: nothing was written. It can come only for a cursor, values, a sum and a front: their
-    ///   lines are built on the heap before the first byte is written. All others allocate nothing. A text that was
-    ///   read of a document, which may have megabytes, is not copied.
+    /// - `NoMemory`: nothing was written. It can come only for a cursor, values, a sum and a front:
+    ///   their lines are built on the heap before the first byte is written. All others allocate
+    ///   nothing. A text that was read of a document, which may have megabytes, is not copied.
     pub fn write<W: Sink>(&self, alloc: Global, sink: &mut W) -> Result<(), WriteFault>
         requires works { W.has_failed sink.old ≡ false }
         ensures ok { OnOk result (Appends (W.contents sink.old) (W.contents sink.new) (reply_line self.now)) }
         ensures device { result ≡ Err WriteFault.Device
             → AppendsCut (W.contents sink.old) (W.contents sink.new) (reply_line self.now) }
-        ensures memory { result ≡ Err WriteFault.NoMemory → (sink.new ≡ sink.old) × (line_needs_heap self.now ≡ true) }
+        ensures memory { result ≡ Err WriteFault.NoMemory → (sink.new ≡ sink.old)
+            × (line_needs_heap self.now ≡ true) }
         ensures failed { W.has_failed sink.new ≡ is_device result }
     {
         match self {
@@ -59,23 +61,28 @@ impl LineReply {
         }
     }
 
-    /// The law that a shown element is written as JSON: for the compact text of an element, `["show",ELEMENT]`.
+    /// The law that a shown element is written as JSON: for the compact text of
+    /// an element, `["show",ELEMENT]`.
     pub fn shown_as_json()
         ensures { (d : Data) →
-            line_reply_text (Answered (Show (compact_text d))) ≡ compact_text (worded (codes "show") (d ∷ [])) }
+            line_reply_text (Answered (Show (compact_text d)))
+            ≡ compact_text (worded (codes "show") (d ∷ [])) }
     {}
 
-    /// The law that keys, the elements of a list, conflicts and operations are written as JSON: for the compact text
-    /// of their array, an array of the word and that array.
+    /// The law that keys, the elements of a list, conflicts and operations are written as JSON: for
+    /// the compact text of their array, an array of the word and that array.
     pub fn listed_as_json()
         ensures keys { (d : Data) →
-            line_reply_text (Answered (Keys (compact_text d))) ≡ compact_text (worded (codes "keys") (d ∷ [])) }
+            line_reply_text (Answered (Keys (compact_text d)))
+            ≡ compact_text (worded (codes "keys") (d ∷ [])) }
         ensures items { (d : Data) →
-            line_reply_text (Answered (Items (compact_text d))) ≡ compact_text (worded (codes "items") (d ∷ [])) }
+            line_reply_text (Answered (Items (compact_text d)))
+            ≡ compact_text (worded (codes "items") (d ∷ [])) }
         ensures conflicts { (d : Data) → line_reply_text (Answered (Conflicts (compact_text d)))
             ≡ compact_text (worded (codes "conflicts") (d ∷ [])) }
         ensures ops { (d : Data) →
-            line_reply_text (Answered (Operations (compact_text d))) ≡ compact_text (worded (codes "ops") (d ∷ [])) }
+            line_reply_text (Answered (Operations (compact_text d)))
+            ≡ compact_text (worded (codes "ops") (d ∷ [])) }
     {}
 }
 
@@ -99,7 +106,8 @@ fn write_reply<W: Sink>(alloc: Global, reply: &Reply, sink: &mut W) -> Result<()
     ensures ok { OnOk result (Appends (W.contents sink.old) (W.contents sink.new) (line_of (reply_text reply.now))) }
     ensures device { result ≡ Err WriteFault.Device
         → AppendsCut (W.contents sink.old) (W.contents sink.new) (line_of (reply_text reply.now)) }
-    ensures memory { result ≡ Err WriteFault.NoMemory → (sink.new ≡ sink.old) × (needs_heap reply.now ≡ true) }
+    ensures memory { result ≡ Err WriteFault.NoMemory → (sink.new ≡ sink.old)
+        × (needs_heap reply.now ≡ true) }
     ensures failed { W.has_failed sink.new ≡ is_device result }
 {
     match reply {
@@ -121,7 +129,8 @@ fn write_whole<W: Sink>(alloc: Global, reply: &Reply, sink: &mut W) -> Result<()
     ensures ok { OnOk result (Appends (W.contents sink.old) (W.contents sink.new) (line_of (reply_text reply.now))) }
     ensures device { result ≡ Err WriteFault.Device
         → AppendsCut (W.contents sink.old) (W.contents sink.new) (line_of (reply_text reply.now)) }
-    ensures memory { result ≡ Err WriteFault.NoMemory → (sink.new ≡ sink.old) × (needs_heap reply.now ≡ true) }
+    ensures memory { result ≡ Err WriteFault.NoMemory → (sink.new ≡ sink.old)
+        × (needs_heap reply.now ≡ true) }
     ensures failed { W.has_failed sink.new ≡ is_device result }
 {
     match stack_line(reply) {

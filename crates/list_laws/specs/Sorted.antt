@@ -1,6 +1,7 @@
 -- Lists that rise: each key is less than those behind it. Where a key is in one, and what is at the
 -- keys of pairs.
-use Rattle.std.specs.Prelude.{◌≡◌, ◌<◌, ◌≤◌, ℕ, List, [], ◌∷◌, length, take, drop, Contains, slice_index_or, Bool}
+use Rattle.std.specs.Prelude.{◌≡◌, ◌<◌, ◌≤◌, ℕ, List, [], ◌∷◌, length, take, drop, Contains}
+use Rattle.std.specs.Prelude.{slice_index_or, Bool}
 use Rattle.std.specs.Prelude.{Option, Some, None, if◌then◌else◌}
 use Rattle.std.specs.List.{prefix_len}
 use Rattle.std.specs.Ordering.{is_lt}

@@ -1,6 +1,9 @@
--- What is kept of each slot beside its id and link: whether its id is present, and the block that it is in.
-use Rattle.std.specs.Prelude.{◌≡◌, ◌⊎◌, ◌++◌, ◌<◌, ◌≤◌, ◌+◌, ◌-◌, ◌^◌, min, ℕ, suc, List, [], ◌∷◌, map, length, Bool}
-use Rattle.std.specs.Prelude.{false, ◌&&◌, nat_eq, nat_le, Option, Some, None, slice_index_or, slice_set, vec_capacity, if◌then◌else◌}
+-- What is kept of each slot beside its id and link: whether its id is
+-- present, and the block that it is in.
+use Rattle.std.specs.Prelude.{◌≡◌, ◌⊎◌, ◌++◌, ◌<◌, ◌≤◌, ◌+◌, ◌-◌, ◌^◌, min, ℕ, suc, List, [], ◌∷◌}
+use Rattle.std.specs.Prelude.{map, length, Bool}
+use Rattle.std.specs.Prelude.{false, ◌&&◌, nat_eq, nat_le, Option, Some, None, slice_index_or}
+use Rattle.std.specs.Prelude.{slice_set, vec_capacity, if◌then◌else◌}
 use Rattle.std.specs.Ordering.{is_lt}
 use Rattle.doc_api.specs.Words.{Id, id_cmp}
 use Rattle.presence_set.specs.ById.{get}
@@ -54,12 +57,15 @@ IsInBlockOrder low marks [] = Unit {0}
 IsInBlockOrder low marks (n ∷ path) =
     (low ≤ (mark_at marks n).block) × IsInBlockOrder (mark_at marks n).block marks path
 
--- each block has the count of its present slots, and the slot behind it. Slots in no block are at the end
+-- each block has the count of its present slots, and the slot behind it.
+-- Slots in no block are at the end
 pub record IsCounted (marks : List Mark) (blocks : List MarkBlock) (path : List SlotNumber) (at : Option SlotNumber)
     : Type 0 where
   pub rising : IsInBlockOrder 0 marks path
-  pub counted : (k : ℕ) → k < length blocks → (block_at blocks k).present ≡ count_where (is_marked_in k) marks path
-  pub ends : (k : ℕ) → k < length blocks → (block_at blocks k).end ≡ start_of at (from_block (suc k) marks path)
+  pub counted : (k : ℕ) → k < length blocks
+      → (block_at blocks k).present ≡ count_where (is_marked_in k) marks path
+  pub ends : (k : ℕ) → k < length blocks
+      → (block_at blocks k).end ≡ start_of at (from_block (suc k) marks path)
 
 -- the block that a slot is in, or the first
 abbrev pub block_behind : List Mark → Option SlotNumber → ℕ
@@ -110,7 +116,8 @@ lowered_in blocks k counter =
       least_counter = min (block_at blocks k).least_counter counter;
     })
 
--- behind the block of a slot there is this one. The ids of the block and of that slot are greater than the id
+-- behind the block of a slot there is this one. The ids of the block and of
+-- that slot are greater than the id
 pub record SkipsTo (slots : List Slot) (marks : List Mark) (blocks : List MarkBlock)
     (id : Id) (n m : SlotNumber) : Type 0 where
   pub block : (mark_at marks n).block < length blocks
@@ -119,9 +126,11 @@ pub record SkipsTo (slots : List Slot) (marks : List Mark) (blocks : List MarkBl
   pub greater : is_lt (id_cmp (slot_at slots m).id id) ≡ false
 
 -- from a slot that is passed one goes on to the next one, or to the one behind its block
-abbrev pub PassesOn : List Slot → List Mark → List MarkBlock → Id → SlotNumber → Option SlotNumber → Type 0
+abbrev pub PassesOn : List Slot → List Mark → List MarkBlock → Id → SlotNumber → Option SlotNumber
+    → Type 0
 PassesOn slots marks blocks id n next =
-    (next ≡ (slot_at slots n).next) ⊎ ((m : SlotNumber) × (next ≡ Some m) × SkipsTo slots marks blocks id n m)
+    (next ≡ (slot_at slots n).next)
+    ⊎ ((m : SlotNumber) × (next ≡ Some m) × SkipsTo slots marks blocks id n m)
 
 -- the blocks with one count moved
 abbrev pub moved_in : List MarkBlock → ℕ → Bool → Bool → List MarkBlock
@@ -148,7 +157,8 @@ pub record MaySet (marks : List Mark) (blocks : List MarkBlock) (present : ℕ) 
 
 -- the entries of the slots along a path
 abbrev pub entries_along : List Slot → List Mark → List SlotNumber → List (Id × Bool)
-entries_along slots marks path = map (λ n. ((slot_at slots n).id, (mark_at marks n).is_present)) path
+entries_along slots marks path = map
+    (λ n. ((slot_at slots n).id, (mark_at marks n).is_present)) path
 
 -- the ids along a path that are present
 abbrev pub present_along : List Slot → List Mark → List SlotNumber → List Id
@@ -157,7 +167,8 @@ present_along slots marks (n ∷ path) =
     if (mark_at marks n).is_present then (slot_at slots n).id ∷ present_along slots marks path
     else present_along slots marks path
 
--- the marks fit the links: each block has the count of its present ids, and no id of it has a lesser counter than it says
+-- the marks fit the links: each block has the count of its present ids, and no id of it
+-- has a lesser counter than it says
 pub record IsMarked (slots : List Slot) (first : Option SlotNumber)
     (marks : List Mark) (blocks : List MarkBlock) (present : ℕ) : Type 0 where
   pub walk : LinksEnd slots first

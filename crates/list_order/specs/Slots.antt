@@ -1,5 +1,6 @@
 -- Linked slots: what the links lead through, and what an insertion makes of them.
-use Rattle.std.specs.Prelude.{◌≡◌, ◌<◌, ◌+◌, ℕ, Bool, zero, suc, List, [], ◌∷◌, ◌++◌, map, length, Option, Some, None}
+use Rattle.std.specs.Prelude.{◌≡◌, ◌<◌, ◌+◌, ℕ, Bool, zero, suc, List, [], ◌∷◌, ◌++◌, map, length}
+use Rattle.std.specs.Prelude.{Option, Some, None}
 use Rattle.std.specs.Prelude.{option_and_then, slice_index_or, slice_set, if◌then◌else◌}
 use Rattle.std.specs.Option.{ForSome}
 use Rattle.std.specs.Ordering.{is_lt}
@@ -22,14 +23,17 @@ behind slots first None = first
 behind slots first (Some n) = (slot_at slots n).next
 
 -- the slot behind that of an id, or the first. There is none behind an id without a slot
-abbrev pub slot_after : List Slot → Option SlotNumber → List (Id × SlotNumber) → Option Id → Option SlotNumber
+abbrev pub slot_after : List Slot → Option SlotNumber → List (Id × SlotNumber) → Option Id
+    → Option SlotNumber
 slot_after slots first index None = first
-slot_after slots first index (Some id) = option_and_then (λ p. (slot_at slots p).next) (get index id)
+slot_after slots first index (Some id) = option_and_then
+    (λ p. (slot_at slots p).next) (get index id)
 
 -- from a slot on, the links lead through these slots and end
 abbrev pub IsPath : List Slot → Option SlotNumber → List SlotNumber → Type 0
 IsPath slots at [] = at ≡ None
-IsPath slots at (n ∷ path) = (at ≡ Some n) × (n.0 < length slots) × IsPath slots (slot_at slots n).next path
+IsPath slots at (n ∷ path) = (at ≡ Some n) × (n.0 < length slots)
+    × IsPath slots (slot_at slots n).next path
 
 -- the slots that the links lead through, so many at most
 abbrev pub followed : ℕ → List Slot → Option SlotNumber → List SlotNumber
@@ -64,7 +68,8 @@ passed slots id previous (n ∷ path) =
     if is_lt (id_cmp (slot_at slots n).id id) then previous else passed slots id (Some n) path
 
 -- the slot that a new id comes behind
-abbrev pub place_in : List Slot → Option SlotNumber → List (Id × SlotNumber) → Option Id → Id → Option SlotNumber
+abbrev pub place_in : List Slot → Option SlotNumber → List (Id × SlotNumber) → Option Id → Id
+    → Option SlotNumber
 place_in slots first index after id =
     passed slots id (number_for index after) (slots_from slots (behind slots first (number_for index after)))
 
@@ -97,7 +102,8 @@ pub record LinksEnd (slots : List Slot) (at : Option SlotNumber) : Type 0 where
 
 -- the slots from the first one on lead to this one
 abbrev pub LeadsTo : List Slot → Option SlotNumber → Option SlotNumber → Type 0
-LeadsTo slots first at = (front : List SlotNumber) × (slots_from slots first ≡ front ++ slots_from slots at)
+LeadsTo slots first at = (front : List SlotNumber)
+    × (slots_from slots first ≡ front ++ slots_from slots at)
 
 -- a slot that the links lead to, or none for the front. From it they go on to the end
 pub record IsOnPath (slots : List Slot) (first previous : Option SlotNumber) : Type 0 where

@@ -10,9 +10,9 @@ use presence_set::IdBlocks;
 use std::alloc::Global;
 use std::marker::Model;
 
-/// The ids of a list in its order, deleted ones included, each with whether it is present: linked slots, an index from
-/// id to slot in blocks, and the marks of the slots. Clauses see a pair: the entries, and how many of them the reserved
-/// memory can hold.
+/// The ids of a list in its order, deleted ones included, each with whether it is present: linked
+/// slots, an index from id to slot in blocks, and the marks of the slots. Clauses see a pair: the
+/// entries, and how many of them the reserved memory can hold.
 pub struct LinkedOrder {
     pub chain: Chain,
     pub index: IdBlocks<SlotNumber>,

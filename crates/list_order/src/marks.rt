@@ -1,9 +1,11 @@
 //! What is kept of each slot beside its id and link, and the blocks that count the present ids.
-ghost use Rattle.std.specs.Prelude.{◌≡◌, ◌^◌, ◌&&◌, nat_eq, ◌+◌, ◌-◌, ◌<◌, ◌≤◌, ◌++◌, ◌∷◌, [], length, suc, None, Some};
+ghost use Rattle.std.specs.Prelude.{◌≡◌, ◌^◌, ◌&&◌, nat_eq, ◌+◌, ◌-◌, ◌<◌, ◌≤◌, ◌++◌, ◌∷◌, []};
+ghost use Rattle.std.specs.Prelude.{length, suc, None, Some};
 ghost use Rattle.std.specs.Prelude.{slice_get, vec_capacity, IsOk, OnOk};
 ghost use Rattle.std.specs.Option.{ForSome};
 ghost use Rattle.list_order.specs.Slots.{LinksEnd};
-ghost use Rattle.list_order.specs.Marks.{bit, block_at, lowered_in, moved_in, present_from, set_block, set_mark};
+ghost use Rattle.list_order.specs.Marks.{bit, block_at, lowered_in, moved_in, present_from};
+ghost use Rattle.list_order.specs.Marks.{set_block, set_mark};
 ghost use Rattle.list_order.specs.Marks.{new_mark, FitsChain, IsClosed, IsRecut, MaySet};
 ghost use Rattle.list_order.specs.Marks as Spec;
 
@@ -11,10 +13,12 @@ use crate::slots::{Chain, SlotNumber};
 use lamport_id::Id;
 use std::alloc::{AllocError, Global};
 
-// How many slots a block has at most when it is cut: each may be a miss of the cache, and the blocks are in a row.
+// How many slots a block has at most when it is cut: each may be a miss of the
+// cache, and the blocks are in a row.
 const BLOCK_LEN: usize = 48;
 
-// How many absent ids in a row end a block, so that a reading goes from the last present id before them to the next one.
+// How many absent ids in a row end a block, so that a reading goes from the last present
+// id before them to the next one.
 const LEAST_RUN: usize = 32;
 
 // How long a list is that is cut for the first time.
@@ -27,7 +31,8 @@ pub struct Mark {
     pub block: usize,
 }
 
-/// How many ids of a block are present, the slot behind the block, and a counter that none of the block's ids is below.
+/// How many ids of a block are present, the slot behind the block, and a counter that
+/// none of the block's ids is below.
 #[derive(Clone, Copy)]
 pub struct MarkBlock {
     pub present: usize,
@@ -46,7 +51,8 @@ struct NextCuts {
     deletions: usize,
 }
 
-/// The marks of the slots of a chain, cut into blocks along its links. Slots behind the last block are in none.
+/// The marks of the slots of a chain, cut into blocks along its links. Slots
+/// behind the last block are in none.
 #[derive(Drop)]
 pub struct Marks {
     pub by_slot: Vec<Mark>,
@@ -75,15 +81,16 @@ impl Marks {
         }
     }
 
-    /// Makes room for one more mark, and for all blocks of a list of this length, if there is memory. Without it the
-    /// list has fewer blocks, and readings take longer.
+    /// Makes room for one more mark, and for all blocks of a list of this length, if there is
+    /// memory. Without it the list has fewer blocks, and readings take longer.
     pub fn reserve_one(&mut self, len: usize) -> Result<(), AllocError>
         ensures by_slot { self.new.by_slot.items ≡ self.old.by_slot.items }
         ensures blocks { self.new.blocks.items ≡ self.old.blocks.items }
         ensures present { self.new.present ≡ self.old.present }
         ensures grows { vec_capacity self.old.by_slot ≤ vec_capacity self.new.by_slot }
         ensures room { OnOk result (length self.new.by_slot.items < vec_capacity self.new.by_slot) }
-        ensures succeeds { length self.old.by_slot.items < vec_capacity self.old.by_slot → IsOk result }
+        ensures succeeds { length self.old.by_slot.items < vec_capacity self.old.by_slot
+            → IsOk result }
     {
         let wanted = (len / LEAST_RUN).saturating_sub(self.blocks.len());
         let _ = self.blocks.reserve(wanted);
@@ -180,8 +187,10 @@ fn moved(count: usize, was: bool, is: bool) -> usize
 
 // Moves the count of a block, if there is one of that number.
 fn move_count(blocks: &mut Vec<MarkBlock>, k: usize, was: bool, is: bool)
-    requires counted { k < length blocks.old.items → bit was ≤ (block_at blocks.old.items k).present }
-    requires fits { k < length blocks.old.items → Spec.moved (block_at blocks.old.items k).present was is < 2 ^ 64 }
+    requires counted { k < length blocks.old.items
+        → bit was ≤ (block_at blocks.old.items k).present }
+    requires fits { k < length blocks.old.items
+        → Spec.moved (block_at blocks.old.items k).present was is < 2 ^ 64 }
     ensures { blocks.new.items ≡ moved_in blocks.old.items k was is }
 {
     if k < blocks.len() {
@@ -307,8 +316,8 @@ fn cuts_behind(len: usize) -> NextCuts {
     }
 }
 
-// When a list of this length of which so many slots were put into new blocks at its end is cut again. Those don't make
-// other blocks longer.
+// When a list of this length of which so many slots were put into new blocks at its end is cut
+// again. Those don't make other blocks longer.
 fn cuts_behind_tail(next: NextCuts, len: usize, cut: usize) -> NextCuts {
     NextCuts {
         whole: next.whole.saturating_add(cut),
@@ -326,7 +335,8 @@ impl Marks {
         }
     }
 
-    // Whether a block ends in front of a slot: it is long, or it ends in a run of absent ids and a present one comes.
+    // Whether a block ends in front of a slot: it is long, or it ends in a run of
+    // absent ids and a present one comes.
     fn is_whole(&self, rest: Open, at: Option<SlotNumber>) -> bool {
         rest.len >= BLOCK_LEN || (rest.run >= LEAST_RUN && self.is_present_at(at))
     }
@@ -379,8 +389,8 @@ impl Marks {
         self.next_cuts = cuts_behind(chain.slots.len());
     }
 
-    /// Cuts the list into blocks anew, where enough slots are new, and else the slots behind the blocks, where there
-    /// may be many of them.
+    /// Cuts the list into blocks anew, where enough slots are new, and else the slots behind the
+    /// blocks, where there may be many of them.
     pub fn recut_if_due(&mut self, chain: &Chain)
         requires fits { FitsChain chain.now self.old }
         ensures fits { FitsChain chain.now self.new }
@@ -401,8 +411,8 @@ impl Marks {
         }
     }
 
-    /// Cuts the list into blocks anew after a deletion, where there were enough of them since the last time: a block
-    /// ends at a run of absent ids, and a reading passes over it.
+    /// Cuts the list into blocks anew after a deletion, where there were enough of them since the
+    /// last time: a block ends at a run of absent ids, and a reading passes over it.
     pub fn recut_if_stale(&mut self, chain: &Chain, is_present: bool)
         requires fits { FitsChain chain.now self.old }
         ensures fits { FitsChain chain.now self.new }

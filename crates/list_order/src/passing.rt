@@ -16,7 +16,8 @@ use presence_set::IdBlocks;
 // Whether the id of a slot isn't less.
 fn is_passed(chain: &Chain, n: SlotNumber, id: &Id) -> bool
     requires { n.0 < length chain.now.slots.items }
-    ensures { result ≡ true → is_lt (id_cmp (Spec.slot_at chain.now.slots.items n).id id.now) ≡ false }
+    ensures { result ≡ true
+        → is_lt (id_cmp (Spec.slot_at chain.now.slots.items n).id id.now) ≡ false }
 {
     !(chain.slot_at(n).id < *id)
 }
@@ -25,7 +26,8 @@ fn is_passed(chain: &Chain, n: SlotNumber, id: &Id) -> bool
 fn skipped_to(chain: &Chain, marks: &Marks, n: SlotNumber, id: &Id) -> Option<SlotNumber>
     requires within { n.0 < length marks.now.by_slot.items }
     requires ends { (k : ℕ) → k < length marks.now.blocks.items
-        → ForSome (block_at marks.now.blocks.items k).end (λ m. m.0 < length chain.now.slots.items) }
+        → ForSome (block_at marks.now.blocks.items k).end
+        (λ m. m.0 < length chain.now.slots.items) }
     ensures { ForSome result (λ m.
         SkipsTo chain.now.slots.items marks.now.by_slot.items marks.now.blocks.items id.now n m) }
 {
@@ -46,7 +48,8 @@ fn skipped_to(chain: &Chain, marks: &Marks, n: SlotNumber, id: &Id) -> Option<Sl
     }
 }
 
-// The slot to look at behind one that is passed: the next one, or the one behind its block, if all up to it are passed.
+// The slot to look at behind one that is passed: the next one, or the one behind its
+// block, if all up to it are passed.
 fn next_to_pass(chain: &Chain, marks: &Marks, n: SlotNumber, id: &Id) -> Option<SlotNumber>
     requires fits { FitsChain chain.now marks.now }
     requires within { n.0 < length chain.now.slots.items }
@@ -58,8 +61,8 @@ fn next_to_pass(chain: &Chain, marks: &Marks, n: SlotNumber, id: &Id) -> Option<
     }
 }
 
-// The slot that a new id comes behind: from the slot behind its reference on, it passes greater ids. Blocks of which
-// all ids have greater counters are passed at once, but for the last of them.
+// The slot that a new id comes behind: from the slot behind its reference on, it passes greater
+// ids. Blocks of which all ids have greater counters are passed at once, but for the last of them.
 fn last_passed(
     chain: &Chain,
     marks: &Marks,

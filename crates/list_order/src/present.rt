@@ -19,7 +19,8 @@ fn push_if(ids: &mut Vec<Id>, id: &Id, is_present: bool) -> Result<(), AllocErro
     Ok(())
 }
 
-// Adds the first present ids from a slot on, so many at most. It goes no further than to the last of them.
+// Adds the first present ids from a slot on, so many at most. It goes no
+// further than to the last of them.
 fn push_present(
     ids: &mut Vec<Id>,
     chain: &Chain,
@@ -29,7 +30,8 @@ fn push_present(
 ) -> Result<(), AllocError>
     requires walk { LinksEnd chain.now.slots.items start }
     requires marked { length marks.now.by_slot.items ≡ length chain.now.slots.items }
-    ensures { IfOk result (λ _. ids.new.items ≡ ids.old.items ++ take most (present_from chain.now marks.now start)) }
+    ensures { IfOk result
+        (λ _. ids.new.items ≡ ids.old.items ++ take most (present_from chain.now marks.now start)) }
 {
     let mut left = most;
     let mut at = start;
@@ -46,8 +48,8 @@ fn push_present(
     Ok(())
 }
 
-/// The present ids in the order of the links. Of each block it goes no further than to its last present one. Memory is
-/// asked for once.
+/// The present ids in the order of the links. Of each block it goes no further than to its last
+/// present one. Memory is asked for once.
 pub fn present_ids(alloc: Global, chain: &Chain, marks: &Marks) -> Result<Vec<Id>, AllocError>
     requires { FitsChain chain.now marks.now }
     ensures { IfOk result (λ ids. ids.items ≡ present_from chain.now marks.now chain.now.first) }

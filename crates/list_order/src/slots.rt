@@ -1,11 +1,13 @@
 //! Linked slots, and an index from id to slot.
-ghost use Rattle.std.specs.Prelude.{◌≡◌, ◌+◌, ◌<◌, ◌≤◌, [], length, true, None, Some, IfOk, IsOk, OnOk, vec_capacity};
+ghost use Rattle.std.specs.Prelude.{◌≡◌, ◌+◌, ◌<◌, ◌≤◌, [], length, true, None, Some, IfOk, IsOk};
+ghost use Rattle.std.specs.Prelude.{OnOk, vec_capacity};
 ghost use Rattle.std.specs.Option.{ForSome};
 ghost use Rattle.std.specs.Ordering.{is_lt};
 ghost use Rattle.lamport_id.specs.declared.id.Id.{Id};
 ghost use Rattle.lamport_id.specs.Order.{id_cmp};
 ghost use Rattle.presence_set.specs.ById.{get, put_at_id};
-ghost use Rattle.list_order.specs.Slots.{fresh_in, ids_along, linked, linked_first, passed, room_in, slots_from, LinksEnd};
+ghost use Rattle.list_order.specs.Slots.{fresh_in, ids_along, linked, linked_first, passed};
+ghost use Rattle.list_order.specs.Slots.{room_in, slots_from, LinksEnd};
 ghost use Rattle.list_order.specs.Slots as Spec;
 
 use lamport_id::Id;
@@ -64,7 +66,8 @@ impl Chain {
 
     /// The slot behind that of an id, or the first. There is none behind an id without a slot.
     pub fn slot_after(&self, index: &IdBlocks<SlotNumber>, after: Option<Id>) -> Option<SlotNumber>
-        requires { (id : Id) (p : SlotNumber) → get index.now.0 id ≡ Some p → p.0 < length self.now.slots.items }
+        requires { (id : Id) (p : SlotNumber) → get index.now.0 id ≡ Some p
+            → p.0 < length self.now.slots.items }
         ensures { result ≡ Spec.slot_after self.now.slots.items self.now.first index.now.0 after }
     {
         let Some(id) = after else {
@@ -81,7 +84,8 @@ impl Chain {
         requires known { ForSome previous (λ p. p.0 < length self.old.slots.items) }
         requires room { length self.old.slots.items < vec_capacity self.old.slots }
         ensures fresh { result ≡ fresh_in self.old.slots.items }
-        ensures slots { self.new.slots.items ≡ linked self.old.slots.items self.old.first previous id.now }
+        ensures slots { self.new.slots.items
+            ≡ linked self.old.slots.items self.old.first previous id.now }
         ensures first { self.new.first ≡ linked_first self.old.slots.items self.old.first previous }
         ensures capacity { vec_capacity self.new.slots ≡ vec_capacity self.old.slots }
     {

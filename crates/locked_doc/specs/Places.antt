@@ -22,7 +22,8 @@ IsReadWhere f place reads answer =
     × MatchResult c (λ c. reads c answer) (λ e. answer ≡ Refused e))
     ⊎ (answer ≡ Refused NoMemory)
 
--- what is asked of a place is read of these facts and values; of a query for the log itself this says nothing
+-- what is asked of a place is read of these facts and values; of a query for
+-- the log itself this says nothing
 abbrev pub IsReadOf : Facts → Values → Query → Reply → Type 0
 IsReadOf f values (query.Resolve place) answer = IsReadWhere f place (λ c a. a ≡ Resolved c) answer
 IsReadOf f values (query.Look look place) answer = IsReadWhere f place (LooksHere f values look) answer
@@ -31,8 +32,10 @@ IsReadOf f values _ answer = Unit {0}
 -- whatever the causal order in which the operations are taken
 abbrev pub IsReadInEachOrder : List Op → Query → Reply → Type 0
 IsReadInEachOrder log query answer =
-    (order : List Op) → IsCausalOrder log order → IsReadOf (facts (replay order)) (value_put_at order) query answer
+    (order : List Op) → IsCausalOrder log order
+    → IsReadOf (facts (replay order)) (value_put_at order) query answer
 
 -- read from the facts of the set of the operations, with no order at all
 abbrev pub IsReadOfSet : List Op → Query → Reply → Type 0
-IsReadOfSet log query answer = (f : Facts) → AreFactsOf log f → IsReadOf f (value_put_at log) query answer
+IsReadOfSet log query answer = (f : Facts) → AreFactsOf log f
+    → IsReadOf f (value_put_at log) query answer

@@ -1,5 +1,6 @@
 //! A table of counters, and the documents made from it.
-ghost use Rattle.std.specs.Prelude.{◌≡◌, ◌⊎◌, ◌-◌, ◌+◌, ◌≤◌, ℕ, [], length, replicate, IfOk, IfErr, OnOk};
+ghost use Rattle.std.specs.Prelude.{◌≡◌, ◌⊎◌, ◌-◌, ◌+◌, ◌≤◌, ℕ, [], length, replicate, IfOk, IfErr};
+ghost use Rattle.std.specs.Prelude.{OnOk};
 ghost use Rattle.crdt_rules.specs.Log.{IsGood};
 ghost use Rattle.doc_rules.specs.Cause.{IsFirstMisfit};
 ghost use Rattle.doc_rules.specs.Document.{new_document};
@@ -90,8 +91,10 @@ impl<M: Marker> Ledger<M> {
     // The counters of the next document, one for each of so many seats.
     fn counters(&mut self, alloc: Global, seats: u16) -> Result<Ledgers<M>, Refusal>
         requires { 1 ≤ greatest_number - self.old }
-        ensures made { IfOk result (λ l. (l.number ≡ self.old) × (l.seats ≡ seats) × (self.new ≡ self.old + 1)) }
-        ensures memory { IfErr result (λ cause. (cause ≡ Refusal.NoMemory) × (self.new ≡ self.old)) }
+        ensures made { IfOk result
+            (λ l. (l.number ≡ self.old) × (l.seats ≡ seats) × (self.new ≡ self.old + 1)) }
+        ensures memory { IfErr result
+            (λ cause. (cause ≡ Refusal.NoMemory) × (self.new ≡ self.old)) }
     {
         let ledgers = Ledgers::make(alloc, &mut self.table, self.next, seats)?;
         self.next += 1;
@@ -109,7 +112,8 @@ impl<M: Marker> Ledger<M> {
         requires number { 1 ≤ greatest_number - self.old }
         requires begun { (M.origin self.old).log ≡ [] }
         requires named { MayBeNamed (M.origin self.old) name.now }
-        ensures made { IfOk result (λ doc. (doc.number ≡ self.old) × (doc.document ≡ new_document name.now [] seats)) }
+        ensures made { IfOk result
+            (λ doc. (doc.number ≡ self.old) × (doc.document ≡ new_document name.now [] seats)) }
         ensures memory { IfErr result (λ cause. cause ≡ Refusal.NoMemory) }
         ensures next { IfOk result (λ doc. self.new ≡ self.old + 1) }
         ensures room { greatest_number - self.old ≤ (greatest_number - self.new) + 1 }
@@ -146,8 +150,8 @@ impl<M: Marker> Ledger<M> {
     }
 
     /// A document of this log with so many seats, for the replica of this name, which the document
-    /// of the next number may have. The log's operations are what that document begins with, of seat
-    /// 0, and noted as copied. None is checked again. The one error is `NoMemory`.
+    /// of the next number may have. The log's operations are what that document begins with, of
+    /// seat 0, and noted as copied. None is checked again. The one error is `NoMemory`.
     pub fn of_log(
         &mut self,
         alloc: Global,

@@ -42,7 +42,8 @@ impl<M: Marker> LockedDoc<M> {
     fn read_for(&self, seat: &mut Seat<M>, query: Query) -> Answer<M>
         requires { IsSeatOf self.now.number self.now.document seat.old }
         ensures answers { AnswersFor self.now.document seat.old query result seat.new }
-        ensures account { query ≡ Query.Account → result.reply ≡ Reply.Account (length seat.old.told) }
+        ensures account { query ≡ Query.Account
+            → result.reply ≡ Reply.Account (length seat.old.told) }
         ensures told { operation_ids (logged_by seat.old.seat self.now.document) ≡ seat.old.told }
     {
         let number = seat.share.number();

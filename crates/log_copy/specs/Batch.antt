@@ -1,5 +1,6 @@
 -- For private clauses: what an attempt to add a batch does to a connection and to the documents.
-use Rattle.std.specs.Prelude.{◌≡◌, ◌≢◌, ◌⊎◌, ◌+◌, ℕ, Bool, true, false, List, [], ◌++◌, map, Result, Ok}
+use Rattle.std.specs.Prelude.{◌≡◌, ◌≢◌, ◌⊎◌, ◌+◌, ℕ, Bool, true, false, List, [], ◌++◌, map, Result}
+use Rattle.std.specs.Prelude.{Ok}
 use Rattle.std.specs.Prelude.{Err}
 use Rattle.std.specs.List.{AllByRecursion}
 use Rattle.sqlite.specs.Store.{Ghosts}
@@ -32,7 +33,8 @@ module _ {S : Type 0} (g : Ghosts S) (name : List ℕ) (from : ℕ) (ops : List 
     pub good : IsGood (log_of name docs ++ ops)
     pub writable : AllByRecursion (IsWritable 2) ops
     pub added : now ≡ add_log name ops docs
-    pub survives : Survives (state g old) (state g new) (λ db. (was : Content) → IsOpenWith was (state g old)
+    pub survives : Survives (state g old) (state g new)
+        (λ db. (was : Content) → IsOpenWith was (state g old)
         → Holds (with_rows (rows_from name (from + 1) (map op_text ops)) was) db)
     pub commits : Survives (state g old) (state g new)
         (CommitsOneOf g (batch_of (rows_from name (from + 1) (map op_text ops))) old)
@@ -42,7 +44,8 @@ module _ {S : Type 0} (g : Ghosts S) (name : List ℕ) (from : ℕ) (ops : List 
     pub sent : Sends
     pub shows : HasCleanDisk (state g new) → (was : Content) → IsOpenWith was (state g old)
         → IsOpenWith (with_rows (rows_from name (from + 1) (map op_text ops)) was) (state g new)
-    pub ran : HasCleanDisk (state g new) → RanAll g (batch_of (rows_from name (from + 1) (map op_text ops))) old new
+    pub ran : HasCleanDisk (state g new)
+        → RanAll g (batch_of (rows_from name (from + 1) (map op_text ops))) old new
 
   -- The database answered one of them by an error.
   pub record FailsToStore : Type 0 where

@@ -6,7 +6,8 @@ use Rattle.sqlite.specs.Held.{Held, state}
 use Rattle.sqlite.specs.State.{IsUnchanged}
 use Rattle.sqlite.specs.declared.error.Error.{Error}
 use Rattle.stored_rows.specs.Tables.{copy_schema, HasNeither, HasBoth}
-use Rattle.stored_rows.specs.Statements.{Statement, FailsFor, RunsTo, ShowsFor, StopsBy, making_of_tables, select_meta}
+use Rattle.stored_rows.specs.Statements.{Statement, FailsFor, RunsTo, ShowsFor, StopsBy}
+use Rattle.stored_rows.specs.Statements.{making_of_tables, select_meta}
 use Rattle.stored_rows.specs.Statements.{update_format}
 use Rattle.stored_rows.specs.Parsed.{IsMeta}
 
@@ -40,7 +41,8 @@ module _ {S : Type 0} (g : Ghosts S) where
   -- it failed to migrate the format of tables that were read
   pub record FailsToRaise (old new : Held S) : Type 0 where
     pub read : Held S
-    pub unchanged : (state g old).now.schema ≡ copy_schema → IsUnchanged (state g old) (state g read)
+    pub unchanged : (state g old).now.schema ≡ copy_schema
+        → IsUnchanged (state g old) (state g read)
     pub failed : FailsAt (update_format 2) read new
 
   -- where it had neither table, it failed to make them; where it had both, to read them or to

@@ -79,8 +79,8 @@ fn open_file(rt: &HostRuntime, path: &str) -> Result<LogCopy<FileStore<File>>, C
     }
 }
 
-// Opens the file, or creates it for its owner alone. A file whose write-ahead log has pages, or whose
-// rollback journal is there, is not created: these hold what a file that is missing lacks.
+// Opens the file, or creates it for its owner alone. A file whose write-ahead log has pages, or
+// whose rollback journal is there, is not created: these hold what a file that is missing lacks.
 fn open_looked_at(
     rt: &HostRuntime,
     path: &str,

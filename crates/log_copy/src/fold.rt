@@ -22,10 +22,12 @@ pub trait Foldable: Alter {
     /// Rolls back, and copies the log into the database file. What was committed is then in that
     /// file alone.
     fn fold(&mut self) -> Result<(), StoreError>
-        ensures open { OnOk result (IsClean (Self.Store.view self.new) → IsTrue (Self.Store.view self.new).is_open) }
+        ensures open { OnOk result (IsClean (Self.Store.view self.new)
+            → IsTrue (Self.Store.view self.new).is_open) }
         ensures undone { OnOk result (IsClean (Self.Store.view self.new)
             → IsRolledBack (Self.Store.view self.old) (Self.Store.view self.new)) }
-        ensures folded { OnOk result (IsClean (Self.Store.view self.new) → IsTrue (Self.Store.view self.old).is_numbered
+        ensures folded { OnOk result (IsClean (Self.Store.view self.new)
+            → IsTrue (Self.Store.view self.old).is_numbered
             → AreDatabases (Self.Store.recovers self.old)
             → holds_alone self.new (Self.Store.view self.new).committed) }
         // A crash leaves nothing that it did not leave before, whether this is answered or not.
@@ -99,7 +101,8 @@ pub(crate) fn refolded<S: Foldable + Drop>(
     is_alone: bool,
 ) -> Result<Connection<S>, (ErrorCode, S)>
     ensures ok { IfOk result (Reopens S.Store S.Foldable.holds_alone conn) }
-    ensures schema { IfOk result (λ c. is_alone ≡ true → (state S.Store c).now.schema ≡ copy_schema) }
+    ensures schema { IfOk result
+        (λ c. is_alone ≡ true → (state S.Store c).now.schema ≡ copy_schema) }
     ensures err { IfErr result (λ e. KeepsCommit S.Store conn e.1) }
 {
     let store = folded(conn)?;

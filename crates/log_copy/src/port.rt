@@ -23,7 +23,8 @@ pub fn stored_fault_of(code: ErrorCode) -> StoredFault {
 impl<S: Foldable + Drop> StoredLog for LogCopy<S> {
     type Left = S;
 
-    ghost use Rattle.log_copy.specs.Port.{CrashLeaves, HasCommitted, IsInFile, IsInStore, WasInFile};
+    ghost use Rattle.log_copy.specs.Port.{CrashLeaves, HasCommitted, IsInFile, IsInStore};
+    ghost use Rattle.log_copy.specs.Port.{WasInFile};
     ghost use Rattle.log_copy.specs.Port.{copied_log, keeps_such};
 
     ghost log = { copied_log };

@@ -1,4 +1,5 @@
-//! The stored log of a SQLite file, as a type without parameters: `main` picks it in a few steps then.
+//! The stored log of a SQLite file, as a type without parameters:
+//! `main` picks it in a few steps then.
 use crate::{LogCopy, SqliteFile};
 use op_core::Operation;
 use op_log::OpLog;

@@ -156,8 +156,8 @@ fn wrong_entries<S: Alter>(alloc: Global, conn: &mut Connection<S>, format: u32)
     Wrong::Unknown
 }
 
-// What is wrong with this row, if anything. Otherwise its operation is added to its document, which replaces the one of
-// the rows before.
+// What is wrong with this row, if anything. Otherwise its operation is added to its document, which
+// replaces the one of the rows before.
 fn wrong_part(
     doc: &mut StoredDoc,
     alloc: Global,

@@ -1,5 +1,6 @@
 //! Counters in chunks, which fronts share.
-ghost use Rattle.std.specs.Prelude.{◌≡◌, ◌<◌, ℕ, List, [], ◌∷◌, ◌++◌, true, length, map, get_or, Ok, OnOk, IfOk, IfErr, IsTrue};
+ghost use Rattle.std.specs.Prelude.{◌≡◌, ◌<◌, ℕ, List, [], ◌∷◌, ◌++◌, true, length, map, get_or};
+ghost use Rattle.std.specs.Prelude.{Ok, OnOk, IfOk, IfErr, IsTrue};
 ghost use Rattle.std.specs.Arc.{arc_slice_items};
 ghost use Rattle.std.specs.List.{concat};
 ghost use Rattle.json_scalar.specs.Refusal.{UnlessMemory};
@@ -42,8 +43,8 @@ impl Drop for Chunks {
 }
 
 impl Chunks {
-    // The counters of these pairs, in chunks of the others' where those have the same at their place. The only
-    // refusal is `NoMemory`.
+    // The counters of these pairs, in chunks of the others' where those have the same at their
+    // place. The only refusal is `NoMemory`.
     pub fn from_pairs_beside(
         alloc: Global,
         pairs: &[(ReplicaName, u64)],
@@ -85,7 +86,8 @@ impl Chunks {
         })
     }
 
-    // Shares the chunks that are among the others at their place, and that nothing shares yet. Allocates nothing.
+    // Shares the chunks that are among the others at their place, and that nothing
+    // shares yet. Allocates nothing.
     pub fn share(&mut self, others: &[ArcSlice<u64>])
         ensures { self.new ≡ self.old }
     {
@@ -93,14 +95,16 @@ impl Chunks {
     }
 }
 
-// The counters of the pairs in chunks, which are the others' where those have the same at their place.
+// The counters of the pairs in chunks, which are the others' where
+// those have the same at their place.
 fn chunks_of(
     alloc: Global,
     pairs: &[(ReplicaName, u64)],
     others: &[ArcSlice<u64>],
 ) -> Result<Vec<ArcSlice<u64>>, Refusal>
     ensures ok { IfOk result
-        (λ chunks. concat (map arc_slice_items chunks.items) ≡ map (λ (e : List ℕ × ℕ). e.1) pairs.now) }
+        (λ chunks. concat (map arc_slice_items chunks.items)
+        ≡ map (λ (e : List ℕ × ℕ). e.1) pairs.now) }
     ensures full { IfOk result (λ chunks. are_full (map arc_slice_items chunks.items) ≡ true) }
     ensures err { IfErr result (λ e. e ≡ Refusal.NoMemory) }
 {
@@ -137,7 +141,8 @@ fn chunk_beside(
     pairs: &[(ReplicaName, u64)],
     other: Option<&ArcSlice<u64>>,
 ) -> Result<ArcSlice<u64>, Refusal>
-    ensures ok { IfOk result (λ chunk. arc_slice_items chunk ≡ map (λ (e : List ℕ × ℕ). e.1) pairs.now) }
+    ensures ok { IfOk result
+        (λ chunk. arc_slice_items chunk ≡ map (λ (e : List ℕ × ℕ). e.1) pairs.now) }
     ensures err { IfErr result (λ e. e ≡ Refusal.NoMemory) }
 {
     if let Some(chunk) = other
@@ -182,7 +187,8 @@ fn greatest_of_all(chunks: &[ArcSlice<u64>]) -> u64
 
 // A clone of the chunks, which both then share.
 fn cloned(chunks: &Vec<ArcSlice<u64>>) -> Result<Vec<ArcSlice<u64>>, Refusal>
-    ensures ok { IfOk result (λ copy. map arc_slice_items copy.items ≡ map arc_slice_items chunks.now.items) }
+    ensures ok { IfOk result
+        (λ copy. map arc_slice_items copy.items ≡ map arc_slice_items chunks.now.items) }
     ensures err { IfErr result (λ e. e ≡ Refusal.NoMemory) }
 {
     Ok(chunks.clone()?)
@@ -223,7 +229,8 @@ fn put_in_place(chunk: &mut ArcSlice<u64>, other: &ArcSlice<u64>)
 
 // The counters of these pairs.
 pub fn counters_of(alloc: Global, pairs: &[(ReplicaName, u64)]) -> Result<Vec<u64>, Refusal>
-    ensures ok { IfOk result (λ counters. counters.items ≡ map (λ (e : List ℕ × ℕ). e.1) pairs.now) }
+    ensures ok { IfOk result
+        (λ counters. counters.items ≡ map (λ (e : List ℕ × ℕ). e.1) pairs.now) }
     ensures err { IfErr result (λ e. e ≡ Refusal.NoMemory) }
 {
     let mut counters = Vec::with_capacity(alloc, pairs.len())?;

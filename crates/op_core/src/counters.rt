@@ -1,5 +1,6 @@
 //! The counters of fronts.
-ghost use Rattle.std.specs.Prelude.{◌≡◌, ◌<◌, ℕ, List, nat_eq, length, map, get_or, Ok, IfOk, IfErr};
+ghost use Rattle.std.specs.Prelude.{◌≡◌, ◌<◌, ℕ, List, nat_eq, length, map, get_or, Ok, IfOk};
+ghost use Rattle.std.specs.Prelude.{IfErr};
 ghost use Rattle.std.specs.Cmp.Lexicographic.{pointwise};
 ghost use Rattle.json_scalar.specs.Refusal.{UnlessMemory};
 ghost use Rattle.op_core.specs.Front.{greatest};
@@ -41,7 +42,8 @@ impl Model for Counters {
     ghost view = { λ c. kept_counters c.kept };
 }
 
-// One function for all the places where counters are dropped: a derived `drop` is written out at each.
+// One function for all the places where counters are dropped: a derived
+// `drop` is written out at each.
 impl Drop for Counters {
     fn drop(self) {
         let Counters { kept: _ } = self;
@@ -49,7 +51,8 @@ impl Drop for Counters {
 }
 
 impl Counters {
-    // The counters of these pairs, which share the chunks that the others have too. The only refusal is `NoMemory`.
+    // The counters of these pairs, which share the chunks that the others have too.
+    // The only refusal is `NoMemory`.
     pub(crate) fn from_pairs_beside(
         alloc: Global,
         pairs: &[(ReplicaName, u64)],
@@ -131,7 +134,8 @@ fn in_form(
     pairs: &[(ReplicaName, u64)],
     others: &[ArcSlice<u64>],
 ) -> Result<Kept, Refusal>
-    ensures ok { IfOk result (λ kept. kept_counters kept ≡ map (λ (e : List ℕ × ℕ). e.1) pairs.now) }
+    ensures ok { IfOk result
+        (λ kept. kept_counters kept ≡ map (λ (e : List ℕ × ℕ). e.1) pairs.now) }
     ensures err { IfErr result (λ e. e ≡ Refusal.NoMemory) }
 {
     if pairs.len() > CHUNK {
@@ -142,7 +146,8 @@ fn in_form(
 }
 
 fn few(alloc: Global, pairs: &[(ReplicaName, u64)]) -> Result<Kept, Refusal>
-    ensures ok { IfOk result (λ kept. kept_counters kept ≡ map (λ (e : List ℕ × ℕ). e.1) pairs.now) }
+    ensures ok { IfOk result
+        (λ kept. kept_counters kept ≡ map (λ (e : List ℕ × ℕ). e.1) pairs.now) }
     ensures err { IfErr result (λ e. e ≡ Refusal.NoMemory) }
 {
     match pairs {

@@ -24,4 +24,5 @@ inserts_key log p _ = true
 -- the log inserts each element that is a key of a cursor; p is the way so far
 abbrev pub inserts_cursor : List Op → List Tagged → List Tagged → Key → Bool
 inserts_cursor log p [] k = inserts_key log p k
-inserts_cursor log p (t ∷ path) k = inserts_key log p (key_of t) && inserts_cursor log (p ++ t ∷ []) path k
+inserts_cursor log p (t ∷ path) k = inserts_key log p (key_of t)
+    && inserts_cursor log (p ++ t ∷ []) path k

@@ -1,5 +1,7 @@
--- The index of a log: where each operation finds those of its replica before it, and where the last of each replica is.
-use Rattle.std.specs.Prelude.{◌≡◌, ℕ, ◌<◌, ◌≤◌, List, true, false, bytes_eq, length, Some, None, slice_get}
+-- The index of a log: where each operation finds those of its replica before it, and
+-- where the last of each replica is.
+use Rattle.std.specs.Prelude.{◌≡◌, ℕ, ◌<◌, ◌≤◌, List, true, false, bytes_eq, length, Some, None}
+use Rattle.std.specs.Prelude.{slice_get}
 use Rattle.lamport_id.specs.Order.{name_cmp}
 use Rattle.list_laws.specs.Sorted.{KeysRise, get_by}
 use Rattle.op_core.specs.Front.{covers}
@@ -15,7 +17,8 @@ pub record HasOpAt (log : List Op) (name : List ℕ) (k : ℕ) : Type 0 where
   pub there : slice_get log k ≡ Some op
   pub made : op.id.replica ≡ name
 
--- from the operation at position k the link leads to the one of its replica before it, and to another of them
+-- from the operation at position k the link leads to the one of its replica
+-- before it, and to another of them
 pub record IsLink (log : List Op) (name : List ℕ) (k : ℕ) (link : Link) : Type 0 where
   pub before : HasOpAt log name link.before
   pub far : HasOpAt log name link.far
@@ -52,15 +55,18 @@ pub record IsIndexed (log : List Op) (positions : Index) (counters : List (List 
 
 -- ---- what a search finds
 
--- the first operation of the replica from a position on with this counter or a greater one is at position k
+-- the first operation of the replica from a position on with this counter or
+-- a greater one is at position k
 pub record IsFirstFrom (log : List Op) (name : List ℕ) (from counter : ℕ) (k : ℕ) : Type 0 where
   pub here : HasOpAt log name k
   pub reaches : counter ≤ here.op.id.counter
-  pub first : (j : ℕ) (below : HasOpAt log name j) → from ≤ j → j < k → below.op.id.counter < counter
+  pub first : (j : ℕ) (below : HasOpAt log name j) → from ≤ j → j < k
+      → below.op.id.counter < counter
 
 -- the front covers the operations of the replica from one position on and before another
 abbrev pub CoversChain : List (List ℕ × ℕ) → List Op → List ℕ → ℕ → ℕ → Type 0
-CoversChain front log name from n = (k : ℕ) (at : HasOpAt log name k) → from ≤ k → k < n → covers front at.op.id ≡ true
+CoversChain front log name from n = (k : ℕ) (at : HasOpAt log name k) → from ≤ k → k < n
+    → covers front at.op.id ≡ true
 
 -- the front covers the operations of all replicas from one position on and before another
 abbrev pub CoversBetween : List (List ℕ × ℕ) → List Op → ℕ → ℕ → Type 0

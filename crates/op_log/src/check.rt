@@ -1,5 +1,6 @@
 //! Whether an operation fits a log.
-ghost use Rattle.std.specs.Prelude.{◌≡◌, ◌<◌, ◌↔◌, ◌&&◌, [], ◌∷◌, Contains, Some, length, get_or, true, nat_le, IfSome};
+ghost use Rattle.std.specs.Prelude.{◌≡◌, ◌<◌, ◌↔◌, ◌&&◌, [], ◌∷◌, Contains, Some, length, get_or};
+ghost use Rattle.std.specs.Prelude.{true, nat_le, IfSome};
 ghost use Rattle.std.specs.Prelude.{IsOk, IsTrue};
 ghost use Rattle.std.specs.Option.{option_copied};
 ghost use Rattle.std.specs.List.{list_any, list_all};
@@ -9,7 +10,8 @@ ghost use Rattle.op_core.specs.Op.{Op};
 ghost use Rattle.op_core.specs.Shape.{is_shaped, key_of};
 ghost use Rattle.crdt_rules.specs.Facts.{inserts};
 ghost use Rattle.crdt_rules.specs.Log.{IsGood};
-ghost use Rattle.crdt_rules.specs.Fits.{Fits, is_element, knows_cursor, knows_front, last_counter, replicas};
+ghost use Rattle.crdt_rules.specs.Fits.{Fits, is_element, knows_cursor, knows_front, last_counter};
+ghost use Rattle.crdt_rules.specs.Fits.{replicas};
 ghost use Rattle.crdt_rules.specs.Same.{id_eq};
 ghost use Rattle.doc_rules.specs.Cause.{cause_of, misfit_of, room_cause};
 ghost use Rattle.op_log.specs.Elements.{covers_cursor, covers_key, inserts_cursor};
@@ -27,9 +29,9 @@ pub const MAX_OPERATIONS: usize = 100_000;
 pub const MAX_REPLICAS: usize = 256;
 
 impl OpLog {
-    /// The first cause against an operation: bad-front, forked (with the last counter of its replica),
-    /// bad-cursor, log-full, too-many-replicas. It is `Ok` if the operation fits. For an operation that
-    /// is not ready it is bad-front. Allocates nothing.
+    /// The first cause against an operation: bad-front, forked (with the last counter of its
+    /// replica), bad-cursor, log-full, too-many-replicas. It is `Ok` if the operation fits. For an
+    /// operation that is not ready it is bad-front. Allocates nothing.
     pub fn check(&self, op: &Operation) -> Result<(), Refusal>
         ensures cause { result ≡ cause_of op.now self.now.operations }
         ensures fits { IsOk result ↔ Fits op.now self.now.operations }
@@ -49,15 +51,16 @@ impl OpLog {
         self.check(op)
     }
 
-    /// Whether the log takes one more operation of this replica: log-full from 100,000 operations on,
-    /// too-many-replicas for the 257th replica. Allocates nothing.
+    /// Whether the log takes one more operation of this replica: log-full from 100,000 operations
+    /// on, too-many-replicas for the 257th replica. Allocates nothing.
     pub fn check_room(&self, name: ReplicaName) -> Result<(), Refusal>
         ensures { (op : Op) → op.id.replica ≡ name → result ≡ room_cause op self.now.operations }
     {
         self.room_for(self.last_counter(name))
     }
 
-    // Whether the log takes one more operation of a replica whose last counter is this one, if it has one.
+    // Whether the log takes one more operation of a replica whose last
+    // counter is this one, if it has one.
     fn room_for(&self, last: Option<u64>) -> Result<(), Refusal>
         ensures { (op : Op) → last_counter self.now.operations op.id.replica ≡ last
             → result ≡ room_cause op self.now.operations }
@@ -91,7 +94,8 @@ impl OpLog {
         self.room_for(last)
     }
 
-    // Whether the replicas are few enough with the one whose last counter is this one, if it has one.
+    // Whether the replicas are few enough with the one whose last
+    // counter is this one, if it has one.
     fn admits(&self, last: Option<u64>) -> bool
         ensures { (op : Op) → last_counter self.now.operations op.id.replica ≡ last
             → result ≡ nat_le (length (replicas (op ∷ self.now.operations))) most_replicas }
@@ -100,8 +104,8 @@ impl OpLog {
         last.is_some() || count < MAX_REPLICAS
     }
 
-    // The pairs of a logged operation's front are known already: where that front is at most this one,
-    // they need no look.
+    // The pairs of a logged operation's front are known already: where that front is at
+    // most this one, they need no look.
     fn knows_front(&self, front: &Front) -> bool
         requires { is_ascending front.now ≡ true }
         ensures { result ≡ knows_front front.now self.now.operations }
@@ -131,15 +135,16 @@ impl OpLog {
         }
     }
 
-    // Whether the pair at an index is a logged operation, whose own front is at most this one. The pairs
-    // of an operation below are.
+    // Whether the pair at an index is a logged operation, whose own front is at most this one. The
+    // pairs of an operation below are.
     fn knows_pair(&self, front: &Front, below: Option<&Operation>, at: usize) -> bool
         requires ascending { is_ascending front.now ≡ true }
         requires within { at < length front.now }
         requires below { IfSome (option_copied below) (λ op.
             Contains self.now.operations op × (is_le op.front front.now ≡ true)) }
         ensures { result ≡ list_any
-            (λ o. id_eq o.id (id_of (get_or front.now at ([], 0))) && is_le o.front front.now) self.now.operations }
+            (λ o. id_eq o.id (id_of (get_or front.now at ([], 0)))
+            && is_le o.front front.now) self.now.operations }
     {
         if front::has_pair(below, front, at) {
             keeps_good(self);
@@ -151,7 +156,8 @@ impl OpLog {
     // Whether the pair is a logged operation, whose own front is at most this one.
     fn knows_entry(&self, front: &Front, entry: Entry) -> bool
         requires { is_ascending front.now ≡ true }
-        ensures { result ≡ list_any (λ o. id_eq o.id (id_of entry) && is_le o.front front.now) self.now.operations }
+        ensures { result ≡ list_any (λ o. id_eq o.id (id_of entry)
+            && is_le o.front front.now) self.now.operations }
     {
         match self.get(id_of(entry.0, entry.1)) {
             Some(op) => is_front_at_most(op, front),
@@ -161,13 +167,14 @@ impl OpLog {
 
     // Whether the front covers the elements of a cursor, and the log inserts them.
     fn knows_cursor(&self, front: &Front, cursor: &Cursor) -> bool
-        ensures { result ≡ knows_cursor front.now self.now.operations [] cursor.now.path cursor.now.key }
+        ensures { result
+            ≡ knows_cursor front.now self.now.operations [] cursor.now.path cursor.now.key }
     {
         covers_elements(front, cursor) && self.inserts_elements(cursor.path.as_slice(), &cursor.key)
     }
 
-    // Whether the log inserts the elements of a cursor. Only the last one is looked at: its insertion names those
-    // before it.
+    // Whether the log inserts the elements of a cursor. Only the last one is looked at: its
+    // insertion names those before it.
     fn inserts_elements(&self, path: &[Tagged], key: &Key) -> bool
         ensures { result ≡ inserts_cursor self.now.operations [] path.now key.now }
     {

@@ -27,7 +27,8 @@ pub fn first_uncovered(
     front: &Front,
     limit: usize,
 ) -> Result<Vec<Operation>, Refusal>
-    ensures ok { IfOk result (λ found. found.items ≡ take limit (since front.now log.now.operations)) }
+    ensures ok { IfOk result
+        (λ found. found.items ≡ take limit (since front.now log.now.operations)) }
     ensures err { IfErr result (λ e. e ≡ Refusal.NoMemory) }
 {
     let mut found = Vec::with_capacity(alloc, limit.min(log.len()))?;

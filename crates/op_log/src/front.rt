@@ -1,5 +1,7 @@
-//! What a log keeps for each replica, as the counter of its last operation, and the front that these make.
-ghost use Rattle.std.specs.Prelude.{[], Contains, IsTrue, Some, get_or, ◌≡◌, ◌+◌, ◌<◌, ◌≤◌, true, length, vec_len};
+//! What a log keeps for each replica, as the counter of its last operation,
+//! and the front that these make.
+ghost use Rattle.std.specs.Prelude.{[], Contains, IsTrue, Some, get_or, ◌≡◌, ◌+◌, ◌<◌, ◌≤◌, true};
+ghost use Rattle.std.specs.Prelude.{length, vec_len};
 ghost use Rattle.std.specs.Prelude.{bytes_eq};
 ghost use Rattle.std.specs.Prelude.{MatchResult, Ok};
 ghost use Rattle.std.specs.List.{zip};
@@ -42,8 +44,8 @@ pub fn last_of<X: Copy>(pairs: &[(ReplicaName, X)], name: ReplicaName) -> Option
     }
 }
 
-/// Makes the counter or the position the last of the replica, in room that was reserved, and returns the
-/// one that it had, if it had one.
+/// Makes the counter or the position the last of the replica, in room that was reserved, and
+/// returns the one that it had, if it had one.
 pub fn put_last<X: Copy>(pairs: &mut Vec<(ReplicaName, X)>, name: ReplicaName, last: X) -> Option<X>
     requires rising { KeysRise name_cmp pairs.old.items }
     requires room { vec_len pairs.old < vec_capacity pairs.old }
@@ -86,7 +88,8 @@ fn counter_among(names: &[ReplicaName], counters: &Counters, name: ReplicaName) 
     }
 }
 
-/// Whether the other front covers the id of each pair. Both ascend, so they are compared pair by pair.
+/// Whether the other front covers the id of each pair. Both ascend, so
+/// they are compared pair by pair.
 pub fn is_at_most(front: &Front, other: &Front) -> bool
     requires ascending { is_ascending front.now ≡ true }
     requires other_ascending { is_ascending other.now ≡ true }
@@ -135,10 +138,10 @@ pub fn beside_last(alloc: Global, pairs: &[Entry], entries: &[Operation]) -> Res
     }
 }
 
-/// Returns the operation as it was. Where it has no clones, it shares the names of its front with the
-/// operation at a position, the one of its replica before it, or with the last one, where they have the
-/// same, and the keys of its path where they begin the other's. It shares the chunks of counters that
-/// the last one has too.
+/// Returns the operation as it was. Where it has no clones, it shares the names of its front with
+/// the operation at a position, the one of its replica before it, or with the last one, where they
+/// have the same, and the keys of its path where they begin the other's. It shares the chunks of
+/// counters that the last one has too.
 pub fn sharing(op: Operation, entries: &[Operation], at: usize) -> Operation
     ensures { result ≡ op }
 {
@@ -167,7 +170,8 @@ fn alike<'a>(
 pub fn has_pair(op: Option<&Operation>, front: &Front, at: usize) -> bool
     requires { at < length front.now }
     ensures { IsTrue result
-        → (o : Op) × (option_copied op.entry ≡ Some o) × Contains o.front (get_or front.now at ([], 0)) }
+        → (o : Op) × (option_copied op.entry ≡ Some o)
+        × Contains o.front (get_or front.now at ([], 0)) }
 {
     match op {
         Some(op) => has_pair_at(op.front(), at, front.pair_at(at)),

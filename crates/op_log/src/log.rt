@@ -1,5 +1,6 @@
 //! The log.
-ghost use Rattle.std.specs.Prelude.{◌≡◌, ◌+◌, ◌<◌, ◌≤◌, ℕ, List, [], ◌∷◌, ◌++◌, length, get_or, take, drop, map};
+ghost use Rattle.std.specs.Prelude.{◌≡◌, ◌+◌, ◌<◌, ◌≤◌, ℕ, List, [], ◌∷◌, ◌++◌, length, get_or};
+ghost use Rattle.std.specs.Prelude.{take, drop, map};
 ghost use Rattle.std.specs.Prelude.{filter, not, ◌==◌, Contains, OnOk, IfOk, IfErr, IfSome, Ok};
 ghost use Rattle.std.specs.List.{list_all};
 ghost use Rattle.std.specs.Option.{option_copied};
@@ -26,8 +27,8 @@ use op_core::{Front, Operation, id_of};
 use std::alloc::Global;
 use std::marker::Model;
 
-/// A log of operations, which only grows, and each of which fits those before it. A contract sees it as the list of its
-/// operations, and for how many more it has room.
+/// A log of operations, which only grows, and each of which fits those before it. A contract sees
+/// it as the list of its operations, and for how many more it has room.
 #[derive(Debug)]
 pub struct OpLog {
     entries: Vec<Operation>,
@@ -137,9 +138,10 @@ impl OpLog {
         Ok(())
     }
 
-    /// Adds an operation that fits, in room that was reserved. Allocates nothing. Where it has no
-    /// clones, it shares the names of its front, the chunks of counters and the keys of its path with its
-    /// replica's operation before it or with the last one, where they have the same, and frees its own.
+    /// Adds an operation that fits, in room that was reserved. Allocates nothing. Where it
+    /// has no clones, it shares the names of its front, the chunks of counters and the keys
+    /// of its path with its replica's operation before it or with the last one, where they
+    /// have the same, and frees its own.
     pub fn append(&mut self, op: Operation)
         requires fits { Fits op self.old.operations }
         requires room { 1 ≤ self.old.room }
@@ -153,8 +155,9 @@ impl OpLog {
         self.entries.push_reserved(op);
     }
 
-    /// Returns the operation as it was. Where it has no clones, it shares with its replica's last operation
-    /// or with the last of all what `append` shares. So call this before a clone is appended. Allocates nothing.
+    /// Returns the operation as it was. Where it has no clones, it shares with its replica's
+    /// last operation or with the last of all what `append` shares. So call this before a clone
+    /// is appended. Allocates nothing.
     pub fn sharing(&self, op: Operation) -> Operation
         ensures { result ≡ op }
     {
@@ -165,9 +168,9 @@ impl OpLog {
         front::sharing(op, &self.entries, before)
     }
 
-    /// The front of the log (a version vector): each replica with the counter of its last operation.
-    /// It shares its names with that of the last operation where they have the same, and the chunks of
-    /// counters that both have. The only error is out of memory.
+    /// The front of the log (a version vector): each replica with the counter of its last
+    /// operation. It shares its names with that of the last operation where they have the same, and
+    /// the chunks of counters that both have. The only error is out of memory.
     pub fn front(&self) -> Result<Front, Refusal>
         ensures { UnlessMemory result (Ok (front_of self.now.operations)) }
     {
@@ -176,8 +179,8 @@ impl OpLog {
     }
 
     /// The first operations that the front does not cover, at most `limit` of them, in their order.
-    /// Where the front's pairs ascend, those that it covers are passed over by searches. The only error
-    /// is out of memory. The program itself calls `since_text`.
+    /// Where the front's pairs ascend, those that it covers are passed over by searches. The only
+    /// error is out of memory. The program itself calls `since_text`.
     pub fn since(&self, front: &Front, limit: usize) -> Result<Operations, Refusal>
         ensures { UnlessMemory result (Ok (take limit (since front.now self.now.operations))) }
     {
@@ -193,8 +196,8 @@ impl OpLog {
         text_of_uncovered(alloc, self, front, limit)
     }
 
-    // The position of the first operation from a position on that the front does not cover, or the number of operations.
-    // The one right before that position, if there is one, isn't covered.
+    // The position of the first operation from a position on that the front does not cover, or the
+    // number of operations. The one right before that position, if there is one, isn't covered.
     pub(crate) fn next_uncovered(&self, front: &Front, from: usize) -> usize
         requires within { from ≤ length self.now.operations }
         requires before { (k : ℕ) → k + 1 ≡ from → IsUncovered front.now self.now.operations k }
@@ -206,7 +209,8 @@ impl OpLog {
         self.index.next_uncovered(&self.entries, front, from)
     }
 
-    /// The operations after the first `from`, at most `max` of them. The only error is out of memory.
+    /// The operations after the first `from`, at most `max` of them.
+    /// The only error is out of memory.
     pub fn tail(&self, from: usize, max: usize) -> Result<Operations, Refusal>
         ensures { UnlessMemory result (Ok (take max (drop from self.now.operations))) }
     {
@@ -223,8 +227,8 @@ impl OpLog {
         self.logs_front(op.front())
     }
 
-    /// The ids of the front of an operation that are not logged, in the order of the front. The only
-    /// error is out of memory.
+    /// The ids of the front of an operation that are not logged, in the order of the front.
+    /// The only error is out of memory.
     pub fn missing(&self, op: &Operation) -> Result<Ids, Refusal>
         ensures { UnlessMemory result (Ok (missing op.now self.now.operations)) }
     {
@@ -282,7 +286,8 @@ fn id_at(front: &Front, at: usize) -> Id
     id_of(name, counter)
 }
 
-/// Each log is good. It does nothing: its call gives a caller's proof what the type says of the value.
+/// Each log is good. It does nothing: its call gives a caller's proof
+/// what the type says of the value.
 pub fn keeps_good(log: &OpLog)
     ensures { IsGood log.now.operations }
 {

@@ -1,5 +1,6 @@
 -- What a plain context is, as a context of the definitions.
-use Rattle.std.specs.Prelude.{ℕ, List, [], ◌∷◌, Bool, false, ◌&&◌, ◌||◌, not, ℤ, Option, Some, None, if◌then◌else◌, map}
+use Rattle.std.specs.Prelude.{ℕ, List, [], ◌∷◌, Bool, false, ◌&&◌, ◌||◌, not, ℤ, Option, Some, None}
+use Rattle.std.specs.Prelude.{if◌then◌else◌, map}
 use Rattle.std.specs.List.{list_any, prefix_len}
 use Rattle.lamport_id.specs.declared.id.Id.{Id}
 use Rattle.json_scalar.specs.declared.scalar.Scalar.{Scalar}
@@ -8,7 +9,8 @@ use Rattle.op_core.specs.declared.cursor.Tagged.{Tagged}
 use Rattle.op_core.specs.declared.mutation.Mutation.{Mutation}
 use Rattle.op_core.specs.Shape.{key_of}
 use Rattle.crdt_rules.specs.Same.{id_eq, key_eq, tagged_eq}
-use Rattle.crdt_rules.specs.Context.{Context, empty, node, child, register, counter, present, order, clear_all}
+use Rattle.crdt_rules.specs.Context.{Context, empty, node, child, register, counter, present, order}
+use Rattle.crdt_rules.specs.Context.{clear_all}
 use Rattle.crdt_rules.specs.Effect.{is_delete}
 use Rattle.plain_rules.specs.declared.context.PlainContext.{PlainContext}
 use Rattle.plain_rules.specs.declared.context.PlainContext.TheOpen.{PlainContext-F}
@@ -30,10 +32,12 @@ present_in (m ∷ rest) k i = present_in rest k i || (key_eq m.0 k && id_eq m.1 
 -- the first value of an id at a key
 abbrev pub first_value_at : {X : Type 0} → List (Key × Id × X) → Key → Id → Option X
 first_value_at [] k i = None
-first_value_at (e ∷ rest) k i = if key_eq e.0 k && id_eq e.1 i then Some e.2 else first_value_at rest k i
+first_value_at (e ∷ rest) k i = if key_eq e.0 k && id_eq e.1 i then Some e.2
+    else first_value_at rest k i
 
 -- a context, from the lists that are kept of it
-abbrev pub whole : List (Tagged × Context) → List (Key × Id × Scalar) → List (Key × Id × ℤ) → List (Key × Id)
+abbrev pub whole : List (Tagged × Context) → List (Key × Id × Scalar) → List (Key × Id × ℤ)
+    → List (Key × Id)
     → List Id → Context
 whole children scalars numbers marks order =
     node (child_in children) (first_value_at scalars) (first_value_at numbers) (present_in marks) order
@@ -57,7 +61,8 @@ contexts_of = map seen
 abbrev pub clear_child : (Key → Bool) → (Id → Bool) → Tagged × Context → Tagged × Context
 clear_child at deps c = (c.0, if at (key_of c.0) then clear_all deps c.1 else c.1)
 
-abbrev pub clear_each : (Key → Bool) → (Id → Bool) → List (Tagged × Context) → List (Tagged × Context)
+abbrev pub clear_each : (Key → Bool) → (Id → Bool) → List (Tagged × Context)
+    → List (Tagged × Context)
 clear_each at deps = map (clear_child at deps)
 
 -- a context with nothing in it, as one that was made

@@ -1,14 +1,17 @@
 //! Plain contexts.
-ghost use Rattle.std.specs.Prelude.{◌≡◌, filter, not, ◌&&◌, true, false, Bool, Some, ◌∷◌, IfOk, OnOk, IfErr, ◌≤◌};
+ghost use Rattle.std.specs.Prelude.{◌≡◌, filter, not, ◌&&◌, true, false, Bool, Some, ◌∷◌, IfOk};
+ghost use Rattle.std.specs.Prelude.{OnOk, IfErr, ◌≤◌};
 ghost use Rattle.std.specs.Prelude.{length};
 ghost use Rattle.json_scalar.specs.declared.refusal.Refusal.TheVariants.{NoMemory};
 ghost use Rattle.op_core.specs.declared.cursor.Tagged.{Tagged};
 ghost use Rattle.op_core.specs.declared.mutation.Mutation.TheVariants.{Insert};
 ghost use Rattle.crdt_rules.specs.Same.{key_eq, tagged_eq};
 ghost use Rattle.crdt_rules.specs.Effect.{scalar_in};
-ghost use Rattle.crdt_rules.specs.Context.{clear_all, clear_elem, mark, enter, count, put, place_id, mutate, descend};
+ghost use Rattle.crdt_rules.specs.Context.{clear_all, clear_elem, mark, enter, count, put};
+ghost use Rattle.crdt_rules.specs.Context.{place_id, mutate, descend};
 ghost use Rattle.crdt_rules.specs.Context.{step};
-ghost use Rattle.plain_rules.specs.Plain.{is_in, context_of, contexts_of, seen, clear_child, clear_each, child_in};
+ghost use Rattle.plain_rules.specs.Plain.{is_in, context_of, contexts_of, seen, clear_child};
+ghost use Rattle.plain_rules.specs.Plain.{clear_each, child_in};
 ghost use Rattle.plain_rules.specs.Plain.{place_of_child, blank_context, made, passed_key};
 
 use crate::copy::{key_copy, scalar_copy, tagged_copy};
@@ -18,8 +21,9 @@ use lamport_id::Id;
 use op_core::{Key, Mutation, Operation, Tagged};
 use std::alloc::Global;
 
-/// A context: the contexts below it, the ids that make its keys present, the scalars of its registers, the numbers of
-/// its counters, and its list. It has no limits of its own: it is as large as the operations that made it.
+/// A context: the contexts below it, the ids that make its keys present, the scalars of its
+/// registers, the numbers of its counters, and its list. It has no limits of its own: it is as
+/// large as the operations that made it.
 #[derive(Drop)]
 pub struct PlainContext {
     pub(crate) children: Vec<(Tagged, PlainContext)>,
@@ -72,21 +76,25 @@ fn clear_values<T: Drop>(values: &mut Vec<(Key, Id, T)>, dependencies: &[Id])
 }
 
 fn clear_marks_at(marks: &mut Vec<(Key, Id)>, key: &Key, dependencies: &[Id])
-    ensures { marks.new.items ≡ filter (λ m. not (key_eq m.0 key.now && is_in dependencies.now m.1)) marks.old.items }
+    ensures { marks.new.items
+        ≡ filter (λ m. not (key_eq m.0 key.now && is_in dependencies.now m.1)) marks.old.items }
 {
     marks.retain(
         |mark: &(Key, Id)| -> bool
-            ensures { result ≡ not (key_eq mark.now.0 key.entry.now && is_in dependencies.entry.now mark.now.1) }
+            ensures { result ≡ not (key_eq mark.now.0 key.entry.now
+                && is_in dependencies.entry.now mark.now.1) }
         { !(mark.0 == *key && is_in(dependencies, &mark.1)) },
     );
 }
 
 fn clear_values_at<T: Drop>(values: &mut Vec<(Key, Id, T)>, key: &Key, dependencies: &[Id])
-    ensures { values.new.items ≡ filter (λ e. not (key_eq e.0 key.now && is_in dependencies.now e.1)) values.old.items }
+    ensures { values.new.items
+        ≡ filter (λ e. not (key_eq e.0 key.now && is_in dependencies.now e.1)) values.old.items }
 {
     values.retain(
         |entry: &(Key, Id, T)| -> bool
-            ensures { result ≡ not (key_eq entry.now.0 key.entry.now && is_in dependencies.entry.now entry.now.1) }
+            ensures { result ≡ not (key_eq entry.now.0 key.entry.now
+                && is_in dependencies.entry.now entry.now.1) }
         { !(entry.0 == *key && is_in(dependencies, &entry.1)) },
     );
 }
@@ -104,7 +112,8 @@ fn clear_all(context: &mut PlainContext, dependencies: &[Id])
 
 #[cycle(clearing)]
 fn clear_children(children: &mut [(Tagged, PlainContext)], dependencies: &[Id])
-    ensures { contexts_of children.new ≡ clear_each (λ _. true) (is_in dependencies.now) (contexts_of children.old) }
+    ensures { contexts_of children.new
+        ≡ clear_each (λ _. true) (is_in dependencies.now) (contexts_of children.old) }
 {
     for i in 0..children.len() {
         clear_all(&mut children[i].1, dependencies);
@@ -112,7 +121,8 @@ fn clear_children(children: &mut [(Tagged, PlainContext)], dependencies: &[Id])
 }
 
 fn clear_child_at(child: &mut (Tagged, PlainContext), key: &Key, dependencies: &[Id])
-    ensures { seen child.new ≡ clear_child (λ k. key_eq k key.now) (is_in dependencies.now) (seen child.old) }
+    ensures { seen child.new
+        ≡ clear_child (λ k. key_eq k key.now) (is_in dependencies.now) (seen child.old) }
 {
     if child.0.key() == key {
         clear_all(&mut child.1, dependencies);
@@ -130,7 +140,8 @@ fn clear_children_at(children: &mut [(Tagged, PlainContext)], key: &Key, depende
 
 // Takes the ids of a set out at a key, and of the map and the list there.
 fn clear_elem(context: &mut PlainContext, key: &Key, dependencies: &[Id])
-    ensures { context_of context.new ≡ clear_elem (is_in dependencies.now) key.now (context_of context.old) }
+    ensures { context_of context.new
+        ≡ clear_elem (is_in dependencies.now) key.now (context_of context.old) }
 {
     clear_marks_at(&mut context.marks, key, dependencies);
     clear_values_at(&mut context.scalars, key, dependencies);
@@ -140,7 +151,8 @@ fn clear_elem(context: &mut PlainContext, key: &Key, dependencies: &[Id])
 
 // Adds an id to the presence set of a key.
 fn mark(context: &mut PlainContext, key: &Key, id: &Id) -> Result<(), Refusal>
-    ensures done { OnOk result (context_of context.new ≡ mark id.now key.now (context_of context.old)) }
+    ensures done { OnOk result (context_of context.new
+        ≡ mark id.now key.now (context_of context.old)) }
     ensures memory { IfErr result (λ e. e ≡ NoMemory) }
 {
     let entry = (key_copy(key)?, *id);
@@ -166,7 +178,8 @@ fn enter(context: &mut PlainContext, key: &Key, id: &Id, val: &Val) -> Result<()
 
 // Enters a number into the counter of a key.
 fn count(context: &mut PlainContext, key: &Key, id: &Id, number: &i64) -> Result<(), Refusal>
-    ensures done { OnOk result (context_of context.new ≡ count id.now key.now number.now (context_of context.old)) }
+    ensures done { OnOk result (context_of context.new
+        ≡ count id.now key.now number.now (context_of context.old)) }
     ensures memory { IfErr result (λ e. e ≡ NoMemory) }
 {
     let entry = (key_copy(key)?, *id, *number);
@@ -200,7 +213,8 @@ fn take_child(
 ) -> PlainContext
     ensures child { context_of result ≡ made (child_in (contexts_of children.old.items) key.now) }
     ensures others { (t : Tagged) → tagged_eq key.now t ≡ false
-        → child_in (contexts_of children.new.items) t ≡ child_in (contexts_of children.old.items) t }
+        → child_in (contexts_of children.new.items) t
+        ≡ child_in (contexts_of children.old.items) t }
 {
     let at = child_place(children.as_slice(), key);
     if at < children.len() {
@@ -244,7 +258,8 @@ fn put(
 
 // Takes an id into the order of the list.
 fn place(context: &mut PlainContext, after: &Key, id: &Id) -> Result<(), Refusal>
-    ensures done { OnOk result (context_of context.new ≡ place_id id.now after.now (context_of context.old)) }
+    ensures done { OnOk result (context_of context.new
+        ≡ place_id id.now after.now (context_of context.old)) }
     ensures memory { IfErr result (λ e. e ≡ NoMemory) }
 {
     insert_by_rule(&mut context.order, after, id)
@@ -352,8 +367,9 @@ fn follow(
     Ok(())
 }
 
-/// The context after the step of an operation whose dependencies are the ids of a set, by the rules as they are
-/// defined. The step asks nothing of the operation: one that doesn't fit takes its step too.
+/// The context after the step of an operation whose dependencies are the ids of a set, by
+/// the rules as they are defined. The step asks nothing of the operation: one that
+/// doesn't fit takes its step too.
 ///
 /// The only refusal is out of memory (22); the context is dropped then.
 pub fn plain_step(
@@ -362,7 +378,8 @@ pub fn plain_step(
     op: &Operation,
     dependencies: &[Id],
 ) -> Result<PlainContext, Refusal>
-    ensures done { IfOk result (λ new. context_of new ≡ step (context_of context) op.now (is_in dependencies.now)) }
+    ensures done { IfOk result
+        (λ new. context_of new ≡ step (context_of context) op.now (is_in dependencies.now)) }
     ensures memory { IfErr result (λ e. e ≡ NoMemory) }
 {
     let mut changed = context;

@@ -10,9 +10,11 @@ use json_scalar::Refusal;
 use lamport_id::Id;
 use op_core::Key;
 
-/// Inserts an id after an element, or at the head of the list, and behind the greater ids that follow there.
+/// Inserts an id after an element, or at the head of the list, and behind the
+/// greater ids that follow there.
 pub fn insert_by_rule(order: &mut Vec<Id>, after: &Key, id: &Id) -> Result<(), Refusal>
-    ensures done { OnOk result (order.new.items ≡ insert_after id_cmp order.old.items (reference after.now) id.now) }
+    ensures done { OnOk result (order.new.items
+        ≡ insert_after id_cmp order.old.items (reference after.now) id.now) }
     ensures memory { IfErr result (λ e. e ≡ NoMemory) }
 {
     match after {
@@ -31,7 +33,8 @@ fn insert_first(order: &mut Vec<Id>, id: &Id) -> Result<(), Refusal>
 }
 
 fn insert_behind(order: &mut Vec<Id>, previous: &Id, id: &Id) -> Result<(), Refusal>
-    ensures done { OnOk result (order.new.items ≡ place_behind id_cmp order.old.items previous.now id.now) }
+    ensures done { OnOk result (order.new.items
+        ≡ place_behind id_cmp order.old.items previous.now id.now) }
     ensures memory { IfErr result (λ e. e ≡ NoMemory) }
 {
     let from = place_in(order.as_slice(), previous);

@@ -5,7 +5,8 @@ ghost use Rattle.lamport_id.specs.declared.id.Id.{Id};
 ghost use Rattle.crdt_rules.specs.Same.{id_eq, key_eq};
 ghost use Rattle.crdt_rules.specs.Context.{empty, register, counter, present, order};
 ghost use Rattle.crdt_rules.specs.Facts.{context_at};
-ghost use Rattle.plain_rules.specs.Plain.{context_of, contexts_of, child_in, first_value_at, present_in};
+ghost use Rattle.plain_rules.specs.Plain.{context_of, contexts_of, child_in, first_value_at};
+ghost use Rattle.plain_rules.specs.Plain.{present_in};
 
 use crate::context::{PlainContext, child_place};
 use json_scalar::Scalar;
@@ -13,7 +14,8 @@ use lamport_id::Id;
 use op_core::{Key, Tagged};
 
 impl PlainContext {
-    /// Whether the id is one of those that make the key present, in the context at the end of the path.
+    /// Whether the id is one of those that make the key present, in the
+    /// context at the end of the path.
     pub fn has_mark(&self, path: &[Tagged], key: &Key, id: &Id) -> bool
         ensures { result ≡ present (context_at (context_of self.now) path.now) key.now id.now }
     {
@@ -25,7 +27,8 @@ impl PlainContext {
 
     /// Whether the key is present in the context at the end of the path: some id makes it so.
     pub fn is_present(&self, path: &[Tagged], key: &Key) -> bool
-        ensures { IsTrue result ↔ ((i : Id) × (present (context_at (context_of self.now) path.now) key.now i ≡ true)) }
+        ensures { IsTrue result ↔ ((i : Id)
+            × (present (context_at (context_of self.now) path.now) key.now i ≡ true)) }
     {
         match below(self, path) {
             Some(context) => is_key_marked(context.marks.as_slice(), key),
@@ -37,7 +40,8 @@ impl PlainContext {
     pub fn scalar(&self, path: &[Tagged], key: &Key, id: &Id) -> Option<&Scalar>
         ensures { MatchOption result
             (register (context_at (context_of self.now) path.now) key.now id.now ≡ None)
-            (λ scalar. register (context_at (context_of self.now) path.now) key.now id.now ≡ Some scalar.now) }
+            (λ scalar. register (context_at (context_of self.now) path.now) key.now id.now
+            ≡ Some scalar.now) }
     {
         match below(self, path) {
             Some(context) => value_of(context.scalars.as_slice(), key, id),
@@ -49,7 +53,8 @@ impl PlainContext {
     pub fn number(&self, path: &[Tagged], key: &Key, id: &Id) -> Option<&i64>
         ensures { MatchOption result
             (counter (context_at (context_of self.now) path.now) key.now id.now ≡ None)
-            (λ number. counter (context_at (context_of self.now) path.now) key.now id.now ≡ Some number.now) }
+            (λ number. counter (context_at (context_of self.now) path.now) key.now id.now
+            ≡ Some number.now) }
     {
         match below(self, path) {
             Some(context) => value_of(context.numbers.as_slice(), key, id),
@@ -57,7 +62,8 @@ impl PlainContext {
         }
     }
 
-    /// The ids of the list of the context at the end of the path, in its order, deleted ones included.
+    /// The ids of the list of the context at the end of the path, in
+    /// its order, deleted ones included.
     pub fn elements(&self, path: &[Tagged]) -> &[Id]
         ensures { result.now ≡ order (context_at (context_of self.now) path.now) }
     {

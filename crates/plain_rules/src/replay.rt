@@ -14,7 +14,8 @@ use std::alloc::Global;
 
 // The ids of the operations before it that an operation depends on.
 fn dependencies(alloc: Global, op: &Operation, before: &[Operation]) -> Result<Vec<Id>, Refusal>
-    ensures done { IfOk result (λ ids. ids.items ≡ filter (covers op.now.front) (map (λ o. o.id) before.now)) }
+    ensures done { IfOk result
+        (λ ids. ids.items ≡ filter (covers op.now.front) (map (λ o. o.id) before.now)) }
     ensures memory { IfErr result (λ e. e ≡ NoMemory) }
 {
     let mut ids = Vec::new(alloc);
@@ -26,8 +27,9 @@ fn dependencies(alloc: Global, op: &Operation, before: &[Operation]) -> Result<V
     Ok(ids)
 }
 
-/// The context that a list of operations makes, each with its dependencies among those before it. It asks
-/// nothing of the list; for a good one it has the facts of every replay of the same operations.
+/// The context that a list of operations makes, each with its dependencies among those
+/// before it. It asks nothing of the list; for a good one it has the facts of every
+/// replay of the same operations.
 ///
 /// The only refusal is out of memory (22).
 pub fn plain_replay(alloc: Global, ops: &[Operation]) -> Result<PlainContext, Refusal>

@@ -1,5 +1,6 @@
 -- Values by ids, in blocks: the pairs of a block, and how many it has room for.
-use Rattle.std.specs.Prelude.{◌≡◌, ◌<◌, ℕ, suc, List, [], ◌∷◌, ◌++◌, length, take, drop, Bool, true, false, not, Option, Box, option_map, unwrap_or}
+use Rattle.std.specs.Prelude.{◌≡◌, ◌<◌, ℕ, suc, List, [], ◌∷◌, ◌++◌, length, take, drop, Bool, true}
+use Rattle.std.specs.Prelude.{false, not, Option, Box, option_map, unwrap_or}
 use Rattle.std.specs.List.{flat_map, prefix_len}
 use Rattle.std.specs.Ordering.{is_lt}
 use Rattle.doc_api.specs.Words.{Id, id_cmp}
@@ -44,7 +45,8 @@ module _ {X : Type 0} where
   abbrev pub HaveRoomBut : Lack → List (Id × X) × ℕ → List (List (Id × X) × ℕ) → Type 0
   HaveRoomBut InFirst first rest = AllHaveRoom rest
   HaveRoomBut (InRest at) first rest =
-      HasSpareRoom first × (at < length rest) × AllHaveRoom (take at rest) × AllHaveRoom (drop (suc at) rest)
+      HasSpareRoom first × (at < length rest) × AllHaveRoom (take at rest)
+      × AllHaveRoom (drop (suc at) rest)
   HaveRoomBut Anywhere first rest = Unit {0}
 
   -- each block has room where there is room for one more, and otherwise those that don't lack it
@@ -52,8 +54,8 @@ module _ {X : Type 0} where
   HaveRoomFor true lack first rest = HasSpareRoom first × AllHaveRoom rest
   HaveRoomFor false lack first rest = HaveRoomBut lack first rest
 
-  -- the ids rise in the first block and from there on, no other block is empty, and each block has room except where it
-  -- may lack it
+  -- the ids rise in the first block and from there on, no other block is empty, and each block has
+  -- room except where it may lack it
   pub record IsInBlocks (first : List (Id × X) × ℕ) (rest : List (List (Id × X) × ℕ)) (has_room : Bool) (lack : Lack) : Type 0 where
     pub rising : IsAscending (first.0 ++ pairs_in rest)
     pub filled : AreNonEmpty rest

@@ -5,8 +5,8 @@ ghost use Rattle.presence_set.specs.declared.lack.Lack.TheVariants.{Anywhere};
 use crate::lack::Lack;
 use std::alloc::Global;
 
-/// The blocks behind the first, of which none is empty, and which block may lack room, so that making room looks at few
-/// of them.
+/// The blocks behind the first, of which none is empty, and which block may lack room, so that
+/// making room looks at few of them.
 pub struct LaterBlocks<B> {
     pub blocks: Vec<B>,
     pub lack: Lack,

@@ -1,7 +1,9 @@
-//! Values by the ids of operations at a place: the roles in which they make it present, their scalars, their numbers.
+//! Values by the ids of operations at a place: the roles in which they make it
+//! present, their scalars, their numbers.
 #![tactic(auto)]
 
-ghost use Rattle.std.specs.Prelude.{◌≡◌, ◌+◌, ◌<◌, ◌≤◌, ◌↔◌, [], length, take, drop, max, not, true, IsTrue, IfOk, IsOk, MatchOption, None, Some, OnOk, OnErr};
+ghost use Rattle.std.specs.Prelude.{◌≡◌, ◌+◌, ◌<◌, ◌≤◌, ◌↔◌, [], length, take, drop, max, not};
+ghost use Rattle.std.specs.Prelude.{true, IsTrue, IfOk, IsOk, MatchOption, None, Some, OnOk, OnErr};
 ghost use Rattle.std.specs.Ordering.{is_lt};
 ghost use Rattle.op_core.specs.Front.{covers};
 ghost use Rattle.lamport_id.specs.Order.{id_cmp};
@@ -25,8 +27,8 @@ use std::alloc::{AllocError, Global};
 use std::cmp::Ordering;
 use std::marker::Model;
 
-/// At most one value for each id, in id order; one alone takes no memory of its own. Clauses see a pair: the ids with
-/// their values, and how many of them there is room for.
+/// At most one value for each id, in id order; one alone takes no memory of its own. Clauses see a
+/// pair: the ids with their values, and how many of them there is room for.
 pub struct ById<X> {
     entries: SmallVec<(Id, X)>,
     alloc: Global,
@@ -65,7 +67,8 @@ impl<X: Drop> ById<X> {
         }
     }
 
-    /// Makes room for one more id. It never fails where there is room. Out of memory, the entries stay as they are.
+    /// Makes room for one more id. It never fails where there is room. Out of
+    /// memory, the entries stay as they are.
     pub fn reserve_one(&mut self) -> Result<(), AllocError>
         ensures same { self.new.0 ≡ self.old.0 }
         ensures grows { self.old.1 ≤ self.new.1 }
@@ -141,7 +144,8 @@ impl<X: Drop> ById<X> {
 
     /// The value of an id. It is found by bisection.
     pub fn get(&self, id: &Id) -> Option<&X>
-        ensures { MatchOption result (get self.now.0 id.now ≡ None) (λ x. get self.now.0 id.now ≡ Some x.now) }
+        ensures { MatchOption result (get self.now.0 id.now ≡ None)
+            (λ x. get self.now.0 id.now ≡ Some x.now) }
     {
         let entries = self.entries();
         let at = rank_of(entries, id);

@@ -1,6 +1,7 @@
--- What a line asks of a replica: the command or the query that has this JSON, or the first cause against it. The forms
--- are those of a session's requests without the document's name.
-use Rattle.std.specs.Prelude.{ℕ, List, [], ◌∷◌, codes, Option, Some, None, option_map, Result, Ok, Err, ok_or}
+-- What a line asks of a replica: the command or the query that has this JSON, or the first cause
+-- against it. The forms are those of a session's requests without the document's name.
+use Rattle.std.specs.Prelude.{ℕ, List, [], ◌∷◌, codes, Option, Some, None, option_map, Result, Ok}
+use Rattle.std.specs.Prelude.{Err, ok_or}
 use Rattle.std.specs.Prelude.{if◌then◌else◌}
 use Rattle.std.specs.Str.{bytes_eq}
 use Rattle.serde_json.specs.Data.{Data, Items, no_items, item}
@@ -25,7 +26,8 @@ plain_ask verb =
     else some_if (bytes_eq verb (codes "held")) (Read query.Held)
 
 abbrev pub ask_deletion : Data → Result Ask Refusal
-ask_deletion d = and_then (ok_or (place_from d) BadRequest) (λ place. Ok (Act (Change place Delete)))
+ask_deletion d = and_then (ok_or (place_from d) BadRequest)
+    (λ place. Ok (Act (Change place Delete)))
 
 abbrev pub ask_delivery : Data → Result Ask Refusal
 ask_delivery d = and_then (op_from d) (λ op. Ok (Act (Deliver op)))

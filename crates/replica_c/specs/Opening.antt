@@ -31,6 +31,7 @@ OpensNone name text n fault after =
     ⊎ ((why : Unopened) × IsUnopened name text why × (after ≡ None) × (fault ≡ fault_of why) × (n ≡ fault.number))
 
 -- a handle that owns a replica keeps it
-abbrev pub CallsOpen : Option OpenReplica → List ℕ → List ℕ → ℕ → Fault → Option OpenReplica → Type 0
+abbrev pub CallsOpen : Option OpenReplica → List ℕ → List ℕ → ℕ → Fault → Option OpenReplica
+    → Type 0
 CallsOpen None name text n fault after = OpensNone name text n fault after
 CallsOpen (Some o) name text n fault after = (n ≡ number_of BadRequest) × (after ≡ Some o)

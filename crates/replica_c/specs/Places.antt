@@ -1,7 +1,9 @@
--- How places are read from JSON: the place that has this JSON, if there is one. A start may be a cursor in its written
--- form. Its texts may be of any length here: where steps lead from it says why a long one is refused.
+-- How places are read from JSON: the place that has this JSON, if there is one. A start may be
+-- a cursor in its written form. Its texts may be of any length here: where steps lead from it
+-- says why a long one is refused.
 use Rattle.std.specs.Prelude.{ℕ, zero, suc, List, [], ◌∷◌, Option, Some, None, option_map}
-use Rattle.serde_json.specs.Data.{Data, null, boolean, number, string, array, object, Items, no_items, item}
+use Rattle.serde_json.specs.Data.{Data, null, boolean, number, string, array, object, Items}
+use Rattle.serde_json.specs.Data.{no_items, item}
 use Rattle.serde_json.specs.Find.{as_u64, as_str, as_array}
 use Rattle.op_core.specs.Reading.{◌>>=◌, pair_of, id_from, key_of_number, tagged_of}
 use Rattle.op_core.specs.declared.cursor.Cursor.{Cursor}

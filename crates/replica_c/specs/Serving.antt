@@ -1,5 +1,6 @@
 -- What an open replica does at a line, and what it reports then.
-use Rattle.std.specs.Prelude.{◌≡◌, ◌⊎◌, ℕ, Bool, true, false, List, [], ◌∷◌, ◌++◌, Option, Some, None, Result, Ok, Err}
+use Rattle.std.specs.Prelude.{◌≡◌, ◌⊎◌, ℕ, Bool, true, false, List, [], ◌∷◌, ◌++◌, Option, Some}
+use Rattle.std.specs.Prelude.{None, Result, Ok, Err}
 use Rattle.serde_json.specs.Written.{compact_text}
 use Rattle.op_core.specs.Op.{Op}
 use Rattle.op_core.specs.Wire.{wire}
@@ -36,7 +37,8 @@ abbrev pub op_line : Option Op → List ℕ
 op_line None = []
 op_line (Some op) = line_of (compact_text (wire op))
 
--- after a change of one's own that was applied: the line of the operation that is logged under its id
+-- after a change of one's own that was applied: the line of the
+-- operation that is logged under its id
 abbrev pub own_after : Reply → List Op → List ℕ
 own_after (Applied count dropped id) log = op_line (find_id log id)
 own_after _ log = []
@@ -68,4 +70,5 @@ IsTold false due text = Unit {0}
 -- a line is answered: one event, and its text
 abbrev pub TellsLine : Replica → List ℕ → Bool → Replica → List ℕ → Type 0
 TellsLine r line told s text =
-    (reply : Reply) × AnswersAsk r line reply s × IsTold told (told_text (ask_of line) reply s.log) text
+    (reply : Reply) × AnswersAsk r line reply s
+    × IsTold told (told_text (ask_of line) reply s.log) text

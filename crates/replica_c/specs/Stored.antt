@@ -26,8 +26,8 @@ pub record IsUnread (all : List (List ℕ)) (ops : List Op) (cause : Refusal) : 
   pub written : AreWritten read ops
   pub cause_is : op_of_line line ≡ Err cause
 
--- The first line that doesn't fit, by its place: it writes an operation that doesn't fit those before it, or, where
--- those fit, none.
+-- The first line that doesn't fit, by its place: it writes an operation that doesn't fit those
+-- before it, or, where those fit, none.
 abbrev pub IsUnfitAt : List (List ℕ) → ℕ → Refusal → Type 0
 IsUnfitAt all place cause =
     ((ops : List Op) × (read later : List (List ℕ)) × (all ≡ read ++ later) × AreWritten read ops
@@ -41,7 +41,8 @@ IsUnfit all misfit.NoMemory = Unit {0}
 -- the replica of this name whose log the text's lines write, which is good, and which holds nothing
 abbrev pub OpensAs : List ℕ → List ℕ → Replica → Type 0
 OpensAs name text r =
-    (ops : List Op) × AreWritten (lines text) ops × IsGood ops × (r ≡ record { name = name; log = ops; held = [] })
+    (ops : List Op) × AreWritten (lines text) ops × IsGood ops
+    × (r ≡ record { name = name; log = ops; held = [] })
 
 -- why nothing is opened
 abbrev pub IsUnopened : List ℕ → List ℕ → Unopened → Type 0

@@ -1,7 +1,9 @@
-//! A replica for programs in C: the proved replica behind a handle. `include/jcrdt.h` says what a caller owes.
+//! A replica for programs in C: the proved replica behind a handle.
+//! `include/jcrdt.h` says what a caller owes.
 #![tactic(auto)]
 
-ghost use Rattle.std.specs.Prelude.{◌≡◌, ◌⊎◌, ◌++◌, None, Some, Bool, IfOk, IfErr, length, take, drop};
+ghost use Rattle.std.specs.Prelude.{◌≡◌, ◌⊎◌, ◌++◌, None, Some, Bool, IfOk, IfErr, length, take};
+ghost use Rattle.std.specs.Prelude.{drop};
 ghost use Rattle.replica_c.specs.Calls.{CallsAsk, GivesAgain, put_into, told_into, told_length};
 ghost use Rattle.replica_c.specs.Opening.{CallsOpen, OpensNone};
 ghost use Rattle.replica_c.specs.Serving.{TellsLine};
@@ -25,10 +27,11 @@ use replica_core::Misfit;
 use std::alloc::Global;
 use std::mem;
 
-/// Opens a replica of this name in a handle that owns none. Its log is what the lines of `operations` write, one
-/// operation each; no byte for a new replica. 0, or the number of the refusal, with the handle as it was: the first
-/// line that doesn't fit those before it (`fault` says which); 2, `bad-request`, for what is no name, or where the handle
-/// owns a replica already, and then `fault` is as it was; 22, `no-memory`.
+/// Opens a replica of this name in a handle that owns none. Its log is what the lines of
+/// `operations` write, one operation each; no byte for a new replica. 0, or the number of the
+/// refusal, with the handle as it was: the first line that doesn't fit those before it (`fault`
+/// says which); 2, `bad-request`, for what is no name, or where the handle owns a replica already,
+/// and then `fault` is as it was; 22, `no-memory`.
 #[unsafe(no_mangle)]
 pub extern "C" fn jcrdt_open(
     alloc: Global,
@@ -48,9 +51,10 @@ pub extern "C" fn jcrdt_open(
     }
 }
 
-/// Answers one line, and gives the length of the text of the answer: the reply's line as a server writes it, and after
-/// a change of one's own that was applied also the new operation's line. As much of the text as has room is put into
-/// `out`. 0 where the handle owns no replica, or where memory lacked for the text: the line was answered then all the
+/// Answers one line, and gives the length of the text of the answer: the reply's line as a
+/// server writes it, and after a change of one's own that was applied also the new
+/// operation's line. As much of the text as has room is put into `out`. 0 where the handle
+/// owns no replica, or where memory lacked for the text: the line was answered then all the
 /// same, and is not to be asked again.
 #[unsafe(no_mangle)]
 pub extern "C" fn jcrdt_ask(
@@ -72,7 +76,8 @@ pub extern "C" fn jcrdt_ask(
     }
 }
 
-/// Gives the text of the last answer again, as `jcrdt_ask` does: for a caller whose room was too small.
+/// Gives the text of the last answer again, as `jcrdt_ask` does: for a
+/// caller whose room was too small.
 #[unsafe(no_mangle)]
 pub extern "C" fn jcrdt_again(alloc: Global, replica: &mut Handle, out: &mut [u8]) -> usize
     ensures given { GivesAgain replica.old.value out.old result out.new }
@@ -136,8 +141,10 @@ fn opened(alloc: Global, name: &[u8], operations: &[u8]) -> Result<Box<OpenRepli
 }
 
 fn asked(kept: &mut OpenReplica, line: &[u8], out: &mut [u8]) -> usize
-    ensures { (told : Bool) × TellsLine kept.old.replica line.now told kept.new.replica kept.new.text.items
-        × (result ≡ told_length told kept.new.text.items) × (out.new ≡ told_into told kept.new.text.items out.old) }
+    ensures { (told : Bool)
+        × TellsLine kept.old.replica line.now told kept.new.replica kept.new.text.items
+        × (result ≡ told_length told kept.new.text.items)
+        × (out.new ≡ told_into told kept.new.text.items out.old) }
 {
     if kept.ask(line) {
         give(kept.text.as_slice(), out)

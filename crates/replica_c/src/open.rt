@@ -1,5 +1,6 @@
 //! An open replica, and what it replies.
-ghost use Rattle.std.specs.Prelude.{◌≡◌, ◌≢◌, ◌⊎◌, ◌<◌, ◌++◌, ◌∷◌, [], ℕ, List, Some, false, length, MatchResult, IfOk, IfErr, OnOk};
+ghost use Rattle.std.specs.Prelude.{◌≡◌, ◌≢◌, ◌⊎◌, ◌<◌, ◌++◌, ◌∷◌, [], ℕ, List, Some, false};
+ghost use Rattle.std.specs.Prelude.{length, MatchResult, IfOk, IfErr, OnOk};
 ghost use Rattle.line_feed.specs.Lines.{lines};
 ghost use Rattle.line_proto.specs.Replies.{reply_line};
 ghost use Rattle.line_proto.specs.declared.line_reply.LineReply.TheVariants.{Answered};
@@ -53,7 +54,8 @@ pub enum Unopened {
     Unfit(Misfit),
 }
 
-// Appends a reply's line, and returns whether it could. Only the lines of readings take memory of their own.
+// Appends a reply's line, and returns whether it could. Only the lines of
+// readings take memory of their own.
 fn told(alloc: Global, reply: &LineReply, text: Vec<u8>) -> (Vec<u8>, bool)
     ensures { IsTold result.1 (text.items ++ reply_line reply.now) result.0.items }
 {
@@ -87,7 +89,8 @@ fn put_op(words: JsonText, op: &Operation, text: &mut Vec<u8>) -> Result<(), Ref
 // Appends the line of the operation of this id, if there is one.
 fn put_logged(words: JsonText, log: &OpLog, id: Id, text: &mut Vec<u8>) -> Result<(), Refusal>
     requires { words ≡ [] }
-    ensures { OnOk result (text.new.items ≡ text.old.items ++ op_line (find_id log.now.operations id)) }
+    ensures { OnOk result (text.new.items ≡ text.old.items
+        ++ op_line (find_id log.now.operations id)) }
 {
     match log.get(id) {
         Some(op) => put_op(words, op, text),
@@ -140,7 +143,8 @@ impl OpenReplica {
 
     fn act(&mut self, command: Command) -> bool
         ensures { (reply : Reply) × Event self.old.replica command reply self.new.replica
-            × IsTold result (reply_line (Answered reply) ++ own_of (Act command) reply self.new.replica.log)
+            × IsTold result (reply_line (Answered reply)
+            ++ own_of (Act command) reply self.new.replica.log)
             self.new.text.items }
     {
         match command {
@@ -158,8 +162,10 @@ impl OpenReplica {
 
     // Room for the operation's line is made before the change.
     fn change(&mut self, place: Place, mutation: Mutation) -> bool
-        ensures { (reply : Reply) × Event self.old.replica (command.Change place mutation) reply self.new.replica
-            × IsTold result (reply_line (Answered reply) ++ own_after reply self.new.replica.log) self.new.text.items }
+        ensures { (reply : Reply)
+            × Event self.old.replica (command.Change place mutation) reply self.new.replica
+            × IsTold result (reply_line (Answered reply)
+            ++ own_after reply self.new.replica.log) self.new.text.items }
     {
         let Ok(words) = JsonText::with_room(self.alloc, ROOM) else {
             return self.tell(Reply::Refused(Refusal::NoMemory));
@@ -171,7 +177,8 @@ impl OpenReplica {
     fn tell_change(&mut self, reply: Reply, words: JsonText) -> bool
         requires { words ≡ [] }
         ensures replica { self.new.replica ≡ self.old.replica }
-        ensures told { IsTold result (reply_line (Answered reply) ++ own_after reply self.old.replica.log)
+        ensures told { IsTold result (reply_line (Answered reply)
+            ++ own_after reply self.old.replica.log)
             self.new.text.items }
     {
         let applied = applied_id(&reply);
@@ -227,7 +234,8 @@ fn is_memory(cause: &Refusal) -> bool
 
 // Why a text opens nothing, of which these operations are before a line that writes none.
 fn unread(alloc: Global, name: ReplicaName, operations: &[Operation], cause: Refusal) -> Misfit
-    ensures { (all : List (List ℕ)) → (cause ≢ NoMemory → IsUnread all operations.now cause) → IsUnfit all result }
+    ensures { (all : List (List ℕ)) → (cause ≢ NoMemory → IsUnread all operations.now cause)
+        → IsUnfit all result }
 {
     if is_memory(&cause) {
         return Misfit::NoMemory;
@@ -256,7 +264,8 @@ fn checked(alloc: Global, name: ReplicaName, operations: &[Operation]) -> Result
 fn read_all(alloc: Global, text: &[u8], operations: &mut Vec<Operation>) -> Result<(), Refusal>
     requires empty { operations.old.items ≡ [] }
     ensures ok { OnOk result (AreWritten (lines text.now) operations.new.items) }
-    ensures err { IfErr result (λ e. e ≢ Refusal.NoMemory → IsUnread (lines text.now) operations.new.items e) }
+    ensures err { IfErr result
+        (λ e. e ≢ Refusal.NoMemory → IsUnread (lines text.now) operations.new.items e) }
 {
     let mut rest = text;
     while !rest.is_empty() {

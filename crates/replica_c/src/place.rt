@@ -5,7 +5,8 @@ ghost use Rattle.json_scalar.specs.Refusal.{UnlessMemory};
 ghost use Rattle.json_scalar.specs.declared.refusal.Refusal.TheVariants.{BadRequest};
 ghost use Rattle.op_core.specs.Reading.{two_items, pair_of, key_of_number, tagged_of};
 ghost use Rattle.line_proto.specs.Reading.{step_from, steps_from};
-ghost use Rattle.replica_c.specs.Places.{whole_document, start_key, start_tagged, start_path, start_cursor, place_start_number};
+ghost use Rattle.replica_c.specs.Places.{whole_document, start_key, start_tagged, start_path};
+ghost use Rattle.replica_c.specs.Places.{start_cursor, place_start_number};
 ghost use Rattle.replica_c.specs.Places.{place_start, place_items, place_from};
 
 use doc_api::{Place, Step, Steps};
@@ -176,7 +177,8 @@ fn pair(value: &Value) -> Option<(&Value, &Value)>
 
 #[tactic(auto, using(op_core::proofs::Readings::other_lengths))]
 fn two(items: &[Value]) -> Option<(&Value, &Value)>
-    ensures { option_map (λ p. (view p.0.now, view p.1.now)) result ≡ two_items (items_view items.now) }
+    ensures { option_map (λ p. (view p.0.now, view p.1.now)) result
+        ≡ two_items (items_view items.now) }
 {
     if items.len() != 2 {
         return None;

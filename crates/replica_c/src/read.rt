@@ -5,11 +5,14 @@ ghost use Rattle.serde_json.specs.View.{view, items_view};
 ghost use Rattle.json_scalar.specs.Refusal.{UnlessMemory, and_then};
 ghost use Rattle.json_scalar.specs.declared.refusal.Refusal.TheVariants.{BadRequest};
 ghost use Rattle.op_core.specs.Reading.{front_of_json};
-ghost use Rattle.line_proto.specs.Reading.{addition_of, amount_of, in_order, limit_from, limit_of, line_data};
+ghost use Rattle.line_proto.specs.Reading.{addition_of, amount_of, in_order, limit_from, limit_of};
+ghost use Rattle.line_proto.specs.Reading.{line_data};
 ghost use Rattle.line_proto.specs.Reading.{look_of, mutation_of_verb};
 ghost use Rattle.line_proto.specs.Loading.{Loads};
-ghost use Rattle.replica_c.specs.Asking.{plain_ask, ask_look, ask_where, ask_deletion, ask_delivery};
-ghost use Rattle.replica_c.specs.Asking.{ask_forgetting, short_ask, ask_ops, ask_change, long_ask, ask_by};
+ghost use Rattle.replica_c.specs.Asking.{plain_ask, ask_look, ask_where, ask_deletion};
+ghost use Rattle.replica_c.specs.Asking.{ask_delivery};
+ghost use Rattle.replica_c.specs.Asking.{ask_forgetting, short_ask, ask_ops, ask_change, long_ask};
+ghost use Rattle.replica_c.specs.Asking.{ask_by};
 ghost use Rattle.replica_c.specs.Asking.{ask_items, ask_from, ask_of, op_of_line};
 
 use crate::ask::Ask;

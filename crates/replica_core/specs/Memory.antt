@@ -12,7 +12,8 @@ NeedsMemory (replied _) = ⊥
 NeedsMemory (held op) = Unit {0}
 NeedsMemory (logged op) = Unit {0}
 
--- A command may be out of memory only where something grows. The way to a place is made before its change is looked at.
+-- A command may be out of memory only where something grows. The way to a place is made
+-- before its change is looked at.
 abbrev pub MayLack : Replica → Command → Type 0
 MayLack r (Change place m) = Unit {0}
 MayLack r (Deliver op) = NeedsMemory (expected_of_delivery r op)

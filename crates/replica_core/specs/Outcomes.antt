@@ -25,12 +25,15 @@ abbrev pub reply_of_forgotten : Result ⊤ Refusal → Reply
 reply_of_forgotten (Ok _) = reply.Forgotten
 reply_of_forgotten (Err cause) = reply.Refused cause
 
--- the first cause against a change at its cursor: an insertion outside a list, or anything else at a head
+-- the first cause against a change at its cursor: an insertion outside a
+-- list, or anything else at a head
 abbrev pub first_place_cause : Bool → Bool → Result ⊤ Refusal
 first_place_cause true at_head = Err NotInList
 first_place_cause false true = Err AtHead
 first_place_cause false false = Ok tt
 
--- the expected outcome comes about, or, where something grows, memory is exhausted and nothing has changed
+-- the expected outcome comes about, or, where something grows, memory is
+-- exhausted and nothing has changed
 abbrev pub Meets : Replica → Expected → Reply → Replica → Type 0
-Meets r expected reply s = Settles r expected reply s ⊎ (NeedsMemory expected × IsOutOfMemory r reply s)
+Meets r expected reply s = Settles r expected reply s
+    ⊎ (NeedsMemory expected × IsOutOfMemory r reply s)

@@ -9,4 +9,5 @@ use Rattle.doc_rules.specs.Resolve.{Resolves}
 -- unless out of memory, some steps in the document of the log lead there
 abbrev pub IsPlaceOf : List Op → Result Cursor Refusal → Type 0
 IsPlaceOf log c =
-    c ≢ Err NoMemory → (start : Cursor) × (steps : List Step) × Resolves (facts (replay log)) start steps c
+    c ≢ Err NoMemory → (start : Cursor) × (steps : List Step)
+    × Resolves (facts (replay log)) start steps c

@@ -36,7 +36,8 @@ with_removed i b = record { log = b.log; held = filter (λ o. not (id_eq o.id i)
 
 -- ---- what the types keep
 
--- the tree has the facts of the log's replay, each held operation waits for what is not logged, and few are held
+-- the tree has the facts of the log's replay, each held operation waits for what
+-- is not logged, and few are held
 pub record IsBody (tree : TreeValue) (log : List Op) (buffer : Buffer) : Type 0 where
   pub agrees : AgreesWith tree log
   pub current : IsCurrent buffer log

@@ -1,5 +1,6 @@
 //! A replica without its name.
-ghost use Rattle.std.specs.Prelude.{◌≡◌, ◌+◌, ◌<◌, ◌≤◌, [], length, find, OnOk, OnErr, OnSome, IfErr, IfSome};
+ghost use Rattle.std.specs.Prelude.{◌≡◌, ◌+◌, ◌<◌, ◌≤◌, [], length, find, OnOk, OnErr, OnSome};
+ghost use Rattle.std.specs.Prelude.{IfErr, IfSome};
 ghost use Rattle.std.specs.Option.{option_map};
 ghost use Rattle.op_core.specs.Limits.{most_held};
 ghost use Rattle.crdt_rules.specs.Dependencies as deps;
@@ -22,9 +23,9 @@ use op_log::{OpLog, keeps_good};
 use std::alloc::Global;
 use std::marker::Model;
 
-/// What a replica has beside its name. A contract sees its log, and the held operations in the order of
-/// their ids. The tree has the facts of the log's replay, each held operation waits for the ids of its
-/// front that are not logged, and at most 256 are held.
+/// What a replica has beside its name. A contract sees its log, and the held operations in the
+/// order of their ids. The tree has the facts of the log's replay, each held operation waits for
+/// the ids of its front that are not logged, and at most 256 are held.
 pub struct Body {
     tree: Tree,
     log: OpLog,
@@ -84,7 +85,8 @@ impl Body {
 
     /// The least id of the held operations that are ready.
     pub fn next_ready(&self) -> Option<Id>
-        ensures least { result ≡ option_map (λ o. o.id) (find (λ o. is_ready o self.now.log) self.now.held) }
+        ensures least { result
+            ≡ option_map (λ o. o.id) (find (λ o. is_ready o self.now.log) self.now.held) }
         ensures operation { IfSome result (λ id.
             find_id self.now.held id ≡ find (λ o. is_ready o self.now.log) self.now.held) }
     {
@@ -104,8 +106,8 @@ impl Body {
         Ok(())
     }
 
-    /// Holds an operation for which there is room, with the ids that it waits for. The only error is out
-    /// of memory, which changes nothing.
+    /// Holds an operation for which there is room, with the ids that it waits for. The only error
+    /// is out of memory, which changes nothing.
     pub fn hold(&mut self, op: Operation, missing: &Ids) -> Result<(), Refusal>
         requires room { length self.old.held < most_held }
         requires missed { missing.now ≡ deps.missing op self.old.log }

@@ -1,5 +1,6 @@
 //! The delivery of operations that were made elsewhere.
-ghost use Rattle.std.specs.Prelude.{◌≡◌, ◌<◌, ℕ, List, length, nat_le, bytes_eq, None, if◌then◌else◌};
+ghost use Rattle.std.specs.Prelude.{◌≡◌, ◌<◌, ℕ, List, length, nat_le, bytes_eq, None};
+ghost use Rattle.std.specs.Prelude.{if◌then◌else◌};
 ghost use Rattle.op_core.specs.Limits.{most_held};
 ghost use Rattle.std.specs.Option.{option_map};
 ghost use Rattle.op_core.specs.Equality.{operation_eq};
@@ -22,10 +23,10 @@ use op_core::Operation;
 use op_log::OpLog;
 
 impl Body {
-    /// Delivers an operation that was made elsewhere. The answer is that it is known, or the first cause
-    /// against it: id-conflict with one that is logged or held under its id, own-name, held-full, and
-    /// those of `OpLog::check`. Otherwise it is logged and the held ones drained, or it is held. Out of
-    /// memory, it is refused, and nothing changes.
+    /// Delivers an operation that was made elsewhere. The answer is that it is known, or the first
+    /// cause against it: id-conflict with one that is logged or held under its id, own-name,
+    /// held-full, and those of `OpLog::check`. Otherwise it is logged and the held ones drained, or
+    /// it is held. Out of memory, it is refused, and nothing changes.
     pub fn deliver(&mut self, name: ReplicaName, op: Operation) -> Result<Delivered, Refusal>
         ensures { let r = replica_with name self.old in
             Meets r (expected_of_delivery r op) (reply_of_delivered result) (replica_with name self.new) }
@@ -38,7 +39,8 @@ impl Body {
 
     // Whether the logged operation of its id is the operation, if there is one.
     fn is_same_logged(&self, op: &Operation) -> Option<bool>
-        ensures { result ≡ option_map (λ o. operation_eq o op.now) (find_id self.now.log op.now.id) }
+        ensures { result
+            ≡ option_map (λ o. operation_eq o op.now) (find_id self.now.log op.now.id) }
     {
         match self.log().get(op.id()) {
             Some(logged) => Some(*logged == *op),
@@ -59,7 +61,8 @@ impl Body {
 
     // Whether the held operation of its id is the operation, if there is one.
     fn is_same_held(&self, op: &Operation) -> Option<bool>
-        ensures { result ≡ option_map (λ o. operation_eq o op.now) (find_id self.now.held op.now.id) }
+        ensures { result
+            ≡ option_map (λ o. operation_eq o op.now) (find_id self.now.held op.now.id) }
     {
         match self.held().get(op.id()) {
             Some(other) => Some(*other == *op),

@@ -18,11 +18,12 @@ struct Drained {
 }
 
 impl Body {
-    /// Logs an operation that fits, and then the held ones that it releases. The only error is out of
-    /// memory, which changes nothing.
+    /// Logs an operation that fits, and then the held ones that it releases. The only error is out
+    /// of memory, which changes nothing.
     pub fn log_and_drain(&mut self, op: Operation) -> Result<Applied, Refusal>
         requires { Fits op self.old.log }
-        ensures ok { (name : List ℕ) → IfOk result (λ a. (n : ℕ) × (a.count ≡ suc n) × (a.id ≡ op.id)
+        ensures ok { (name : List ℕ)
+            → IfOk result (λ a. (n : ℕ) × (a.count ≡ suc n) × (a.id ≡ op.id)
             × Drains (replica_with name (with_logged op self.old)) n a.dropped (replica_with name self.new)) }
         ensures err { IfErr result (λ e. e ≡ Refusal.NoMemory) }
         ensures same { OnErr result (self.new ≡ self.old) }
@@ -37,8 +38,8 @@ impl Body {
         })
     }
 
-    // Takes the ready operations out of the buffer, the least id first, until none is ready. Each is
-    // logged if it fits and there is memory, and dropped otherwise.
+    // Takes the ready operations out of the buffer, the least id first, until none is ready. Each
+    // is logged if it fits and there is memory, and dropped otherwise.
     fn drain(&mut self) -> Drained
         ensures drained { (name : List ℕ)
             → Drains (replica_with name self.old) result.logged result.dropped (replica_with name self.new) }
@@ -63,7 +64,8 @@ impl Body {
 
     // Logs an operation if it fits and there is memory, and returns whether it did.
     fn release(&mut self, op: Operation) -> bool
-        ensures { MatchBool result (Fits op self.old.log × (self.new ≡ with_logged op self.old)) (self.new ≡ self.old) }
+        ensures { MatchBool result (Fits op self.old.log
+            × (self.new ≡ with_logged op self.old)) (self.new ≡ self.old) }
     {
         match self.log().check(&op) {
             Ok(()) => self.append(op).is_ok(),

@@ -8,8 +8,8 @@ use json_scalar::Refusal;
 use op_core::Operation;
 use op_log::{OpLog, keeps_good};
 
-/// Logs an operation that fits, and applies it to the tree of the log. The only error is out of memory,
-/// which leaves the log as it was, and the facts of the tree.
+/// Logs an operation that fits, and applies it to the tree of the log. The only error is out of
+/// memory, which leaves the log as it was, and the facts of the tree.
 pub fn log_op(tree: &mut Tree, log: &mut OpLog, op: Operation) -> Result<(), Refusal>
     requires fits { Fits op log.old.operations }
     requires agrees { AgreesWith tree.old log.old.operations }

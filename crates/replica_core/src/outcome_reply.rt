@@ -1,6 +1,7 @@
 //! Replies made of answers.
 ghost use Rattle.std.specs.Prelude.{◌≡◌};
-ghost use Rattle.replica_core.specs.Outcomes.{reply_of_applied, reply_of_delivered, reply_of_forgotten};
+ghost use Rattle.replica_core.specs.Outcomes.{reply_of_applied, reply_of_delivered};
+ghost use Rattle.replica_core.specs.Outcomes.{reply_of_forgotten};
 
 use crate::outcome::{Applied, Delivered};
 use doc_api::Reply;

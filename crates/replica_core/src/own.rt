@@ -24,8 +24,8 @@ use op_log::{OpLog, keeps_good};
 use std::alloc::Global;
 
 impl Body {
-    /// Makes a change where the steps of its place led. The error is why they led nowhere, or the first
-    /// cause against the change.
+    /// Makes a change where the steps of its place led. The error is why they led nowhere, or the
+    /// first cause against the change.
     pub fn change(
         &mut self,
         alloc: Global,
@@ -55,7 +55,8 @@ impl Body {
         mutation: &Mutation,
     ) -> Result<(), Refusal>
         ensures { let r = replica_with name.now self.now in
-            expected_of_change r cursor.now mutation.now ≡ expected_by_cause result (own_op r cursor.now mutation.now) }
+            expected_of_change r cursor.now mutation.now
+            ≡ expected_by_cause result (own_op r cursor.now mutation.now) }
     {
         match place_cause(cursor, mutation) {
             Ok(()) => self.log().check_room(*name),

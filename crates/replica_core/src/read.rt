@@ -15,10 +15,12 @@ use op_core::{Cursor, Front};
 use std::alloc::Global;
 
 impl Body {
-    /// A replica's answer to a query. `mine` is the answer to a query of the account. Any other query may
-    /// be refused with out of memory, and a reading of a place with the cause against the place.
+    /// A replica's answer to a query. `mine` is the answer to a query of the account.
+    /// Any other query may be refused with out of memory, and a reading of a place
+    /// with the cause against the place.
     pub fn read(&self, alloc: Global, mine: u64, query: Query) -> Reply
-        ensures answer { (name : List ℕ) → MayAnswer (replica_with name self.now) mine query result }
+        ensures answer { (name : List ℕ)
+            → MayAnswer (replica_with name self.now) mine query result }
         ensures account { query ≡ Query.Account → result ≡ Reply.Account mine }
     {
         match query {
@@ -69,7 +71,8 @@ impl Body {
 
     // The front of the log.
     fn whole_front(&self) -> Reply
-        ensures { (name : List ℕ) (mine : ℕ) → MayAnswer (replica_with name self.now) mine query.Front result }
+        ensures { (name : List ℕ) (mine : ℕ)
+            → MayAnswer (replica_with name self.now) mine query.Front result }
     {
         match self.log().front() {
             Ok(front) => Reply::Front(front),
@@ -79,7 +82,8 @@ impl Body {
 
     // The held operations, and what each waits for.
     fn waiting(&self) -> Reply
-        ensures { (name : List ℕ) (mine : ℕ) → MayAnswer (replica_with name self.now) mine query.Held result }
+        ensures { (name : List ℕ) (mine : ℕ)
+            → MayAnswer (replica_with name self.now) mine query.Held result }
     {
         match self.held().waiting(self.log()) {
             Ok(waiting) => Reply::Waiting(waiting),

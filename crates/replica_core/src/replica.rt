@@ -9,7 +9,8 @@ ghost use Rattle.doc_api.specs.declared.ask.Command.TheVariants as command;
 ghost use Rattle.replica_core.specs.Memory.{MayLack};
 ghost use Rattle.replica_core.specs.Misfits.{IsMisfitOf};
 ghost use Rattle.replica_core.specs.AgreesWith.{AgreesWith};
-ghost use Rattle.replica_core.specs.Outcomes.{reply_of_applied, reply_of_delivered, reply_of_forgotten};
+ghost use Rattle.replica_core.specs.Outcomes.{reply_of_applied, reply_of_delivered};
+ghost use Rattle.replica_core.specs.Outcomes.{reply_of_forgotten};
 ghost use Rattle.replica_core.specs.Whole.{replica_of};
 
 use crate::body::Body;
@@ -27,9 +28,9 @@ use op_log::{OpLog, keeps_good};
 use std::alloc::Global;
 use std::marker::Model;
 
-/// A replica of a document. A contract sees its name, its log, and the held operations in the order of
-/// their ids. The log is good (valid), its tree has the facts of its replay, and each held operation is
-/// foreign and waits for one that is not logged.
+/// A replica of a document. A contract sees its name, its log, and the held operations in the order
+/// of their ids. The log is good (valid), its tree has the facts of its replay, and each held
+/// operation is foreign and waits for one that is not logged.
 pub struct Replica {
     name: ReplicaName,
     alloc: Global,
@@ -48,8 +49,8 @@ impl Model for Replica {
 }
 
 impl Replica {
-    /// The replica of this name whose log is empty. It keeps the allocator. The only error is out of
-    /// memory.
+    /// The replica of this name whose log is empty. It keeps the allocator.
+    /// The only error is out of memory.
     pub fn new(alloc: Global, name: ReplicaName) -> Result<Replica, Refusal>
         ensures ok { IfOk result (λ r. r ≡ replica_of name [] []) }
         ensures err { IfErr result (λ e. e ≡ Refusal.NoMemory) }
@@ -65,9 +66,9 @@ impl Replica {
         }
     }
 
-    /// The replica of this name whose log is these operations, and which holds none. It keeps the
-    /// allocator. Where they are no good log, the error is the first that does not fit those before it,
-    /// and the cause.
+    /// The replica of this name whose log is these operations, and which holds none. It keeps
+    /// the allocator. Where they are no good log, the error is the first that does not fit
+    /// those before it, and the cause.
     pub fn restore(
         alloc: Global,
         name: ReplicaName,
@@ -126,10 +127,10 @@ impl Replica {
         self.body.tree()
     }
 
-    /// Makes a change of one's own at a place, as the next operation of this replica, and then logs what
-    /// that releases. The errors are the first cause against the place (as `resolve` returns it),
-    /// not-in-list for an insertion outside a list, at-head for anything else at a head, log-full,
-    /// too-many-replicas, and out of memory. An error leaves all as it was.
+    /// Makes a change of one's own at a place, as the next operation of this replica, and then logs
+    /// what that releases. The errors are the first cause against the place (as `resolve` returns
+    /// it), not-in-list for an insertion outside a list, at-head for anything else at a head,
+    /// log-full, too-many-replicas, and out of memory. An error leaves all as it was.
     pub fn local(&mut self, place: Place, mutation: Mutation) -> Result<Applied, Refusal>
         ensures { Event self.old (command.Change place mutation) (reply_of_applied result) self.new }
     {
@@ -139,11 +140,11 @@ impl Replica {
         self.body.change(self.alloc, self.name, resolved, mutation)
     }
 
-    /// Delivers an operation that was made elsewhere. The answer is that it is known, or the first cause
-    /// against it: id-conflict with one that is logged or held under its id, own-name, held-full, and
-    /// those of `OpLog::check`. Otherwise it is logged and the held ones drained, or it is held. Out of
-    /// memory is the error only where it would be logged or held, or is held already and the ids it waits
-    /// for are to be listed. An error leaves all as it was.
+    /// Delivers an operation that was made elsewhere. The answer is that it is known, or the first
+    /// cause against it: id-conflict with one that is logged or held under its id, own-name,
+    /// held-full, and those of `OpLog::check`. Otherwise it is logged and the held ones drained, or
+    /// it is held. Out of memory is the error only where it would be logged or held, or is held
+    /// already and the ids it waits for are to be listed. An error leaves all as it was.
     pub fn deliver(&mut self, op: Operation) -> Result<Delivered, Refusal>
         ensures event { Event self.old (command.Deliver op) (reply_of_delivered result) self.new }
         ensures memory { result ≡ Err NoMemory → MayLack self.old (command.Deliver op) }
@@ -152,8 +153,8 @@ impl Replica {
         self.body.deliver(self.name, op)
     }
 
-    /// Drops a held operation. The only error is not-held, where none is held under the id, which changes
-    /// nothing. Allocates nothing.
+    /// Drops a held operation. The only error is not-held, where none is held under the id, which
+    /// changes nothing. Allocates nothing.
     pub fn forget(&mut self, id: Id) -> Result<(), Refusal>
         ensures { Does self.old (command.Forget id) (reply_of_forgotten result) self.new }
     {
@@ -167,9 +168,9 @@ impl Replica {
         }
     }
 
-    /// Answers a query, and changes nothing. `mine` is the answer to a query of the account. A reading of a
-    /// place is refused with the first cause against its steps, or as at-head; and any query but that of
-    /// the account may be refused with out of memory.
+    /// Answers a query, and changes nothing. `mine` is the answer to a query of the account. A
+    /// reading of a place is refused with the first cause against its steps, or as at-head; and any
+    /// query but that of the account may be refused with out of memory.
     pub fn read(&self, mine: u64, query: Query) -> Reply
         ensures answer { MayAnswer self.now mine query result }
         ensures account { query ≡ Query.Account → result ≡ Reply.Account mine }
@@ -177,8 +178,8 @@ impl Replica {
         self.body.read(self.alloc, mine, query)
     }
 
-    /// Runs a command, and returns the answer of `local`, `deliver` or `forget` as a reply. A delivery is
-    /// refused with out of memory only where something grows, and a `forget` never.
+    /// Runs a command, and returns the answer of `local`, `deliver` or `forget` as a reply. A
+    /// delivery is refused with out of memory only where something grows, and a `forget` never.
     pub fn act(&mut self, command: Command) -> Reply
         ensures event { Event self.old command result self.new }
         ensures memory { result ≡ Reply.Refused NoMemory → MayLack self.old command }

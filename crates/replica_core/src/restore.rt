@@ -1,5 +1,6 @@
 //! Logs made of lists of operations, and the trees of logs.
-ghost use Rattle.std.specs.Prelude.{◌≡◌, ◌+◌, ◌<◌, [], ◌∷◌, ◌++◌, length, take, None, Err, OnOk, IfOk, IfErr, IfSome};
+ghost use Rattle.std.specs.Prelude.{◌≡◌, ◌+◌, ◌<◌, [], ◌∷◌, ◌++◌, length, take, None, Err, OnOk};
+ghost use Rattle.std.specs.Prelude.{IfOk, IfErr, IfSome};
 ghost use Rattle.crdt_rules.specs.Fits.{Fits};
 ghost use Rattle.crdt_rules.specs.Log.{IsGood};
 ghost use Rattle.doc_rules.specs.Cause.{misfit_of};
@@ -16,8 +17,8 @@ use std::alloc::Global;
 /// Why a list of operations makes no log.
 #[derive(Debug, Drop)]
 pub enum Misfit {
-    /// The first operation that does not fit those before it: its place, from 0 on, and the cause, which
-    /// is id-conflict where an operation before it has its id.
+    /// The first operation that does not fit those before it: its place, from 0 on, and the cause,
+    /// which is id-conflict where an operation before it has its id.
     At { place: usize, cause: Refusal },
     /// Out of memory.
     NoMemory,
@@ -43,8 +44,8 @@ pub fn logged(alloc: Global, operations: &[Operation]) -> Result<(Tree, OpLog), 
     }
 }
 
-// Logs these operations, one after another, in an empty log and its tree. The error is the first that
-// does not fit; what was logged by then stays.
+// Logs these operations, one after another, in an empty log and its tree. The error is the first
+// that does not fit; what was logged by then stays.
 fn log_all(tree: &mut Tree, log: &mut OpLog, operations: &[Operation]) -> Result<(), Misfit>
     requires empty { log.old.operations ≡ [] }
     requires agrees { AgreesWith tree.old log.old.operations }
@@ -68,7 +69,8 @@ fn log_next(tree: &mut Tree, log: &mut OpLog, op: &Operation) -> Result<(), Opti
     requires agrees { AgreesWith tree.old log.old.operations }
     ensures good { IsGood log.old.operations }
     ensures ok { OnOk result (log.new.operations ≡ log.old.operations ++ op.now ∷ []) }
-    ensures err { IfErr result (λ e. IfSome e (λ cause. misfit_of op.now log.old.operations ≡ Err cause)) }
+    ensures err { IfErr result
+        (λ e. IfSome e (λ cause. misfit_of op.now log.old.operations ≡ Err cause)) }
     ensures agrees { AgreesWith tree.new log.new.operations }
 {
     keeps_good(log);
@@ -95,8 +97,8 @@ fn log_clone(tree: &mut Tree, log: &mut OpLog, op: &Operation) -> Result<(), Opt
     }
 }
 
-/// The tree of a log. The log's operations are applied one after another, and none is checked. The only
-/// error is out of memory.
+/// The tree of a log. The log's operations are applied one after another, and none is checked.
+/// The only error is out of memory.
 pub fn tree_of(alloc: Global, log: &OpLog) -> Result<Tree, Refusal>
     ensures ok { IfOk result (λ tree. AgreesWith tree log.now.operations) }
     ensures err { IfErr result (λ e. e ≡ Refusal.NoMemory) }

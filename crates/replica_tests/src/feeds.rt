@@ -1,5 +1,6 @@
-//! Tests of lines from a source in pieces, of devices that fail, and of what an outbox flushes. The helpers are generic
-//! over the device and ensure nothing, so that the proof of a test carries none of a device's clauses.
+//! Tests of lines from a source in pieces, of devices that fail, and of what an outbox flushes.
+//! The helpers are generic over the device and ensure nothing, so that the proof of a test
+//! carries none of a device's clauses.
 ghost use Rattle.std.specs.Prelude.{◌≡◌, false};
 
 use line_feed::doubles::{FailAfter, InPieces};

@@ -72,15 +72,17 @@ impl<M: Marker> Seated<M> {
     ghost use Rattle.locked_doc.specs.Sums.{totals_view};
     ghost use Rattle.run_core.specs.HasTold.{HasTold};
 
-    /// Adds up what was done at the document, given the end of its seat, if that was opened. The end that a
-    /// session gave back lists just the ids that are logged for it, so the only refusal is out of memory, and so is
-    /// no end where no seat was opened. Each refusal hands everything back. Only tests call it.
+    /// Adds up what was done at the document, given the end of its seat, if that was opened. The
+    /// end that a session gave back lists just the ids that are logged for it, so the only
+    /// refusal is out of memory, and so is no end where no seat was opened. Each refusal hands
+    /// everything back. Only tests call it.
     pub fn gather(self, alloc: Global, ends: Vec<SeatEnd<M>>) -> Result<Totals, Gathering<M>>
         ensures ok { IfOk result (λ t. AreEndsOf self.locked.number self.locked.document ends.items
             × (totals_view t ≡ totals_of self.locked.document ends.items)) }
         ensures err { IfErr result (λ g. (g.doc ≡ self.locked) × (g.ends.items ≡ ends.items)
             × ((g.refusal ≡ Refusal.NoMemory)
-            ⊎ ((g.refusal ≡ Refusal.ListsDiffer) × ¬ AreEndsOf self.locked.number self.locked.document ends.items))) }
+            ⊎ ((g.refusal ≡ Refusal.ListsDiffer)
+            × ¬ AreEndsOf self.locked.number self.locked.document ends.items))) }
         ensures given_back { IfErr result (λ g. (end : seats.Seat) → ends.items ≡ end ∷ []
             → HasTold self.locked.number self.locked.document end
             → g.refusal ≡ Refusal.NoMemory) }

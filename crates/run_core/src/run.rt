@@ -1,5 +1,6 @@
 //! A run: one session over new documents, from any source to any sink.
-ghost use Rattle.std.specs.Prelude.{◌≡◌, ◌≢◌, ◌⊎◌, ◌≤◌, ◌+◌, ℕ, [], false, true, length, map, IfOk, IfErr};
+ghost use Rattle.std.specs.Prelude.{◌≡◌, ◌≢◌, ◌⊎◌, ◌≤◌, ◌+◌, ℕ, [], false, true, length, map, IfOk};
+ghost use Rattle.std.specs.Prelude.{IfErr};
 ghost use Rattle.doc_rules.specs.Document.{new_document};
 ghost use Rattle.lamport_id.specs.Name.{is_name};
 ghost use Rattle.run_core.specs.Names.{Wanted, first_replica, is_good, wanted_by};
@@ -73,7 +74,8 @@ fn status_of(why: Ending) -> u8
 fn finish<D: Document>(ended: Ended<D>) -> u8
     ensures bound { result ≤ 1 }
     ensures fault { result ≡ 1 → (ended.why ≡ Ending.ReadFault) ⊎ (ended.why ≡ Ending.WriteFault) }
-    ensures no_fault { result ≡ 0 → (ended.why ≢ Ending.ReadFault) × (ended.why ≢ Ending.WriteFault) }
+    ensures no_fault { result ≡ 0 → (ended.why ≢ Ending.ReadFault)
+        × (ended.why ≢ Ending.WriteFault) }
 {
     let Ended { why, documents, .. } = ended;
     let _leaked = ManuallyDrop::new(documents);
@@ -109,12 +111,15 @@ fn serve<D: Document, R: Source, W: Sink>(
     requires source_works { R.has_failed source.old ≡ false }
     requires sink_works { W.has_failed sink.old ≡ false }
     ensures bound { result ≤ 1 }
-    ensures served { (wanted : Wanted) → AreWanted wanted documents.names.items (map D.document documents.documents.items)
+    ensures served { (wanted : Wanted)
+        → AreWanted wanted documents.names.items (map D.document documents.documents.items)
         → result ≡ 0 → ServesAll wanted
         (R.remaining source.old) (R.remaining source.new) (W.contents sink.old) (W.contents sink.new) }
-    ensures no_fault { result ≡ 0 → (R.has_failed source.new ≡ false) × (W.has_failed sink.new ≡ false) }
+    ensures no_fault { result ≡ 0 → (R.has_failed source.new ≡ false)
+        × (W.has_failed sink.new ≡ false) }
     ensures flushed { W.unflushed sink.old ≡ [] → result ≡ 0 → W.unflushed sink.new ≡ [] }
-    ensures failed { (wanted : Wanted) → AreWanted wanted documents.names.items (map D.document documents.documents.items)
+    ensures failed { (wanted : Wanted)
+        → AreWanted wanted documents.names.items (map D.document documents.documents.items)
         → result ≡ 1 → ServesUntilFault wanted (R.has_failed source.new) (W.has_failed sink.new)
         (R.remaining source.old) (R.remaining source.new) (W.contents sink.old) (W.contents sink.new)
         ⊎ ((source.new ≡ source.old) × (sink.new ≡ sink.old)) }
@@ -125,10 +130,10 @@ fn serve<D: Document, R: Source, W: Sink>(
     }
 }
 
-/// Runs a session over new documents of these names, for the first start of the server of this name, and
-/// gives the program's status: 2 where a name is bad or there are too many documents, with nothing read or
-/// written, and never where they are good; 1 where a device failed, or when out of memory before anything was
-/// read or written.
+/// Runs a session over new documents of these names, for the first start of the server of this
+/// name, and gives the program's status: 2 where a name is bad or there are too many documents,
+/// with nothing read or written, and never where they are good; 1 where a device failed, or when
+/// out of memory before anything was read or written.
 pub fn run_over<M: Maker, R: Source, W: Sink>(
     alloc: Global,
     maker: &mut M,
@@ -146,7 +151,8 @@ pub fn run_over<M: Maker, R: Source, W: Sink>(
     ensures served { result ≡ 0
         → ServesAll (wanted_by name.now (map (λ s. s.now) documents.now))
         (R.remaining source.old) (R.remaining source.new) (W.contents sink.old) (W.contents sink.new) }
-    ensures no_fault { result ≡ 0 → (R.has_failed source.new ≡ false) × (W.has_failed sink.new ≡ false) }
+    ensures no_fault { result ≡ 0 → (R.has_failed source.new ≡ false)
+        × (W.has_failed sink.new ≡ false) }
     ensures flushed { W.unflushed sink.old ≡ [] → result ≡ 0 → W.unflushed sink.new ≡ [] }
     ensures failed { result ≡ 1
         → ServesUntilFault (wanted_by name.now (map (λ s. s.now) documents.now))

@@ -1,5 +1,6 @@
 -- What is copied: while sessions run, a copier writes what they log to the stored log, in batches.
-use Rattle.std.specs.Prelude.{◌≡◌, ◌≢◌, ◌<◌, ℕ, Bool, true, false, List, [], length, get_or, max, Option, None}
+use Rattle.std.specs.Prelude.{◌≡◌, ◌≢◌, ◌<◌, ℕ, Bool, true, false, List, [], length, get_or, max}
+use Rattle.std.specs.Prelude.{Option, None}
 use Rattle.share_ledger.specs.Begun.{Origin}
 use Rattle.doc_api.specs.Words.{Op}
 use Rattle.doc_rules.specs.Document.{Document, IsSound, tail}
@@ -32,18 +33,26 @@ pub record AddsOf (origin : ℕ → Origin) (number : ℕ) (name : List ℕ) (co
   pub adds : AddsMany name count old new
   pub of : IsNextOf origin number (length (log_of name old)) adds.next.ops
 
--- One batch after another was added, and whether there was one. What is added under a name are the next
--- operations of the document of which that is the name: the document whose number is the name's place.
-pub data AreAdded (origin : ℕ → Origin) (names : List (List ℕ)) (old : List Doc) : Bool → List Doc → Type 0 where
+-- One batch after another was added, and whether there was one. What is added under a
+-- name are the next operations of the document of which that is the name: the document
+-- whose number is the name's place.
+pub data AreAdded (origin : ℕ → Origin) (names : List (List ℕ)) (old : List Doc) : Bool → List Doc
+    → Type 0 where
   none : AreAdded origin names old false old
-  more : {any : Bool} {before after : List Doc} {number count : ℕ} → AreAdded origin names old any before
-      → number < length names → AddsOf origin number (get_or names number []) count before after → AreAdded origin names old true after
+  more : {any : Bool} {before after : List Doc} {number count : ℕ}
+      → AreAdded origin names old any before
+      → number < length names → AddsOf origin number (get_or names number []) count before after
+      → AreAdded origin names old true after
 
--- One batch after another was added, and the longest one has so many entries: 0 where there was none.
-pub data AreAddedUpTo (origin : ℕ → Origin) (names : List (List ℕ)) (old : List Doc) : ℕ → List Doc → Type 0 where
+-- One batch after another was added, and the longest one has so many
+-- entries: 0 where there was none.
+pub data AreAddedUpTo (origin : ℕ → Origin) (names : List (List ℕ)) (old : List Doc) : ℕ → List Doc
+    → Type 0 where
   none_yet : AreAddedUpTo origin names old 0 old
-  one_more : {most count number : ℕ} {before after : List Doc} → AreAddedUpTo origin names old most before
-      → number < length names → AddsOf origin number (get_or names number []) count before after → AreAddedUpTo origin names old (max most count) after
+  one_more : {most count number : ℕ} {before after : List Doc}
+      → AreAddedUpTo origin names old most before
+      → number < length names → AddsOf origin number (get_or names number []) count before after
+      → AreAddedUpTo origin names old (max most count) after
 
 -- the stored log has what it had, and then batches of these documents, if any
 pub record AddsBatches (origin : ℕ → Origin) (names : List (List ℕ)) (old new : LogState) : Type 0 where
@@ -51,9 +60,9 @@ pub record AddsBatches (origin : ℕ → Origin) (names : List (List ℕ)) (old 
   pub added : AreAdded origin names old.docs any new.docs
   pub epoch : new.epoch ≡ old.epoch
 
--- What a copier made of a stored log, beside documents of these names, and the fault that ended it, if
--- one did. Without a fault the log has more batches, and still works: of all operations, or where
--- memory lacked to the end of some. Once it has failed nothing is known.
+-- What a copier made of a stored log, beside documents of these names, and the fault that ended it,
+-- if one did. Without a fault the log has more batches, and still works: of all operations, or
+-- where memory lacked to the end of some. Once it has failed nothing is known.
 pub record HasCopied (origin : ℕ → Origin) (names : List (List ℕ)) (old new : LogState) (fault : Option Fault) : Type 0 where
   pub copied : fault ≡ None → AddsBatches origin names old new
   pub works : fault ≡ None → old.has_failed ≡ false → new.has_failed ≡ false

@@ -9,8 +9,8 @@ use Rattle.stored_log.specs.Docs.{Doc, log_of}
 abbrev pub restored : List ℕ → List Doc → ℕ → List (List ℕ) → List Document
 restored replica docs seats names = map (λ n. new_document replica (log_of n docs) seats) names
 
--- what the document of each number begins with: the entries that it has in the stored log under its name, and this
--- replica
+-- what the document of each number begins with: the entries that it has in the stored log
+-- under its name, and this replica
 abbrev pub origin_at : List ℕ → List Doc → List (List ℕ) → ℕ → Origin
 origin_at replica docs names number =
     record { log = log_of (get_or names number []) docs; replica = Some replica }

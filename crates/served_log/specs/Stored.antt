@@ -8,9 +8,9 @@ use Rattle.served_log.specs.Served.{KeepsRows}
 use Rattle.served_log.specs.Totals.{ServesSessions}
 
 module _ {L Left : Type 0} (g : Ghosts L Left) where
-  -- The file alone held what it has. Only then so many connections
-  -- were served over its documents, as this replica; and the log has batches that fit behind it. Where it could be
-  -- closed, the store that is left has all of them.
+  -- The file alone held what it has. Only then so many connections were served over its documents,
+  -- as this replica; and the log has batches that fit behind it. Where it could be closed, the
+  -- store that is left has all of them.
   pub record ServesFolded {E : Type 0} (replica : List ℕ) (names : List (List ℕ)) (count : ℕ) (begun : L)
       (closed : Result ⊤ E) (last : Left) (out_before out_after : Option (List ℕ)) : Type 0 where
     pub folded : L

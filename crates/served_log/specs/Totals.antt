@@ -25,7 +25,8 @@ total_lines (name ∷ names) [] = []
 
 -- the stored log has as many operations of the document as are logged, and as many count as copied
 abbrev pub IsStored : List Doc → List ℕ → Totals → Type 0
-IsStored docs name t = (t.logged ≡ length (log_of name docs)) × (t.copied ≡ length (log_of name docs))
+IsStored docs name t = (t.logged ≡ length (log_of name docs))
+    × (t.copied ≡ length (log_of name docs))
 
 -- each document, in their order
 abbrev pub AreStored : List Doc → List (List ℕ) → List Totals → Type 0

@@ -6,7 +6,8 @@ ghost use Rattle.doc_api.specs.Words.{Op};
 ghost use Rattle.doc_rules.specs.Document.{copied_to, tail};
 ghost use Rattle.stored_log.specs.Docs.{IsBatch, add_batch, log_of};
 ghost use Rattle.stored_log.specs.Log.{IsAddedOrNot};
-ghost use Rattle.served_log.specs.Batches.{AddsMany, AddsOf, AreAdded, AreAddedUpTo, AddsBatches, IsNextOf};
+ghost use Rattle.served_log.specs.Batches.{AddsMany, AddsOf, AreAdded, AreAddedUpTo, AddsBatches};
+ghost use Rattle.served_log.specs.Batches.{IsNextOf};
 
 use crate::document_to_copy::DocumentToCopy;
 use crate::observer::CopyObserver;
@@ -48,7 +49,8 @@ fn next_at<M: Marker, R: Wait>(
 fn note_rows<M: Marker, L: StoredLog>(doc: &mut LockedDoc<M>, _copy: &L, _name: &str, rows: usize)
     requires { rows ≡ length (log_of _name.now (L.log _copy.now).docs) }
     ensures { (doc.new.number ≡ doc.old.number)
-        × (doc.new.document ≡ copied_to (length (log_of _name.now (L.log _copy.now).docs)) doc.old.document) }
+        × (doc.new.document
+        ≡ copied_to (length (log_of _name.now (L.log _copy.now).docs)) doc.old.document) }
 {
     doc.note_copied(rows as u64);
 }
@@ -130,11 +132,11 @@ fn note_written<M: Marker, R: Wait, L: StoredLog>(
     Ok(())
 }
 
-/// Copies the next entries of the document, at most 256. Then it notes in the document how many of its
-/// entries the stored log has, and notifies the sessions that wait for them and the observer. It
-/// returns how many it copied. The document's lock isn't held while they are written. The error is
-/// `Memory`, or `Refused` for a batch that doesn't follow, with the stored log unchanged; or `Store`
-/// once that has failed. Then nothing is noted.
+/// Copies the next entries of the document, at most 256. Then it notes in the document how many of
+/// its entries the stored log has, and notifies the sessions that wait for them and the observer.
+/// It returns how many it copied. The document's lock isn't held while they are written. The error
+/// is `Memory`, or `Refused` for a batch that doesn't follow, with the stored log unchanged; or
+/// `Store` once that has failed. Then nothing is noted.
 pub fn copy_some<M: Marker, R: Wait, L: StoredLog, T: CopyObserver>(
     rt: &R,
     document: &DocumentToCopy<'_, M>,
@@ -164,8 +166,8 @@ pub fn copy_some<M: Marker, R: Wait, L: StoredLog, T: CopyObserver>(
     Ok(next.as_slice().len())
 }
 
-/// Publishes to waiting sessions how many entries of each document the stored log has. Once that has
-/// failed it publishes nothing.
+/// Publishes to waiting sessions how many entries of each document the stored log has. Once that
+/// has failed it publishes nothing.
 pub(crate) fn publish_all<M: Marker, L: StoredLog>(shared: &SharedDocuments<M>, copy: &L) {
     for doc_index in 0..shared.names.len() {
         let document = DocumentToCopy::at(shared, doc_index);

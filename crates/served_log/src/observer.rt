@@ -9,8 +9,8 @@ pub trait CopyObserver {
     /// written.
     fn added(&self, document: &StoredDoc, entries: &[Operation]);
 
-    /// Called where memory ran out, and the copier pauses before it tries again. Nobody waits for it
-    /// meanwhile. Called once until it goes on.
+    /// Called where memory ran out, and the copier pauses before it tries again. Nobody waits for
+    /// it meanwhile. Called once until it goes on.
     fn lacks_memory(&self);
 
     /// Called once the copier goes on after that.

@@ -1,5 +1,6 @@
 //! The replica name of a start: NAME-E, for a new epoch E of the stored log.
-ghost use Rattle.std.specs.Prelude.{◌≡◌, ◌⊎◌, ◌≤◌, ◌↔◌, ℕ, true, false, map, IfOk, IfErr, OnOk, Err};
+ghost use Rattle.std.specs.Prelude.{◌≡◌, ◌⊎◌, ◌≤◌, ◌↔◌, ℕ, true, false, map, IfOk, IfErr, OnOk};
+ghost use Rattle.std.specs.Prelude.{Err};
 ghost use Rattle.std.specs.List.{list_any};
 ghost use Rattle.lamport_id.specs.Name.{is_name};
 ghost use Rattle.stored_log.specs.Docs.{AreInOrder, is_by, log_of};
@@ -50,12 +51,13 @@ fn is_known(docs: &[StoredDoc], names: &[&str], replica: &ReplicaName) -> bool
     false
 }
 
-/// Starts a new epoch E, which it writes to the stored log, and returns the replica name NAME-E. If one
-/// of the documents already has operations of that name (a peer may have forged some), it skips to
-/// the next epoch.
+/// Starts a new epoch E, which it writes to the stored log, and returns the replica name
+/// NAME-E. If one of the documents already has operations of that name (a peer may have forged
+/// some), it skips to the next epoch.
 ///
-/// The error is `Refused` where all epochs are given out or NAME-E is no name, `Memory`, or `Store`
-/// once the stored log has failed. After an error the rows are as they were; the epoch may be greater.
+/// The error is `Refused` where all epochs are given out or NAME-E is no name,
+/// `Memory`, or `Store` once the stored log has failed. After an error the rows are as
+/// they were; the epoch may be greater.
 pub fn next_replica_name<L: StoredLog>(
     alloc: Global,
     copy: &mut L,
@@ -65,14 +67,16 @@ pub fn next_replica_name<L: StoredLog>(
     ensures raised { IfOk result (λ replica.
         IsRaised name.now (map (λ s. s.now) documents.now) replica (L.log copy.old) (L.log copy.new)) }
     ensures refused { result ≡ Err Fault.Refused
-        → (last_epoch ≤ (L.log copy.new).epoch) ⊎ (is_name (replica_name name.now (L.log copy.new).epoch) ≡ false) }
+        → (last_epoch ≤ (L.log copy.new).epoch)
+        ⊎ (is_name (replica_name name.now (L.log copy.new).epoch) ≡ false) }
     ensures failed { (result ≡ Err Fault.Store) ↔ ((L.log copy.new).has_failed ≡ true) }
     ensures works { OnOk result ((L.log copy.new).has_failed ≡ false) }
     ensures kept { (result ≡ Err Fault.Store)
         ⊎ KeepsAll (L.log copy.old) (L.log copy.new).epoch (L.log copy.new).docs }
     ensures alone { (L.log copy.new).is_alone ≡ (L.log copy.old).is_alone }
     // A crash leaves the rows that were there, under an epoch that is not smaller.
-    ensures crash { (L.log copy.old).has_failed ≡ false → L.survives copy.new (KeepsAll (L.log copy.old)) }
+    ensures crash { (L.log copy.old).has_failed ≡ false
+        → L.survives copy.new (KeepsAll (L.log copy.old)) }
 {
     loop {
         let epoch = copy.epoch_up()?;

@@ -1,5 +1,6 @@
 //! Restoring the documents of a server from the stored log.
-ghost use Rattle.std.specs.Prelude.{◌≡◌, ◌⊎◌, ◌-◌, ◌+◌, ◌≤◌, ◌++◌, ◌∷◌, [], true, length, map, IfOk, IfErr, OnOk, Err};
+ghost use Rattle.std.specs.Prelude.{◌≡◌, ◌⊎◌, ◌-◌, ◌+◌, ◌≤◌, ◌++◌, ◌∷◌, [], true, length, map};
+ghost use Rattle.std.specs.Prelude.{IfOk, IfErr, OnOk, Err};
 ghost use Rattle.share_ledger.specs.Begun.{MayBeNamed};
 ghost use Rattle.doc_rules.specs.Document.{new_document};
 ghost use Rattle.locked_doc.specs.Numbers.{greatest_number};
@@ -91,7 +92,9 @@ fn restore_all<M: Marker, L: StoredLog>(
 ) -> Result<Vec<LockedDoc<M>>, Fault>
     requires few { length names.now ≤ greatest_number }
     requires first { ledger.old ≡ 0 }
-    requires begun { M.origin ≡ origin_at from.now.replica.now (L.log from.now.copy.now).docs (map (λ s. s.now) names.now) }
+    requires begun { M.origin
+        ≡ origin_at from.now.replica.now (L.log from.now.copy.now).docs (map
+        (λ s. s.now) names.now) }
     ensures documents { IfOk result (λ docs. map (λ d. d.document) docs.items
         ≡ map (λ n. new_document from.now.replica.now (log_of n (L.log from.now.copy.now).docs) from.now.seats)
         (map (λ s. s.now) names.now)) }
@@ -107,9 +110,9 @@ fn restore_all<M: Marker, L: StoredLog>(
     Ok(docs)
 }
 
-/// Restores the documents of these names from the stored log. Their entries belong to seat 0, and are
-/// noted as copied. They are the first documents of the ledger. The error is `Memory`, or `Store` once
-/// the stored log has failed; never `Refused`.
+/// Restores the documents of these names from the stored log. Their entries belong to seat 0, and
+/// are noted as copied. They are the first documents of the ledger. The error is `Memory`, or
+/// `Store` once the stored log has failed; never `Refused`.
 pub fn restore_documents<M: Marker, L: StoredLog>(
     alloc: Global,
     ledger: &mut Ledger<M>,
@@ -118,10 +121,13 @@ pub fn restore_documents<M: Marker, L: StoredLog>(
 ) -> Result<RestoredDocuments<M>, Fault>
     requires few { length names.now ≤ greatest_number }
     requires first { ledger.old ≡ 0 }
-    requires begun { M.origin ≡ origin_at from.now.replica.now (L.log from.now.copy.now).docs (map (λ s. s.now) names.now) }
+    requires begun { M.origin
+        ≡ origin_at from.now.replica.now (L.log from.now.copy.now).docs (map
+        (λ s. s.now) names.now) }
     ensures names { IfOk result (λ made. made.names.items ≡ map (λ s. s.now) names.now) }
     ensures documents { IfOk result (λ made. map (λ d. d.document) made.docs.items
-        ≡ restored from.now.replica.now (L.log from.now.copy.now).docs from.now.seats (map (λ s. s.now) names.now)) }
+        ≡ restored from.now.replica.now (L.log from.now.copy.now).docs from.now.seats (map
+        (λ s. s.now) names.now)) }
     ensures never_refused { IfErr result (λ e. (e ≡ Fault.Store) ⊎ (e ≡ Fault.Memory)) }
     ensures failed { result ≡ Err Fault.Store → (L.log from.now.copy.now).has_failed ≡ true }
 {
@@ -132,8 +138,8 @@ pub fn restore_documents<M: Marker, L: StoredLog>(
     Ok(RestoredDocuments { names: made, docs })
 }
 
-/// Puts the documents behind locks, in order. Replies to changes of them go out at this pace. The one
-/// error is `NoMemory`.
+/// Puts the documents behind locks, in order. Replies to changes of them go out at this
+/// pace. The one error is `NoMemory`.
 pub fn share_documents<M: Marker>(
     alloc: Global,
     restored: RestoredDocuments<M>,

@@ -33,7 +33,8 @@ fn are_stored(docs: &[StoredDoc], names: &[&str], totals: &[Totals]) -> bool
 /// them as copied. False once it has failed.
 pub(crate) fn has_all<L: StoredLog>(copy: &L, names: &[&str], totals: &[Totals]) -> bool
     requires { length totals.now ≡ length names.now }
-    ensures { IsTrue result → AreStored (L.log copy.now).docs (map (λ s. s.now) names.now) totals.now }
+    ensures { IsTrue result
+        → AreStored (L.log copy.now).docs (map (λ s. s.now) names.now) totals.now }
 {
     match copy.docs() {
         Ok(docs) => are_stored(docs, names, totals),

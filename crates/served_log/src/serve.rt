@@ -101,7 +101,8 @@ fn serve_with_copier<M: Marker + Send + Sync, R: Host, C: Connect, L: StoredLog>
     ensures sessions { IfOk result.0 (λ g. (given : List (List (Option seats.Seat)))
         × AreAttended M.origin sessions.entry.shared.names.items (map C.bytes sessions.entry.connections.items) g.endings.items given
         × AreTotalsFrom M.origin 0 given g.totals.items) }
-    ensures each { IfOk result.0 (λ g. vec_len g.totals ≡ length sessions.entry.shared.names.items) }
+    ensures each { IfOk result.0
+        (λ g. vec_len g.totals ≡ length sessions.entry.shared.names.items) }
     ensures left { (OnOk result.0 ⊥ × (copy.new ≡ copy.old))
         ⊎ HasCopied M.origin sessions.entry.shared.names.items (L.log copy.old) (L.log copy.new) result.1 }
 {
@@ -138,8 +139,8 @@ fn outcome_of<L: StoredLog>(
     }
 }
 
-// Serves these sessions while a copier runs, and writes the totals at the end. It fails where memory
-// runs out, where the writer fails, or where not all that the sessions logged is stored.
+// Serves these sessions while a copier runs, and writes the totals at the end. It fails where
+// memory runs out, where the writer fails, or where not all that the sessions logged is stored.
 fn serve_sessions<M: Marker + Send + Sync, R: Host, C: Connect, L: StoredLog, W: io::Write>(
     rt: &R,
     alloc: Global,
@@ -152,9 +153,11 @@ fn serve_sessions<M: Marker + Send + Sync, R: Host, C: Connect, L: StoredLog, W:
         (length sessions.entry.connections.items) (W.contents out.old) (W.contents out.new)) }
     ensures unwritten { IfErr result (λ why. IsUnwritten why → out.new ≡ out.old) }
     ensures copied { OnOk result (AddsBatches M.origin (map (λ s. s.now) sessions.entry.names.now) (L.log copy.old) (L.log copy.new)) }
-    ensures works { OnOk result ((L.log copy.old).has_failed ≡ false → (L.log copy.new).has_failed ≡ false) }
+    ensures works { OnOk result ((L.log copy.old).has_failed ≡ false
+        → (L.log copy.new).has_failed ≡ false) }
     ensures grown { (L.log copy.new).has_failed ≡ false
-        → AddsBatches M.origin (map (λ s. s.now) sessions.entry.names.now) (L.log copy.old) (L.log copy.new) }
+        → AddsBatches M.origin (map
+        (λ s. s.now) sessions.entry.names.now) (L.log copy.old) (L.log copy.new) }
     ensures alone { (L.log copy.new).is_alone ≡ (L.log copy.old).is_alone }
 {
     let names = sessions.names;
@@ -175,9 +178,12 @@ fn restore<M: Marker, C, L: StoredLog>(
     copy: &L,
 ) -> Result<RestoredDocuments<M>, Fault>
     requires blank { blank ≡ M.name }
-    requires begun { M.origin ≡ origin_at begun.now.replica (L.log copy.now).docs (map (λ s. s.now) begun.now.serving.documents.now) }
+    requires begun { M.origin
+        ≡ origin_at begun.now.replica (L.log copy.now).docs (map
+        (λ s. s.now) begun.now.serving.documents.now) }
     requires few { length begun.now.serving.documents.now ≤ greatest_number }
-    ensures { IfOk result (λ made. made.names.items ≡ map (λ s. s.now) begun.now.serving.documents.now) }
+    ensures { IfOk result
+        (λ made. made.names.items ≡ map (λ s. s.now) begun.now.serving.documents.now) }
 {
     let mut ledger = Ledger::<M>::new(blank);
     let from = Restoring {
@@ -206,16 +212,21 @@ pub(crate) fn restore_and_serve<
 ) -> Result<(), Failure>
     requires blank { blank ≡ M.name }
     requires named { begun.replica ≡ replica_name begun.serving.name.now (L.log copy.old).epoch }
-    requires begun { M.origin ≡ origin_at begun.replica (L.log copy.old).docs (map (λ s. s.now) begun.serving.documents.now) }
+    requires begun { M.origin
+        ≡ origin_at begun.replica (L.log copy.old).docs (map
+        (λ s. s.now) begun.serving.documents.now) }
     requires few { length begun.serving.documents.now ≤ greatest_number }
     ensures served { OnOk result (ServesSessions M.origin (L.log copy.new).docs (map (λ s. s.now) begun.entry.serving.documents.now)
         (length begun.entry.serving.connections.items) (W.contents out.old) (W.contents out.new)) }
     ensures unwritten { IfErr result (λ why. IsUnwritten why → out.new ≡ out.old) }
     ensures copied { OnOk result
-        (AddsBatches M.origin (map (λ s. s.now) begun.entry.serving.documents.now) (L.log copy.old) (L.log copy.new)) }
-    ensures works { OnOk result ((L.log copy.old).has_failed ≡ false → (L.log copy.new).has_failed ≡ false) }
+        (AddsBatches M.origin (map
+        (λ s. s.now) begun.entry.serving.documents.now) (L.log copy.old) (L.log copy.new)) }
+    ensures works { OnOk result ((L.log copy.old).has_failed ≡ false
+        → (L.log copy.new).has_failed ≡ false) }
     ensures grown { (L.log copy.new).has_failed ≡ false
-        → AddsBatches M.origin (map (λ s. s.now) begun.entry.serving.documents.now) (L.log copy.old) (L.log copy.new) }
+        → AddsBatches M.origin (map
+        (λ s. s.now) begun.entry.serving.documents.now) (L.log copy.old) (L.log copy.new) }
     ensures alone { (L.log copy.new).is_alone ≡ (L.log copy.old).is_alone }
 {
     note_serving(rt, begun.replica.as_str());

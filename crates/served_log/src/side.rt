@@ -47,8 +47,8 @@ fn next_look<M: Marker, R: Wait>(
     shared.signal.pause(rt, watch.seen)
 }
 
-// How often it is tried once all sessions have ended and memory lacks each time, a tenth of a second
-// apart.
+// How often it is tried once all sessions have ended and memory lacks each
+// time, a tenth of a second apart.
 const LAST_TRIES: u32 = 50;
 
 // What was there for a copier at its last look.
@@ -77,8 +77,9 @@ fn tries_after(watch: &Watch, found: Found) -> u32 {
     }
 }
 
-// Waits until the copier should look again, after it found this. It returns what the signal has
-// counted by then, or none where nothing will come, and all is copied or memory has lacked too often.
+// Waits until the copier should look again, after it found this. It returns what
+// the signal has counted by then, or none where nothing will come, and all is
+// copied or memory has lacked too often.
 fn wait_after<M: Marker, R: Wait>(
     rt: &R,
     shared: &SharedDocuments<M>,
@@ -103,8 +104,8 @@ fn wait_after<M: Marker, R: Wait>(
     }
 }
 
-// Before a try, where memory lacked at the last look: sessions wait for the copier again. So none is
-// ended whose document's turn only comes later.
+// Before a try, where memory lacked at the last look: sessions wait for the copier again. So none
+// is ended whose document's turn only comes later.
 fn wait_again<M: Marker, L: StoredLog>(shared: &SharedDocuments<M>, copy: &L, lacked: bool) {
     if lacked {
         publish_all(shared, copy);
@@ -139,7 +140,8 @@ fn look<M: Marker, R: Wait, L: StoredLog, T: CopyObserver>(
     ensures err { IfErr result (λ e. (e ≡ Fault.Store)
         ⊎ AddsBatches M.origin shared.now.names.items (L.log copy.old) (L.log copy.new)) }
     ensures memory { result ≢ Err Fault.Memory }
-    ensures works { OnOk result ((L.log copy.old).has_failed ≡ false → (L.log copy.new).has_failed ≡ false) }
+    ensures works { OnOk result ((L.log copy.old).has_failed ≡ false
+        → (L.log copy.new).has_failed ≡ false) }
     ensures failed { result ≡ Err Fault.Store → (L.log copy.new).has_failed ≡ true }
     ensures alone { (L.log copy.new).is_alone ≡ (L.log copy.old).is_alone }
 {
@@ -161,10 +163,10 @@ fn look<M: Marker, R: Wait, L: StoredLog, T: CopyObserver>(
 /// Copies what so many sessions log while they run, and what is left once they have ended. It
 /// sleeps while there is nothing to copy, and holds no lock while it writes. It pauses for some
 /// milliseconds unless a batch was full, so that batches grow: each costs an fsync. Where replies
-/// wait for the file it doesn't pause. It notifies the observer of each batch. Where memory runs out
-/// nobody waits for the file, and it pauses longer and tries again. Once all sessions have ended it
-/// does so 50 times in a row, and then ends with some operations that aren't copied. It ends at the
-/// first other fault, which is the stored log's.
+/// wait for the file it doesn't pause. It notifies the observer of each batch. Where memory runs
+/// out nobody waits for the file, and it pauses longer and tries again. Once all sessions have
+/// ended it does so 50 times in a row, and then ends with some operations that aren't copied. It
+/// ends at the first other fault, which is the stored log's.
 pub fn keep_up<M: Marker, R: Wait, L: StoredLog, T: CopyObserver>(
     rt: &R,
     shared: &SharedDocuments<M>,
@@ -175,7 +177,8 @@ pub fn keep_up<M: Marker, R: Wait, L: StoredLog, T: CopyObserver>(
     ensures ok { OnOk result (AddsBatches M.origin shared.now.names.items (L.log copy.old) (L.log copy.new)) }
     ensures err { IfErr result (λ e. (e ≡ Fault.Store)
         ⊎ AddsBatches M.origin shared.now.names.items (L.log copy.old) (L.log copy.new)) }
-    ensures works { OnOk result ((L.log copy.old).has_failed ≡ false → (L.log copy.new).has_failed ≡ false) }
+    ensures works { OnOk result ((L.log copy.old).has_failed ≡ false
+        → (L.log copy.new).has_failed ≡ false) }
     ensures memory { result ≢ Err Fault.Memory }
     ensures failed { result ≡ Err Fault.Store → (L.log copy.new).has_failed ≡ true }
     ensures alone { (L.log copy.new).is_alone ≡ (L.log copy.old).is_alone }

@@ -56,8 +56,10 @@ fn has_failed<L: StoredLog>(copy: &L) -> bool
 fn end<L: StoredLog>(served: Result<(), Failure>, copy: L) -> Ended<L::Left>
     ensures served { result.served ≡ served }
     ensures failed { result.has_failed ≡ (L.log copy).has_failed }
-    ensures held { OnOk result.closed ((L.log copy).has_failed ≡ false → L.is_in_file copy result.store) }
-    ensures left { OnErr result.closed ((L.log copy).has_failed ≡ false → L.is_in_store copy result.store) }
+    ensures held { OnOk result.closed ((L.log copy).has_failed ≡ false
+        → L.is_in_file copy result.store) }
+    ensures left { OnErr result.closed ((L.log copy).has_failed ≡ false
+        → L.is_in_store copy result.store) }
 {
     let has_failed = has_failed(&copy);
     match copy.close() {
@@ -76,8 +78,8 @@ fn end<L: StoredLog>(served: Result<(), Failure>, copy: L) -> Ended<L::Left>
     }
 }
 
-// Folds the stored log, whose epoch is the start's. Then it serves, as `restore_and_serve`, with a new
-// table of counters, and closes the log.
+// Folds the stored log, whose epoch is the start's. Then it serves, as `restore_and_serve`, with a
+// new table of counters, and closes the log.
 fn fold_and_serve<R: Host, C: Connect, L: StoredLog, W: io::Write>(
     rt: &R,
     alloc: Global,
@@ -119,12 +121,12 @@ fn fold_and_serve<R: Host, C: Connect, L: StoredLog, W: io::Write>(
 
 /// Starts a new epoch of the stored log and folds it, so that the place where it stays for good has
 /// the epoch before anything is served. Then it restores the documents, serves the connections over
-/// them, stores what they log meanwhile, and writes the totals at the end. However it ends, it closes
-/// the log, so that the place that is left has all of it.
+/// them, stores what they log meanwhile, and writes the totals at the end. However it ends, it
+/// closes the log, so that the place that is left has all of it.
 ///
-/// The failure says why it did not serve to its end. If the log was refused (no epoch is left, or the
-/// name is too long), it also writes the refusal. If the log fails while sessions run, they go on,
-/// and the failure is `Stopped` at the end.
+/// The failure says why it did not serve to its end. If the log was refused (no epoch is left, or
+/// the name is too long), it also writes the refusal. If the log fails while sessions run, they go
+/// on, and the failure is `Stopped` at the end.
 pub fn serve_stored<R: Host, C: Connect, L: StoredLog, W: io::Write>(
     rt: &R,
     alloc: Global,
@@ -152,8 +154,8 @@ pub fn serve_stored<R: Host, C: Connect, L: StoredLog, W: io::Write>(
     }
 }
 
-/// `serve_stored`, with the status of a program that ends so: 0, or 1 where it failed. What is left of
-/// the log can be opened again, as a restart does.
+/// `serve_stored`, with the status of a program that ends so: 0, or 1 where it failed. What is left
+/// of the log can be opened again, as a restart does.
 pub fn serve_over<R: Host, C: Connect, L: StoredLog, W: io::Write>(
     rt: &R,
     alloc: Global,

@@ -17,9 +17,9 @@ pub record Bytes : Type 0 where
 abbrev pub unknown : Bytes
 unknown = record { source = None; sink = None }
 
--- A session over shared documents of these names and origins that ended for this cause. It read
--- from the connection's source and wrote to its sink, and these are the ends of the seats that it had
--- then.
+-- A session over shared documents of these names and origins that ended for this
+-- cause. It read from the connection's source and wrote to its sink, and these are
+-- the ends of the seats that it had then.
 pub record IsEndedSession (origin : ℕ → Origin) (names : List (List ℕ)) (connection : Bytes) (why : Ending)
     (ends : List (Option seats.Seat)) : Type 0 where
   pub has : Option (List ℕ)
@@ -30,7 +30,8 @@ pub record IsEndedSession (origin : ℕ → Origin) (names : List (List ℕ)) (c
   pub given_back : AreSeatEnds names opened ends
 
 -- a session, or none, which gave back nothing
-abbrev pub IsAttended : (ℕ → Origin) → List (List ℕ) → Bytes → Option Ending → List (Option seats.Seat) → Type 0
+abbrev pub IsAttended : (ℕ → Origin) → List (List ℕ) → Bytes → Option Ending
+    → List (Option seats.Seat) → Type 0
 IsAttended origin names connection (Some why) ends = IsEndedSession origin names connection why ends
 IsAttended origin names connection None ends = ends ≡ []
 

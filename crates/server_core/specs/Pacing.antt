@@ -11,8 +11,8 @@ abbrev pub allowed : Pace → ℕ
 allowed (Behind most) = most
 allowed Durable = 0
 
--- The reply to a change after which the log has so many operations may go out, where the file has so
--- many of them; or nothing copies.
+-- The reply to a change after which the log has so many operations may go out, where the file has
+-- so many of them; or nothing copies.
 abbrev pub MayGo : Pace → Option ℕ → ℕ → Type 0
 MayGo pace (Some stored) count = count ≤ stored + allowed pace
 MayGo (Behind most) None count = Unit {0}

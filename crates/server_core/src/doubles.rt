@@ -77,7 +77,8 @@ impl<'a, R: Wait + Sync> Connect for Script<'a, R> {
 
     type Sink = FailAfter<Kept<'a, R>>;
 
-    ghost bytes = { λ s. let known : Bytes = record { source = Some s.input.now; sink = None } in known };
+    ghost bytes = { λ s. let known : Bytes = record { source = Some s.input.now; sink = None } in
+        known };
 
     fn open(self) -> Result<(FailAfter<Reader<&'a [u8]>>, FailAfter<Kept<'a, R>>), DeviceFault> {
         if !self.opens {

@@ -14,8 +14,9 @@ const TURNS: u32 = 2000;
 // After how many of them it looks again. A look disturbs the thread that holds the lock.
 const TURNS_A_LOOK: u32 = 16;
 
-/// Takes a lock that others hold for microseconds. A thread that sleeps is woken later than that, so it first looks again
-/// and again whether the lock is free. The type says all of the result: it is this lock, taken.
+/// Takes a lock that others hold for microseconds. A thread that sleeps is woken later than
+/// that, so it first looks again and again whether the lock is free. The type says all of the
+/// result: it is this lock, taken.
 pub(crate) fn spin_then_lock<'a, T, R: Wait>(rt: &R, mutex: &'a Mutex<T>) -> MutexGuard<'a, T> {
     for turn in 0..TURNS {
         if turn % TURNS_A_LOOK == 0 {
@@ -28,10 +29,10 @@ pub(crate) fn spin_then_lock<'a, T, R: Wait>(rt: &R, mutex: &'a Mutex<T>) -> Mut
     mutex.lock(rt)
 }
 
-/// Takes the lock of the document of this number, at which so many seats are opened. No clause can say
-/// what a lock holds, so it looks: the document whose index in the shelf is the number has that number, and
-/// its seats stay opened, so the first look finds it so. In a shelf of another order it would look
-/// forever.
+/// Takes the lock of the document of this number, at which so many seats are opened. No clause
+/// can say what a lock holds, so it looks: the document whose index in the shelf is the number
+/// has that number, and its seats stay opened, so the first look finds it so. In a shelf of
+/// another order it would look forever.
 pub fn lock_document<'a, M: Marker, R: Wait>(
     rt: &R,
     shared: &'a SharedDocuments<M>,

@@ -1,5 +1,6 @@
 //! How far the file is, for sessions that wait for it before they reply.
-ghost use Rattle.std.specs.Prelude.{◌≡◌, ◌≤◌, ◌<◌, ◌+◌, ℕ, Option, Some, None, MatchOption, IfOk, IsTrue, false};
+ghost use Rattle.std.specs.Prelude.{◌≡◌, ◌≤◌, ◌<◌, ◌+◌, ℕ, Option, Some, None, MatchOption, IfOk};
+ghost use Rattle.std.specs.Prelude.{IsTrue, false};
 ghost use Rattle.server_core.specs.Pacing.{MayGo, allowed};
 
 use crate::signal::Signal;
@@ -149,8 +150,8 @@ impl Progress {
         }
     }
 
-    // Where some sessions were gathered before the last batch, the copier is woken once so many have
-    // begun to wait behind this count of them. The first document of a look counts.
+    // Where some sessions were gathered before the last batch, the copier is woken once so many
+    // have begun to wait behind this count of them. The first document of a look counts.
     fn want(&self, waits: u64) {
         let gathered = self.gathered.load(Ordering::SeqCst);
         if gathered > 1 && gathered <= MOST_GATHERED && self.wanted.load(Ordering::SeqCst) == 0 {
@@ -166,9 +167,9 @@ impl Progress {
         wanted != 0 && missing > 0 && missing <= MOST_GATHERED
     }
 
-    /// After a batch, waits for the sessions that it let go, so that the next batch is of all of them:
-    /// until as many wait again as waited before it, and at most some hundred microseconds. It waits
-    /// for no more than 32, and not for one alone.
+    /// After a batch, waits for the sessions that it let go, so that the next batch is of all of
+    /// them: until as many wait again as waited before it, and at most some hundred microseconds.
+    /// It waits for no more than 32, and not for one alone.
     pub fn gather<R: Wait>(&self, rt: &R) {
         for _ in 0..SLEEPS {
             let waits = self.waits.load(Ordering::SeqCst);

@@ -10,8 +10,9 @@ use std::alloc::{AllocError, Global};
 use std::sync::Wait;
 use std::sync::atomic::{AtomicU64, Ordering};
 
-/// What a session waits for before its next reply goes out: of each document, how many of its operations
-/// the file must have. The session's two halves share it: the documents owe, the sink settles.
+/// What a session waits for before its next reply goes out: of each document, how many
+/// of its operations the file must have. The session's two halves share it: the
+/// documents owe, the sink settles.
 #[derive(Drop)]
 pub struct Debts {
     owed: Vec<AtomicU64>,

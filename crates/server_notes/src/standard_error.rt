@@ -35,8 +35,8 @@ pub struct StandardError {
     is_asking: AtomicBool,
 }
 
-// A pipe that was opened anew for writing. To open one that nobody reads would wait, so it is opened
-// for reading too meanwhile.
+// A pipe that was opened anew for writing. To open one that nobody reads would wait, so it is
+// opened for reading too meanwhile.
 fn open_pipe(rt: &HostRuntime) -> io::Result<fs::File> {
     let _reader = OpenOptions::new().read(true).write(true).open(rt, PATH)?;
     OpenOptions::new().write(true).open(rt, PATH)

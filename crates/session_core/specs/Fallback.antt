@@ -7,4 +7,5 @@ use Rattle.session_rules.specs.Session.{refused}
 
 -- the reply, or `no-memory` in its place if its line is built on the heap
 abbrev pub MayWrite : LineReply → LineReply → Type 0
-MayWrite response out = (out ≡ response) ⊎ ((line_needs_heap response ≡ true) × (out ≡ refused NoMemory))
+MayWrite response out = (out ≡ response)
+    ⊎ ((line_needs_heap response ≡ true) × (out ≡ refused NoMemory))

@@ -39,8 +39,8 @@ impl Model for Blank {
     ghost invariant = { λ b. b.rest.next ≡ 0 };
 }
 
-/// The counters that are not opened yet, in the order of `counter_number`: by document number, then by
-/// seat. Contracts see it as the first number of which that is known. It takes no bytes.
+/// The counters that are not opened yet, in the order of `counter_number`: by document number, then
+/// by seat. Contracts see it as the first number of which that is known. It takes no bytes.
 #[derive(Drop)]
 pub struct Table<M: Marker> {
     rest: Rest,
@@ -76,7 +76,8 @@ impl<M: Marker> Model for Book<M> {
 
     ghost view = { λ b. seat_counter b.number b.seat b.count b.half.ids };
 
-    ghost invariant = { λ b. (b.half.table ≡ M.name) × (b.half.counter ≡ counter_number b.number b.seat)
+    ghost invariant = { λ b. (b.half.table ≡ M.name)
+        × (b.half.counter ≡ counter_number b.number b.seat)
         × (b.half.count ≡ b.count) };
 }
 
@@ -99,7 +100,8 @@ impl<M: Marker> Model for Share<M> {
 
     ghost view = { λ s. seat_counter s.number s.seat s.count s.half.ids };
 
-    ghost invariant = { λ s. (s.half.table ≡ M.name) × (s.half.counter ≡ counter_number s.number s.seat)
+    ghost invariant = { λ s. (s.half.table ≡ M.name)
+        × (s.half.counter ≡ counter_number s.number s.seat)
         × (s.half.count ≡ s.count) };
 }
 
@@ -123,9 +125,9 @@ impl Blank {
 }
 
 impl<M: Marker> Table<M> {
-    /// Two halves of one counter at 0 with no ids, under the number of a document number and a seat,
-    /// which comes after every opened one. So no third half of a counter is ever made. It takes no
-    /// memory.
+    /// Two halves of one counter at 0 with no ids, under the number of a document number
+    /// and a seat, which comes after every opened one. So no third half of a counter is
+    /// ever made. It takes no memory.
     pub fn open(&mut self, number: u16, seat: u16) -> (Book<M>, Share<M>)
         requires { self.old ≤ counter_number number seat }
         ensures table { self.new ≡ counter_number number seat + 1 }
@@ -197,7 +199,8 @@ impl<M: Marker> Book<M> {
         ensures book { self.new
             ≡ seat_counter self.old.number self.old.seat self.old.count (self.old.ids ++ ids.now) }
         ensures share { share.new
-            ≡ seat_counter share.old.number share.old.seat share.old.count (share.old.ids ++ ids.now) }
+            ≡ seat_counter share.old.number share.old.seat share.old.count (share.old.ids
+            ++ ids.now) }
         ensures agree { self.old ≡ share.old }
     {
         self.half.acknowledge(&mut share.half, ids);

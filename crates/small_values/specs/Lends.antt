@@ -5,7 +5,8 @@ use Rattle.std.specs.declared.alloc.AllocError.{AllocError}
 use Rattle.small_values.specs.contracts.lazy.Lazy.{the_row}
 
 module _ (T : RattleType) (l : MutBor (Option T.Denot)) where
-  -- once the borrow r ends, the value is the last one written through r. With no value there is still none
+  -- once the borrow r ends, the value is the last one written through r.
+  -- With no value there is still none
   abbrev pub lends_made : Option (MutBor T.Denot) → Fml
   lends_made r = LendsIf (the_row T) T l r (λ w. Some w) l.now
 

@@ -7,8 +7,8 @@ ghost use Rattle.std.specs.declared.alloc.Global.{Global};
 use std::alloc::{AllocError, Global};
 use std::marker::Model;
 
-/// A value in a box that is made when the value is first needed: until then it is one word. Clauses see the value, if
-/// there is one.
+/// A value in a box that is made when the value is first needed: until then it is one word. Clauses
+/// see the value, if there is one.
 pub struct Lazy<T> {
     made: Option<Box<T>>,
     alloc: Global,
@@ -66,7 +66,8 @@ impl<T> Lazy<T> {
         requires { (alloc : Global) → F.pre make alloc }
         ensures* writes_back { sem 𝓛 (lends_value T.row self.entry result) }
         ensures value { IfOk result
-            (λ x. UnwrapsOrElse self.old (λ first. (alloc : Global) × F.post make alloc first) x.now) }
+            (λ x. UnwrapsOrElse self.old
+            (λ first. (alloc : Global) × F.post make alloc first) x.now) }
         ensures succeeds { is_some self.old ≡ true → IsOk result }
     {
         let alloc = self.alloc;

@@ -1,4 +1,5 @@
-//! Values that are mostly small, or not there at all, and take no memory of their own until they must.
+//! Values that are mostly small, or not there at all, and take no
+//! memory of their own until they must.
 #![tactic(auto)]
 
 mod lazy;

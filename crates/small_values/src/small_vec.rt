@@ -1,5 +1,7 @@
 //! A vector with one element in place.
-ghost use Rattle.std.specs.Prelude.{◌≡◌, ◌+◌, ◌<◌, ◌≤◌, ◌↔◌, ◌++◌, ◌∷◌, [], List, length, take, drop, set, insert, true, IsTrue, IfOk, IsOk, OnOk, OnErr, if◌then◌else◌};
+ghost use Rattle.std.specs.Prelude.{◌≡◌, ◌+◌, ◌<◌, ◌≤◌, ◌↔◌, ◌++◌, ◌∷◌, [], List, length, take};
+ghost use Rattle.std.specs.Prelude.{drop, set, insert, true, IsTrue, IfOk, IsOk, OnOk, OnErr};
+ghost use Rattle.std.specs.Prelude.{if◌then◌else◌};
 ghost use Rattle.std.specs.Vec.{vec_capacity};
 ghost use Rattle.std.specs.Fn.{CalledAt};
 ghost use Rattle.std.specs.List.Retain.{IsFiltered};
@@ -8,11 +10,13 @@ ghost use Rattle.small_values.specs.SmallVec.{elements, elements_by, room, is_on
 use std::alloc::{AllocError, Global};
 use std::mem;
 
-/// At most one element in place, or any in memory of their own, or another value in place of elements. That shares the
-/// tag of the others: in an enum around a small vector it would take a word more.
+/// At most one element in place, or any in memory of their own, or another value in
+/// place of elements. That shares the tag of the others: in an enum around a small
+/// vector it would take a word more.
 #[derive(Drop)]
 pub enum SmallVec<X, O = ()> {
-    /// No element of its own, and what is in place of them: by default nothing. The next one is in place.
+    /// No element of its own, and what is in place of them: by default
+    /// nothing. The next one is in place.
     Other(O),
     /// One element, in place.
     One([X; 1]),
@@ -32,9 +36,11 @@ impl<X: Drop, O: Drop> SmallVec<X, O> {
         }
     }
 
-    /// Makes room for so many elements more, and for no others. Out of memory, the elements stay as they are.
+    /// Makes room for so many elements more, and for no others. Out of memory,
+    /// the elements stay as they are.
     pub fn reserve_exact(&mut self, alloc: Global, additional: usize) -> Result<(), AllocError>
-        ensures same { (other : O → List X) → elements_by other self.old ≡ elements self.old → elements_by other self.new ≡ elements self.old }
+        ensures same { (other : O → List X) → elements_by other self.old ≡ elements self.old
+            → elements_by other self.new ≡ elements self.old }
         ensures room { OnOk result (length (elements self.new) + additional ≤ room self.new) }
     {
         match self {
@@ -57,7 +63,8 @@ impl<X: Drop, O: Drop> SmallVec<X, O> {
     /// One element more, at the end, for which there is room.
     pub fn push_reserved(&mut self, element: X)
         requires { length (elements self.old) < room self.old }
-        ensures elements { (other : O → List X) → elements_by other self.new ≡ elements self.old ++ element ∷ [] }
+        ensures elements { (other : O → List X)
+            → elements_by other self.new ≡ elements self.old ++ element ∷ [] }
         ensures room { room self.new ≡ room self.old }
     {
         match self {
@@ -104,8 +111,8 @@ impl<X: Drop> SmallVec<X> {
         }
     }
 
-    /// Makes room for one element more, and in memory for some others. It never fails where there is room. Out of memory,
-    /// the elements stay as they are.
+    /// Makes room for one element more, and in memory for some others. It never fails where there
+    /// is room. Out of memory, the elements stay as they are.
     pub fn reserve_one(&mut self, alloc: Global) -> Result<(), AllocError>
         ensures same { elements self.new ≡ elements self.old }
         ensures grows { room self.old ≤ room self.new }

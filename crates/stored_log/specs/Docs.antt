@@ -1,5 +1,7 @@
--- The documents of a stored log: each with its entries in their order, in the order of the documents' names.
-use Rattle.std.specs.Prelude.{◌≡◌, ◌≢◌, ℕ, ◌≤◌, true, Bool, List, [], ◌∷◌, ◌++◌, length, if◌then◌else◌, Result, Err}
+-- The documents of a stored log: each with its entries in their order, in the
+-- order of the documents' names.
+use Rattle.std.specs.Prelude.{◌≡◌, ◌≢◌, ℕ, ◌≤◌, true, Bool, List, [], ◌∷◌, ◌++◌, length}
+use Rattle.std.specs.Prelude.{if◌then◌else◌, Result, Err}
 use Rattle.std.specs.List.{AllByRecursion, list_any}
 use Rattle.std.specs.Ordering.{is_lt}
 use Rattle.std.specs.Str.{bytes_eq}
@@ -79,7 +81,8 @@ abbrev pub add_batch : List ℕ → List Op → List Doc → List Doc
 add_batch name [] docs = docs
 add_batch name (op ∷ ops) docs = add_log name (op ∷ ops) docs
 
--- The batch may be written: of a document's name, of at most 256 entries, behind all that are there, and each fits.
+-- The batch may be written: of a document's name, of at most 256 entries, behind all
+-- that are there, and each fits.
 pub record IsBatch (name : List ℕ) (from : ℕ) (ops : List Op) (docs : List Doc) : Type 0 where
   pub named : is_name name ≡ true
   pub few : length ops ≤ most_rows

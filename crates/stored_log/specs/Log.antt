@@ -35,9 +35,11 @@ pub record KeepsAll (it : LogState) (epoch : ℕ) (docs : List Doc) : Type 0 whe
   pub same_docs : docs ≡ it.docs
 
 -- what keeps all behind a new epoch keeps what was kept before it
-pub raised_keeps : (first last : LogState) → KeepsAll first last.epoch last.docs → (epoch : ℕ) (docs : List Doc) → IsRaisedOrNot last epoch docs → KeepsAll first epoch docs
+pub raised_keeps : (first last : LogState) → KeepsAll first last.epoch last.docs
+    → (epoch : ℕ) (docs : List Doc) → IsRaisedOrNot last epoch docs → KeepsAll first epoch docs
 raised_keeps first last kept epoch docs raised = record { no_less = grows raised.raised_or_not; same_docs = raised.same_docs ∙ kept.same_docs }
   where
     grows : (epoch ≡ last.epoch) ⊎ (epoch ≡ last.epoch + 1) → first.epoch ≤ epoch
     grows (inl same) = subst (λ e. first.epoch ≤ e) (sym same) kept.no_less
-    grows (inr next) = subst (λ e. first.epoch ≤ e) (sym next) (le_trans kept.no_less (le-add_right last.epoch 1))
+    grows (inr next) = subst
+        (λ e. first.epoch ≤ e) (sym next) (le_trans kept.no_less (le-add_right last.epoch 1))

@@ -45,5 +45,6 @@ Reports out_before out_after = (text : List ℕ) × IsReport text × Appends out
 -- the refusal, or a part of it or of a report
 abbrev pub StopsShort : Option (List ℕ) → Option (List ℕ) → Type 0
 StopsShort out_before out_after =
-    Appends out_before out_after refusal_line ⊎ ((text : List ℕ) × (IsReport text ⊎ (text ≡ refusal_line))
+    Appends out_before out_after refusal_line
+    ⊎ ((text : List ℕ) × (IsReport text ⊎ (text ≡ refusal_line))
     × AppendsCut out_before out_after text)

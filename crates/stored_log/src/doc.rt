@@ -1,5 +1,6 @@
 //! One document of a stored log.
-ghost use Rattle.std.specs.Prelude.{◌≡◌, ◌≢◌, ◌+◌, ◌≤◌, ◌<◌, ◌++◌, ◌∷◌, [], length, take, string_bytes, IfOk, IfErr};
+ghost use Rattle.std.specs.Prelude.{◌≡◌, ◌≢◌, ◌+◌, ◌≤◌, ◌<◌, ◌++◌, ◌∷◌, [], length, take};
+ghost use Rattle.std.specs.Prelude.{string_bytes, IfOk, IfErr};
 ghost use Rattle.std.specs.Prelude.{OnOk, Ok, Err};
 ghost use Rattle.std.specs.List.{list_any};
 ghost use Rattle.json_scalar.specs.Refusal.{UnlessMemory};
@@ -63,7 +64,8 @@ impl StoredDoc {
         self.rows
     }
 
-    /// The front of its entries: each replica with its last counter. The only error is out of memory.
+    /// The front of its entries: each replica with its last counter.
+    /// The only error is out of memory.
     pub fn front(&self) -> Result<Front, Refusal>
         ensures { UnlessMemory result (Ok (front_of self.now.log)) }
     {
@@ -117,8 +119,9 @@ impl StoredDoc {
         })
     }
 
-    /// The operation, unchanged. Where it has no clones, it shares the names of its front with an entry whose front has
-    /// those names: `add` clones it, and those clones share then. Allocates nothing.
+    /// The operation, unchanged. Where it has no clones, it shares the names of its
+    /// front with an entry whose front has those names: `add` clones it, and those
+    /// clones share then. Allocates nothing.
     pub fn sharing(&self, op: Operation) -> Operation
         ensures { result ≡ op }
     {
@@ -127,7 +130,8 @@ impl StoredDoc {
 
     /// Adds clones of these entries, if each fits those before it. Otherwise all is as it was.
     pub fn add(&mut self, entries: &[Operation]) -> Result<(), Fault>
-        ensures ok { OnOk result ((self.new ≡ longer_by entries.now self.old) × IsGood (self.old.log ++ entries.now)) }
+        ensures ok { OnOk result ((self.new ≡ longer_by entries.now self.old)
+            × IsGood (self.old.log ++ entries.now)) }
         ensures err { IfErr result (λ e. (self.new ≡ self.old) × (e ≢ Fault.Store)) }
         ensures refused { result ≡ Err Fault.Refused → ¬ IsGood (self.old.log ++ entries.now) }
     {

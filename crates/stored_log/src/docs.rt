@@ -44,7 +44,8 @@ pub(crate) fn clones(alloc: Global, ops: &[Operation]) -> Result<Vec<Operation>,
 
 // A document of this name with clones of these entries.
 pub(crate) fn made(alloc: Global, name: &str, entries: &[Operation]) -> Result<StoredDoc, Fault>
-    ensures ok { IfOk result (λ d. (d ≡ record { name = name.now; log = entries.now }) × IsGood entries.now) }
+    ensures ok { IfOk result
+        (λ d. (d ≡ record { name = name.now; log = entries.now }) × IsGood entries.now) }
     ensures err { IfErr result (λ e. e ≢ Fault.Store) }
     ensures refused { result ≡ Err Fault.Refused → ¬ IsGood entries.now }
 {
@@ -64,7 +65,8 @@ pub(crate) fn put(docs: &mut Vec<StoredDoc>, at: usize, doc: StoredDoc) -> Resul
     }
 }
 
-/// The law that a batch appends its entries to those of its document, and leaves those of all others.
+/// The law that a batch appends its entries to those of its document,
+/// and leaves those of all others.
 pub fn batches_append()
     ensures appended { (name : List ℕ) (more : List Op) (docs : List Doc)
         → log_of name (add_batch name more docs) ≡ log_of name docs ++ more }

@@ -1,6 +1,7 @@
-//! Documents in the order of their names, of which one is looked up by bisection. The last one is looked at first,
-//! since rows are read in this order.
-ghost use Rattle.std.specs.Prelude.{◌≡◌, ◌≢◌, ◌≤◌, ◌↔◌, ◌++◌, ◌∷◌, [], length, IfOk, IfErr, IfSome, OnOk, Err, MatchOption, MatchResult};
+//! Documents in the order of their names, of which one is looked up by bisection. The last one is
+//! looked at first, since rows are read in this order.
+ghost use Rattle.std.specs.Prelude.{◌≡◌, ◌≢◌, ◌≤◌, ◌↔◌, ◌++◌, ◌∷◌, [], length, IfOk, IfErr, IfSome};
+ghost use Rattle.std.specs.Prelude.{OnOk, Err, MatchOption, MatchResult};
 ghost use Rattle.std.specs.Prelude.{IsTrue, true, false};
 ghost use Rattle.std.specs.List.Sorted.{IsPartitionPoint};
 ghost use Rattle.std.specs.Ordering.{is_lt};
@@ -22,7 +23,8 @@ use std::slice;
 fn search(docs: &[StoredDoc], name: &str) -> Result<usize, usize>
     requires { AreInOrder docs.now }
     ensures { MatchResult result
-        (IsIndexOf name_cmp (λ d. d.name) docs.now name.now) (IsGap name_cmp (λ d. d.name) docs.now name.now) }
+        (IsIndexOf name_cmp (λ d. d.name) docs.now name.now) (IsGap name_cmp
+        (λ d. d.name) docs.now name.now) }
 {
     let at = rank(docs, name);
     if at < docs.len() && docs[at].name() == name {
@@ -56,7 +58,8 @@ fn is_before(doc: &StoredDoc, name: &str) -> bool
 pub fn find<'a>(docs: &'a [StoredDoc], name: &str) -> Option<&'a StoredDoc>
     requires { AreInOrder docs.now }
     ensures named { IfSome result (λ d. d.now.name ≡ name.now) }
-    ensures log { MatchOption result (log_of name.now docs.now ≡ []) (λ d. d.now.log ≡ log_of name.now docs.now) }
+    ensures log { MatchOption result (log_of name.now docs.now ≡ [])
+        (λ d. d.now.log ≡ log_of name.now docs.now) }
 {
     match search(docs, name) {
         Ok(at) => Some(&docs[at]),
@@ -87,8 +90,8 @@ pub fn entries(docs: &[StoredDoc], alloc: Global, name: &str) -> Result<Vec<Oper
     }
 }
 
-/// A clone of the log of the document of this name, empty where it has no rows. The only error is out of
-/// memory.
+/// A clone of the log of the document of this name, empty where it has no rows.
+/// The only error is out of memory.
 pub fn log_clone(docs: &[StoredDoc], alloc: Global, name: &str) -> Result<OpLog, Fault>
     requires { AreInOrder docs.now }
     ensures ok { IfOk result (λ log. log.operations ≡ log_of name.now docs.now) }
@@ -103,14 +106,15 @@ pub fn log_clone(docs: &[StoredDoc], alloc: Global, name: &str) -> Result<OpLog,
 /// Whether entries of a document of this name may follow so many.
 pub fn may_follow(docs: &[StoredDoc], name: &str, from: usize) -> bool
     requires { AreInOrder docs.now }
-    ensures { IsTrue result ↔ ((is_name name.now ≡ true) × (from ≡ length (log_of name.now docs.now))) }
+    ensures { IsTrue result ↔ ((is_name name.now ≡ true)
+        × (from ≡ length (log_of name.now docs.now))) }
 {
     is_doc_name(name) && from == count(docs, name)
 }
 
-/// Adds the entry behind those of the document of this name, if it fits them. Where it has no clones, it shares the
-/// names of its front with an entry of the document, where they are the same. After an error the documents are as they
-/// were.
+/// Adds the entry behind those of the document of this name, if it fits them. Where it has no
+/// clones, it shares the names of its front with an entry of the document, where they are the same.
+/// After an error the documents are as they were.
 pub fn add_one(
     docs: &mut Vec<StoredDoc>,
     alloc: Global,
@@ -121,7 +125,8 @@ pub fn add_one(
     ensures ok { OnOk result ((docs.new.items ≡ add_log name.now (entry ∷ []) docs.old.items)
         × IsGood (log_of name.now docs.old.items ++ entry ∷ [])) }
     ensures err { IfErr result (λ e. (docs.new.items ≡ docs.old.items) × (e ≢ Fault.Store)) }
-    ensures refused { result ≡ Err Fault.Refused → ¬ IsGood (log_of name.now docs.old.items ++ entry ∷ []) }
+    ensures refused { result ≡ Err Fault.Refused
+        → ¬ IsGood (log_of name.now docs.old.items ++ entry ∷ []) }
 {
     let entry = sharing(docs.as_slice(), name, entry);
     add(docs, alloc, name, slice::from_ref(&entry))
@@ -138,8 +143,8 @@ fn sharing(docs: &[StoredDoc], name: &str, op: Operation) -> Operation
     }
 }
 
-/// Adds clones of the entries behind those of the document of this name, if each fits those before it. Otherwise the
-/// documents are as they were.
+/// Adds clones of the entries behind those of the document of this name, if each fits those before
+/// it. Otherwise the documents are as they were.
 pub fn add(
     docs: &mut Vec<StoredDoc>,
     alloc: Global,
@@ -150,7 +155,8 @@ pub fn add(
     ensures ok { OnOk result ((docs.new.items ≡ add_log name.now entries.now docs.old.items)
         × IsGood (log_of name.now docs.old.items ++ entries.now)) }
     ensures err { IfErr result (λ e. (docs.new.items ≡ docs.old.items) × (e ≢ Fault.Store)) }
-    ensures refused { result ≡ Err Fault.Refused → ¬ IsGood (log_of name.now docs.old.items ++ entries.now) }
+    ensures refused { result ≡ Err Fault.Refused
+        → ¬ IsGood (log_of name.now docs.old.items ++ entries.now) }
 {
     match search(docs.as_slice(), name) {
         Ok(at) => {

@@ -93,7 +93,8 @@ impl ListImage {
         ensures ok { OnOk result ((self.new.docs ≡ add_log doc.now entries.now self.old.docs)
             × IsGood (log_of doc.now self.old.docs ++ entries.now)) }
         ensures err { IfErr result (λ e. (self.new.docs ≡ self.old.docs) × (e ≢ Fault.Store)) }
-        ensures refused { result ≡ Err Fault.Refused → ¬ IsGood (log_of doc.now self.old.docs ++ entries.now) }
+        ensures refused { result ≡ Err Fault.Refused
+            → ¬ IsGood (log_of doc.now self.old.docs ++ entries.now) }
     {
         crate::add(&mut self.docs, alloc, doc, entries)
     }

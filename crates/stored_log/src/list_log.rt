@@ -45,8 +45,8 @@ impl ListStore {
     }
 }
 
-/// The use of its store at which a stored log in memory fails. A use is an `epoch_up` that isn't refused, an
-/// `append` of entries that may be added, a `fold` and a `close`.
+/// The use of its store at which a stored log in memory fails. A use is an `epoch_up` that isn't
+/// refused, an `append` of entries that may be added, a `fold` and a `close`.
 #[derive(Clone, Copy, Debug)]
 pub struct FailingUse {
     /// How many uses come before it.
@@ -104,7 +104,8 @@ fn folded(
     }
 }
 
-/// A stored log in memory. What is stored is in a store, which is opened again after a fault or a crash.
+/// A stored log in memory. What is stored is in a store, which is opened
+/// again after a fault or a crash.
 pub struct ListLog {
     store: ListStore,
     fails: Option<FailingUse>,

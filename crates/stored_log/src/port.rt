@@ -1,5 +1,6 @@
 //! The port: what a server needs of the store of its operations.
-ghost use Rattle.std.specs.Prelude.{◌≡◌, ◌≢◌, ◌⊎◌, ◌+◌, ◌≤◌, ◌↔◌, ℕ, List, [], length, true, false, IfOk, IfErr, OnOk, Err, Ok};
+ghost use Rattle.std.specs.Prelude.{◌≡◌, ◌≢◌, ◌⊎◌, ◌+◌, ◌≤◌, ◌↔◌, ℕ, List, [], length, true, false};
+ghost use Rattle.std.specs.Prelude.{IfOk, IfErr, OnOk, Err, Ok};
 ghost use Rattle.stored_log.specs.Docs.{AreGood, AreInOrder, Doc, IsBatch, add_batch, log_of};
 ghost use Rattle.stored_log.specs.Limits.{last_epoch};
 ghost use Rattle.stored_log.specs.Log.{HasSame, IsAddedOrNot, IsRaisedOrNot, KeepsAll, LogState};
@@ -10,8 +11,8 @@ use op_core::Operation;
 use op_log::OpLog;
 use std::alloc::Global;
 
-/// A stored log: the number of the last start (the epoch), and the operations of documents, by name.
-/// After a fault of its store each call answers `Store`, until it is opened again.
+/// A stored log: the number of the last start (the epoch), and the operations of documents, by
+/// name. After a fault of its store each call answers `Store`, until it is opened again.
 pub trait StoredLog: Drop {
     /// What is left of it once it is closed: the store alone, to be opened again.
     type Left: Drop;
@@ -28,7 +29,8 @@ pub trait StoredLog: Drop {
     // The store that is left holds the epoch and the documents alone.
     ghost is_in_file: { Self → Self.Left → Type 0 };
 
-    // The store that is left holds what was last stored, also after a fault and beside further content.
+    // The store that is left holds what was last stored, also after a
+    // fault and beside further content.
     ghost has_moved: { Self → Self.Left → Type 0 };
 
     // Whatever a crash leaves of the store that is left is the epoch and the documents.
@@ -52,9 +54,11 @@ pub trait StoredLog: Drop {
         ensures never_else { IfErr result (λ e. (e ≡ Fault.Refused) ⊎ (e ≡ Fault.Store)) }
         ensures unchanged { result ≡ Err Fault.Refused → self.new ≡ self.old }
         ensures failed { (result ≡ Err Fault.Store) ↔ ((log self.new).has_failed ≡ true) }
-        ensures shut { (log self.old).has_failed ≡ true → (result ≡ Err Fault.Store) × (self.new ≡ self.old) }
+        ensures shut { (log self.old).has_failed ≡ true → (result ≡ Err Fault.Store)
+            × (self.new ≡ self.old) }
         // A crash leaves all as it was, or the new epoch; and the new one once it was answered.
-        ensures crash { (log self.old).has_failed ≡ false → survives self.new (IsRaisedOrNot (log self.old)) }
+        ensures crash { (log self.old).has_failed ≡ false
+            → survives self.new (IsRaisedOrNot (log self.old)) }
         ensures stays { OnOk result (survives self.new (HasSame (log self.new))) };
 
     /// The documents with entries, in the order of their names.
@@ -71,10 +75,11 @@ pub trait StoredLog: Drop {
         ensures failed { (result ≡ Err Fault.Store) ↔ ((log self.now).has_failed ≡ true) }
         ensures never_else { IfErr result (λ e. e ≡ Fault.Store) };
 
-    /// The log of the document, as a clone; empty where no entry of it is stored. No entry is checked
-    /// again.
+    /// The log of the document, as a clone; empty where no entry of it is
+    /// stored. No entry is checked again.
     fn load(&self, alloc: Global, doc: &str) -> Result<OpLog, Fault>
-        ensures ok { IfOk result (λ loaded. loaded.operations ≡ log_of doc.now (log self.now).docs) }
+        ensures ok { IfOk result
+            (λ loaded. loaded.operations ≡ log_of doc.now (log self.now).docs) }
         ensures failed { (result ≡ Err Fault.Store) ↔ ((log self.now).has_failed ≡ true) }
         ensures never_refused { IfErr result (λ e. (e ≡ Fault.Store) ⊎ (e ≡ Fault.Memory)) };
 
@@ -88,10 +93,13 @@ pub trait StoredLog: Drop {
         ensures batch { OnOk result (IsBatch doc.now from entries.now (log self.old).docs) }
         ensures empty { entries.now ≡ [] → self.new ≡ self.old }
         ensures alone { (log self.new).is_alone ≡ (log self.old).is_alone }
-        ensures refused { result ≡ Err Fault.Refused → ¬ IsBatch doc.now from entries.now (log self.old).docs }
-        ensures unchanged { (result ≡ Err Fault.Refused) ⊎ (result ≡ Err Fault.Memory) → self.new ≡ self.old }
+        ensures refused { result ≡ Err Fault.Refused
+            → ¬ IsBatch doc.now from entries.now (log self.old).docs }
+        ensures unchanged { (result ≡ Err Fault.Refused) ⊎ (result ≡ Err Fault.Memory)
+            → self.new ≡ self.old }
         ensures failed { (result ≡ Err Fault.Store) ↔ ((log self.new).has_failed ≡ true) }
-        ensures shut { (log self.old).has_failed ≡ true → (result ≡ Err Fault.Store) × (self.new ≡ self.old) }
+        ensures shut { (log self.old).has_failed ≡ true → (result ≡ Err Fault.Store)
+            × (self.new ≡ self.old) }
         // A crash leaves all as it was, or the whole batch; and the batch once it was answered.
         ensures crash { (log self.old).has_failed ≡ false
             → survives self.new (IsAddedOrNot doc.now entries.now (log self.old)) }
@@ -108,7 +116,8 @@ pub trait StoredLog: Drop {
     /// Moves all that is stored to the file alone, and leaves the store; after a
     /// fault too.
     fn close(self) -> Result<Self::Left, (StoredFault, Self::Left)>
-        ensures folded { IfOk result (λ last. (log self).has_failed ≡ false → is_in_file self last) }
+        ensures folded { IfOk result
+            (λ last. (log self).has_failed ≡ false → is_in_file self last) }
         ensures copied { IfOk result (has_moved self) }
         // Nothing is lost.
         ensures left { IfErr result (λ e. (log self).has_failed ≡ false → is_in_store self e.1) };

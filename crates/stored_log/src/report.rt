@@ -8,7 +8,8 @@ ghost use Rattle.serde_json.specs.Written.{compact_text};
 ghost use Rattle.json_text.specs.Tokens.{data_tokens};
 ghost use Rattle.line_feed.specs.Cut.{AppendsCut, line_of};
 ghost use Rattle.stored_log.specs.Docs.{AreInOrder, AreGood};
-ghost use Rattle.stored_log.specs.Report.{doc_data, epoch_data, doc_line, report, refusal_line, StopsShort};
+ghost use Rattle.stored_log.specs.Report.{doc_data, epoch_data, doc_line, report, refusal_line};
+ghost use Rattle.stored_log.specs.Report.{StopsShort};
 
 use crate::{Fault, StoredDoc, StoredFault, StoredLog};
 use json_scalar::Refusal;
@@ -32,8 +33,9 @@ pub enum CheckFailure {
     Output,
 }
 
-/// Closes the stored log that was opened, and writes the report of what it holds, as `check_over`. If it
-/// was refused a line says so. If it could not be opened for another cause, nothing is written.
+/// Closes the stored log that was opened, and writes the report of what it holds, as
+/// `check_over`. If it was refused a line says so. If it could not be opened for
+/// another cause, nothing is written.
 pub fn check_opened<L: StoredLog, W: Sink>(
     alloc: Global,
     opened: Result<L, Fault>,
@@ -44,8 +46,10 @@ pub fn check_opened<L: StoredLog, W: Sink>(
         Appends (W.contents sink.old) (W.contents sink.new) (report (L.log copy).docs (L.log copy).epoch))) }
     ensures good { IfOk opened (λ copy. AreInOrder (L.log copy).docs × AreGood (L.log copy).docs) }
     // The store that is left has all of it, also beside further content.
-    ensures closed { OnOk result (IsOkAnd opened (λ copy. (last : L.Left) × L.has_moved copy last × L.is_in_file copy last)) }
-    ensures refused { opened ≡ Err Fault.Refused → Appends (W.contents sink.old) (W.contents sink.new) refusal_line
+    ensures closed { OnOk result (IsOkAnd opened
+        (λ copy. (last : L.Left) × L.has_moved copy last × L.is_in_file copy last)) }
+    ensures refused { opened ≡ Err Fault.Refused
+        → Appends (W.contents sink.old) (W.contents sink.new) refusal_line
         ⊎ AppendsCut (W.contents sink.old) (W.contents sink.new) refusal_line }
     ensures whole { opened ≡ Err Fault.Refused → W.has_failed sink.new ≡ false
         → Appends (W.contents sink.old) (W.contents sink.new) refusal_line }
@@ -74,7 +78,8 @@ fn check_closed<L: StoredLog, W: Sink>(
     ensures reported { OnOk result (Appends (W.contents sink.old) (W.contents sink.new)
         (report (L.log copy).docs (L.log copy).epoch)) }
     ensures good { AreInOrder (L.log copy).docs × AreGood (L.log copy).docs }
-    ensures closed { OnOk result ((last : L.Left) × L.has_moved copy last × L.is_in_file copy last) }
+    ensures closed { OnOk result ((last : L.Left) × L.has_moved copy last
+        × L.is_in_file copy last) }
     ensures cut { IfErr result (λ _. AppendsCut (W.contents sink.old) (W.contents sink.new)
         (report (L.log copy).docs (L.log copy).epoch) ⊎ (sink.new ≡ sink.old)) }
     ensures opened { result ≢ Err CheckFailure.Unopened }
@@ -93,7 +98,8 @@ fn check_closed<L: StoredLog, W: Sink>(
 fn write_text<W: Sink>(sink: &mut W, text: &[u8]) -> Result<(), CheckFailure>
     requires { W.has_failed sink.old ≡ false }
     ensures written { OnOk result (Appends (W.contents sink.old) (W.contents sink.new) text.now) }
-    ensures cut { IfErr result (λ _. AppendsCut (W.contents sink.old) (W.contents sink.new) text.now) }
+    ensures cut { IfErr result
+        (λ _. AppendsCut (W.contents sink.old) (W.contents sink.new) text.now) }
     ensures output { IfErr result (λ failure. failure ≡ CheckFailure.Output) }
 {
     match write_all(sink, text) {
@@ -105,12 +111,14 @@ fn write_text<W: Sink>(sink: &mut W, text: &[u8]) -> Result<(), CheckFailure>
 // Writes the refusal of a stored log, and nothing for another fault.
 fn report_fault<W: Sink>(fault: Fault, sink: &mut W)
     requires { W.has_failed sink.old ≡ false }
-    ensures refused { fault ≡ Fault.Refused → Appends (W.contents sink.old) (W.contents sink.new) refusal_line
+    ensures refused { fault ≡ Fault.Refused
+        → Appends (W.contents sink.old) (W.contents sink.new) refusal_line
         ⊎ AppendsCut (W.contents sink.old) (W.contents sink.new) refusal_line }
     ensures whole { fault ≡ Fault.Refused → W.has_failed sink.new ≡ false
         → Appends (W.contents sink.old) (W.contents sink.new) refusal_line }
     ensures unwritten { (fault ≡ Fault.Refused) ⊎ (sink.new ≡ sink.old) }
-    ensures stopped { StopsShort (W.contents sink.old) (W.contents sink.new) ⊎ (sink.new ≡ sink.old) }
+    ensures stopped { StopsShort (W.contents sink.old) (W.contents sink.new)
+        ⊎ (sink.new ≡ sink.old) }
 {
     match fault {
         Fault::Refused => write_refusal(sink),
@@ -123,7 +131,8 @@ fn write_refusal<W: Sink>(sink: &mut W)
     requires { W.has_failed sink.old ≡ false }
     ensures written { Appends (W.contents sink.old) (W.contents sink.new) refusal_line
         ⊎ AppendsCut (W.contents sink.old) (W.contents sink.new) refusal_line }
-    ensures whole { W.has_failed sink.new ≡ false → Appends (W.contents sink.old) (W.contents sink.new) refusal_line }
+    ensures whole { W.has_failed sink.new ≡ false
+        → Appends (W.contents sink.old) (W.contents sink.new) refusal_line }
 {
     match write_all(sink, REFUSED_LINE) {
         Ok(()) => {}
@@ -132,10 +141,10 @@ fn write_refusal<W: Sink>(sink: &mut W)
     }
 }
 
-/// Writes a line for each document of the stored log, in the order of their names, with its rows and its
-/// front (a version vector), and then a line with the epoch. The status is 0, or 1 where the sink
-/// or the stored log has failed, or memory runs out. Only tests call it: the program calls
-/// `check_opened`.
+/// Writes a line for each document of the stored log, in the order of their names, with its
+/// rows and its front (a version vector), and then a line with the epoch. The status is 0,
+/// or 1 where the sink or the stored log has failed, or memory runs out. Only tests call
+/// it: the program calls `check_opened`.
 pub fn check_over<L: StoredLog, W: Sink>(alloc: Global, copy: &L, sink: &mut W) -> u8
     requires { W.has_failed sink.old ≡ false }
     ensures status { (result ≡ 0) ⊎ (result ≡ 1) }
@@ -158,7 +167,8 @@ pub fn check_over<L: StoredLog, W: Sink>(alloc: Global, copy: &L, sink: &mut W) 
 }
 
 fn report_of<L: StoredLog>(alloc: Global, copy: &L) -> Result<String, Refusal>
-    ensures text { IfOk result (λ text. string_bytes text ≡ report (L.log copy.now).docs (L.log copy.now).epoch) }
+    ensures text { IfOk result
+        (λ text. string_bytes text ≡ report (L.log copy.now).docs (L.log copy.now).epoch) }
     ensures good { AreInOrder (L.log copy.now).docs × AreGood (L.log copy.now).docs }
     ensures works { IfOk result (λ text. (L.log copy.now).has_failed ≡ false) }
 {
@@ -188,7 +198,8 @@ fn add_doc(alloc: Global, text: &mut String, doc: &StoredDoc) -> Result<(), Refu
 }
 
 fn add_epoch(alloc: Global, text: &mut String, epoch: u64) -> Result<(), Refusal>
-    ensures { OnOk result (string_bytes text.new ≡ string_bytes text.old ++ line_of (compact_text (epoch_data epoch))) }
+    ensures { OnOk result (string_bytes text.new ≡ string_bytes text.old
+        ++ line_of (compact_text (epoch_data epoch))) }
 {
     let mut line = JsonText::new(alloc);
     put_epoch(&mut line, epoch)?;

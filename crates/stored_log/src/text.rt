@@ -69,7 +69,8 @@ pub fn operation_of(alloc: Global, text: &str) -> Result<Operation, Fault>
     ensures ok { IfOk result (λ op. op_text op ≡ text.now) }
     ensures err { IfErr result (λ e. e ≢ Fault.Store) }
     // Each text that is written is read.
-    ensures accepts { (op : Op) → IsTrue (is_shaped op) → op_text op ≡ text.now → UnlessNoMemory result (Ok op) }
+    ensures accepts { (op : Op) → IsTrue (is_shaped op) → op_text op ≡ text.now
+        → UnlessNoMemory result (Ok op) }
 {
     let op = read(alloc, text)?;
     let again = text_in(alloc, &op, room_like(text))?;
@@ -81,7 +82,8 @@ pub fn operation_of(alloc: Global, text: &str) -> Result<Operation, Fault>
 
 fn read(alloc: Global, text: &str) -> Result<Operation, Fault>
     ensures err { IfErr result (λ e. e ≢ Fault.Store) }
-    ensures accepts { (op : Op) → IsTrue (is_shaped op) → op_text op ≡ text.now → UnlessNoMemory result (Ok op) }
+    ensures accepts { (op : Op) → IsTrue (is_shaped op) → op_text op ≡ text.now
+        → UnlessNoMemory result (Ok op) }
 {
     match Value::from_str(alloc, text) {
         Ok(value) => read_value(alloc, &value),
@@ -91,7 +93,8 @@ fn read(alloc: Global, text: &str) -> Result<Operation, Fault>
 
 fn read_value(alloc: Global, value: &Value) -> Result<Operation, Fault>
     ensures err { IfErr result (λ e. e ≢ Fault.Store) }
-    ensures accepts { (op : Op) → IsTrue (is_shaped op) → wire op ≡ view value.now → UnlessNoMemory result (Ok op) }
+    ensures accepts { (op : Op) → IsTrue (is_shaped op) → wire op ≡ view value.now
+        → UnlessNoMemory result (Ok op) }
 {
     match read_wire(alloc, value) {
         Ok(op) => Ok(op),

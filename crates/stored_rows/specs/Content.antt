@@ -64,7 +64,8 @@ meta_columns r = column r 0 ∷ column r 1 ∷ column r 2 ∷ []
 abbrev pub entry_columns : Row → Row
 entry_columns r = column r 1 ∷ column r 2 ∷ column r 3 ∷ []
 
--- Two rows of these names and values, in any order. Their rowids differ, so an UPDATE of one leaves the other.
+-- Two rows of these names and values, in any order. Their rowids differ, so an
+-- UPDATE of one leaves the other.
 pub record HasPair (name other : List ℕ) (value at_other : ℕ) (rows : List Row) : Type 0 where
   pub id : ℤ
   pub other_id : ℤ

@@ -13,10 +13,11 @@ pub record IsMeta (format epoch : ℕ) (rows : List Row) : Type 0 where
   pub format_id : ℤ
   pub epoch_id : ℤ
   pub apart : format_id ≢ epoch_id
-  pub is : rows ≡ meta_row format_id (codes "format") format ∷ meta_row epoch_id (codes "epoch") epoch ∷ []
+  pub is : rows
+      ≡ meta_row format_id (codes "format") format ∷ meta_row epoch_id (codes "epoch") epoch ∷ []
 
--- The documents are good and in order, a file of this format may hold them, and they have these rows and no
--- others, in any order.
+-- The documents are good and in order, a file of this format may hold them, and they have these
+-- rows and no others, in any order.
 pub record HasRows (format : ℕ) (rows : List Row) (docs : List Doc) : Type 0 where
   pub in_order : AreInOrder docs
   pub good : AreGood docs
@@ -26,7 +27,8 @@ pub record HasRows (format : ℕ) (rows : List Row) (docs : List Doc) : Type 0 w
 
 -- one row more
 abbrev pub AddsRow : ℕ → Row → List Doc → List Doc → Type 0
-AddsRow format row old new = (rows : List Row) → HasRows format rows old → HasRows format (rows ++ row ∷ []) new
+AddsRow format row old new = (rows : List Row) → HasRows format rows old
+    → HasRows format (rows ++ row ∷ []) new
 
 -- The tables hold this, and reading them changed nothing.
 pub record ReadsContent (what : Content) (old new : State) : Type 0 where

@@ -1,11 +1,13 @@
 -- Statements that were run one after another, whatever tables the database has.
-use Rattle.std.specs.Prelude.{◌≡◌, ◌⊎◌, ℕ, zero, suc, ◌/◌, pos, List, [], ◌∷◌, ◌++◌, map, take, drop, length, flat_map, Result, Ok, Err, OnOk, IfErr, codes}
+use Rattle.std.specs.Prelude.{◌≡◌, ◌⊎◌, ℕ, zero, suc, ◌/◌, pos, List, [], ◌∷◌, ◌++◌, map, take}
+use Rattle.std.specs.Prelude.{drop, length, flat_map, Result, Ok, Err, OnOk, IfErr, codes}
 use Rattle.sqlite_trees.specs.declared.store.Store.{Ghosts}
 use Rattle.sqlite.specs.declared.types.Value.TheVariants.{Int}
 use Rattle.sqlite.specs.Order.{Row}
 use Rattle.sqlite.specs.Tree.{Trees}
 use Rattle.sqlite.specs.Held.{Held, state}
-use Rattle.sqlite.specs.State.{HasCleanDisk, Survives, Executes, CommitsBy, Begins, Shown, FailsToQuery}
+use Rattle.sqlite.specs.State.{HasCleanDisk, Survives, Executes, CommitsBy, Begins, Shown}
+use Rattle.sqlite.specs.State.{FailsToQuery}
 use Rattle.sqlite.specs.declared.error.Error.{Error}
 use Rattle.stored_rows.specs.Tables.{meta_text, entry_text, sixteen_text}
 
@@ -100,7 +102,8 @@ RanAll {S} g (it ∷ more) old new = (mid : Held S) × Ran g it old mid × RanAl
 abbrev pub StopsBy : {S : Type 0} → Ghosts S → List Statement → Held S → Held S → Error → Type 0
 StopsBy g [] old new error = ⊥
 StopsBy {S} g (it ∷ more) old new error =
-    RunsTo g it old new (Err error) ⊎ ((mid : Held S) × Ran g it old mid × StopsBy g more mid new error)
+    RunsTo g it old new (Err error)
+    ⊎ ((mid : Held S) × Ran g it old mid × StopsBy g more mid new error)
 
 -- it commits this
 abbrev pub CommitsFor : {S : Type 0} → Ghosts S → Statement → Held S → Trees → Type 0
@@ -112,8 +115,8 @@ CommitsOneOf g [] old db = ⊥
 CommitsOneOf {S} g (it ∷ more) old db =
     CommitsFor g it old db ⊎ ((mid : Held S) × Ran g it old mid × CommitsOneOf g more mid db)
 
--- They were run in turn, up to the first that failed. A crash leaves what was there before, or what one of
--- them commits.
+-- They were run in turn, up to the first that failed. A crash leaves what was there
+-- before, or what one of them commits.
 pub record RunsThrough {S T : Type 0} (g : Ghosts S) (its : List Statement) (old new : Held S)
     (r : Result T Error) : Type 0 where
   pub crash : Survives (state g old) (state g new) (CommitsOneOf g its old)

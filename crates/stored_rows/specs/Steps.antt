@@ -4,7 +4,8 @@ use Rattle.sqlite.specs.State.{State}
 use Rattle.stored_rows.specs.Tables.{no_schema, copy_schema}
 use Rattle.stored_rows.specs.Content.{Content, Holds}
 
--- The connection is open with no transaction, and its tables, which are all that there are, hold this.
+-- The connection is open with no transaction, and its tables, which are
+-- all that there are, hold this.
 pub record IsOpenWith (what : Content) (s : State) : Type 0 where
   pub is_open : IsTrue s.is_open
   pub autocommit : s.in_transaction ≡ false

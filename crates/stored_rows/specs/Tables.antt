@@ -1,5 +1,6 @@
 -- The two tables of the stored log, as their CREATE statements make them.
-use Rattle.std.specs.Prelude.{◌≡◌, true, false, [], ◌∷◌, ◌++◌, Option, None, Some, codes, replicate, flat_map, List, ℕ}
+use Rattle.std.specs.Prelude.{◌≡◌, true, false, [], ◌∷◌, ◌++◌, Option, None, Some, codes, replicate}
+use Rattle.std.specs.Prelude.{flat_map, List, ℕ}
 use Rattle.std.specs.List.{find}
 use Rattle.sqlite_schema.specs.Names.{same_name, view_named}
 use Rattle.sqlite.specs.Collation.TheVariants.{Binary}
@@ -26,7 +27,8 @@ three_values = codes "(" ++ 63 ∷ codes ", " ++ 63 ∷ codes ", " ++ 63 ∷ cod
 
 -- a statement that inserts sixteen entries
 abbrev pub sixteen_text : List ℕ
-sixteen_text = codes "INSERT INTO entry (doc, place, text) VALUES " ++ three_values ++ flat_map (λ more. codes ", " ++ more) (replicate 15 three_values)
+sixteen_text = codes "INSERT INTO entry (doc, place, text) VALUES " ++ three_values
+    ++ flat_map (λ more. codes ", " ++ more) (replicate 15 three_values)
 
 abbrev pub meta : Table
 meta = record {

@@ -1,7 +1,7 @@
 //! The tables of a stored log in SQLite, and their rows.
 //!
-//! The schema of the two tables, `meta` and `entry`, and what the texts of their statements mean; the
-//! statements that make, read and write them; and documents read back from rows.
+//! The schema of the two tables, `meta` and `entry`, and what the texts of their statements mean;
+//! the statements that make, read and write them; and documents read back from rows.
 #![tactic(auto)]
 
 mod load;

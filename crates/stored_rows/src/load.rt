@@ -16,15 +16,16 @@ use sqlite::{Alter, Connection};
 use std::alloc::Global;
 use stored_log::{Fault, StoredDoc};
 
-/// The documents that the rows of `entry` hold, which it reads by document and place. Each row is dropped
-/// once its entry is in a log, before the next is asked for, so no more rows are held than the database
-/// reads ahead. It changes nothing.
+/// The documents that the rows of `entry` hold, which it reads by document and place. Each row is
+/// dropped once its entry is in a log, before the next is asked for, so no more rows are held than
+/// the database reads ahead. It changes nothing.
 pub fn read_docs<S: Alter>(
     alloc: Global,
     conn: &mut Connection<S>,
     format: u32,
 ) -> Result<Vec<StoredDoc>, Fault>
-    ensures good { IfOk result (λ docs. AreInOrder docs.items × AreGood docs.items × AreWritable 2 docs.items) }
+    ensures good { IfOk result
+        (λ docs. AreInOrder docs.items × AreGood docs.items × AreWritable 2 docs.items) }
     ensures in_format { IfOk result (λ docs. AreWritable format docs.items) }
     ensures ok { HasCleanDisk (state S.Store conn.new)
         → IfOk result (λ docs. (state S.Store conn.old).now.schema ≡ copy_schema

@@ -1,5 +1,6 @@
 //! The rows of both tables, checked and taken apart.
-ghost use Rattle.std.specs.Prelude.{◌≡◌, ◌≢◌, ◌≤◌, ◌<◌, ◌^◌, [], ◌∷◌, ◌++◌, ◌⊎◌, ◌↔◌, codes, false, length, IfOk, OnOk};
+ghost use Rattle.std.specs.Prelude.{◌≡◌, ◌≢◌, ◌≤◌, ◌<◌, ◌^◌, [], ◌∷◌, ◌++◌, ◌⊎◌, ◌↔◌, codes, false};
+ghost use Rattle.std.specs.Prelude.{length, IfOk, OnOk};
 ghost use Rattle.std.specs.Prelude.{IfErr, Ok, IsTrue, IsUtf8, ℕ, ℤ, List};
 ghost use Rattle.sqlite.specs.declared.types.Value.TheVariants.{Text};
 ghost use Rattle.sqlite_value.specs.Order.{column};
@@ -28,7 +29,8 @@ pub const OLD_FORMAT: u32 = 1;
 fn text_at(row: &Row, at: usize) -> Result<&str, Fault>
     ensures ok { IfOk result (λ text. (column row.now at ≡ Text text.now) × IsUtf8 text.now) }
     ensures err { IfErr result (λ e. e ≢ Fault.Store) }
-    ensures accepts { (text : List ℕ) → at < length row.now → column row.now at ≡ Text text → IsUtf8 text
+    ensures accepts { (text : List ℕ) → at < length row.now → column row.now at ≡ Text text
+        → IsUtf8 text
         → IfErr result (λ e. e ≡ Fault.Memory) }
 {
     let Ok(ValueRef::Text(bytes)) = row.get_ref(at) else {

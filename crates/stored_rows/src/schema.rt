@@ -1,12 +1,15 @@
 //! Whether a schema is the one that the statements of the stored log make.
 
-ghost use Rattle.std.specs.Prelude.{◌≡◌, ◌≢◌, ◌↔◌, [], ◌∷◌, None, true, false, codes, IsTrue, List, ℕ};
+ghost use Rattle.std.specs.Prelude.{◌≡◌, ◌≢◌, ◌↔◌, [], ◌∷◌, None, true, false, codes, IsTrue, List};
+ghost use Rattle.std.specs.Prelude.{ℕ};
 ghost use Rattle.std.specs.Option.{option_copied};
 ghost use Rattle.sqlite.specs.declared.types.Value.TheVariants.{Null};
 ghost use Rattle.sqlite.specs.Collation.TheVariants.{Binary};
 ghost use Rattle.sqlite_value.specs.Keys.{plain};
-ghost use Rattle.stored_rows.specs.Tables.{meta, entry, no_schema, copy_schema, strict_column, strict_table};
-ghost use Rattle.stored_rows.specs.Tables.{copy_indexes, HasKey, HasNoMore, HasNoView, HasNeither, HasBoth, IsMadeAs};
+ghost use Rattle.stored_rows.specs.Tables.{meta, entry, no_schema, copy_schema, strict_column};
+ghost use Rattle.stored_rows.specs.Tables.{strict_table};
+ghost use Rattle.stored_rows.specs.Tables.{copy_indexes, HasKey, HasNoMore, HasNoView, HasNeither};
+ghost use Rattle.stored_rows.specs.Tables.{HasBoth, IsMadeAs};
 ghost use Rattle.stored_rows.specs.Tables.{automatic_index, table_called};
 
 use sqlite_items::Items;
@@ -108,7 +111,8 @@ fn has_no_more(table: &Table) -> bool
 }
 
 fn is_table(table: &Table, name: &[u8], primary: &[usize]) -> bool
-    ensures { IsTrue result ↔ (table.now ≡ strict_table name.now table.now.tree table.now.columns primary.now) }
+    ensures { IsTrue result ↔ (table.now
+        ≡ strict_table name.now table.now.tree table.now.columns primary.now) }
 {
     if table.name.as_slice() != name {
         return false;
@@ -188,7 +192,8 @@ fn are_indexes(indexes: &[Index]) -> bool
     is_index(by_place, b"sqlite_autoindex_entry_1", 3, 2, &[1, 2])
 }
 
-/// The database has the two tables of the stored log, as its statements make them, and nothing else.
+/// The database has the two tables of the stored log, as its statements make them, and nothing
+/// else.
 pub fn is_copy(schema: &Schema) -> bool
     ensures { IsTrue result ↔ (schema.now ≡ copy_schema) }
 {
@@ -206,8 +211,8 @@ pub fn is_copy(schema: &Schema) -> bool
 pub enum Found {
     Neither,
     Both,
-    /// One of them alone, one with other columns or another key, something else of that name, or a name in
-    /// other letters.
+    /// One of them alone, one with other columns or another key, something else of that
+    /// name, or a name in other letters.
     Other,
 }
 

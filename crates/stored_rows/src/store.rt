@@ -1,20 +1,26 @@
 //! The statements of a stored log.
 //!
-//! Each function says what its statements make of a connection that serves a content, and that a crash then
-//! leaves what it left before or what they commit.
+//! Each function says what its statements make of a connection that serves a content, and that a
+//! crash then leaves what it left before or what they commit.
 
-ghost use Rattle.std.specs.Prelude.{ℕ, ◌+◌, ◌<◌, ◌^◌, List, [], ◌∷◌, ◌++◌, length, map, flat_map, string_bytes, OnOk, IfOk};
+ghost use Rattle.std.specs.Prelude.{ℕ, ◌+◌, ◌<◌, ◌^◌, List, [], ◌∷◌, ◌++◌, length, map, flat_map};
+ghost use Rattle.std.specs.Prelude.{string_bytes, OnOk, IfOk};
 ghost use Rattle.std.specs.Prelude.{IfErr, Err, false, ◌≡◌};
 ghost use Rattle.std.specs.List.Sorted.{IsPermutation, IsSorted};
 ghost use Rattle.sqlite.specs.Held.{state};
 ghost use Rattle.sqlite.specs.Values.{bound};
 ghost use Rattle.sqlite.specs.State.{HasCleanDisk, Survives, IsUnchanged};
-ghost use Rattle.stored_rows.specs.Content.{Content, Holds, with_format, with_epoch, with_rows, first_content};
-ghost use Rattle.stored_rows.specs.Content.{entry_row, rows_from, meta_tree, meta_columns, meta_cmp};
+ghost use Rattle.stored_rows.specs.Content.{Content, Holds, with_format, with_epoch, with_rows};
+ghost use Rattle.stored_rows.specs.Content.{first_content};
+ghost use Rattle.stored_rows.specs.Content.{entry_row, rows_from, meta_tree, meta_columns};
+ghost use Rattle.stored_rows.specs.Content.{meta_cmp};
 ghost use Rattle.stored_rows.specs.Steps.{IsBare, IsOpenWith, StaysOutside};
-ghost use Rattle.stored_rows.specs.Statements.{CommitsFor, CommitsOneOf, FailsFor, RanAll, RunsThrough, RunsTo};
-ghost use Rattle.stored_rows.specs.Statements.{ShowsFor, StopsBy, insert_row, insert_sixteen, inserts_of, making_of_tables, roll_it_back};
-ghost use Rattle.stored_rows.specs.Statements.{select_meta, text_alone, update_epoch, update_format, batch_of};
+ghost use Rattle.stored_rows.specs.Statements.{CommitsFor, CommitsOneOf, FailsFor, RanAll};
+ghost use Rattle.stored_rows.specs.Statements.{RunsThrough, RunsTo};
+ghost use Rattle.stored_rows.specs.Statements.{ShowsFor, StopsBy, insert_row, insert_sixteen};
+ghost use Rattle.stored_rows.specs.Statements.{inserts_of, making_of_tables, roll_it_back};
+ghost use Rattle.stored_rows.specs.Statements.{select_meta, text_alone, update_epoch};
+ghost use Rattle.stored_rows.specs.Statements.{update_format, batch_of};
 ghost use Rattle.stored_rows.specs.Tables.{copy_schema};
 
 use sqlite::types::{ToSql, ValueRef};
@@ -26,7 +32,8 @@ pub fn set_epoch<S: Alter>(conn: &mut Connection<S>, epoch: u32) -> Result<usize
         → OnOk result ((was : Content) → IsOpenWith was (state S.Store conn.old)
         → IsOpenWith (with_epoch epoch was) (state S.Store conn.new)) }
     ensures crash { Survives (state S.Store conn.old) (state S.Store conn.new)
-        (λ db. (was : Content) → IsOpenWith was (state S.Store conn.old) → Holds (with_epoch epoch was) db) }
+        (λ db. (was : Content) → IsOpenWith was (state S.Store conn.old)
+        → Holds (with_epoch epoch was) db) }
     // Also beside other tables, from here on.
     ensures answer { HasCleanDisk (state S.Store conn.new)
         → RunsTo S.Store (update_epoch epoch) conn.old conn.new result }
@@ -45,7 +52,8 @@ pub fn set_format<S: Alter>(conn: &mut Connection<S>, format: u32) -> Result<usi
         → OnOk result ((was : Content) → IsOpenWith was (state S.Store conn.old)
         → IsOpenWith (with_format format was) (state S.Store conn.new)) }
     ensures crash { Survives (state S.Store conn.old) (state S.Store conn.new)
-        (λ db. (was : Content) → IsOpenWith was (state S.Store conn.old) → Holds (with_format format was) db) }
+        (λ db. (was : Content) → IsOpenWith was (state S.Store conn.old)
+        → Holds (with_format format was) db) }
     ensures outside { HasCleanDisk (state S.Store conn.new)
         → IfErr result (λ _. StaysOutside (state S.Store conn.old) (state S.Store conn.new)) }
     // Also beside other tables, from here on.
@@ -109,7 +117,8 @@ fn put_each<S: Alter>(
 fn row_values<'a>(doc: &'a str, from: u32, texts: &'a [String]) -> [ValueRef<'a>; VALUES]
     requires few { length texts.now ≡ 16 }
     requires fits { from + 16 < 2 ^ 32 }
-    ensures { bound result ≡ flat_map (λ row. row) (rows_from doc.now (from + 1) (map string_bytes texts.now)) }
+    ensures { bound result
+        ≡ flat_map (λ row. row) (rows_from doc.now (from + 1) (map string_bytes texts.now)) }
 {
     let mut values = [ValueRef::Null; VALUES];
     let mut place = from;
@@ -196,8 +205,10 @@ pub fn put_entries<S: Alter>(
 /// Ends a transaction that is under way, and nothing is committed.
 pub fn roll_back<S: Alter>(conn: &mut Connection<S>) -> Result<usize, Error>
     ensures crash { Survives (state S.Store conn.old) (state S.Store conn.new) (λ _. ⊥) }
-    ensures ended { HasCleanDisk (state S.Store conn.new) → (state S.Store conn.new).in_transaction ≡ false }
-    ensures answer { HasCleanDisk (state S.Store conn.new) → RunsTo S.Store roll_it_back conn.old conn.new result }
+    ensures ended { HasCleanDisk (state S.Store conn.new)
+        → (state S.Store conn.new).in_transaction ≡ false }
+    ensures answer { HasCleanDisk (state S.Store conn.new)
+        → RunsTo S.Store roll_it_back conn.old conn.new result }
 {
     conn.execute("ROLLBACK", &[])
 }
@@ -205,7 +216,8 @@ pub fn roll_back<S: Alter>(conn: &mut Connection<S>) -> Result<usize, Error>
 /// Makes both tables with their first rows, in one transaction.
 pub fn make_tables<S: Alter>(conn: &mut Connection<S>) -> Result<(), Error>
     ensures ok { HasCleanDisk (state S.Store conn.new)
-        → OnOk result (IsBare (state S.Store conn.old) → IsOpenWith first_content (state S.Store conn.new)) }
+        → OnOk result (IsBare (state S.Store conn.old)
+        → IsOpenWith first_content (state S.Store conn.new)) }
     ensures crash { Survives (state S.Store conn.old) (state S.Store conn.new)
         (λ db. IsBare (state S.Store conn.old) → Holds first_content db) }
     // Also beside other tables, from here on.
@@ -236,7 +248,8 @@ pub fn read_meta<S: Alter>(conn: &mut Connection<S>) -> Result<Vec<Row>, Error>
         → IfOk result (λ rows. (state S.Store conn.old).now.schema ≡ copy_schema
         → IsPermutation (map meta_columns ((state S.Store conn.old).now.trees meta_tree)) rows.items) }
     ensures sorted { HasCleanDisk (state S.Store conn.new)
-        → IfOk result (λ rows. (state S.Store conn.old).now.schema ≡ copy_schema → IsSorted meta_cmp rows.items) }
+        → IfOk result (λ rows. (state S.Store conn.old).now.schema ≡ copy_schema
+        → IsSorted meta_cmp rows.items) }
     // Also beside other tables, from here on.
     ensures shown { HasCleanDisk (state S.Store conn.new)
         → IfOk result (λ rows. ShowsFor S.Store select_meta conn.old conn.new rows.items) }

@@ -1,5 +1,5 @@
-//! A replica's answers to operations, one after another. Each case has its name, which is shown if it
-//! fails.
+//! A replica's answers to operations, one after another. Each case has its
+//! name, which is shown if it fails.
 use super::samples::{
     Deed, Digest, command, delivers_up_to, digest_of, holds, is_count, is_digest, named, operation,
 };

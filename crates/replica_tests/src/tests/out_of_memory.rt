@@ -154,7 +154,8 @@ fn acts<M: Marker>(
     Ok(digest_of(doc.act(seat, command).into_reply()))
 }
 
-// Does a deed, and returns the answer, and whether all readings are as before if it was out of memory.
+// Does a deed, and returns the answer, and whether all readings are as
+// before if it was out of memory.
 fn acts_or_leaves<M: Marker>(
     alloc: Global,
     doc: &mut LockedDoc<M>,

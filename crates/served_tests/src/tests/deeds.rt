@@ -1,6 +1,6 @@
-//! What is done with a stored log, one deed after another, and its expected result. It is opened
-//! again between two deeds. All of it is over any log, since each call that names a store in files is
-//! dear to prove.
+//! What is done with a stored log, one deed after another, and its expected result. It is
+//! opened again between two deeds. All of it is over any log, since each call that names a
+//! store in files is dear to prove.
 use super::checks::{bytes_are, counts, holds};
 use super::disks::new_files;
 use super::files::done_in_files;

@@ -30,8 +30,8 @@ static FAULTS: [Case<'static>; 2] = [
             Deed::Holds(b"[\"doc\",\"d\",3,[[\"srv-1\",3]]]\n[\"epoch\",1]\n"),
         ],
     },
-    // A server of a name that is too long does not start, and says so; the epoch of the stored log is
-    // raised, and no more.
+    // A server of a name that is too long does not start, and says so; the epoch of the
+    // stored log is raised, and no more.
     Case {
         name: "refused_start_is_reported",
         documents: &["d"],

@@ -1,5 +1,5 @@
-//! Stored logs in two files, the log of commits and the database itself. This is over any disks: each
-//! call that names a store in files is dear to prove, and at disks of one kind twice as dear.
+//! Stored logs in two files, the log of commits and the database itself. This is over any disks:
+//! each call that names a store in files is dear to prove, and at disks of one kind twice as dear.
 use super::deeds::{Case, Deed, all_done};
 use super::disks::connected;
 use super::places::adopted;

@@ -48,7 +48,8 @@ struct UntilWritten<'a> {
     missed: AtomicU64,
 }
 
-// Waits for 1,000,000 turns at most until there are so many rows, and returns whether there are not.
+// Waits for 1,000,000 turns at most until there are so many rows, and
+// returns whether there are not.
 fn waits_in_vain(rows: &AtomicU64, expected: u64) -> bool {
     for _ in 0..1_000_000u32 {
         if rows.load(Ordering::SeqCst) >= expected {
@@ -80,7 +81,8 @@ fn runs_beside<M: Marker + Send + Sync, R: Threads + Wait + Sync, L: StoredLog>(
     copy: &mut L,
 ) -> Result<bool, AllocError>
     requires blank { blank ≡ M.name }
-    requires begun { M.origin ≡ origin_at replica.now (L.log copy.old).docs (map (λ s. s.now) documents.now) }
+    requires begun { M.origin
+        ≡ origin_at replica.now (L.log copy.old).docs (map (λ s. s.now) documents.now) }
     requires few { length documents.now ≤ greatest_number }
 {
     let shared = shared_documents::<M, L>(alloc, blank, copy, replica, documents)?;

@@ -1,6 +1,6 @@
-//! A server over a log in memory that fails at each use of its store in turn, for once or from then on
-//! as at a crash. What it leaves is opened again, as a restart does: as a crash leaves it, and as the
-//! file alone holds it.
+//! A server over a log in memory that fails at each use of its store in turn, for once or from
+//! then on as at a crash. What it leaves is opened again, as a restart does: as a crash leaves
+//! it, and as the file alone holds it.
 use super::checks::{counts, holds};
 use super::serving::{Done, QUITS, Served, Start, THREE_WHOLE, serve_start, started};
 use log::Log;

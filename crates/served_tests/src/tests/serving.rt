@@ -1,5 +1,5 @@
-//! A server over a stored log. It is called in a function that promises nothing, so that the proof of
-//! a test carries none of its clauses.
+//! A server over a stored log. It is called in a function that promises nothing, so that the proof
+//! of a test carries none of its clauses.
 use super::checks::{bytes_are, counts};
 use super::places::left_of;
 use log::Log;

@@ -11,8 +11,8 @@ use std::sync::Wait;
 use std::thread::Threads;
 use std::time::Clock;
 
-// What is done with a stored log whose disk stops after so many calls, and with what it leaves in the
-// files.
+// What is done with a stored log whose disk stops after so many calls, and
+// with what it leaves in the files.
 struct Stop {
     calls: u64,
     case: Case<'static>,

@@ -31,8 +31,8 @@ pub const TWO: &[u8] = br#"["open","d"]
 /// The totals of both.
 pub const TOTALS: &[u8] = b"[\"total\",\"d\",5,5,5]\n";
 
-// A session of so many assignments had replies of its seat, of each of them, and at the end this. The
-// counters are not its own alone.
+// A session of so many assignments had replies of its seat, of each of them, and at the end this.
+// The counters are not its own alone.
 fn has_all_replies<R: Abort>(rt: &R, replies: &str, done: usize, last: &str) {
     let mut lines = replies.lines();
     let opened = lines.next().unwrap_or("");

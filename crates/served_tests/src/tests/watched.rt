@@ -1,4 +1,5 @@
-//! A copier's observer is notified of a fault as soon as the copier has met it, and of nothing else.
+//! A copier's observer is notified of a fault as soon as the copier has met it, and of nothing
+//! else.
 ghost use Rattle.std.specs.Prelude.{◌≡◌, ◌≤◌, length, map};
 ghost use Rattle.locked_doc.specs.Numbers.{greatest_number};
 ghost use Rattle.served_log.specs.Restored.{origin_at};
@@ -65,8 +66,8 @@ pub fn replica_read() -> Result<ReplicaName, AllocError> {
     ReplicaName::read(b"srv-2").ok_or(AllocError)
 }
 
-/// The documents of these names of a stored log behind locks, for this replica. If they can't be had,
-/// as if out of memory.
+/// The documents of these names of a stored log behind locks, for this replica. If they
+/// can't be had, as if out of memory.
 pub fn shared_documents<M: Marker, L: StoredLog>(
     alloc: Global,
     blank: Blank,
@@ -75,7 +76,8 @@ pub fn shared_documents<M: Marker, L: StoredLog>(
     documents: &[&str],
 ) -> Result<SharedDocuments<M>, AllocError>
     requires blank { blank ≡ M.name }
-    requires begun { M.origin ≡ origin_at replica.now (L.log copy.now).docs (map (λ s. s.now) documents.now) }
+    requires begun { M.origin
+        ≡ origin_at replica.now (L.log copy.now).docs (map (λ s. s.now) documents.now) }
     requires few { length documents.now ≤ greatest_number }
 {
     let mut ledger = Ledger::<M>::new(blank);
@@ -109,7 +111,8 @@ fn faults_of<M: Marker, R: Wait, L: StoredLog>(
     times.into_inner()
 }
 
-// How often the observer was notified where the documents are those of a full log, with a table of their own.
+// How often the observer was notified where the documents are those of a full
+// log, with a table of their own.
 fn faults_beside<M: Marker, R: Wait, F: StoredLog, L: StoredLog>(
     rt: &R,
     alloc: Global,
@@ -121,7 +124,8 @@ fn faults_beside<M: Marker, R: Wait, F: StoredLog, L: StoredLog>(
     copy: &mut L,
 ) -> Result<u32, AllocError>
     requires blank { blank ≡ M.name }
-    requires begun { M.origin ≡ origin_at replica.now (F.log full.now).docs (map (λ s. s.now) documents.now) }
+    requires begun { M.origin
+        ≡ origin_at replica.now (F.log full.now).docs (map (λ s. s.now) documents.now) }
     requires few { length documents.now ≤ greatest_number }
 {
     let shared = shared_documents::<M, F>(alloc, blank, full, replica, documents)?;

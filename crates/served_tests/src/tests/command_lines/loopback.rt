@@ -121,8 +121,8 @@ fn two_sessions_over_loopback(rt: HostRuntime) -> Result<(), Fail> {
     Ok(())
 }
 
-// What a client gets whose line is too long. Once the server has ended, and the client has read all, it sends one byte
-// more, which a connection that was reset refuses.
+// What a client gets whose line is too long. Once the server has ended, and the client has read
+// all, it sends one byte more, which a connection that was reset refuses.
 fn served_too_long<
     R: Net<Listener = TcpListener, Stream = TcpStream> + Threads + Wait + Sync + Log + Clock,
 >(rt: &R, alloc: Global) -> io::Result<Outcome> {
@@ -153,8 +153,8 @@ fn has_too_long_reply<R: Abort>(rt: &R, outcome: &Outcome) {
     );
 }
 
-// A client whose line is too long, who has sent more than is read of it, and reads nothing until the server has ended,
-// gets its reply, and then the end of the stream: its connection isn't reset.
+// A client whose line is too long, who has sent more than is read of it, and reads nothing until
+// the server has ended, gets its reply, and then the end of the stream: its connection isn't reset.
 #[test]
 fn line_too_long_has_its_reply(rt: HostRuntime) -> Result<(), Fail> {
     has_too_long_reply(&rt, &served_too_long(&rt, rt.alloc())?);

@@ -1,5 +1,5 @@
-//! Databases that are no stored log, each made for what is wrong with it. A file that is refused has each
-//! byte that it had.
+//! Databases that are no stored log, each made for what is wrong with it. A file that is
+//! refused has each byte that it had.
 use super::super::disks::Stopping;
 use super::steps::{REFUSED, Step, StepAnswer};
 use super::walks::{made, walked_over};
@@ -58,8 +58,8 @@ fn first_other(
 
 // Changes of a stored log with one entry, each by itself, and the answer after each of them.
 static CHANGES: [(&str, &[&str], StepAnswer); 13] = [
-    // Changes after which it is a stored log still: what is refused below is refused for the one thing
-    // that differs.
+    // Changes after which it is a stored log still: what is refused below is refused
+    // for the one thing that differs.
     (
         "sound_copies",
         &[

@@ -52,8 +52,8 @@ fn reported_in<D: Disk + Drop>(
     Ok(reported(alloc, found, after))
 }
 
-// Whether this is answered and this text reported of a stored log in memory after these statements, by a
-// sink that fails after so many bytes.
+// Whether this is answered and this text reported of a stored log in memory after these statements,
+// by a sink that fails after so many bytes.
 fn is_answered(
     alloc: Global,
     sql: &str,
@@ -102,8 +102,8 @@ fn reports(rt: HostRuntime) {
     }
 }
 
-// What is answered of a stored log whose database file stops after so many calls, and how many bytes are
-// reported.
+// What is answered of a stored log whose database file stops after so many calls,
+// and how many bytes are reported.
 fn reported_of_a_stop(alloc: Global, calls: u64) -> Option<(Answer, usize)> {
     let files = new_files(alloc, u64::MAX, calls);
     match reported_in(alloc, files, "", usize::MAX) {
@@ -131,8 +131,8 @@ fn a_fault_of_closing(rt: HostRuntime) {
     }
 }
 
-// Whether nothing is reported where a stored log could not be opened in the files, for another cause than a
-// refusal.
+// Whether nothing is reported where a stored log could not be opened in the files,
+// for another cause than a refusal.
 fn is_silent<S: Foldable + Drop>(alloc: Global, conn: Connection<S>) -> bool {
     drop(conn);
     let none: Result<LogCopy<S>, Fault> = Err(Fault::Store);

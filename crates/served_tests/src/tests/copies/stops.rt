@@ -155,7 +155,8 @@ fn batches_out_of_memory(rt: HostRuntime) -> Result<(), Fail> {
     Ok(())
 }
 
-// The stored log of `restart_from_copy` before its second start, in the old format: one entry and the epoch 1.
+// The stored log of `restart_from_copy` before its second start, in the old
+// format: one entry and the epoch 1.
 const MIGRATE: [(Step<'static>, StepAnswer); 2] = [
     (
         Step::Run(
@@ -180,8 +181,8 @@ const FORMATS: &str = "SELECT count(*) FROM meta WHERE name = 'format' AND value
 
 const FORMAT: &str = "SELECT value FROM meta WHERE name = 'format'";
 
-// The rows stay byte for byte, in the old format or the new one, and in the new one where the stored log
-// was opened.
+// The rows stay byte for byte, in the old format or the new one, and in the new one
+// where the stored log was opened.
 const AFTER_MIGRATION: [&[(Step<'static>, StepAnswer)]; 3] = [
     &[],
     &[
