@@ -58,8 +58,8 @@ abbrev pub put_role : (List Tagged → Key → Id → Option Role) → List Tagg
     → Role
     → List Tagged → Key → Id → Option Role
 put_role before p k deps id role q j i =
-    if is_within p k q j && id_eq id i then Some (if path_eq p q && key_eq k j then role
-    else Through)
+    if is_within p k q j && id_eq id i
+    then Some (if path_eq p q && key_eq k j then role else Through)
     else if is_within q j p k && deps i then None else before q j i
 
 -- an add at a place makes it and those above it present, and enters a number
@@ -70,8 +70,9 @@ add_facts f p k id n = count_facts (presence_facts f p k id) p k id n
 abbrev pub add_role : (List Tagged → Key → Id → Option Role) → List Tagged → Key → Id → Role
     → List Tagged → Key → Id → Option Role
 add_role before p k id role q j i =
-    if is_within p k q j
-    && id_eq id i then Some (if path_eq p q && key_eq k j then role else Through) else before q j i
+    if is_within p k q j && id_eq id i
+    then Some (if path_eq p q && key_eq k j then role else Through)
+    else before q j i
 
 -- a place has a node, with room for one more id on the way, and at the end for one more
 -- number, or for one more scalar
