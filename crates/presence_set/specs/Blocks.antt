@@ -1,6 +1,6 @@
 -- Values by ids, in blocks: the pairs of a block, and how many it has room for.
 use Rattle.std.specs.Prelude.{◌≡◌, ◌<◌, ℕ, suc, List, [], ◌∷◌, ◌++◌, length, take, drop, Bool, true}
-use Rattle.std.specs.Prelude.{false, not, Option, Box, option_map, unwrap_or}
+use Rattle.std.specs.Prelude.{false, not, Option, option_map, unwrap_or}
 use Rattle.std.specs.List.{flat_map, prefix_len}
 use Rattle.std.specs.Ordering.{is_lt}
 use Rattle.doc_api.specs.Words.{Id, id_cmp}
@@ -61,11 +61,10 @@ module _ {X : Type 0} where
     pub filled : AreNonEmpty rest
     pub room : HaveRoomFor has_room lack first rest
 
-module _ {X Z : Type 0} where
-  -- the blocks behind the first: none without their box
-  abbrev pub blocks_in : Option (Box (LaterBlocks (List (Id × X) × ℕ)) Z) → List (List (Id × X) × ℕ)
-  blocks_in later = unwrap_or (option_map (λ b. b.value.blocks.items) later) []
+  -- the blocks behind the first: none until they are made
+  abbrev pub blocks_in : Option (LaterBlocks (List (Id × X) × ℕ)) → List (List (Id × X) × ℕ)
+  blocks_in later = unwrap_or (option_map (λ l. l.blocks.items) later) []
 
-  -- which block may lack room: without that box any
-  abbrev pub lack_in : Option (Box (LaterBlocks (List (Id × X) × ℕ)) Z) → Lack
-  lack_in later = unwrap_or (option_map (λ b. b.value.lack) later) Anywhere
+  -- which block may lack room: until they are made any
+  abbrev pub lack_in : Option (LaterBlocks (List (Id × X) × ℕ)) → Lack
+  lack_in later = unwrap_or (option_map (λ l. l.lack) later) Anywhere

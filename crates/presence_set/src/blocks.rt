@@ -16,6 +16,7 @@ use crate::later::LaterBlocks;
 use doc_api::Role;
 use lamport_id::Id;
 use op_core::Front;
+use small_values::Lazy;
 use std::alloc::{AllocError, Global};
 use std::marker::Model;
 
@@ -28,10 +29,9 @@ const FULL: usize = 256;
 /// pair: the ids with their roles, and whether there is room for one more.
 pub struct Presence {
     first: ById<Role>,
-    later: Option<Box<LaterBlocks<ById<Role>>>>,
+    later: Lazy<LaterBlocks<ById<Role>>>,
     has_room: bool,
     may_put: EmptyPut,
-    alloc: Global,
 }
 
 impl Model for Presence {
@@ -56,7 +56,6 @@ impl Drop for Presence {
             later: _,
             has_room: _,
             may_put: _,
-            alloc: _,
         } = self;
     }
 }
@@ -68,10 +67,9 @@ impl Presence {
     {
         Presence {
             first: ById::new(alloc),
-            later: None,
+            later: Lazy::new(alloc),
             has_room: false,
             may_put: EmptyPut::none(),
-            alloc,
         }
     }
 
@@ -85,7 +83,7 @@ impl Presence {
         if self.has_room {
             return Ok(());
         }
-        make_room_for_one(&mut self.first, &mut self.later, self.alloc)?;
+        make_room_for_one(&mut self.first, &mut self.later)?;
         self.has_room = true;
         Ok(())
     }
@@ -234,7 +232,7 @@ fn starts_by<X: Drop>(entries: &[(Id, X)], id: &Id) -> bool
 // The ids of all blocks with their values, in id order.
 pub fn entries_among<'a, X: Drop>(
     first: &'a ById<X>,
-    later: &'a Option<Box<LaterBlocks<ById<X>>>>,
+    later: &'a Lazy<LaterBlocks<ById<X>>>,
 ) -> Entries<'a, X>
     requires { AreNonEmpty (blocks_in later.now) }
     ensures { result ≡ first.now.0 ++ pairs_in (blocks_in later.now) }
@@ -246,20 +244,19 @@ pub fn entries_among<'a, X: Drop>(
 }
 
 // The blocks behind the first: none where there is no box.
-pub fn later_blocks<X: Drop>(later: &Option<Box<LaterBlocks<ById<X>>>>) -> &[ById<X>]
+pub fn later_blocks<X: Drop>(later: &Lazy<LaterBlocks<ById<X>>>) -> &[ById<X>]
     ensures { result.now ≡ blocks_in later.now }
 {
-    match later {
-        None => &[],
-        Some(later) => later.blocks.as_slice(),
-    }
+    let Some(later) = later.get() else {
+        return &[];
+    };
+    later.blocks.as_slice()
 }
 
 // Makes room for one more id. Where the first block is full and alone, it makes the box for the others.
 pub fn make_room_for_one<X: Drop>(
     first: &mut ById<X>,
-    later: &mut Option<Box<LaterBlocks<ById<X>>>>,
-    alloc: Global,
+    later: &mut Lazy<LaterBlocks<ById<X>>>,
 ) -> Result<(), AllocError>
     requires filled { AreNonEmpty (blocks_in later.old) }
     requires room { HaveRoomBut (lack_in later.old) first.old (blocks_in later.old) }
@@ -269,16 +266,14 @@ pub fn make_room_for_one<X: Drop>(
     ensures lack { lack_in later.new ≡ Anywhere }
     ensures room { OnOk result (HasSpareRoom first.new × AllHaveRoom (blocks_in later.new)) }
 {
-    if let Some(later) = later {
+    if let Some(later) = later.get_mut() {
         return make_room_among(first, later);
     }
     if first.has_room() || first.entries().len() < FULL {
         return first.reserve_one();
     }
-    let mut second = Box::new(alloc, LaterBlocks::none(alloc))?;
-    let made = make_room_among(first, &mut second);
-    *later = Some(second);
-    made
+    let none = LaterBlocks::none(later.allocator());
+    make_room_among(first, later.get_or_put(none)?)
 }
 
 // Makes room for one more id in each block that may lack it.
@@ -302,7 +297,7 @@ fn make_room_among<X: Drop>(
 // Puts a value into the block where its id belongs, which may lack room then.
 pub fn put_among<X: Drop>(
     first: &mut ById<X>,
-    later: &mut Option<Box<LaterBlocks<ById<X>>>>,
+    later: &mut Lazy<LaterBlocks<ById<X>>>,
     id: Id,
     value: X,
 )
@@ -315,19 +310,17 @@ pub fn put_among<X: Drop>(
     ensures filled { AreNonEmpty (blocks_in later.new) }
     ensures room { HaveRoomBut (lack_in later.new) first.new (blocks_in later.new) }
 {
-    match later {
-        None => first.put(id, value),
-        Some(later) => {
-            let later: &mut LaterBlocks<ById<X>> = later;
-            later.lack = put_into(first, &mut later.blocks, id, value);
-        }
-    }
+    let Some(later) = later.get_mut() else {
+        first.put(id, value);
+        return;
+    };
+    later.lack = put_into(first, &mut later.blocks, id, value);
 }
 
 // Drops the ids that the front covers from all blocks, and those behind the first that are empty then.
 pub fn retain_among<X: Drop>(
     first: &mut ById<X>,
-    later: &mut Option<Box<LaterBlocks<ById<X>>>>,
+    later: &mut Lazy<LaterBlocks<ById<X>>>,
     front: &Front,
 )
     ensures first { first.new ≡ (uncovered front.now first.old.0, first.old.1) }
@@ -336,12 +329,12 @@ pub fn retain_among<X: Drop>(
     ensures lack { lack_in later.new ≡ Anywhere }
 {
     first.retain_uncovered(front);
-    if let Some(later) = later {
-        let later: &mut LaterBlocks<ById<X>> = later;
-        later.lack = Lack::Anywhere;
-        retain_each(&mut later.blocks, front);
-        drop_empty(&mut later.blocks);
-    }
+    let Some(later) = later.get_mut() else {
+        return;
+    };
+    later.lack = Lack::Anywhere;
+    retain_each(&mut later.blocks, front);
+    drop_empty(&mut later.blocks);
 }
 
 // Puts a value into the block where its id belongs, and returns that this block may lack room then.

@@ -9,6 +9,7 @@ use crate::blocks::{
 use crate::later::LaterBlocks;
 use lamport_id::Id;
 use op_core::Front;
+use small_values::Lazy;
 use std::alloc::{AllocError, Global};
 use std::marker::Model;
 
@@ -16,9 +17,8 @@ use std::marker::Model;
 /// is made with the second. Clauses see a pair: the ids with their values, and whether there is room for one more.
 pub struct IdBlocks<X> {
     first: ById<X>,
-    later: Option<Box<LaterBlocks<ById<X>>>>,
+    later: Lazy<LaterBlocks<ById<X>>>,
     has_room: bool,
-    alloc: Global,
 }
 
 impl<X> Model for IdBlocks<X> {
@@ -39,7 +39,6 @@ impl<X: Drop> Drop for IdBlocks<X> {
             first: _,
             later: _,
             has_room: _,
-            alloc: _,
         } = self;
     }
 }
@@ -51,9 +50,8 @@ impl<X: Drop> IdBlocks<X> {
     {
         IdBlocks {
             first: ById::new(alloc),
-            later: None,
+            later: Lazy::new(alloc),
             has_room: false,
-            alloc,
         }
     }
 
@@ -67,7 +65,7 @@ impl<X: Drop> IdBlocks<X> {
         if self.has_room {
             return Ok(());
         }
-        make_room_for_one(&mut self.first, &mut self.later, self.alloc)?;
+        make_room_for_one(&mut self.first, &mut self.later)?;
         self.has_room = true;
         Ok(())
     }

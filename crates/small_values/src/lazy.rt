@@ -1,5 +1,5 @@
 //! A value that is made when it is first needed.
-ghost use Rattle.std.specs.Prelude.{◌≡◌, true, None, IsOk, IfOk, is_some};
+ghost use Rattle.std.specs.Prelude.{◌≡◌, true, None, IsOk, IfOk, is_some, unwrap_or};
 ghost use Rattle.std.specs.Option.{option_copied, option_copied_mut, UnwrapsOrElse};
 ghost use Rattle.std.specs.Borrow.{sem};
 ghost use Rattle.std.specs.declared.alloc.Global.{Global};
@@ -78,5 +78,24 @@ impl<T> Lazy<T> {
             { Ok(Box::new(alloc, make(alloc))?) },
         )?;
         Ok(value.as_mut())
+    }
+    /// The same, where a value is at hand.
+    pub fn get_or_put(&mut self, first: T) -> Result<&mut T, AllocError>
+    where
+        T: Drop,
+        ensures* writes_back { sem 𝓛 (lends_value T.row self.entry result) }
+        ensures value { IfOk result (λ x. x.now ≡ unwrap_or self.old first) }
+        ensures succeeds { is_some self.old ≡ true → IsOk result }
+    {
+        self.get_or_make(
+            |_: Global| -> T
+                ensures { result ≡ first }
+            { first },
+        )
+    }
+
+    /// The allocator.
+    pub fn allocator(&self) -> Global {
+        self.alloc
     }
 }
