@@ -59,7 +59,7 @@ impl<T> Lazy<T> {
         }
     }
 
-    /// The value for writing, made if there is none. Out of memory, there is still none.
+    /// The value for writing, made if there was none. Out of memory, there is still none.
     pub fn get_or_make<F: FnOnce(Global) -> T>(&mut self, make: F) -> Result<&mut T, AllocError>
     where
         T: Drop,
@@ -79,7 +79,8 @@ impl<T> Lazy<T> {
         )?;
         Ok(value.as_mut())
     }
-    /// The same, where a value is at hand.
+
+    /// The value for writing: the one that is given, if there was none. Out of memory, there is still none.
     pub fn get_or_put(&mut self, first: T) -> Result<&mut T, AllocError>
     where
         T: Drop,
