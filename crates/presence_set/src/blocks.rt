@@ -1,9 +1,12 @@
 //! The operations that make a place present, in blocks, so that one more id moves few others.
-ghost use Rattle.std.specs.Prelude.{◌≡◌, ◌+◌, ◌<◌, ◌≤◌, ◌↔◌, ◌∷◌, ◌++◌, ℕ, [], true, false, length, map, filter, take};
-ghost use Rattle.std.specs.Prelude.{drop, not, insert, IsOk, IsTrue, IfSome, OnOk, OnErr, slice_index_or, slice_set};
+ghost use Rattle.std.specs.Prelude.{◌≡◌, ◌+◌, ◌<◌, ◌≤◌, ◌↔◌, ◌∷◌, ◌++◌, ℕ, [], true, false, length};
+ghost use Rattle.std.specs.Prelude.{map, filter, take};
+ghost use Rattle.std.specs.Prelude.{drop, not, insert, IsOk, IsTrue, IfSome, OnOk, OnErr};
+ghost use Rattle.std.specs.Prelude.{slice_index_or, slice_set};
 ghost use Rattle.lamport_id.specs.declared.id.Id.{Id};
 ghost use Rattle.presence_set.specs.ById.{put_at_id, contains, uncovered, IsAscending};
-ghost use Rattle.presence_set.specs.Blocks.{pairs_in, has_pair, starts_by, blocks_by, AreNonEmpty, HasSpareRoom};
+ghost use Rattle.presence_set.specs.Blocks.{pairs_in, has_pair, starts_by, blocks_by, AreNonEmpty};
+ghost use Rattle.presence_set.specs.Blocks.{HasSpareRoom};
 ghost use Rattle.presence_set.specs.Blocks.{AllHaveRoom, HaveRoomBut, blocks_in, lack_in};
 ghost use Rattle.presence_set.specs.EmptyPut.{CoversPut};
 ghost use Rattle.presence_set.specs.Blocks as Spec;
@@ -20,13 +23,15 @@ use small_values::Lazy;
 use std::alloc::{AllocError, Global};
 use std::marker::Model;
 
-// How many ids a block takes: so many that there are few blocks, and so few that one more moves little.
+// How many ids a block takes: so many that there are few blocks, and so
+// few that one more moves little.
 const FULL: usize = 256;
 
-/// The operations that make a place present, each with its role: at most one role for each id, in id order, in blocks,
-/// of which the first may be empty. Nearly every place has one block: the others are in a box that is made with the
-/// second. It knows whether an empty map or list may be put, so that a reader looks for one only then. Clauses see a
-/// pair: the ids with their roles, and whether there is room for one more.
+/// The operations that make a place present, each with its role: at most one role for each id, in
+/// id order, in blocks, of which the first may be empty. Nearly every place has one block: the
+/// others are in a box that is made with the second. It knows whether an empty map or list may be
+/// put, so that a reader looks for one only then. Clauses see a pair: the ids with their roles, and
+/// whether there is room for one more.
 pub struct Presence {
     first: ById<Role>,
     later: Lazy<LaterBlocks<ById<Role>>>,
@@ -73,7 +78,8 @@ impl Presence {
         }
     }
 
-    /// Makes room for one more id. It never fails where there is room. Out of memory, the entries stay as they are.
+    /// Makes room for one more id. It never fails where there is room. Out of
+    /// memory, the entries stay as they are.
     pub fn reserve_one(&mut self) -> Result<(), AllocError>
         ensures same { self.new.0 ≡ self.old.0 }
         ensures grows { self.old.1 ≡ true → self.new.1 ≡ true }
@@ -105,7 +111,8 @@ impl Presence {
         retain_among(&mut self.first, &mut self.later, front);
     }
 
-    /// Whether an empty map and an empty list may be put: of a kind for which this is false, none is.
+    /// Whether an empty map and an empty list may be put: of a kind for which this is false, none
+    /// is.
     pub fn may_put(&self) -> EmptyPut
         ensures { CoversPut result self.now.0 }
     {
@@ -119,8 +126,8 @@ impl Presence {
         self.first.is_empty() && later_blocks(&self.later).is_empty()
     }
 
-    /// Whether some entry has this id. Its block is found by bisection, and then its place in the block. The program
-    /// itself doesn't call it.
+    /// Whether some entry has this id. Its block is found by bisection, and then its place in the
+    /// block. The program itself doesn't call it.
     pub fn contains(&self, id: Id) -> bool
         ensures { result ≡ contains self.now.0 id }
     {
@@ -253,7 +260,8 @@ pub fn later_blocks<X: Drop>(later: &Lazy<LaterBlocks<ById<X>>>) -> &[ById<X>]
     later.blocks.as_slice()
 }
 
-// Makes room for one more id. Where the first block is full and alone, it makes the box for the others.
+// Makes room for one more id. Where the first block is full and alone,
+// it makes the box for the others.
 pub fn make_room_for_one<X: Drop>(
     first: &mut ById<X>,
     later: &mut Lazy<LaterBlocks<ById<X>>>,
@@ -317,7 +325,8 @@ pub fn put_among<X: Drop>(
     later.lack = put_into(first, &mut later.blocks, id, value);
 }
 
-// Drops the ids that the front covers from all blocks, and those behind the first that are empty then.
+// Drops the ids that the front covers from all blocks, and those behind
+// the first that are empty then.
 pub fn retain_among<X: Drop>(
     first: &mut ById<X>,
     later: &mut Lazy<LaterBlocks<ById<X>>>,
@@ -325,7 +334,8 @@ pub fn retain_among<X: Drop>(
 )
     ensures first { first.new ≡ (uncovered front.now first.old.0, first.old.1) }
     ensures blocks { blocks_in later.new
-        ≡ filter (λ b. has_pair b.0) (map (λ b. (uncovered front.now b.0, b.1)) (blocks_in later.old)) }
+        ≡ filter (λ b. has_pair b.0) (map
+        (λ b. (uncovered front.now b.0, b.1)) (blocks_in later.old)) }
     ensures lack { lack_in later.new ≡ Anywhere }
 {
     first.retain_uncovered(front);
@@ -453,7 +463,8 @@ fn make_room_in_first<X: Drop>(
     }
 }
 
-// Where a block that is full is cut: in its midst, or, where ids come behind all others, before its last.
+// Where a block that is full is cut: in its midst, or, where ids come
+// behind all others, before its last.
 fn cut_place(len: usize, is_last: bool) -> Option<usize>
     ensures { IfSome result (λ place. (0 < place) × (place < len)) }
 {

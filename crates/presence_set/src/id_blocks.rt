@@ -13,8 +13,9 @@ use small_values::Lazy;
 use std::alloc::{AllocError, Global};
 use std::marker::Model;
 
-/// At most one value for each id, in id order, in blocks, of which the first may be empty. The others are in a box that
-/// is made with the second. Clauses see a pair: the ids with their values, and whether there is room for one more.
+/// At most one value for each id, in id order, in blocks, of which the first may be empty. The
+/// others are in a box that is made with the second. Clauses see a pair: the ids with their values,
+/// and whether there is room for one more.
 pub struct IdBlocks<X> {
     first: ById<X>,
     later: Lazy<LaterBlocks<ById<X>>>,
@@ -55,7 +56,8 @@ impl<X: Drop> IdBlocks<X> {
         }
     }
 
-    /// Makes room for one more id. It never fails where there is room. Out of memory, the entries stay as they are.
+    /// Makes room for one more id. It never fails where there is room. Out of
+    /// memory, the entries stay as they are.
     pub fn reserve_one(&mut self) -> Result<(), AllocError>
         ensures same { self.new.0 ≡ self.old.0 }
         ensures grows { self.old.1 ≡ true → self.new.1 ≡ true }
@@ -88,7 +90,8 @@ impl<X: Drop> IdBlocks<X> {
 
     /// The value of an id. Its block is found by bisection, and then its place in the block.
     pub fn get(&self, id: &Id) -> Option<&X>
-        ensures { MatchOption result (get self.now.0 id.now ≡ None) (λ x. get self.now.0 id.now ≡ Some x.now) }
+        ensures { MatchOption result (get self.now.0 id.now ≡ None)
+            (λ x. get self.now.0 id.now ≡ Some x.now) }
     {
         let blocks = later_blocks(&self.later);
         match blocks_by(blocks, id).checked_sub(1) {

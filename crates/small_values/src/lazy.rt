@@ -80,7 +80,8 @@ impl<T> Lazy<T> {
         Ok(value.as_mut())
     }
 
-    /// The value for writing: the one that is given, if there was none. Out of memory, there is still none.
+    /// The value for writing: the one that is given, if there was none. Out
+    /// of memory, there is still none.
     pub fn get_or_put(&mut self, first: T) -> Result<&mut T, AllocError>
     where
         T: Drop,
