@@ -5,7 +5,7 @@ use Rattle.list_laws.proofs.Keys.{same}
 use Rattle.doc_nodes.specs.KeyOrder.{key_rank}
 use Rattle.doc_nodes.proofs.KeyOrder.{keys_ordered}
 use Rattle.doc_nodes.proofs.ChildrenLaws.{number_at-rank, number_at-missing}
-use Rattle.doc_nodes.proofs.child_blocks.number_here.Goals.{else-at-entries-via-then-at-entries+else-is_same_key, else-at-entries-via-else-at-entries}
+use Rattle.doc_nodes.proofs.child_blocks.number_here.Goals.{else-index-entries-via-then-index-entries+else-is_same_key, else-index-entries-via-else-index-entries}
 use Rattle.doc_nodes.proofs.child_blocks.number_here.Goals as goal
 
 pub returns-then-is_same_key-clause-found : goal.returns-then-is_same_key-clause-found
@@ -31,13 +31,13 @@ returns-then-is_same_key-clause-sought c = λ at.
     ap (λ e. Some e.1) (get_or_default entries c.args.index c.index-entries-index-then-is_same_key.result d within ∙ ap (λ n. get_or entries n d) at)
     ∙ sym (number_at-rank entries key d (subst (λ n. n < length entries) at within) found)
 
-pub returns-else-at-entries-clause-sought : goal.returns-else-at-entries-clause-sought
-returns-else-at-entries-clause-sought c = λ at.
+pub returns-else-index-entries-clause-sought : goal.returns-else-index-entries-clause-sought
+returns-else-index-entries-clause-sought c = λ at.
     let entries = c.args.entries.now in
     let key = c.args.key.now in
-    elim c.else-at-entries.branch [
-      | else-at-entries-via-then-at-entries+else-is_same_key w ↦ sym (number_at-missing entries key w.index-entries-index.result c.requires
+    elim c.else-index-entries.branch [
+      | else-index-entries-via-then-index-entries+else-is_same_key w ↦ sym (number_at-missing entries key w.index-entries-index.result c.requires
           (λ within. subst (λ n. key_eq (get_or entries n w.index-entries-index.result).0 key ≡ false) at (sym w.if-is_same_key.ensures)))
-      | else-at-entries-via-else-at-entries w ↦ sym (number_at-missing entries key (key, record { 0 = 0 }) c.requires
+      | else-index-entries-via-else-index-entries w ↦ sym (number_at-missing entries key (key, record { 0 = 0 }) c.requires
           (λ within. absurd (omega (arith, at, w.if-index-entries.false))))
     ]

@@ -6,5 +6,5 @@ use Rattle.doc_nodes.proofs.children.Children.find.Goals as goal
 pub returns : goal.returns
 returns c =
     rw (← seen ([], []) c.in_ok-children.ensures c.self.view_is, ← c.children.view_is)
-    (where_sought c.args.key.now c.children.inside.blocks.items c.as_slice-3.result.now c.as_slice-2.result.now c.hint_for.result.block c.hint_for.result.place c.number_there-2.result
+    (where_sought c.args.key.now c.children.inside.blocks.items c.as_slice-3.result.now c.as_slice-2.result.now c.hint_for.result.block c.hint_for.result.index c.number_there-2.result
     c.as_slice-3.ensures.value c.as_slice-2.ensures.value c.hint_for.ensures.block c.hint_for.ensures.index c.number_there-2.ensures.sought)
