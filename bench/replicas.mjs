@@ -86,8 +86,8 @@ function ofYjs(Y) {
 }
 
 const FILES = {
-  module: () => [readFileSync(module), ...["jcrdt.mjs", "wire.mjs"].map((it) => readFileSync(new URL(it, CLIENTS)))],
-  rules: () => ["rules.mjs", "wire.mjs", ...readdirSync(CLIENTS).filter((it) => it === "order.mjs")].map((it) => readFileSync(new URL(it, CLIENTS))),
+  module: () => [readFileSync(module), ...["jcrdt.mjs", "errors.mjs", "json.mjs", "protocol.mjs"].map((it) => readFileSync(new URL(it, CLIENTS)))],
+  rules: () => ["rules.mjs", "errors.mjs", "json.mjs", "limits.mjs", "names.mjs", "operations.mjs", "protocol.mjs", "values.mjs", ...readdirSync(CLIENTS).filter((it) => it === "order.mjs")].map((it) => readFileSync(new URL(it, CLIENTS))),
   yjs: () => [readFileSync("/usr/share/nodejs/yjs/dist/yjs.cjs")],
 };
 const LOAD = {

@@ -6,7 +6,8 @@ usage: notes.py FILE                      (shows the notes)
        notes.py FILE strike NUMBER        (deletes one)
        notes.py FILE sync ADDRESS         (exchanges with the document `notes` of a server, as 127.0.0.1:7000)
 
-FILE has the replica's name in its first line, and below it the operations, one a line. Each is on disk before it is sent."""
+FILE has the replica's name in its first line, and below it the operations, one a line. Each is on disk before it is sent. One
+program at a time may have FILE, and no copy of it may be used: no lock is taken, and a name is one replica's."""
 
 import os
 import secrets

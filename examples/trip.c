@@ -6,7 +6,8 @@
      ./trip ada ada.ops take bob.ops          (takes what another one has stored)
      ./trip ada ada.ops                       (shows the document)
 
-   The first word is the replica's name: no other file may have it, not even a copy of this one. */
+   The first word is the replica's name: no other file may have it, not even a copy of this one. No lock is
+   taken: one program at a time may have the file, or it can't be opened any more. */
 
 #include "jcrdt.h"
 #include <stdio.h>
@@ -14,7 +15,7 @@
 #include <string.h>
 #include <unistd.h>
 
-static char request[65537]; /* with the 0 behind it: a request has at most 65,536 bytes */
+static char request[65537]; /* with the 0 behind it: longer requests are refused by `put_bytes` */
 static size_t length;
 
 static void stop(const char *why, const char *what) {

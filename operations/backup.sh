@@ -6,7 +6,8 @@
 #
 # It copies F and then F-wal, again until F and the head of F-wal were the same before and after. Then
 # `jcrdt check` reads a copy of the backup, and its lines are printed. The folder of BACKUP needs free room for
-# F and F-wal twice. JCRDT names the program; otherwise it is jcrdt of PATH, or that of this clone.
+# F and F-wal twice. Root takes no folder that another user may change. JCRDT names the program; otherwise it is jcrdt
+# of PATH, or that of this clone.
 #
 # Status 0: BACKUP and BACKUP-wal are complete, and on disk. 1: there is no backup, and nothing is left of it.
 # 2: a wrong command line.
@@ -24,6 +25,10 @@ backup=$2
 for it in "$backup" "$backup-wal"; do
   if [ -e "$it" ] || [ -L "$it" ]; then fail "$it is there already"; fi
 done
+folder=$(dirname -- "$backup")
+if [ "$(id -u)" -eq 0 ] && [ -n "$(find -L "$folder" -maxdepth 0 \( ! -uid 0 -o -perm /022 ! -perm -1000 \))" ]; then
+  fail "another user may change $folder: back up as that user, or into a folder of root's"
+fi
 umask 077
 room=$(mktemp -d -- "$backup.XXXXXX") || fail "no folder beside $backup"
 half=
@@ -71,5 +76,5 @@ if [ -e "$room/log-wal" ]; then
 fi
 ln -- "$room/log" "$backup" || fail "$backup can't be made"
 half=
-sync -- "$(dirname -- "$backup")" || fail "the folder of $backup can't be written to disk"
+sync -- "$folder" || fail "the folder of $backup can't be written to disk"
 cat -- "$room/told"

@@ -13,12 +13,16 @@ import shutil
 import socket
 import sqlite3
 import subprocess
+import sys
 import tempfile
 import threading
 import time
 from typing import IO, Any, Callable, Dict, Iterator, List, Mapping, Optional, Sequence, Tuple, Union
 
 TOP = os.path.dirname(os.path.dirname(os.path.abspath(__file__)))
+sys.path.append(f"{TOP}/tools")
+import needs as needs  # noqa: E402
+
 SECONDS = 120
 NO_MEMORY = ["no", 22, "no-memory"]
 # Standard error of a server whose notes are kept for `said`.
@@ -32,6 +36,17 @@ Reply = List[Any]
 
 class Differs(Exception):
     """A run that did what it may not do."""
+
+
+class Lacks(Exception):
+    """Something can't be tried here. Its text is the reason."""
+
+
+def require(*tools: str) -> None:
+    """Raises Lacks unless these tools are here."""
+    missing = needs.missing(*tools)
+    if missing:
+        raise Lacks(needs.reason_of(missing))
 
 
 def wanted(what: str, got: object, due: object) -> None:
@@ -273,7 +288,8 @@ class Server:
 
 
 def built(room: str, name: str, source: str, *words: str) -> str:
-    """A C source of this repository, built."""
+    """A C source of this repository, built. Raises Lacks where there is no compiler."""
+    require("cc", "header:stdlib.h")
     subprocess.run([os.environ.get("CC", "cc"), "-O1", *words, "-o", f"{room}/{name}", f"{TOP}/{source}", "-ldl"], check=True)
     return f"{room}/{name}"
 
@@ -347,22 +363,33 @@ def asked(text: Optional[str], cases: Mapping[str, Case], parser: Optional[argpa
     return words
 
 
-def run_cases(cases: Mapping[str, Case], program: str, names: Sequence[str] = (), left_out: Sequence[str] = ()) -> int:
-    """Runs the cases of a table, name by name, and prints how each went; the last line also says what was left out, where a tool is missing.
-    Returns the status."""
-    failed = []
-    for name, case in cases.items():
-        if names and name not in names:
-            continue
+def run_cases(cases: Mapping[str, Case], program: str, names: Sequence[str] = ()) -> int:
+    """Runs the cases of a table, name by name, and prints how each went. Returns the status: one that raises Lacks is skipped."""
+    failed, skipped = [], []
+    chosen = {name: case for name, case in cases.items() if not names or name in names}
+    for name, case in chosen.items():
         began = time.monotonic()
         with tempfile.TemporaryDirectory(prefix="case-") as room:
             try:
                 said = case(program, room)
+            except Lacks as fault:
+                skipped.append(name)
+                print(needs.line_of(name, str(fault)), flush=True)
+                continue
             except (Differs, AssertionError, OSError, subprocess.SubprocessError, ValueError, sqlite3.Error) as fault:
                 failed.append(name)
                 said = f"FAILED: {fault}"
         print(f"{name} ({time.monotonic() - began:.1f} s): {said or 'as it must be'}", flush=True)
-    count = len(names or cases)
+    count = len(chosen) - len(skipped)
     print(f"{count - len(failed)} of {count} as they must be{': not ' + ', '.join(failed) if failed else ''}"
-          f"{'; left out: ' + ', '.join(left_out) if left_out else ''}")
-    return 1 if failed else 0
+          f"{f'; {len(skipped)} skipped' if skipped else ''}")
+    return 1 if failed else needs.SKIPPED if skipped and not count else 0
+
+
+def ended(tries: Callable[[], int]) -> int:
+    """The status of a command that is one case: it is skipped where it raises Lacks."""
+    try:
+        return tries()
+    except Lacks as fault:
+        print(needs.line_of("all of it", str(fault)), flush=True)
+        return needs.SKIPPED

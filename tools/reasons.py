@@ -1,13 +1,20 @@
 """What long reports say of their failures, so that it can be repeated where one looks: at the end. Of `rt ci`, of Node's tests and of pytest's."""
 
 import re
-from typing import Dict, Iterator, List, Sequence, Tuple
+from typing import Iterator, List, NamedTuple, Sequence, Tuple
+from xml.etree import ElementTree
 
 # Stands above what is repeated.
 HEAD = "What failed:"
 
 # The most lines of one value, of a crate's check or test, and of a step without HEAD; and the most letters of a line.
 VALUE, CRATE, STEP, WIDE = 8, 40, 25, 400
+
+# What Node's report says of a test that failed by no fault of its own. It has no word on the hook or the file whose fault it is.
+NOT_OWN = ("test failed", "test did not finish before its parent and was cancelled")
+
+# Characters that XML can't have, and that a test may print.
+NO_XML = re.compile("[\x00-\x08\x0b\x0c\x0e-\x1f\ufffe\uffff]")
 
 # What a check says of what it refuses, and `rt ci` of a run or an edit that failed.
 PLACE = re.compile(r"^(note: |warning: )?\S+:\d+:\d+: |^error|^\w+ .*: no proof| must prove: |^rt: ")
@@ -53,53 +60,74 @@ def of_gate(lines: Sequence[str]) -> List[str]:
 # Tests.
 
 
-def of_tests(text: str) -> List[str]:
-    """What a report of Node's tests or of pytest says of each test that failed: its name, its error, what was expected and what was there, and where."""
-    lines = text.splitlines()
-    told = [it for at in range(len(lines)) for it in of_test_by_node(lines, at)]
-    return told or of_pytest(lines) or lines[-STEP:]
+class Test(NamedTuple):
+    """A test of a report: its name behind those of its suites, `passed`, `failed` or `skipped`, and why."""
+
+    name: str
+    outcome: str
+    why: List[str]
 
 
-def of_test_by_node(lines: Sequence[str], at: int) -> List[str]:
-    """What is said of the test whose line of TAP this is, if it failed by itself."""
-    found = re.match(r"( *)not ok \d+ - ", lines[at])
-    if not found:
+def of_junit(text: str) -> List[Test]:
+    """The tests of a report as JUnit's XML, by Node or by pytest. Raises ParseError where it was cut off."""
+    return list(cases(ElementTree.fromstring(NO_XML.sub("?", text)), ()))
+
+
+def cases(element: ElementTree.Element, suites: Tuple[str, ...]) -> Iterator[Test]:
+    for child in element:
+        name = child.get("name", "")
+        if child.tag == "testsuite":
+            yield from cases(child, (*suites, *([name] if name != "pytest" else [])))
+        elif child.tag == "testcase":
+            yield outcome(child, " > ".join((*suites, name)))
+
+
+def outcome(case: ElementTree.Element, name: str) -> Test:
+    for fault in (it for it in case if it.tag in ("failure", "error")):
+        return Test(name, "failed", why(fault))
+    for skipped in case.iter("skipped"):
+        return Test(name, "skipped", [" ".join((skipped.get("message") or "no reason").split())])
+    return Test(name, "passed", [])
+
+
+def of_tests(tests: Sequence[Test], said: str) -> List[str]:
+    """What is repeated of a run of tests that failed: of each test its name and why, and the last lines of what the run said if that says too little."""
+    failed = [it for it in tests if it.outcome == "failed"]
+    told = [line for it in failed for line in (it.name, *(f"  {line}" for line in it.why))]
+    is_enough = any(it.why != [NOT_OWN[0]] and it.why != [NOT_OWN[1]] for it in failed)
+    return cut(told, 5 * CRATE) + ([] if is_enough else said.splitlines()[-STEP:])
+
+
+def why(fault: ElementTree.Element) -> List[str]:
+    """The error of a failed test, what was expected and what was there, and where."""
+    if fault.get("message") in NOT_OWN:
+        return [fault.get("message", "")]
+    lines = (fault.text or "").strip("\n").splitlines()
+    errors = [it for it in lines if re.match(r"E  |\S+\.py:\d+: \w", it)]
+    return cut(errors or by_node(lines) or lines or [fault.get("message", "")], STEP)
+
+
+def by_node(lines: Sequence[str]) -> List[str]:
+    """What Node says of an error: of its cause the message, the first place, and the two values that an assertion compared."""
+    begin = next((at for at, it in enumerate(lines) if it.startswith("  cause: ")), None)
+    if begin is None:
         return []
-    values = block(lines, at + 1, len(found[1]) + 2)
-    if "subtestsFailed" in " ".join(values.get("failureType", [])):
+    cause = [lines[begin][len("  cause: "):], *(it[2:] for it in lines[begin + 1 :])]
+    places = [at for at, it in enumerate(cause) if re.match(r" +at ", it)]
+    end = places[0] if places else len(cause)
+    told = [*cut([it for it in cause[:end] if it.strip()], VALUE), *(cause[it].rstrip(" {") for it in places[:1])]
+    for word in ("actual", "expected"):
+        told += cut(value_of(cause[end:], word), VALUE)
+    return told
+
+
+def value_of(lines: Sequence[str], word: str) -> List[str]:
+    """The lines of a property of an error, up to the next one."""
+    begin = next((at for at, it in enumerate(lines) if it.startswith(f"  {word}: ")), None)
+    if begin is None:
         return []
-    told = [lines[at].strip()]
-    for key in ("error", "expected", "actual"):
-        value = cut([it for it in values.get(key, []) if it.strip()], VALUE)
-        told += [f"  {key}: {value[0]}", *(f"    {it}" for it in value[1:])] if value else []
-    place = (values.get("stack") or values.get("location") or [""])[0]
-    return [*told, f"  at {place}"] if place else told
-
-
-def block(lines: Sequence[str], at: int, indent: int) -> Dict[str, List[str]]:
-    """The values of a block of YAML, by their keys, each as its lines."""
-    values: Dict[str, List[str]] = {}
-    lines_of: List[str] = []
-    for line in lines[at:]:
-        if line.strip() == "..." and line.index(".") == indent:
-            break
-        found = re.match(rf" {{{indent}}}(\w+):(?: (.*))?$", line)
-        if found:
-            lines_of = values[found[1]] = [found[2]] if found[2] and found[2] not in ("|-", "|", ">-") else []
-        else:
-            lines_of.append(line[indent + 2 :])
-    return values
-
-
-def of_pytest(lines: Sequence[str]) -> List[str]:
-    """The head, the errors and the place of each failure."""
-    told: List[str] = []
-    for line in lines:
-        if re.match(r"_{3,} .* _{3,}$", line):
-            told.append(line.strip("_ "))
-        elif told and re.match(r"E  |\S+\.py:\d+: \w", line):
-            told.append(f"  {line}")
-    return cut(told, 5 * CRATE)
+    rest = next((at for at, it in enumerate(lines[begin + 1 :], begin + 1) if re.match(r"  \w+: |}", it)), len(lines))
+    return [it.rstrip(",") for it in lines[begin:rest]]
 
 
 # Steps.

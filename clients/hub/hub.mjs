@@ -5,25 +5,13 @@ import { resolve } from "node:path";
 import { parseArgs } from "node:util";
 import { pathToFileURL } from "node:url";
 import { hub } from "./index.mjs";
+import { help, ON_COMMAND_LINE } from "./lib/options.mjs";
 
 const HELP = `usage: jcrdt-hub SERVER [--lines ADDRESS] [--web ADDRESS] [OPTION..]
 
 Carries many clients on a few lasting sessions of the server at SERVER, HOST:PORT.
 
-  --lines ADDRESS   take lines over TCP, as the server does
-  --web ADDRESS     serve the page, /health and /metrics, and take lines over WebSocket at any
-                    path that ends in /lines (needs the package ws: apt-get install node-ws)
-  --sessions N      carry the clients on N sessions (5); one more watches the documents
-  --poll MS         look so often for changes that others made at the server (200)
-  --patience S      drop a client that doesn't read, or sends nothing at first, for so long (30)
-  --idle S          drop a client that sends nothing more, and watches and hears nothing (3600)
-  --reply-limit MB  answer 102, reply-too-long, in place of a longer reply (8)
-  --origin URL      let in WebSocket from pages of this origin too: behind a proxy, or where the
-                    address of --web is none that a browser opens, as 0.0.0.0:7201
-  --admit FILE.mjs  ask the function admit of this module who may connect, read and write
-  --file F          answer "stored" by the server's file F, on this machine
-  --durable         the server was started with --durable: what is acknowledged is stored
-  --help, --version
+${help()}  --help, --version
 
 Writes ["lines",ADDRESS] and ["page",URL] to standard output, and notes to standard error. Ends at
 SIGTERM and SIGINT with status 0. A wrong command line is status 2, other errors are 1.
@@ -31,16 +19,12 @@ SIGTERM and SIGINT with status 0. A wrong command line is status 2, other errors
 
 const PARENT_MS = 500; // how often is looked whether npx has ended
 
-const TEXT = /** @type {const} */ ({ type: "string" });
-const FLAG = /** @type {const} */ ({ type: "boolean" });
-const OPTIONS = {
-  lines: TEXT, web: TEXT, sessions: TEXT, poll: TEXT, patience: TEXT, idle: TEXT,
-  "reply-limit": TEXT, origin: { ...TEXT, multiple: /** @type {const} */ (true) }, admit: TEXT,
-  file: TEXT, durable: FLAG, help: FLAG, version: FLAG,
-};
-
-/** @param {string | undefined} text */
-const number = (text) => (text === undefined ? undefined : /^\d+$/.test(text) ? Number(text) : NaN);
+/** What `parseArgs` takes. A flag has no value. */
+const ARGUMENTS = Object.fromEntries([
+  ...ON_COMMAND_LINE.map(({ word, value, isMany = false }) =>
+    [word, { type: value ? "string" : "boolean", multiple: isMany }]),
+  ...["help", "version"].map((word) => [word, { type: "boolean" }]),
+]);
 
 /** Ends the program: the command line is wrong.
  *  @param {unknown} error
@@ -51,11 +35,14 @@ function misused(error) {
   process.exit(2);
 }
 
-/** @param {string[]} words */
+/** What is given, by the words of the command line.
+ *  @param {string[]} words
+ *  @returns {Record<string, any>} */
 function read(words) {
   try {
+    /** @type {{ values: Record<string, any>, positionals: string[] }} */
     const { values, positionals } = parseArgs(
-      { args: words, options: OPTIONS, allowPositionals: true });
+      { args: words, options: ARGUMENTS, allowPositionals: true });
     const isAsked = values.help || values.version;
     if (positionals.length !== 1 && !isAsked) throw new TypeError("one SERVER is to be given");
     return { ...values, server: positionals[0] ?? "" };
@@ -63,6 +50,10 @@ function read(words) {
     throw misused(error);
   }
 }
+
+/** A number as it is written; NaN, which is out of all bounds, for what is none.
+ *  @param {string} text */
+const number = (text) => (/^\d+$/.test(text) ? Number(text) : NaN);
 
 /** The function admit of a module.
  *  @param {string} file */
@@ -73,18 +64,20 @@ async function admitOf(file) {
   return found;
 }
 
+/** The options of a hub, by the words of the command line that are given.
+ *  @param {Record<string, any>} values */
+async function givenOf({ server, ...values }) {
+  const given = ON_COMMAND_LINE.filter(({ word }) => values[word] !== undefined)
+    .map(({ name, word, bounds }) => [name, bounds ? number(values[word]) : values[word]]);
+  const options = { server, ...Object.fromEntries(given) };
+  return values.admit === undefined ? options : { ...options, admit: await admitOf(values.admit) };
+}
+
 async function main() {
   const values = read(process.argv.slice(2));
   if (values.help) return void process.stdout.write(HELP);
   if (values.version) return void process.stdout.write(`jcrdt-hub ${await version()}\n`);
-  const { server, lines, web, file, durable, origin: origins } = values;
-  const options = {
-    server, lines, web, file, durable, origins,
-    sessions: number(values.sessions), poll: number(values.poll), idle: number(values.idle),
-    patience: number(values.patience), replyLimit: number(values["reply-limit"]),
-    admit: values.admit === undefined ? undefined : await admitOf(values.admit),
-  };
-  const given = Object.fromEntries(Object.entries(options).filter(([, it]) => it !== undefined));
+  const given = await givenOf(values);
   const running = await hub(/** @type {any} */ (given)).catch((error) => {
     if (error instanceof TypeError || error instanceof RangeError) misused(error);
     throw error;

@@ -2,9 +2,10 @@
 
 import { Figures } from "./lib/figures.mjs";
 import { StoredFronts } from "./lib/file.mjs";
-import { addressParts } from "./lib/jcrdt.mjs";
+import { addressParts } from "./lib/client_package.mjs";
 import { openLines } from "./lib/lines.mjs";
 import { notes } from "./lib/notes.mjs";
+import { numbersOf } from "./lib/options.mjs";
 import { Pool } from "./lib/pool.mjs";
 import { Presence } from "./lib/presence.mjs";
 import { dropIdle } from "./lib/serve.mjs";
@@ -19,26 +20,6 @@ const MEGABYTE = 2 ** 20;
 const UNREAD_BYTES = 256 * MEGABYTE; // of all clients together
 const SECOND = 1000;
 const QUIT_MS = 200; // so that the server reads `quit`
-
-/** The bounds of options that are numbers, and what they are if they aren't given. */
-const BOUNDS = /** @type {const} */ ({
-  sessions: [1, 254, 5],
-  poll: [10, 3_600_000, 200],
-  patience: [1, 86_400, 30],
-  idle: [1, 31_536_000, 3600],
-  replyLimit: [5, 256, 8],
-  linesPerSession: [100, 990_000, 990_000],
-});
-
-/** @param {HubOptions} options */
-function numbersOf(options) {
-  const checked = Object.entries(BOUNDS).map(([name, [least, most, usual]]) => {
-    const number = options[/** @type {keyof typeof BOUNDS} */ (name)] ?? usual;
-    if (number >= least && number <= most) return [name, number];
-    throw new RangeError(`${name} is ${least} to ${most}`);
-  });
-  return /** @type {Record<keyof typeof BOUNDS, number>} */ (Object.fromEntries(checked));
-}
 
 /** What the parts of a hub share.
  *  @param {HubOptions} options

@@ -7,7 +7,7 @@
    The next tab sends what a closed one stored and didn't send. A name that a closed tab used is
    used again, since a document takes 256 names in all. */
 
-import { Busy } from "./stores.mjs";
+import { Busy, Unstored } from "./stores.mjs";
 
 /** @typedef {import("./stores.mjs").Store} Store */
 /** @typedef {import("./stores.mjs").Heard} Heard */
@@ -15,7 +15,8 @@ import { Busy } from "./stores.mjs";
 const [TURN_MS, TURNS] = [50, 6]; // so long a tab may take to say that a name is its own
 const [OPERATIONS, NAMES, ABOUT] = ["operations", "names", "about"];
 
-/** A store in the database of a name.
+/** A store in the database of a name. Where the browser has no IndexedDB, opening it throws
+ *  Unstored: see `orMemory` of a provider.
  *  @param {string} name
  *  @returns {Store} */
 export const browserStore = (name) => new BrowserStore(`jcrdt ${name}`);
@@ -105,6 +106,7 @@ class BrowserStore {
   /** @param {string} document
    *  @param {() => string} fresh */
   async open(document, fresh) {
+    if (!globalThis.indexedDB) throw new Unstored("this browser has no IndexedDB here");
     const request = indexedDB.open(this.#place, 1);
     request.onupgradeneeded = () => {
       for (const name of [OPERATIONS, NAMES, ABOUT]) request.result.createObjectStore(name);

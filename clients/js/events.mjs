@@ -2,15 +2,15 @@
 
 import { endOf, isPrefix, textsOf } from "./places.mjs";
 
-/** @typedef {import("./wire.mjs").Cursor} Cursor */
-/** @typedef {import("./wire.mjs").Id} Id */
-/** @typedef {import("./wire.mjs").Operation} Operation */
+/** @typedef {import("./operations.mjs").Cursor} Cursor */
+/** @typedef {import("./operations.mjs").Id} Id */
+/** @typedef {import("./operations.mjs").Operation} Operation */
 /** @typedef {import("./rules.mjs").Splice} Splice */
 /** @typedef {"own" | "undo" | "taken" | "remade"} Why */
 
 /** @typedef {object} Change Where an operation ended, by ids, and what it was.
  *  @property {Id} id
- *  @property {"assign" | "insert" | "delete" | "add"} word
+ *  @property {import("./protocol.mjs").EditWord} word
  *  @property {Cursor} place
  *  @property {any} [value] */
 

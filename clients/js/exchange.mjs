@@ -1,16 +1,20 @@
 /* The exchange of a replica with servers, and going on under a new name. */
 
+import { Refused, refusalOf } from "./errors.mjs";
 import { operationsOf } from "./followers.mjs";
+import { isArray, parse, print } from "./json.mjs";
+import { MOST } from "./limits.mjs";
+import { freshName } from "./names.mjs";
 import {
-  MOST, Refused, covers, freshName, frontPairs, isArray, isAscending, isFront, isId,
-  keysOf, nextCounter, parse, print, refusalOf,
-} from "./wire.mjs";
+  covers, frontPairs, isAscending, isFront, isId, keysOf, nextCounter,
+} from "./operations.mjs";
+import { NAME_USED_TWICE } from "./protocol.mjs";
 
-/** @typedef {import("./wire.mjs").Front} Front */
-/** @typedef {import("./wire.mjs").Id} Id */
-/** @typedef {import("./wire.mjs").Operation} Operation */
-/** @typedef {import("./wire.mjs").Path} Path */
-/** @typedef {import("./wire.mjs").Key} Key */
+/** @typedef {import("./operations.mjs").Front} Front */
+/** @typedef {import("./operations.mjs").Id} Id */
+/** @typedef {import("./operations.mjs").Operation} Operation */
+/** @typedef {import("./operations.mjs").Path} Path */
+/** @typedef {import("./operations.mjs").Key} Key */
 /** @typedef {import("./rules.mjs").Engine} Engine */
 /** @typedef {import("./rules.mjs").Open} Open */
 /** @typedef {import("./followers.mjs").Read} Read */
@@ -33,6 +37,11 @@ import {
  *  @property {string[]} melted Own insertions that the server already has, and that another of this
  *    name may have made there: their elements are one. */
 
+/** @typedef {object} Followed A server that says what it logs.
+ *  @property {Answer} answer
+ *  @property {Map<string, number>} theirs What it has, by its replies and by what it said.
+ *  @property {boolean} isKnown Whether that is all it has; else the next exchange asks for it. */
+
 /** @typedef {object} Core What a replica gives to its exchange.
  *  @property {() => string} name
  *  @property {string} doc
@@ -44,15 +53,20 @@ import {
 /** @typedef {{taken: number, refused: {line: string, refusal: Refused}[]}} Taken */
 
 const MOST_REFUSED = 1000; // operations of a report
+const PAGE_BYTES = 2 ** 18; // of a hub's page, about
+const MOST_PAGES = 16; // of the server, that one of a hub has
 
 export class Exchange {
   #core;
   #stored; // own operations up to this counter were stored, and may have been sent then
   #sent; // up to this counter they were sent, perhaps
+  #underWay = 0; // up to this counter replies to them are due
   #applied = 0; // up to this counter a server has logged them, as they were sent
   #confirmed = 0; // up to this counter a server has them, and they are the same
   #forked = Infinity; // from this counter on others have the ids of own operations, or may
   #hasSeenFront = false;
+  /** @type {Followed | undefined} */
+  #followed;
   /** @type {{answer: Answer, done: Promise<Report>} | undefined} The last one that waits. */
   #waiting;
   /** @type {Promise<any>} */
@@ -85,18 +99,110 @@ export class Exchange {
     return waiting.done;
   }
 
+  /** From now on `logged` is called with all that this server logs behind the front. So `sync` with
+   *  this very `answer` asks for nothing that is known. Without a front the next `sync` asks for it.
+   *  @param {Answer} answer
+   *  @param {Iterable<[string, number]>} [front] */
+  follow(answer, front) {
+    this.#followed = { answer, theirs: new Map(front ?? []), isKnown: front !== undefined };
+  }
+
+  /** Takes what a server that is followed has logged. Returns whether nothing differs in it now:
+   *  else the caller is to `sync`.
+   *  @param {Answer} answer
+   *  @param {Operation[]} operations Each has an id, at least. */
+  logged(answer, operations) {
+    const followed = this.#followedBy(answer);
+    if (!followed) return false;
+    for (const [, id] of operations) raise(followed.theirs, id);
+    const name = this.#core.name();
+    const own = operations.filter(([, [, replica]]) => replica === name);
+    const isOwn = own.every((op) => this.#hearOwn(op));
+    const ready = this.#readyOf(operations.filter((op) => !own.includes(op)));
+    const { refused } = this.#core.take(ready);
+    const front = this.#core.front();
+    return isOwn && refused.length === 0 && operations.every(([, id]) => covers(front, id));
+  }
+
+  /** Whether an own operation that a server has logged is this replica's own, as it was sent.
+   *  @param {Operation} op */
+  #hearOwn(op) {
+    const [, [counter, name], front] = op;
+    if (counter <= Math.max(this.#applied, this.#underWay)) return true; // a reply says it, or will
+    const before = isArray(front) ? front.find(([it]) => it === name)?.[1] ?? 0 : Infinity;
+    if (counter > this.#sent && !this.#core.isShared()) return false; // another has this name
+    if (before > this.#applied || counter >= this.#forked) return false;
+    const known = new Map(this.#core.front()).set(name, before);
+    const [same] = operationsOf(this.#core.read, known);
+    if (!same || print(same) !== print(op)) return false;
+    this.#hasSeenFront = true;
+    this.#confirm(counter, true);
+    return true;
+  }
+
+  /** Those that this replica lacks, and that depend on nothing else that it lacks.
+   *  @param {Operation[]} operations In log order. */
+  #readyOf(operations) {
+    const front = this.#core.front();
+    /** @type {Map<string, number>} */
+    const taken = new Map();
+    const has = (/** @type {any} */ pair) => isArray(pair, 2)
+      && (taken.get(pair[0]) ?? front.get(pair[0]) ?? 0) >= pair[1];
+    return operations.filter(([, [counter, name], deps]) => {
+      if (has([name, counter]) || !isArray(deps) || !deps.every(has)) return false;
+      taken.set(name, counter);
+      return true;
+    });
+  }
+
+  /** @param {Answer} answer */
+  #followedBy(answer) {
+    return this.#followed?.answer === answer ? this.#followed : undefined;
+  }
+
   /** @param {Answer} answer
    *  @returns {Promise<Report>} */
   async #sync(answer) {
     /** @type {Report} */
     const report = { taken: 0, given: 0, refused: [] };
     const ask = asking(answer, this.#core.doc);
-    const [, front] = await Promise.all([ask("open"), ask("front")]);
-    const theirs = new Map(checkedFront(front));
+    const theirs = await this.#frontOf(answer, ask);
     this.#look(theirs, report);
-    await this.#take(ask, report);
-    await this.#give(ask, theirs, report);
+    const isFollowed = this.#followedBy(answer) !== undefined;
+    if (!isFollowed || !this.#hasAll(theirs)) await this.#take(ask, answer, theirs, report);
+    await this.#give(ask, answer, theirs, report);
     return report;
+  }
+
+  /** What a server has: asked for, unless it is known.
+   *  @param {Answer} answer
+   *  @param {Ask} ask */
+  async #frontOf(answer, ask) {
+    const followed = this.#followedBy(answer);
+    if (followed?.isKnown) return followed.theirs;
+    const [, front] = await Promise.all([ask("open"), ask("front")]);
+    const now = checkedFront(front);
+    if (!followed) return new Map(now);
+    for (const [name, counter] of now) raise(followed.theirs, [counter, name]);
+    followed.isKnown = true;
+    return followed.theirs;
+  }
+
+  /** @param {Map<string, number>} theirs */
+  #hasAll(theirs) {
+    const front = this.#core.front();
+    return [...theirs].every(([name, counter]) => covers(front, [counter, name]));
+  }
+
+  /** Notes that a server that is followed has an operation.
+   *  @param {Answer} answer
+   *  @param {Map<string, number>} theirs
+   *  @param {Id} id */
+  #noteTheirs(answer, theirs, id) {
+    const followed = this.#followedBy(answer);
+    if (!followed) return;
+    raise(theirs, id);
+    raise(followed.theirs, id);
   }
 
   /** Looks for own operations at the server that were never sent. Then another has this name, as
@@ -126,9 +232,13 @@ export class Exchange {
   }
 
   /** @param {Ask} ask
+   *  @param {Answer} answer
+   *  @param {Map<string, number>} theirs
    *  @param {Report} report */
-  async #take(ask, report) {
-    for await (const page of pagesOf(ask, this.#core.front())) {
+  async #take(ask, answer, theirs, report) {
+    const isFollowed = this.#followedBy(answer) !== undefined;
+    for await (const page of pagesOf(ask, this.#core.front(), isFollowed)) {
+      for (const op of page) if (isId(op?.[1])) this.#noteTheirs(answer, theirs, op[1]);
       const { taken, refused } = this.#core.take(page);
       report.taken += taken;
       for (const { line, refusal } of refused) this.#refuse(report, line, refusal);
@@ -136,26 +246,24 @@ export class Exchange {
   }
 
   /** @param {Ask} ask
+   *  @param {Answer} answer
    *  @param {Map<string, number>} theirs
    *  @param {Report} report */
-  async #give(ask, theirs, report) {
+  async #give(ask, answer, theirs, report) {
     /** @type {Map<string, number>} Of a replica: the first that was refused. */
     const barred = new Map();
     const name = this.#core.name();
     if (this.#forked < Infinity) barred.set(name, this.#forked);
     const unsure = this.#unsure(theirs);
-    if (unsure.length > 0 && (await this.#givePage(ask, unsure, barred, report))) return;
-    /** @type {Operation[]} */
-    let page = [];
-    let size = unsure.length > 0 ? MOST.page : 1; // a first one that is refused bars the others
-    for (const op of operationsOf(this.#core.read, theirs)) {
-      page.push(op);
-      if (page.length < size) continue;
-      const open = page.filter((it) => !isBarred(barred, it));
-      if (await this.#givePage(ask, open, barred, report)) return;
-      [page, size] = [[], MOST.page];
+    /** @param {Operation[]} page */
+    const give = (page) => this.#givePage(ask, page, barred, report,
+      (id) => this.#noteTheirs(answer, theirs, id));
+    if (unsure.length > 0 && (await give(unsure))) return;
+    const lacked = operationsOf(this.#core.read, theirs);
+    for (const page of pagesToGive(lacked, name)) {
+      // What a server that is followed has logged meanwhile isn't sent to it.
+      if (await give(page.filter((it) => !isBarred(barred, it) && !covers(theirs, it[1])))) return;
     }
-    await this.#givePage(ask, page.filter((it) => !isBarred(barred, it)), barred, report);
   }
 
   /** The last own operations that the server has and that aren't confirmed: these go first. It
@@ -174,14 +282,17 @@ export class Exchange {
    *  @param {Ask} ask
    *  @param {Operation[]} page
    *  @param {Map<string, number>} barred
-   *  @param {Report} report */
-  async #givePage(ask, page, barred, report) {
+   *  @param {Report} report
+   *  @param {(id: Id) => void} given Is called with what the server has now. */
+  async #givePage(ask, page, barred, report, given) {
     const before = this.#sent;
     for (const [, [counter, replica]] of page) {
       if (replica === this.#core.name()) this.#sent = Math.max(this.#sent, counter);
     }
+    this.#underWay = this.#sent;
     const sent = page.map((op) => ask("deliver", op).catch((/** @type {Error} */ error) => error));
     const replies = await Promise.all(sent);
+    this.#underWay = 0;
     for (const [at, reply] of replies.entries()) {
       if (reply instanceof Error && !(reply instanceof Refused)) throw reply;
       const [, [counter, replica]] = page[at];
@@ -191,9 +302,10 @@ export class Exchange {
       if (refusal) {
         this.#refuse(report, page[at], refusal);
         barred.set(replica, Math.min(counter, barred.get(replica) ?? Infinity));
-        if (isOwn && isUsedTwice(refusal)) this.#forked = Math.min(this.#forked, counter);
+        if (isOwn && NAME_USED_TWICE.has(refusal.number)) this.#forked = Math.min(this.#forked, counter);
       } else {
         if (typeof reply === "number") report.given++;
+        if (!isArray(reply)) given(page[at][1]); // it isn't held
         if (isOwn && !barred.has(replica)) this.#confirm(counter, typeof reply === "number");
       }
     }
@@ -208,23 +320,31 @@ export class Exchange {
   }
 
   /** The lines to go on with under a new name: the server's, those of others that it lacks, and own
-   *  ones that it lacks, made again.
+   *  ones that it lacks, made again, or lost.
    *  @param {string} name
    *  @param {Answer} answer
    *  @param {Open} open
+   *  @param {boolean} isRemade Whether own ones that it lacks are made again.
    *  @returns {Promise<Remade & {lines: string[], ids: Map<string, Id>}>} */
-  async remade(name, answer, open) {
+  async remade(name, answer, open, isRemade) {
     const ask = asking(answer, this.#core.doc);
     const [, front] = await Promise.all([ask("open"), ask("front")]);
     this.#look(new Map(checkedFront(front)), { taken: 0, given: 0, refused: [] });
     const scratch = open(freshName("scratch"));
     try {
-      for await (const page of pagesOf(ask, new Map())) for (const op of page) deliverTo(scratch, op);
-      return new Remaking(this.#core, scratch, name, this.#forked, this.#applied, this.#stored).run();
+      for await (const page of pagesOf(ask, new Map(), false)) for (const op of page) deliverTo(scratch, op);
+      const sure = Math.max(this.#applied, this.#stored);
+      return new Remaking(this.#core, scratch, name, this.#forked, sure, isRemade).run();
     } finally {
       scratch.free();
     }
   }
+}
+
+/** @param {Map<string, number>} front
+ *  @param {Id} id */
+function raise(front, [counter, name]) {
+  front.set(name, Math.max(counter, front.get(name) ?? 0));
 }
 
 /** Delivers what it can.
@@ -252,14 +372,15 @@ class Remaking {
    *  @param {Engine} scratch
    *  @param {string} name
    *  @param {number} forked
-   *  @param {number} applied
-   *  @param {number} stored */
-  constructor(core, scratch, name, forked, applied, stored) {
+   *  @param {number} sure Own insertions up to this counter are this replica's own.
+   *  @param {boolean} isRemade */
+  constructor(core, scratch, name, forked, sure, isRemade) {
     this.core = core;
     this.scratch = scratch;
     this.name = name;
     this.forked = forked;
-    this.sure = Math.max(applied, stored);
+    this.sure = sure;
+    this.isRemade = isRemade;
   }
 
   run() {
@@ -296,7 +417,7 @@ class Remaking {
       return;
     }
     this.#isForked = true;
-    const again = this.#renamed(op);
+    const again = this.isRemade && this.#renamed(op);
     if (!again || this.#deliver(again) !== "applied") return void this.lost.push(print(op));
     this.ids.set(String(op[1]), again[1]);
     this.#ownLast = again[1][0];
@@ -367,18 +488,55 @@ function checkedFront(front) {
   return front;
 }
 
-/** The pages of what a server has and a front doesn't cover. Ends if the server repeats itself, and
- *  throws if it has more than a document can have.
+/** Operations in pages, as they are delivered. The first one, and the first own one, go alone: one
+ *  that is refused bars the others. So of two copies of one store that deliver at once, one gets
+ *  nothing logged under the name of both.
+ *  @param {Iterable<Operation>} operations
+ *  @param {string} name
+ *  @returns {Generator<Operation[]>} */
+function* pagesToGive(operations, name) {
+  /** @type {Operation[]} */
+  let page = [];
+  let [isFirst, isFirstOwn] = [true, true];
+  for (const op of operations) {
+    const isOwn = op[1][1] === name;
+    const isAlone = isFirst || (isOwn && isFirstOwn);
+    if (isAlone && page.length > 0) {
+      yield page;
+      page = [];
+    }
+    page.push(op);
+    [isFirst, isFirstOwn] = [false, isFirstOwn && !isOwn];
+    if (!isAlone && page.length < MOST.page) continue;
+    yield page;
+    page = [];
+  }
+  if (page.length > 0) yield page;
+}
+
+/** The pages of what a server has and a front doesn't cover. The next one is asked for before one
+ *  is used. Ends if the server repeats itself, and throws if it has more than a document can have.
  *  @param {Ask} ask
- *  @param {Map<string, number>} front */
-async function* pagesOf(ask, front) {
+ *  @param {Map<string, number>} front
+ *  @param {boolean} isHub Whether it is a hub that has pages of its own. */
+async function* pagesOf(ask, front, isHub) {
   const seen = new Map(front);
+  const next = () => {
+    const page = isHub ? ask("page", frontPairs(seen), PAGE_BYTES)
+      : ask("ops", frontPairs(seen), MOST.page);
+    page.catch(() => {}); // it is thrown where the page is used, if it is
+    return page;
+  };
+  let asked = next();
   for (let count = 0, isMore = true; isMore; ) {
-    const page = await ask("ops", frontPairs(seen), MOST.page);
-    if (!isArray(page) || page.length > MOST.page) throw malformed("ops");
-    isMore = page.length === MOST.page && isNews(seen, page);
+    const page = await asked;
+    const most = MOST.page * (isHub ? MOST_PAGES : 1);
+    if (!isArray(page) || page.length > most) throw malformed("ops");
+    const isFull = page.length > 0 && page.length % MOST.page === 0;
+    isMore = isFull && isNews(seen, page);
     count += page.length;
     if (count > MOST.log || seen.size > 2 * MOST.replicas) throw malformed("ops");
+    if (isMore) asked = next();
     yield page;
   }
 }
@@ -402,10 +560,6 @@ function isNews(seen, page) {
 const isBarred = (barred, [, [counter, replica], front]) =>
   counter >= (barred.get(replica) ?? Infinity) ||
   front.some(([name, last]) => last >= (barred.get(name) ?? Infinity));
-
-/** Whether a refusal says that another replica has the own name.
- *  @param {Refused} refusal */
-const isUsedTwice = ({ number }) => number === 14 || number === 15 || number === 16;
 
 /** Whether a refusal holds for whatever is sent.
  *  @param {Refused} refusal */

@@ -1,11 +1,14 @@
 /* Puts nested values by the requests of a session, while others change the same lists. An element
    is named (`let`) and checked before what is in it follows, so that nothing goes into another. */
 
-import { Counter, MOST, Refused, bare, isArray, isGiven, isMap, pieces, print } from "./wire.mjs";
+import { Refused } from "./errors.mjs";
+import { isArray, isMap, print } from "./json.mjs";
+import { MOST } from "./limits.mjs";
+import { Counter, bare, isGiven, pieces } from "./values.mjs";
 
 /** @typedef {import("./session.mjs").Client} Client */
-/** @typedef {import("./wire.mjs").Cursor} Cursor */
-/** @typedef {import("./wire.mjs").Id} Id */
+/** @typedef {import("./operations.mjs").Cursor} Cursor */
+/** @typedef {import("./operations.mjs").Id} Id */
 
 const AT_ONCE = 256; // requests that wait for their replies together
 const ELEMENTS = [8, 2]; // of a list that are named together, by the depth of lists; then 1

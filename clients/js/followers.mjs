@@ -1,12 +1,14 @@
 /* What a replica asks an engine for that has no `place`, `index` or `follow`: found by requests. */
 
+import { Refused } from "./errors.mjs";
+import { MOST } from "./limits.mjs";
 import { Mirror } from "./mirror.mjs";
+import { compareIds, frontPairs, isId } from "./operations.mjs";
 import { endOf, isPrefix, placeOf, textsOf, writtenOf } from "./places.mjs";
-import { MOST, Refused, compareIds, frontPairs, isId } from "./wire.mjs";
 
-/** @typedef {import("./wire.mjs").Cursor} Cursor */
-/** @typedef {import("./wire.mjs").Id} Id */
-/** @typedef {import("./wire.mjs").Operation} Operation */
+/** @typedef {import("./operations.mjs").Cursor} Cursor */
+/** @typedef {import("./operations.mjs").Id} Id */
+/** @typedef {import("./operations.mjs").Operation} Operation */
 /** @typedef {import("./rules.mjs").Engine} Engine */
 /** @typedef {(word: string, ...items: any[]) => any} Read Asks; returns what is behind the word. */
 
@@ -106,7 +108,7 @@ function* orderOf(read, list) {
  *  @returns {Generator<Operation>} */
 export function* operationsOf(read, front) {
   const seen = new Map([...front].filter(([, counter]) => counter > 0));
-  for (let page = { length: MOST.page }; page.length === MOST.page; ) {
+  for (let page = /** @type {{ length: number }} */ ({ length: MOST.page }); page.length === MOST.page; ) {
     /** @type {Operation[]} */
     const ops = read("ops", frontPairs(seen), MOST.page);
     for (const [, [counter, name]] of ops) seen.set(name, counter);

@@ -1,12 +1,17 @@
-/* Undo and redo of a replica: by new operations, which put back what its own edits have cleared. */
+/* Undo and redo of a replica: by new operations, which put back what its own edits have cleared.
+   Values are put back where nothing else is by now, counters by amounts: what others have added
+   meanwhile stays, and what the edit had cleared is added to it. */
 
+import { operationsOf } from "./followers.mjs";
+import { covers, keysOf } from "./operations.mjs";
 import { isPrefix, endOf, textsOf, writtenOf } from "./places.mjs";
-import { covers, keysOf, pieces } from "./wire.mjs";
+import { pieces } from "./values.mjs";
 
-/** @typedef {import("./wire.mjs").Branches} Branches */
-/** @typedef {import("./wire.mjs").Cursor} Cursor */
-/** @typedef {import("./wire.mjs").Id} Id */
-/** @typedef {import("./wire.mjs").Operation} Operation */
+/** @typedef {import("./operations.mjs").Branches} Branches */
+/** @typedef {import("./operations.mjs").Cursor} Cursor */
+/** @typedef {import("./operations.mjs").Front} Front */
+/** @typedef {import("./operations.mjs").Id} Id */
+/** @typedef {import("./operations.mjs").Operation} Operation */
 /** @typedef {import("./followers.mjs").Read} Read */
 
 const MOST_STEPS = 1000;
@@ -19,7 +24,7 @@ const MOST_STEPS = 1000;
  *  @property {Edit[]} terms The own additions that it stands for. */
 
 /** @typedef {object} Edit
- *  @property {"assign" | "insert" | "delete" | "add"} word
+ *  @property {import("./protocol.mjs").EditWord} word
  *  @property {Cursor} place
  *  @property {string[]} texts Of the place.
  *  @property {Id} id
@@ -27,6 +32,7 @@ const MOST_STEPS = 1000;
  *  @property {Back[]} back
  *  @property {boolean} hadPuts Whether a value was at the place before.
  *  @property {Cursor | null} fresh The topmost place on the way to it that held nothing before.
+ *  @property {Front} seen What was logged before it; empty where it has cleared no counter.
  *  @property {Id | null} counted Of an addition: the operation that counts it now. */
 
 /** @typedef {object} Before What an edit is about to change.
@@ -152,6 +158,7 @@ export class History {
       back: back.map((it) => ({ ...it, terms: it.word === "add" ? this.#termsAt(it.place) : [] })),
       hadPuts: back.some((it) => it.word === "assign" && it.place.length === place.length),
       fresh: fresh > 0 ? place.slice(0, fresh + 1) : null,
+      seen: back.some((it) => it.word === "add") ? this.#read("front") : [],
     };
     if (word === "add") this.#adds.add(edit);
     if (!this.#isTurning) this.#drop("redo", this.#steps.redo.length);
@@ -214,12 +221,14 @@ export class History {
     const steps = this.#steps[from];
     const edits = steps[steps.length - 1];
     if (!edits) return false;
-    checkRoom(edits.reduce((count, edit) => count + edit.back.length + 2, 0));
+    const outermost = this.#outermost(edits);
+    const inner = edits.filter((edit) => edit.word === "add" && !outermost.includes(edit));
+    checkRoom(outermost.reduce((count, edit) => count + this.#needOf(edit, inner), 0));
     steps.pop();
     [this.#into, this.#isTurning] = [from === "undo" ? "redo" : "undo", true];
     try {
       this.group(() => {
-        for (const edit of this.#outermost(edits).reverse()) this.#takeBack(edit);
+        for (const edit of outermost.reverse()) this.#takeBack(edit, inner);
       });
     } finally {
       [this.#into, this.#isTurning] = ["undo", false];
@@ -265,19 +274,97 @@ export class History {
     return now;
   }
 
-  /** @param {Edit} edit */
-  #takeBack(edit) {
+  /** How many operations it takes, at most, to take an edit back.
+   *  @param {Edit} edit
+   *  @param {Edit[]} inner */
+  #needOf(edit, inner) {
+    const { word, value, back, counted } = edit;
+    if (word === "add") return counted ? pieces(-BigInt(value)).length : 0;
+    if (word === "delete") return back.length;
+    if (!this.#isThere(edit)) return 0;
+    const added = word === "assign" ? this.#addedSince(edit, inner) : [];
+    const again = added.reduce((count, { sum }) => count + pieces(sum).length, 0);
+    return (edit.hadPuts ? 0 : 1) + back.length + again;
+  }
+
+  /** @param {Edit} edit
+   *  @param {Edit[]} inner The additions of its step that go with what the step put above them. */
+  #takeBack(edit, inner) {
     const { word, place, back } = edit;
     if (word === "add") return this.#takeBackAddition(edit);
-    if (word === "delete") {
-      const isGone = !this.#holds([writtenOf(place)]);
-      this.#restore(isGone ? back : back.filter((it) => !this.#holds([writtenOf(it.place)])));
-    } else if (this.#isThere(edit)) {
-      const others = this.#puts(place).filter(([id]) => !isSame(id, this.#stand(edit.id)));
-      if (word === "assign" && others.length > 0) return this.#leave(place, others);
-      if (!edit.hadPuts) this.#edit("delete", this.#extent(edit).place);
-      this.#restore(back);
+    if (word === "delete") return this.#restore(this.#missingOf(edit));
+    if (!this.#isThere(edit)) return;
+    const others = this.#puts(place).filter(([id]) => !isSame(id, this.#stand(edit.id)));
+    if (word === "assign" && others.length > 0) return this.#leave(place, others);
+    const added = word === "assign" ? this.#addedSince(edit, inner) : [];
+    if (!edit.hadPuts) this.#edit("delete", this.#extent(edit).place);
+    this.#restore(back);
+    for (const { place: at, sum } of added) this.#addAll(at, sum);
+  }
+
+  /** What a deletion has cleared and nobody has put back since.
+   *  @param {Edit} edit
+   *  @returns {Back[]} */
+  #missingOf(edit) {
+    const { place, back } = edit;
+    if (!this.#holds([writtenOf(place)])) return back;
+    const anew = this.#countedAnew(edit);
+    return back.filter((it) => {
+      if (it.word === "assign") return !this.#holds([writtenOf(it.place)]);
+      return BigInt(it.value) !== 0n && !anew.has(keyOf(it.place));
+    });
+  }
+
+  /** The counters that a deletion has cleared, and that others have counted or put anew, knowing of
+   *  it. Who didn't know of it has added to what was there.
+   *  @param {Edit} edit
+   *  @returns {Set<string>} */
+  #countedAnew({ id, back, seen }) {
+    const places = back.filter((it) => it.word === "add").map((it) => textsOf(it.place));
+    /** @type {Set<string>} */
+    const anew = new Set();
+    if (places.length === 0) return anew;
+    for (const op of operationsOf(this.#read, seen)) {
+      const [, [, name], front, , [word]] = op;
+      if (name === id[1] || !covers(new Map(front), id)) continue;
+      const end = textsOf(endOf(op));
+      for (const texts of places) {
+        const isAt = isPrefix(end, texts) && (word === "assign" || end.length === texts.length);
+        if (isAt) anew.add(texts.join("\0"));
+      }
     }
+    return anew;
+  }
+
+  /** What others have added at the places that an assignment's end clears, or puts back.
+   *  @param {Edit} edit
+   *  @param {Edit[]} inner
+   *  @returns {{place: Cursor, sum: bigint}[]} */
+  #addedSince({ place, back }, inner) {
+    const cursor = [writtenOf(place)];
+    const shown = this.#read("show", cursor);
+    if (!hasCounter(shown)) return [];
+    /** @type {Before["remains"]} */
+    const remains = [];
+    this.#findRemains(cursor, shown, [], remains);
+    /** @type {Map<string, {place: Cursor, sum: bigint}>} */
+    const sums = new Map([place, ...back.map((it) => it.place)].map((it) =>
+      [keyOf(it), { place: it, sum: 0n }]));
+    for (const { steps, word, value } of remains) {
+      const found = word === "add" && sums.get(keyOf([...place, ...steps]));
+      if (found) found.sum += BigInt(value);
+    }
+    for (const { counted, place: at, value } of inner) {
+      const found = counted && sums.get(keyOf(at));
+      if (found) found.sum -= BigInt(value);
+    }
+    return [...sums.values()].filter(({ sum }) => sum !== 0n);
+  }
+
+  /** @param {Cursor} place
+   *  @param {bigint} sum */
+  #addAll(place, sum) {
+    for (const number of pieces(sum)) this.#edit("add", place, number);
   }
 
   /** Leaves what others have put at the same time.
@@ -297,7 +384,7 @@ export class History {
     const [[kind, sum] = [], ...others] = extent.shown;
     const isAll = kind === "cnt" && sum === String(value) && others.length === 0;
     if (fresh && isAll) this.#edit("delete", extent.place);
-    else for (const number of pieces(-BigInt(value))) this.#edit("add", place, number);
+    else this.#addAll(place, -BigInt(value));
   }
 
   /** @param {Back[]} back */
@@ -345,6 +432,17 @@ export class History {
     return { inner: values[index] ?? [], others: beside.length + branches.length };
   }
 }
+
+/** Whether a counter is in what `show` gives.
+ *  @param {Branches} branches
+ *  @returns {boolean} */
+const hasCounter = (branches) => branches.some(([kind, inner]) => kind === "cnt" ||
+  (kind === "map" && inner.some((/** @type {[string, Branches]} */ [, it]) => hasCounter(it))) ||
+  (kind === "list" && inner.some(hasCounter)));
+
+/** A place as a key.
+ *  @param {Cursor} place */
+const keyOf = (place) => textsOf(place).join("\0");
 
 /** @param {any[]} branch */
 const isZero = ([kind, sum]) => kind === "cnt" && sum === "0";

@@ -8,14 +8,15 @@
    Firefox 134, Node 24; Node 20 and 22 with --experimental-wasm-memory64. Elsewhere `load` says so
    in one line and gives the engine of rules.mjs, which answers alike. */
 
-import { Refused, parse, print } from "./wire.mjs";
+import { Refused } from "./errors.mjs";
+import { parse, print } from "./json.mjs";
 import { open as openByHand } from "./rules.mjs";
 
 /** @typedef {import("./rules.mjs").Answer} Answer */
 /** @typedef {import("./rules.mjs").Engine} Engine */
 /** @typedef {import("./rules.mjs").Open} Open */
-/** @typedef {import("./wire.mjs").Key} Key */
-/** @typedef {import("./wire.mjs").Path} Path */
+/** @typedef {import("./operations.mjs").Key} Key */
+/** @typedef {import("./operations.mjs").Path} Path */
 
 /** @typedef {object} Options
  *  @property {URL | string | BufferSource | WebAssembly.Module} [module] Where jcrdt.wasm is, its

@@ -3,12 +3,14 @@
    element is, and what it holds, the engine says. Of a list of n elements it is asked about log n
    times for a change, and for the whole list where most of it may have changed. */
 
+import { Refused, refusalOf } from "./errors.mjs";
+import { isArray, isMap } from "./json.mjs";
+import { isId } from "./operations.mjs";
 import { endOf, placeOf, writtenOf } from "./places.mjs";
-import { Refused, isArray, isId, isMap, refusalOf } from "./wire.mjs";
 
-/** @typedef {import("./wire.mjs").Cursor} Cursor */
-/** @typedef {import("./wire.mjs").Id} Id */
-/** @typedef {import("./wire.mjs").Operation} Operation */
+/** @typedef {import("./operations.mjs").Cursor} Cursor */
+/** @typedef {import("./operations.mjs").Id} Id */
+/** @typedef {import("./operations.mjs").Operation} Operation */
 /** @typedef {import("./events.mjs").Source} Source */
 /** @typedef {import("./rules.mjs").Splice} Splice */
 /** @typedef {import("./followers.mjs").Read} Read */

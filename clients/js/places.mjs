@@ -3,13 +3,15 @@
    A place is a cursor by ids: 0, then texts, elements' ids, and 0 for a head at the end. It goes on
    to mean the same when lists move. Its written form is [PATH,KEY], as operations have it. */
 
-import { Refused, isArray, isId, keysOf } from "./wire.mjs";
+import { Refused } from "./errors.mjs";
+import { isArray } from "./json.mjs";
+import { isId, keysOf } from "./operations.mjs";
 
-/** @typedef {import("./wire.mjs").Cursor} Cursor */
-/** @typedef {import("./wire.mjs").Id} Id */
-/** @typedef {import("./wire.mjs").Key} Key */
-/** @typedef {import("./wire.mjs").Operation} Operation */
-/** @typedef {import("./wire.mjs").Path} Path */
+/** @typedef {import("./operations.mjs").Cursor} Cursor */
+/** @typedef {import("./operations.mjs").Id} Id */
+/** @typedef {import("./operations.mjs").Key} Key */
+/** @typedef {import("./operations.mjs").Operation} Operation */
+/** @typedef {import("./operations.mjs").Path} Path */
 
 /** @param {[Path, Key]} written
  *  @returns {Cursor} */

@@ -3,13 +3,15 @@
    `python -m jcrdt renew` writes a map of ids: for each element of a list that it copied, one line
    of JSON, [[oldCounter,oldReplica],[newCounter,newReplica]]. Keys of maps are the same in both. */
 
+import { Refused, refusalOf } from "./errors.mjs";
+import { isArray, parse } from "./json.mjs";
+import { isId } from "./operations.mjs";
 import { endOf } from "./places.mjs";
-import { Refused, isArray, isId, parse, refusalOf } from "./wire.mjs";
 
 /** @typedef {import("./replica.mjs").Replica} Replica */
-/** @typedef {import("./wire.mjs").Cursor} Cursor */
-/** @typedef {import("./wire.mjs").Id} Id */
-/** @typedef {import("./wire.mjs").Operation} Operation */
+/** @typedef {import("./operations.mjs").Cursor} Cursor */
+/** @typedef {import("./operations.mjs").Id} Id */
+/** @typedef {import("./operations.mjs").Operation} Operation */
 
 /** @param {Iterable<string | [Id, Id]>} map
  *  @returns {Map<string, Id>} */

@@ -15,17 +15,20 @@
 
    Log and tree are the engine's: rules.mjs, or another one that answers the same requests. */
 
+import { Refused, refusalOf } from "./errors.mjs";
 import { Events } from "./events.mjs";
 import { Exchange, reading } from "./exchange.mjs";
 import { Indices, operationsOf, placeAt, sourceOf } from "./followers.mjs";
 import { History } from "./history.mjs";
+import { isArray, isMap, parse, print } from "./json.mjs";
+import { MOST } from "./limits.mjs";
+import { isName } from "./names.mjs";
+import { frontPairs, isId } from "./operations.mjs";
 import { endOf, requestOf, writtenOf } from "./places.mjs";
+import { REFUSALS } from "./protocol.mjs";
 import { remakeIn } from "./renewal.mjs";
 import { open } from "./rules.mjs";
-import {
-  Counter, MOST, Refused, bare, checkValue, checkedInteger, frontPairs, isArray,
-  isGiven, isId, isMap, isName, parse, pieces, plain, print, refusalOf,
-} from "./wire.mjs";
+import { Counter, bare, checkValue, checkedInteger, isGiven, pieces, plain } from "./values.mjs";
 
 /** @typedef {import("./events.mjs").Changed} Changed */
 /** @typedef {import("./events.mjs").Heard} Heard */
@@ -36,10 +39,10 @@ import {
 /** @typedef {import("./exchange.mjs").Taken} Taken */
 /** @typedef {import("./rules.mjs").Engine} Engine */
 /** @typedef {import("./rules.mjs").Open} Open */
-/** @typedef {import("./wire.mjs").Cursor} Cursor */
-/** @typedef {import("./wire.mjs").Id} Id */
-/** @typedef {import("./wire.mjs").Operation} Operation */
-/** @typedef {import("./wire.mjs").Scalar} Scalar */
+/** @typedef {import("./operations.mjs").Cursor} Cursor */
+/** @typedef {import("./operations.mjs").Id} Id */
+/** @typedef {import("./operations.mjs").Operation} Operation */
+/** @typedef {import("./operations.mjs").Scalar} Scalar */
 
 /** @typedef {object} Options
  *  @property {Open} [engine] What makes the engine: `open` of rules.mjs if it isn't given. */
@@ -68,6 +71,8 @@ export class Replica {
   #front = new Map();
   #mayHold = false; // whether operations may be held
   #events = new Events((error) => this.failed(error));
+  /** @type {Set<() => void>} What is asked before each change of one's own. */
+  #guards = new Set();
   #history;
   #exchange;
 
@@ -137,13 +142,15 @@ export class Replica {
     const held = new Map();
     for (const line of lines) {
       const op = parsedLine(line);
-      const { reply } = op ? scratch.ask(["deliver", op]) : { reply: ["no", 1, "not-json"] };
+      const { reply } = op ? scratch.ask(["deliver", op]) : new Refused(REFUSALS["not-json"]);
       if (reply[0] === "held") held.set(String(op?.[1]), line);
-      const [number, name] = reply[0] === "known" ? [15, "id-conflict"] : reply.slice(1);
-      if (reply[0] === "no" || reply[0] === "known") this.unread.push({ line, number, name });
+      const isKnown = reply[0] === "known";
+      const [, number, name] = isKnown ? new Refused(REFUSALS["id-conflict"]).reply : reply;
+      if (reply[0] === "no" || isKnown) this.unread.push({ line, number, name });
     }
+    const { number, name } = new Refused(REFUSALS["bad-front"]);
     for (const [id] of scratch.ask(["held"]).reply[1]) {
-      this.unread.push({ line: held.get(String(id)) ?? "", number: 13, name: "bad-front" });
+      this.unread.push({ line: held.get(String(id)) ?? "", number, name });
     }
     const good = [...operationsOf(reading(scratch), [])].map(print);
     scratch.free();
@@ -177,23 +184,49 @@ export class Replica {
 
   // ---- Changes. Each returns the id of the new operation. A refused one changes nothing.
 
+  /** Calls `check` before each change of one's own, `undo` and `redo` among them. What it throws
+   *  refuses that change: nothing is changed. Returns a function that ends it.
+   *  @param {() => void} check
+   *  @returns {() => void} */
+  guard(check) {
+    this.#guards.add(check);
+    return () => void this.#guards.delete(check);
+  }
+
+  /** One change of one's own: guards are asked before, and it is one event.
+   *  @template T
+   *  @param {() => T} work
+   *  @returns {T} */
+  #change(work) {
+    for (const check of this.#guards) check();
+    return this.#events.batch(work);
+  }
+
   /** Assigns a scalar, {} or [].
    *  @param {Cursor} cursor
    *  @param {any} value
    *  @returns {Id} */
-  assign(cursor, value) { return this.#edit("assign", cursor, checkedOperand(value)); }
+  assign(cursor, value) {
+    return this.#change(() => this.#edit("assign", cursor, checkedOperand(value)));
+  }
   /** Inserts behind the element or head at the cursor.
    *  @param {Cursor} cursor
    *  @param {any} value
    *  @returns {Id} */
-  insert(cursor, value) { return this.#edit("insert", cursor, checkedOperand(value)); }
+  insert(cursor, value) {
+    return this.#change(() => this.#edit("insert", cursor, checkedOperand(value)));
+  }
   /** @param {Cursor} cursor @returns {Id} */
-  delete(cursor) { return this.#edit("delete", cursor); }
+  delete(cursor) {
+    return this.#change(() => this.#edit("delete", cursor));
+  }
   /** Adds an integer of 64 bits to the counter at the cursor.
    *  @param {Cursor} cursor
    *  @param {number | bigint} number
    *  @returns {Id} */
-  add(cursor, number) { return this.#edit("add", cursor, checkedInteger(number)); }
+  add(cursor, number) {
+    return this.#change(() => this.#edit("add", cursor, checkedInteger(number)));
+  }
 
   /** Puts a nested value, as `plain` gives it: {} or [] first, and then what is in it, one operation
    *  each. It is one step of undo and one event. The whole value is checked before: a refusal
@@ -202,8 +235,10 @@ export class Replica {
    *  @param {any} value
    *  @returns {Id[]} */
   put(cursor, value) {
-    this.#checkRoom(checkValue(value, cursor.length - 1));
-    return this.group(() => this.#put(cursor, value));
+    return this.#change(() => {
+      this.#checkRoom(checkValue(value, cursor.length - 1));
+      return this.group(() => this.#put(cursor, value));
+    });
   }
 
   /** @param {Cursor} cursor
@@ -265,6 +300,15 @@ export class Replica {
    *  @param {Iterable<any>} values
    *  @returns {Id[]} */
   splice(cursor, index, count, values) {
+    return this.#change(() => this.#splice(cursor, index, count, values));
+  }
+
+  /** @param {Cursor} cursor
+   *  @param {number} index
+   *  @param {number} count
+   *  @param {Iterable<any>} values
+   *  @returns {Id[]} */
+  #splice(cursor, index, count, values) {
     const list = this.place(cursor);
     const all = [...values];
     const operations = all.map((value) => checkElement(value, list.length));
@@ -273,7 +317,7 @@ export class Replica {
     this.#checkRoom(operations.reduce((sum, it) => sum + it, count));
     return this.group(() => {
       const { ids } = this.#insertAll(list, index > 0 ? near[0] : 0, all);
-      for (const id of near.slice(index > 0 ? 1 : 0)) this.delete([...list, id]);
+      for (const id of near.slice(index > 0 ? 1 : 0)) this.#edit("delete", [...list, id]);
       return ids;
     });
   }
@@ -297,17 +341,26 @@ export class Replica {
     return found;
   }
 
+  /** How many more operations it can make: none where 256 others have made some, and it hasn't. */
+  get room() {
+    const isKnown = this.#front.has(this.#name);
+    return isKnown || this.#front.size < MOST.replicas ? this.#left : 0;
+  }
+
+  /** How many operations the log has room for, beside those that are held. */
+  get #left() {
+    return MOST.log - this.#count - (this.#mayHold ? this.#read("held").length : 0);
+  }
+
   /** Refuses what would need more operations than are left.
    *  @param {number} operations */
   #checkRoom(operations) {
-    if (operations === 0) return;
-    const held = this.#mayHold ? this.#read("held").length : 0;
-    if (this.#count + operations + held > MOST.log) throw new Refused(18);
-    const isKnown = this.#front.has(this.#name);
-    if (!isKnown && this.#front.size >= MOST.replicas) throw new Refused(19);
+    if (operations > 0 && operations > this.room) {
+      throw new Refused(operations > this.#left ? 18 : 19);
+    }
   }
 
-  /** @param {"assign" | "insert" | "delete" | "add"} word
+  /** @param {import("./protocol.mjs").EditWord} word
    *  @param {Cursor} cursor
    *  @param {...any} value
    *  @returns {Id} */
@@ -375,13 +428,14 @@ export class Replica {
    *  Refused with 18 if the document has no room for it; the step stays then.
    *
    *  Places that it made vanish, if there is nothing else in them. A counter beside a value stays,
-   *  as 0: only a new assignment clears it. */
+   *  as 0: only a new assignment clears it. Counters come back by amounts: what others have added
+   *  meanwhile stays. Two that undo the same deletion at the same time count it twice. */
   undo() { return this.#turn("undo"); }
   redo() { return this.#turn("redo"); }
 
   /** @param {"undo" | "redo"} from */
   #turn(from) {
-    return this.#events.batch(() => this.#history.turn(from, (count) => this.#checkRoom(count)));
+    return this.#change(() => this.#history.turn(from, (count) => this.#checkRoom(count)));
   }
 
   // ---- Readings: what a server answers. Refused as there.
@@ -494,6 +548,20 @@ export class Replica {
    *  @returns {Promise<Report>} */
   sync(answer) { return this.#exchange.sync(answer); }
 
+  /** Says that `logged` will be called with all that a server logs behind this front. So `sync` with
+   *  this very `answer` asks for nothing that is known. Without a front, as where something wasn't
+   *  said, the next `sync` asks for it.
+   *  @param {Answer} answer
+   *  @param {Iterable<[string, number]>} [front] */
+  follow(answer, front) { this.#exchange.follow(answer, front); }
+
+  /** Takes what a server that is followed has logged, as one event: what fits. Returns whether
+   *  nothing of it differs now; if not, `sync` is to be called.
+   *  @param {Answer} answer
+   *  @param {Operation[]} operations In log order.
+   *  @returns {boolean} */
+  logged(answer, operations) { return this.#exchange.logged(answer, operations); }
+
   /** Goes on under a new name, after the server refused an operation of one's own since another
    *  has its id. Takes the server's log, the operations of others that it lacks, and those of
    *  one's own that it lacks: under the new name, with what they knew. Own ones that were never
@@ -502,9 +570,27 @@ export class Replica {
    *  @param {string} name
    *  @param {Answer} answer
    *  @returns {Promise<Remade>} */
-  async remake(name, answer) {
+  remake(name, answer) { return this.#goOnAs(name, answer, true); }
+
+  /** Goes on under a new name without the operations of one's own that the server lacks, as where
+   *  it refuses them: `lost` has them. Takes the server's log, and the operations of others that it
+   *  lacks, but for those that depend on what is lost. Watches go on. Then store all lines.
+   *  @param {string} name
+   *  @param {Answer} answer
+   *  @returns {Promise<{lost: string[]}>} */
+  async discard(name, answer) {
+    const { lost } = await this.#goOnAs(name, answer, false);
+    return { lost };
+  }
+
+  /** @param {string} name
+   *  @param {Answer} answer
+   *  @param {boolean} isRemade Whether own operations that the server lacks are made again.
+   *  @returns {Promise<Remade>} */
+  async #goOnAs(name, answer, isRemade) {
     if (!isName(name)) throw new TypeError(`${name}: 1 to 32 of a-z, 0-9, -`);
-    const { lines, ids, ...report } = await this.#exchange.remade(name, answer, this.#open);
+    const { lines, ids, ...report } =
+      await this.#exchange.remade(name, answer, this.#open, isRemade);
     const engine = this.#open(name, lines);
     this.#name = name;
     this.#use(engine, lines.length);

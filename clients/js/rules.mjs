@@ -1,24 +1,28 @@
 /* The engine of a replica by hand: log, tree and buffer, by docs/RULES.md. `open` makes one.
 
    An engine answers requests as a server does, but for the document's name, which it doesn't have:
-   assign insert delete add keys values items conflicts show sum ops front held deliver forget; and
-   ["cursor",CURSOR], to which ["cursor",[PATH,KEY]] says where it leads. A cursor may start with a
-   cursor in its written form, [PATH,KEY], in place of 0.
+   those of REPLICA_REQUESTS in protocol.mjs. To ["cursor",CURSOR] it replies ["cursor",[PATH,KEY]],
+   which says where it leads. A cursor may start with a cursor in its written form, [PATH,KEY], in
+   place of 0.
 
    Its other methods are optional for an engine: `Replica` does without them, more slowly. */
 
+import { Refused, refusalOf } from "./errors.mjs";
+import { isArray, isMap, parse, print } from "./json.mjs";
+import { MOST } from "./limits.mjs";
 import {
-  MOST, Refused, checkShape, checkedInteger, checkedScalar, compareIds, covers, frontPairs, isArray,
-  isAscending, isFront, isId, isMap, isPlaced, isText, keysOf, nextCounter, parse, print,
-  refusalOf,
-} from "./wire.mjs";
+  checkShape, compareIds, covers, frontPairs, isAscending, isFront, isId, isPlaced, keysOf,
+  nextCounter,
+} from "./operations.mjs";
+import { REPLICA_REQUESTS } from "./protocol.mjs";
+import { checkedInteger, checkedScalar, isText } from "./values.mjs";
 
-/** @typedef {import("./wire.mjs").Branches} Branches */
-/** @typedef {import("./wire.mjs").Front} Front */
-/** @typedef {import("./wire.mjs").Id} Id */
-/** @typedef {import("./wire.mjs").Key} Key */
-/** @typedef {import("./wire.mjs").Operation} Operation */
-/** @typedef {import("./wire.mjs").Path} Path */
+/** @typedef {import("./operations.mjs").Branches} Branches */
+/** @typedef {import("./operations.mjs").Front} Front */
+/** @typedef {import("./operations.mjs").Id} Id */
+/** @typedef {import("./operations.mjs").Key} Key */
+/** @typedef {import("./operations.mjs").Operation} Operation */
+/** @typedef {import("./operations.mjs").Path} Path */
 
 /** @typedef {{index: number, remove: number, insert: any[]}} Splice As of Array.splice: to be
  *    made one after another. */
@@ -399,8 +403,9 @@ class Rules {
    *  @returns {Answer} */
   #answer(word, items) {
     const [first, second] = items;
-    if (items.length !== ITEMS.get(word)) throw new Refused(2);
-    if (!WITHOUT_CURSOR.has(word)) checkForm(first);
+    const form = REPLICA_REQUESTS.get(word);
+    if (items.length !== form?.items.length) throw new Refused(2);
+    if (form.items[0] === "CUR") checkForm(first);
     switch (word) {
       case "assign": case "insert": return this.#edit(first, word, operand(second));
       case "add": return this.#edit(first, word, checkedInteger(second));
@@ -514,7 +519,7 @@ class Rules {
   // ---- Changes of one's own
 
   /** @param {any[]} cursor
-   *  @param {"assign" | "insert" | "delete" | "add"} word
+   *  @param {import("./protocol.mjs").EditWord} word
    *  @param {any} [value]
    *  @returns {Answer} */
   #edit(cursor, word, value) {
@@ -691,13 +696,6 @@ function parsedLine(line) {
     throw new Refused(12);
   }
 }
-
-/* How many items each request has behind its word, and which of these don't begin with a cursor. */
-const ITEMS = new Map(Object.entries({
-  assign: 2, insert: 2, add: 2, delete: 1, keys: 1, values: 1, items: 1, conflicts: 1, show: 1, sum: 1,
-  cursor: 1, ops: 2, front: 0, held: 0, deliver: 1, forget: 1,
-}));
-const WITHOUT_CURSOR = new Set(["ops", "front", "held", "deliver", "forget"]);
 
 /** Refuses what isn't a start and steps: 2. A start is 0, or a cursor in its written form.
  *  @param {any} cursor */

@@ -19,35 +19,37 @@
    the hub has no server. `Lost`: the connection ended before the reply, so whether it was carried
    out is unknown. Integers beyond 2^53 are BigInt, in both directions. */
 
+import { Away, Lost, Refused, errorOf } from "./errors.mjs";
 import { Filling, lengthOf } from "./filling.mjs";
+import { isMap, parse, print } from "./json.mjs";
+import { MOST } from "./limits.mjs";
+import { LineCutter, addressParts } from "./lines.mjs";
+import { covers, frontPairs, isId } from "./operations.mjs";
+import { PUSHES, REFUSALS, REQUESTS, isRefusedBy } from "./protocol.mjs";
 import {
-  Away, LineCutter, Lost, MOST, Refused, addressParts, byteLength, checkedInteger, checkedScalar,
-  covers, errorOf, bare, frontPairs, integer, isMap, parse, plain, print, checkValue,
-} from "./wire.mjs";
+  bare, byteLength, checkValue, checkedInteger, checkedScalar, integer, plain,
+} from "./values.mjs";
 
-/** @typedef {import("./wire.mjs").Cursor} Cursor */
-/** @typedef {import("./wire.mjs").Id} Id */
-/** @typedef {import("./wire.mjs").Operation} Operation */
-/** @typedef {import("./wire.mjs").Scalar} Scalar */
+/** @typedef {import("./operations.mjs").Cursor} Cursor */
+/** @typedef {import("./operations.mjs").Id} Id */
+/** @typedef {import("./operations.mjs").Operation} Operation */
+/** @typedef {import("./operations.mjs").Scalar} Scalar */
 /** @typedef {(front: Map<string, number>) => any} Changed */
 /** @typedef {(value: any, guest: string) => any} Heard */
+
+/** @typedef {object} Follower What is called for a document that is followed.
+ *  @property {Changed} begins With the front as it is: `logged` is called with what comes behind it.
+ *  @property {(operations: Operation[]) => any} logged With what was logged behind the last call.
+ *  @property {() => any} misses Something was logged that no call had: the server is to be asked.
+ *  @property {Changed} changed In place of these, where operations aren't pushed. */
 
 /** @typedef {object} Options
  *  @property {number} [seconds] How long the oldest request may wait for its reply (60).
  *  @property {number} [connectSeconds] How long until the session has begun (10).
  *  @property {number} [ping] Over WebSocket: after so many seconds without a request, `version` is
  *    asked (15).
- *  @property {number} [most] Of a reply, in bytes (256 MiB). */
-
-const PUSHES = new Set(["changed", "reopened", "heard"]); // lines of the hub that answer no request
-
-/** The first words of the replies to a request, but "no". */
-const REPLIES = /** @type {Record<string, string[]>} */ ({
-  open: ["opened"], let: ["bound"], held: ["waiting"], forget: ["forgotten"], quit: ["bye"],
-  assign: ["applied"], insert: ["applied"], delete: ["applied"], add: ["applied"],
-  deliver: ["applied", "known", "held"], watch: ["watching"], unwatch: ["unwatched"],
-  hear: ["hearing"], unhear: ["unheard"], say: ["said"],
-});
+ *  @property {number} [most] Of a reply, in bytes (256 MiB).
+ *  @property {AbortSignal} [signal] Ends the session when it is aborted, also before it begins. */
 
 /** @param {string} line */
 const firstWord = (line) => /^\s*\[\s*"([a-z]+)"/.exec(line)?.[1] ?? "";
@@ -61,6 +63,11 @@ const firstWord = (line) => /^\s*\[\s*"([a-z]+)"/.exec(line)?.[1] ?? "";
  *  @property {Map<Changed, string>} watchers With the front that each was called with, "" before.
  *  @property {boolean} isPushed Whether the hub pushes it.
  *  @property {Promise<void>} begun */
+
+/** @typedef {object} Following
+ *  @property {Set<Follower>} followers
+ *  @property {number} [last] The number of the last push of operations; none behind a front.
+ *  @property {boolean} isBegun Whether a front was pushed. */
 
 /** One session: see `connected`. */
 export class Client {
@@ -78,6 +85,8 @@ export class Client {
   #timer;
   /** @type {Map<string, Watch>} By document. */
   #watches = new Map();
+  /** @type {Map<string, Following>} By document. */
+  #followings = new Map();
   /** @type {Map<string, Set<Heard>>} By document. */
   #hearers = new Map();
   /** @type {Map<string, number>} A list: how many elements it had when one was appended. */
@@ -118,7 +127,7 @@ export class Client {
     const word = firstWord(line);
     if (PUSHES.has(word)) return this.#push(line);
     const waits = this.#waiting.get(this.#answered);
-    const due = waits && (REPLIES[waits.word] ?? [waits.word]);
+    const due = waits && (REQUESTS.get(waits.word)?.replies ?? [waits.word]);
     // Behind a line that answers nothing each reply would be taken for that of another request.
     if (!waits || !due || (word !== "no" && waits.word && !due.includes(word))) {
       return this.breakOff(`this line answers no request: ${line.slice(0, 80)}`);
@@ -144,6 +153,7 @@ export class Client {
     for (const waits of this.#waiting.values()) waits.failed(this.#lost);
     this.#waiting.clear();
     this.#watches.clear();
+    this.#followings.clear();
     this.#hearers.clear();
     this.#resolveClosed(this.#lost);
   }
@@ -394,7 +404,75 @@ export class Client {
     const watch = this.#watches.get(document);
     if (!watch?.watchers.delete(changed) || watch.watchers.size > 0) return;
     this.#watches.delete(document);
-    if (watch.isPushed) this.ask("unwatch", document).catch(() => {}); // an older hub has no such word
+    if (watch.isPushed) this.#unwatch(document);
+  }
+
+  /** Ends the pushes of fronts. Where it is followed too, operations are pushed again.
+   *  @param {string} document */
+  #unwatch(document) {
+    const asked = this.#followings.has(document)
+      ? this.ask("watch", document, "ops") : this.ask("unwatch", document);
+    asked.catch(() => {}); // an older hub has no such word
+  }
+
+  /** Through the hub: calls `begins(front)` now, and then `logged(operations)` for what the document
+   *  logs, own changes among it, until the connection ends or the returned function is called. A
+   *  server and an older hub push no operations: then `changed(front)` is called, as by `watch`.
+   *  Refused if the document isn't open.
+   *  @param {string} document
+   *  @param {Follower} follower
+   *  @param {number} [every] as of `watch`
+   *  @returns {Promise<() => void>} */
+  async follow(document, follower, every = 500) {
+    const following = this.#followings.get(document) ?? { followers: new Set(), isBegun: false };
+    this.#followings.set(document, following); // a push may come just behind the reply
+    following.followers.add(follower);
+    const end = () => {
+      if (!following.followers.delete(follower) || following.followers.size > 0) return false;
+      return this.#followings.delete(document);
+    };
+    try {
+      await this.ask("watch", document, "ops");
+      return () => void (end() && this.ask("unwatch", document).catch(() => {}));
+    } catch (refused) {
+      end();
+      if (!isBadRequest(refused)) throw refused;
+      return this.watch(document, follower.changed, every);
+    }
+  }
+
+  /** Whether the hub pushes a document's operations.
+   *  @param {string} document */
+  isFollowed = (document) => this.#followings.has(document);
+
+  /** @param {string} document
+   *  @param {[string, number][]} front */
+  #pushFront(document, front) {
+    const watch = this.#watches.get(document);
+    if (watch) this.#tell(watch, watch.watchers.keys(), new Map(front));
+    const following = this.#followings.get(document);
+    if (!following) return;
+    [following.last, following.isBegun] = [undefined, true];
+    for (const { begins } of [...following.followers]) this.#run(begins, new Map(front));
+  }
+
+  /** @param {string} document
+   *  @param {number} number
+   *  @param {any[]} operations */
+  #pushOperations(document, number, operations) {
+    const watch = this.#watches.get(document);
+    const tell = (/** @type {Map<string, number>} */ front) =>
+      watch && this.#tell(watch, watch.watchers.keys(), front);
+    if (watch) this.front(document).then(tell, () => {});
+    const following = this.#followings.get(document);
+    if (!following) return;
+    const { last = number - 1, isBegun, followers } = following;
+    following.last = number;
+    const isFormed = operations.every((it) => Array.isArray(it) && isId(it[1]));
+    for (const { misses, logged } of [...followers]) {
+      if (!isFormed || !isBegun || number !== last + 1) this.#run(misses);
+      if (isFormed) this.#run(logged, operations);
+    }
   }
 
   /** @param {string} document
@@ -405,7 +483,7 @@ export class Client {
     const watch = { watchers: new Map(), isPushed: true, begun: Promise.resolve() };
     this.#watches.set(document, watch);
     watch.begun = this.ask("watch", document).then(() => {}, (refused) => {
-      if (refused.number !== 2) throw refused; // 2, bad-request: a server, which has no such word
+      if (!isBadRequest(refused)) throw refused; // a server has no such word
       watch.isPushed = false;
       this.#poll(document, watch, every);
     });
@@ -463,8 +541,8 @@ export class Client {
     const [word, ...rest] = parsedReply(line) ?? [];
     if (word === "reopened") this.#run(this.reopened, rest[0]);
     const [document, first, second] = rest;
-    const watch = word === "changed" && this.#watches.get(document);
-    if (watch && Array.isArray(first)) this.#tell(watch, watch.watchers.keys(), new Map(first));
+    if (word === "changed" && Array.isArray(first)) this.#pushFront(document, first);
+    if (word === "logged" && Array.isArray(second)) this.#pushOperations(document, first, second);
     if (word !== "heard") return;
     for (const heard of [...(this.#hearers.get(document) ?? [])]) this.#run(heard, second, first);
   }
@@ -480,6 +558,11 @@ export class Client {
     }
   }
 }
+
+/** Whether the other side has no such request.
+ *  @param {any} error */
+const isBadRequest = (error) =>
+  error instanceof Refused && error.number === REFUSALS["bad-request"];
 
 /** @param {string} line
  *  @returns {any[] | undefined} */
@@ -508,7 +591,7 @@ const depthOf = (cursor) => cursor.length - 1;
 
 /** @param {number | Options | undefined} options */
 const settings = (options) => ({
-  seconds: 60, connectSeconds: 10, ping: 15, most: MOST.reply,
+  seconds: 60, connectSeconds: 10, ping: 15, most: MOST.reply, signal: undefined,
   ...(typeof options === "number" ? { seconds: options } : options),
 });
 
@@ -521,7 +604,7 @@ const settings = (options) => ({
  *  @param {number | Options} [options]
  *  @returns {Promise<Client>} */
 export async function connected(address, options) {
-  const { seconds, connectSeconds, most } = settings(options);
+  const { seconds, most, ...until } = settings(options);
   const { connect } = await import("node:net");
   const alive = { noDelay: true, keepAlive: true, keepAliveInitialDelay: 30_000 };
   const socket = connect({ ...addressParts(address), ...alive });
@@ -547,7 +630,7 @@ export async function connected(address, options) {
   socket.on("error", (/** @type {Error} */ error) => client.lose(`${address}: ${error.message}`));
   socket.on("close", () => client.lose(`${address}: the server has ended the session`));
   client.closed.then(() => socket.destroySoon());
-  return begun(client, address, connectSeconds, () => socket.destroy());
+  return begun(client, address, until, () => socket.destroy());
 }
 
 /** Connects to the hub over WebSocket, and resolves once the session has begun: see `connected`. In
@@ -558,7 +641,7 @@ export async function connected(address, options) {
  *  @param {Options} [options]
  *  @returns {Promise<Client>} */
 export async function connectedToHub(url, WebSocket = globalThis.WebSocket, options = undefined) {
-  const { seconds, connectSeconds, most, ping } = settings(options);
+  const { seconds, most, ping, ...until } = settings(options);
   const socket = new WebSocket(url);
   const open = new Promise((opened) => socket.addEventListener("open", () => opened(undefined)));
   const send = (/** @type {string} */ line) =>
@@ -574,24 +657,32 @@ export async function connectedToHub(url, WebSocket = globalThis.WebSocket, opti
     if (client.waiting() === 0) client.version().catch(() => {});
   }, ping * 1000);
   client.closed.then(() => clearInterval(timer));
-  return begun(client, String(url), connectSeconds, () => socket.terminate?.());
+  return begun(client, String(url), until, () => socket.terminate?.());
 }
 
 /** @param {Client} client
  *  @param {string} address
- *  @param {number} seconds
+ *  @param {{connectSeconds: number, signal?: AbortSignal}} until
  *  @param {() => void} destroy
  *  @returns {Promise<Client>} */
-async function begun(client, address, seconds, destroy) {
-  const timer = setTimeout(() => {
-    client.breakOff(`${address}: no session within ${seconds} seconds`);
-    destroy();
-  }, seconds * 1000);
+async function begun(client, address, { connectSeconds, signal }, destroy) {
+  let isBegun = false;
+  const end = (/** @type {string} */ cause) => {
+    client.breakOff(cause);
+    if (!isBegun) destroy();
+  };
+  const timer = setTimeout(() => end(`${address}: no session within ${connectSeconds} seconds`),
+    connectSeconds * 1000);
+  const stop = () => end("the program has ended the session");
+  signal?.addEventListener("abort", stop, { once: true });
+  client.closed.then(() => signal?.removeEventListener("abort", stop));
+  if (signal?.aborted) stop();
   try {
     const reply = await client.answer('["version"]'); // the first reply shows that there is a session
-    if (!reply.startsWith('["no",103,')) return client;
+    isBegun = true;
+    if (!isRefusedBy(reply, "not-allowed")) return client;
     client.end();
-    throw new Refused(103);
+    throw new Refused(REFUSALS["not-allowed"]);
   } catch (error) {
     if (error instanceof Refused) throw error;
     throw new Away(/** @type {Error} */ (error).message);

@@ -1,7 +1,7 @@
 /* A text field of a page that several people type into: a list of characters at a place.
 
      import { bindText } from "jcrdt/text_field";
-     bindText(provider, [0, "text"], document.querySelector("textarea"));
+     bindText(Provider.open(options), [0, "text"], document.querySelector("textarea"));
 
    Caret and selection stay at their characters while others type, and Ctrl+Z takes back one's own
    typing alone. Each character is an operation, of the 100,000 that a document takes. What others
@@ -28,14 +28,36 @@ const MOST_SINGLY = 1000; // so many elements that came are asked for one by one
  */
 
 /** Shows the text at a place in a field, and takes what is typed there. What this returns ends it.
- *  @param {Provider} provider
+ *
+ *  The field is read-only where the provider's `canWrite` is false. Given the promise of a
+ *  provider, it is read-only until that is open: nothing is typed that would be lost. (In the
+ *  page's HTML it begins with `readonly`, for the time until this is called.) If it can't be
+ *  opened, `refused` is called with the error, and the field stays read-only.
+ *  @param {Provider | Promise<Provider>} provider
  *  @param {(0 | string | number | Id)[]} place a list, or where one is to be
  *  @param {Field} field
  *  @param {TextOptions} [options]
  *  @returns {() => void} */
 export function bindText(provider, place, field, options = {}) {
-  const bound = new BoundText(provider, place, field, options);
-  return () => bound.end();
+  if (!("then" in provider)) {
+    const bound = new BoundText(provider, place, field, options);
+    return () => bound.end();
+  }
+  let isEnded = false;
+  let end = () => {
+    isEnded = true;
+  };
+  field.readOnly = true;
+  provider.then((opened) => {
+    if (isEnded) return;
+    field.readOnly = false;
+    const bound = new BoundText(opened, place, field, options);
+    end = () => bound.end();
+  }).catch((error) => {
+    if (!options.refused) throw error;
+    options.refused(error);
+  });
+  return () => end();
 }
 
 class BoundText {
@@ -45,6 +67,7 @@ class BoundText {
   #isOwn = false;
   #isOld = true; // whether the list may have other characters than those shown
   #isEnded = false;
+  #isForReading; // whether the page wants it to be read-only
   /** @type {Element[] | undefined} The list, as far as it is known. */
   #elements;
   #provider;
@@ -64,6 +87,7 @@ class BoundText {
     this.#place = place;
     this.#field = field;
     this.#options = options;
+    this.#isForReading = field.readOnly;
     field.addEventListener("compositionstart", this);
     field.addEventListener("compositionend", this);
     field.addEventListener("beforeinput", this);
@@ -73,11 +97,18 @@ class BoundText {
     const isFixed = place.every((step, at) => at === 0 || typeof step === "string");
     if (isFixed) this.#unwatch = provider.replica.watch(place, (splices) => this.#follow(splices));
     this.#unlisten = provider.listen(({ what }) => {
+      if (what === "state") this.#lock();
       if (what !== "changed" || this.#isOwn) return;
       this.#isOld = true;
       this.#showSoon();
     });
+    this.#lock();
     this.#show();
+  }
+
+  /** Lets nobody type what the server would refuse. */
+  #lock() {
+    this.#field.readOnly = this.#isForReading || this.#provider.canWrite === false;
   }
 
   end() {

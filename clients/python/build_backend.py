@@ -1,11 +1,13 @@
 """Builds the wheel of this package with the standard library alone, so that it needs no network and no other package.
 
-`pip install` and `pip wheel` call it (PEP 517). What it writes is said by pyproject.toml: name, version, description,
-Python and the extra redis. The same sources give the same bytes. On x86-64 Linux the wheel has libjcrdt.so, by which
-`jcrdt.replica` works, and is for such machines alone; elsewhere, and where there is no release, it is for all.
+`pip install` and `pip wheel` call it (PEP 517). pyproject.toml has all that it says of the package. The same sources
+give the same bytes. On x86-64 Linux the wheel has libjcrdt.so, by which `jcrdt.replica` works, and is for such
+machines alone; elsewhere, and where there is no release, it is for all.
 """
 
+import ast
 import base64
+import configparser
 import hashlib
 import io
 import os
@@ -14,41 +16,59 @@ import sysconfig
 import tarfile
 import zipfile
 from pathlib import Path
-from typing import Any, Dict, List, Optional, Tuple
+from typing import Any, Dict, Iterator, List, Optional, Tuple
 
 HERE = Path(__file__).resolve().parent
-PYPROJECT = (HERE / "pyproject.toml").read_text(encoding="utf-8")
 # The earliest time that a zip file can have.
 TIME = (1980, 1, 1, 0, 0, 0)
 # The library, in a checkout and in a source distribution.
 LIBRARIES = (HERE.parent.parent / "release" / "libjcrdt.so", HERE / "jcrdt" / "libjcrdt.so")
+# A link to a page of the repository leads nowhere from an installed package: its text stays.
+LINK_TO_PAGE = re.compile(r"\[([^\]]+)\]\((?![a-z]+:)[^)]+\)")
 
 
-def _said(key: str) -> str:
-    found = re.search(rf'(?m)^{key} = "(.*)"$', PYPROJECT)
-    if found is None:
-        raise ValueError(f"pyproject.toml doesn't say {key}")
-    return found[1]
+def project() -> Dict[str, Dict[str, Any]]:
+    """The tables of pyproject.toml by their names, and their values by their keys."""
+    parser = configparser.ConfigParser(delimiters=("=",), comment_prefixes=("#",), interpolation=None)
+    parser.optionxform = str  # type: ignore[assignment]
+    parser.read_string((HERE / "pyproject.toml").read_text(encoding="utf-8"))
+    return {table: {key: _value(text) for key, text in parser[table].items()} for table in parser.sections()}
 
 
-NAME, VERSION = _said("name"), _said("version")
+def _value(text: str) -> Any:
+    return {"true": True, "false": False}[text] if text in ("true", "false") else ast.literal_eval(text)
+
+
+TABLES = project()
+PROJECT = TABLES["project"]
+NAME, VERSION = PROJECT["name"], PROJECT["version"]
 DIST_INFO = f"{NAME}-{VERSION}.dist-info"
 EVERYWHERE = "py3-none-any"
 
 
+def _heads() -> Iterator[Tuple[str, str]]:
+    """The fields of the core metadata, by their names."""
+    yield from (("Metadata-Version", "2.1"), ("Name", NAME), ("Version", VERSION), ("Summary", PROJECT["description"]),
+                ("License", TABLES["project.license"]["text"]), ("Keywords", ",".join(PROJECT["keywords"])))
+    yield from (("Classifier", it) for it in PROJECT["classifiers"])
+    yield from (("Project-URL", f"{name}, {url}") for name, url in TABLES.get("project.urls", {}).items())
+    yield "Requires-Python", PROJECT["requires-python"]
+    yield from (("Requires-Dist", it) for it in PROJECT["dependencies"])
+    for extra, needed in TABLES["project.optional-dependencies"].items():
+        yield "Provides-Extra", extra
+        yield from (("Requires-Dist", f'{it}; extra == "{extra}"') for it in needed)
+    yield "Description-Content-Type", "text/markdown"
+
+
 def _metadata() -> str:
-    lines = ["Metadata-Version: 2.1", f"Name: {NAME}", f"Version: {VERSION}", f"Summary: {_said('description')}",
-             f"Requires-Python: {_said('requires-python')}"]
-    for extra, needed in re.findall(r'(?m)^(\w+) = \["(redis.*)"\]$', PYPROJECT):
-        lines += [f"Provides-Extra: {extra}", f'Requires-Dist: {needed}; extra == "{extra}"']
-    readme = (HERE / "README.md").read_text(encoding="utf-8")
-    return "\n".join([*lines, "Description-Content-Type: text/markdown", "", readme])
+    readme = (HERE / PROJECT["readme"]).read_text(encoding="utf-8")
+    return "".join(f"{name}: {value}\n" for name, value in _heads()) + "\n" + LINK_TO_PAGE.sub(r"\1", readme)
 
 
 def _sources() -> List[Tuple[str, bytes]]:
     """The files of the package, by name."""
-    paths = sorted([*(HERE / NAME).glob("*.py"), HERE / NAME / "py.typed"])
-    return [(f"{NAME}/{path.name}", path.read_bytes()) for path in paths]
+    paths = sorted([*(HERE / NAME).rglob("*.py"), HERE / NAME / "py.typed"])
+    return [(path.relative_to(HERE).as_posix(), path.read_bytes()) for path in paths]
 
 
 def _library() -> List[Tuple[str, bytes]]:
@@ -57,9 +77,9 @@ def _library() -> List[Tuple[str, bytes]]:
 
 
 def _dist_info(tag: str) -> List[Tuple[str, bytes]]:
-    scripts = re.findall(r'(?m)^([\w-]+) = "([\w.]+:\w+)"$', PYPROJECT)
+    scripts = "".join(f"{name} = {target}\n" for name, target in TABLES["project.scripts"].items())
     wheel = f"Wheel-Version: 1.0\nGenerator: jcrdt\nRoot-Is-Purelib: {str(tag == EVERYWHERE).lower()}\nTag: {tag}\n"
-    texts = {"METADATA": _metadata(), "WHEEL": wheel, "entry_points.txt": "[console_scripts]\n" + "".join(f"{name} = {target}\n" for name, target in scripts)}
+    texts = {"METADATA": _metadata(), "WHEEL": wheel, "entry_points.txt": "[console_scripts]\n" + scripts}
     return [(f"{DIST_INFO}/{name}", text.encode()) for name, text in texts.items()]
 
 

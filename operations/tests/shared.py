@@ -57,7 +57,8 @@ class Server(support.Server):
 
 
 class Writer:
-    """Writes so many changes a second until the end of its block, to d, and where that is full to e, f and g."""
+    """Writes so many changes a second until the end of its block or of the server, to d, and where that is full to e, f
+    and g. `made` are those that were answered."""
 
     def __init__(self, address: str, rate: int) -> None:
         self.address, self.rate, self.made, self.ended = address, rate, 0, threading.Event()
@@ -71,6 +72,8 @@ class Writer:
             while not self.ended.is_set():
                 try:
                     session.assign(documents[0], [0, "w"], self.made)
+                except ConnectionError:
+                    return
                 except Refused:
                     session.open(documents[1])
                     documents.pop(0)

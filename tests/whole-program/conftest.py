@@ -15,7 +15,8 @@ sys.dont_write_bytecode = True
 HERE = os.path.dirname(os.path.abspath(__file__))
 sys.path[:0] = [HERE, os.path.dirname(HERE)]
 
-from tried import CC, Case, Counts, Tried, new_folder  # noqa: E402
+from support import needs  # noqa: E402
+from tried import Case, Counts, Tried, new_folder  # noqa: E402
 
 # What takes many minutes: it is run with --long, or where it is named.
 LONG = ("test_cut.py", "test_devices.py", "test_memory.py", "test_memory_over_tcp.py")
@@ -71,8 +72,11 @@ def pytest_terminal_summary(terminalreporter: TerminalReporter, config: pytest.C
     for counts in config.stash[COUNTS].values():
         for name, count in ((name, count) for name, count in counts.items() if count):
             terminalreporter.write_line(f"{count} {name}")
-    if not config.stash[TRIED].can_fail:
-        terminalreporter.write_line(f"left out, since there is no {CC}: rows in pieces")
+    for report in terminalreporter.getreports("skipped"):
+        reason = report.longrepr[2] if isinstance(report.longrepr, tuple) else str(report.longrepr)
+        terminalreporter.write_line(needs.line_of(report.nodeid.rpartition("::")[2], reason.partition("Skipped: ")[2] or reason))
+    if not config.stash[TRIED].can_fail and any("test_rows" in it for it in config.args):
+        terminalreporter.write_line(needs.line_of("rows in pieces", needs.reason_of(needs.missing("cc", "header:stdlib.h"))))
 
 
 @pytest.fixture

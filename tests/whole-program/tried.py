@@ -7,7 +7,6 @@ import json
 import os
 import re
 import resource
-import shutil
 import signal
 import socket
 import subprocess
@@ -17,10 +16,9 @@ from typing import Callable, Counter, Dict, Iterable, Iterator, List, Mapping, O
 
 import pytest
 
-from support import Differs, Reply, Server, built, preloaded
+from support import Differs, Reply, Server, built, needs, preloaded
 
 HERE = os.path.dirname(os.path.abspath(__file__))
-CC = os.environ.get("CC", "cc")
 SECONDS = 60
 LONG = 4_000
 
@@ -100,13 +98,13 @@ class Tried:
     def __init__(self, program: str, room: str) -> None:
         self.program = program
         self.room = room
-        self.can_fail = shutil.which(CC) is not None
+        self.can_fail = not needs.missing("cc", "header:stdlib.h")
         for source in ("refuse-allocations", "whole-program/fail-devices") if self.can_fail else ():
             built(room, f"{os.path.basename(source)}.so", f"tests/{source}.c", "-shared", "-fPIC")
 
     def needs_cc(self) -> None:
         if not self.can_fail:
-            raise pytest.UsageError(f"a C compiler is needed, and there is no {CC}")
+            raise pytest.UsageError("a C compiler is needed, and there is none")
 
     def environment(self, library: str, settings: Mapping[str, object]) -> Dict[str, str]:
         return preloaded(f"{self.room}/{library}.so", settings)

@@ -1,32 +1,24 @@
-"""How README.md and docs/*.md are written: the length of pages, lines and table cells, links, and words not to be used.
+"""How the pages at the top and in docs/ are written: the length of lines and table cells, links, and words not to be used.
 
 A line has at most 100 columns and a cell of a table at most 120 characters, both outside ``` blocks; a table's row has no limit
-of its own. A link to a file of the repository leads somewhere. The words are looked for outside code. README.md says as many requests
-as docs/FORMATS.md lists."""
+of its own, and a page none of lines. A link to a file of the repository leads somewhere, and one to a heading to a heading of that page; so do those of other READMEs.
+The words are looked for outside code. A block ```rattle FILE has lines of that file, in their order; `..` stands for what is left out.
+docs/CRATES.md has a row for each crate, and docs/ARCHITECTURE.md for each file of a package."""
 
 import argparse
+import functools
 import glob
 import os
 import re
-from typing import Dict, Iterator, List
+from typing import FrozenSet, Iterator, List
 
 COLUMNS, CELL = 100, 120
 
-# The most lines that a page may have; 0 for a reference, which has what it needs.
-LINES: Dict[str, int] = {
-    "README.md": 200,
-    "docs/ARCHITECTURE.md": 170,
-    "docs/CRATES.md": 140,
-    "docs/DECISIONS.md": 300,
-    "docs/EMBEDDED.md": 120,
-    "docs/FORMATS.md": 0,
-    "docs/GUIDE.md": 260,
-    "docs/HACKING.md": 150,
-    "docs/OPERATIONS.md": 150,
-    "docs/PERFORMANCE.md": 160,
-    "docs/RULES.md": 0,
-    "docs/VERIFICATION.md": 300,
-}
+# The pages of the repository's top. Those of docs/ are found.
+TOP_PAGES = ("README.md", "CHANGELOG.md", "CONTRIBUTING.md", "SECURITY.md")
+
+# Pages of docs/ that are to be there.
+WANTED = ("ARCHITECTURE", "CRATES", "DECISIONS", "EMBEDDED", "FORMATS", "GUIDE", "HACKING", "OPERATIONS", "PERFORMANCE", "RULES", "VERIFICATION")
 
 # Words not to be used, and what to write.
 WORDS = [
@@ -67,14 +59,36 @@ def cells(line: str) -> List[str]:
     return [it.strip() for it in re.split(r"(?<!\\)\|", line.strip().strip("|"))]
 
 
+@functools.lru_cache(maxsize=None)
+def headings(page: str) -> FrozenSet[str]:
+    """The names by which a link leads to the headings of a page: small letters, hyphens for blanks, no other marks."""
+    with open(page, encoding="utf-8") as it:
+        text = blank(r"(?ms)^ *```.*?^ *```[ ]*$", it.read())
+    return frozenset(re.sub(r"[^\w -]", "", it.strip().lower()).replace(" ", "-") for it in re.findall(r"(?m)^#+ (.*)$", text))
+
+
+def leads_somewhere(target: str, heading: str) -> bool:
+    """Whether a link to a file of the repository, or to another site, leads somewhere."""
+    if "://" in target:
+        return True
+    return os.path.exists(target) and (not heading or not target.endswith(".md") or heading in headings(target))
+
+
+def link_faults(top: str, page: str) -> Iterator[str]:
+    """The links of a page that lead nowhere."""
+    with open(page, encoding="utf-8") as it:
+        text = blank(r"(?ms)^ *```.*?^ *```[ ]*$", it.read())
+    for number, line in enumerate(text.split("\n"), 1):
+        for target, heading in re.findall(r"\]\(([^)#\s]*)(?:#([^)\s]*))?\)", line):
+            if not leads_somewhere(os.path.join(os.path.dirname(page), target) if target else page, heading):
+                yield f"{os.path.relpath(page, top)}:{number}: the link {target}{'#' if heading else ''}{heading} leads nowhere"
+
+
 def faults(top: str, page: str) -> Iterator[str]:
     """What is wrong with a page, as texts that begin with its name and a line's number."""
     name = os.path.relpath(page, top)
     with open(page, encoding="utf-8") as it:
         text = it.read()
-    length = text.count("\n")
-    if LINES.get(name) and length > LINES[name]:
-        yield f"{name}: {length} lines, and at most {LINES[name]} are wanted"
     text = blank(r"(?ms)^ *```.*?^ *```[ ]*$", text)
     for number, line in enumerate(text.split("\n"), 1):
         at = f"{name}:{number}"
@@ -82,9 +96,7 @@ def faults(top: str, page: str) -> Iterator[str]:
             yield from (f"{at}: a cell of {len(it)} characters" for it in cells(line) if len(it) > CELL)
         elif len(line.rstrip()) > COLUMNS:
             yield f"{at}: {len(line)} columns"
-        for target in re.findall(r"\]\(([^)#\s]+)(?:#[^)]*)?\)", line):
-            if "://" not in target and not os.path.exists(os.path.join(os.path.dirname(page), target)):
-                yield f"{at}: the link {target} leads nowhere"
+    yield from link_faults(top, page)
     text = blank(r"`[^`]*`|\]\([^)]*\)", text)
     for allowed in ALLOWED:
         text = blank(phrase(allowed), text)
@@ -93,32 +105,58 @@ def faults(top: str, page: str) -> Iterator[str]:
             yield f"{name}:{text.count(chr(10), 0, found.start()) + 1}: '{' '.join(found[0].split())}': write {wanted}"
 
 
-def requests_of(formats: str) -> int:
-    """How many requests the table of the section `Requests` has."""
-    section = re.search(r"(?ms)^## Requests$(.*?)(?:^## |\Z)", formats)
-    return len(set(re.findall(r'(?m)^\| `\["(\w+)"', section[1]))) if section else 0
+def quote_faults(top: str, page: str) -> Iterator[str]:
+    """The lines that a page quotes from a file, and that the file hasn't, in this order."""
+    with open(page, encoding="utf-8") as it:
+        text = it.read()
+    for block in re.finditer(r"(?ms)^```rattle (\S+)\n(.*?)^```$", text):
+        with open(os.path.join(top, block[1]), encoding="utf-8") as quoted:
+            rest = re.sub(r"\s+", " ", quoted.read())
+        number = text.count("\n", 0, block.start(2))
+        for line in block[2].splitlines():
+            number += 1
+            if words := re.sub(r"\s+", " ", line).strip(" ."):
+                _, found, behind = rest.partition(words)
+                if not found:
+                    yield f"{os.path.relpath(page, top)}:{number}: {block[1]} has no such line"
+                rest = behind if found else rest
 
 
-def request_faults(top: str) -> Iterator[str]:
-    """Where README.md says another number of requests than FORMATS lists."""
-    with open(f"{top}/README.md", encoding="utf-8") as readme, open(f"{top}/docs/FORMATS.md", encoding="utf-8") as formats:
-        text, listed = readme.read(), requests_of(formats.read())
-    for found in re.finditer(r"\ball\s+(\d+)\s+requests\b", text):
-        if int(found[1]) != listed:
-            yield f"README.md:{text.count(chr(10), 0, found.start()) + 1}: all {found[1]} requests, and docs/FORMATS.md lists {listed}"
+def crate_faults(top: str) -> Iterator[str]:
+    """The crates that crates.txt lists and docs/CRATES.md hasn't, and the other way round."""
+    with open(f"{top}/crates.txt", encoding="utf-8") as listed, open(f"{top}/docs/CRATES.md", encoding="utf-8") as page:
+        every, described = re.findall(r"(?m)^(\w+)[^:\n#]*:", listed.read()), re.findall(r"(?m)^\| `(\w+)` \|", page.read())
+    yield from (f"docs/CRATES.md: {it} has no row" for it in every if it not in described)
+    yield from (f"docs/CRATES.md: there is no crate {it}" for it in described if it not in every)
+
+
+def map_faults(top: str) -> Iterator[str]:
+    """The files of the packages that the last section of docs/ARCHITECTURE.md hasn't, and those that it has and that aren't there."""
+    with open(f"{top}/docs/ARCHITECTURE.md", encoding="utf-8") as page:
+        section = page.read().rpartition("\n## ")[2]
+    for table in section.split("\n\n"):
+        for folder in re.findall(r"^\| Files of `([\w/]+)/`", table):
+            inside, mapped = f"{top}/clients/{folder}", set(re.findall(r"`([\w/]+\.(?:mjs|py))`", table))
+            found = (os.path.relpath(it, inside) for kind in ("*.mjs", "lib/*.mjs", "*.py") for it in glob.glob(f"{inside}/{kind}"))
+            files = {it for it in found if not it.startswith("__")}
+            yield from (f"docs/ARCHITECTURE.md: clients/{folder}/{it} is in no row" for it in sorted(files - mapped))
+            yield from (f"docs/ARCHITECTURE.md: there is no clients/{folder}/{it}" for it in sorted(mapped - files) if not it.startswith("test_"))
 
 
 def check(words: argparse.Namespace) -> int:
-    missing = [it for it in LINES if not os.path.isfile(f"{words.top}/{it}")]
+    wanted = [*TOP_PAGES, *(f"docs/{it}.md" for it in WANTED)]
+    missing = [it for it in wanted if not os.path.isfile(f"{words.top}/{it}")]
     for name in missing:
         print(f"{name} is missing")
     bad = len(missing)
-    pages = [f"{words.top}/README.md", *sorted(glob.glob(f"{words.top}/docs/*.md"))]
+    pages = [*(f"{words.top}/{it}" for it in TOP_PAGES), *sorted(glob.glob(f"{words.top}/docs/*.md"))]
     for page in filter(os.path.isfile, pages):
-        for fault in dict.fromkeys(faults(words.top, page)):
+        for fault in dict.fromkeys((*faults(words.top, page), *quote_faults(words.top, page))):
             print(fault)
             bad += 1
-    for fault in request_faults(words.top) if not missing else ():
+    others = glob.glob(f"{words.top}/*/README.md") + glob.glob(f"{words.top}/clients/*/README.md")
+    linking = [fault for page in sorted(others) for fault in link_faults(words.top, page)]
+    for fault in linking if missing else (*linking, *crate_faults(words.top), *map_faults(words.top)):
         print(fault)
         bad += 1
     print(f"{len(pages)} pages, {bad} faults")

@@ -35,7 +35,8 @@ def differing(top: str, name: str, texts: Tuple[str, str], writes: bool) -> Iter
 
 
 def check(words: argparse.Namespace) -> int:
-    count, wrong = 0, []  # type: int, List[str]
+    count = 0
+    wrong: List[str] = []
     for name, given, due in rows(words.top):
         count += 1
         wrong += differing(words.top, name, (given, due), words.write)

@@ -1,6 +1,6 @@
 """Lint, types and shell: pyflakes and mypy --strict of all Python, tsc, shellcheck.
 
-A tool that isn't here is left out, which the last line says."""
+What needs a tool that isn't here is skipped, which a line says. By itself, this check has the status 77 where it could try nothing."""
 
 import argparse
 import concurrent.futures
@@ -11,6 +11,7 @@ import shutil
 import subprocess
 from typing import Callable, Dict, Iterator, List, NamedTuple, Optional
 
+from needs import SKIPPED, line_of, missing, reason_of
 from pythons import python_with
 
 # Where mypy finds the modules of a folder at the top, and those of all other Python.
@@ -25,6 +26,7 @@ class Tool(NamedTuple):
     command: Optional[str]
     folder: str
     words: List[str]
+    needed: List[str]  # by their names in tests/packages.txt
     modules: str = ""  # where mypy finds modules
 
 
@@ -71,19 +73,19 @@ def typed(top: str, files: List[str]) -> Iterator[Tool]:
         inside = [it for it in files if it.partition("/")[0] == folder or not folder and it.partition("/")[0] not in MODULES]
         for number, part in enumerate(without_twins(inside), 1):
             name = f"mypy of {folder or 'tools and tests'}{f', part {number}' if number > 1 else ''}"
-            yield Tool(name, command, top, [*words, *part], MODULES.get(folder, OTHER_MODULES))
+            yield Tool(name, command, top, [*words, *part], ["python:mypy", "python:pytest"], MODULES.get(folder, OTHER_MODULES))
 
 
 def runs(top: str) -> Iterator[Tool]:
     """Each run of a tool."""
     files = python_files(top)
-    yield Tool("pyflakes", python_with("pyflakes"), top, ["-m", "pyflakes", *files])
+    yield Tool("pyflakes", python_with("pyflakes"), top, ["-m", "pyflakes", *files], ["python:pyflakes"])
     yield from typed(top, files)
     tsc = shutil.which("tsc")
     for package in ("js", "hub"):
         if glob.glob(f"{top}/clients/{package}/tsconfig.json"):
-            yield Tool(f"tsc of clients/{package}", tsc, f"{top}/clients/{package}", ["-p", "."])
-    yield Tool("shellcheck", shutil.which("shellcheck"), top, ["-x", *shell_files(top)])
+            yield Tool(f"tsc of clients/{package}", tsc, f"{top}/clients/{package}", ["-p", "."], ["tsc"])
+    yield Tool("shellcheck", shutil.which("shellcheck"), top, ["-x", *shell_files(top)], ["shellcheck"])
 
 
 def is_excused(folder: str, fault: str) -> bool:
@@ -115,7 +117,12 @@ def check(words: argparse.Namespace) -> int:
         said = dict(zip([it.name for it in tools], pool.map(outcome, tools)))
     for name, text in said.items():
         print(f"{name}:\n{text}" if text else "", end="")
+    for tool in tools:
+        if said[tool.name] is None:
+            print(line_of(tool.name, reason_of(missing(*tool.needed))))
     which: Callable[[Callable[[Optional[str]], bool]], str] = lambda test: ", ".join(name for name, text in said.items() if test(text))
-    bad, absent = which(bool), which(lambda it: it is None)
-    print(f"well: {which(lambda it: it == '') or 'none'}{'; faults: ' + bad if bad else ''}{'; left out, since the tool is missing: ' + absent if absent else ''}")
+    bad = which(bool)
+    print(f"well: {which(lambda it: it == '') or 'none'}{'; faults: ' + bad if bad else ''}")
+    if words.names == ["types"] and all(it is None for it in said.values()):
+        raise SystemExit(SKIPPED)
     return sum(bool(it) for it in said.values())

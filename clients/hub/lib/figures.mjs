@@ -1,6 +1,6 @@
 /* What a monitor asks for: whether there is a server, and the hub's figures for Prometheus. */
 
-import { frontPairs, MOST } from "./jcrdt.mjs";
+import { frontPairs, MOST } from "./client_package.mjs";
 import { pause } from "./notes.mjs";
 
 /** @typedef {import("./state.mjs").State} State */

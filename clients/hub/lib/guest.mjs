@@ -1,24 +1,17 @@
 /* A client of the hub: its lines, its documents, its variables, and what is pushed to it. */
 
-import { MOST, isId } from "./jcrdt.mjs";
+import { MOST, frontPairs, isId, refusalLine } from "./client_package.mjs";
 import { NOT_SENT } from "./link.mjs";
 import { asks, mayAsk } from "./requests.mjs";
 
-const MOST_NAME_BYTES = 128; // of a variable's name
-const MOST_SAID_BYTES = 4096; // of a value that is handed to others
 const MOST_LATE = 1000; // pushes that wait until the client reads
+const MOST_PAGES = 16; // replies to `ops` that one to `page` has
+const MOST_BEHIND = 2 ** 18; // bytes that may wait until it reads while operations are pushed to it
 const TRIES = 3; // sessions for a line that none has carried out
 const MOST_LOST = 2; // sessions that may end on a reading, as one that is too long for the server
 
-const NOT_JSON = '["no",1,"not-json"]';
-const TOO_LONG = '["no",3,"line-too-long"]';
-const NOT_OPEN = '["no",5,"not-open"]';
-const BAD_VALUE = '["no",6,"bad-value"]';
-const VARIABLES_FULL = '["no",23,"variables-full"]';
-const SERVER_LOST = '["no",100,"server-lost"]';
-const SERVER_AWAY = '["no",101,"server-away"]';
-const NOT_ALLOWED = '["no",103,"not-allowed"]';
-const NOT_KEPT = '["no",104,"not-kept"]';
+const TOO_LONG = refusalLine("line-too-long");
+const SERVER_AWAY = refusalLine("server-away");
 const BYE = '["bye"]';
 const UNBOUND = "unbound"; // a name that no session has bound
 
@@ -108,6 +101,12 @@ export class Guest {
     else if (this.#late.size < MOST_LATE || this.#late.has(about)) this.#late.set(about, line);
   }
 
+  /** Whether so much waits until the client reads that operations aren't pushed to it.
+   *  @param {string} about what they would be about: where a push about it waits, they don't pass it */
+  isBehind(about) {
+    return this.unread > MOST_BEHIND || this.#late.has(about);
+  }
+
   /** A session that carried it has ended: it says which variables are gone, if it was asked to. */
   reopen() {
     const gone = [...this.#variables.values()].filter(({ link }) => link.over);
@@ -177,16 +176,16 @@ export class Guest {
     try {
       value = JSON.parse(text);
     } catch {
-      return NOT_JSON;
+      return refusalLine("not-json");
     }
     const request = Array.isArray(value) ? value : []; // the server says what is wrong with it
     // A break within the line is a blank to JSON, and would end it at the server.
     const line = text.replace(/[\r\n]/g, " ");
     const [word, document] = request;
     if (word === "quit" && request.length === 1) return BYE;
-    if (!mayAsk(this.#rights, word, document)) return NOT_ALLOWED;
+    if (!mayAsk(this.#rights, word, document)) return refusalLine("not-allowed");
     if (typeof document !== "string") return this.#withoutDocument(line, request);
-    if (asks.ofDocument(word) && !this.#opened.has(document)) return NOT_OPEN;
+    if (asks.ofDocument(word) && !this.#opened.has(document)) return refusalLine("not-open");
     if (asks.ofHub(request)) return this.#ofHub(line, request);
     const isLet = word === "let" && isName(request[2]);
     const reply = isLet ? await this.#bind(line, request) : await this.#forward(line, request);
@@ -207,14 +206,14 @@ export class Guest {
 
   /** What the hub answers itself.
    *  @param {string} line @param {any[]} request */
-  #ofHub(line, [word, document, argument]) {
+  #ofHub(line, [word, document, argument, bytes]) {
     const { watches, presence } = this.#hub;
     const name = JSON.stringify(document);
     switch (word) {
       case "watch":
         this.#hasAsked = true;
         this.say('["watching"]');
-        return void watches.add(document, this);
+        return void watches.add(document, this, argument === "ops");
       case "unwatch":
         watches.remove(document, this);
         return `["unwatched",${name}]`;
@@ -226,8 +225,11 @@ export class Guest {
         return `["unheard",${name}]`;
       case "say":
         return this.#tell(document, valueOf(line));
+      case "page":
+        return Number.isSafeInteger(bytes) && bytes > 0
+          ? this.#page(document, argument, bytes) : refusalLine("bad-request");
       default:
-        return isId(argument) ? this.#stored(document, argument) : '["no",2,"bad-request"]';
+        return isId(argument) ? this.#stored(document, argument) : refusalLine("bad-request");
     }
   }
 
@@ -235,9 +237,33 @@ export class Guest {
    *  @param {string} document
    *  @param {string} value */
   #tell(document, value) {
-    if (Buffer.byteLength(value) > MOST_SAID_BYTES) return BAD_VALUE;
+    if (Buffer.byteLength(value) > MOST.said) return refusalLine("bad-value");
     this.#hub.presence.say(document, this, value);
     return '["said"]';
+  }
+
+  /** Operations that a front doesn't cover: the server's pages together, until one isn't full.
+   *  @param {string} document
+   *  @param {any} front the server refuses what is none
+   *  @param {number} bytes behind which no further page is asked for */
+  async #page(document, front, bytes) {
+    /** @type {Map<string, number> | undefined} */
+    let seen;
+    const texts = [];
+    for (let size = 0; texts.length < MOST_PAGES && size < bytes; size += texts.at(-1)?.length ?? 0) {
+      const request = ["ops", document, seen ? frontPairs(seen) : front, MOST.page];
+      const reply = await this.#forward(JSON.stringify(request), request);
+      const text = /^\["ops",\[(.*)\]\]$/s.exec(reply)?.[1];
+      if (text === undefined && texts.length === 0) return reply;
+      if (!text) break; // who asks again learns why
+      texts.push(text);
+      /** @type {any[]} */
+      const operations = JSON.parse(`[${text}]`);
+      seen ??= new Map(front);
+      for (const [, [counter, replica]] of operations) seen.set(replica, counter);
+      if (operations.length < MOST.page) break;
+    }
+    return `["ops",[${texts.join(",")}]]`;
   }
 
   /** Answers once an operation is in the server's file.
@@ -248,7 +274,7 @@ export class Guest {
       const reply = await this.#forward(JSON.stringify(["front", document]), ["front", document]);
       return reply.startsWith('["front",') ? JSON.parse(reply)[1] : [];
     });
-    return isStored ? JSON.stringify(["stored", document, id]) : NOT_KEPT;
+    return isStored ? JSON.stringify(["stored", document, id]) : refusalLine("not-kept");
   }
 
   /** Sends a line to the session that has the variable of its cursor, or to the client's own.
@@ -264,7 +290,7 @@ export class Guest {
       const sent = start.bound ? withStrings(line, { 2: start.bound }) : line;
       const reply = await this.#send(start.link ?? carrying, document, sent);
       if (typeof reply === "string") return reply;
-      if (reply !== NOT_SENT && asks.changes(word)) return SERVER_LOST;
+      if (reply !== NOT_SENT && asks.changes(word)) return refusalLine("server-lost");
       if (reply !== NOT_SENT) lost++;
     }
     return SERVER_AWAY;
@@ -282,7 +308,7 @@ export class Guest {
       const old = this.#variable(document, name);
       const start = this.#startOf(document, cursor);
       const found = this.#nameFor(document, start, old, carrying);
-      if (!found) return VARIABLES_FULL;
+      if (!found) return refusalLine("variables-full");
       const { link, bound } = found;
       const sent = withStrings(line, { 2: bound, 3: start.bound });
       const reply = await this.#send(link, document, sent);
@@ -344,7 +370,7 @@ export class Guest {
 }
 
 /** @param {unknown} value */
-const isName = (value) => typeof value === "string" && Buffer.byteLength(value) <= MOST_NAME_BYTES;
+const isName = (value) => typeof value === "string" && Buffer.byteLength(value) <= MOST.variable;
 
 /** The line with some of its strings replaced, by their place among all of them.
  *  @param {string} line

@@ -4,13 +4,10 @@ import net from "node:net";
 import { TextDecoder } from "node:util";
 import { LineCutter } from "./cutter.mjs";
 import { Guest } from "./guest.mjs";
-import { MOST } from "./jcrdt.mjs";
+import { MOST, refusalLine } from "./client_package.mjs";
 import { admitted, hasRoom, listening, MOST_CLIENTS, serve } from "./serve.mjs";
 
 /** @typedef {import("./state.mjs").State} State */
-
-const NOT_ALLOWED = '["no",103,"not-allowed"]\n';
-const SERVER_AWAY = '["no",101,"server-away"]\n';
 
 /** Takes lines over TCP.
  *  @param {State} hub @param {string} address */
@@ -33,8 +30,8 @@ async function welcome(hub, socket) {
   const address = `${socket.remoteAddress}`;
   const rights = await admitted(hub, { way: "lines", address, url: "", headers: {} });
   if (socket.destroyed) return;
-  if (!rights) return refuse(hub, socket, NOT_ALLOWED);
-  if (!hasRoom(hub, hub.guests.lines)) return refuse(hub, socket, SERVER_AWAY);
+  if (!rights) return refuse(hub, socket, "not-allowed");
+  if (!hasRoom(hub, hub.guests.lines)) return refuse(hub, socket, "server-away");
   const guest = new Guest(hub, socket, "\n", rights);
   hub.guests.lines.add(guest);
   socket.on("close", () => {
@@ -44,10 +41,10 @@ async function welcome(hub, socket) {
   serve(hub, guest, socket, tcpLines(socket));
 }
 
-/** @param {State} hub @param {net.Socket} socket @param {string} reply */
-function refuse(hub, socket, reply) {
+/** @param {State} hub @param {net.Socket} socket @param {"not-allowed" | "server-away"} cause */
+function refuse(hub, socket, cause) {
   hub.figures.dropped();
-  socket.resume().end(reply);
+  socket.resume().end(`${refusalLine(cause)}\n`);
   socket.destroySoon();
 }
 

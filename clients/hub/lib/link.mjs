@@ -2,7 +2,7 @@
 
 import net from "node:net";
 import { LineCutter } from "./cutter.mjs";
-import { addressParts } from "./jcrdt.mjs";
+import { MOST, addressParts, refusalLine } from "./client_package.mjs";
 
 /** The line was sent, and no reply came: it may have been carried out. */
 export const UNANSWERED = Symbol("unanswered");
@@ -11,8 +11,7 @@ export const NOT_SENT = Symbol("not sent");
 /** @typedef {string | typeof UNANSWERED | typeof NOT_SENT} Answer */
 
 const VERSION = '["version"]';
-const REPLY_TOO_LONG = '["no",102,"reply-too-long"]';
-const MOST_VARIABLES = 64; // of a session for one document
+const REPLY_TOO_LONG = refusalLine("reply-too-long");
 const HARD_LINES = 9_900; // so many lines more than at its renewal does a session take
 
 /** @typedef {{ answered: (answer: Answer) => void, sentAt: number, isPing: boolean }} Waiting */
@@ -130,7 +129,7 @@ export class Link {
   /** Takes a name of this session for a client's variable; `undefined` where all are taken.
    *  @param {string} document */
   takeName(document) {
-    const names = () => Array.from({ length: MOST_VARIABLES }, (_, at) => `v${at}`);
+    const names = () => Array.from({ length: MOST.variables }, (_, at) => `v${at}`);
     const free = this.#free.get(document) ?? names();
     this.#free.set(document, free);
     return free.pop();

@@ -1,6 +1,6 @@
 /* What both ways in have: who is admitted, and how a connection's lines are answered. */
 
-import { addressParts } from "./jcrdt.mjs";
+import { addressParts } from "./client_package.mjs";
 import { messageOf, pause } from "./notes.mjs";
 import { Rights } from "./rights.mjs";
 

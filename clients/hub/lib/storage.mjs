@@ -1,6 +1,6 @@
 /* Which operations are in the server's file. */
 
-import { covers } from "./jcrdt.mjs";
+import { covers } from "./client_package.mjs";
 
 /** @typedef {import("../../js/wire.mjs").Id} Id */
 /** @typedef {import("../../js/wire.mjs").Front} Front */

@@ -1,7 +1,22 @@
-/* The documents that clients watch, looked at over one session. */
+/* The documents that clients watch, looked at over one session. What was logged is asked for once,
+   and written once, however many clients it is pushed to. */
+
+import { MOST, frontPairs } from "./client_package.mjs";
 
 /** @typedef {import("./guest.mjs").Guest} Guest */
-/** @typedef {{ guests: Set<Guest>, pushed?: string, isAsking: boolean, isStale: boolean }} Watch */
+/** @typedef {import("./link.mjs").Link} Link */
+
+/** @typedef {object} Follower What a client that watches gets.
+ *  @property {boolean} takesOperations Whether `logged` is pushed to it, and not only `changed`.
+ *  @property {number} number Of the last `logged`, or of the `changed` in its place. */
+
+/** @typedef {object} Watch
+ *  @property {Map<Guest, Follower>} guests
+ *  @property {Map<string, number>} [front] As it was pushed last.
+ *  @property {string} [changed] The line that pushes it.
+ *  @property {Link} [link] The session that said so: what another one has may be less.
+ *  @property {boolean} isAsking
+ *  @property {boolean} isStale */
 
 export class Watches {
   #pool;
@@ -22,15 +37,18 @@ export class Watches {
   /** @param {Guest} guest */
   has = (guest) => [...this.#watched.values()].some(({ guests }) => guests.has(guest));
 
-  /** Pushes a document's front to a client now, and whenever it changes.
+  /** Pushes a document's front to a client now, and then the front or the operations whenever it
+   *  changes.
    *  @param {string} document
-   *  @param {Guest} guest @returns {void} */
-  add(document, guest) {
+   *  @param {Guest} guest
+   *  @param {boolean} takesOperations @returns {void} */
+  add(document, guest, takesOperations) {
+    /** @type {Watch} */
     const watch = this.#watched.get(document) ??
-      { guests: new Set(), isAsking: false, isStale: false };
+      { guests: new Map(), isAsking: false, isStale: false };
     this.#watched.set(document, watch);
-    watch.guests.add(guest);
-    if (watch.pushed) guest.push(`changed ${document}`, watch.pushed);
+    watch.guests.set(guest, { takesOperations, number: watch.guests.get(guest)?.number ?? 0 });
+    if (watch.front) guest.push(about(document), changedLine(document, watch));
     this.look(document);
   }
 
@@ -46,8 +64,8 @@ export class Watches {
     for (const document of [...this.#watched.keys()]) this.remove(document, guest);
   }
 
-  /** Asks for a document's front, and pushes it to the clients where it differs. However many
-   *  changes come while it asks, it asks once more.
+  /** Asks for what is new in a document, and pushes it. However many changes come while it asks, it
+   *  asks once more.
    *  @param {string} document */
   async look(document) {
     const watch = this.#watched.get(document);
@@ -57,7 +75,7 @@ export class Watches {
     watch.isAsking = true;
     while (watch.isStale) {
       watch.isStale = false;
-      this.#push(document, watch, await this.#frontOf(document));
+      await this.#update(document, watch);
     }
     watch.isAsking = false;
   }
@@ -66,20 +84,83 @@ export class Watches {
     clearInterval(this.#timer);
   }
 
-  /** @param {string} document @param {Watch} watch @param {string | undefined} front */
-  #push(document, watch, front) {
-    const line = front && `["changed",${JSON.stringify(document)},${front}]`;
-    if (!line || line === watch.pushed) return;
-    watch.pushed = line;
-    for (const guest of watch.guests) guest.push(`changed ${document}`, line);
+  /** @param {string} document @param {Watch} watch */
+  async #update(document, watch) {
+    const link = this.#pool.watching;
+    if (!link) return;
+    link.open(document);
+    if (watch.link === link && [...watch.guests.values()].some((it) => it.takesOperations)) {
+      const operations = await operationsBehind(link, document, watch.front ?? new Map());
+      if (operations) return this.#pushOperations(document, watch, operations);
+    }
+    this.#pushFront(document, watch, link, await frontOf(link, document));
   }
 
-  /** As it is written; `undefined` where there is no server.
-   *  @param {string} document */
-  async #frontOf(document) {
-    const link = this.#pool.watching;
-    link?.open(document);
-    const reply = await link?.ask(JSON.stringify(["front", document]));
-    return typeof reply === "string" ? /^\["front",(.*)\]$/.exec(reply)?.[1] : undefined;
+  /** @param {string} document @param {Watch} watch @param {Link} link
+   *  @param {string | undefined} front */
+  #pushFront(document, watch, link, front) {
+    if (front === undefined) return;
+    const line = `["changed",${JSON.stringify(document)},${front}]`;
+    watch.link = link;
+    if (watch.front && line === changedLine(document, watch)) return;
+    [watch.front, watch.changed] = [new Map(JSON.parse(front)), line];
+    for (const guest of watch.guests.keys()) guest.push(about(document), line);
   }
+
+  /** @param {string} document @param {Watch} watch
+   *  @param {{ text: string, ids: [counter: number, replica: string][] }} operations */
+  #pushOperations(document, watch, { text, ids }) {
+    if (ids.length === 0) return;
+    watch.isStale ||= ids.length === MOST.page; // there may be more
+    for (const [counter, replica] of ids) watch.front?.set(replica, counter);
+    watch.changed = undefined;
+    const lineOf = numbered(`["logged",${JSON.stringify(document)},`, `,${text}]`);
+    const what = about(document);
+    for (const [guest, follower] of watch.guests) {
+      follower.number++;
+      const isSent = follower.takesOperations && !guest.isBehind(what);
+      if (isSent) guest.say(lineOf(follower.number));
+      else guest.push(what, changedLine(document, watch));
+    }
+  }
+}
+
+/** What a push of a document is about: one that isn't read gives way to the next one.
+ *  @param {string} document */
+const about = (document) => `changed ${document}`;
+
+/** The line that pushes the front: it is written once for all.
+ *  @param {string} document @param {Watch} watch */
+const changedLine = (document, watch) => (watch.changed ??=
+  `["changed",${JSON.stringify(document)},${JSON.stringify(frontPairs(watch.front ?? []))}]`);
+
+/** Lines that differ by a number. Most clients have the same one.
+ *  @param {string} before @param {string} behind */
+function numbered(before, behind) {
+  /** @type {Map<number, string>} */
+  const lines = new Map();
+  return (/** @type {number} */ number) => {
+    const line = lines.get(number) ?? `${before}${number}${behind}`;
+    lines.set(number, line);
+    return line;
+  };
+}
+
+/** A page of operations that a front doesn't cover, as it is written, and their ids. `undefined`
+ *  where there is no server, or where it doesn't answer with operations.
+ *  @param {Link} link @param {string} document @param {Map<string, number>} front */
+async function operationsBehind(link, document, front) {
+  const reply = await link.ask(JSON.stringify(["ops", document, frontPairs(front), MOST.page]));
+  const text = typeof reply === "string" ? /^\["ops",(.*)\]$/s.exec(reply)?.[1] : undefined;
+  if (text === undefined) return undefined;
+  /** @type {any[]} */
+  const operations = JSON.parse(text);
+  return { text, ids: operations.map((it) => it[1]) };
+}
+
+/** As it is written; `undefined` where there is no server.
+ *  @param {Link} link @param {string} document */
+async function frontOf(link, document) {
+  const reply = await link.ask(JSON.stringify(["front", document]));
+  return typeof reply === "string" ? /^\["front",(.*)\]$/.exec(reply)?.[1] : undefined;
 }

@@ -5,7 +5,7 @@ import http from "node:http";
 import { createRequire } from "node:module";
 import { extname } from "node:path";
 import { Guest } from "./guest.mjs";
-import { FOLDER, MODULE, MOST } from "./jcrdt.mjs";
+import { FOLDER, MODULE, MOST } from "./client_package.mjs";
 import { admitted, hasRoom, listening, MOST_CLIENTS, serve } from "./serve.mjs";
 
 /** @typedef {import("./state.mjs").State} State */
@@ -137,7 +137,7 @@ async function answer(hub, request, response) {
     return void response.writeHead(200, { "Content-Type": "text/plain; version=0.0.4" }).end(text);
   }
   if (path === "/" || path.endsWith("/web")) {
-    return void response.writeHead(302, { Location: "web/" }).end();
+    return void response.writeHead(302, { Location: `web/${queryOf(request.url ?? "")}` }).end();
   }
   const file = await fileAt(path);
   if (!file) return void response.writeHead(404).end("not here\n");
@@ -162,6 +162,10 @@ async function fileAt(path) {
 
 /** @param {string} url */
 const pathOf = (url) => url.replace(/[?#].*$/s, "");
+
+/** The query with its mark, of letters, digits and the marks that a URL has: as `?doc=NAME`.
+ *  @param {string} url */
+const queryOf = (url) => /\?[\w.~%&=+-]*$/.exec(url)?.[0] ?? "";
 
 /** The package ws: npm's where there is one, and else Debian's.
  *  @returns {typeof import("ws")} */

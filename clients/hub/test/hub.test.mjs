@@ -167,6 +167,14 @@ suite("the hub", { concurrency: false }, () => {
     equal(text, "My Dear Grace Brewster Murray Hopper, yours, the whole compiler team");
   });
 
+  test("the page keeps the document that its address names", async () => {
+    const asked = ["", "?doc=trip", "a/web?doc=a-1&x=%20", "?doc=a\"b"].map(async (path) => {
+      const response = await fetch(hub.page + path, { redirect: "manual" });
+      return response.headers.get("location");
+    });
+    deepEqual(await Promise.all(asked), ["web/", "web/?doc=trip", "web/?doc=a-1&x=%20", "web/?doc=a%22b"]);
+  });
+
   test("who is refused", async () => {
     const found = ["", "web/", "web/page.mjs", "js/replica.mjs", "a/b/js/wire.mjs", "health", "metrics"];
     deepEqual(await Promise.all(found.map((path) => status("GET", hub.page + path))),

@@ -9,7 +9,7 @@ import { Browser, missing, until } from "../../js/test/chromium.mjs";
 import { end, startHub, startServer } from "../../js/test/serving.mjs";
 import { connected } from "../../js/session.mjs";
 import { Replica } from "../../js/replica.mjs";
-import { MODULE } from "../lib/jcrdt.mjs";
+import { MODULE } from "../lib/client_package.mjs";
 
 const ONLINE = `["ada", "bob"].every((side) =>
   document.getElementById(side)?.dataset.state === "online")`;

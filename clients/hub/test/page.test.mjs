@@ -4,7 +4,7 @@
 
 import { deepEqual, equal, match, ok } from "node:assert/strict";
 import { execFileSync } from "node:child_process";
-import { mkdirSync, readFileSync, readdirSync } from "node:fs";
+import { mkdirSync, readFileSync, readdirSync, writeFileSync } from "node:fs";
 import http from "node:http";
 import https from "node:https";
 import net from "node:net";
@@ -749,6 +749,83 @@ test("the text pad: two browsers type into one text", async () => {
   await ada.reload();
   await both("Dear Hello 😀");
   deepEqual([...ada.faults, ...bob.faults], []);
+});
+
+/** A tab with the pad, in which a script runs before those of the page. */
+async function padTab(url, script) {
+  shared ??= sharedParts();
+  const { browser } = await shared;
+  const tab = await browser.tab("about:blank", { profile: await browser.profile() });
+  await tab.send("Page.addScriptToEvaluateOnNewDocument", { source: script });
+  await tab.send("Page.navigate", { url });
+  await tab.until(`document.querySelector("#text")`);
+  return tab;
+}
+
+// A server has 16 documents, so the pads have one of their own.
+let pads;
+let padCount = 0;
+async function padParts() {
+  const documents = Array.from({ length: 16 }, (_, at) => `p${at}`);
+  return startHub((await startServer(documents)).address);
+}
+async function padUrl() {
+  await (shared ??= sharedParts());
+  return `${(await (pads ??= padParts())).page}web/pad.html?doc=p${padCount++}`;
+}
+const isReadOnly = `document.querySelector("#text").readOnly`;
+const PAD_ONLINE = `document.querySelector("#state").textContent === "online "`;
+
+test("the text pad takes no keys before its store is open, and loses none", async () => {
+  const held = `const { request } = LockManager.prototype;
+    const opened = new Promise((resolve) => (window.openStore = resolve));
+    LockManager.prototype.request = function (...items) {
+      return opened.then(() => request.apply(this, items));
+    };`;
+  const tab = await padTab(await padUrl(), held);
+  equal(await tab.evaluate(isReadOnly), true);
+  await tab.type("#text", "typed early");
+  deepEqual(await tab.textOf("#text"), [""]); // it isn't taken, so nothing is lost
+  await tab.evaluate("openStore()");
+  await tab.until(`${PAD_ONLINE} && !${isReadOnly}`);
+  await tab.type("#text", "typed now");
+  await tab.until(`document.querySelector("#text").value === "typed now"`);
+  await tab.reload();
+  await tab.until("window.openStore");
+  await tab.evaluate("openStore()");
+  await tab.until(`document.querySelector("#text").value === "typed now"`);
+  deepEqual(tab.faults, []);
+});
+
+test("a browser without IndexedDB: the text pad goes on in memory, and says so", async () => {
+  const url = await padUrl();
+  const none = `Object.defineProperty(window, "indexedDB", { get() {} });`;
+  const tab = await padTab(url, none);
+  await tab.until(PAD_ONLINE);
+  const [problem] = await tab.textOf("#problem");
+  match(problem, /^Nothing can be stored here \(this browser has no IndexedDB here\)\. .*is lost when/);
+  await tab.type("#text", "at the server");
+  const { browser } = await shared;
+  const other = await browser.tab(url, { profile: await browser.profile() });
+  await other.until(`document.querySelector("#text").value === "at the server"`);
+  deepEqual([await other.textOf("#problem"), tab.faults, other.faults], [[""], [], []]);
+});
+
+test("a text pad that may only read takes no keys, and shows what others type", async () => {
+  const { browser } = await (shared ??= sharedParts());
+  const server = await startServer(["page"]);
+  const file = `${room()}/admit.mjs`;
+  writeFileSync(file, "export const admit = () => ({ read: true });");
+  const readers = await startHub(server.address, { more: ["--admit", file] });
+  const writers = await startHub(server.address);
+  const [reader, writer] = await Promise.all([readers, writers].map((hub) =>
+    browser.tab(`${hub.page}web/pad.html`)));
+  for (const tab of [reader, writer]) await tab.until(PAD_ONLINE);
+  await reader.until(isReadOnly);
+  equal(await writer.evaluate(isReadOnly), false);
+  await reader.type("#text", "not taken");
+  await writer.type("#text", "Hello");
+  await reader.until(`document.querySelector("#text").value === "Hello"`);
 });
 
 test("behind a proxy with TLS, below a path", async () => {

@@ -2,17 +2,18 @@
 
 import { deepEqual, equal, match, ok } from "node:assert/strict";
 import { execFileSync, spawnSync } from "node:child_process";
-import { existsSync, mkdirSync, readFileSync, writeFileSync } from "node:fs";
+import { cpSync, existsSync, mkdirSync, readFileSync, realpathSync, writeFileSync } from "node:fs";
 import http from "node:http";
 import https from "node:https";
 import net from "node:net";
 import { join } from "node:path";
 import { test } from "node:test";
-import { fileURLToPath } from "node:url";
+import { fileURLToPath, pathToFileURL } from "node:url";
 import {
   HUB, joinLines, joinWeb, kill, lacks, launch, ROOM, start, startHub, startServer, suite, until, webSockets,
   within,
 } from "./support.mjs";
+import { OPTIONS } from "../lib/options.mjs";
 
 const PACKAGE = fileURLToPath(new URL("../", import.meta.url));
 const TOP = fileURLToPath(new URL("../../../", import.meta.url));
@@ -55,6 +56,15 @@ suite("the program and the package", {}, () => {
     deepEqual([status, /Unknown option '--nothing'/.test(stderr)], [2, true], stderr);
   });
 
+  test("index.d.ts has each option of the table, and says what a number usually is", () => {
+    const types = readFileSync(`${PACKAGE}index.d.ts`, "utf8").split("export interface HubOptions")[1].split("\n}")[0];
+    const comments = new Map([...types.matchAll(/(?:\/\*\*((?:(?!\*\/)[^])*)\*\/\s*)?^ {2}(\w+)\??:/gm)]
+      .map(([, comment = "", name]) => [name, comment.replaceAll(",", "")]));
+    deepEqual(Object.keys(OPTIONS).filter((it) => !comments.has(it)), []);
+    const numbers = Object.entries(OPTIONS).filter(([, { bounds }]) => bounds);
+    deepEqual(numbers.filter(([name, { bounds }]) => !comments.get(name).includes(`(${bounds.usual})`)), []);
+  });
+
   test("a wrong command line is status 2, and says what is wrong", async () => {
     const wrong = [
       [[], /one SERVER/], [["a:1"], /neither lines nor web/], [["a", "--lines", "127.0.0.1:0"], /a isn't HOST:PORT/],
@@ -82,6 +92,26 @@ suite("the program and the package", {}, () => {
     server.close();
     const lacking = await run("127.0.0.1:1", "--lines", "127.0.0.1:0", "--admit", "none.mjs");
     equal(lacking.status, 1, lacking.stderr);
+  });
+
+  test("from a fresh clone, and linked as a workspace, it finds the package jcrdt", { skip: lacks("npm") }, () => {
+    const clone = join(ROOM, "clone");
+    for (const name of ["package.json", "clients/js", "clients/hub"]) {
+      const filter = (from) => !from.endsWith("node_modules");
+      cpSync(join(CLIENTS, "..", name), join(clone, name), { recursive: true, filter });
+    }
+    const run = (command, ...words) => {
+      const done = spawnSync(command, words, { cwd: join(clone, "clients/hub"), encoding: "utf8" });
+      equal(done.status, 0, done.stderr);
+      return done.stdout.trim();
+    };
+    const found = 'import("./lib/client_package.mjs").then((it) => console.log(it.FOLDER.href))';
+    const due = pathToFileURL(`${join(realpathSync(clone), "clients/js")}/`).href;
+    equal(run(process.execPath, "-e", found), due); // nothing is installed
+    run("npm", "install", "--prefix", clone, "--offline", "--no-audit", "--no-fund", "--no-update-notifier");
+    const named = 'import("jcrdt/provider").then((it) => console.log(typeof it.Provider))';
+    equal(run(process.execPath, "-e", named), "function"); // by its name
+    equal(run(process.execPath, "-e", found), due);
   });
 
   test("packed, it runs in an empty folder", { skip: lacks("npm") }, async () => {

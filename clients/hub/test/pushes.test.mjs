@@ -12,11 +12,11 @@ const PYTHON = fileURLToPath(new URL("../../python", import.meta.url));
 async function both(...options) {
   let server = await startServer(["d", "e"]);
   const hub = await startHub(server.address, "--poll", "20", ...options);
-  const again = async () => {
+  const again = async (more = {}) => {
     await pause(300); // what was logged is stored
     await kill(server.child);
     await pause(300);
-    server = await startServer(["d", "e"], server);
+    server = await startServer(["d", "e"], { ...server, ...more });
   };
   return { hub, again, stop: () => kill(server.child) };
 }
@@ -88,6 +88,113 @@ suite("pushes", { concurrency: true }, () => {
     deepEqual(ada.lines, []);
     equal(await ada.ask(["watch", "none"]), '["no",5,"not-open"]');
     equal(await ada.ask(["unwatch", "d", 1]), '["no",2,"bad-request"]');
+    [ada, bob].forEach((client) => client.end());
+  });
+
+  test("operations are pushed with numbers, in the server's own words, once for all", async () => {
+    const { hub } = await both();
+    const [ada, bob, eve] = [await opened(hub), await opened(hub), await opened(hub)];
+    equal(await ada.ask(["watch", "d", "ops"]), '["watching"]');
+    equal(await ada.next(), '["changed","d",[]]');
+    equal(await eve.ask(["watch", "d"]), '["watching"]');
+    equal(await eve.next(), '["changed","d",[]]');
+    const logged = async (reader, number, count) => {
+      const [operation] = JSON.parse(await bob.ask(["ops", "d", count > 1 ? [["srv-1", count - 1]] : [], 64]))[1];
+      const line = await reader.next();
+      equal(line, JSON.stringify(["logged", "d", number, [operation]]));
+      ok(line.length <= JSON.stringify(operation).length + 100);
+    };
+    await bob.ask(["assign", "d", [0, "k"], 1]);
+    await logged(ada, 1, 1);
+    equal(await eve.next(), '["changed","d",[["srv-1",1]]]');
+    // Who comes later begins at 1, behind the front of then.
+    equal(await bob.ask(["watch", "d", "ops"]), '["watching"]');
+    equal(await bob.next(), '["changed","d",[["srv-1",1]]]');
+    equal(JSON.parse(await eve.ask(["assign", "d", [0, "k"], 2]))[0], "applied");
+    equal(await eve.next(), '["changed","d",[["srv-1",2]]]');
+    equal(JSON.parse(await bob.next())[2], 1);
+    await logged(ada, 2, 2);
+    equal(await ada.ask(["unwatch", "d"]), '["unwatched","d"]');
+    equal(await ada.ask(["watch", "d", "all"]), '["no",2,"bad-request"]');
+    equal(await ada.ask(["watch", "d", "ops", 1]), '["no",2,"bad-request"]');
+    equal(await ada.ask(["watch", "none", "ops"]), '["no",5,"not-open"]');
+    [ada, bob, eve].forEach((client) => client.end());
+  });
+
+  test("many operations at once are pushed page by page, each once", async () => {
+    const { hub } = await both();
+    const [ada, bob] = [await opened(hub), await opened(hub)];
+    await ada.ask(["watch", "d", "ops"]);
+    equal(await ada.next(), '["changed","d",[]]');
+    for (let at = 1; at <= 300; at++) bob.send(["assign", "d", [0, "k"], at]);
+    const counters = [];
+    for (let number = 1; counters.length < 300; number++) {
+      const [word, document, at, operations] = JSON.parse(await ada.next());
+      deepEqual([word, document, at], ["logged", "d", number]);
+      ok(operations.length <= 64);
+      counters.push(...operations.map(([, [counter]]) => counter));
+    }
+    deepEqual(counters, Array.from({ length: 300 }, (_, at) => at + 1));
+    [ada, bob].forEach((client) => client.end());
+  });
+
+  test("a page of the hub has the operations of 16 of the server, or of some bytes", async () => {
+    const { hub } = await both();
+    const ada = await opened(hub);
+    for (let at = 0; at < 1030; at++) ada.send(["assign", "d", [0, "k"], at]);
+    await until("all is logged", () => ada.lines.length === 1030, 60);
+    ada.lines.length = 0;
+    const counters = async (front, bytes) => {
+      const [word, operations] = JSON.parse(await ada.ask(["page", "d", front, bytes]));
+      equal(word, "ops");
+      return operations.map(([, [counter]]) => counter);
+    };
+    const from = (first, length) => Array.from({ length }, (_, at) => first + at);
+    deepEqual(await counters([], 2 ** 20), from(1, 1024));
+    deepEqual(await counters([["srv-1", 1024]], 2 ** 20), from(1025, 6));
+    deepEqual(await counters([["srv-1", 1030]], 2 ** 20), []);
+    deepEqual(await counters([["srv-1", 10]], 1), from(11, 64));
+    equal(await ada.ask(["page", "d", [], 0]), '["no",2,"bad-request"]');
+    equal(await ada.ask(["page", "d", 1, 9]), '["no",2,"bad-request"]');
+    equal(await ada.ask(["page", "e", [], 9]), '["no",5,"not-open"]');
+    ada.end();
+  });
+
+  test("a server that is started again without what it had: the front is pushed", async () => {
+    const { hub, again } = await both();
+    const [ada, bob] = [await opened(hub), await opened(hub)];
+    await ada.ask(["watch", "d", "ops"]);
+    equal(await ada.next(), '["changed","d",[]]');
+    await bob.ask(["assign", "d", [0, "k"], 1]);
+    equal(JSON.parse(await ada.next())[0], "logged");
+    await again({ file: "without.db" });
+    equal(await ada.next(), '["reopened",[]]');
+    equal(await ada.next(), '["changed","d",[]]');
+    await bob.ask(["assign", "d", [0, "k"], 2]);
+    const push = await ada.next(); // a front, where the hub has got another session meanwhile
+    ok(push === '["changed","d",[["srv-1",1]]]' || push.startsWith('["logged","d",2,[["op",[1,"srv-1"]'), push);
+    [ada, bob].forEach((client) => client.end());
+  });
+
+  test("who doesn't read gets the front in place of operations, and then operations again", async () => {
+    const { hub } = await both("--patience", "60");
+    const [ada, bob] = [await opened(hub), await opened(hub)];
+    await ada.ask(["watch", "d", "ops"]);
+    equal(await ada.next(), '["changed","d",[]]');
+    ada.socket.pause();
+    const text = "x".repeat(4000);
+    const COUNT = 3000;
+    for (let at = 0; at < COUNT; at++) bob.send(["assign", "d", [0, "k"], `${at} ${text}`]);
+    await until("all is changed", () => bob.lines.length >= COUNT, 60);
+    bob.lines.length = 0;
+    ada.socket.resume();
+    await until("the front of all has come", () => ada.lines.includes(`["changed","d",[["srv-1",${COUNT}]]]`));
+    const words = ada.lines.splice(0).map((line) => JSON.parse(line)[0]);
+    equal(words.indexOf("changed"), words.length - 1); // what was written before is read first
+    await bob.ask(["assign", "d", [0, "k"], 1]);
+    const [word, , number, operations] = JSON.parse(await ada.next());
+    deepEqual([word, operations.map(([, [counter]]) => counter)], ["logged", [COUNT + 1]]);
+    ok(number > words.length, `${number} behind ${words.length} pushes`); // what was left out counts
     [ada, bob].forEach((client) => client.end());
   });
 

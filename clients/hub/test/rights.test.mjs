@@ -26,7 +26,8 @@ const CHANGES = [
   ["deliver", "d", ["op", [1, "p"], [], [[["m", 0]], "k"], ["assign", 1]]],
 ];
 const READINGS = [
-  ["values", "d", [0, "k"]], ["show", "d", [0]], ["front", "d"], ["ops", "d", [], 64], ["watch", "d"],
+  ["values", "d", [0, "k"]], ["show", "d", [0]], ["front", "d"], ["ops", "d", [], 64], ["watch", "d"], ["watch", "d", "ops"],
+  ["page", "d", [], 9],
   ["let", "d", "it", [0, "k"]], ["hear", "d"], ["say", "d", 1], ["held", "d"], ["account", "d"],
 ];
 
@@ -77,6 +78,22 @@ suite("rights", { concurrency: false }, () => {
     equal(await ask(["values", "e", [0, "k"]]), '["values",[1]]');
     equal(await ask(["version"]), '["version",2]');
     eve.end();
+  });
+
+  test("who may not read a document gets no operations of it", async () => {
+    const [eve, ada] = [new Raw(hub.lines), await joinWeb(hub.page, {}, "lines?token=all")];
+    equal(await eve.ask(["watch", "e", "ops"]), NOT_ALLOWED);
+    match(await eve.ask(["open", "d"]), /^\["opened",/);
+    equal(await eve.ask(["watch", "d", "ops"]), '["watching"]');
+    match(await eve.next(), /^\["changed","d",/);
+    for (const document of ["e", "d"]) {
+      await ada.open(document);
+      await ada.assign(document, [0, "k"], "secret");
+    }
+    match(await eve.next(), /^\["logged","d",1,/); // that of e was logged before
+    match(await eve.ask(["version"]), /^\["version",/);
+    deepEqual(eve.lines, []);
+    [eve, ada].forEach((client) => client.end());
   });
 
   test("over TCP, and by which name one is heard", async () => {

@@ -2,7 +2,7 @@
 
 import { browserStore } from "../js/browser_store.mjs";
 import { paced } from "../js/pace.mjs";
-import { Provider, memoryStore } from "../js/provider.mjs";
+import { Provider } from "../js/provider.mjs";
 import { parse } from "../js/wire.mjs";
 import { Panel } from "./panel.mjs";
 import { ask, describe, element, find, nameSide, save, showFront } from "./parts.mjs";
@@ -60,7 +60,7 @@ function showExchange(side, line, reply) {
 /** The replica that this browser stored for a side, or a fresh one. It takes one of the 256 names
  *  that a document has at its first edit, and goes on under it in later visits.
  *  @param {string} side */
-async function providerOf(side) {
+function providerOf(side) {
   const options = {
     document: DOCUMENT,
     at: LINES,
@@ -69,17 +69,10 @@ async function providerOf(side) {
     engine: ENGINE.open,
     onReply: (/** @type {string} */ line, /** @type {string} */ reply) =>
       showExchange(side, line, reply),
+    store: browserStore(`${DOCUMENT} ${side}`),
+    orMemory: true,
   };
-  try {
-    return await Provider.open({ ...options, store: browserStore(`${DOCUMENT} ${side}`) });
-  } catch (error) {
-    const provider = await Provider.open({ ...options, store: memoryStore() });
-    const cause = error instanceof Error ? error.message : String(error);
-    const words = `This browser can't store (${cause}). What is edited here is lost when this page`
-      + ` is closed, unless a server has it by then.`;
-    provider.problems.set("unread", { kind: "unread", words });
-    return provider;
-  }
+  return Provider.open(options);
 }
 
 /** Begins as two other replicas, after what would be lost was asked for.

@@ -151,6 +151,7 @@ export class Panel {
     const notices = problems.map(({ kind, words, lines }) => {
       const notice = element("p", kind, [words]);
       if (lines?.length) notice.append(this.#saveButton(kind, lines));
+      if (kind === "refused") notice.append(this.#discardButton());
       return notice;
     });
     find(this.root, ".notice").replaceChildren(...notices);
@@ -163,6 +164,14 @@ export class Panel {
     button.addEventListener("click", () => {
       const text = kind === "unread" ? lines.join("\n") : this.#provider.saved;
       save(`${this.#provider.replica.doc}-${this.#side}.jcrdt`, text);
+    });
+    return button;
+  }
+
+  #discardButton() {
+    const button = element("button", "", "Take them back");
+    button.addEventListener("click", () => {
+      this.#provider.discardRefused().catch((error) => this.#note(".votes-note", error));
     });
     return button;
   }

@@ -196,6 +196,39 @@ for (const [title, engine] of engines) {
     deepEqual(plain(server.replica.show([0, "list"])), ["x", { who: "two" }, { who: "one" }]);
   });
 
+  test(`${title}: two copies of one store deliver at once: nothing is made twice`, LIMIT, async () => {
+    for (const isRelayed of [false, true]) { // whether an operation of another goes before one's own
+      const server = fakeServer();
+      const base = replicaOf("me");
+      base.put([0, "list"], ["base"]);
+      await base.sync(server.answer);
+      const [left, right] = [0, 1].map(() => Replica.restore(base.lines(), { engine }));
+      /** @param {Replica} it @param {string} text */
+      const append = (it, text) => it.splice([0, "list"], it.items([0, "list"]).length, 0, [text]);
+      for (const text of ["left 1", "left 2"]) append(left, text);
+      if (isRelayed) right.deliver('["op",[1,"other"],[],[[["m",0]],"k"],["assign",1]]');
+      for (const text of ["right 1", "right 2", "right 3", "right 4"]) append(right, text);
+      right.add([0, "votes"], 1);
+      let isFirst = true;
+      /** @param {string} line */
+      const answer = async (line) => {
+        if (isFirst && line.startsWith('["deliver",')) {
+          isFirst = false;
+          await left.sync(server.answer);
+        }
+        return server.answer(line);
+      };
+      ok((await right.sync(answer)).refused.some(({ own }) => own));
+      await right.remake("me-2", server.answer);
+      await right.sync(server.answer);
+      await left.sync(server.answer);
+      const texts = right.items([0, "list"]).map(([, [text]]) => text).sort();
+      deepEqual(texts, ["base", "left 1", "left 2", "right 1", "right 2", "right 3", "right 4"]);
+      equal(right.sum([0, "votes"]), "1");
+      equal(print(left.show([0])), print(right.show([0])));
+    }
+  });
+
   test(`${title}: a reply that was lost isn't taken for a name used twice`, LIMIT, async () => {
     let isBroken = false;
     const server = fakeServer(([word, , op], replica) => {

@@ -111,7 +111,10 @@ const USE = `
   const stores: Store[] = [memoryStore(), fileStore("notes"), browserStore("notes")];
   const notes: Provider = await Provider.open({ document: "d", at: "wss://h/lines", store: stores[0] });
   const state: State = notes.state;
-  const word: "online" | "connecting" | "offline" = state.word;
+  const word: "online" | "connecting" | "offline" | "refused" = state.word;
+  const taken: string[] = await notes.discardRefused({ seconds: 1 });
+  const may: boolean | undefined = notes.canWrite;
+  await notes.synced({ seconds: 5, signal: new AbortController().signal });
   const end: () => void = bindText(notes, [0, "text"], document.querySelector("textarea")!);
   const front: Map<string, number> = await (await connectedToHub("wss://h/lines")).front("d");
   // @ts-expect-error: a cursor is an array
@@ -120,6 +123,6 @@ const USE = `
   await Provider.open({ at: "127.0.0.1:1" });
   // @ts-expect-error: there is no such state
   const wrong: "lost" = notes.state.word;
-  console.log(id, stop, sum, new Counter(1), Refused, Away, plain([]), parse("[]"), load, word, end, front, wrong);
+  console.log(taken, may, state.refused?.count, id, stop, sum, new Counter(1), Refused, Away, plain([]), parse("[]"), load, word, end, front, wrong);
   export {};
 `;

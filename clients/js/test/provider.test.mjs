@@ -179,7 +179,7 @@ test("a hub that is killed and started again", async () => {
   await startHub(server.address, { web: hub.web });
   await until("both have three", () =>
     [ada, bob].every(({ replica }) => replica.sum([0, "votes"]) === "3"), 30);
-  equal(ada.state.word, "online");
+  await online(ada); // its exchange may go on for a moment
 });
 
 test("a hub that is frozen", async () => {

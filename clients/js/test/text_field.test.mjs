@@ -1,9 +1,9 @@
 /* A field of a page that stands in for a browser's: what is typed, and what others type. */
 
-import { equal, ok } from "node:assert/strict";
+import { deepEqual, equal, match, ok, rejects } from "node:assert/strict";
 import { test } from "node:test";
 import { Replica } from "../index.mjs";
-import { Provider } from "../provider.mjs";
+import { Provider, Unstored, memoryStore } from "../provider.mjs";
 import { bindText } from "../text_field.mjs";
 import { engines } from "./engines.mjs";
 import { cpuOf, pause, until } from "./support.mjs";
@@ -14,6 +14,7 @@ const KEYS = 20;
 /** A field without a page. */
 class Field extends EventTarget {
   value = "";
+  readOnly = false;
   selectionStart = 0;
   selectionEnd = 0;
   selectionDirection = "none";
@@ -101,3 +102,43 @@ for (const [title, engine] of engines) {
     await pad.close();
   });
 }
+
+test("given the promise of a provider, a field is read-only until that is open", async () => {
+  const field = new Field();
+  /** @type {(pad: Provider) => void} */
+  let open = () => {};
+  const end = bindText(new Promise((resolve) => (open = resolve)), [0, "text"], /** @type {any} */ (field));
+  equal(field.readOnly, true);
+  const pad = await Provider.open({ document: "d" });
+  pad.replica.put([0, "text"], [..."Hello"]);
+  open(pad);
+  await until("it is bound", () => field.value === "Hello");
+  equal(field.readOnly, false);
+  field.type(5, "!");
+  equal(pad.replica.text([0, "text"]), "Hello!");
+  end();
+  field.type(6, "?");
+  equal(pad.replica.text([0, "text"]), "Hello!");
+  await pad.close();
+});
+
+test("a provider that can't be opened: the field stays read-only, and it is said", async () => {
+  const field = new Field();
+  /** @type {unknown[]} */
+  const said = [];
+  const cause = new Error("the store is another's");
+  bindText(Promise.reject(cause), [0, "text"], /** @type {any} */ (field), { refused: (error) => said.push(error) });
+  await until("it is said", () => said.length > 0);
+  deepEqual(said, [cause]);
+  equal(field.readOnly, true);
+});
+
+test("a store that can't be opened: in memory if that is wanted, and it is said", async () => {
+  const store = { ...memoryStore(), open: () => { throw new Unstored("no room"); } };
+  await rejects(Provider.open({ document: "d", store }), Unstored);
+  const pad = await Provider.open({ document: "d", store, orMemory: true });
+  match(pad.problems.get("memory")?.words ?? "", /^Nothing can be stored here \(no room\)\. /);
+  pad.replica.assign([0, "title"], "Plan");
+  equal(pad.isStored, true);
+  await pad.close();
+});

@@ -209,3 +209,113 @@ for (const [name, engine] of engines) {
     equal(me.count, before);
   });
 }
+
+/** Two replicas that meet.
+ *  @param {import("../rules.mjs").Open} engine */
+function pair(engine) {
+  const [ada, bob] = ["ada", "bob"].map((it) => new Replica(it, "d", { engine }));
+  const meet = () => {
+    for (const [from, to] of [[ada, bob], [bob, ada]]) to.deliverAll([...from.operations(to.front())]);
+    equal(print(ada.show([0])), print(bob.show([0])));
+  };
+  return { ada, bob, meet };
+}
+
+for (const [name, engine] of engines) {
+  for (const where of ["in a list", "in a map", "alone"]) {
+    for (const isAssigned of [false, true]) {
+      const title = `${name}: undo of a delete keeps what another has added, ${where}` +
+        (isAssigned ? ", and assigned" : "");
+      test(title, () => {
+        const { ada, bob, meet } = pair(engine);
+        const card = { title: "t", label: "l" };
+        ada.put([0, "cards"], where === "in a list" ? [card] : { x: card });
+        const place = [0, "cards", where === "in a list" ? ada.items([0, "cards"])[0][0] : "x"];
+        ada.add([...place, "votes"], 2);
+        meet();
+        ada.delete(where === "alone" ? [...place, "votes"] : place);
+        bob.add([...place, "votes"], 5);
+        if (isAssigned) bob.assign([...place, "title"], "new");
+        meet();
+        equal(ada.sum([...place, "votes"]), "5");
+        ada.undo();
+        meet();
+        equal(ada.sum([...place, "votes"]), "7");
+        deepEqual(ada.values([...place, "label"]), ["l"]);
+        deepEqual(ada.values([...place, "title"]), [isAssigned ? "new" : "t"]);
+        ada.redo();
+        equal(ada.sum([...place, "votes"]), "5");
+        ada.undo();
+        meet();
+        equal(ada.sum([...place, "votes"]), "7");
+      });
+    }
+  }
+
+  test(`${name}: undo of a move keeps what another has added to the old place`, () => {
+    const { ada, bob, meet } = pair(engine);
+    ada.put([0], { todo: [{ title: "card", votes: new Counter(2) }], done: [] });
+    meet();
+    const [[id]] = ada.items([0, "todo"]);
+    ada.group(() => {
+      ada.splice([0, "done"], 0, 0, [ada.plain([0, "todo", id])]);
+      ada.delete([0, "todo", id]);
+    });
+    bob.add([0, "todo", id, "votes"], 5);
+    meet();
+    ada.undo();
+    meet();
+    deepEqual(plain(ada.show([0])), { todo: [{ title: "card", votes: new Counter(7) }], done: [] });
+  });
+
+  test(`${name}: undo of an assignment keeps what another has added`, () => {
+    for (const before of [undefined, "old", new Counter(2), new Counter(2, "old"), { votes: new Counter(2) }]) {
+      const { ada, bob, meet } = pair(engine);
+      if (before !== undefined) ada.put([0, "n"], before);
+      const isMap = before !== undefined && typeof before === "object" && !(before instanceof Counter);
+      const counter = isMap ? [0, "n", "votes"] : [0, "n"];
+      const was = ada.sum(counter);
+      meet();
+      ada.put([0, "n"], isMap ? { votes: new Counter(30), new: 1 } : "new");
+      bob.add(counter, 5);
+      meet();
+      ada.undo();
+      meet();
+      equal(ada.sum(counter), String(BigInt(was) + 5n), JSON.stringify(before));
+      if (before === "old" || before?.value) deepEqual(ada.values([0, "n"]), ["old"]);
+      else if (!isMap) deepEqual(ada.values([0, "n"]), []);
+      ada.redo();
+      meet();
+      equal(ada.sum(counter), isMap ? "35" : "5", JSON.stringify(before));
+    }
+  });
+
+  test(`${name}: a deletion that another has undone in full isn't counted twice`, () => {
+    const { ada, bob, meet } = pair(engine);
+    ada.put([0, "card"], { title: "t", votes: new Counter(2) });
+    meet();
+    ada.delete([0, "card"]);
+    bob.delete([0, "card"]);
+    meet();
+    bob.undo();
+    meet();
+    ada.undo();
+    meet();
+    deepEqual(plain(ada.show([0, "card"])), { title: "t", votes: new Counter(2) });
+  });
+
+  test(`${name}: undo asks for the room that it needs`, { timeout: 200_000 }, () => {
+    const me = new Replica("a", "d", { engine });
+    const all = Array.from({ length: MOST.log - 1000 }, (_, at) =>
+      ["op", [at + 1, "p"], at === 0 ? [] : [["p", at]], [[["m", 0]], "k"], ["delete"]]);
+    me.deliverAll(all);
+    me.splice([0, "text"], 0, 0, "x".repeat(400));
+    ok(me.undo()); // one operation for each character
+    equal(me.room, 200);
+    deepEqual(me.items([0, "text"]), []);
+    throws(() => me.redo(), { number: 18 });
+    me.splice([0, "text"], 0, 0, "y".repeat(100));
+    ok(me.undo());
+    equal(me.room, 0);
+  });
+}

@@ -97,7 +97,12 @@ test("one error for each kind of failure", () => {
   ok(lost instanceof Lost && !(lost instanceof Refused));
   ok(errorOf(["no", 101, "server-away"], "add") instanceof Away);
   ok(errorOf(["no", 102, "reply-too-long"], "show") instanceof Refused);
-  ok(errorOf(["no", 102, "reply-too-long"], "assign") instanceof Lost);
+  for (const word of ["assign", "insert", "delete", "add", "deliver", "forget"]) {
+    ok(errorOf(["no", 102, "reply-too-long"], word) instanceof Lost, word);
+  }
+  for (const word of ["let", "open", "ops", "front", "held", "say", "no such word"]) {
+    ok(errorOf(["no", 102, "reply-too-long"], word) instanceof Refused, word);
+  }
   const forked = errorOf(["no", 14, "forked", 7], "deliver");
   ok(forked instanceof Refused && forked.lastCounter === 7);
   deepEqual(forked instanceof Refused && forked.reply, ["no", 14, "forked", 7]);
@@ -128,4 +133,13 @@ test("names are made also where Node has no global `crypto`, as Debian's Node 18
   const { stdout, stderr } = spawnSync(process.execPath, [flag, file], { encoding: "utf8" });
   rmSync(dirname(file), { recursive: true });
   match(stdout, /^undefined ada-[a-z0-9]{10}\n$/, stderr);
+});
+
+test("a refusal's code is its name, and what UTF-8 can't write is said so", () => {
+  const full = new Refused(18);
+  deepEqual([full.code, full.name, full.number], ["log-full", "log-full", 18]);
+  const message = /half a character/;
+  for (const value of ["a\ud800", ["\udc00"]]) throws(() => checkValue(value), { code: "bad-value", message });
+  throws(() => checkValue({ "\ud800": 1 }), { code: "bad-cursor", message });
+  throws(() => checkValue("x".repeat(4097)), { message: /a text of more than 4096 bytes/ });
 });

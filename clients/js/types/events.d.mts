@@ -1,11 +1,11 @@
-/** @typedef {import("./wire.mjs").Cursor} Cursor */
-/** @typedef {import("./wire.mjs").Id} Id */
-/** @typedef {import("./wire.mjs").Operation} Operation */
+/** @typedef {import("./operations.mjs").Cursor} Cursor */
+/** @typedef {import("./operations.mjs").Id} Id */
+/** @typedef {import("./operations.mjs").Operation} Operation */
 /** @typedef {import("./rules.mjs").Splice} Splice */
 /** @typedef {"own" | "undo" | "taken" | "remade"} Why */
 /** @typedef {object} Change Where an operation ended, by ids, and what it was.
  *  @property {Id} id
- *  @property {"assign" | "insert" | "delete" | "add"} word
+ *  @property {import("./protocol.mjs").EditWord} word
  *  @property {Cursor} place
  *  @property {any} [value] */
 /** @typedef {object} Event
@@ -38,7 +38,7 @@ export class Events {
      *  @param {Source} source
      *  @param {number} length
      *  @param {Changed} changed */
-    watch(place: import("./wire.mjs").Cursor, source: Source, length: number, changed: Changed): () => void;
+    watch(place: import("./operations.mjs").Cursor, source: Source, length: number, changed: Changed): () => void;
     /** All that is logged within `work` is one event, at its end.
      *  @template T
      *  @param {() => T} work
@@ -46,32 +46,32 @@ export class Events {
     batch<T>(work: () => T): T;
     /** Is called with what the engine has logged at once, before `log`.
      *  @param {Operation[]} ops */
-    note(ops: import("./wire.mjs").Operation[]): void;
+    note(ops: import("./operations.mjs").Operation[]): void;
     /** @param {string} line
      *  @param {Operation} op
      *  @param {Why} why */
-    log(line: string, op: import("./wire.mjs").Operation, why: Why): void;
+    log(line: string, op: import("./operations.mjs").Operation, why: Why): void;
     /** Everything is another: watches go on at the places of now.
      *  @param {(place: Cursor) => {place: Cursor, source: Source, values: any[]} | undefined} again */
-    remade(again: (place: import("./wire.mjs").Cursor) => {
-        place: import("./wire.mjs").Cursor;
+    remade(again: (place: import("./operations.mjs").Cursor) => {
+        place: import("./operations.mjs").Cursor;
         source: Source;
         values: any[];
     } | undefined): void;
     #private;
 }
-export type Cursor = import("./wire.mjs").Cursor;
-export type Id = import("./wire.mjs").Id;
-export type Operation = import("./wire.mjs").Operation;
+export type Cursor = import("./operations.mjs").Cursor;
+export type Id = import("./operations.mjs").Id;
+export type Operation = import("./operations.mjs").Operation;
 export type Splice = import("./rules.mjs").Splice;
 export type Why = "own" | "undo" | "taken" | "remade";
 /**
  * Where an operation ended, by ids, and what it was.
  */
 export type Change = {
-    id: import("./wire.mjs").Id;
-    word: "assign" | "insert" | "delete" | "add";
-    place: import("./wire.mjs").Cursor;
+    id: import("./operations.mjs").Id;
+    word: import("./protocol.mjs").EditWord;
+    place: import("./operations.mjs").Cursor;
     value?: any;
 };
 export type Event = {
@@ -80,7 +80,7 @@ export type Event = {
      * The operations, as they are stored. None with "remade".
      */
     lines: string[];
-    ids: import("./wire.mjs").Id[];
+    ids: import("./operations.mjs").Id[];
     changes: Change[];
 };
 export type Heard = (event: Event) => any;
@@ -97,7 +97,7 @@ export type Source = {
      * Is called with each operation at, under or above the
      * watch's place, once the engine has it, before `take`.
      */
-    note?: ((op: import("./wire.mjs").Operation) => void) | undefined;
+    note?: ((op: import("./operations.mjs").Operation) => void) | undefined;
     end: () => void;
     /**
      * Of the list, if the source knows it.
@@ -105,7 +105,7 @@ export type Source = {
     length?: number | undefined;
 };
 export type Watch = {
-    place: import("./wire.mjs").Cursor;
+    place: import("./operations.mjs").Cursor;
     /**
      * Of the place.
      */
@@ -119,6 +119,6 @@ export type Watch = {
 };
 export type Logged = {
     line: string;
-    op: ["op", import("./wire.mjs").Id, import("./wire.mjs").Front, [import("./wire.mjs").Path, import("./wire.mjs").Key], import("./wire.mjs").Mutation];
+    op: ["op", import("./operations.mjs").Id, import("./operations.mjs").Front, [import("./operations.mjs").Path, import("./operations.mjs").Key], import("./operations.mjs").Mutation];
     texts: string[];
 };

@@ -8,25 +8,36 @@ export class Exchange {
     /** @param {Answer} answer
      *  @returns {Promise<Report>} */
     sync(answer: Answer): Promise<Report>;
+    /** From now on `logged` is called with all that this server logs behind the front. So `sync` with
+     *  this very `answer` asks for nothing that is known. Without a front the next `sync` asks for it.
+     *  @param {Answer} answer
+     *  @param {Iterable<[string, number]>} [front] */
+    follow(answer: Answer, front?: Iterable<[string, number]> | undefined): void;
+    /** Takes what a server that is followed has logged. Returns whether nothing differs in it now:
+     *  else the caller is to `sync`.
+     *  @param {Answer} answer
+     *  @param {Operation[]} operations Each has an id, at least. */
+    logged(answer: Answer, operations: import("./operations.mjs").Operation[]): boolean;
     /** The lines to go on with under a new name: the server's, those of others that it lacks, and own
-     *  ones that it lacks, made again.
+     *  ones that it lacks, made again, or lost.
      *  @param {string} name
      *  @param {Answer} answer
      *  @param {Open} open
+     *  @param {boolean} isRemade Whether own ones that it lacks are made again.
      *  @returns {Promise<Remade & {lines: string[], ids: Map<string, Id>}>} */
-    remade(name: string, answer: Answer, open: Open): Promise<Remade & {
+    remade(name: string, answer: Answer, open: Open, isRemade: boolean): Promise<Remade & {
         lines: string[];
-        ids: Map<string, import("./wire.mjs").Id>;
+        ids: Map<string, import("./operations.mjs").Id>;
     }>;
     #private;
 }
 export function reading(engine: Engine): Read;
 export type Ask = (word: string, ...items: any[]) => Promise<any>;
-export type Front = import("./wire.mjs").Front;
-export type Id = import("./wire.mjs").Id;
-export type Operation = import("./wire.mjs").Operation;
-export type Path = import("./wire.mjs").Path;
-export type Key = import("./wire.mjs").Key;
+export type Front = import("./operations.mjs").Front;
+export type Id = import("./operations.mjs").Id;
+export type Operation = import("./operations.mjs").Operation;
+export type Path = import("./operations.mjs").Path;
+export type Key = import("./operations.mjs").Key;
 export type Engine = import("./rules.mjs").Engine;
 export type Open = import("./rules.mjs").Open;
 export type Read = import("./followers.mjs").Read;
@@ -76,6 +87,20 @@ export type Remade = {
     melted: string[];
 };
 /**
+ * A server that says what it logs.
+ */
+export type Followed = {
+    answer: Answer;
+    /**
+     * What it has, by its replies and by what it said.
+     */
+    theirs: Map<string, number>;
+    /**
+     * Whether that is all it has; else the next exchange asks for it.
+     */
+    isKnown: boolean;
+};
+/**
  * What a replica gives to its exchange.
  */
 export type Core = {
@@ -96,4 +121,4 @@ export type Taken = {
         refusal: Refused;
     }[];
 };
-import { Refused } from "./wire.mjs";
+import { Refused } from "./errors.mjs";

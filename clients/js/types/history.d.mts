@@ -5,7 +5,7 @@
  *  @property {Id[]} ids The puts that it stands for.
  *  @property {Edit[]} terms The own additions that it stands for. */
 /** @typedef {object} Edit
- *  @property {"assign" | "insert" | "delete" | "add"} word
+ *  @property {import("./protocol.mjs").EditWord} word
  *  @property {Cursor} place
  *  @property {string[]} texts Of the place.
  *  @property {Id} id
@@ -13,6 +13,7 @@
  *  @property {Back[]} back
  *  @property {boolean} hadPuts Whether a value was at the place before.
  *  @property {Cursor | null} fresh The topmost place on the way to it that held nothing before.
+ *  @property {Front} seen What was logged before it; empty where it has cleared no counter.
  *  @property {Id | null} counted Of an addition: the operation that counts it now. */
 /** @typedef {object} Before What an edit is about to change.
  *  @property {{steps: (string | Id)[], word: "assign" | "add", value: any, ids: Id[]}[]} remains
@@ -23,7 +24,7 @@ export class History {
      *  @param {(word: Edit["word"], place: Cursor, ...value: any[]) => Id} edit */
     constructor(ask: (request: any[]) => {
         reply: any[];
-    }, read: Read, edit: (word: Edit["word"], place: import("./wire.mjs").Cursor, ...value: any[]) => import("./wire.mjs").Id);
+    }, read: Read, edit: (word: Edit["word"], place: import("./operations.mjs").Cursor, ...value: any[]) => import("./operations.mjs").Id);
     get isTurning(): boolean;
     clear(): void;
     /** Reads what an edit is about to change.
@@ -34,10 +35,10 @@ export class History {
     /** Records an edit that was made.
      *  @param {Operation} op
      *  @param {Before} before */
-    after(op: import("./wire.mjs").Operation, { remains, fresh }: Before): void;
+    after(op: import("./operations.mjs").Operation, { remains, fresh }: Before): void;
     /** Is to be called with each logged operation, behind `after`: what it clears counts no more.
      *  @param {Operation} op */
-    note(op: import("./wire.mjs").Operation): void;
+    note(op: import("./operations.mjs").Operation): void;
     /** All edits within `work` are one step.
      *  @template T
      *  @param {() => T} work
@@ -51,35 +52,36 @@ export class History {
     turn(from: "undo" | "redo", checkRoom: (count: number) => void): boolean;
     #private;
 }
-export type Branches = import("./wire.mjs").Branches;
-export type Cursor = import("./wire.mjs").Cursor;
-export type Id = import("./wire.mjs").Id;
-export type Operation = import("./wire.mjs").Operation;
+export type Branches = import("./operations.mjs").Branches;
+export type Cursor = import("./operations.mjs").Cursor;
+export type Front = import("./operations.mjs").Front;
+export type Id = import("./operations.mjs").Id;
+export type Operation = import("./operations.mjs").Operation;
 export type Read = import("./followers.mjs").Read;
 /**
  * What puts back a part of what an edit has cleared.
  */
 export type Back = {
-    place: import("./wire.mjs").Cursor;
+    place: import("./operations.mjs").Cursor;
     word: "assign" | "add";
     value: any;
     /**
      * The puts that it stands for.
      */
-    ids: import("./wire.mjs").Id[];
+    ids: import("./operations.mjs").Id[];
     /**
      * The own additions that it stands for.
      */
     terms: Edit[];
 };
 export type Edit = {
-    word: "assign" | "insert" | "delete" | "add";
-    place: import("./wire.mjs").Cursor;
+    word: import("./protocol.mjs").EditWord;
+    place: import("./operations.mjs").Cursor;
     /**
      * Of the place.
      */
     texts: string[];
-    id: import("./wire.mjs").Id;
+    id: import("./operations.mjs").Id;
     value: any;
     back: Back[];
     /**
@@ -89,21 +91,25 @@ export type Edit = {
     /**
      * The topmost place on the way to it that held nothing before.
      */
-    fresh: import("./wire.mjs").Cursor | null;
+    fresh: import("./operations.mjs").Cursor | null;
+    /**
+     * What was logged before it; empty where it has cleared no counter.
+     */
+    seen: import("./operations.mjs").Front;
     /**
      * Of an addition: the operation that counts it now.
      */
-    counted: import("./wire.mjs").Id | null;
+    counted: import("./operations.mjs").Id | null;
 };
 /**
  * What an edit is about to change.
  */
 export type Before = {
     remains: {
-        steps: (string | import("./wire.mjs").Id)[];
+        steps: (string | import("./operations.mjs").Id)[];
         word: "assign" | "add";
         value: any;
-        ids: import("./wire.mjs").Id[];
+        ids: import("./operations.mjs").Id[];
     }[];
     /**
      * How many steps lead to the topmost place that holds nothing; 0: none.

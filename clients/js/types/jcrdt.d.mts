@@ -11,8 +11,8 @@ export function hasMemory64(): boolean;
 export type Answer = import("./rules.mjs").Answer;
 export type Engine = import("./rules.mjs").Engine;
 export type Open = import("./rules.mjs").Open;
-export type Key = import("./wire.mjs").Key;
-export type Path = import("./wire.mjs").Path;
+export type Key = import("./operations.mjs").Key;
+export type Path = import("./operations.mjs").Path;
 export type Options = {
     /**
      * Where jcrdt.wasm is, its

@@ -1,22 +1,37 @@
 /** @typedef {import("./stores.mjs").Store} Store */
+/** @typedef {import("./stores.mjs").Stored} Stored */
 /** @typedef {import("./session.mjs").Client} Client */
-/** @typedef {(line: string) => Promise<string>} Answer */
+/** @typedef {import("./errors.mjs").Refused} Refused */
 /**
  * Whether the replica exchanges with a server: true within 10 seconds, whatever froze or broke.
  * @typedef {object} State
- * @property {"online" | "connecting" | "offline"} word "online": all that is stored here was given
- *   or is on its way, and all that the server has is here or on its way
+ * @property {"online" | "connecting" | "offline" | "refused"} word "online": all that is stored
+ *   here was given or is on its way, and all that the server has is here or on its way. "refused":
+ *   the same, but for one's own changes that the server refuses: these stay here
  * @property {Date} since when it began
- * @property {string} why why it is offline, in words; else ""
+ * @property {string} why why it is offline, or what is refused, in words; else ""
+ * @property {RefusedChanges} [refused] of "refused"
+ */
+/**
+ * @typedef {object} RefusedChanges
+ * @property {number} count how many operations of this replica the server lacks
+ * @property {Refused} cause why it refused the first of them
+ */
+/**
+ * How long a call waits.
+ * @typedef {object} Wait
+ * @property {number} [seconds] 10, unless it is said
+ * @property {AbortSignal} [signal] ends it before: then the signal's reason is thrown
  */
 /**
  * Something that a person should know, until it is over.
  * @typedef {object} Problem
- * @property {"store" | "unread" | "server" | "refused" | "remade" | "listener"} kind
- *   "store": what was edited last isn't stored, and edits are refused. "unread": a part of the
- *   store couldn't be read. "server": it refuses to exchange. "refused": it refused some of one's
- *   own operations, which stay here. "remade": another had this replica's name, so that changes
- *   were made again. "listener": a function that `listen` was given threw.
+ * @property {"store" | "memory" | "unread" | "server" | "refused" | "remade" | "listener"} kind
+ *   "store": what was edited last isn't stored, and edits are refused. "memory": the store can't be
+ *   opened, so nothing is stored. "unread": a part of the store couldn't be read. "server": it
+ *   refuses to exchange. "refused": it refused some of one's own operations, which stay here.
+ *   "remade": another had this replica's name, so that changes were made again. "listener": a
+ *   function that `listen` was given threw.
  * @property {string} words
  * @property {unknown} [cause] the error, if there is one
  * @property {string[]} [lines] the operations that it is about
@@ -35,6 +50,8 @@
  * @property {string} document its name
  * @property {string} [at] where the server or the hub is
  * @property {Store} [store] in memory if there is none
+ * @property {boolean} [orMemory] whether it goes on in memory where the store can't be opened, as
+ *   in a browser without IndexedDB. `problems` says so then. Without it the store's error is thrown
  * @property {string} [word] what a new name of the replica begins with: up to 21 of a-z, 0-9, -
  * @property {boolean} [isOnline] whether it connects at once: true, unless it is said
  * @property {import("./rules.mjs").Open} [engine] what keeps the document: rules.mjs, unless another
@@ -45,39 +62,53 @@
  */
 /** A replica with a store, and an exchange that goes on by itself. */
 export class Provider {
-    /** Reads the store, and connects. Throws Busy where another program has the store open, and
-     *  TypeError where it has something else.
+    /** Reads the store, and connects. Throws Busy where another program has the store open, TypeError
+     *  where it has something else, and Unstored where it can't store.
      *  @param {Options} options
      *  @returns {Promise<Provider>} */
     static open(options: Options): Promise<Provider>;
     /** By `Provider.open` alone.
      *  @param {Options} options
-     *  @param {Store} store */
-    constructor(options: Options, store: Store);
+     *  @param {Store} store
+     *  @param {Replica} replica
+     *  @param {Problem[]} problems of the store */
+    constructor(options: Options, store: Store, replica: Replica, problems: Problem[]);
     /** The document as it is here. It is read and edited at any time, and isn't `sync`ed by hand.
      *  @type {Replica} */
     replica: Replica;
     /** @type {State} */
     state: State;
-    /** What the server had when it was last asked: pairs of a replica and its last counter.
-     *  `undefined` before that.
-     *  @type {[string, number][] | undefined} */
-    serverFront: [string, number][] | undefined;
-    /** @type {Map<Problem["kind"], Problem>} */
-    problems: Map<Problem["kind"], Problem>;
     /** Whether everything that was edited here is stored. If not, it is under way, or has failed. */
     get isStored(): boolean;
     /** What is stored and what isn't, as a text that file_store.mjs reads. */
     get saved(): string;
     /** The operations that no server is known to have. */
     get unsent(): string[];
+    /** What the server had when it was last asked: pairs of a replica and its last counter.
+     *  `undefined` before that. */
+    get serverFront(): [string, number][] | undefined;
+    /** Whether the server takes what is edited here: false for a client that may only read, for a
+     *  document without room, and while the state is "refused". `undefined` before it is known. */
+    get canWrite(): boolean | undefined;
+    /** Takes back one's own changes that the server refuses: they go from the replica and the store,
+     *  which goes on under a new name. Resolves their lines, which nobody else has; none where
+     *  nothing is refused. Watches go on, `undo` has no steps then. Other tabs show them until they
+     *  are loaded again. Throws Away where there is no exchange in time: then nothing is taken back.
+     *  @param {{ seconds?: number }} [wait] 10, unless it is said
+     *  @returns {Promise<string[]>} */
+    discardRefused(wait?: {
+        seconds?: number | undefined;
+    } | undefined): Promise<string[]>;
+    /** What a person should know, by kind, until it is over. */
+    get problems(): Map<"unread" | "remade" | "refused" | "store" | "memory" | "server" | "listener", Problem>;
     /** Calls a function with each event, one at a time, until what this returns is called.
      *  @param {(event: Event) => void} heard
      *  @returns {() => void} */
     listen(heard: (event: Event) => void): () => void;
     /** Whether it is online, or tries to be. */
     get isSwitchedOn(): boolean;
-    /** Connects, and exchanges from now on. */
+    /** Connects, and exchanges from now on. Where it does so already, it goes on, and tries at once
+     *  if it was waiting to. Throws TypeError where it has no server, or is closed. */
     goOnline(): void;
     /** Ends the connection, and makes none. Edits are stored, and sent later. */
     goOffline(): void;
@@ -87,44 +118,76 @@ export class Provider {
     /** Deletes what is stored. Where `unsent` has something, that is lost. It is closed then. */
     deleteStored(): Promise<void>;
     /** Resolves once it is online and everything is exchanged that was logged here before. Where it
-     *  is offline for now, it connects at once.
-     *  @param {number} [seconds] how long it waits; then Away is thrown, with what is known
+     *  is offline for now, it connects at once. Throws Refused where the server refuses changes of
+     *  this replica, with how many and why: these stay here.
+     *  @param {number | Wait} [wait] how long: a number is its seconds. Then Away is thrown, with
+     *    what is known
      *  @returns {Promise<void>} */
-    synced(seconds?: number | undefined): Promise<void>;
+    synced(wait?: number | Wait | undefined): Promise<void>;
     #private;
 }
 export type Store = import("./stores.mjs").Store;
+export type Stored = import("./stores.mjs").Stored;
 export type Client = import("./session.mjs").Client;
-export type Answer = (line: string) => Promise<string>;
+export type Refused = import("./errors.mjs").Refused;
 /**
  * Whether the replica exchanges with a server: true within 10 seconds, whatever froze or broke.
  */
 export type State = {
     /**
-     * "online": all that is stored here was given
-     * or is on its way, and all that the server has is here or on its way
+     * "online": all that is stored
+     * here was given or is on its way, and all that the server has is here or on its way. "refused":
+     * the same, but for one's own changes that the server refuses: these stay here
      */
-    word: "online" | "connecting" | "offline";
+    word: "online" | "connecting" | "offline" | "refused";
     /**
      * when it began
      */
     since: Date;
     /**
-     * why it is offline, in words; else ""
+     * why it is offline, or what is refused, in words; else ""
      */
     why: string;
+    /**
+     * of "refused"
+     */
+    refused?: RefusedChanges | undefined;
+};
+export type RefusedChanges = {
+    /**
+     * how many operations of this replica the server lacks
+     */
+    count: number;
+    /**
+     * why it refused the first of them
+     */
+    cause: Refused;
+};
+/**
+ * How long a call waits.
+ */
+export type Wait = {
+    /**
+     * 10, unless it is said
+     */
+    seconds?: number | undefined;
+    /**
+     * ends it before: then the signal's reason is thrown
+     */
+    signal?: AbortSignal | undefined;
 };
 /**
  * Something that a person should know, until it is over.
  */
 export type Problem = {
     /**
-     *   "store": what was edited last isn't stored, and edits are refused. "unread": a part of the
-     *   store couldn't be read. "server": it refuses to exchange. "refused": it refused some of one's
-     *   own operations, which stay here. "remade": another had this replica's name, so that changes
-     *   were made again. "listener": a function that `listen` was given threw.
+     *   "store": what was edited last isn't stored, and edits are refused. "memory": the store can't be
+     *   opened, so nothing is stored. "unread": a part of the store couldn't be read. "server": it
+     *   refuses to exchange. "refused": it refused some of one's own operations, which stay here.
+     *   "remade": another had this replica's name, so that changes were made again. "listener": a
+     *   function that `listen` was given threw.
      */
-    kind: "store" | "unread" | "server" | "refused" | "remade" | "listener";
+    kind: "store" | "memory" | "unread" | "server" | "refused" | "remade" | "listener";
     words: string;
     /**
      * the error, if there is one
@@ -167,6 +230,11 @@ export type Options = {
      * in memory if there is none
      */
     store?: import("./stores.mjs").Store | undefined;
+    /**
+     * whether it goes on in memory where the store can't be opened, as
+     * in a browser without IndexedDB. `problems` says so then. Without it the store's error is thrown
+     */
+    orMemory?: boolean | undefined;
     /**
      * what a new name of the replica begins with: up to 21 of a-z, 0-9, -
      */

@@ -6,11 +6,11 @@
  *  @param {Iterable<string | [Id, Id]>} map
  *  @param {string[]} lines
  *  @returns {{remade: number, lost: string[]}} */
-export function remakeIn(old: Replica, other: Replica, map: Iterable<string | [import("./wire.mjs").Id, import("./wire.mjs").Id]>, lines: string[]): {
+export function remakeIn(old: Replica, other: Replica, map: Iterable<string | [import("./operations.mjs").Id, import("./operations.mjs").Id]>, lines: string[]): {
     remade: number;
     lost: string[];
 };
 export type Replica = import("./replica.mjs").Replica;
-export type Cursor = import("./wire.mjs").Cursor;
-export type Id = import("./wire.mjs").Id;
-export type Operation = import("./wire.mjs").Operation;
+export type Cursor = import("./operations.mjs").Cursor;
+export type Id = import("./operations.mjs").Id;
+export type Operation = import("./operations.mjs").Operation;

@@ -7,10 +7,10 @@
 /** @typedef {import("./exchange.mjs").Taken} Taken */
 /** @typedef {import("./rules.mjs").Engine} Engine */
 /** @typedef {import("./rules.mjs").Open} Open */
-/** @typedef {import("./wire.mjs").Cursor} Cursor */
-/** @typedef {import("./wire.mjs").Id} Id */
-/** @typedef {import("./wire.mjs").Operation} Operation */
-/** @typedef {import("./wire.mjs").Scalar} Scalar */
+/** @typedef {import("./operations.mjs").Cursor} Cursor */
+/** @typedef {import("./operations.mjs").Id} Id */
+/** @typedef {import("./operations.mjs").Operation} Operation */
+/** @typedef {import("./operations.mjs").Scalar} Scalar */
 /** @typedef {object} Options
  *  @property {Open} [engine] What makes the engine: `open` of rules.mjs if it isn't given. */
 /** @typedef {{line: string, number: number, name: string}} Unread A line that couldn't be taken. */
@@ -46,33 +46,38 @@ export class Replica {
     /** The logged operations that a front doesn't cover, in log order. They aren't to be changed.
      *  @param {Iterable<[string, number]>} [front]
      *  @returns {Iterable<Operation>} */
-    operations(front?: Iterable<[string, number]> | undefined): Iterable<import("./wire.mjs").Operation>;
+    operations(front?: Iterable<[string, number]> | undefined): Iterable<import("./operations.mjs").Operation>;
     /** Gives up the engine's memory. The replica isn't used any more. */
     free(): void;
+    /** Calls `check` before each change of one's own, `undo` and `redo` among them. What it throws
+     *  refuses that change: nothing is changed. Returns a function that ends it.
+     *  @param {() => void} check
+     *  @returns {() => void} */
+    guard(check: () => void): () => void;
     /** Assigns a scalar, {} or [].
      *  @param {Cursor} cursor
      *  @param {any} value
      *  @returns {Id} */
-    assign(cursor: import("./wire.mjs").Cursor, value: any): import("./wire.mjs").Id;
+    assign(cursor: import("./operations.mjs").Cursor, value: any): import("./operations.mjs").Id;
     /** Inserts behind the element or head at the cursor.
      *  @param {Cursor} cursor
      *  @param {any} value
      *  @returns {Id} */
-    insert(cursor: import("./wire.mjs").Cursor, value: any): import("./wire.mjs").Id;
+    insert(cursor: import("./operations.mjs").Cursor, value: any): import("./operations.mjs").Id;
     /** @param {Cursor} cursor @returns {Id} */
-    delete(cursor: import("./wire.mjs").Cursor): import("./wire.mjs").Id;
+    delete(cursor: import("./operations.mjs").Cursor): import("./operations.mjs").Id;
     /** Adds an integer of 64 bits to the counter at the cursor.
      *  @param {Cursor} cursor
      *  @param {number | bigint} number
      *  @returns {Id} */
-    add(cursor: import("./wire.mjs").Cursor, number: number | bigint): import("./wire.mjs").Id;
+    add(cursor: import("./operations.mjs").Cursor, number: number | bigint): import("./operations.mjs").Id;
     /** Puts a nested value, as `plain` gives it: {} or [] first, and then what is in it, one operation
      *  each. It is one step of undo and one event. The whole value is checked before: a refusal
      *  changes nothing. Counters are added; `undefined` in objects and arrays is left out.
      *  @param {Cursor} cursor
      *  @param {any} value
      *  @returns {Id[]} */
-    put(cursor: import("./wire.mjs").Cursor, value: any): import("./wire.mjs").Id[];
+    put(cursor: import("./operations.mjs").Cursor, value: any): import("./operations.mjs").Id[];
     /** As Array.splice: behind the first `index` elements it inserts the values, nested or not, and
      *  deletes `count` others. A string counts as its characters. Returns the ids of the new
      *  elements. It is one step of undo and one event; a refusal changes nothing.
@@ -81,15 +86,17 @@ export class Replica {
      *  @param {number} count
      *  @param {Iterable<any>} values
      *  @returns {Id[]} */
-    splice(cursor: import("./wire.mjs").Cursor, index: number, count: number, values: Iterable<any>): import("./wire.mjs").Id[];
+    splice(cursor: import("./operations.mjs").Cursor, index: number, count: number, values: Iterable<any>): import("./operations.mjs").Id[];
+    /** How many more operations it can make: none where 256 others have made some, and it hasn't. */
+    get room(): number;
     /** The same place by ids: it goes on to mean that element when the list moves.
      *  @param {Cursor} cursor
      *  @returns {Cursor} */
-    place(cursor: import("./wire.mjs").Cursor): import("./wire.mjs").Cursor;
+    place(cursor: import("./operations.mjs").Cursor): import("./operations.mjs").Cursor;
     /** The index of an element or head; of a deleted element, that of the present one before it.
      *  @param {Cursor} place
      *  @returns {number} */
-    indexOf(place: import("./wire.mjs").Cursor): number;
+    indexOf(place: import("./operations.mjs").Cursor): number;
     /** All edits within `work` are one step of undo and one event. If it throws, what it has edited
      *  before stays.
      *  @template T
@@ -100,37 +107,38 @@ export class Replica {
      *  Refused with 18 if the document has no room for it; the step stays then.
      *
      *  Places that it made vanish, if there is nothing else in them. A counter beside a value stays,
-     *  as 0: only a new assignment clears it. */
+     *  as 0: only a new assignment clears it. Counters come back by amounts: what others have added
+     *  meanwhile stays. Two that undo the same deletion at the same time count it twice. */
     undo(): boolean;
     redo(): boolean;
     /** @param {Cursor} cursor
      *  @returns {any[][]} */
-    show(cursor: import("./wire.mjs").Cursor): any[][];
+    show(cursor: import("./operations.mjs").Cursor): any[][];
     /** What `show` gives as a plain value: see `plain` of wire.mjs.
      *  @param {Cursor} cursor
      *  @returns {any} */
-    plain(cursor: import("./wire.mjs").Cursor): any;
+    plain(cursor: import("./operations.mjs").Cursor): any;
     /** @param {Cursor} cursor @returns {string[]} */
-    keys(cursor: import("./wire.mjs").Cursor): string[];
+    keys(cursor: import("./operations.mjs").Cursor): string[];
     /** @param {Cursor} cursor @returns {Scalar[]} */
-    values(cursor: import("./wire.mjs").Cursor): Scalar[];
+    values(cursor: import("./operations.mjs").Cursor): Scalar[];
     /** @param {Cursor} cursor @returns {[Id, Scalar[]][]} */
-    items(cursor: import("./wire.mjs").Cursor): [import("./wire.mjs").Id, Scalar[]][];
+    items(cursor: import("./operations.mjs").Cursor): [import("./operations.mjs").Id, Scalar[]][];
     /** @param {Cursor} cursor @returns {[Id, any][]} */
-    conflicts(cursor: import("./wire.mjs").Cursor): [import("./wire.mjs").Id, any][];
+    conflicts(cursor: import("./operations.mjs").Cursor): [import("./operations.mjs").Id, any][];
     /** In decimal digits.
      *  @param {Cursor} cursor
      *  @returns {string} */
-    sum(cursor: import("./wire.mjs").Cursor): string;
+    sum(cursor: import("./operations.mjs").Cursor): string;
     /** @returns {[string, number][]} */
     front(): [string, number][];
     /** The held operations, each with what is missing.
      *  @returns {[Id, Id[]][]} */
-    held(): [import("./wire.mjs").Id, import("./wire.mjs").Id[]][];
+    held(): [import("./operations.mjs").Id, import("./operations.mjs").Id[]][];
     /** The strings of a list as one text; of several values of an element, the last.
      *  @param {Cursor} cursor
      *  @returns {string} */
-    text(cursor: import("./wire.mjs").Cursor): string;
+    text(cursor: import("./operations.mjs").Cursor): string;
     /** Calls `heard({ why, lines, ids, changes })` for what was logged together: an edit, a `put`, a
      *  page of a server. `why` is "own", "undo" or "taken". `lines` are to be stored. After `remake`
      *  it calls `heard({ why: "remade", .. })`; then all of `lines()` is.
@@ -145,19 +153,19 @@ export class Replica {
      *  may be called though nothing differs, when something above the place was assigned.
      *  @param {Cursor} cursor
      *  @param {Changed} changed */
-    watch(cursor: import("./wire.mjs").Cursor, changed: Changed): () => void;
+    watch(cursor: import("./operations.mjs").Cursor, changed: Changed): () => void;
     /** Takes a line, or an operation that `parse` read. Returns what a server answers:
      *  ["applied",count,dropped,id], ["known"] or ["held",[id,..]].
      *  @param {string | Operation} operation
      *  @returns {any[]} */
-    deliver(operation: string | import("./wire.mjs").Operation): any[];
+    deliver(operation: string | import("./operations.mjs").Operation): any[];
     /** Takes operations, as lines or read, as one event. Goes on behind one that is refused.
      *  @param {(string | Operation)[]} operations
      *  @returns {Taken} */
-    deliverAll(operations: (string | import("./wire.mjs").Operation)[]): Taken;
+    deliverAll(operations: (string | import("./operations.mjs").Operation)[]): Taken;
     /** Drops a held operation.
      *  @param {Id} id */
-    forget(id: import("./wire.mjs").Id): void;
+    forget(id: import("./operations.mjs").Id): void;
     /** Takes what the server has, and gives it what it lacks. Sends requests before earlier ones are
      *  answered; replies come in their order. Resolves { taken, given, refused }, where `refused`
      *  has { line, number, name, own } for each operation that was refused, here or there. If one
@@ -168,6 +176,18 @@ export class Replica {
      *  @param {Answer} answer
      *  @returns {Promise<Report>} */
     sync(answer: Answer): Promise<Report>;
+    /** Says that `logged` will be called with all that a server logs behind this front. So `sync` with
+     *  this very `answer` asks for nothing that is known. Without a front, as where something wasn't
+     *  said, the next `sync` asks for it.
+     *  @param {Answer} answer
+     *  @param {Iterable<[string, number]>} [front] */
+    follow(answer: Answer, front?: Iterable<[string, number]> | undefined): void;
+    /** Takes what a server that is followed has logged, as one event: what fits. Returns whether
+     *  nothing of it differs now; if not, `sync` is to be called.
+     *  @param {Answer} answer
+     *  @param {Operation[]} operations In log order.
+     *  @returns {boolean} */
+    logged(answer: Answer, operations: import("./operations.mjs").Operation[]): boolean;
     /** Goes on under a new name, after the server refused an operation of one's own since another
      *  has its id. Takes the server's log, the operations of others that it lacks, and those of
      *  one's own that it lacks: under the new name, with what they knew. Own ones that were never
@@ -177,6 +197,15 @@ export class Replica {
      *  @param {Answer} answer
      *  @returns {Promise<Remade>} */
     remake(name: string, answer: Answer): Promise<Remade>;
+    /** Goes on under a new name without the operations of one's own that the server lacks, as where
+     *  it refuses them: `lost` has them. Takes the server's log, and the operations of others that it
+     *  lacks, but for those that depend on what is lost. Watches go on. Then store all lines.
+     *  @param {string} name
+     *  @param {Answer} answer
+     *  @returns {Promise<{lost: string[]}>} */
+    discard(name: string, answer: Answer): Promise<{
+        lost: string[];
+    }>;
     /** Makes own edits that the old document's server refused again in a new one, whose content
      *  `python -m jcrdt renew` made of the old one's. `map` has the lines that it writes, or pairs of
      *  ids: see renewal.mjs. All are one event and one step of undo of `other`.
@@ -184,7 +213,7 @@ export class Replica {
      *  @param {Iterable<string | [Id, Id]>} map
      *  @param {string[]} [lines] The edits: the own operations that no server has.
      *  @returns {{remade: number, lost: string[]}} */
-    remakeIn(other: Replica, map: Iterable<string | [import("./wire.mjs").Id, import("./wire.mjs").Id]>, lines?: string[] | undefined): {
+    remakeIn(other: Replica, map: Iterable<string | [import("./operations.mjs").Id, import("./operations.mjs").Id]>, lines?: string[] | undefined): {
         remade: number;
         lost: string[];
     };
@@ -199,10 +228,10 @@ export type Report = import("./exchange.mjs").Report;
 export type Taken = import("./exchange.mjs").Taken;
 export type Engine = import("./rules.mjs").Engine;
 export type Open = import("./rules.mjs").Open;
-export type Cursor = import("./wire.mjs").Cursor;
-export type Id = import("./wire.mjs").Id;
-export type Operation = import("./wire.mjs").Operation;
-export type Scalar = import("./wire.mjs").Scalar;
+export type Cursor = import("./operations.mjs").Cursor;
+export type Id = import("./operations.mjs").Id;
+export type Operation = import("./operations.mjs").Operation;
+export type Scalar = import("./operations.mjs").Scalar;
 export type Options = {
     /**
      * What makes the engine: `open` of rules.mjs if it isn't given.

@@ -1,11 +1,11 @@
 /** @type {Open} */
 export const open: Open;
-export type Branches = import("./wire.mjs").Branches;
-export type Front = import("./wire.mjs").Front;
-export type Id = import("./wire.mjs").Id;
-export type Key = import("./wire.mjs").Key;
-export type Operation = import("./wire.mjs").Operation;
-export type Path = import("./wire.mjs").Path;
+export type Branches = import("./operations.mjs").Branches;
+export type Front = import("./operations.mjs").Front;
+export type Id = import("./operations.mjs").Id;
+export type Key = import("./operations.mjs").Key;
+export type Operation = import("./operations.mjs").Operation;
+export type Path = import("./operations.mjs").Path;
 /**
  * As of Array.splice: to be
  *   made one after another.
@@ -34,16 +34,16 @@ export type Engine = {
     /**
      * The place by ids. Throws Refused.
      */
-    place?: ((cursor: any[]) => [import("./wire.mjs").Path, Key]) | undefined;
+    place?: ((cursor: any[]) => [import("./operations.mjs").Path, Key]) | undefined;
     /**
      * How many present elements come up to this
      * one, itself included. Throws Refused.
      */
-    index?: ((place: [import("./wire.mjs").Path, Key]) => number) | undefined;
+    index?: ((place: [import("./operations.mjs").Path, Key]) => number) | undefined;
     /**
      * Follows a list. Throws Refused.
      */
-    follow?: ((place: [import("./wire.mjs").Path, Key]) => Follower) | undefined;
+    follow?: ((place: [import("./operations.mjs").Path, Key]) => Follower) | undefined;
 };
 /**
  * Follows the last values of the elements of a list.
@@ -68,7 +68,7 @@ export type Touched = Map<Node, [wasPresent: boolean, value: any]>;
  * A place: its path, last key and node.
  */
 export type Found = {
-    path: ["m" | "l", import("./wire.mjs").Key][];
+    path: ["m" | "l", import("./operations.mjs").Key][];
     key: Key;
     node: Node;
 };
@@ -122,27 +122,27 @@ declare class Node {
      *  @param {ReadonlyMap<string, number>} seen */
     clear(seen: ReadonlyMap<string, number>): void;
     /** @returns {Branches} */
-    show(): import("./wire.mjs").Branches;
+    show(): import("./operations.mjs").Branches;
 }
 /** An operation that is logged or held. */
 declare class Entry {
     /** @param {Operation} op It and its arrays stay the caller's. */
-    constructor(op: import("./wire.mjs").Operation);
+    constructor(op: import("./operations.mjs").Operation);
     /** @type {Id} */
-    id: import("./wire.mjs").Id;
+    id: import("./operations.mjs").Id;
     counter: number;
     replica: string;
     text: string;
     /** While it is held, or the last of its replica. Then it is read from the text.
      *  @type {Front | null} */
-    front: import("./wire.mjs").Front | null;
+    front: import("./operations.mjs").Front | null;
     word: "assign" | "insert" | "delete" | "add";
     value: any;
     /** @type {Node | null} */
     element: Node | null;
     get isScalar(): boolean;
     /** @returns {Front} */
-    readFront(): import("./wire.mjs").Front;
+    readFront(): import("./operations.mjs").Front;
 }
 /** All elements that were ever inserted into a list, in its order. */
 declare class List {
@@ -151,7 +151,7 @@ declare class List {
      *  @param {Node} node
      *  @param {Id} id
      *  @param {Node | null} reference */
-    place(node: Node, id: import("./wire.mjs").Id, reference: Node | null): void;
+    place(node: Node, id: import("./operations.mjs").Id, reference: Node | null): void;
     /** @returns {Node[]} */
     present(): Node[];
     /** The present element at an index from 1.

@@ -23,6 +23,10 @@ export function connectedToHub(url: string | URL, WebSocket?: any, options?: Opt
  *  @property {Map<Changed, string>} watchers With the front that each was called with, "" before.
  *  @property {boolean} isPushed Whether the hub pushes it.
  *  @property {Promise<void>} begun */
+/** @typedef {object} Following
+ *  @property {Set<Follower>} followers
+ *  @property {number} [last] The number of the last push of operations; none behind a front.
+ *  @property {boolean} isBegun Whether a front was pushed. */
 /** One session: see `connected`. */
 export class Client {
     /** @param {(line: string) => void} sent Sends a line.
@@ -69,34 +73,34 @@ export class Client {
      *  @param {Cursor} place
      *  @param {any} value
      *  @returns {Promise<Id>} */
-    assign: (document: string, place: import("./wire.mjs").Cursor, value: any) => Promise<import("./wire.mjs").Id>;
+    assign: (document: string, place: import("./operations.mjs").Cursor, value: any) => Promise<import("./operations.mjs").Id>;
     /** Inserts behind the element at the place. Index 0 is the place before the first.
      *  @param {string} document
      *  @param {Cursor} place
      *  @param {any} value
      *  @returns {Promise<Id>} */
-    insert: (document: string, place: import("./wire.mjs").Cursor, value: any) => Promise<import("./wire.mjs").Id>;
+    insert: (document: string, place: import("./operations.mjs").Cursor, value: any) => Promise<import("./operations.mjs").Id>;
     /** @param {string} document
      *  @param {Cursor} place
      *  @returns {Promise<Id>} */
-    delete: (document: string, place: import("./wire.mjs").Cursor) => Promise<import("./wire.mjs").Id>;
+    delete: (document: string, place: import("./operations.mjs").Cursor) => Promise<import("./operations.mjs").Id>;
     /** @param {string} document
      *  @param {Cursor} place
      *  @param {number | bigint} number
      *  @returns {Promise<Id>} */
-    add: (document: string, place: import("./wire.mjs").Cursor, number: number | bigint) => Promise<import("./wire.mjs").Id>;
+    add: (document: string, place: import("./operations.mjs").Cursor, number: number | bigint) => Promise<import("./operations.mjs").Id>;
     /** Binds a name to a place. It goes on to mean that element when the list moves.
      *  @param {string} document
      *  @param {string} name
      *  @param {Cursor} cursor */
-    let: (document: string, name: string, cursor: import("./wire.mjs").Cursor) => Promise<any[]>;
+    let: (document: string, name: string, cursor: import("./operations.mjs").Cursor) => Promise<any[]>;
     /** Inserts a value, nested or not, behind the last element of the list at the cursor. Returns the
      *  element's id. What is in the value goes into that very element, as by `put`.
      *  @param {string} document
      *  @param {Cursor} cursor
      *  @param {any} value
      *  @returns {Promise<Id>} */
-    append(document: string, cursor: import("./wire.mjs").Cursor, value: any): Promise<import("./wire.mjs").Id>;
+    append(document: string, cursor: import("./operations.mjs").Cursor, value: any): Promise<import("./operations.mjs").Id>;
     /** Puts a nested value, as `plain` gives it: {} or [] first, then what is in it. Returns the ids.
      *  The whole value is checked before. Others may read it half done. An element that somebody
      *  deletes or assigns meanwhile isn't filled. A refusal ends it there.
@@ -107,29 +111,29 @@ export class Client {
      *  @param {Cursor} cursor
      *  @param {any} value
      *  @returns {Promise<Id[]>} */
-    put(document: string, cursor: import("./wire.mjs").Cursor, value: any): Promise<import("./wire.mjs").Id[]>;
+    put(document: string, cursor: import("./operations.mjs").Cursor, value: any): Promise<import("./operations.mjs").Id[]>;
     /** @param {string} document @param {Cursor} cursor @returns {Promise<string[]>} */
-    keys: (document: string, cursor: import("./wire.mjs").Cursor) => Promise<string[]>;
+    keys: (document: string, cursor: import("./operations.mjs").Cursor) => Promise<string[]>;
     /** @param {string} document @param {Cursor} cursor @returns {Promise<Scalar[]>} */
-    values: (document: string, cursor: import("./wire.mjs").Cursor) => Promise<Scalar[]>;
+    values: (document: string, cursor: import("./operations.mjs").Cursor) => Promise<Scalar[]>;
     /** @param {string} document @param {Cursor} cursor @returns {Promise<[Id, Scalar[]][]>} */
-    items: (document: string, cursor: import("./wire.mjs").Cursor) => Promise<[import("./wire.mjs").Id, Scalar[]][]>;
+    items: (document: string, cursor: import("./operations.mjs").Cursor) => Promise<[import("./operations.mjs").Id, Scalar[]][]>;
     /** @param {string} document @param {Cursor} cursor @returns {Promise<[Id, any][]>} */
-    conflicts: (document: string, cursor: import("./wire.mjs").Cursor) => Promise<[import("./wire.mjs").Id, any][]>;
+    conflicts: (document: string, cursor: import("./operations.mjs").Cursor) => Promise<[import("./operations.mjs").Id, any][]>;
     /** @param {string} document @param {Cursor} cursor @returns {Promise<number | bigint>} */
-    sum: (document: string, cursor: import("./wire.mjs").Cursor) => Promise<number | bigint>;
+    sum: (document: string, cursor: import("./operations.mjs").Cursor) => Promise<number | bigint>;
     /** @param {string} document @param {Cursor} cursor @returns {Promise<any[][]>} */
-    show: (document: string, cursor: import("./wire.mjs").Cursor) => Promise<any[][]>;
+    show: (document: string, cursor: import("./operations.mjs").Cursor) => Promise<any[][]>;
     /** The value at the cursor: see `plain` of wire.mjs.
      *  @param {string} document
      *  @param {Cursor} cursor
      *  @returns {Promise<any>} */
-    plain: (document: string, cursor: import("./wire.mjs").Cursor) => Promise<any>;
+    plain: (document: string, cursor: import("./operations.mjs").Cursor) => Promise<any>;
     /** Returns how many operations were logged: 0 where it is known, or held until others come.
      *  @param {string} document
      *  @param {Operation} operation
      *  @returns {Promise<number>} */
-    deliver(document: string, operation: import("./wire.mjs").Operation): Promise<number>;
+    deliver(document: string, operation: import("./operations.mjs").Operation): Promise<number>;
     /** What the server has: a Map from each replica to its last counter.
      *  @param {string} document
      *  @returns {Promise<Map<string, number>>} */
@@ -138,21 +142,21 @@ export class Client {
      *  also if the server repeats itself.
      *  @param {string} document
      *  @param {ReadonlyMap<string, number>} [front] */
-    operations(document: string, front?: ReadonlyMap<string, number> | undefined): AsyncGenerator<import("./wire.mjs").Operation, void, unknown>;
+    operations(document: string, front?: ReadonlyMap<string, number> | undefined): AsyncGenerator<import("./operations.mjs").Operation, void, unknown>;
     /** Which of these ids of one's own operations this server doesn't have. After connecting to a
      *  server that was started again: these are lost, and have to be made again.
      *  @param {string} document
      *  @param {Id[]} ids */
-    unsaved(document: string, ids: import("./wire.mjs").Id[]): Promise<import("./wire.mjs").Id[]>;
+    unsaved(document: string, ids: import("./operations.mjs").Id[]): Promise<import("./operations.mjs").Id[]>;
     /** At the hub: resolves once the operation of this id is in the server's file. Refused with 104,
      *  `not-kept`, if the hub can't know, and with 2 by a server, which has no such request.
      *  @param {string} document
      *  @param {Id} id */
-    stored: (document: string, id: import("./wire.mjs").Id) => Promise<undefined>;
+    stored: (document: string, id: import("./operations.mjs").Id) => Promise<undefined>;
     /** @param {string} document @returns {Promise<[Id, Id[]][]>} */
-    held: (document: string) => Promise<[import("./wire.mjs").Id, import("./wire.mjs").Id[]][]>;
+    held: (document: string) => Promise<[import("./operations.mjs").Id, import("./operations.mjs").Id[]][]>;
     /** @param {string} document @param {Id} id */
-    forget: (document: string, id: import("./wire.mjs").Id) => Promise<any[]>;
+    forget: (document: string, id: import("./operations.mjs").Id) => Promise<any[]>;
     /** @param {string} document @returns {Promise<number>} */
     account: (document: string) => Promise<number>;
     /** @returns {Promise<number>} */
@@ -169,6 +173,18 @@ export class Client {
     /** @param {string} document
      *  @param {Changed} changed */
     unwatch(document: string, changed: Changed): void;
+    /** Through the hub: calls `begins(front)` now, and then `logged(operations)` for what the document
+     *  logs, own changes among it, until the connection ends or the returned function is called. A
+     *  server and an older hub push no operations: then `changed(front)` is called, as by `watch`.
+     *  Refused if the document isn't open.
+     *  @param {string} document
+     *  @param {Follower} follower
+     *  @param {number} [every] as of `watch`
+     *  @returns {Promise<() => void>} */
+    follow(document: string, follower: Follower, every?: number | undefined): Promise<() => void>;
+    /** Whether the hub pushes a document's operations.
+     *  @param {string} document */
+    isFollowed: (document: string) => boolean;
     /** Through the hub: calls `heard(value, guest)` for what others `say` of the document, until the
      *  returned function is called. The hub keeps nothing of it.
      *  @param {string} document
@@ -181,12 +197,33 @@ export class Client {
     say: (document: string, value: any) => Promise<undefined>;
     #private;
 }
-export type Cursor = import("./wire.mjs").Cursor;
-export type Id = import("./wire.mjs").Id;
-export type Operation = import("./wire.mjs").Operation;
-export type Scalar = import("./wire.mjs").Scalar;
+export type Cursor = import("./operations.mjs").Cursor;
+export type Id = import("./operations.mjs").Id;
+export type Operation = import("./operations.mjs").Operation;
+export type Scalar = import("./operations.mjs").Scalar;
 export type Changed = (front: Map<string, number>) => any;
 export type Heard = (value: any, guest: string) => any;
+/**
+ * What is called for a document that is followed.
+ */
+export type Follower = {
+    /**
+     * With the front as it is: `logged` is called with what comes behind it.
+     */
+    begins: Changed;
+    /**
+     * With what was logged behind the last call.
+     */
+    logged: (operations: import("./operations.mjs").Operation[]) => any;
+    /**
+     * Something was logged that no call had: the server is to be asked.
+     */
+    misses: () => any;
+    /**
+     * In place of these, where operations aren't pushed.
+     */
+    changed: Changed;
+};
 export type Options = {
     /**
      * How long the oldest request may wait for its reply (60).
@@ -205,6 +242,10 @@ export type Options = {
      * Of a reply, in bytes (256 MiB).
      */
     most?: number | undefined;
+    /**
+     * Ends the session when it is aborted, also before it begins.
+     */
+    signal?: AbortSignal | undefined;
 };
 export type Waiting = {
     word: string;
@@ -222,4 +263,15 @@ export type Watch = {
     isPushed: boolean;
     begun: Promise<void>;
 };
-import { Lost } from "./wire.mjs";
+export type Following = {
+    followers: Set<Follower>;
+    /**
+     * The number of the last push of operations; none behind a front.
+     */
+    last?: number | undefined;
+    /**
+     * Whether a front was pushed.
+     */
+    isBegun: boolean;
+};
+import { Lost } from "./errors.mjs";

@@ -7,12 +7,17 @@
  *   they do where there is none
  */
 /** Shows the text at a place in a field, and takes what is typed there. What this returns ends it.
- *  @param {Provider} provider
+ *
+ *  The field is read-only where the provider's `canWrite` is false. Given the promise of a
+ *  provider, it is read-only until that is open: nothing is typed that would be lost. (In the
+ *  page's HTML it begins with `readonly`, for the time until this is called.) If it can't be
+ *  opened, `refused` is called with the error, and the field stays read-only.
+ *  @param {Provider | Promise<Provider>} provider
  *  @param {(0 | string | number | Id)[]} place a list, or where one is to be
  *  @param {Field} field
  *  @param {TextOptions} [options]
  *  @returns {() => void} */
-export function bindText(provider: Provider, place: (0 | string | number | Id)[], field: Field, options?: TextOptions | undefined): () => void;
+export function bindText(provider: Provider | Promise<Provider>, place: (0 | string | number | Id)[], field: Field, options?: TextOptions | undefined): () => void;
 export type TextOptions = {
     /**
      * is called when an edit was refused; the field

@@ -1,11 +1,11 @@
 """jcrdt: sessions and tools for a server of shared JSON documents.
 
-`connected` and `started` make a Session. `Writes` keeps writes until they are on disk. `followed` yields each
-change of a document. `python -m jcrdt` has the tools.
+`connected` and `started` make a Session; `jcrdt.aio` has sessions for asyncio. `Writes` keeps writes until they are on
+disk. `followed` yields each change of a document. `python -m jcrdt` has the tools.
 """
 
 from .follow import followed, followed_file, front_after
-from .log import StoredLog, front_on_disk
+from .stored_log import StoredLog, front_on_disk
 from .programs import program, serving, started
 from .session import Session, connected
 from .wire import Away, Conflict, Counter, Lost, Refused, covers, plain, settled

@@ -9,7 +9,7 @@ save ADDRESS DOC FILE               a document as lines, one operation each
 load ADDRESS DOC FILE               such lines into a server of another name
 log FILE                            what a stored log has; how full it is; what is on disk
 renew count|put|since ..            a document that fills up into a new one
-stop ADDRESS                        stops a server so that its file has everything
+stop --file F                       stops the server of a file so that the file has everything
 
 ADDRESS is HOST:PORT of a running server or a hub. The status is 0 if all went well, 1 if not, 2 for a wrong
 command line; `log --status` and `renew count` have their own.
@@ -26,7 +26,7 @@ from .wire import Refused
 
 TOOLS = ("talk", "exchange", "relay", "save", "load", "log", "renew", "stop")
 # Where two tools are one module.
-MODULES = {"save": "lines", "load": "lines"}
+MODULES = {"save": "save_load", "load": "save_load"}
 
 
 def run(words: List[str]) -> int:
@@ -58,7 +58,16 @@ def main() -> int:
         return 0
     except (OSError, ValueError, Refused, sqlite3.Error) as error:
         say_error(f"{sys.argv[1]}: {error}")
+        leave_output()
         return 1
+
+
+def leave_output() -> None:
+    """Writes what is left for standard output, or drops it where that fails: Python would try once more at the end, and change the status."""
+    try:
+        sys.stdout.flush()
+    except OSError:
+        os.dup2(os.open(os.devnull, os.O_WRONLY), sys.stdout.fileno())
 
 
 if __name__ == "__main__":

@@ -9,7 +9,7 @@ was refused, and both show the same document.
 import argparse
 from typing import Dict, List, Sequence, Tuple
 
-from . import wire
+from .protocol import NAME_USED_TWICE
 from .session import Session, connected
 from .terminal import checked_address, say
 from .wire import Front, Id, Operation, Refused
@@ -122,8 +122,8 @@ def main(words: Sequence[str]) -> int:
             say(f"refused: {counter} of {replica}: {cause}{more}")
         result = verdict(one, other, asked.document, refused)
         say(f"handed over {total}, refused {len(refused)}; {result}")
-        if result.endswith("documents differ") or any(cause.number in wire.NAME_USED_TWICE for _, cause in refused):
-            say("two starts of a server had one name: start one of them again, under a new name")
+        if result.endswith("documents differ") or any(cause.number in NAME_USED_TWICE for _, cause in refused):
+            say("two starts of a server had one name: keep one side (GUIDE, \"When two starts had one name\")")
         for server in (one, other):
             server.quit()
     return 0 if result == "the fronts agree" else 1

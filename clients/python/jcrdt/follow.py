@@ -3,8 +3,8 @@
 import time
 from typing import Iterator, List, Optional
 
-from .log import FOLLOW_SECONDS, StoredLog
 from .session import Session, connected
+from .stored_log import FOLLOW_SECONDS, StoredLog
 from .wire import Front, Lost, Operation, Refused, covers, covers_all
 
 # The first pause before a connection is tried again, and the longest, in seconds.

@@ -9,8 +9,8 @@ import tempfile
 from pathlib import Path
 from typing import Iterator, Optional, Sequence
 
-from . import wire
-from .session import REPLY_SECONDS, Session
+from .limits import USUAL
+from .session import Session
 from .stream import Stream
 from .wire import Away
 
@@ -32,14 +32,14 @@ def program() -> str:
 
 
 @contextlib.contextmanager
-def started(documents: Sequence[str], name: str = "srv", seconds: float = REPLY_SECONDS) -> Iterator[Session]:
+def started(documents: Sequence[str], name: str = "srv", seconds: float = USUAL.silence) -> Iterator[Session]:
     """Starts `jcrdt run` and yields a session of it. The documents end with it."""
     words = [program(), "run", "--name", name, *documents]
     with subprocess.Popen(words, bufsize=0, stdin=subprocess.PIPE, stdout=subprocess.PIPE) as running:
         assert running.stdin is not None and running.stdout is not None
         # The end of its input ends the program.
-        stream = Stream(running.stdout.fileno(), running.stdin.fileno(), running.stdin.close, wire.REPLY_LIMIT)
-        with Session(stream, seconds) as session:
+        stream = Stream(running.stdout.fileno(), running.stdin.fileno(), running.stdin.close, USUAL._replace(silence=seconds))
+        with Session(stream) as session:
             yield session
 
 

@@ -5,7 +5,7 @@ before it what it depends on. An operation may be there more than once. Each con
 from its beginning. What isn't an operation is named and skipped. The stream is never cut by a relay; what
 was cut or emptied by others is noticed and added again.
 
-It needs redis-py 4.3 or later: `pip install jcrdt[redis]`, or python3-redis of Debian.
+It needs redis-py 4.3 or later: `pip install './clients/python[redis]'` in the clone, or python3-redis of Debian.
 """
 
 import asyncio
@@ -16,8 +16,9 @@ import time
 import urllib.parse
 from typing import TYPE_CHECKING, Any, Dict, List, Optional, Set, Tuple
 
-from .link import Early, Log, Misbehaved, SILENCE, Source, operation_in
-from .wire import OPERATION_LIMIT, Operation, Refused, host_and_port
+from .link import LIMITS
+from .operation_log import Early, Log, Source, operation_in
+from .wire import Misbehaved, OPERATION_LIMIT, Operation, Refused, host_and_port
 from . import relay as relays
 
 if TYPE_CHECKING:
@@ -43,8 +44,7 @@ class Address:
         try:
             self._module: Any = importlib.import_module("redis.asyncio")
         except ImportError:
-            raise ImportError("--redis needs the package redis: pip install 'jcrdt[redis]', or python3-redis of "
-                              "Debian") from None
+            raise ImportError("--redis needs the package redis: pip install redis, or python3-redis of Debian") from None
         # It is made now, so that a wrong URL is told at once.
         self.client()
         parts = urllib.parse.urlsplit(self.url)
@@ -53,11 +53,19 @@ class Address:
         errors = importlib.import_module("redis.exceptions")
         self.error: Any = errors.RedisError
         # What a Redis answers that is there and does what it is asked, but for this.
-        self.response_error: Any = errors.ResponseError
+        # A wrong password is a refusal of Redis, though later versions of the library call it an error of the connection.
+        self.response_errors: Any = (errors.ResponseError, errors.AuthenticationError)
 
     def client(self) -> Any:
         """A client, which connects with its first request."""
-        return self._module.from_url(self.url, socket_timeout=SILENCE, socket_connect_timeout=SILENCE)
+        return self._module.from_url(self.url, socket_timeout=LIMITS.silence, socket_connect_timeout=LIMITS.begin)
+
+
+def said_by(error: Exception) -> str:
+    """What Redis refuses, without the text of the command, which may have what is in a document. A version of the library loses what
+    Redis says to one of several commands: then it is the error's class."""
+    text = str(error).split(" caused error: ")[-1].strip('(",)')
+    return type(error).__name__ if text == "{exception.args}" else text
 
 
 class StreamSource(Source):
@@ -214,9 +222,8 @@ class Streams(relays.Member):
             # What the streams have is known before anything is added.
             await relays.all_of(*(place.pull() for place in self.places))
             await relays.all_of(*(self._read(place) for place in self.places), *(self._add(place) for place in self.places))
-        except self._address.response_error as error:
-            # The text of a command, which may have what is in a document, isn't told.
-            raise relays.Unable(str(error).split(" caused error: ")[-1].strip('(",)')) from None
+        except self._address.response_errors as error:
+            raise relays.Unable(said_by(error)) from None
         except self._address.error as error:
             raise ConnectionError(str(error)) from None
         finally:

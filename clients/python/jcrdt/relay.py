@@ -15,9 +15,12 @@ import signal
 import time
 from typing import Any, Awaitable, Callable, Dict, Iterable, List, Optional, Sequence, Set, Tuple
 
-from .link import Known, Link, Listener, Log, Misbehaved, Source, link_to, pull
+from .link import Link, link_to
 from .notes import Notes
-from .wire import (Away, Front, Lost, Refused, NAME_USED_TWICE, covers, decoded, decoded_reply, encoded, host_and_port,
+from .operation_log import Known, Listener, Log, Source
+from .protocol import NAME_USED_TWICE
+from .pull import pull
+from .wire import (Away, Front, Lost, Misbehaved, Refused, covers, decoded, decoded_reply, encoded, host_and_port,
                    is_integer, pairs_of, refusal)
 
 # How much is delivered before the replies are awaited, in bytes.
@@ -39,8 +42,8 @@ APPLIED = b'["applied",1,0,'
 PASSING = frozenset((17, 22))
 ADVICE = {
     4: "start the server with this document on its command line",
-    14: "a name was used by two starts: start the other one under a new name",
-    15: "a name was used by two starts: start one of them under a new name",
+    14: "a name was used by two starts: keep one side (GUIDE, \"When two starts had one name\")",
+    15: "a name was used by two starts: keep one side (GUIDE, \"When two starts had one name\")",
     16: "two servers have one name, or one lacks its file or has an older one: give it a new name",
     17: "operations wait there for others: `held` names them; the relay delivers again",
     18: "the document is full: renew it (python3 -m jcrdt renew)",
@@ -175,7 +178,7 @@ class Place(Listener):
         logged, waiting = 0, []
         for at, operation, line in zip(chunk, operations, replies):
             # Most replies are of one kind, and needn't be parsed.
-            reply = ["applied", 1] if line.startswith(APPLIED) else _delivery_reply(line)
+            reply: List[Any] = ["applied", 1] if line.startswith(APPLIED) else _delivery_reply(line)
             if reply[0] == "applied":
                 logged += reply[1]
             if self._heard(at, operation, reply):
@@ -329,6 +332,9 @@ class Member:
             start = self._since = time.monotonic()
             try:
                 await self.session()
+            except Misbehaved as error:
+                self._misbehaved(error)
+                pause = min(LEFT_OUT, 2.0 ** min(self._strikes, 10) / 2)
             except (OSError, Refused) as error:
                 self._is_away(reason(error))
                 pause = SHORTEST if time.monotonic() - start > LONGEST else min(2 * pause, LONGEST)
@@ -369,7 +375,7 @@ class Server(Member):
                 await link.ask("version")
                 await asyncio.sleep(LONGEST)
         finally:
-            link.close()
+            await link.close()
 
     async def _open(self, link: Link) -> None:
         for log in self.relay.logs:

@@ -33,8 +33,8 @@ from typing import Any, Dict, Iterator, List, Optional, Sequence, Tuple
 
 from . import wire
 from .facts import Branches, shown
-from .lines import replaced
-from .log import id_text, readable
+from .replaced_file import replaced
+from .history import id_text, readable
 from .renewal import Renewal, settled_branches, without_ids
 from .session import Session, connected
 from .terminal import checked_address, say

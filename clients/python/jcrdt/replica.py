@@ -17,14 +17,10 @@ from typing import Any, Iterable, List, Optional, Sequence, Tuple
 
 from . import wire
 from .session import Session
-from .wire import Cursor, Front, Id, Operation, Refused
+from .wire import Cursor, Front, Id, Lost, Operation, Refused
 
 # The first room for the text of an answer, in bytes.
 ROOM = 65_536
-CHANGES = frozenset(("assign", "insert", "delete", "add"))
-# The names of the refusals by which no replica is opened.
-NAMES = {1: "not-json", 2: "bad-request", 7: "bad-cursor", 12: "bad-operation", 13: "bad-front", 14: "forked", 15: "id-conflict",
-         18: "log-full", 19: "too-many-replicas", 20: "too-deep", 22: "no-memory"}
 
 
 class _Handle(Structure):
@@ -38,7 +34,7 @@ class _Fault(Structure):
 class RefusedLine(Refused):
     """A stored line doesn't fit those before it. `place` is its index, from 0."""
 
-    def __init__(self, number: int, name: str, last_counter: Optional[int], place: int) -> None:
+    def __init__(self, number: int, name: Optional[str], last_counter: Optional[int], place: int) -> None:
         super().__init__(number, name, last_counter)
         self.place = place
 
@@ -72,7 +68,9 @@ def load(path: Optional[str] = None) -> ctypes.CDLL:
 
 
 class Replica:
-    """A replica of one document. Threads may share it: it answers one request at a time."""
+    """A replica of one document. Threads may share it: it answers one request at a time. Processes can't: after a fork it is
+    the parent's, since two that go on under one name lose operations. Each use in the child raises Lost: open one there, under
+    another name."""
 
     def __init__(self, name: str, operations: Iterable[str] = (), library: Optional[ctypes.CDLL] = None) -> None:
         """`name` has 1 to 32 of a-z, 0-9 and -, and no other replica of the document ever has it. `operations` are the lines that
@@ -81,6 +79,7 @@ class Replica:
         if not wire.NAME.match(name):
             raise ValueError(f"{name!r} is no name of a replica: 1 to 32 of a-z, 0-9, -")
         self.name = name
+        self._process = os.getpid()
         self._library = library or load()
         self._handle = _Handle()
         self._room = ctypes.create_string_buffer(ROOM)
@@ -96,7 +95,7 @@ class Replica:
             raise MemoryError("no memory for the replica")
         if number:
             last = fault.last if number == 14 else None
-            raise RefusedLine(number, NAMES.get(number, "unknown"), last, fault.place)
+            raise RefusedLine(number, None, last, fault.place)
 
     def __enter__(self) -> "Replica":
         return self
@@ -109,15 +108,22 @@ class Replica:
             self.close()
 
     def close(self) -> None:
-        """Frees its memory. It isn't asked any more; a second call does nothing."""
+        """Frees its memory. It isn't asked any more; a second call does nothing, and so does one in another process."""
+        if self._process != os.getpid():
+            return
         with self._lock:
             self._library.jcrdt_close(byref(self._handle))
+
+    def _check_process(self) -> None:
+        if self._process != os.getpid():
+            raise Lost("this replica can't be used here: it was opened in another process")
 
     # Requests.
 
     def answer(self, line: bytes) -> Tuple[bytes, Optional[str]]:
         """The reply's line to a request's line, both without newline; and the line of the operation that the request made, if it
-        made one. Raises MemoryError, and ValueError where it is closed."""
+        made one. Raises MemoryError, ValueError where it is closed, and Lost in another process."""
+        self._check_process()
         with self._lock:
             if not self._handle.is_open:
                 raise ValueError("the replica is closed")
@@ -146,6 +152,7 @@ class Replica:
         """The lines of all operations that were logged since it was last called, or since the replica was opened: its own and
         those of others, in log order. Append them to the stored lines before `sync`, and after it. Where that fails, `lines`
         has all."""
+        self._check_process()
         with self._listing:
             found = self.operations(self._listed)
             for operation in found:

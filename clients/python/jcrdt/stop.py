@@ -1,27 +1,36 @@
-"""Stops a server so that its file has everything: uses up the sessions that it has left, and waits for its end.
+"""Stops a server so that its file has everything.
 
-usage: stop ADDRESS [--file F]     (HOST:PORT of a running server, not of a hub)
+usage: stop --file F     (that of `serve --file`: the server that has it open)
+       stop ADDRESS      (HOST:PORT of a running server, not of a hub)
 
-A server ends once all its sessions have ended and the file has all of it. This opens one session after another
-and quits each, until none is left. Sessions that run go on until their clients leave: end hubs and relays first.
-With --file, that of `serve --file`, it says how many operations aren't in the file yet, it waits for a server that
-has the file open and doesn't listen yet, and it ends once the server has closed the file.
+A server that was started by jcrdt-serve, as ./jcrdt, the unit and the container do, drains: its sessions end behind
+the reply to the last line, and its file gets what it accepted.
 
-Status 0: the server has ended. 1: no server listens there, or it is a hub, or no server of jcrdt. 2: a wrong
-command line.
+Another one, which has --sessions, ends once all its sessions have ended and its file has all of it. This opens one
+session after another and quits each, until none is left. Sessions that run go on until their clients leave: end hubs
+and relays first. With --file it does so where that server listens, whatever ADDRESS is. It waits for one that doesn't
+listen yet, says how many operations aren't in the file, and ends once the server has closed the file.
+
+Status 0: the server has ended. 1: there is no server, or it is a hub, or no server of jcrdt. 2: a wrong command
+line.
 """
 
 import argparse
 import contextlib
+import os
 import select
+import signal
 import socket
 import sqlite3
 import time
 from typing import Dict, List, Optional, Sequence
 
 from . import wire
-from .log import StoredLog, is_open
-from .session import REPLY_SECONDS, Session
+from .limits import USUAL
+from .protocol import LIMITS
+from .server_process import NotServed, ServerProcess, is_open, server_of
+from .session import Session
+from .stored_log import StoredLog
 from .stream import Stream
 from .terminal import checked_address, say
 from .wire import Id, Refused, covers
@@ -31,7 +40,7 @@ PATIENCE = 2.0
 # How often the file is looked at, and how often a line says so, in seconds.
 LOOK_SECONDS, SAY_SECONDS = 0.2, 2.0
 # No server has more sessions.
-MOST_SESSIONS = 256
+MOST_SESSIONS = LIMITS["sessions"]
 # What a server answers, and a hub doesn't.
 QUESTIONS = b'["version"]\n["watch","a"]\n'
 ANSWERS = (b'["version",', b'["no",2,')
@@ -73,7 +82,7 @@ class Caller:
 
     def session(self) -> Session:
         descriptor = self.connection.fileno()
-        return Session(Stream(descriptor, descriptor, self.connection.close, wire.REPLY_LIMIT), REPLY_SECONDS)
+        return Session(Stream(descriptor, descriptor, self.connection.close, USUAL))
 
     def quit(self) -> None:
         """Ends the session, and waits for the server to say so."""
@@ -171,7 +180,7 @@ class Stop:
             if self.backlog:
                 self.backlog.wait()
             return
-        raise NoServer(f"no server of jcrdt: it has more than {MOST_SESSIONS} sessions")
+        raise NoServer(f"it has more than {MOST_SESSIONS} sessions: one that serves with --clients is stopped by its file")
 
     def caller(self) -> Caller:
         """Connects. A server that has F open and refuses is at its start or at its end: it is waited for."""
@@ -214,19 +223,73 @@ class Stop:
             self.kept = None
 
 
-def main(words: Sequence[str]) -> int:
-    parser = argparse.ArgumentParser(prog="stop", description=__doc__, formatter_class=argparse.RawDescriptionHelpFormatter)
-    parser.add_argument("address", metavar="ADDRESS", type=checked_address)
-    parser.add_argument("--file", metavar="F")
-    asked = parser.parse_args(words)
-    backlog = Backlog(asked.file) if asked.file else None
-    stop = Stop(asked.address, backlog)
+def stop_at(address: str, backlog: Optional[Backlog] = None) -> None:
+    """Uses up the sessions of the server at an address. Raises ValueError if there is none."""
+    stop = Stop(address, backlog)
     try:
         stop.run()
     except NoServer as error:
-        raise ValueError(f"{asked.address}: {error}") from None
-    finally:
-        if backlog:
-            backlog.close()
+        raise ValueError(f"{address}: {error}") from None
     say(f"the server has ended: {stop.used} of its sessions were used up here")
+
+
+def stop_file(path: str) -> None:
+    """Stops the server that has the file open, and asks no other one. Raises ValueError if there is none, and OSError
+    if the file can't be looked at, or the process not be signalled."""
+    try:
+        server = server_of(path)
+        wrapper = server.wrapper()
+        if wrapper is not None:
+            drain(server, wrapper)
+            return
+        if server.stays():
+            raise NotServed(f"process {server.number} serves it with --clients, and without jcrdt-serve: only a signal ends it, and "
+                            "what the file lacks then is lost")
+        address = address_of(server)
+    except NotServed as error:
+        raise ValueError(f"{path}: {error}") from None
+    if address is None:
+        say("the server has ended")
+        return
+    with contextlib.closing(Backlog(path)) as backlog:
+        stop_at(address, backlog)
+
+
+def drain(server: ServerProcess, wrapper: int) -> None:
+    """Lets the wrapper drain the server, and waits for its end."""
+    os.kill(wrapper, signal.SIGTERM)
+    until, said = time.monotonic() + SAY_SECONDS, False
+    while server.is_alive():
+        if not said and time.monotonic() >= until:
+            said = True
+            say("the server ends its sessions and writes its file: waiting for it")
+        time.sleep(LOOK_SECONDS)
+    say("the server has ended")
+
+
+def address_of(server: ServerProcess) -> Optional[str]:
+    """Where the server listens. One that doesn't yet, or no more, is waited for. None if it has ended."""
+    began = False
+    while server.is_alive():
+        found = server.address()
+        if found is not None:
+            return found
+        if not began:
+            say("the server starts, or writes its last operations: waiting for it")
+        began = True
+        time.sleep(LOOK_SECONDS)
+    return None
+
+
+def main(words: Sequence[str]) -> int:
+    parser = argparse.ArgumentParser(prog="stop", description=__doc__, formatter_class=argparse.RawDescriptionHelpFormatter)
+    parser.add_argument("address", metavar="ADDRESS", type=checked_address, nargs="?")
+    parser.add_argument("--file", metavar="F")
+    asked = parser.parse_args(words)
+    if asked.file:
+        stop_file(asked.file)
+    elif asked.address:
+        stop_at(asked.address)
+    else:
+        parser.error("name the file or the address of a server")
     return 0

@@ -5,51 +5,58 @@ import select
 import time
 from typing import Callable, List, Optional
 
-from .wire import Lost
-
-CHUNK = 1 << 16
+from .line_reader import CHUNK, LineReader, lines_of
+from .limits import Limits
+from .wire import Lost, Misbehaved
 
 
 class Stream:
     """Sends lines, and reads lines at the same time: a server that can't write replies reads nothing more."""
 
-    def __init__(self, reader: int, writer: int, close: Callable[[], None], limit: int) -> None:
-        self.reader, self.writer, self.limit, self.close = reader, writer, limit, close
-        self.rest = bytearray()
-        # How far `rest` was searched for a newline.
-        self.searched = 0
+    def __init__(self, reader: int, writer: int, close: Callable[[], None], limits: Limits) -> None:
+        self.reader, self.writer, self.limits, self.close = reader, writer, limits, close
+        self.lines = LineReader(limits.reply_bytes)
         for descriptor in {reader, writer}:
             os.set_blocking(descriptor, False)
 
-    def swap(self, data: bytes, count: int, seconds: float, take: Callable[[bytes], bool]) -> None:
-        """Sends the bytes and reads lines, until `take` has called so many of them a reply: the last may come before
-        all is sent, since it refuses a line that is too long. Raises Lost if the other side ends, is silent for
-        so many seconds, or sends a line that is too long."""
-        sent, last, view = 0, time.monotonic(), memoryview(data)
-        while count:
-            line = self._line()
+    def swap(self, requests: List[bytes]) -> List[bytes]:
+        """Sends lines without newlines, all at once, and returns as many replies: the last may come before all is
+        sent, since it refuses a line that is too long. Raises Lost if the other side ends, takes too long, or sends a
+        line that is too long."""
+        view = memoryview(lines_of(requests))
+        replies: List[bytes] = []
+        last = began = time.monotonic()
+        while len(replies) < len(requests):
+            line = self.lines.reply()
             if line is not None:
-                count -= take(line)
+                replies.append(line)
+                began = time.monotonic()
                 continue
-            ready = self._wait(sent < len(data), last + seconds - time.monotonic())
+            ready = self._wait(bool(view), self._left(last, began))
             if ready is None:
-                raise Lost(f"no reply for {seconds:g} s")
+                raise Lost(f"no reply for {min(self.limits.silence, self.limits.slowest):g} s")
             if ready & select.POLLOUT:
-                sent += self._send(view[sent:])
+                view = view[self._send(view):]
             if ready & ~select.POLLOUT:
                 self._read()
                 last = time.monotonic()
+        return replies
 
-    def wait_for_line(self, seconds: float) -> Optional[bytes]:
-        """The next line, or None if none comes within so many seconds."""
+    def wait_for_push(self, seconds: float) -> None:
+        """Reads until a push has come, or for so many seconds. Raises Misbehaved for a line that answers no
+        request."""
         until = time.monotonic() + seconds
         while True:
-            line = self._line()
+            line = self.lines.reply()
             if line is not None:
-                return line
-            if self._wait(False, until - time.monotonic()) is None:
-                return None
+                raise Misbehaved(f"{line[:60]!r}, which answers no request")
+            if self.lines.pushes or self._wait(False, until - time.monotonic()) is None:
+                return
             self._read()
+
+    def _left(self, last: float, began: float) -> float:
+        """How long the next byte may take, in seconds."""
+        return min(last + self.limits.silence, began + self.limits.slowest) - time.monotonic()
 
     def _wait(self, sending: bool, seconds: float) -> Optional[int]:
         """What is ready, as bits of poll, or None after so many seconds."""
@@ -89,21 +96,4 @@ class Stream:
             raise Lost(f"the connection ended: {error}") from error
         if not data:
             raise Lost("the server has ended the session")
-        self.rest += data
-
-    def _line(self) -> Optional[bytes]:
-        at = self.rest.find(b"\n", self.searched)
-        length = len(self.rest) if at < 0 else at
-        if length > self.limit:
-            raise Lost(f"a reply of more than {self.limit} bytes")
-        if at < 0:
-            self.searched = length
-            return None
-        line = bytes(self.rest[:at])
-        del self.rest[:at + 1]
-        self.searched = 0
-        return line
-
-
-def lines_of(requests: List[bytes]) -> bytes:
-    return b"".join(request + b"\n" for request in requests)
+        self.lines.feed(data)

@@ -14,16 +14,12 @@ import sys
 import threading
 from typing import Iterator, List, Optional, Sequence
 
+from .protocol import REQUESTS
 from .session import Session, connected
 from .terminal import checked_address, say
 from .wire import Lost, encoded
 
 HISTORY = os.path.expanduser("~/.jcrdt_history")
-REQUESTS = ("open", "assign", "insert", "delete", "add", "let", "keys", "values", "items", "conflicts", "sum", "show",
-            "deliver", "ops", "front", "held", "forget", "account", "version", "quit", "watch", "unwatch", "hear", "unhear", "say",
-            "stored")
-# Those that have a document and no more.
-SHORT = ("open", "front", "held", "account", "watch", "unwatch", "hear", "unhear")
 # How often a terminal looks for pushes, in seconds.
 LOOK_SECONDS = 0.1
 
@@ -43,10 +39,10 @@ class Completer:
 
     def found(self, line: str) -> List[str]:
         """The lines that this one may become."""
-        every = ['["%s"]' % it if it in ("version", "quit") else '["%s","' % it for it in REQUESTS]
+        every = [f'["{word}","' if form.items else f'["{word}"]' for word, form in REQUESTS.items()]
         parts = line.split('"')
         if len(parts) > 3 and parts[1] in REQUESTS:
-            end = '"]' if parts[1] in SHORT else '",'
+            end = '"]' if len(REQUESTS[parts[1]].items) == 1 else '",'
             every = ['["%s","%s%s' % (parts[1], name, end) for name in self.documents]
         return [it for it in every if it.startswith(line)]
 

@@ -1,11 +1,14 @@
 """What goes over the wire: JSON lines, errors, values, fronts, and the shape of an operation.
 
-Each of these is defined here once for the whole package. The reference is docs/FORMATS.md.
+Each of these is defined here once for the whole package; words, refusals and limits are in protocol.py. The reference
+is docs/FORMATS.md.
 """
 
 import json
 import re
 from typing import Any, Callable, Dict, Iterable, Iterator, List, Mapping, Optional, Sequence, Tuple
+
+from .protocol import CHANGES, LIMITS, NUMBERS, PUSHES, REFUSALS
 
 # An id, `[counter, replica]`. A cursor, `[0, "days", 2]`. An operation, `["op", ..]`.
 Id = List[Any]
@@ -15,33 +18,30 @@ Operation = List[Any]
 Front = Dict[str, int]
 
 # The longest line that a server takes, in bytes without its newline. A longer one ends the session.
-LINE_LIMIT = 65_536
+LINE_LIMIT = LIMITS["line"]
 # The longest reply that a client of this package reads, in bytes. A `show` of a full document may be long.
 REPLY_LIMIT = 256 << 20
 # A document takes so many operations, of so many replicas, and holds so many more.
-OPERATION_LIMIT, REPLICA_LIMIT, HELD_LIMIT = 100_000, 256, 256
-PATH_LIMIT, KEY_BYTES, TEXT_BYTES = 30, 128, 4_096
+OPERATION_LIMIT, REPLICA_LIMIT, HELD_LIMIT = LIMITS["log"], LIMITS["replicas"], LIMITS["held"]
+PATH_LIMIT, KEY_BYTES, TEXT_BYTES = LIMITS["path"], LIMITS["key"], LIMITS["value"]
 LEAST, GREATEST = -2**63, 2**63 - 1
 NAME = re.compile(r"[a-z0-9-]{1,32}\Z")
 # How many operations one `ops` can give.
-PAGE = 64
+PAGE = LIMITS["page"]
 
-# The first words of lines that a hub sends without a request.
-PUSHES = frozenset(("changed", "reopened", "heard"))
-# Refusals that say that two starts of a server had one name: start one of them again under a new one.
-NAME_USED_TWICE = frozenset((14, 15, 16))
 # What a hub answers when a server's reply is missing: 100 and 102 come where a change may have been made.
-SERVER_LOST, SERVER_AWAY, REPLY_TOO_LONG = 100, 101, 102
-CHANGES = frozenset(("assign", "insert", "delete", "add", "deliver"))
+SERVER_LOST, SERVER_AWAY, REPLY_TOO_LONG = NUMBERS["server-lost"], NUMBERS["server-away"], NUMBERS["reply-too-long"]
+_PUSHED = tuple(f'["{word}"'.encode() for word in PUSHES)
 
 
 class Refused(Exception):
     """The answer was `["no",number,name]`: document, variables and log are as they were."""
 
-    def __init__(self, number: int, name: str, last_counter: Optional[int] = None) -> None:
-        super().__init__(number, name, last_counter)
+    def __init__(self, number: int, name: Optional[str] = None, last_counter: Optional[int] = None) -> None:
+        """Without a name it is that of the number."""
         self.number = number
-        self.name = name
+        self.name: str = REFUSALS.get(number, "unknown") if name is None else name
+        super().__init__(number, self.name, last_counter)
         # With 14 (`forked`): the last logged counter of the operation's replica.
         self.last_counter = last_counter
 
@@ -52,6 +52,10 @@ class Refused(Exception):
 class Lost(ConnectionError):
     """The reply is missing: a change may have been made or not. The session can't be used any more,
     unless the cause is a hub's `["no",100,..]`."""
+
+
+class Misbehaved(Lost):
+    """A peer sent what no server sends. The session can't be used any more."""
 
 
 class Away(ConnectionError):
@@ -98,8 +102,13 @@ def decoded_reply(line: bytes) -> List[Any]:
 
 
 def is_push(reply: Sequence[Any]) -> bool:
-    """Whether a line of a hub answers no request: its first word is `changed`, `reopened` or `heard`."""
+    """Whether a line of a hub answers no request, by its first word."""
     return reply[0] in PUSHES
+
+
+def is_push_line(line: bytes) -> bool:
+    """Whether a line, before it is read, is a push."""
+    return line.startswith(_PUSHED)
 
 
 def refusal(reply: Sequence[Any], request_word: str = "") -> Exception:
@@ -139,9 +148,9 @@ def checked_front(value: Any) -> Front:
     """A front in its written form as a dict. Raises Refused: 2 for a wrong pair, 13 where the names
     don't ascend."""
     if not isinstance(value, list) or not all(map(_is_pair, value)):
-        raise Refused(2, "bad-request")
+        raise Refused(2)
     if not _ascends(value):
-        raise Refused(13, "bad-front")
+        raise Refused(13)
     return dict(value)
 
 
@@ -172,17 +181,17 @@ def checked_operation(value: Any) -> Operation:
     """An operation of the right shape. Raises the Refused that a server answers to another one: 20, 12 or
     13, in this order."""
     if not isinstance(value, list) or len(value) != 5 or value[0] != "op":
-        raise Refused(12, "bad-operation")
+        raise Refused(12)
     _, operation_id, front, cursor, mutation = value
     if isinstance(cursor, list) and len(cursor) == 2 and isinstance(cursor[0], list) and len(cursor[0]) > PATH_LIMIT:
-        raise Refused(20, "too-deep")
+        raise Refused(20)
     right = (is_id(operation_id) and type(front) is list and all(map(_is_pair, front))
              and _is_placed(cursor) and _is_mutation(mutation, cursor))
     if not right:
-        raise Refused(12, "bad-operation")
+        raise Refused(12)
     greatest = max((counter for _, counter in front), default=0)
     if not _ascends(front) or operation_id[0] != greatest + 1:
-        raise Refused(13, "bad-front")
+        raise Refused(13)
     return value
 
 

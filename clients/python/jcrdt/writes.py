@@ -5,7 +5,7 @@ from collections import deque
 from typing import Any, Deque, List, Optional, Tuple
 
 from . import wire
-from .log import StoredLog
+from .stored_log import StoredLog
 from .session import Session
 from .wire import Away, Cursor, Front, Id, Lost, Refused
 

@@ -16,7 +16,7 @@ import pytest
 from conftest import PACKAGE, SECONDS, Server, tool
 
 import jcrdt
-from jcrdt import StoredLog, front_on_disk, log
+from jcrdt import StoredLog, file_status, front_on_disk, log
 from jcrdt.wire import Front
 
 Serve = Callable[..., Server]
@@ -186,6 +186,38 @@ def test_a_file_that_comes_later_and_is_replaced(serve: Serve, tmp_path: Path) -
     assert lines == ['["front","d",[["one-1",1]]]', '["front","d",[["two-1",1]]]']
 
 
+def as_nobody(call: Callable[[], object]) -> str:
+    """What a call raises in a process that isn't root's."""
+    read, write = os.pipe()
+    child = os.fork()
+    if not child:
+        try:
+            if os.geteuid() == 0:
+                os.setgroups([])
+                os.setgid(65534)
+                os.setuid(65534)
+            call()
+        except BaseException as error:  # pylint: disable=broad-except
+            os.write(write, repr(error).encode())
+        os._exit(0)
+    os.close(write)
+    with open(read, encoding="utf-8") as told:
+        found = told.read()
+    os.waitpid(child, 0)
+    return found
+
+
+def test_a_file_that_may_not_be_read(file: str, tmp_path: Path) -> None:
+    """It isn't taken for one that comes later: neither in a closed folder nor by itself."""
+    (tmp_path / "closed").mkdir(mode=0)
+    assert as_nobody(lambda: next(log.follow(str(tmp_path / "closed" / "log.db")))).startswith("PermissionError")
+    os.chmod(file, 0)
+    for folder in (tmp_path, *tmp_path.parents):
+        if folder.owner() == tmp_path.owner() and str(folder) != "/tmp":
+            os.chmod(folder, folder.stat().st_mode | 0o055)
+    assert as_nobody(lambda: next(log.follow(file))).startswith("PermissionError")
+
+
 def test_status(serve: Serve, file: str, tmp_path: Path) -> None:
     told = tool("log", "--status", file)
     assert told.startswith("OK: not served, epoch 1, 9 rows, written ") and "d: 9 operations of 100000, 2 replicas of 256\n" in told
@@ -205,4 +237,4 @@ def test_status(serve: Serve, file: str, tmp_path: Path) -> None:
     for path in (str(tmp_path / "noise"), str(tmp_path), "nothing.db", "\x1b[2J"):
         told = tool("log", "--status", path, status=2)
         assert told.startswith("CRITICAL: ") and told[:-1].isprintable()
-    assert [log.level(it, 100_000) for it in (89_999, 90_000, 99_999, 100_000)] == [0, 1, 1, 2]
+    assert [file_status.level(it, 100_000) for it in (89_999, 90_000, 99_999, 100_000)] == [0, 1, 1, 2]

@@ -1,5 +1,7 @@
 """The package: its version, its wheel in an empty folder, its types, and the oldest Python that is here."""
 
+import email.message
+import email.parser
 import glob
 import json
 import os
@@ -8,6 +10,7 @@ import shutil
 import subprocess
 import sys
 import sysconfig
+import zipfile
 from pathlib import Path
 from typing import Callable, List
 
@@ -80,6 +83,38 @@ def test_the_wheel_in_an_empty_folder(tmp_path: Path) -> None:
         told = subprocess.run([sys.executable, "-m", "jcrdt", "--help"], env={**clean, **more, "PYTHONPATH": str(tmp_path / "site")},
                               stdout=subprocess.PIPE, check=True, cwd=tmp_path / "empty", timeout=SECONDS).stdout
         assert b"python3 -m jcrdt TOOL" in told
+
+
+def heads(content: bytes) -> email.message.Message:
+    return email.parser.BytesParser().parsebytes(content)
+
+
+def spelt(message: email.message.Message, field: str) -> List[str]:
+    """The values of a field. `redis (>=4.3)` and `redis>=4.3` are one."""
+    return sorted(re.sub(r"[ ()]", "", it).replace("'", '"') for it in message.get_all(field, []))
+
+
+def test_the_wheel_says_what_it_is(tmp_path: Path) -> None:
+    """Its fields are those that setuptools writes for the same pyproject.toml. A page that it doesn't have isn't linked."""
+    build = "import sys; from {0} import {1}; print({1}(sys.argv[1]))"
+    source = copied(tmp_path)
+
+    def ran(module: str, call: str) -> str:
+        words = [sys.executable, "-B", "-c", build.format(module, call), str(tmp_path)]
+        run = subprocess.run(words, cwd=source, stdout=subprocess.PIPE, stderr=subprocess.DEVNULL, check=True, timeout=SECONDS)
+        return run.stdout.decode().split("\n")[-2]
+
+    with zipfile.ZipFile(tmp_path / ran("build_backend", "build_wheel")) as wheel:
+        [name] = [it for it in wheel.namelist() if it.endswith("/METADATA")]
+        ours = heads(wheel.read(name))
+    assert re.findall(r"\]\((?!https?://)", str(ours.get_payload())) == []
+    assert {"Typing :: Typed", "Operating System :: POSIX :: Linux"} <= set(ours.get_all("Classifier", []))
+    if subprocess.run([sys.executable, "-c", "import setuptools, wheel"], stderr=subprocess.DEVNULL).returncode:
+        pytest.skip("setuptools isn't installed: its fields weren't compared")
+    folder = ran("setuptools.build_meta", "prepare_metadata_for_build_wheel")
+    theirs = heads((tmp_path / folder / "METADATA").read_bytes())
+    for field in set(theirs) - {"Metadata-Version"}:
+        assert spelt(ours, field) == spelt(theirs, field), field
 
 
 OFFLINE = """

@@ -1,6 +1,7 @@
 """Relays that meet in a real Redis: bad entries, streams that are cut, and how a Redis is named."""
 
 import os
+import re
 import shutil
 import socket
 import subprocess
@@ -199,7 +200,9 @@ def test_how_a_redis_is_named(serve: Serve, relay: Callable[..., Relay], redis: 
     write(alice, "a")
     comes(bob, "a")
     wrong = relay(alice.address, "--redis", f"redis://:hidden@{store.address}/3")
-    wait_for(lambda: f"redis {store.address}/3: left out: WRONGPASS" in wrong.errors())
+    # Later versions of the library drop the word WRONGPASS.
+    refused = f"redis {re.escape(store.address)}/3: left out: (WRONGPASS|invalid username-password)"
+    wait_for(lambda: re.search(refused, wrong.errors()))
     assert "hidden" not in wrong.errors()
     assert relay(alice.address, "--redis", "http://x").process.wait(SECONDS) == 2
 
@@ -235,7 +238,7 @@ def test_a_full_redis(serve: Serve, relay: Callable[..., Relay], redis: Callable
         write(alice, f"k{number}", 1500)
     wait_for(lambda: "left out: " in relays[0].errors())
     time.sleep(2)
-    assert relays[0].errors().count("OOM") == 1 and "assign" not in relays[0].errors(), relays[0].errors()
+    assert len(re.findall("OOM|OutOfMemoryError", relays[0].errors())) == 1 and "assign" not in relays[0].errors(), relays[0].errors()
     store.raw("CONFIG", "SET", "maxmemory", "0")
     comes(bob, "k3", last=1499)
 

@@ -250,6 +250,10 @@ def test_the_replicas_are_used_up_by_a_restart(serve: Serve) -> None:
     told = tool("renew", "count", server.address, "--doc", "old", status=3)
     assert "256 replicas of 256 (FULL)" in told and "it is time to put it into a new document: renew put" in told
     assert "1 replicas" in put(server, "new")
+    with jcrdt.connected(server.address) as session:
+        session.open("new")
+        while jcrdt.front_on_disk(server.file, "new") != session.front("new"):
+            time.sleep(0.1)  # the file follows
     server.restart()
     with jcrdt.connected(server.address) as session:
         session.open("new")

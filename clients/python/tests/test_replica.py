@@ -8,6 +8,8 @@ from typing import Any, Iterator
 
 import pytest
 
+from test_session import forked
+
 import jcrdt
 from jcrdt import replica as replica_module
 from jcrdt.replica import Replica, RefusedLine
@@ -34,6 +36,13 @@ def test_changes_are_made_without_a_server(ada: Replica) -> None:
     with Replica("ada-1", ada.lines()) as again:
         assert again.plain() == ada.plain()
         assert again.front() == ada.front()
+
+
+def test_a_fork_leaves_the_replica_to_the_parent(ada: Replica) -> None:
+    for use in (lambda: ada.assign([0, "k"], 1), ada.logged, ada.front):
+        assert forked(use).startswith("Lost(")
+    assert forked(ada.close) == "None"
+    assert ada.assign([0, "k"], 2) == [1, "ada-1"]
 
 
 def test_a_caret_stays_at_its_element(ada: Replica) -> None:

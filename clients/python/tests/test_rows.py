@@ -9,6 +9,7 @@ import pytest
 from conftest import PROGRAM, SECONDS, TOP
 
 from jcrdt import Refused, Session, wire
+from jcrdt.limits import Limits
 from jcrdt.stream import Stream
 
 VECTORS = TOP / "clients" / "vectors"
@@ -31,8 +32,8 @@ def test_a_row(row: Dict[str, Any], at_once: bool) -> None:
     requests = lines_of(row["requests"])[:len(replies)]
     with subprocess.Popen([PROGRAM, *row["arguments"]], bufsize=0, stdin=subprocess.PIPE, stdout=subprocess.PIPE) as running:
         assert running.stdin is not None and running.stdout is not None
-        stream = Stream(running.stdout.fileno(), running.stdin.fileno(), running.stdin.close, wire.REPLY_LIMIT)
-        with Session(stream, 30) as session:
+        stream = Stream(running.stdout.fileno(), running.stdin.fileno(), running.stdin.close, Limits(silence=30))
+        with Session(stream) as session:
             found = session.answers(requests) if at_once else [session.answer(line) for line in requests]
         assert running.wait(SECONDS) == row["status"]
     assert found == replies

@@ -98,6 +98,8 @@ def test_who_watches_is_told(alice: Session) -> None:
     before = next(watched)
     alice.deliver("d", BOB)
     assert next(watched) == {**before, "bob-1": 1}
+    assert list(alice.watch("d", 0.01, timeout=0.05)) == [{**before, "bob-1": 1}]
+    assert repr(alice) == "<Session of a program>"
 
 
 @contextlib.contextmanager
@@ -249,6 +251,46 @@ def test_a_reply_that_takes_too_long(stopped: Dict[str, Any]) -> None:
     server.process.send_signal(signal.SIGCONT)
     with pytest.raises(Lost):
         session.sum("d", [0, "n"])
+
+
+def forked(call: Callable[[], object]) -> str:
+    """What a call returns or raises in a child of this process."""
+    read, write = os.pipe()
+    child = os.fork()
+    if not child:
+        try:
+            told = repr(call())
+        except BaseException as error:  # pylint: disable=broad-except
+            told = repr(error)
+        os.write(write, told.encode())
+        os._exit(0)
+    os.close(write)
+    with open(read, encoding="utf-8") as found:
+        text = found.read()
+    os.waitpid(child, 0)
+    return text
+
+
+def test_a_fork_leaves_the_session_to_the_parent(stopped: Dict[str, Any]) -> None:
+    """Each use of it in the child is Lost, also while a thread of the parent asks, and a close in the child ends nothing."""
+    session = stopped["session"]
+    ended, wrong = threading.Event(), []
+
+    def ask() -> None:
+        while not ended.is_set():
+            if session.values("d", [0, "a"]) != ["aaa"]:
+                wrong.append(1)
+
+    thread = threading.Thread(target=ask)
+    thread.start()
+    uses: List[Callable[[], object]] = [lambda: session.values("d", [0, "b"]), lambda: session.put("d", [0, "n"], {"a": [{}]}),
+                                        lambda: session.next_push(0.1), lambda: session.answer(b'["version"]')]
+    for use in uses:
+        assert forked(use).startswith("Lost("), use
+    assert forked(session.close) == "None"
+    ended.set()
+    thread.join()
+    assert not wrong and session.values("d", [0, "b"]) == ["bbb"]
 
 
 def test_threads_share_a_session(stopped: Dict[str, Any]) -> None:

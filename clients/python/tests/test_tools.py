@@ -7,6 +7,7 @@ import os
 import pty
 import select
 import socket
+import sqlite3
 import subprocess
 import sys
 import threading
@@ -20,7 +21,7 @@ from test_session import answering
 
 import jcrdt
 from jcrdt.__main__ import MODULES
-from jcrdt.log import is_open
+from jcrdt.server_process import is_open
 from jcrdt.stop import Backlog, Stop
 from test_writes import hub
 
@@ -129,7 +130,7 @@ def test_servers_of_one_name(serve: Serve, tmp_path: Path) -> None:
                 session.assign("d", [0, "title"], title)
         told = tool("exchange", one.address, other.address, "d", status=1)
         assert told == ("handed over 0, refused 0; the fronts agree, and the documents differ\n"
-                        "two starts of a server had one name: start one of them again, under a new name\n")
+                        "two starts of a server had one name: keep one side (GUIDE, \"When two starts had one name\")\n")
         with jcrdt.connected(one.address) as session:
             session.open("d")
             session.assign("d", [0, "day"], "Friday")
@@ -205,11 +206,51 @@ def test_a_server_is_stopped_before_it_listens(serve: Serve) -> None:
             process.kill()
 
 
-def test_a_file_that_cannot_be_read_stops_nothing(serve: Serve, tmp_path: Path) -> None:
-    for path in (str(tmp_path / "nothing"), str(tmp_path)):
-        server = serve("d", name=f"s{len(path)}", sessions=3)
-        assert "can't be read" in tool("stop", server.address, "--file", path)
-        assert server.end() == '["total","d",0,0,0]\n'
+@contextlib.contextmanager
+def wrapped(server: Server) -> Iterator["subprocess.Popen[str]"]:
+    """A wrapper of this name, which ends its server by SIGTERM."""
+    script = Path(server.file).parent / "jcrdt-serve"
+    script.write_text('#!/bin/bash\n"$@" &\ntrap "kill -KILL $!" TERM\nwait\nwait\n')
+    script.chmod(0o755)
+    words = [str(script), PROGRAM, "serve", "--addr", server.address, "--sessions", "9", "--file", server.file, "d"]
+    with subprocess.Popen(words, stdout=subprocess.PIPE, text=True) as process:
+        assert process.stdout is not None
+        process.stdout.readline()
+        try:
+            yield process
+        finally:
+            process.terminate()
+
+
+def test_only_the_server_of_a_file_is_stopped(serve: Serve) -> None:
+    """Whatever address is named: that of another server, or none."""
+    server, other = serve("d", name="one", sessions=2), serve("d", name="other", sessions=2)
+    told = tool("stop", "--file", server.file, other.address)
+    assert told.splitlines()[-1] == "the server has ended: 2 of its sessions were used up here"
+    assert server.end() == '["total","d",0,0,0]\n'
+    with jcrdt.connected(other.address) as session:
+        assert session.version() == 2
+    assert "no server has it open" in tool("stop", "--file", server.file, other.address, status=1)
+    assert tool("stop", "--file", other.file).endswith("the server has ended: 1 of its sessions were used up here\n")
+
+
+def test_the_wrapper_of_a_server_gets_the_signal(serve: Serve) -> None:
+    """No session of it is used up."""
+    server = serve("d")
+    server.kill()
+    with wrapped(server) as process, jcrdt.connected(server.address):
+        assert tool("stop", "--file", server.file) == "the server has ended\n"
+        process.wait(SECONDS)
+
+
+def test_what_serves_no_file(serve: Serve, tmp_path: Path) -> None:
+    assert "No such file" in tool("stop", "--file", str(tmp_path / "nothing"), status=1)
+    assert "name the file or the address" in tool("stop", status=2)
+    database = sqlite3.connect(tmp_path / "other.db", isolation_level=None)
+    database.execute("CREATE TABLE one (two)")
+    database.execute("BEGIN EXCLUSIVE")
+    assert "has it open, and is no server" in tool("stop", "--file", str(tmp_path / "other.db"), status=1)
+    database.close()
 
 
 def test_what_is_left_to_write_is_told(serve: Serve) -> None:

@@ -141,6 +141,11 @@ def test_errors_are_told_apart() -> None:
     for number, word, kind in ((100, "values", Lost), (100, "add", Lost), (101, "add", Away), (102, "show", Refused),
                                (102, "add", Lost), (103, "add", Refused), (18, "add", Refused)):
         assert type(wire.refusal(["no", number, "name"], word)) is kind
+    for word in ("assign", "insert", "delete", "add", "deliver", "forget"):
+        assert type(wire.refusal(["no", 102, "reply-too-long"], word)) is Lost, word
+    for word in ("let", "open", "ops", "front", "held", "say", "no such word"):
+        assert type(wire.refusal(["no", 102, "reply-too-long"], word)) is Refused, word
+    assert (Refused(24).name, Refused(26).name, Refused(104).name, Refused(99).name) == ("not-held", "copy-refused", "not-kept", "unknown")
     assert issubclass(Lost, ConnectionError) and issubclass(Away, ConnectionError)
     assert not issubclass(Refused, ConnectionError)
     forked = wire.refusal(["no", 14, "forked", 7])

@@ -1,4 +1,5 @@
-/* Where the package jcrdt is: installed beside this one, or in the repository. */
+/* Where the package jcrdt is: where Node finds it, installed or linked as a workspace of the
+   repository, and else in the folder beside this package's, as in a fresh clone. */
 
 import { existsSync } from "node:fs";
 
@@ -24,4 +25,8 @@ export const MODULE = existsSync(packed) ? packed : new URL("../../release/jcrdt
 /** @type {typeof import("../../js/wire.mjs")} */
 const wire = await import(placeOf("wire"));
 export const { addressParts, covers, frontPairs, isId, MOST } = wire;
+
+/** @type {typeof import("../../js/protocol.mjs")} */
+const protocol = await import(placeOf("protocol"));
+export const { REQUESTS, isChange, refusalLine } = protocol;
 

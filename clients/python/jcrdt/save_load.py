@@ -9,13 +9,11 @@ operations that the server doesn't have.
 """
 
 import argparse
-import contextlib
-import os
-import sys
-import tempfile
 from typing import BinaryIO, Iterator, List, Sequence, Tuple
 
 from . import wire
+from .protocol import NAME_USED_TWICE
+from .replaced_file import replaced
 from .session import Session, connected
 from .terminal import checked_address, say
 from .wire import Id, Refused, encoded
@@ -80,42 +78,13 @@ def _parts(file: BinaryIO) -> Iterator[List[Tuple[int, bytes]]]:
     yield part
 
 
-@contextlib.contextmanager
-def replaced(path: str) -> Iterator[BinaryIO]:
-    """A new file that takes the place of another one when all is written, and is removed if that fails. What is no
-    file, as a pipe, is written to."""
-    if path == "-":
-        yield sys.stdout.buffer
-        sys.stdout.buffer.flush()
-        return
-    path = os.path.realpath(path)
-    if os.path.exists(path) and not os.path.isfile(path):
-        with open(path, "wb") as other:
-            yield other
-        return
-    descriptor, new = tempfile.mkstemp(prefix=os.path.basename(path) + ".", dir=os.path.dirname(path))
-    try:
-        with open(descriptor, "wb") as file:
-            yield file
-            file.flush()
-            os.fsync(file.fileno())
-        mask = os.umask(0)
-        os.umask(mask)
-        os.chmod(new, 0o666 & ~mask)
-        os.replace(new, path)
-    except BaseException:
-        with contextlib.suppress(FileNotFoundError):
-            os.remove(new)
-        raise
-
-
 def report(result: Loaded) -> int:
     """Prints what came of a load. Returns the exit status."""
     say(f"loaded {result.logged} operations, {len(result.refused)} refused, {len(result.waiting)} waiting; "
         f"{result.known} were known")
     for number, cause in result.refused[:1]:
         say(f"line {number}: {cause}")
-    if any(isinstance(cause, Refused) and cause.number in wire.NAME_USED_TWICE for _, cause in result.refused):
+    if any(isinstance(cause, Refused) and cause.number in NAME_USED_TWICE for _, cause in result.refused):
         say("these were made under the name of this server: start it again, under a new name, and load them then")
     for (counter, replica), missing in result.waiting[:1]:
         lacking = ", ".join(f"{number} of {name}" for number, name in missing)

@@ -1,0 +1,85 @@
+/* The options of a hub, each once: what the program calls it, its help, and a number's bounds. */
+
+/** @typedef {import("../index.js").HubOptions} HubOptions */
+/** @typedef {{ least: number, most: number, usual: number }} Bounds */
+/** @typedef {{ word?: string, value?: string, isMany?: boolean, help?: string, bounds?: Bounds }} Option
+ *   `word` is its name on the command line where that is another one. Without `value` it is a flag
+ *   there, and without `help` the command line hasn't got it. */
+
+/** @param {number} least @param {number} most @param {number} usual @returns {Bounds} */
+const from = (least, most, usual) => ({ least, most, usual });
+
+/** By the names of `HubOptions`, in the order of the help. */
+export const OPTIONS = /** @type {const} */ ({
+  lines: { value: "ADDRESS", help: "take lines over TCP, as the server does" },
+  web: {
+    value: "ADDRESS",
+    help: `serve the page, /health and /metrics, and take lines over WebSocket at any
+path that ends in /lines (needs the package ws: apt-get install node-ws)`,
+  },
+  sessions: {
+    value: "N", bounds: from(1, 254, 5),
+    help: "carry the clients on N sessions; one more watches the documents",
+  },
+  poll: {
+    value: "MS", bounds: from(10, 3_600_000, 200),
+    help: "look so often for changes that others made at the server",
+  },
+  patience: {
+    value: "S", bounds: from(1, 86_400, 30),
+    help: "drop a client that doesn't read, or sends nothing at first, for so long",
+  },
+  idle: {
+    value: "S", bounds: from(1, 31_536_000, 3600),
+    help: "drop a client that sends nothing more, and watches and hears nothing",
+  },
+  replyLimit: {
+    word: "reply-limit", value: "MB", bounds: from(5, 256, 8),
+    help: "answer 102, reply-too-long, in place of a longer reply",
+  },
+  origins: {
+    word: "origin", value: "URL", isMany: true,
+    help: `let in WebSocket from pages of this origin too: behind a proxy, or where the
+address of --web is none that a browser opens, as 0.0.0.0:7201`,
+  },
+  admit: {
+    value: "FILE.mjs",
+    help: "ask the function admit of this module who may connect, read and write",
+  },
+  file: { value: "F", help: `answer "stored" by the server's file F, on this machine` },
+  durable: { help: "the server was started with --durable: what is acknowledged is stored" },
+  linesPerSession: { bounds: from(100, 990_000, 990_000) }, // for tests
+});
+
+/** @type {[keyof typeof OPTIONS, Option][]} */
+const EVERY = /** @type {any} */ (Object.entries(OPTIONS));
+
+/** Those of the command line, each with its word there. */
+export const ON_COMMAND_LINE = EVERY.filter(([, { help }]) => help !== undefined)
+  .map(([name, option]) => ({ name, word: option.word ?? name, ...option }));
+
+/** Each number that is given, or what it usually is.
+ *  @param {HubOptions} options
+ *  @throws {RangeError} for one that is out of its bounds */
+export function numbersOf(options) {
+  const checked = EVERY.flatMap(([name, { bounds }]) => {
+    if (!bounds) return [];
+    const { least, most, usual } = bounds;
+    const number = /** @type {number} */ (options[name] ?? usual);
+    if (number >= least && number <= most) return [[name, number]];
+    throw new RangeError(`${name} is ${least} to ${most}`);
+  });
+  return /** @type {Record<Numbers, number>} */ (Object.fromEntries(checked));
+}
+
+/** @typedef {{ [Name in keyof typeof OPTIONS]:
+ *    (typeof OPTIONS)[Name] extends { bounds: Bounds } ? Name : never }[keyof typeof OPTIONS]} Numbers */
+
+/** The lines of the help, with the usual value of each number. */
+export function help() {
+  const lines = ON_COMMAND_LINE.map(({ word, value, help = "", bounds }) => {
+    const said = `${help}${bounds ? ` (${bounds.usual})` : ""}`.replaceAll("\n", `\n${" ".repeat(20)}`);
+    return `  ${`--${word} ${value ?? ""}`.padEnd(18)}${said}\n`;
+  });
+  return lines.join("");
+}

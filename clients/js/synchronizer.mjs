@@ -1,0 +1,391 @@
+/* The exchange of a provider: once at a time, as long as something may differ between the replica
+   and the server. It knows what the server has, and what the server refuses. */
+
+import { Away, Refused } from "./errors.mjs";
+import { print } from "./json.mjs";
+import { freshName } from "./names.mjs";
+import { frontPairs } from "./operations.mjs";
+import { DOCUMENT_FULL, NAME_USED_TWICE, REFUSALS, isRefusedBy } from "./protocol.mjs";
+import { Unstored } from "./stores.mjs";
+import { later } from "./timers.mjs";
+
+/** @typedef {import("./connection.mjs").Connection} Connection */
+/** @typedef {import("./events.mjs").Event} Logged */
+/** @typedef {import("./exchange.mjs").Refusal} Refusal */
+/** @typedef {import("./link.mjs").Link} Link */
+/** @typedef {import("./notices.mjs").Notices} Notices */
+/** @typedef {import("./replica.mjs").Replica} Replica */
+/** @typedef {import("./store_writer.mjs").StoreWriter} StoreWriter */
+/** @typedef {import("./stores.mjs").Store} Store */
+/** @typedef {(line: string) => Promise<string>} Answer */
+
+const RETRY_MS = 2000;
+const TELL_MS = 500; // so often, at most, is said what a long exchange has taken
+const NOT_ALLOWED = REFUSALS["not-allowed"];
+
+/** @typedef {object} Parts What it works with.
+ *  @property {Replica} replica
+ *  @property {Store} store
+ *  @property {StoreWriter} writer
+ *  @property {Notices} notices
+ *  @property {Connection} connection
+ *  @property {() => void} changed Its state may be another.
+ *  @property {string} word What a new name of the replica begins with.
+ *  @property {(line: string, reply: string) => void} [onReply]
+ *  @property {AbortSignal} signal Of the provider's life. */
+
+export class Synchronizer {
+  /** Whether the server lets this client edit; `undefined` before it was asked.
+   *  @type {boolean | undefined} */
+  mayWrite;
+  /** How many own operations the last exchange left here since the server refuses them, and why.
+   *  @type {{ count: number, cause: Refused } | undefined} */
+  refused;
+  #parts;
+  /** What the server had when it last said so.
+   *  @type {Map<string, number> | undefined} */
+  #serverFront;
+  /** @type {WeakMap<Link, Answer>} what sends lines over a connection */
+  #answers = new WeakMap();
+  /** @type {Link | undefined} over which operations are pushed */
+  #pushing;
+  #isTakingPush = false;
+  #isStale = false; // something may differ
+  #isDoubtful = false; // what was pushed isn't all: the server is asked
+  #isRunning = false;
+  #isRetrySet = false;
+  /** @type {Map<string, number>} what was given to the server, beside what its front covers */
+  #given = new Map();
+  /** @type {string[]} what the exchange that goes on has taken, and nobody was told */
+  #taken = [];
+  #toldAt = 0;
+  /** @type {Set<(lines: string[]) => void>} who waits until what is refused was taken back */
+  #discards = new Set();
+
+  /** @param {Parts} parts */
+  constructor(parts) {
+    this.#parts = parts;
+  }
+
+  /** Whether nothing differs, as far as is known. */
+  get isDone() {
+    return !this.#isStale && !this.#isRunning;
+  }
+
+  /** What the server had when it last said so, by a push or a reply.
+   *  @returns {[string, number][] | undefined} */
+  get serverFront() {
+    return this.#serverFront && frontPairs(this.#serverFront);
+  }
+
+  /** The operations that no server is known to have. */
+  get unsent() {
+    const front = new Map(this.#serverFront ?? []);
+    for (const [name, it] of this.#given) front.set(name, Math.max(it, front.get(name) ?? 0));
+    return [...this.#parts.replica.operations(front)];
+  }
+
+  // ---- When
+
+  /** Begins over a new connection: opens the document, and asks for word of changes.
+   *  @param {Link} link */
+  async begin(link) {
+    this.#given.clear();
+    const { client } = link;
+    const { doc } = this.#parts.replica;
+    await link.timed(() => client.open(doc));
+    this.mayWrite = await mayWrite(link, doc);
+    client.reopened = () => this.now(); // another session may be that of a server started again
+    const changed = (/** @type {Map<string, number>} */ front) => {
+      this.#learn(front);
+      if (!this.#hasSame(front)) this.soon();
+    };
+    await client.follow(doc, {
+      changed,
+      begins: (front) => {
+        this.#parts.replica.follow(this.#answerOf(link), front);
+        changed(front);
+      },
+      logged: (operations) => this.#takePushed(link, operations),
+      misses: () => this.now(),
+    });
+    if (client.isFollowed(doc)) this.#pushing = link;
+    this.now();
+  }
+
+  /** Takes what was pushed, as one event. Exchanges where that isn't all.
+   *  @param {Link} link
+   *  @param {import("./operations.mjs").Operation[]} operations */
+  #takePushed(link, operations) {
+    if (this.#parts.connection.link !== link) return;
+    link.noteSign();
+    const isAll = this.#isAllTaken(link, operations);
+    const front = new Map(this.#serverFront ?? []);
+    for (const [, [counter, name]] of operations) front.set(name, counter);
+    this.#learn(front);
+    if (!isAll || this.refused) this.soon();
+  }
+
+  /** Takes what was pushed, and returns whether nothing differs in it now.
+   *  @param {Link} link
+   *  @param {import("./operations.mjs").Operation[]} operations */
+  #isAllTaken(link, operations) {
+    this.#isTakingPush = true;
+    try {
+      return this.#parts.replica.logged(this.#answerOf(link), operations);
+    } finally {
+      this.#isTakingPush = false;
+    }
+  }
+
+  /** Exchanges, as something may differ: the server is asked for all that it has. */
+  now() {
+    this.#isStale = this.#isDoubtful = true;
+    this.#run();
+  }
+
+  /** Exchanges what is known to differ, once for all that happens at this moment. What was pushed
+   *  differs no more.
+   *  @param {Logged["why"]} [why] of what was logged here */
+  soon(why) {
+    if (why === "taken" && this.#isTakingPush) return;
+    this.#isStale = true;
+    queueMicrotask(() => this.#run());
+  }
+
+  /** Exchanges, once at a time. What happens meanwhile is looked at afterwards, also over another
+   *  connection. */
+  async #run() {
+    const { connection } = this.#parts;
+    if (this.#isRunning) return;
+    this.#isRunning = true;
+    for (let link; this.#isStale && (link = connection.link); ) {
+      if (!(await this.#exchangeOver(link))) break;
+    }
+    this.#isRunning = false;
+    this.#parts.changed();
+  }
+
+  /** Returns whether to go on at once.
+   *  @param {Link} link */
+  async #exchangeOver(link) {
+    const { connection, notices, signal } = this.#parts;
+    const isSame = () => connection.link === link;
+    this.#isStale = false;
+    try {
+      await this.#exchange(link);
+      if (!isSame()) return true;
+      if (!this.#isStale) [link.isSynced, connection.why] = [true, ""];
+      notices.solve("server");
+    } catch (error) {
+      this.#isStale = this.#isDoubtful = true;
+      if (!isSame()) return true;
+      if (!(error instanceof Unstored)) connection.fail(error);
+      this.#retry(signal);
+      return false;
+    }
+    return true;
+  }
+
+  /** @param {AbortSignal} signal */
+  #retry(signal) {
+    if (this.#isRetrySet) return;
+    this.#isRetrySet = true;
+    later(RETRY_MS, signal, () => {
+      this.#isRetrySet = false;
+      this.#run();
+    });
+  }
+
+  // ---- What
+
+  /** @param {Link} link */
+  async #exchange(link) {
+    const answer = this.#answerOf(link);
+    if (this.#isDoubtful && this.#pushing === link) this.#parts.replica.follow(answer);
+    this.#isDoubtful = false;
+    const { refused } = await this.#parts.replica.sync(answer).finally(() => this.#tellTaken());
+    const own = refused.filter((it) => it.own);
+    if (own.some(({ number }) => NAME_USED_TWICE.has(number))) return this.#remake(answer);
+    if (own.length > 0 && this.#discards.size > 0) return this.#discard(answer);
+    for (const resolve of this.#discards) resolve([]);
+    this.#noteRefused(own);
+  }
+
+  /** What sends lines over a connection: always the same one.
+   *  @param {Link} link
+   *  @returns {Answer} */
+  #answerOf(link) {
+    const answer = this.#answers.get(link) ?? this.#newAnswer(link);
+    this.#answers.set(link, answer);
+    return answer;
+  }
+
+  /** What sends a line. What is delivered was flushed before.
+   *  @param {Link} link
+   *  @returns {Answer} */
+  #newAnswer(link) {
+    return async (line) => {
+      const isDelivery = line.startsWith('["deliver",');
+      if (isDelivery) await this.#parts.writer.flushed();
+      const reply = await link.ask(line);
+      if (isDelivery) this.#noteGiven(line, reply);
+      this.#parts.onReply?.(line, reply);
+      return reply;
+    };
+  }
+
+  /** @param {string} line a delivery
+   *  @param {string} reply */
+  #noteGiven(line, reply) {
+    if (!reply.startsWith('["applied",') && reply !== '["known"]') return;
+    const [counter, name] = idOf(line.slice(line.indexOf('["op",')));
+    this.#given.set(name, counter);
+  }
+
+  /** @param {Map<string, number>} front */
+  #learn(front) {
+    const before = [...(this.#serverFront ?? [])];
+    const hasLost = before.some(([name, it]) => (front.get(name) ?? 0) < it);
+    if (hasLost) this.#given.clear(); // as a server that was killed
+    this.#serverFront = front;
+    this.#parts.notices.tell({ what: "server" });
+  }
+
+  /** @param {Map<string, number>} front */
+  #hasSame(front) {
+    const own = this.#parts.replica.front();
+    return own.length === front.size
+      && own.every(([name, counter]) => front.get(name) === counter);
+  }
+
+  // ---- What it took, together: at first when all of it is here, later twice a second
+
+  /** Returns whether what was logged is a part of the exchange that goes on, and is told with it.
+   *  @param {Logged} event */
+  hears({ why, lines }) {
+    if (why !== "taken" || !this.#isRunning || this.#isTakingPush) return false;
+    this.#taken.push(...lines);
+    const isLater = this.#parts.connection.link?.isSynced;
+    if (isLater && Date.now() - this.#toldAt > TELL_MS) this.#tellTaken();
+    return true;
+  }
+
+  #tellTaken() {
+    const lines = this.#taken;
+    this.#taken = [];
+    this.#toldAt = Date.now();
+    if (lines.length > 0) this.#parts.notices.tell({ what: "changed", why: "taken", lines });
+  }
+
+  // ---- What the server refuses
+
+  /** @param {Refusal[]} own */
+  #noteRefused(own) {
+    const { notices, replica } = this.#parts;
+    this.refused = undefined;
+    if (own.length === 0) return notices.solve("refused");
+    const lines = this.unsent.filter(([, [, name]]) => name === replica.name).map(print);
+    const [{ number, name }] = own;
+    const count = Math.max(lines.length, own.length);
+    const words = `the server refuses ${changes(count)} of this replica: ${number} ${name}`
+      + adviceFor(number);
+    this.refused = { count, cause: new Refused(number, name, undefined, words) };
+    if (number === NOT_ALLOWED) this.mayWrite = false;
+    notices.report({ kind: "refused", words, cause: this.refused.cause, lines });
+  }
+
+  /** Takes back what the server refuses, at the next exchange. Resolves its lines. Throws Away
+   *  where there is none for so long.
+   *  @param {number} ms
+   *  @returns {Promise<string[]>} */
+  async discard(ms) {
+    /** @type {(lines: string[]) => void} */
+    let resume = () => {};
+    /** @type {ReturnType<typeof setTimeout> | undefined} */
+    let timer;
+    const done = new Promise((/** @type {(lines: string[]) => void} */ resolve, reject) => {
+      resume = resolve;
+      const why = this.#parts.connection.why || "it takes long";
+      timer = setTimeout(() => reject(new Away(`nothing was taken back: ${why}`)), ms);
+    });
+    this.#discards.add(resume);
+    this.now();
+    return done.finally(() => {
+      clearTimeout(timer);
+      this.#discards.delete(resume);
+    });
+  }
+
+  /** Goes on under a new name, without the own operations that the server lacks.
+   *  @param {Answer} answer */
+  async #discard(answer) {
+    const { lost } = await this.#goOnAs((replica, name) => replica.discard(name, answer));
+    this.#noteRefused([]);
+    this.#parts.changed();
+    for (const resolve of this.#discards) resolve(lost);
+  }
+
+  /** Makes own operations again under a new name.
+   *  @param {Answer} answer */
+  async #remake(answer) {
+    const { remade, lost, melted } =
+      await this.#goOnAs((replica, name) => replica.remake(name, answer));
+    const words = remadeWords(remade, lost, melted);
+    this.#parts.notices.report({ kind: "remade", words, lines: lost });
+  }
+
+  /** Goes on under a new name, here and in the store.
+   *  @template T
+   *  @param {(replica: Replica, name: string) => Promise<T>} rename
+   *  @returns {Promise<T>} */
+  async #goOnAs(rename) {
+    const { replica, store, word } = this.#parts;
+    const before = replica.lines().slice(1);
+    const report = await rename(replica, freshName(word));
+    const [, ...lines] = replica.lines();
+    const after = new Set(lines);
+    await store.rename(replica.name, lines, before.filter((line) => !after.has(line)));
+    this.#isStale = this.#isDoubtful = true;
+    return report;
+  }
+}
+
+/** Whether the server lets this client edit. It is asked to forget what nobody holds: that changes
+ *  nothing, and is refused to who may only read.
+ *  @param {Link} link
+ *  @param {string} doc */
+async function mayWrite(link, doc) {
+  const reply = await link.ask(print(["forget", doc, [1, freshName("nobody")]]));
+  return !isRefusedBy(reply, "not-allowed");
+}
+
+/** @param {number} count */
+const changes = (count) => (count === 1 ? "1 change" : `${count} changes`);
+
+/** What to do about a refusal.
+ *  @param {number} number */
+function adviceFor(number) {
+  if (DOCUMENT_FULL.has(number)) {
+    return ". The document is full: its content has to be put into a new one (renew)";
+  }
+  return number === NOT_ALLOWED ? ". This client may only read" : "";
+}
+
+/** @param {number} remade
+ *  @param {string[]} lost
+ *  @param {string[]} melted */
+function remadeWords(remade, lost, melted) {
+  const parts = [`another had the name of this replica: made ${remade} changes again`];
+  if (lost.length) parts.push(`couldn't make ${lost.length}`);
+  if (melted.length) parts.push(`${melted.length} elements may be those of the other as well`);
+  return parts.join(", ");
+}
+
+/** The id of an operation's line, which begins `["op",[COUNTER,"REPLICA"],`.
+ *  @param {string} line
+ *  @returns {[number, string]} */
+function idOf(line) {
+  const [, counter, name] = /^\["op",\[(\d+),"([^"]+)"\]/.exec(line) ?? [];
+  return [Number(counter), name];
+}

@@ -1,0 +1,81 @@
+/** @typedef {object} Parts What it works with.
+ *  @property {Replica} replica
+ *  @property {Store} store
+ *  @property {StoreWriter} writer
+ *  @property {Notices} notices
+ *  @property {Connection} connection
+ *  @property {() => void} changed Its state may be another.
+ *  @property {string} word What a new name of the replica begins with.
+ *  @property {(line: string, reply: string) => void} [onReply]
+ *  @property {AbortSignal} signal Of the provider's life. */
+export class Synchronizer {
+    /** @param {Parts} parts */
+    constructor(parts: Parts);
+    /** Whether the server lets this client edit; `undefined` before it was asked.
+     *  @type {boolean | undefined} */
+    mayWrite: boolean | undefined;
+    /** How many own operations the last exchange left here since the server refuses them, and why.
+     *  @type {{ count: number, cause: Refused } | undefined} */
+    refused: {
+        count: number;
+        cause: Refused;
+    } | undefined;
+    /** Whether nothing differs, as far as is known. */
+    get isDone(): boolean;
+    /** What the server had when it last said so, by a push or a reply.
+     *  @returns {[string, number][] | undefined} */
+    get serverFront(): [string, number][] | undefined;
+    /** The operations that no server is known to have. */
+    get unsent(): import("./operations.mjs").Operation[];
+    /** Begins over a new connection: opens the document, and asks for word of changes.
+     *  @param {Link} link */
+    begin(link: Link): Promise<void>;
+    /** Exchanges, as something may differ: the server is asked for all that it has. */
+    now(): void;
+    /** Exchanges what is known to differ, once for all that happens at this moment. What was pushed
+     *  differs no more.
+     *  @param {Logged["why"]} [why] of what was logged here */
+    soon(why?: import("./events.mjs").Why | undefined): void;
+    /** Returns whether what was logged is a part of the exchange that goes on, and is told with it.
+     *  @param {Logged} event */
+    hears({ why, lines }: Logged): boolean;
+    /** Takes back what the server refuses, at the next exchange. Resolves its lines. Throws Away
+     *  where there is none for so long.
+     *  @param {number} ms
+     *  @returns {Promise<string[]>} */
+    discard(ms: number): Promise<string[]>;
+    #private;
+}
+export type Connection = import("./connection.mjs").Connection;
+export type Logged = import("./events.mjs").Event;
+export type Refusal = import("./exchange.mjs").Refusal;
+export type Link = import("./link.mjs").Link;
+export type Notices = import("./notices.mjs").Notices;
+export type Replica = import("./replica.mjs").Replica;
+export type StoreWriter = import("./store_writer.mjs").StoreWriter;
+export type Store = import("./stores.mjs").Store;
+export type Answer = (line: string) => Promise<string>;
+/**
+ * What it works with.
+ */
+export type Parts = {
+    replica: Replica;
+    store: Store;
+    writer: StoreWriter;
+    notices: Notices;
+    connection: Connection;
+    /**
+     * Its state may be another.
+     */
+    changed: () => void;
+    /**
+     * What a new name of the replica begins with.
+     */
+    word: string;
+    onReply?: ((line: string, reply: string) => void) | undefined;
+    /**
+     * Of the provider's life.
+     */
+    signal: AbortSignal;
+};
+import { Refused } from "./errors.mjs";

@@ -1,0 +1,128 @@
+"""What tools/protocol makes is up to date, and Rust's words, replies, refusals and limits are those of protocol.json.
+
+Rust's are read from `line_proto` (requests by their number of items, and replies), `json_scalar` (refusals), `replica_tests` (a line of
+each request) and the constants that the limits name."""
+
+import argparse
+import glob
+import os
+import re
+from typing import Dict, Iterator, List, Set, Tuple
+
+import protocol_files
+from protocol_files import Protocol
+
+# The functions of line_proto that name requests, with the number of items of these. One that has a kind names requests of it alone.
+PARSERS: Dict[str, Tuple[int, str]] = {
+    "bare_request": (0, "bare"), "plain_request": (1, ""), "short_request": (2, ""), "look_of": (2, "look"), "long_request": (3, ""),
+    "read_mutation": (3, "change"),
+}
+
+
+def source(top: str, crate: str) -> str:
+    """All code of a crate but its tests."""
+    texts: List[str] = []
+    for path in sorted(glob.glob(f"{top}/crates/{crate}/src/**/*.rt", recursive=True)):
+        with open(path, encoding="utf-8") as it:
+            texts.append(it.read())
+    return "\n".join(texts)
+
+
+def function(code: str, name: str) -> str:
+    """The text of a function, or nothing where it isn't there."""
+    found = re.search(rf"(?ms)^(?:pub(?:\(crate\))? )?fn {name}\(.*?^}}", code)
+    return found[0] if found else ""
+
+
+def differences(what: str, rust: Set[str], table: Set[str]) -> Iterator[str]:
+    """What only one of both has."""
+    for it in sorted(rust - table):
+        yield f"{what} {it} is in Rust, and not in protocol.json"
+    for it in sorted(table - rust):
+        yield f"{what} {it} is in protocol.json, and not in Rust"
+
+
+def request_faults(top: str, table: Protocol) -> Iterator[str]:
+    """Where line_proto reads other requests."""
+    code = source(top, "line_proto")
+    found: Set[str] = set()
+    for name, (count, kind) in PARSERS.items():
+        words = set(re.findall(r'^\s*"(\w+)" =>', function(code, name), re.M))
+        if not words:
+            yield f"line_proto has no function {name} that names requests"
+        found |= {f'["{word}"] of {count} items' for word in words}
+        due = {it.word for it in table.requests if it.kind == kind and len(it.items) == count}
+        if kind:
+            yield from differences(f"{kind}:", words, due)
+    yield from differences("request", found, {f'["{it.word}"] of {len(it.items)} items' for it in table.requests})
+
+
+def reply_faults(top: str, table: Protocol) -> Iterator[str]:
+    """Where line_proto writes other replies. A replica's own are written there, too."""
+    code = re.sub(r"//.*", "", source(top, "line_proto"))
+    written = set(re.findall(r'"\[\\"(\w+)\\"', code)) | set(re.findall(r'tagged_line\(alloc, "(\w+)"', code))
+    replies = {word for it in (*table.requests, *table.replica_requests) for word in it.replies}
+    yield from differences("reply", written - {"no"}, replies)
+
+
+def refusal_faults(top: str, table: Protocol) -> Iterator[str]:
+    """Where json_scalar has other refusals."""
+    code = source(top, "json_scalar")
+    numbers = dict(re.findall(r"Refusal::(\w+)(?: \{ \.\. \})? => (\d+),", code))
+    names = dict(re.findall(r'Refusal::(\w+)(?: \{ \.\. \})? => "([a-z-]+)",', code))
+    rust = {f"{numbers.get(it)} {names.get(it)}" for it in (*numbers, *names)}
+    yield from differences("refusal", rust, {f"{it.number} {it.name}" for it in table.refusals})
+
+
+def tested_faults(top: str, table: Protocol) -> Iterator[str]:
+    """Where replica_tests reads other requests than there are."""
+    code = source(top, "replica_tests")
+    listed = re.search(r"(?ms)^static REQUESTS: .*?^\];", code)
+    lines = re.findall(r'"\s*\[\\"(\w+)\\"', listed[0] if listed else "")
+    yield from differences("a line of", set(lines), {it.word for it in table.requests})
+
+
+def limit_faults(top: str, table: Protocol) -> Iterator[str]:
+    """Where a constant is another number."""
+    for limit in table.limits:
+        crate, _, name = limit.constant.partition(" ")
+        if not crate:
+            continue
+        found = re.findall(rf"\bconst {name}: \w+ = ([\d_]+)(?:u\d+|usize)?;", source(top, crate))
+        if not found:
+            yield f"{crate} has no constant {name}, which the limit {limit.name} names"
+        for number in found:
+            if int(number) != limit.most:
+                yield f"{crate}: {name} is {number}, and the limit {limit.name} of protocol.json {limit.most}"
+
+
+def file_faults(top: str) -> Iterator[str]:
+    """The files that aren't what tools/protocol makes."""
+    for name, text in protocol_files.made(top).items():
+        path = f"{top}/{name}"
+        old = ""
+        if os.path.isfile(path):
+            with open(path, encoding="utf-8") as it:
+                old = it.read()
+        if old != text:
+            yield f"{name} isn't what tools/protocol makes of protocol.json: run it"
+
+
+def faults(top: str) -> Iterator[str]:
+    """What is wrong with the table, with a file that is made of it, or with Rust's words."""
+    try:
+        table = protocol_files.read(top)
+        yield from file_faults(top)
+    except ValueError as fault:
+        yield str(fault)
+        return
+    for look in (request_faults, reply_faults, refusal_faults, tested_faults, limit_faults):
+        yield from look(top, table)
+
+
+def check(words: argparse.Namespace) -> int:
+    bad = list(faults(words.top))
+    for fault in bad:
+        print(fault)
+    print(f"the protocol: {len(bad)} faults")
+    return len(bad)
