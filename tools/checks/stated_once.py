@@ -21,7 +21,7 @@ ALLOWED: Dict[Tuple[str, ...], str] = {
     ("op_core", "tagged_from", "replica_c", "start_tagged"): "a key of a start may be a text of any length",
     ("op_core", "path_from", "replica_c", "start_path"): "as above",
     ("op_core", "cursor_from", "replica_c", "start_cursor"): "as above",
-    ("list_laws", "is_Less", "op_core", "is_Less"): "no crate is below both",
+    ("list_laws", "is_Less", "version_vector", "is_Less"): "no crate is below both",
     ("line_feed", "cond_none", "stored_log", "past_end"): "line_feed's isn't public",
     ("doc_rules", "ok_same", "stored_rows", "same_value"): "doc_rules' is among the laws of places",
 }

@@ -2,7 +2,7 @@
 use Rattle.std.proofs.Common.{◌≡◌, inl, inr, List, [], ◌∷◌, ◌++◌, Bool, true, false, not, filter, if◌then◌else◌, Contains, refl, arith}
 use Rattle.std.proofs.lemmas.Bool.{both_ways, not-true}
 use Rattle.op_core.specs.Op.{Op}
-use Rattle.op_core.specs.Front.{covers}
+use Rattle.version_vector.specs.Front.{covers}
 use Rattle.list_laws.specs.Order.{EachOnce}
 use Rattle.list_laws.proofs.Members.{Contains-here, Contains-there}
 use Rattle.crdt_rules.specs.Log.{IsGood}

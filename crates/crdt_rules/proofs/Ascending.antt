@@ -7,7 +7,7 @@ use Rattle.std.specs.Ordering.{is_lt}
 use Rattle.lamport_id.specs.Order.{name_cmp}
 use Rattle.lamport_id.specs.declared.id.Id.{Id}
 use Rattle.op_core.specs.Op.{Op}
-use Rattle.op_core.specs.Front.{is_ascending}
+use Rattle.version_vector.specs.Front.{is_ascending}
 use Rattle.crdt_rules.specs.Pull.{raise, raise_first, front_of}
 
 -- the name is less than that of the first entry

@@ -8,7 +8,7 @@ use Rattle.op_core.specs.declared.cursor.Key.{Key}
 use Rattle.op_core.specs.declared.cursor.Tagged.{Tagged}
 use Rattle.op_core.specs.declared.mutation.Mutation.{Mutation}
 use Rattle.op_core.specs.Op.{Op}
-use Rattle.op_core.specs.Front.{covers}
+use Rattle.version_vector.specs.Front.{covers}
 use Rattle.lamport_id.specs.Order.{id_cmp}
 use Rattle.list_laws.specs.Order.{IsKnown, order_of}
 use Rattle.list_laws.proofs.Histories.{order_of_history}

@@ -3,7 +3,7 @@ use Rattle.std.proofs.Common.{◌≡◌, ℕ, ℤ, List, [], ◌∷◌, Bool, tr
 use Rattle.std.specs.List.{list_all}
 use Rattle.std.proofs.lemmas.Bool.{and_from, both_ways}
 use Rattle.doc_api.specs.Words.{Id, Scalar, Op, Key, Tagged}
-use Rattle.op_core.specs.Front.{id_of}
+use Rattle.version_vector.specs.Front.{id_of}
 use Rattle.crdt_rules.specs.Dependencies.{is_logged, is_ready, missing}
 use Rattle.crdt_rules.specs.Effect.{number_added, scalar_put}
 use Rattle.crdt_rules.specs.Facts.{facts, ends_here}

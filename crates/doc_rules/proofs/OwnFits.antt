@@ -4,7 +4,7 @@ use Rattle.std.specs.List.{list_all}
 use Rattle.std.proofs.lemmas.Bool.{and_parts, and_from}
 use Rattle.doc_api.specs.Words.{Id, Op, Cursor, Key, Tagged, Mutation, Assign, Insert, Delete, Add}
 use Rattle.lamport_id.specs.Name.{is_name}
-use Rattle.op_core.specs.Front.{covers, max_counter, is_ascending}
+use Rattle.version_vector.specs.Front.{covers, max_counter, is_ascending}
 use Rattle.op_core.specs.Shape.{is_id, is_entry, is_key, is_tagged, is_mutation, is_head, is_placed, is_shallow, is_allowed, ends_in_list, has_parts, has_form, has_front, key_of}
 use Rattle.op_core.specs.declared.cursor.Key.TheVariants.{Doc, Text, Element, Head}
 use Rattle.list_laws.proofs.Histories.{order_of_history}

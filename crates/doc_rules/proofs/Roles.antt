@@ -20,7 +20,7 @@ use Rattle.crdt_rules.proofs.ReplayFacts.{replay_present, replay_register}
 use Rattle.crdt_rules.proofs.SameLaws.{id_decides, eq_from}
 use Rattle.crdt_rules.proofs.StepFacts.{entered-false}
 use Rattle.crdt_rules.proofs.Tests.{any_none}
-use Rattle.op_core.specs.Front.{covers}
+use Rattle.version_vector.specs.Front.{covers}
 use Rattle.doc_api.specs.declared.role.Role.{Role}
 use Rattle.doc_api.specs.declared.role.Role.TheVariants as role
 use Rattle.std.specs.Prelude.{option_and_then, is_some}

@@ -5,7 +5,7 @@ use Rattle.std.proofs.lemmas.Bool.{and_parts, and_from, cases_lt, false_from_ne_
 use Rattle.std.proofs.lemmas.List.Elements.{Contains-push_cases}
 use lib.Pointwise.{bytes_decides}
 use Rattle.doc_api.specs.Words.{Id, name_cmp, Op}
-use Rattle.op_core.specs.Front.{id_of, covers, max_counter, is_le, is_ascending}
+use Rattle.version_vector.specs.Front.{id_of, covers, max_counter, is_le, is_ascending}
 use Rattle.list_laws.proofs.IdOrder.{transitive}
 use Rattle.list_laws.proofs.Members.{Contains-nil, Contains-here, Contains-there, Contains-cases}
 use Rattle.crdt_rules.specs.Dependencies.{entry_of}

@@ -2,7 +2,7 @@
 use Rattle.std.specs.Prelude.{◌≡◌, ◌⊎◌, ℕ, List, map, filter, take, not, Result, Ok, Err}
 use Rattle.std.specs.Prelude.{MatchResult}
 use Rattle.doc_api.specs.Words.{Refusal, NoMemory, Cursor, Key, Tagged, Op}
-use Rattle.op_core.specs.Front.{covers}
+use Rattle.version_vector.specs.Front.{covers}
 use Rattle.doc_api.specs.declared.ask.Look.{Look}
 use Rattle.doc_api.specs.declared.ask.Look.TheVariants as look
 use Rattle.doc_api.specs.declared.ask.Query.{Query}

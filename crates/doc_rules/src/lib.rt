@@ -7,7 +7,7 @@ ghost use Rattle.std.specs.Prelude.{length, sum};
 ghost use Rattle.std.specs.Prelude.{Contains, Result, Ok, Err};
 ghost use Rattle.lamport_id.specs.Name.{is_name};
 ghost use Rattle.doc_api.specs.Words.{Id, Refusal, Val, Cursor, Key, Tagged, Mutation, Op};
-ghost use Rattle.op_core.specs.Front.{covers};
+ghost use Rattle.version_vector.specs.Front.{covers};
 ghost use Rattle.op_core.specs.Shape.{is_mutation, is_shaped};
 ghost use Rattle.doc_api.specs.declared.ask.Command.{Command};
 ghost use Rattle.doc_api.specs.declared.ask.Look.{Look};

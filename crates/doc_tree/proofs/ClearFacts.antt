@@ -3,7 +3,7 @@ use Rattle.std.proofs.Common.{◌≡◌, ℕ, List, Bool, true, false, ◌&&◌,
 use Rattle.std.specs.Prelude.{is_some}
 use Rattle.std.proofs.Math.Bool.{and-true}
 use Rattle.doc_api.specs.Words.{Id, Key, Tagged}
-use Rattle.op_core.specs.Front.{covers}
+use Rattle.version_vector.specs.Front.{covers}
 use Rattle.crdt_rules.specs.Within.{is_within}
 use Rattle.crdt_rules.proofs.StepFacts.{none_either}
 use Rattle.crdt_rules.proofs.Tests.{same_found}

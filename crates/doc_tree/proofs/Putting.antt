@@ -4,7 +4,7 @@ use Rattle.std.specs.Prelude.{IsSome, option_and_then}
 use Rattle.std.specs.Option.{option_map}
 use Rattle.doc_api.specs.Words.{Id, Key, Tagged, Scalar}
 use Rattle.op_core.specs.declared.cursor.Key.TheVariants.{Doc, Element}
-use Rattle.op_core.specs.Front.{covers}
+use Rattle.version_vector.specs.Front.{covers}
 use Rattle.op_core.specs.Shape.{key_of, may_follow}
 use Rattle.crdt_rules.specs.Same.{key_eq, id_eq, path_eq}
 use Rattle.doc_api.specs.declared.role.Role.{Role}

@@ -3,7 +3,7 @@ ghost use Rattle.std.specs.Prelude.{◌≡◌, List, true, false, ◌&&◌, Some
 ghost use Rattle.std.specs.Prelude.{if◌then◌else◌};
 ghost use Rattle.std.specs.Option.{ForSome};
 ghost use Rattle.doc_api.specs.Words.{Id, Key, Tagged, id_cmp};
-ghost use Rattle.op_core.specs.Front.{covers};
+ghost use Rattle.version_vector.specs.Front.{covers};
 ghost use Rattle.op_core.specs.declared.cursor.Key.TheVariants.{Element};
 ghost use Rattle.list_laws.specs.Order.{insert_after};
 ghost use Rattle.crdt_rules.specs.Within.{is_within};

@@ -14,7 +14,7 @@ use Rattle.doc_rules.specs.Sorted.{IsRising, AreThose}
 use Rattle.doc_rules.specs.Sorted.AreThose.{none, keep, skip}
 use Rattle.doc_rules.proofs.Resolved.{those_from}
 use Rattle.doc_view.specs.Members.{texts_at, texts_in}
-use Rattle.op_core.proofs.Fronts.{is_Less}
+use Rattle.version_vector.proofs.Fronts.{is_Less}
 use Rattle.list_laws.proofs.Reading.{take_read}
 
 -- ---- those of a list for which something holds

@@ -6,7 +6,7 @@ use Rattle.std.proofs.lemmas.List.Elements.{Contains-append_left, Contains-appen
 use Rattle.std.proofs.lemmas.List.Folds.{list_any-append}
 use Rattle.slab.specs.Slab.{Slab, get}
 use Rattle.doc_api.specs.Words.{Id, Op}
-use Rattle.op_core.specs.Front.{id_of}
+use Rattle.version_vector.specs.Front.{id_of}
 use Rattle.crdt_rules.specs.Same.{id_eq}
 use Rattle.crdt_rules.specs.Dependencies.{is_logged, is_ready, missing}
 use Rattle.doc_rules.specs.Replica.{put_among}

@@ -5,7 +5,7 @@ use Rattle.std.specs.Option.{option_map}
 use Rattle.std.specs.List.{cons_option}
 use Rattle.slab.specs.Slab.{Slab, get}
 use Rattle.doc_api.specs.Words.{id_cmp, name_cmp, Id, Op}
-use Rattle.op_core.specs.Front.{id_of, is_ascending}
+use Rattle.version_vector.specs.Front.{id_of, is_ascending}
 use Rattle.lamport_id.specs.Limits.{greatest_counter}
 use Rattle.lamport_id.specs.Name.{is_name}
 use Rattle.op_core.specs.Shape.{is_id, is_entry, is_key, is_tagged, is_mutation, is_placed, is_allowed, is_shallow, has_parts, has_form, has_front, is_shaped}

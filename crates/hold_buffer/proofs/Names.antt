@@ -6,7 +6,7 @@ use Rattle.std.proofs.lemmas.List.Elements.{filter-append, Contains-append_left,
 use Rattle.list_laws.proofs.Members.{Contains-here, Contains-there, Contains-cases, map-from, split_at}
 use Rattle.list_laws.proofs.Filters.{filter-failed, filter-passed, filter-Contains}
 use Rattle.doc_api.specs.Words.{name_cmp, Id}
-use Rattle.op_core.specs.Front.{id_of, is_ascending}
+use Rattle.version_vector.specs.Front.{id_of, is_ascending}
 use Rattle.crdt_rules.specs.Same.{id_eq}
 use Rattle.crdt_rules.proofs.SameLaws.{id_decides}
 use Rattle.doc_rules.specs.Sorted.{IsRising}

@@ -9,7 +9,7 @@ ghost use Rattle.std.specs.Option.{option_map};
 ghost use Rattle.slab.specs.Slab.{HasRoomFor, get};
 ghost use Rattle.doc_api.specs.Words.{id_cmp, UnlessMemory, Id, Op};
 ghost use Rattle.crdt_rules.specs.Dependencies as deps;
-ghost use Rattle.op_core.specs.Front.{is_ascending};
+ghost use Rattle.version_vector.specs.Front.{is_ascending};
 ghost use Rattle.crdt_rules.specs.Same.{id_eq};
 ghost use Rattle.doc_rules.specs.Sorted.{IsRising};
 ghost use Rattle.list_laws.specs.Sorted.{IsIndexOf, IsGap};

@@ -13,7 +13,7 @@ use Rattle.json_scalar.specs.declared.refusal.Refusal.TheVariants.{NotJson, BadR
 use Rattle.json_scalar.specs.declared.scalar.Val.TheVariants.{Scalar, EmptyMap, EmptyList}
 use Rattle.json_scalar.specs.declared.scalar.Scalar.TheVariants.{Int, Text, Bool as Truth, Null}
 use Rattle.json_scalar.proofs.Readings.{ok_step, val_of-Ok}
-use Rattle.op_core.specs.Front.{is_ascending}
+use Rattle.version_vector.specs.Front.{is_ascending}
 use Rattle.op_core.specs.Reading.{some_if, id_from, front_of_json, op_from}
 use Rattle.op_core.specs.Wire.{list_data}
 use Rattle.op_core.proofs.Wires.{some_step, option_map-Some, as_u64-Some, some_if-Some, as_array-Some, as_str-Some, both_items, ReadsId-from_answer, ReadsFront-from_answer}

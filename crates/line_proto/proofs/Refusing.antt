@@ -8,7 +8,7 @@ use Rattle.json_scalar.specs.Refusal.{and_then}
 use Rattle.json_scalar.specs.Scalar.{val_of}
 use Rattle.json_scalar.specs.declared.refusal.Refusal.TheVariants.{NotJson, BadRequest, BadValue, BadOperation, BadFront, TooDeep}
 use Rattle.json_scalar.proofs.Readings.{val_of-Err}
-use Rattle.op_core.specs.Front.{is_ascending}
+use Rattle.version_vector.specs.Front.{is_ascending}
 use Rattle.op_core.specs.Op.{Op}
 use Rattle.op_core.specs.Reading.{Parts, front_of_json, is_long, op_from, op_from_parts, op_of, parts_of, path_len, shaped}
 use Rattle.op_core.specs.Shape.{first_cause, has_form, has_front, is_shallow}

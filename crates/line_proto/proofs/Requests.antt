@@ -7,7 +7,7 @@ use Rattle.doc_api.specs.Words.{Val, Mutation, Assign, Insert, Delete, Add}
 use Rattle.json_scalar.specs.declared.scalar.Val.TheVariants.{Scalar, EmptyMap, EmptyList}
 use Rattle.json_scalar.specs.declared.scalar.Scalar.TheVariants.{Int, Text, Bool as Truth, Null}
 use Rattle.json_scalar.proofs.Readings.{val_of-val_data}
-use Rattle.op_core.specs.Front.{is_ascending}
+use Rattle.version_vector.specs.Front.{is_ascending}
 use Rattle.op_core.specs.Shape.{is_entry}
 use Rattle.op_core.proofs.Wires.{id_from-id_data, front_of_json-front_data}
 use Rattle.op_core.proofs.Operations.{op_from-wire}

@@ -6,7 +6,7 @@ use Rattle.serde_json.specs.Data.{Data}
 use Rattle.doc_api.specs.Words.{Refusal, NoMemory}
 use Rattle.json_scalar.specs.Refusal.{and_then}
 use Rattle.json_scalar.specs.declared.refusal.Refusal.TheVariants.{NotJson, BadRequest, BadValue, BadOperation, BadFront, TooDeep}
-use Rattle.op_core.specs.Front.{is_ascending, max_counter}
+use Rattle.version_vector.specs.Front.{is_ascending, max_counter}
 use Rattle.op_core.specs.Op.{Op}
 use Rattle.op_core.specs.Reading.{◌>>=◌, Parts, front_of_json, id_from, op_from, op_from_parts, op_of, parts_of, shaped}
 use Rattle.op_core.specs.Shape.{has_form, has_front, has_parts, is_allowed, is_entry, is_id, is_key, is_mutation, is_placed, is_shallow, is_shaped, is_tagged}

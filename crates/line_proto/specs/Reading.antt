@@ -12,7 +12,7 @@ use Rattle.json_scalar.specs.Scalar.{val_of, int_of}
 use Rattle.doc_api.specs.Words.{Refusal, Mutation, Assign, Insert, Delete, Add}
 use Rattle.json_scalar.specs.declared.refusal.Refusal.TheVariants.{NotJson, BadRequest, BadValue}
 use Rattle.json_scalar.specs.declared.refusal.Refusal.TheVariants.{BadFront}
-use Rattle.op_core.specs.Front.{is_ascending}
+use Rattle.version_vector.specs.Front.{is_ascending}
 use Rattle.op_core.specs.Reading.{◌>>=◌, some_if, u64_of, id_from, front_of_json, op_from}
 use Rattle.doc_api.specs.declared.place.Step.{Step}
 use Rattle.doc_api.specs.declared.place.Step.TheVariants.{Get, Index}

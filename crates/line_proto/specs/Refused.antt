@@ -7,7 +7,7 @@ use Rattle.doc_api.specs.Words.{Refusal, NoMemory}
 use Rattle.json_scalar.specs.declared.refusal.Refusal.TheVariants.{NotJson, BadRequest, BadValue}
 use Rattle.json_scalar.specs.declared.refusal.Refusal.TheVariants.{BadOperation}
 use Rattle.json_scalar.specs.declared.refusal.Refusal.TheVariants.{BadFront, TooDeep}
-use Rattle.op_core.specs.Front.{is_ascending}
+use Rattle.version_vector.specs.Front.{is_ascending}
 use Rattle.op_core.specs.Shape.{is_entry}
 use Rattle.op_core.specs.Wire.{front_data}
 use Rattle.op_core.specs.Written.{ReadsOp}

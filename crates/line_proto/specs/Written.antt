@@ -8,7 +8,7 @@ use Rattle.json_scalar.specs.Scalar.{is_val, val_data}
 use Rattle.doc_api.specs.Words.{Val, Mutation, Assign, Insert, Delete, Add}
 use Rattle.json_scalar.specs.declared.scalar.Val.TheVariants.{Scalar}
 use Rattle.json_scalar.specs.declared.scalar.Scalar.TheVariants.{Int}
-use Rattle.op_core.specs.Front.{is_ascending}
+use Rattle.version_vector.specs.Front.{is_ascending}
 use Rattle.op_core.specs.Shape.{is_id, is_entry, is_shaped}
 use Rattle.op_core.specs.Wire.{list_data, id_data, front_data, wire}
 use Rattle.std.specs.List.{list_all}

@@ -3,7 +3,7 @@ use Rattle.std.proofs.Common.{◌≡◌, ℕ, ◌≤◌, List, true, ◌&&◌, C
 use Rattle.std.proofs.lemmas.Bool.{and_from}
 use Rattle.std.specs.List.{list_any}
 use Rattle.doc_api.specs.Words.{Op}
-use Rattle.op_core.specs.Front.{id_of, covers, is_le}
+use Rattle.version_vector.specs.Front.{id_of, covers, is_le}
 use Rattle.crdt_rules.specs.Dependencies.{is_logged}
 use Rattle.crdt_rules.specs.Log.{IsGood}
 use Rattle.crdt_rules.specs.Same.{id_eq}

@@ -4,16 +4,16 @@ use Rattle.std.proofs.lemmas.Bool.{and_parts, lt-leb}
 use Rattle.std.specs.List.{zip}
 use Rattle.std.proofs.lemmas.List.{drop_all, get_or_default}
 use Rattle.std.proofs.Math.Bool.{or-false}
-use Rattle.op_core.specs.Front.{max_counter}
+use Rattle.version_vector.specs.Front.{max_counter}
 use lib.Pointwise.{bytes_decides}
 use Rattle.doc_api.specs.Words.{name_cmp, Op}
-use Rattle.op_core.specs.Front.{covers, id_of, is_ascending, is_le, reaches}
+use Rattle.version_vector.specs.Front.{covers, id_of, is_ascending, is_le, reaches}
 use Rattle.op_core.specs.Shape.{is_shaped, is_shallow, has_form, has_front}
-use Rattle.op_core.proofs.Fronts.{ascending-rest}
+use Rattle.version_vector.proofs.Fronts.{ascending-rest}
 use Rattle.list_laws.proofs.Members.{Contains-here, Contains-there, Contains-cases}
 use Rattle.crdt_rules.proofs.Tests.{any_none}
 use Rattle.op_log.proofs.Pairs.{drop_pair}
-use Rattle.op_core.proofs.FrontPairs.{length-pairs}
+use Rattle.version_vector.proofs.FrontPairs.{length-pairs}
 use Rattle.doc_rules.proofs.WholeFront.{rising_from_ascending}
 use Rattle.op_log.proofs.Fronts.{NamesRise, names_differ}
 use Rattle.doc_rules.proofs.OneAnswer.{name_order}

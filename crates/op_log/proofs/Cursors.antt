@@ -4,7 +4,7 @@ use Rattle.std.specs.List.{list_all}
 use Rattle.std.proofs.lemmas.Bool.{and_parts, and_from}
 use Rattle.doc_api.specs.Words.{Id, Op, Key, Tagged}
 use Rattle.op_core.specs.declared.cursor.Key.TheVariants.{Doc, Text, Element, Head}
-use Rattle.op_core.specs.Front.{covers}
+use Rattle.version_vector.specs.Front.{covers}
 use Rattle.op_core.specs.Shape.{key_of}
 use Rattle.crdt_rules.specs.Fits.{is_element, knows_cursor, knows_key}
 use Rattle.crdt_rules.specs.Log.{IsGood}

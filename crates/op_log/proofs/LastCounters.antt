@@ -4,7 +4,7 @@ use Rattle.std.specs.Prelude.{is_some}
 use Rattle.std.specs.List.{list_any}
 use Rattle.std.proofs.lemmas.List.{length-map}
 use lib.Pointwise.{bytes_decides}
-use Rattle.op_core.specs.Front.{max_counter}
+use Rattle.version_vector.specs.Front.{max_counter}
 use Rattle.op_core.specs.Op.{Op}
 use Rattle.crdt_rules.specs.Dependencies.{entry_of}
 use Rattle.op_log.specs.Front.{PutsEntry, IsFrontOf}

@@ -7,9 +7,9 @@ use Rattle.std.proofs.lemmas.List.{get_or_default, map-append, take_more}
 use Rattle.std.proofs.lemmas.List.Elements.{filter-append}
 use Rattle.std.proofs.lemmas.Slice.Zip.{get_or-zip}
 use Rattle.lamport_id.specs.Order.{name_cmp}
-use Rattle.op_core.specs.Front.{id_of, is_ascending}
+use Rattle.version_vector.specs.Front.{id_of, is_ascending}
 use Rattle.doc_api.specs.Words.{Id}
-use Rattle.op_core.proofs.FrontPairs.{length-pairs, name-at}
+use Rattle.version_vector.proofs.FrontPairs.{length-pairs, name-at}
 use Rattle.list_laws.proofs.Reading.{drop_at}
 use Rattle.doc_rules.proofs.OneAnswer.{name_order}
 use Rattle.doc_rules.proofs.WholeFront.{rising_from_ascending}

@@ -4,7 +4,7 @@ use Rattle.std.specs.List.{slice_get}
 use Rattle.std.proofs.lemmas.List.{drop_all}
 use Rattle.std.proofs.lemmas.Option.{slice_get_read}
 use Rattle.std.proofs.lemmas.List.Elements.{Contains-push_cases}
-use Rattle.op_core.specs.Front.{covers}
+use Rattle.version_vector.specs.Front.{covers}
 use Rattle.op_core.specs.Op.{Op}
 use Rattle.crdt_rules.specs.Dependencies.{entry_of}
 use Rattle.crdt_rules.specs.Log.{IsGood}

@@ -3,7 +3,7 @@ use Rattle.std.specs.Prelude.{ℕ, List, [], ◌∷◌, ◌++◌, Bool, true, �
 use Rattle.std.specs.List.{list_all}
 use Rattle.doc_api.specs.Words.{Op, Key, Tagged}
 use Rattle.op_core.specs.declared.cursor.Key.TheVariants.{Element}
-use Rattle.op_core.specs.Front.{covers}
+use Rattle.version_vector.specs.Front.{covers}
 use Rattle.op_core.specs.Shape.{key_of}
 use Rattle.crdt_rules.specs.Fits.{is_element}
 

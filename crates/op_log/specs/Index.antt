@@ -4,7 +4,7 @@ use Rattle.std.specs.Prelude.{◌≡◌, ℕ, ◌<◌, ◌≤◌, List, true, fa
 use Rattle.std.specs.Prelude.{slice_get}
 use Rattle.lamport_id.specs.Order.{name_cmp}
 use Rattle.list_laws.specs.Sorted.{KeysRise, get_by}
-use Rattle.op_core.specs.Front.{covers}
+use Rattle.version_vector.specs.Front.{covers}
 use Rattle.op_core.specs.Op.{Op}
 use Rattle.op_log.specs.Front.{IsFrontOf}
 use Rattle.crdt_rules.specs.Log.{IsGood}

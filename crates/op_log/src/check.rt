@@ -5,7 +5,7 @@ ghost use Rattle.std.specs.Prelude.{IsOk, IsTrue};
 ghost use Rattle.std.specs.Option.{option_copied};
 ghost use Rattle.std.specs.List.{list_any, list_all};
 ghost use Rattle.op_core.specs.Limits.{most_replicas};
-ghost use Rattle.op_core.specs.Front.{id_of, is_ascending, is_le};
+ghost use Rattle.version_vector.specs.Front.{id_of, is_ascending, is_le};
 ghost use Rattle.op_core.specs.Op.{Op};
 ghost use Rattle.op_core.specs.Shape.{is_shaped, key_of};
 ghost use Rattle.crdt_rules.specs.Facts.{inserts};

@@ -10,7 +10,7 @@ ghost use Rattle.op_core.specs.Op.{Op};
 ghost use Rattle.std.specs.Vec.{vec_capacity};
 ghost use Rattle.json_scalar.specs.Refusal.{UnlessMemory};
 ghost use Rattle.lamport_id.specs.Order.{name_cmp};
-ghost use Rattle.op_core.specs.Front.{is_ascending, is_le};
+ghost use Rattle.version_vector.specs.Front.{is_ascending, is_le};
 ghost use Rattle.crdt_rules.specs.Dependencies.{entry_of};
 ghost use Rattle.op_log.specs.Front.{PutsEntry};
 ghost use Rattle.list_laws.specs.Sorted.{IsIndexOf, IsGap, KeysRise, get_by};

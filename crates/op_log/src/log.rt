@@ -6,7 +6,7 @@ ghost use Rattle.std.specs.List.{list_all};
 ghost use Rattle.std.specs.Option.{option_copied};
 ghost use Rattle.json_scalar.specs.Refusal.{UnlessMemory};
 ghost use Rattle.op_core.specs.Limits.{most_replicas};
-ghost use Rattle.op_core.specs.Front.{id_of};
+ghost use Rattle.version_vector.specs.Front.{id_of};
 ghost use Rattle.crdt_rules.specs.Dependencies.{is_logged, is_ready, missing};
 ghost use Rattle.crdt_rules.specs.Fits.{last_counter, Fits, replicas};
 ghost use Rattle.crdt_rules.specs.Log.{IsGood};

@@ -7,7 +7,7 @@ use lib.Seq.{take-suc}
 use Rattle.lamport_id.specs.declared.id.Id.{Id}
 use Rattle.op_core.specs.declared.cursor.Tagged.{Tagged}
 use Rattle.op_core.specs.Op.{Op}
-use Rattle.op_core.specs.Front.{covers}
+use Rattle.version_vector.specs.Front.{covers}
 use Rattle.crdt_rules.specs.Same.{id_eq}
 use Rattle.crdt_rules.specs.Dependencies.{dependencies, is_logged}
 use Rattle.crdt_rules.specs.Context.{Context, empty, present, register, counter, order, step}

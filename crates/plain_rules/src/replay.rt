@@ -1,7 +1,7 @@
 //! What a list of operations makes, one step after another.
 ghost use Rattle.std.specs.Prelude.{◌≡◌, IfOk, IfErr, filter, map};
 ghost use Rattle.json_scalar.specs.declared.refusal.Refusal.TheVariants.{NoMemory};
-ghost use Rattle.op_core.specs.Front.{covers};
+ghost use Rattle.version_vector.specs.Front.{covers};
 ghost use Rattle.crdt_rules.specs.Facts.{facts};
 ghost use Rattle.crdt_rules.specs.Log.{replay};
 ghost use Rattle.plain_rules.specs.Plain.{context_of};

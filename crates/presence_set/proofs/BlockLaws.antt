@@ -9,7 +9,7 @@ use Rattle.std.proofs.lemmas.List.{take-append-drop, take-set, length-set, drop-
 use Rattle.std.proofs.lemmas.List.Sums.{prefix_len_is}
 use Rattle.std.proofs.lemmas.List.Elements.{Contains-append_left, Contains-append_right}
 use Rattle.doc_api.specs.Words.{Id, id_cmp}
-use Rattle.op_core.specs.Front.{covers}
+use Rattle.version_vector.specs.Front.{covers}
 use Rattle.list_laws.proofs.IdOrder.{transitive}
 use Rattle.list_laws.proofs.Members.{Contains-nil, Contains-here, Contains-there, Contains-cases}
 use Rattle.crdt_rules.specs.Same.{id_eq}

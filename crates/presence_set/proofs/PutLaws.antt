@@ -4,7 +4,7 @@ use Rattle.std.specs.List.{list_any}
 use Rattle.std.proofs.lemmas.Bool.{or_parts}
 use Rattle.std.specs.Ordering.{is_lt}
 use Rattle.doc_api.specs.Words.{Id, id_cmp}
-use Rattle.op_core.specs.Front.{covers}
+use Rattle.version_vector.specs.Front.{covers}
 use Rattle.crdt_rules.specs.Same.{id_eq}
 use Rattle.doc_api.specs.declared.role.Role.{Role}
 use Rattle.presence_set.specs.declared.empty_put.EmptyPut.{EmptyPut}

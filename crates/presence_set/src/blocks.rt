@@ -18,10 +18,10 @@ use crate::lack::Lack;
 use crate::later::LaterBlocks;
 use doc_api::Role;
 use lamport_id::Id;
-use op_core::Front;
 use small_values::Lazy;
 use std::alloc::{AllocError, Global};
 use std::marker::Model;
+use version_vector::Front;
 
 // How many ids a block takes: so many that there are few blocks, and so
 // few that one more moves little.

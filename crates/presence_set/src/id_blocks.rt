@@ -8,10 +8,10 @@ use crate::blocks::{
 };
 use crate::later::LaterBlocks;
 use lamport_id::Id;
-use op_core::Front;
 use small_values::Lazy;
 use std::alloc::{AllocError, Global};
 use std::marker::Model;
+use version_vector::Front;
 
 /// At most one value for each id, in id order, in blocks, of which the first may be empty. The
 /// others are in a box that is made with the second. Clauses see a pair: the ids with their values,

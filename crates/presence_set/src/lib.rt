@@ -5,7 +5,7 @@
 ghost use Rattle.std.specs.Prelude.{◌≡◌, ◌+◌, ◌<◌, ◌≤◌, ◌↔◌, [], length, take, drop, max, not};
 ghost use Rattle.std.specs.Prelude.{true, IsTrue, IfOk, IsOk, MatchOption, None, Some, OnOk, OnErr};
 ghost use Rattle.std.specs.Ordering.{is_lt};
-ghost use Rattle.op_core.specs.Front.{covers};
+ghost use Rattle.version_vector.specs.Front.{covers};
 ghost use Rattle.lamport_id.specs.Order.{id_cmp};
 ghost use Rattle.presence_set.specs.ById.{put_at_id, get, contains, uncovered, rank, IsAscending};
 ghost use Rattle.small_values.specs.SmallVec.{elements, room};
@@ -21,11 +21,11 @@ pub use crate::empty_put::EmptyPut;
 pub use crate::id_blocks::IdBlocks;
 pub use doc_api::Role;
 use lamport_id::Id;
-use op_core::Front;
 use small_values::SmallVec;
 use std::alloc::{AllocError, Global};
 use std::cmp::Ordering;
 use std::marker::Model;
+use version_vector::Front;
 
 /// At most one value for each id, in id order; one alone takes no memory of its own. Clauses see a
 /// pair: the ids with their values, and how many of them there is room for.

@@ -3,7 +3,7 @@ ghost use Rattle.std.specs.Prelude.{◌≡◌, ◌+◌, ◌<◌, [], Ok, Err, tr
 ghost use Rattle.lamport_id.specs.Limits.{greatest_counter};
 ghost use Rattle.lamport_id.specs.Name.{is_name};
 ghost use Rattle.doc_api.specs.Words.{UnlessMemory};
-ghost use Rattle.op_core.specs.Front.{max_counter};
+ghost use Rattle.version_vector.specs.Front.{max_counter};
 ghost use Rattle.op_core.specs.Shape as shape;
 ghost use Rattle.crdt_rules.specs.Effect.{is_insertion};
 ghost use Rattle.crdt_rules.specs.Fits.{Fits};

@@ -23,7 +23,7 @@ use Rattle.doc_api.specs.Words.{Id, Val, Op, Key, Tagged, Mutation, Assign, Inse
 use Rattle.json_scalar.specs.Scalar.{val_data, is_val}
 use Rattle.json_scalar.specs.declared.scalar.Scalar.TheVariants.{Int, Text as Words, Bool as Truth, Null}
 use Rattle.json_scalar.specs.declared.scalar.Val.TheVariants.{Scalar as Plain, EmptyMap, EmptyList}
-use Rattle.op_core.specs.Front.{id_of}
+use Rattle.version_vector.specs.Front.{id_of}
 use Rattle.op_core.specs.Shape.{is_id, is_entry, is_key, is_tagged, is_mutation, is_placed, is_allowed, is_shallow, has_parts, has_form, has_front, is_shaped}
 use Rattle.op_core.specs.Wire.{entry_data, key_data, tagged_data, mutation_data, wire}
 use Rattle.op_core.specs.declared.cursor.Key.TheVariants.{Doc, Text, Element, Head}

@@ -1,7 +1,7 @@
 use Rattle.std.proofs.Common.{◌≡◌, List, [], ◌∷◌, ◌++◌, map, rules, refl, ap, ◌∙◌}
 use Rattle.std.proofs.lemmas.List.{take_all}
 use Rattle.doc_api.specs.Words.{Id, Scalar}
-use Rattle.op_core.proofs.Steps.{map_grown}
+use Rattle.version_vector.proofs.Steps.{map_grown}
 use Rattle.doc_view.proofs.registers.scalars_of.Goals as goal
 
 pub loop-entry-preserved : goal.loop-entry-preserved

@@ -1,6 +1,6 @@
 use Rattle.std.proofs.Common.{◌<◌, length, refl, arith}
 use Rattle.hold_buffer.specs.declared.entry.Entry.{Entry}
-use Rattle.op_core.proofs.Steps.{map_grown}
+use Rattle.version_vector.proofs.Steps.{map_grown}
 use Rattle.hold_buffer.proofs.order.waiting_of.Goals as goal
 
 pub loop-at-preserved : goal.loop-at-preserved

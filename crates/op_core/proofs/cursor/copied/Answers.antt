@@ -1,6 +1,6 @@
 use Rattle.std.proofs.Common.{arith}
-use Rattle.op_core.proofs.Readings.{due_copy}
-use Rattle.op_core.proofs.Steps.{take_grown}
+use Rattle.version_vector.proofs.Steps.{due_copy}
+use Rattle.version_vector.proofs.Steps.{take_grown}
 use Rattle.op_core.proofs.cursor.copied.Goals as goal
 
 pub loop-key-preserved : goal.loop-key-preserved

@@ -2,7 +2,7 @@ use Rattle.std.proofs.Common.{ℕ, ◌<◌, ◌≤◌, List, length, map, refl, 
 use Rattle.serde_json.specs.View.{view}
 use Rattle.serde_json.proofs.Views.{view-Array}
 use Rattle.op_core.specs.Wire.{list_data, entry_data}
-use Rattle.op_core.proofs.Steps.{map_grown, map_done}
+use Rattle.version_vector.proofs.Steps.{map_grown, map_done}
 use Rattle.op_core.proofs.encode.write_front.Goals as goal
 
 pub loop-at-preserved : goal.loop-at-preserved

@@ -2,7 +2,7 @@ use Rattle.std.proofs.Common.{map, refl, ap, ◌∙◌}
 use Rattle.serde_json.specs.View.{view}
 use Rattle.serde_json.proofs.Views.{view-Array}
 use Rattle.op_core.specs.Wire.{list_data, tagged_data, path_data}
-use Rattle.op_core.proofs.Steps.{map_grown, map_done}
+use Rattle.version_vector.proofs.Steps.{map_grown, map_done}
 use Rattle.op_core.proofs.encode.write_path.Goals as goal
 
 pub loop-tagged-preserved : goal.loop-tagged-preserved

@@ -1,6 +1,6 @@
 use Rattle.std.proofs.Common.{◌≡◌, ℕ, ◌<◌, ◌≤◌, List, length, true, false, sym, ap, subst, ◌∙◌, rules}
 use Rattle.op_core.specs.Shape.{is_entry}
-use Rattle.op_core.proofs.Steps.{all_more, all_fails, all_done}
+use Rattle.version_vector.proofs.Steps.{all_more, all_fails, all_done}
 use Rattle.op_core.proofs.shape.are_entries.Goals as goal
 
 pub loop-at-preserved : goal.loop-at-preserved

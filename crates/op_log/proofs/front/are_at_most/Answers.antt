@@ -1,8 +1,8 @@
 use Rattle.std.proofs.Common.{◌≡◌, ◌+◌, suc, true, false, nat_le, get_or, drop, ◌&&◌, sym, ap, ◌∙◌, arith}
 use Rattle.std.specs.List.{zip}
 use Rattle.std.proofs.lemmas.List.{drop_all}
-use Rattle.op_core.specs.Front.{is_le}
-use Rattle.op_core.proofs.FrontPairs.{length-pairs}
+use Rattle.version_vector.specs.Front.{is_le}
+use Rattle.version_vector.proofs.FrontPairs.{length-pairs}
 use Rattle.op_log.proofs.Comparing.{turn_less, turn_equal, turn_greater, at_end, ends_there, reaches_less, reaches_it}
 use Rattle.op_log.proofs.front.are_at_most.Goals as goal
 use Rattle.op_log.proofs.front.are_at_most.Goals.{in-Equal-2, in-Greater}

@@ -1,6 +1,6 @@
 use Rattle.std.proofs.Common.{◌≡◌, drop}
 use Rattle.std.specs.List.{zip}
-use Rattle.op_core.specs.Front.{is_le}
+use Rattle.version_vector.specs.Front.{is_le}
 use Rattle.op_log.proofs.front.are_at_most.Given as goal
 
 abbrev pub invariant-loop-at : goal.invariant-loop-at

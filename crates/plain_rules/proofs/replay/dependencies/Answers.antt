@@ -2,7 +2,7 @@ use Rattle.std.proofs.Common.{◌++◌, ◌∷◌, [], List, Bool, map, filter, 
 use Rattle.std.proofs.lemmas.List.{take_all}
 use Rattle.lamport_id.specs.declared.id.Id.{Id}
 use Rattle.op_core.specs.Op.{Op}
-use Rattle.op_core.specs.Front.{covers}
+use Rattle.version_vector.specs.Front.{covers}
 use Rattle.plain_rules.proofs.Replaying.{ids-more, ids-passed}
 use Rattle.plain_rules.proofs.replay.dependencies.Goals as goal
 use Rattle.plain_rules.proofs.replay.dependencies.Goals.{then-covers+in_ok-push, else-covers}

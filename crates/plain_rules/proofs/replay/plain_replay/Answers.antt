@@ -1,5 +1,5 @@
 use Rattle.std.proofs.Common.{rules, ◌≡◌, ◌≤◌, length, ◌∙◌, ap, filter, map, take}
-use Rattle.op_core.specs.Front.{covers}
+use Rattle.version_vector.specs.Front.{covers}
 use Rattle.crdt_rules.specs.Context.{step}
 use Rattle.plain_rules.specs.Plain.{is_in, context_of}
 use Rattle.plain_rules.proofs.Replaying.{replay_next, replay_end}

@@ -1,6 +1,6 @@
 use Rattle.std.proofs.Common.{◌∙◌, not, rules, sym, ap, subst}
 use Rattle.std.proofs.lemmas.Fn.{filter_same}
-use Rattle.op_core.specs.Front.{covers}
+use Rattle.version_vector.specs.Front.{covers}
 use Rattle.doc_api.specs.Words.{id_cmp}
 use Rattle.list_laws.proofs.Rising.{rising-filter}
 use Rattle.presence_set.specs.ById.{uncovered, IsAscending}

@@ -1,6 +1,6 @@
 use Rattle.std.proofs.Common.{◌≡◌, ◌+◌, ◌≤◌, true, Ok, Err, [], ◌∷◌, List, length, sym, ap, subst, ◌∙◌, arith}
 use Rattle.std.proofs.lemmas.Result.{err_from_is_err_and}
-use Rattle.op_core.specs.Front.{max_counter}
+use Rattle.version_vector.specs.Front.{max_counter}
 use Rattle.op_core.specs.Op.{Op}
 use Rattle.op_core.specs.Shape.{is_shaped}
 use Rattle.crdt_rules.specs.Pull.{front_of}

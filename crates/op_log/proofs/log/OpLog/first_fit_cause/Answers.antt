@@ -1,7 +1,7 @@
 use Rattle.std.proofs.Common.{◌≡◌, [], Err, Option, ℕ, true, not, unwrap_or, sym, ap, subst, ◌∙◌}
 use Rattle.json_scalar.specs.declared.refusal.Refusal.TheVariants.{Forked}
 use Rattle.doc_api.specs.Words.{Id}
-use Rattle.op_core.specs.Front.{is_ascending}
+use Rattle.version_vector.specs.Front.{is_ascending}
 use Rattle.crdt_rules.specs.Dependencies.{entry_of}
 use Rattle.crdt_rules.specs.Fits.{knows_front, knows_cursor, last_counter}
 use Rattle.op_log.proofs.Comparing.{shaped_ascending}

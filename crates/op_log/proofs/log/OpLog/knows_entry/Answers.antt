@@ -1,5 +1,5 @@
 use Rattle.std.proofs.Common.{sym, ◌∙◌}
-use Rattle.op_core.specs.Front.{id_of, is_le}
+use Rattle.version_vector.specs.Front.{id_of, is_le}
 use Rattle.crdt_rules.proofs.GoodLogs.{ids_once}
 use Rattle.op_log.proofs.Ids.{any-find_id, any-find_id_none}
 use Rattle.op_log.proofs.log.OpLog.knows_entry.Goals as goal

@@ -1,6 +1,6 @@
 use Rattle.std.proofs.Common.{◌≡◌, ◌&&◌, drop}
 use Rattle.std.specs.List.{list_any, list_all}
-use Rattle.op_core.specs.Front.{id_of, is_le}
+use Rattle.version_vector.specs.Front.{id_of, is_le}
 use Rattle.crdt_rules.specs.Same.{id_eq}
 use Rattle.op_log.proofs.log.OpLog.knows_front.Given as goal
 

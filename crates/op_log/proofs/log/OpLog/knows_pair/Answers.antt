@@ -1,5 +1,5 @@
 use Rattle.std.proofs.Common.{◌≡◌, [], Contains, Option, IfSome, get_or, true, sym, subst}
-use Rattle.op_core.specs.Front.{is_le}
+use Rattle.version_vector.specs.Front.{is_le}
 use Rattle.op_core.specs.Op.{Op}
 use Rattle.op_log.proofs.Below.{known_below}
 use Rattle.op_log.proofs.log.OpLog.knows_pair.Goals as goal

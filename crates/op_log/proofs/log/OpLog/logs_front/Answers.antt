@@ -1,7 +1,7 @@
 use Rattle.std.proofs.Common.{◌≡◌, ◌+◌, ◌<◌, ℕ, List, suc, [], Bool, ◌&&◌, length, drop, get_or, sym, ap, subst, ◌∙◌, arith}
 use Rattle.std.specs.List.{list_all}
 use Rattle.std.proofs.lemmas.List.{get_or_default}
-use Rattle.op_core.specs.Front.{id_of}
+use Rattle.version_vector.specs.Front.{id_of}
 use Rattle.crdt_rules.specs.Dependencies.{is_logged}
 use Rattle.op_log.proofs.Pairs.{all_from}
 use Rattle.op_log.proofs.log.OpLog.logs_front.Goals as goal

@@ -1,6 +1,6 @@
 use Rattle.std.proofs.Common.{◌≡◌, drop}
 use Rattle.std.specs.List.{list_all}
-use Rattle.op_core.specs.Front.{id_of}
+use Rattle.version_vector.specs.Front.{id_of}
 use Rattle.crdt_rules.specs.Dependencies.{is_logged}
 use Rattle.op_log.proofs.log.OpLog.logs_front.Given as goal
 

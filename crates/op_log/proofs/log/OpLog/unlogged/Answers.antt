@@ -1,7 +1,7 @@
 use Rattle.std.proofs.Common.{◌≡◌, ◌<◌, ◌≤◌, ℕ, List, ◌∷◌, [], ◌++◌, Bool, true, not, length, map, filter, sym, ap, subst, ◌∙◌}
 use Rattle.std.proofs.lemmas.List.{take_all}
 use Rattle.doc_api.specs.Words.{Id}
-use Rattle.op_core.specs.Front.{id_of}
+use Rattle.version_vector.specs.Front.{id_of}
 use Rattle.crdt_rules.specs.Dependencies.{is_logged}
 use Rattle.op_log.proofs.Pairs.{one_passes, one_falls}
 use Rattle.op_log.proofs.log.OpLog.unlogged.Goals as goal

@@ -1,5 +1,5 @@
 use Rattle.std.proofs.Common.{◌≡◌, map, filter, not, take}
-use Rattle.op_core.specs.Front.{id_of}
+use Rattle.version_vector.specs.Front.{id_of}
 use Rattle.crdt_rules.specs.Dependencies.{is_logged}
 use Rattle.op_log.proofs.log.OpLog.unlogged.Given as goal
 

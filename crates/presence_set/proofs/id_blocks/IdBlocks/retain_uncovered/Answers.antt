@@ -1,6 +1,6 @@
 use Rattle.std.proofs.Common.{◌≡◌, ◌++◌, ◌∙◌, sym, ap, subst, map, filter, not}
 use Rattle.doc_api.specs.Words.{id_cmp}
-use Rattle.op_core.specs.Front.{covers}
+use Rattle.version_vector.specs.Front.{covers}
 use Rattle.list_laws.proofs.Rising.{rising-filter}
 use Rattle.presence_set.specs.ById.{uncovered, IsAscending}
 use Rattle.presence_set.specs.Blocks.{pairs_in, has_pair, blocks_in, lack_in, AreNonEmpty, HasSpareRoom, AllHaveRoom, HaveRoomFor}

@@ -1,6 +1,0 @@
-use Rattle.std.proofs.Common.{◌≡◌, max, drop}
-use Rattle.op_core.specs.Front.{greatest}
-use Rattle.op_core.proofs.chunks.greatest.Given as goal
-
-abbrev pub invariant-loop-counter : goal.invariant-loop-counter
-invariant-loop-counter l = max l.most (greatest (drop l.counter-index l.counters)) ≡ greatest l.counters

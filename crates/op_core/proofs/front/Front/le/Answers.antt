@@ -1,4 +1,0 @@
-use Rattle.op_core.proofs.front.Front.le.Goals as goal
-
-pub returns : goal.returns
-returns c = c.covers_all.ensures

@@ -1,9 +1,0 @@
-use Rattle.std.proofs.Common.{sym, ◌∙◌}
-use Rattle.std.specs.Arc.{arc_slice_items}
-use Rattle.op_core.proofs.FrontPairs.{length-pairs}
-use Rattle.op_core.proofs.front.Front.len.Goals as goal
-
-pub returns : goal.returns
-returns c =
-    rw (← c.self.view_is) (c.len.ensures
-    ∙ c.self.invariant.0 ∙ sym (length-pairs (arc_slice_items c.self.inside.names) c.self.inside.counters c.self.invariant.0))

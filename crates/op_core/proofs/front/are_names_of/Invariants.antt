@@ -1,5 +1,0 @@
-use Rattle.std.proofs.Common.{◌≡◌, ℕ, List, map, take}
-use Rattle.op_core.proofs.front.are_names_of.Given as goal
-
-abbrev pub invariant-loop-at : goal.invariant-loop-at
-invariant-loop-at l = take l.at l.names ≡ take l.at (map (λ (e : List ℕ × ℕ). e.0) l.pairs)
