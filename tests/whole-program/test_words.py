@@ -2,13 +2,14 @@
 
 import contextlib
 import os
+import re
 import subprocess
 from typing import List, Optional, Sequence, Tuple, Union
 
 import pytest
 
 from support import TOP
-from tried import NOTE, NO_FOLDER, SECONDS, Tried, Words, bytes_of, same
+from tried import NOTE, NO_FOLDER, SECONDS, Tried, Words, same
 
 NAME = "isn't 1 to 24 of a-z, 0-9 and -"
 DOCUMENT = "isn't 1 to 32 of a-z, 0-9 and -"
@@ -66,6 +67,7 @@ FAULTS = [
     (["check", "--file", "copy-of-a-fault.db"], "cannot open copy-of-a-fault.db: it is not there", os.devnull, os.devnull),
     (["check", "--file", "empty.db"], "standard output failed", os.devnull, "/dev/full"),
     (["run", "d"], "standard input failed", "/", os.devnull),
+    (["--version"], "standard output failed", os.devnull, "/dev/full"),
     (["run", "d"], "standard output failed", "one-line", "/dev/full"),
 ]
 
@@ -91,8 +93,11 @@ def test_words_that_ask_for_no_session(tried: Tried, words: Words, cause: Option
 
 @pytest.mark.parametrize("word", ["version", "--version", "-V"])
 def test_version(tried: Tried, word: str) -> None:
-    version = bytes_of(f"{TOP}/VERSION").decode().strip()
-    same(outcome(tried, [word]), (2, b"", f"jcrdt {version}\n".encode()))
+    """It is standard output's, as of other programs: version, and the commit of the sources."""
+    version = version_of(TOP)
+    status, told, errors = outcome(tried, [word])
+    same((status, errors), (0, b""))
+    assert re.fullmatch(rf"jcrdt {re.escape(version)} \(commit [0-9a-f]{{12}}\)\n", told.decode()), told
 
 
 @pytest.mark.parametrize("words, cause, reads, writes", FAULTS, ids=[" ".join(it[0])[:60] for it in FAULTS])

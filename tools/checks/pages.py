@@ -3,7 +3,8 @@
 A line has at most 100 columns and a cell of a table at most 120 characters, both outside ``` blocks; a table's row has no limit
 of its own, and a page none of lines. A link to a file of the repository leads somewhere, and one to a heading to a heading of that page; so do those of other READMEs.
 The words are looked for outside code. A block ```rattle FILE has lines of that file, in their order; `..` stands for what is left out.
-docs/CRATES.md has a row for each crate, and docs/ARCHITECTURE.md for each file of a package."""
+docs/CRATES.md has a row for each crate, and docs/ARCHITECTURE.md for each file of a package. What the pages say of the time of
+`./test quick` is what `./test` says itself."""
 
 import argparse
 import functools
@@ -143,6 +144,18 @@ def map_faults(top: str) -> Iterator[str]:
             yield from (f"docs/ARCHITECTURE.md: there is no clients/{folder}/{it}" for it in sorted(mapped - files) if not it.startswith("test_"))
 
 
+def minute_faults(top: str) -> Iterator[str]:
+    """The pages that give another time of `./test quick` than `./test` does. docs/HACKING.md gives one."""
+    with open(f"{top}/test", encoding="utf-8") as it:
+        minutes = re.findall(r'(?m)^QUICK_MINUTES = "(\w+)"$', it.read())
+    for page in ("README.md", "CONTRIBUTING.md", "docs/HACKING.md", "tests/README.md"):
+        with open(f"{top}/{page}", encoding="utf-8") as it:
+            text = re.sub(r"\s+", " ", it.read())
+        said = re.findall(r"`?\./test quick`?[^.]*? (?:in|takes) (?:some )?(\w+) minutes", text)
+        if {*said} - {*minutes} or page == "docs/HACKING.md" and not said:
+            yield f"{page}: ./test quick takes {', '.join(said) or 'no'} minutes there, and {', '.join(minutes) or 'no'} in test"
+
+
 def check(words: argparse.Namespace) -> int:
     wanted = [*TOP_PAGES, *(f"docs/{it}.md" for it in WANTED)]
     missing = [it for it in wanted if not os.path.isfile(f"{words.top}/{it}")]
@@ -156,7 +169,7 @@ def check(words: argparse.Namespace) -> int:
             bad += 1
     others = glob.glob(f"{words.top}/*/README.md") + glob.glob(f"{words.top}/clients/*/README.md")
     linking = [fault for page in sorted(others) for fault in link_faults(words.top, page)]
-    for fault in linking if missing else (*linking, *crate_faults(words.top), *map_faults(words.top)):
+    for fault in linking if missing else (*linking, *crate_faults(words.top), *map_faults(words.top), *minute_faults(words.top)):
         print(fault)
         bad += 1
     print(f"{len(pages)} pages, {bad} faults")

@@ -13,4 +13,4 @@ from .writes import Writes
 
 __all__ = ["Away", "Conflict", "Counter", "Lost", "Refused", "Session", "StoredLog", "Writes", "connected", "covers", "followed",
            "followed_file", "front_after", "front_on_disk", "plain", "program", "serving", "settled", "started"]
-__version__ = "1.0.0"
+__version__ = "1.1.0"

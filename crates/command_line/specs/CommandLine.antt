@@ -1,6 +1,6 @@
 -- What the arguments of a command line ask for.
 use Rattle.std.specs.Prelude.{◌≡◌, ◌≤◌, ℕ, Bool, true, false, List, [], ◌∷◌, codes, map, Some}
-use Rattle.std.specs.Prelude.{unwrap_or}
+use Rattle.std.specs.Prelude.{◌||◌, unwrap_or}
 use Rattle.std.specs.Str.{bytes_eq}
 use Rattle.std.specs.Str.Parse.{IsNumeral, digits_value, without_leading_plus}
 use Rattle.clap.specs.Words.{App, Row, Rule, Text, all_of, fault_of, first_of, found_of, matches_of}
@@ -147,6 +147,10 @@ check_command = with_rule (new_app (codes "check")) (required_rule (codes "file"
 abbrev pub is_check : List Text → Bool
 is_check [] = false
 is_check (arg ∷ args) = bytes_eq arg (codes "check")
+
+abbrev pub is_version : List Text → Bool
+is_version [] = false
+is_version (arg ∷ args) = bytes_eq arg (codes "version") || (bytes_eq arg (codes "--version") || bytes_eq arg (codes "-V"))
 
 -- the arguments are a `check` that clap takes
 pub record AsksToCheck (args : List Text) : Type 0 where

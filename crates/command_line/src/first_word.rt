@@ -1,6 +1,6 @@
 //! The command that the first argument names.
 ghost use Rattle.std.specs.Prelude.{◌≡◌, map};
-ghost use Rattle.command_line.specs.CommandLine.{is_check, is_run, is_serve};
+ghost use Rattle.command_line.specs.CommandLine.{is_check, is_run, is_serve, is_version};
 
 /// Whether the first argument is `run`.
 pub fn is_run(args: &[&str]) -> bool
@@ -28,6 +28,16 @@ pub fn is_check(args: &[&str]) -> bool
 {
     match args {
         [first, ..] => *first == "check",
+        [] => false,
+    }
+}
+
+/// Whether the first argument asks for the version: `version`, `--version` or `-V`.
+pub fn is_version(args: &[&str]) -> bool
+    ensures { result ≡ is_version (map (λ s. s.now) args.now) }
+{
+    match args {
+        [first, ..] => *first == "version" || *first == "--version" || *first == "-V",
         [] => false,
     }
 }

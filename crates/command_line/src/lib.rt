@@ -10,7 +10,7 @@ mod parse;
 mod usage;
 
 pub use args::{ArgsFault, CheckArgs, RunArgs, ServeArgs};
-pub use first_word::{is_check, is_run, is_serve};
+pub use first_word::{is_check, is_run, is_serve, is_version};
 pub use numbers::limits_as_defined;
 pub use parse::{parse_check, parse_run, parse_serve};
-pub use usage::{NO_MEMORY, USAGE, VERSION, cause_of, usage_of};
+pub use usage::{NO_MEMORY, USAGE, VERSION, cause_of};

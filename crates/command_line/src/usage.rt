@@ -13,27 +13,17 @@ pub const USAGE: &str = "usage: jcrdt run [--name NAME] DOC..\n\
     \x20      jcrdt check --file F\n\
     \x20 NAME: 1 to 24, DOC: 1 to 32 of a-z, 0-9 and -; 1 to 16 documents of different names\n\
     \x20 A: HOST:PORT to listen at, N: 1 to 256 sessions\n\
-    \x20 F: the file of a copy, which serve makes where it isn't there\n\
+    \x20 F: the file of what is stored, which serve makes where it isn't there\n\
     \x20 M: 1 to 100000 operations of a document that may be answered and not yet in F; 4096 if not given\n\
     \x20 --durable: a change is answered once it is in F\n\
     \x20 Lines of JSON in, lines of JSON out: see docs/FORMATS.md.";
 
-/// The program and its version, as in the file VERSION.
-pub const VERSION: &str = "jcrdt 1.0.0";
+/// The program, its version as in the file VERSION, and the commit of the sources that it was
+/// released from. `tools/release` refuses another one.
+pub const VERSION: &str = "jcrdt 1.1.0 (commit 000000000000)";
 
 /// The message where memory runs out before anything was asked for.
 pub const NO_MEMORY: &str = "jcrdt: out of memory while the command line was read";
-
-/// What follows the cause: how the program is called, or its version where that was asked for.
-pub fn usage_of(args: &[&str]) -> &'static str {
-    match args {
-        [first, ..] => match *first {
-            "version" | "--version" | "-V" => VERSION,
-            _ => USAGE,
-        },
-        [] => USAGE,
-    }
-}
 
 // What clap says was wrong, without its own usage. None where help was asked for.
 fn clap_cause(alloc: Global, error: &Error) -> Result<Option<String>, AllocError> {
@@ -139,7 +129,7 @@ pub fn cause_of(alloc: Global, args: &[&str]) -> Result<Option<String>, AllocErr
             "run" => run_cause(alloc, args),
             "serve" => serve_cause(alloc, args),
             "check" => check_cause(alloc, args),
-            "help" | "--help" | "-h" | "version" | "--version" | "-V" => Ok(None),
+            "help" | "--help" | "-h" => Ok(None),
             other => Ok(Some(format!(in alloc;
                 "error: {other:?} is none of run, serve and check"
             )?)),

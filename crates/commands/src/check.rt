@@ -63,7 +63,7 @@ pub fn parse_and_check<O: OpenLog, W: Sink>(
     ensures status { result ≤ 2 }
     ensures first_word { is_check (map (λ s. s.now) args.now) ≡ false → result ≡ 2 }
 
-    // What was written is a report of some copy.
+    // What was written is a report of some stored log.
     ensures reported { result ≡ 0
         → AsksToCheck (map (λ s. s.now) args.now)
         × Reports (W.contents sink.old) (W.contents sink.new) }

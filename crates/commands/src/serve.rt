@@ -22,8 +22,8 @@ fn report_unclosed<R: Eprint>(rt: &R, closed: &Result<(), StoredFault>) {
 }
 
 // Closes the stored log. Where that fails it is reported on standard error.
-fn close<R: Eprint, L: StoredLog>(rt: &R, copy: L) {
-    let closed = match copy.close() {
+fn close<R: Eprint, L: StoredLog>(rt: &R, stored: L) {
+    let closed = match stored.close() {
         Ok(_) => Ok(()),
         Err((why, _)) => Err(why),
     };
@@ -32,7 +32,7 @@ fn close<R: Eprint, L: StoredLog>(rt: &R, copy: L) {
 
 // Whether this failure also says why the file was not closed.
 fn is_of_folding(failure: &Failure) -> bool {
-    matches!(failure, Failure::Database(Step::Fold, _))
+    matches!(failure, Failure::Store(Step::Fold, _))
 }
 
 // Reports on standard error why a server ended with status 1: one line a cause.
@@ -69,8 +69,8 @@ fn listen_and_serve<R: ServerHost, L: StoredLog, W: io::Write>(
     ensures unwritten { IfErr opened (λ fault. (fault ≡ Fault.Refused) ⊎ (out.new ≡ out.old)) }
 {
     let alloc = *asked.documents.allocator();
-    let copy = match opened {
-        Ok(copy) => copy,
+    let stored = match opened {
+        Ok(stored) => stored,
         Err(fault) => {
             // What opens stored logs has reported why.
             let _ = report_fault(fault, out);
@@ -78,13 +78,13 @@ fn listen_and_serve<R: ServerHost, L: StoredLog, W: io::Write>(
         }
     };
     let Some(listener) = listen(host, rt, alloc, asked.address, out) else {
-        close(rt, copy);
+        close(rt, stored);
         return 1;
     };
     let entrance = Entrance::new(rt, &listener, asked.sessions);
     let Ok(all) = connections(alloc, &entrance, asked.sessions) else {
         let _ = rt.eprintln("jcrdt: out of memory while the sessions were prepared");
-        close(rt, copy);
+        close(rt, stored);
         return 1;
     };
     let (status, ended) = serve_over(
@@ -94,7 +94,7 @@ fn listen_and_serve<R: ServerHost, L: StoredLog, W: io::Write>(
         &asked.documents,
         asked.pace,
         all,
-        copy,
+        stored,
         out,
     );
     report_causes(rt, &ended.served, &ended.closed);

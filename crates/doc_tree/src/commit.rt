@@ -109,7 +109,7 @@ pub fn apply(nodes: &mut [Node], scalar: Option<Scalar>, place: PlaceNodes, op: 
 }
 
 /// The role of an operation where it puts a value.
-pub fn role_for(val: &Val) -> Role
+fn role_for(val: &Val) -> Role
     ensures { result ≡ role_of val.now }
 {
     match val {

@@ -9,7 +9,7 @@ ghost use Rattle.stored_log.specs.Log.{IsAddedOrNot};
 ghost use Rattle.served_log.specs.Batches.{AddsMany, AddsOf, AreAdded, AreAddedUpTo, AddsBatches};
 ghost use Rattle.served_log.specs.Batches.{IsNextOf};
 
-use crate::document_to_copy::DocumentToCopy;
+use crate::document_to_stored::DocumentToCopy;
 use crate::observer::CopyObserver;
 use doc_api::Operations;
 use json_scalar::Refusal;
@@ -46,11 +46,11 @@ fn next_at<M: Marker, R: Wait>(
 }
 
 // Notes in the document how many of its entries the stored log has: so many.
-fn note_rows<M: Marker, L: StoredLog>(doc: &mut LockedDoc<M>, _copy: &L, _name: &str, rows: usize)
-    requires { rows ≡ length (log_of _name.now (L.log _copy.now).docs) }
+fn note_rows<M: Marker, L: StoredLog>(doc: &mut LockedDoc<M>, _stored: &L, _name: &str, rows: usize)
+    requires { rows ≡ length (log_of _name.now (L.log _stored.now).docs) }
     ensures { (doc.new.number ≡ doc.old.number)
         × (doc.new.document
-        ≡ copied_to (length (log_of _name.now (L.log _copy.now).docs)) doc.old.document) }
+        ≡ copied_to (length (log_of _name.now (L.log _stored.now).docs)) doc.old.document) }
 {
     doc.note_copied(rows as u64);
 }
@@ -60,23 +60,23 @@ fn note_rows<M: Marker, L: StoredLog>(doc: &mut LockedDoc<M>, _copy: &L, _name: 
 fn note_at<M: Marker, R: Wait, L: StoredLog>(
     rt: &R,
     document: &DocumentToCopy<'_, M>,
-    copy: &L,
+    stored: &L,
     rows: usize,
 )
-    requires { rows ≡ length (log_of document.now.name.now (L.log copy.now).docs) }
+    requires { rows ≡ length (log_of document.now.name.now (L.log stored.now).docs) }
 {
     let mut doc = lock_document(rt, document.shared, document.doc_index, 0);
-    note_rows(&mut doc, copy, document.name, rows);
+    note_rows(&mut doc, stored, document.name, rows);
 }
 
 // Notifies the observer of these entries, which were just added to the document of this name.
 fn notify_added<L: StoredLog, T: CopyObserver>(
     observer: &T,
-    copy: &L,
+    stored: &L,
     name: &str,
     entries: &[op_core::Operation],
 ) {
-    let Ok(docs) = copy.docs() else {
+    let Ok(docs) = stored.docs() else {
         return;
     };
     if let Some(document) = stored_log::find(docs, name) {
@@ -86,30 +86,30 @@ fn notify_added<L: StoredLog, T: CopyObserver>(
 
 // Adds these entries to the stored log, behind the `from` entries of the document.
 fn add_next<L: StoredLog>(
-    copy: &mut L,
+    stored: &mut L,
     name: &str,
     from: usize,
     entries: &[op_core::Operation],
 ) -> Result<(), Fault>
     requires some { entries.now ≢ [] }
-    requires behind { from ≡ length (log_of name.now (L.log copy.old).docs) }
+    requires behind { from ≡ length (log_of name.now (L.log stored.old).docs) }
     ensures some { OnOk result ((adds : AddsMany name.now (length entries.now)
-        (L.log copy.old).docs (L.log copy.new).docs) × (adds.next.ops ≡ entries.now)) }
-    ensures works { OnOk result (((L.log copy.new).epoch ≡ (L.log copy.old).epoch)
-        × ((L.log copy.new).has_failed ≡ false)) }
-    ensures err { IfErr result (λ e. (e ≡ Fault.Store) ⊎ (copy.new ≡ copy.old)) }
-    ensures failed { (result ≡ Err Fault.Store) ↔ ((L.log copy.new).has_failed ≡ true) }
-    ensures alone { (L.log copy.new).is_alone ≡ (L.log copy.old).is_alone }
+        (L.log stored.old).docs (L.log stored.new).docs) × (adds.next.ops ≡ entries.now)) }
+    ensures works { OnOk result (((L.log stored.new).epoch ≡ (L.log stored.old).epoch)
+        × ((L.log stored.new).has_failed ≡ false)) }
+    ensures err { IfErr result (λ e. (e ≡ Fault.Store) ⊎ (stored.new ≡ stored.old)) }
+    ensures failed { (result ≡ Err Fault.Store) ↔ ((L.log stored.new).has_failed ≡ true) }
+    ensures alone { (L.log stored.new).is_alone ≡ (L.log stored.old).is_alone }
     // A crash leaves what was there, or all of them besides.
-    ensures crash { (L.log copy.old).has_failed ≡ false
-        → L.survives copy.new (IsAddedOrNot name.now entries.now (L.log copy.old)) }
+    ensures crash { (L.log stored.old).has_failed ≡ false
+        → L.survives stored.new (IsAddedOrNot name.now entries.now (L.log stored.old)) }
 {
-    copy.append(name, from, entries)
+    stored.append(name, from, entries)
 }
 
 // Tells waiting sessions that the stored log has so many entries of the document.
-fn publish<M: Marker, L: StoredLog>(document: &DocumentToCopy<'_, M>, _copy: &L, rows: usize)
-    requires stored { rows ≤ length (log_of document.now.name.now (L.log _copy.now).docs) }
+fn publish<M: Marker, L: StoredLog>(document: &DocumentToCopy<'_, M>, _stored: &L, rows: usize)
+    requires stored { rows ≤ length (log_of document.now.name.now (L.log _stored.now).docs) }
 {
     document
         .shared
@@ -121,14 +121,14 @@ fn publish<M: Marker, L: StoredLog>(document: &DocumentToCopy<'_, M>, _copy: &L,
 fn note_written<M: Marker, R: Wait, L: StoredLog>(
     rt: &R,
     document: &DocumentToCopy<'_, M>,
-    copy: &L,
+    stored: &L,
 ) -> Result<(), Fault>
-    ensures failed { (result ≡ Err Fault.Store) ↔ ((L.log copy.now).has_failed ≡ true) }
+    ensures failed { (result ≡ Err Fault.Store) ↔ ((L.log stored.now).has_failed ≡ true) }
     ensures never_else { IfErr result (λ e. e ≡ Fault.Store) }
 {
-    let rows = copy.rows(document.name)?;
-    note_at(rt, document, copy, rows);
-    publish(document, copy, rows);
+    let rows = stored.rows(document.name)?;
+    note_at(rt, document, stored, rows);
+    publish(document, stored, rows);
     Ok(())
 }
 
@@ -140,39 +140,39 @@ fn note_written<M: Marker, R: Wait, L: StoredLog>(
 pub fn copy_some<M: Marker, R: Wait, L: StoredLog, T: CopyObserver>(
     rt: &R,
     document: &DocumentToCopy<'_, M>,
-    copy: &mut L,
+    stored: &mut L,
     observer: &T,
 ) -> Result<usize, Fault>
     ensures some { IfOk result (λ count. 0 < count
-        → AddsOf M.origin document.now.doc_index document.now.name.now count (L.log copy.old).docs (L.log copy.new).docs) }
-    ensures none { result ≡ Ok 0 → copy.new ≡ copy.old }
-    ensures works { OnOk result (((L.log copy.new).epoch ≡ (L.log copy.old).epoch)
-        × ((L.log copy.new).has_failed ≡ false)) }
-    ensures err { IfErr result (λ e. (e ≡ Fault.Store) ⊎ (copy.new ≡ copy.old)) }
-    ensures failed { (result ≡ Err Fault.Store) ↔ ((L.log copy.new).has_failed ≡ true) }
-    ensures alone { (L.log copy.new).is_alone ≡ (L.log copy.old).is_alone }
+        → AddsOf M.origin document.now.doc_index document.now.name.now count (L.log stored.old).docs (L.log stored.new).docs) }
+    ensures none { result ≡ Ok 0 → stored.new ≡ stored.old }
+    ensures works { OnOk result (((L.log stored.new).epoch ≡ (L.log stored.old).epoch)
+        × ((L.log stored.new).has_failed ≡ false)) }
+    ensures err { IfErr result (λ e. (e ≡ Fault.Store) ⊎ (stored.new ≡ stored.old)) }
+    ensures failed { (result ≡ Err Fault.Store) ↔ ((L.log stored.new).has_failed ≡ true) }
+    ensures alone { (L.log stored.new).is_alone ≡ (L.log stored.old).is_alone }
 {
-    let from = copy.rows(document.name)?;
-    publish(document, copy, from);
+    let from = stored.rows(document.name)?;
+    publish(document, stored, from);
     let Ok(next) = next_at(rt, document, from) else {
         return Err(Fault::Memory);
     };
     if next.as_slice().is_empty() {
         return Ok(0);
     }
-    add_next(copy, document.name, from, next.as_slice())?;
-    note_written(rt, document, copy)?;
-    notify_added(observer, copy, document.name, next.as_slice());
+    add_next(stored, document.name, from, next.as_slice())?;
+    note_written(rt, document, stored)?;
+    notify_added(observer, stored, document.name, next.as_slice());
     Ok(next.as_slice().len())
 }
 
 /// Publishes to waiting sessions how many entries of each document the stored log has. Once that
 /// has failed it publishes nothing.
-pub(crate) fn publish_all<M: Marker, L: StoredLog>(shared: &SharedDocuments<M>, copy: &L) {
+pub(crate) fn publish_all<M: Marker, L: StoredLog>(shared: &SharedDocuments<M>, stored: &L) {
     for doc_index in 0..shared.names.len() {
         let document = DocumentToCopy::at(shared, doc_index);
-        if let Ok(rows) = copy.rows(document.name) {
-            publish(&document, copy, rows);
+        if let Ok(rows) = stored.rows(document.name) {
+            publish(&document, stored, rows);
         }
     }
 }
@@ -183,27 +183,27 @@ pub(crate) fn publish_all<M: Marker, L: StoredLog>(shared: &SharedDocuments<M>, 
 pub fn copy_each<M: Marker, R: Wait, L: StoredLog, T: CopyObserver>(
     rt: &R,
     shared: &SharedDocuments<M>,
-    copy: &mut L,
+    stored: &mut L,
     observer: &T,
 ) -> Result<usize, Fault>
     ensures ok { IfOk result (λ most. AreAdded M.origin shared.now.names.items
-        (L.log copy.old).docs (ltb 0 most) (L.log copy.new).docs) }
+        (L.log stored.old).docs (ltb 0 most) (L.log stored.new).docs) }
     ensures most { IfOk result (λ most. AreAddedUpTo M.origin shared.now.names.items
-        (L.log copy.old).docs most (L.log copy.new).docs) }
-    ensures none { result ≡ Ok 0 → (L.log copy.new).docs ≡ (L.log copy.old).docs }
-    ensures works { OnOk result (((L.log copy.new).epoch ≡ (L.log copy.old).epoch)
-        × ((L.log copy.old).has_failed ≡ false → (L.log copy.new).has_failed ≡ false)) }
+        (L.log stored.old).docs most (L.log stored.new).docs) }
+    ensures none { result ≡ Ok 0 → (L.log stored.new).docs ≡ (L.log stored.old).docs }
+    ensures works { OnOk result (((L.log stored.new).epoch ≡ (L.log stored.old).epoch)
+        × ((L.log stored.old).has_failed ≡ false → (L.log stored.new).has_failed ≡ false)) }
     ensures err { IfErr result (λ e. (e ≡ Fault.Store)
-        ⊎ AddsBatches M.origin shared.now.names.items (L.log copy.old) (L.log copy.new)) }
-    ensures failed { result ≡ Err Fault.Store → (L.log copy.new).has_failed ≡ true }
+        ⊎ AddsBatches M.origin shared.now.names.items (L.log stored.old) (L.log stored.new)) }
+    ensures failed { result ≡ Err Fault.Store → (L.log stored.new).has_failed ≡ true }
     ensures works_on { (result ≡ Err Fault.Store)
-        ⊎ ((L.log copy.old).has_failed ≡ false → (L.log copy.new).has_failed ≡ false) }
-    ensures alone { (L.log copy.new).is_alone ≡ (L.log copy.old).is_alone }
+        ⊎ ((L.log stored.old).has_failed ≡ false → (L.log stored.new).has_failed ≡ false) }
+    ensures alone { (L.log stored.new).is_alone ≡ (L.log stored.old).is_alone }
 {
     let mut most: usize = 0;
     for doc_index in 0..shared.names.len() {
         let document = DocumentToCopy::at(shared, doc_index);
-        let count = copy_some(rt, &document, copy, observer)?;
+        let count = copy_some(rt, &document, stored, observer)?;
         most = most.max(count);
     }
     Ok(most)

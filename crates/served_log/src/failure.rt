@@ -48,7 +48,7 @@ pub enum Failure {
     /// Memory ran out.
     Memory(Step),
     /// The stored log failed.
-    Database(Step, StoredFault),
+    Store(Step, StoredFault),
     /// The ids acknowledged to sessions differ from the log.
     Lists,
     /// The totals could not be written.
@@ -61,29 +61,29 @@ pub enum Failure {
 
 impl Failure {
     // The failure of a call of the stored log that answered this fault.
-    fn of_fault<L: StoredLog>(step: Step, fault: Fault, copy: &L) -> Failure {
+    fn of_fault<L: StoredLog>(step: Step, fault: Fault, stored: &L) -> Failure {
         match fault {
             Fault::Memory => Failure::Memory(step),
-            Fault::Refused | Fault::Store => Failure::Database(step, reason_of(fault, copy)),
+            Fault::Refused | Fault::Store => Failure::Store(step, reason_of(fault, stored)),
         }
     }
 
     /// Why no new epoch was started.
-    pub(crate) fn of_epoch<L: StoredLog>(fault: Fault, copy: &L) -> Failure
+    pub(crate) fn of_epoch<L: StoredLog>(fault: Fault, stored: &L) -> Failure
         ensures { fault ≡ Fault.Refused → ¬ IsUnwritten result }
     {
         if fault != Fault::Refused {
-            return Failure::of_fault(Step::Epoch, fault, copy);
+            return Failure::of_fault(Step::Epoch, fault, stored);
         }
-        match copy.epoch() {
+        match stored.epoch() {
             Ok(epoch) if epoch >= u64::from(LAST_EPOCH) => Failure::Epochs,
             _ => Failure::Name,
         }
     }
 
     /// Why the documents were not restored.
-    pub(crate) fn of_restoring<L: StoredLog>(fault: Fault, copy: &L) -> Failure {
-        Failure::of_fault(Step::Restore, fault, copy)
+    pub(crate) fn of_restoring<L: StoredLog>(fault: Fault, stored: &L) -> Failure {
+        Failure::of_fault(Step::Restore, fault, stored)
     }
 
     /// Why the totals of sessions were not added up. Where no session has begun there are no ends
@@ -100,10 +100,10 @@ impl Failure {
     }
 
     /// Why copying stopped.
-    pub(crate) fn of_copying<L: StoredLog>(fault: Fault, copy: &L) -> Failure
+    pub(crate) fn of_copying<L: StoredLog>(fault: Fault, stored: &L) -> Failure
         ensures { ¬ IsUnwritten result }
     {
-        Failure::Stopped(reason_of(fault, copy))
+        Failure::Stopped(reason_of(fault, stored))
     }
 }
 
@@ -113,7 +113,7 @@ impl Display for Failure {
             Failure::Epochs => write!(f, "all {LAST_EPOCH} epochs of the file are given out"),
             Failure::Name => f.write_str("the name with its epoch is too long"),
             Failure::Memory(step) => write!(f, "out of memory {step}"),
-            Failure::Database(step, why) => write!(f, "the file failed {step}: {why}"),
+            Failure::Store(step, why) => write!(f, "the file failed {step}: {why}"),
             Failure::Lists => f.write_str("what the sessions were told differs from the log"),
             Failure::Output(error) => fmt_output(error, f),
             Failure::Unstored => f.write_str("not all operations were stored"),

@@ -57,8 +57,8 @@ fn note_document<R: Log + Clock>(rt: &R, document: &StoredDoc) {
 }
 
 // Notes each of these documents as it is stored, in this order.
-pub(crate) fn note_documents<R: Log + Clock, L: StoredLog>(rt: &R, copy: &L, names: &[&str]) {
-    let Ok(docs) = copy.docs() else {
+pub(crate) fn note_documents<R: Log + Clock, L: StoredLog>(rt: &R, stored: &L, names: &[&str]) {
+    let Ok(docs) = stored.docs() else {
         return;
     };
     for name in names {

@@ -60,28 +60,28 @@ fn is_known(docs: &[StoredDoc], names: &[&str], replica: &ReplicaName) -> bool
 /// they were; the epoch may be greater.
 pub fn next_replica_name<L: StoredLog>(
     alloc: Global,
-    copy: &mut L,
+    stored: &mut L,
     name: &str,
     documents: &[&str],
 ) -> Result<ReplicaName, Fault>
     ensures raised { IfOk result (λ replica.
-        IsRaised name.now (map (λ s. s.now) documents.now) replica (L.log copy.old) (L.log copy.new)) }
+        IsRaised name.now (map (λ s. s.now) documents.now) replica (L.log stored.old) (L.log stored.new)) }
     ensures refused { result ≡ Err Fault.Refused
-        → (last_epoch ≤ (L.log copy.new).epoch)
-        ⊎ (is_name (replica_name name.now (L.log copy.new).epoch) ≡ false) }
-    ensures failed { (result ≡ Err Fault.Store) ↔ ((L.log copy.new).has_failed ≡ true) }
-    ensures works { OnOk result ((L.log copy.new).has_failed ≡ false) }
+        → (last_epoch ≤ (L.log stored.new).epoch)
+        ⊎ (is_name (replica_name name.now (L.log stored.new).epoch) ≡ false) }
+    ensures failed { (result ≡ Err Fault.Store) ↔ ((L.log stored.new).has_failed ≡ true) }
+    ensures works { OnOk result ((L.log stored.new).has_failed ≡ false) }
     ensures kept { (result ≡ Err Fault.Store)
-        ⊎ KeepsAll (L.log copy.old) (L.log copy.new).epoch (L.log copy.new).docs }
-    ensures alone { (L.log copy.new).is_alone ≡ (L.log copy.old).is_alone }
+        ⊎ KeepsAll (L.log stored.old) (L.log stored.new).epoch (L.log stored.new).docs }
+    ensures alone { (L.log stored.new).is_alone ≡ (L.log stored.old).is_alone }
     // A crash leaves the rows that were there, under an epoch that is not smaller.
-    ensures crash { (L.log copy.old).has_failed ≡ false
-        → L.survives copy.new (KeepsAll (L.log copy.old)) }
+    ensures crash { (L.log stored.old).has_failed ≡ false
+        → L.survives stored.new (KeepsAll (L.log stored.old)) }
 {
     loop {
-        let epoch = copy.epoch_up()?;
+        let epoch = stored.epoch_up()?;
         let replica = replica_at(alloc, name, epoch)?;
-        if !is_known(copy.docs()?, documents, &replica) {
+        if !is_known(stored.docs()?, documents, &replica) {
             return Ok(replica);
         }
     }

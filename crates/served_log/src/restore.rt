@@ -42,7 +42,7 @@ fn copy_names(alloc: Global, names: &[&str]) -> Result<Vec<Name>, Refusal>
 #[derive(Drop)]
 pub struct Restoring<'a, L> {
     /// The stored log.
-    pub copy: &'a L,
+    pub stored: &'a L,
     /// The replica that has the documents.
     pub replica: &'a ReplicaName,
     /// How many seats each has.
@@ -57,15 +57,15 @@ fn restore_one<M: Marker, L: StoredLog>(
     name: &str,
 ) -> Result<LockedDoc<M>, Fault>
     requires number { 1 ≤ greatest_number - ledger.old }
-    requires begun { log_of name.now (L.log from.now.copy.now).docs ≡ (M.origin ledger.old).log }
+    requires begun { log_of name.now (L.log from.now.stored.now).docs ≡ (M.origin ledger.old).log }
     requires named { MayBeNamed (M.origin ledger.old) from.now.replica.now }
     ensures made { IfOk result (λ doc. doc.document
-        ≡ new_document from.now.replica.now (log_of name.now (L.log from.now.copy.now).docs) from.now.seats) }
+        ≡ new_document from.now.replica.now (log_of name.now (L.log from.now.stored.now).docs) from.now.seats) }
     ensures next { IfOk result (λ doc. ledger.new ≡ ledger.old + 1) }
     ensures never_refused { IfErr result (λ e. (e ≡ Fault.Store) ⊎ (e ≡ Fault.Memory)) }
-    ensures failed { result ≡ Err Fault.Store → (L.log from.now.copy.now).has_failed ≡ true }
+    ensures failed { result ≡ Err Fault.Store → (L.log from.now.stored.now).has_failed ≡ true }
 {
-    let log = from.copy.load(alloc, name)?;
+    let log = from.stored.load(alloc, name)?;
     match ledger.of_log(alloc, from.replica, log, from.seats) {
         Ok(doc) => Ok(doc),
         Err(_) => Err(Fault::Memory),
@@ -93,14 +93,14 @@ fn restore_all<M: Marker, L: StoredLog>(
     requires few { length names.now ≤ greatest_number }
     requires first { ledger.old ≡ 0 }
     requires begun { M.origin
-        ≡ origin_at from.now.replica.now (L.log from.now.copy.now).docs (map
+        ≡ origin_at from.now.replica.now (L.log from.now.stored.now).docs (map
         (λ s. s.now) names.now) }
     ensures documents { IfOk result (λ docs. map (λ d. d.document) docs.items
-        ≡ map (λ n. new_document from.now.replica.now (log_of n (L.log from.now.copy.now).docs) from.now.seats)
+        ≡ map (λ n. new_document from.now.replica.now (log_of n (L.log from.now.stored.now).docs) from.now.seats)
         (map (λ s. s.now) names.now)) }
     ensures each { IfOk result (λ docs. length docs.items ≡ length names.now) }
     ensures never_refused { IfErr result (λ e. (e ≡ Fault.Store) ⊎ (e ≡ Fault.Memory)) }
-    ensures failed { result ≡ Err Fault.Store → (L.log from.now.copy.now).has_failed ≡ true }
+    ensures failed { result ≡ Err Fault.Store → (L.log from.now.stored.now).has_failed ≡ true }
 {
     let mut docs = Vec::new(alloc);
     for name in names {
@@ -122,14 +122,14 @@ pub fn restore_documents<M: Marker, L: StoredLog>(
     requires few { length names.now ≤ greatest_number }
     requires first { ledger.old ≡ 0 }
     requires begun { M.origin
-        ≡ origin_at from.now.replica.now (L.log from.now.copy.now).docs (map
+        ≡ origin_at from.now.replica.now (L.log from.now.stored.now).docs (map
         (λ s. s.now) names.now) }
     ensures names { IfOk result (λ made. made.names.items ≡ map (λ s. s.now) names.now) }
     ensures documents { IfOk result (λ made. map (λ d. d.document) made.docs.items
-        ≡ restored from.now.replica.now (L.log from.now.copy.now).docs from.now.seats (map
+        ≡ restored from.now.replica.now (L.log from.now.stored.now).docs from.now.seats (map
         (λ s. s.now) names.now)) }
     ensures never_refused { IfErr result (λ e. (e ≡ Fault.Store) ⊎ (e ≡ Fault.Memory)) }
-    ensures failed { result ≡ Err Fault.Store → (L.log from.now.copy.now).has_failed ≡ true }
+    ensures failed { result ≡ Err Fault.Store → (L.log from.now.stored.now).has_failed ≡ true }
 {
     let Ok(made) = copy_names(alloc, names) else {
         return Err(Fault::Memory);

@@ -31,12 +31,12 @@ fn are_stored(docs: &[StoredDoc], names: &[&str], totals: &[Totals]) -> bool
 
 /// Whether the stored log has all operations of each document of these names, and the totals count
 /// them as copied. False once it has failed.
-pub(crate) fn has_all<L: StoredLog>(copy: &L, names: &[&str], totals: &[Totals]) -> bool
+pub(crate) fn has_all<L: StoredLog>(stored: &L, names: &[&str], totals: &[Totals]) -> bool
     requires { length totals.now ≡ length names.now }
     ensures { IsTrue result
-        → AreStored (L.log copy.now).docs (map (λ s. s.now) names.now) totals.now }
+        → AreStored (L.log stored.now).docs (map (λ s. s.now) names.now) totals.now }
 {
-    match copy.docs() {
+    match stored.docs() {
         Ok(docs) => are_stored(docs, names, totals),
         Err(_) => false,
     }

@@ -67,10 +67,10 @@ fn run_beside_copier<
         × AreAttended M.origin sessions.entry.shared.names.items (map C.bytes sessions.entry.connections.items) g.endings.items given
         × AreTotalsFrom M.origin 0 given g.totals.items) }
     ensures each { IfOk ran.new (λ g. vec_len g.totals ≡ length sessions.entry.shared.names.items) }
-    ensures same_reference { result.copy.ghost_name ≡ copier.entry.copy.ghost_name }
+    ensures same_reference { result.stored.ghost_name ≡ copier.entry.stored.ghost_name }
     // The copier has run, or memory ran out before the first session.
-    ensures left { (OnOk ran.new ⊥ × (result.copy.now ≡ copier.entry.copy.now))
-        ⊎ HasCopied M.origin sessions.entry.shared.names.items (L.log copier.entry.copy.now) (L.log result.copy.now) result.fault }
+    ensures left { (OnOk ran.new ⊥ × (result.stored.now ≡ copier.entry.stored.now))
+        ⊎ HasCopied M.origin sessions.entry.shared.names.items (L.log copier.entry.stored.now) (L.log result.stored.now) result.fault }
 {
     let Sessions {
         names: _,
@@ -96,19 +96,19 @@ fn serve_with_copier<M: Marker + Send + Sync, R: Host, C: Connect, L: StoredLog>
     rt: &R,
     alloc: Global,
     sessions: Sessions<'_, M, C>,
-    copy: &mut L,
+    stored: &mut L,
 ) -> (Result<Gathered, Failure>, Option<Fault>)
     ensures sessions { IfOk result.0 (λ g. (given : List (List (Option seats.Seat)))
         × AreAttended M.origin sessions.entry.shared.names.items (map C.bytes sessions.entry.connections.items) g.endings.items given
         × AreTotalsFrom M.origin 0 given g.totals.items) }
     ensures each { IfOk result.0
         (λ g. vec_len g.totals ≡ length sessions.entry.shared.names.items) }
-    ensures left { (OnOk result.0 ⊥ × (copy.new ≡ copy.old))
-        ⊎ HasCopied M.origin sessions.entry.shared.names.items (L.log copy.old) (L.log copy.new) result.1 }
+    ensures left { (OnOk result.0 ⊥ × (stored.new ≡ stored.old))
+        ⊎ HasCopied M.origin sessions.entry.shared.names.items (L.log stored.old) (L.log stored.new) result.1 }
 {
     let pace = sessions.shared.progress.pace();
     let logger = CopyLogger { rt, pace };
-    let copier = Copier::new(copy, &logger);
+    let copier = Copier::new(stored, &logger);
     let mut ran = Err(Failure::Memory(Step::Begin));
     let copier = run_beside_copier(rt, alloc, sessions, copier, &mut ran);
     let why = copier.end();
@@ -120,18 +120,18 @@ fn serve_with_copier<M: Marker + Send + Sync, R: Host, C: Connect, L: StoredLog>
 // or where the stored log lacks operations that the totals count.
 fn outcome_of<L: StoredLog>(
     fault: Option<Fault>,
-    copy: &L,
+    stored: &L,
     names: &[&str],
     totals: &[Totals],
 ) -> Result<(), Failure>
     requires { length totals.now ≡ length names.now }
     ensures copied { OnOk result (fault ≡ None) }
-    ensures stored { OnOk result (AreStored (L.log copy.now).docs (map (λ s. s.now) names.now) totals.now) }
+    ensures stored { OnOk result (AreStored (L.log stored.now).docs (map (λ s. s.now) names.now) totals.now) }
     ensures written { IfErr result (λ why. ¬ IsUnwritten why) }
 {
     match fault {
-        Some(why) => Err(Failure::of_copying(why, copy)),
-        None => if has_all(copy, names, totals) {
+        Some(why) => Err(Failure::of_copying(why, stored)),
+        None => if has_all(stored, names, totals) {
             Ok(())
         } else {
             Err(Failure::Unstored)
@@ -145,27 +145,27 @@ fn serve_sessions<M: Marker + Send + Sync, R: Host, C: Connect, L: StoredLog, W:
     rt: &R,
     alloc: Global,
     sessions: Sessions<'_, M, C>,
-    copy: &mut L,
+    stored: &mut L,
     out: &mut W,
 ) -> Result<(), Failure>
     requires { sessions.shared.names.items ≡ map (λ s. s.now) sessions.names.now }
-    ensures served { OnOk result (ServesSessions M.origin (L.log copy.new).docs (map (λ s. s.now) sessions.entry.names.now)
+    ensures served { OnOk result (ServesSessions M.origin (L.log stored.new).docs (map (λ s. s.now) sessions.entry.names.now)
         (length sessions.entry.connections.items) (W.contents out.old) (W.contents out.new)) }
     ensures unwritten { IfErr result (λ why. IsUnwritten why → out.new ≡ out.old) }
-    ensures copied { OnOk result (AddsBatches M.origin (map (λ s. s.now) sessions.entry.names.now) (L.log copy.old) (L.log copy.new)) }
-    ensures works { OnOk result ((L.log copy.old).has_failed ≡ false
-        → (L.log copy.new).has_failed ≡ false) }
-    ensures grown { (L.log copy.new).has_failed ≡ false
+    ensures copied { OnOk result (AddsBatches M.origin (map (λ s. s.now) sessions.entry.names.now) (L.log stored.old) (L.log stored.new)) }
+    ensures works { OnOk result ((L.log stored.old).has_failed ≡ false
+        → (L.log stored.new).has_failed ≡ false) }
+    ensures grown { (L.log stored.new).has_failed ≡ false
         → AddsBatches M.origin (map
-        (λ s. s.now) sessions.entry.names.now) (L.log copy.old) (L.log copy.new) }
-    ensures alone { (L.log copy.new).is_alone ≡ (L.log copy.old).is_alone }
+        (λ s. s.now) sessions.entry.names.now) (L.log stored.old) (L.log stored.new) }
+    ensures alone { (L.log stored.new).is_alone ≡ (L.log stored.old).is_alone }
 {
     let names = sessions.names;
-    let (ran, fault) = serve_with_copier(rt, alloc, sessions, copy);
+    let (ran, fault) = serve_with_copier(rt, alloc, sessions, stored);
     let gathered = ran?;
     let totals = gathered.totals.as_slice();
     match write_totals(alloc, names, totals, out) {
-        Ok(()) => outcome_of(fault, copy, names, totals),
+        Ok(()) => outcome_of(fault, stored, names, totals),
         Err(error) => Err(Failure::Output(error)),
     }
 }
@@ -175,11 +175,11 @@ fn restore<M: Marker, C, L: StoredLog>(
     alloc: Global,
     blank: Blank,
     begun: &Begun<'_, C>,
-    copy: &L,
+    stored: &L,
 ) -> Result<RestoredDocuments<M>, Fault>
     requires blank { blank ≡ M.name }
     requires begun { M.origin
-        ≡ origin_at begun.now.replica (L.log copy.now).docs (map
+        ≡ origin_at begun.now.replica (L.log stored.now).docs (map
         (λ s. s.now) begun.now.serving.documents.now) }
     requires few { length begun.now.serving.documents.now ≤ greatest_number }
     ensures { IfOk result
@@ -187,7 +187,7 @@ fn restore<M: Marker, C, L: StoredLog>(
 {
     let mut ledger = Ledger::<M>::new(blank);
     let from = Restoring {
-        copy,
+        stored,
         replica: &begun.replica,
         seats: seats_for(begun.serving.connections.len()),
     };
@@ -207,32 +207,32 @@ pub(crate) fn restore_and_serve<
     alloc: Global,
     blank: Blank,
     begun: Begun<'_, C>,
-    copy: &mut L,
+    stored: &mut L,
     out: &mut W,
 ) -> Result<(), Failure>
     requires blank { blank ≡ M.name }
-    requires named { begun.replica ≡ replica_name begun.serving.name.now (L.log copy.old).epoch }
+    requires named { begun.replica ≡ replica_name begun.serving.name.now (L.log stored.old).epoch }
     requires begun { M.origin
-        ≡ origin_at begun.replica (L.log copy.old).docs (map
+        ≡ origin_at begun.replica (L.log stored.old).docs (map
         (λ s. s.now) begun.serving.documents.now) }
     requires few { length begun.serving.documents.now ≤ greatest_number }
-    ensures served { OnOk result (ServesSessions M.origin (L.log copy.new).docs (map (λ s. s.now) begun.entry.serving.documents.now)
+    ensures served { OnOk result (ServesSessions M.origin (L.log stored.new).docs (map (λ s. s.now) begun.entry.serving.documents.now)
         (length begun.entry.serving.connections.items) (W.contents out.old) (W.contents out.new)) }
     ensures unwritten { IfErr result (λ why. IsUnwritten why → out.new ≡ out.old) }
     ensures copied { OnOk result
         (AddsBatches M.origin (map
-        (λ s. s.now) begun.entry.serving.documents.now) (L.log copy.old) (L.log copy.new)) }
-    ensures works { OnOk result ((L.log copy.old).has_failed ≡ false
-        → (L.log copy.new).has_failed ≡ false) }
-    ensures grown { (L.log copy.new).has_failed ≡ false
+        (λ s. s.now) begun.entry.serving.documents.now) (L.log stored.old) (L.log stored.new)) }
+    ensures works { OnOk result ((L.log stored.old).has_failed ≡ false
+        → (L.log stored.new).has_failed ≡ false) }
+    ensures grown { (L.log stored.new).has_failed ≡ false
         → AddsBatches M.origin (map
-        (λ s. s.now) begun.entry.serving.documents.now) (L.log copy.old) (L.log copy.new) }
-    ensures alone { (L.log copy.new).is_alone ≡ (L.log copy.old).is_alone }
+        (λ s. s.now) begun.entry.serving.documents.now) (L.log stored.old) (L.log stored.new) }
+    ensures alone { (L.log stored.new).is_alone ≡ (L.log stored.old).is_alone }
 {
     note_serving(rt, begun.replica.as_str());
-    let restored = match restore::<M, C, L>(alloc, blank, &begun, copy) {
+    let restored = match restore::<M, C, L>(alloc, blank, &begun, stored) {
         Ok(restored) => restored,
-        Err(fault) => return Err(Failure::of_restoring(fault, copy)),
+        Err(fault) => return Err(Failure::of_restoring(fault, stored)),
     };
     let Serving {
         name: _,
@@ -240,7 +240,7 @@ pub(crate) fn restore_and_serve<
         pace,
         connections,
     } = begun.serving;
-    note_documents(rt, copy, documents);
+    note_documents(rt, stored, documents);
     let Ok(shared) = share_documents(alloc, restored, pace) else {
         return Err(Failure::Memory(Step::Restore));
     };
@@ -249,5 +249,5 @@ pub(crate) fn restore_and_serve<
         shared,
         connections,
     };
-    serve_sessions(rt, alloc, sessions, copy, out)
+    serve_sessions(rt, alloc, sessions, stored, out)
 }

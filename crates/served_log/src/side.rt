@@ -106,9 +106,9 @@ fn wait_after<M: Marker, R: Wait>(
 
 // Before a try, where memory lacked at the last look: sessions wait for the copier again. So none
 // is ended whose document's turn only comes later.
-fn wait_again<M: Marker, L: StoredLog>(shared: &SharedDocuments<M>, copy: &L, lacked: bool) {
+fn wait_again<M: Marker, L: StoredLog>(shared: &SharedDocuments<M>, stored: &L, lacked: bool) {
     if lacked {
-        publish_all(shared, copy);
+        publish_all(shared, stored);
     }
 }
 
@@ -133,20 +133,20 @@ fn look<M: Marker, R: Wait, L: StoredLog, T: CopyObserver>(
     rt: &R,
     shared: &SharedDocuments<M>,
     lacked: bool,
-    copy: &mut L,
+    stored: &mut L,
     observer: &T,
 ) -> Result<Found, Fault>
-    ensures ok { OnOk result (AddsBatches M.origin shared.now.names.items (L.log copy.old) (L.log copy.new)) }
+    ensures ok { OnOk result (AddsBatches M.origin shared.now.names.items (L.log stored.old) (L.log stored.new)) }
     ensures err { IfErr result (λ e. (e ≡ Fault.Store)
-        ⊎ AddsBatches M.origin shared.now.names.items (L.log copy.old) (L.log copy.new)) }
+        ⊎ AddsBatches M.origin shared.now.names.items (L.log stored.old) (L.log stored.new)) }
     ensures memory { result ≢ Err Fault.Memory }
-    ensures works { OnOk result ((L.log copy.old).has_failed ≡ false
-        → (L.log copy.new).has_failed ≡ false) }
-    ensures failed { result ≡ Err Fault.Store → (L.log copy.new).has_failed ≡ true }
-    ensures alone { (L.log copy.new).is_alone ≡ (L.log copy.old).is_alone }
+    ensures works { OnOk result ((L.log stored.old).has_failed ≡ false
+        → (L.log stored.new).has_failed ≡ false) }
+    ensures failed { result ≡ Err Fault.Store → (L.log stored.new).has_failed ≡ true }
+    ensures alone { (L.log stored.new).is_alone ≡ (L.log stored.old).is_alone }
 {
-    wait_again(shared, copy, lacked);
-    match copy_each(rt, shared, copy, observer) {
+    wait_again(shared, stored, lacked);
+    match copy_each(rt, shared, stored, observer) {
         Ok(most) => {
             notify_going_on(observer, lacked);
             Ok(Found::Some(most))
@@ -171,17 +171,17 @@ pub fn keep_up<M: Marker, R: Wait, L: StoredLog, T: CopyObserver>(
     rt: &R,
     shared: &SharedDocuments<M>,
     sessions: u64,
-    copy: &mut L,
+    stored: &mut L,
     observer: &T,
 ) -> Result<(), Fault>
-    ensures ok { OnOk result (AddsBatches M.origin shared.now.names.items (L.log copy.old) (L.log copy.new)) }
+    ensures ok { OnOk result (AddsBatches M.origin shared.now.names.items (L.log stored.old) (L.log stored.new)) }
     ensures err { IfErr result (λ e. (e ≡ Fault.Store)
-        ⊎ AddsBatches M.origin shared.now.names.items (L.log copy.old) (L.log copy.new)) }
-    ensures works { OnOk result ((L.log copy.old).has_failed ≡ false
-        → (L.log copy.new).has_failed ≡ false) }
+        ⊎ AddsBatches M.origin shared.now.names.items (L.log stored.old) (L.log stored.new)) }
+    ensures works { OnOk result ((L.log stored.old).has_failed ≡ false
+        → (L.log stored.new).has_failed ≡ false) }
     ensures memory { result ≢ Err Fault.Memory }
-    ensures failed { result ≡ Err Fault.Store → (L.log copy.new).has_failed ≡ true }
-    ensures alone { (L.log copy.new).is_alone ≡ (L.log copy.old).is_alone }
+    ensures failed { result ≡ Err Fault.Store → (L.log stored.new).has_failed ≡ true }
+    ensures alone { (L.log stored.new).is_alone ≡ (L.log stored.old).is_alone }
 {
     let mut watch = Watch {
         sessions,
@@ -193,7 +193,7 @@ pub fn keep_up<M: Marker, R: Wait, L: StoredLog, T: CopyObserver>(
     };
     let mut lacked = false;
     for _ in rt.forever() {
-        match look(rt, shared, lacked, copy, observer) {
+        match look(rt, shared, lacked, stored, observer) {
             Ok(found) => {
                 lacked = lacks(found);
                 watch.tries = tries_after(&watch, found);
@@ -209,9 +209,9 @@ pub fn keep_up<M: Marker, R: Wait, L: StoredLog, T: CopyObserver>(
 }
 
 // Notifies the observer if a fault ended the copying.
-fn notify_stopped<T: CopyObserver, L: StoredLog>(observer: &T, fault: &Option<Fault>, copy: &L) {
+fn notify_stopped<T: CopyObserver, L: StoredLog>(observer: &T, fault: &Option<Fault>, stored: &L) {
     if let Some(fault) = fault {
-        observer.stopped(reason_of(*fault, copy));
+        observer.stopped(reason_of(*fault, stored));
     }
 }
 
@@ -220,7 +220,7 @@ fn notify_stopped<T: CopyObserver, L: StoredLog>(observer: &T, fault: &Option<Fa
 #[derive(Drop)]
 pub struct Copier<'a, L: StoredLog, T: CopyObserver> {
     /// The stored log.
-    pub copy: &'a mut L,
+    pub stored: &'a mut L,
     /// Is notified of each batch and of a fault.
     pub observer: &'a T,
     /// The fault that ended the copying, if one did. Without one all is copied, or memory lacked to
@@ -230,13 +230,13 @@ pub struct Copier<'a, L: StoredLog, T: CopyObserver> {
 
 impl<'a, L: StoredLog, T: CopyObserver> Copier<'a, L, T> {
     /// A copier that has copied nothing yet.
-    pub fn new(copy: &'a mut L, observer: &'a T) -> Copier<'a, L, T>
-        ensures same_reference { result.copy.ghost_name ≡ copy.entry.ghost_name }
-        ensures copy { result.copy.now ≡ copy.old }
+    pub fn new(stored: &'a mut L, observer: &'a T) -> Copier<'a, L, T>
+        ensures same_reference { result.stored.ghost_name ≡ stored.entry.ghost_name }
+        ensures stored { result.stored.now ≡ stored.old }
         ensures fault { result.fault ≡ None }
     {
         Copier {
-            copy,
+            stored,
             observer,
             fault: None,
         }
@@ -244,11 +244,11 @@ impl<'a, L: StoredLog, T: CopyObserver> Copier<'a, L, T> {
 
     /// Returns the fault that ended the copying, if one did.
     pub fn end(self) -> Option<Fault>
-        ensures left { self.exit.0.now ≡ self.entry.copy.now }
+        ensures left { self.exit.0.now ≡ self.entry.stored.now }
         ensures fault { result ≡ self.entry.fault }
     {
         let Copier {
-            copy: _,
+            stored: _,
             observer: _,
             fault,
         } = self;
@@ -257,13 +257,13 @@ impl<'a, L: StoredLog, T: CopyObserver> Copier<'a, L, T> {
 }
 
 impl<M: Marker, L: StoredLog, T: CopyObserver> Side<M> for Copier<'_, L, T> {
-    ghost becomes = { λ names old new. (new.copy.ghost_name ≡ old.copy.ghost_name)
-        × HasCopied M.origin names (L.log old.copy.now) (L.log new.copy.now) new.fault };
+    ghost becomes = { λ names old new. (new.stored.ghost_name ≡ old.stored.ghost_name)
+        × HasCopied M.origin names (L.log old.stored.now) (L.log new.stored.now) new.fault };
 
     fn run<R: Wait>(&mut self, rt: &R, shared: &SharedDocuments<M>, sessions: u64) {
-        self.fault = keep_up(rt, shared, sessions, self.copy, self.observer).err();
+        self.fault = keep_up(rt, shared, sessions, self.stored, self.observer).err();
         // Nothing is copied from now on, so nobody waits for it.
         shared.progress.stop();
-        notify_stopped(self.observer, &self.fault, self.copy);
+        notify_stopped(self.observer, &self.fault, self.stored);
     }
 }

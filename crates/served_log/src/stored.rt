@@ -46,23 +46,23 @@ impl<T> Ended<T> {
 }
 
 // Whether the stored log has failed.
-fn has_failed<L: StoredLog>(copy: &L) -> bool
-    ensures { result ≡ (L.log copy.now).has_failed }
+fn has_failed<L: StoredLog>(stored: &L) -> bool
+    ensures { result ≡ (L.log stored.now).has_failed }
 {
-    copy.epoch().is_err()
+    stored.epoch().is_err()
 }
 
 // Closes the stored log of a server that has ended.
-fn end<L: StoredLog>(served: Result<(), Failure>, copy: L) -> Ended<L::Left>
+fn end<L: StoredLog>(served: Result<(), Failure>, stored: L) -> Ended<L::Left>
     ensures served { result.served ≡ served }
-    ensures failed { result.has_failed ≡ (L.log copy).has_failed }
-    ensures held { OnOk result.closed ((L.log copy).has_failed ≡ false
-        → L.is_in_file copy result.store) }
-    ensures left { OnErr result.closed ((L.log copy).has_failed ≡ false
-        → L.is_in_store copy result.store) }
+    ensures failed { result.has_failed ≡ (L.log stored).has_failed }
+    ensures held { OnOk result.closed ((L.log stored).has_failed ≡ false
+        → L.is_in_file stored result.store) }
+    ensures left { OnErr result.closed ((L.log stored).has_failed ≡ false
+        → L.is_in_store stored result.store) }
 {
-    let has_failed = has_failed(&copy);
-    match copy.close() {
+    let has_failed = has_failed(&stored);
+    match stored.close() {
         Ok(store) => Ended {
             served,
             closed: Ok(()),
@@ -84,34 +84,34 @@ fn fold_and_serve<R: Host, C: Connect, L: StoredLog, W: io::Write>(
     rt: &R,
     alloc: Global,
     begun: Begun<'_, C>,
-    copy: L,
+    stored: L,
     out: &mut W,
 ) -> Ended<L::Left>
     requires few { length begun.serving.documents.now ≤ greatest_number }
-    requires named { begun.replica ≡ replica_name begun.serving.name.now (L.log copy).epoch }
-    requires works { (L.log copy).has_failed ≡ false }
+    requires named { begun.replica ≡ replica_name begun.serving.name.now (L.log stored).epoch }
+    requires works { (L.log stored).has_failed ≡ false }
     ensures served { OnOk result.served (ServesFolded L.StoredLog begun.entry.replica
         (map (λ s. s.now) begun.entry.serving.documents.now) (length begun.entry.serving.connections.items)
-        copy result.closed result.store (W.contents out.old) (W.contents out.new)) }
+        stored result.closed result.store (W.contents out.old) (W.contents out.new)) }
     ensures unwritten { IfErr result.served (λ why. IsUnwritten why → out.new ≡ out.old) }
     ensures left { LeavesStored L.StoredLog (map (λ s. s.now) begun.entry.serving.documents.now)
-        copy result.has_failed result.closed result.store }
+        stored result.has_failed result.closed result.store }
 {
-    match copy.fold() {
+    match stored.fold() {
         Ok(folded) => {
-            let mut copy = folded;
+            let mut stored = folded;
             let served = restore_and_serve::<Brand, R, C, L, W>(
                 rt,
                 alloc,
                 Blank::new(),
                 begun,
-                &mut copy,
+                &mut stored,
                 out,
             );
-            end(served, copy)
+            end(served, stored)
         }
         Err((why, store)) => Ended {
-            served: Err(Failure::Database(Step::Fold, why)),
+            served: Err(Failure::Store(Step::Fold, why)),
             closed: Err(why),
             has_failed: false,
             store,
@@ -131,25 +131,25 @@ pub fn serve_stored<R: Host, C: Connect, L: StoredLog, W: io::Write>(
     rt: &R,
     alloc: Global,
     serving: Serving<'_, C>,
-    copy: L,
+    stored: L,
     out: &mut W,
 ) -> Ended<L::Left>
     requires few { length serving.documents.now ≤ greatest_number }
     ensures served { OnOk result.served (ServesStored L.StoredLog serving.entry.name.now
         (map (λ s. s.now) serving.entry.documents.now) (length serving.entry.connections.items)
-        copy result.closed result.store (W.contents out.old) (W.contents out.new)) }
+        stored result.closed result.store (W.contents out.old) (W.contents out.new)) }
     ensures unwritten { IfErr result.served (λ why. IsUnwritten why → out.new ≡ out.old) }
     ensures left { LeavesStored L.StoredLog (map (λ s. s.now) serving.entry.documents.now)
-        copy result.has_failed result.closed result.store }
+        stored result.has_failed result.closed result.store }
 {
-    let mut copy = copy;
-    match next_replica_name(alloc, &mut copy, serving.name, serving.documents) {
-        Ok(replica) => fold_and_serve(rt, alloc, Begun { replica, serving }, copy, out),
+    let mut stored = stored;
+    match next_replica_name(alloc, &mut stored, serving.name, serving.documents) {
+        Ok(replica) => fold_and_serve(rt, alloc, Begun { replica, serving }, stored, out),
         Err(fault) => {
             // Where the writer fails nothing more can be written.
             let _ = report_fault(fault, out);
-            let failure = Failure::of_epoch(fault, &copy);
-            end(Err(failure), copy)
+            let failure = Failure::of_epoch(fault, &stored);
+            end(Err(failure), stored)
         }
     }
 }
@@ -163,18 +163,18 @@ pub fn serve_over<R: Host, C: Connect, L: StoredLog, W: io::Write>(
     documents: &[&str],
     pace: Pace,
     connections: Vec<C>,
-    copy: L,
+    stored: L,
     out: &mut W,
 ) -> (u8, Ended<L::Left>)
     requires few { length documents.now ≤ greatest_number }
     ensures status { result.0 ≤ 1 }
     ensures served { result.0 ≡ 0 → ServesStored L.StoredLog
         name.now (map (λ s. s.now) documents.now) (length connections.items)
-        copy result.1.closed result.1.store (W.contents out.old) (W.contents out.new) }
+        stored result.1.closed result.1.store (W.contents out.old) (W.contents out.new) }
     ensures closed { result.0 ≡ 0 → OnErr result.1.closed ⊥ }
     // However it ends, no row is lost.
     ensures left { LeavesStored L.StoredLog (map (λ s. s.now) documents.now)
-        copy result.1.has_failed result.1.closed result.1.store }
+        stored result.1.has_failed result.1.closed result.1.store }
 {
     let serving = Serving {
         name,
@@ -182,6 +182,6 @@ pub fn serve_over<R: Host, C: Connect, L: StoredLog, W: io::Write>(
         pace,
         connections,
     };
-    let ended = serve_stored(rt, alloc, serving, copy, out);
+    let ended = serve_stored(rt, alloc, serving, stored, out);
     (ended.status(), ended)
 }

@@ -17,15 +17,15 @@ pub enum StoredFault {
     #[error("another program uses it")]
     Busy,
     /// What is stored can't be read.
-    #[error("the database is damaged")]
+    #[error("what is stored is damaged")]
     Damaged,
     /// It refuses an operation.
     #[error("the file refuses an operation")]
     Refused,
     /// It is closed, since it failed before.
-    #[error("an earlier error has closed the database")]
+    #[error("an earlier error has closed the file")]
     Closed,
     /// Any other error of the store.
-    #[error("an error of the database")]
+    #[error("an error of the store")]
     Other,
 }

@@ -8,7 +8,7 @@ mod loopback;
 
 use super::checks::holds;
 use super::places::NewLists;
-use command_line::{USAGE, VERSION, usage_of};
+use command_line::is_version;
 use commands::{parse_and_check, parse_and_serve, run_words};
 use line_feed::{Reader, Writer};
 use log::Log;
@@ -300,27 +300,24 @@ fn logs_that_are_not_opened(rt: HostRuntime) {
     }
 }
 
-// Lines, and the usage that is printed of each.
-static USAGES: [(&str, &str); 5] = [
-    ("--version", VERSION),
-    ("version d", VERSION),
-    ("run --version", USAGE),
-    ("--help", USAGE),
-    ("", USAGE),
+// Lines, and whether each asks for the version.
+static VERSIONS: [(&str, bool); 6] = [
+    ("--version", true),
+    ("-V", true),
+    ("version d", true),
+    ("run --version", false),
+    ("--help", false),
+    ("", false),
 ];
 
-// Whether this is the usage that is printed of this line.
-fn is_usage(alloc: Global, line: &str, text: &str) -> Result<bool, AllocError> {
-    Ok(usage_of(&words_of(alloc, line)?) == text)
+fn asks_for_version(alloc: Global, line: &str) -> Result<bool, AllocError> {
+    Ok(is_version(&words_of(alloc, line)?))
 }
 
 #[test]
-fn version_or_usage(rt: HostRuntime) {
-    for (line, text) in &USAGES {
-        holds(
-            &rt,
-            matches!(is_usage(rt.alloc(), line, text), Ok(true)),
-            line,
-        );
+fn first_words_that_ask_for_the_version(rt: HostRuntime) {
+    for (line, asks) in &VERSIONS {
+        let found = asks_for_version(rt.alloc(), line);
+        holds(&rt, matches!(found, Ok(it) if it == *asks), line);
     }
 }

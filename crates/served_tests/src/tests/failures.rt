@@ -39,11 +39,11 @@ fn failures_of_the_file(rt: HostRuntime) {
     let full = StoredFault::DiskFull;
     for (failure, text) in [
         (
-            Failure::Database(Step::Epoch, full),
+            Failure::Store(Step::Epoch, full),
             "the file failed while a new epoch was started: the disk is full",
         ),
         (
-            Failure::Database(Step::Fold, full),
+            Failure::Store(Step::Fold, full),
             "the file failed while its log was folded in: the disk is full",
         ),
         (

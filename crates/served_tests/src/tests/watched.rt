@@ -82,7 +82,7 @@ pub fn shared_documents<M: Marker, L: StoredLog>(
 {
     let mut ledger = Ledger::<M>::new(blank);
     let from = Restoring {
-        copy,
+        stored: copy,
         replica,
         seats: 1,
     };

@@ -7,10 +7,10 @@ use Rattle.served_log.proofs.restore.restore_all.Goals as goal
 pub restore_one-requires-clause-begun : goal.restore_one-requires-clause-begun
 restore_one-requires-clause-begun g c =
     let none : Bor (List ℕ) = record { ref_ptr = (0, 0); now = [] } in
-    begins_here g.M.Marker.origin (g.L.StoredLog.log c.args.from.now.copy.now).docs c.args.names.now c.loop-name.ledger c.loop-name.name-index none c.requires.begun c.loop-name.invariant.next c.loop-name-test.true
+    begins_here g.M.Marker.origin (g.L.StoredLog.log c.args.from.now.stored.now).docs c.args.names.now c.loop-name.ledger c.loop-name.name-index none c.requires.begun c.loop-name.invariant.next c.loop-name-test.true
 
 pub restore_one-requires-clause-named : goal.restore_one-requires-clause-named
-restore_one-requires-clause-named g c = named_here (g.L.StoredLog.log c.args.from.now.copy.now).docs (map (λ s. s.now) c.args.names.now) c.args.from.now.replica.now g.M.Marker.origin c.loop-name.ledger c.requires.begun
+restore_one-requires-clause-named g c = named_here (g.L.StoredLog.log c.args.from.now.stored.now).docs (map (λ s. s.now) c.args.names.now) c.args.from.now.replica.now g.M.Marker.origin c.loop-name.ledger c.requires.begun
 
 pub loop-name-preserved : goal.loop-name-preserved
 loop-name-preserved g c =
@@ -21,6 +21,6 @@ loop-name-preserved g c =
     let doc = c.in_ok-doc.doc in
     let pushed = c.in_ok-push_doc.ensures.ok in record {
       next = c.in_ok-doc.ensures.next ∙ ap (λ n. n + 1) at.invariant.next;
-      documents = one_restored c.args.from.now.replica.now (g.L.StoredLog.log c.args.from.now.copy.now).docs c.args.from.now.seats c.args.names.now at.name-index none docs new doc c.loop-name-test.true pushed c.in_ok-doc.ensures.made at.invariant.documents;
+      documents = one_restored c.args.from.now.replica.now (g.L.StoredLog.log c.args.from.now.stored.now).docs c.args.from.now.seats c.args.names.now at.name-index none docs new doc c.loop-name-test.true pushed c.in_ok-doc.ensures.made at.invariant.documents;
       each = ap length pushed ∙ length_push docs doc ∙ ap (λ n. n + 1) at.invariant.each;
     }

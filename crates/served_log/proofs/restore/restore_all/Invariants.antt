@@ -6,6 +6,6 @@ use Rattle.served_log.proofs.restore.restore_all.Given as goal
 abbrev pub invariant-loop-name : goal.invariant-loop-name
 invariant-loop-name g l = record {
   next : l.ledger ≡ l.name-index;
-  documents : map (λ d. d.document) l.docs.items ≡ map (λ n. new_document l.from.replica.now (log_of n (g.L.StoredLog.log l.from.copy.now).docs) l.from.seats) (map (λ s. s.now) (take l.name-index l.names));
+  documents : map (λ d. d.document) l.docs.items ≡ map (λ n. new_document l.from.replica.now (log_of n (g.L.StoredLog.log l.from.stored.now).docs) l.from.seats) (map (λ s. s.now) (take l.name-index l.names));
   each : length l.docs.items ≡ l.name-index;
 }

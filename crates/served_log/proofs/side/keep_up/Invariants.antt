@@ -5,7 +5,7 @@ use Rattle.served_log.proofs.side.keep_up.Given as goal
 abbrev pub invariant-loop : goal.invariant-loop
 invariant-loop g l = record {
   waits : (goal.iterator-loop g).can_next l.iterator' × (goal.iterator-loop g).is_finite l.iterator';
-  grown : AddsBatches g.M.Marker.origin l.shared.names.items (g.L.StoredLog.log l.fn.copy) (g.L.StoredLog.log l.copy);
-  works : (g.L.StoredLog.log l.fn.copy).has_failed ≡ false → (g.L.StoredLog.log l.copy).has_failed ≡ false;
-  alone : (g.L.StoredLog.log l.copy).is_alone ≡ (g.L.StoredLog.log l.fn.copy).is_alone;
+  grown : AddsBatches g.M.Marker.origin l.shared.names.items (g.L.StoredLog.log l.fn.stored) (g.L.StoredLog.log l.stored);
+  works : (g.L.StoredLog.log l.fn.stored).has_failed ≡ false → (g.L.StoredLog.log l.stored).has_failed ≡ false;
+  alone : (g.L.StoredLog.log l.stored).is_alone ≡ (g.L.StoredLog.log l.fn.stored).is_alone;
 }
