@@ -1,7 +1,7 @@
 use Rattle.std.proofs.Common.{Err, ap, refl}
 use Rattle.std.proofs.lemmas.Result.{err_from_is_err_and}
 use Rattle.serde_json.specs.View.{view}
-use Rattle.op_core.specs.Reading.{key_from}
+use Rattle.op_core.specs.Reading.{key_within}
 use Rattle.op_core.proofs.Readings.{due_Ok, due_Err}
 use Rattle.op_core.proofs.decode.read_tagged.Goals as goal
 
@@ -10,10 +10,10 @@ returns-in_err-key c =
     let exit = err_from_is_err_and c.from_residual.result c.from_residual.ensures.1 in
     rw (exit.1, exit.2)
     (λ other.
-    let key = due_Err (key_from (view c.in-Some.key.now)) c.read_key.result c.in_err-key.field-0.0 c.read_key.ensures c.in_err-key.was (λ memory. other (ap Err memory)) in
+    let key = due_Err (key_within c.args.longest (view c.in-Some.key.now)) c.read_key.result c.in_err-key.field-0.0 c.read_key.ensures c.in_err-key.was (λ memory. other (ap Err memory)) in
     rw (key.1, ← c.pair.ensures, c.in-Some.is, ← c.as_str.ensures, c.in-Some-as_str.is, key.0) refl)
 
 pub returns : goal.returns
 returns c =
-    let key = due_Ok (key_from (view c.in-Some.key.now)) c.read_key.result c.in_ok-key.key c.read_key.ensures c.in_ok-key.was in
+    let key = due_Ok (key_within c.args.longest (view c.in-Some.key.now)) c.read_key.result c.in_ok-key.key c.read_key.ensures c.in_ok-key.was in
     λ other. rw (c.tagged.ensures, ← c.pair.ensures, c.in-Some.is, ← c.as_str.ensures, c.in-Some-as_str.is, key) refl
