@@ -9,7 +9,7 @@ ghost use Rattle.stored_log.specs.Log.{IsAddedOrNot};
 ghost use Rattle.served_log.specs.Batches.{AddsMany, AddsOf, AreAdded, AreAddedUpTo, AddsBatches};
 ghost use Rattle.served_log.specs.Batches.{IsNextOf};
 
-use crate::document_to_stored::DocumentToCopy;
+use crate::document_to_copy::DocumentToCopy;
 use crate::observer::CopyObserver;
 use doc_api::Operations;
 use json_scalar::Refusal;

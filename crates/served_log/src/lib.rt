@@ -6,7 +6,7 @@
 #![tactic(auto)]
 
 mod batch;
-mod document_to_stored;
+mod document_to_copy;
 mod failure;
 mod host;
 mod notes;
@@ -21,7 +21,7 @@ mod side;
 mod stored;
 
 pub use batch::{copy_each, copy_some};
-pub use document_to_stored::DocumentToCopy;
+pub use document_to_copy::DocumentToCopy;
 pub use failure::{Failure, Step};
 pub use host::Host;
 pub use observer::CopyObserver;
