@@ -9,15 +9,15 @@ use Rattle.crdt_rules.proofs.SameLaws.{key_decides}
 use Rattle.doc_nodes.specs.declared.node.NodeNumber.{NodeNumber}
 use Rattle.doc_nodes.specs.declared.node.Node.{Node}
 use Rattle.list_laws.proofs.Members.{Contains-nil}
-use Rattle.doc_nodes.specs.Blocks.{joined}
-use Rattle.doc_nodes.specs.Children.{number_at}
+use Rattle.key_map.specs.Blocks.{joined}
+use Rattle.key_map.specs.ByKey.{at_key}
 use Rattle.doc_nodes.specs.Nodes.{blank_node, node_of, child_of, AreTree}
 use Rattle.doc_nodes.specs.Growth.{Grows, with_child, AddsChild, ChangesBlocksOnly}
 use Rattle.std.specs.Prelude.{insert}
-use Rattle.doc_nodes.specs.KeyOrder.{key_rank}
-use Rattle.doc_nodes.proofs.ChildrenLaws.{number_at-insert_rank}
+use Rattle.key_map.specs.KeyOrder.{key_rank}
+use Rattle.key_map.proofs.ByKeyLaws.{at_key-insert_rank}
 use Rattle.doc_nodes.proofs.AddingPresence.{here-set, other-set, eq_number, shape-set, tree-set}
-use Rattle.doc_nodes.proofs.WriteFacts.{unwritten}
+use Rattle.doc_nodes.proofs.AddingPresence.{unwritten}
 
 -- a fresh node is empty
 pub record IsFresh (node : Node) : Type 0 where
@@ -221,12 +221,12 @@ module _ (nodes : List Node) (tree : AreTree nodes) (n : NodeNumber) (within : n
   child_added : (j : NodeNumber) (q : Key) (c : NodeNumber) → child_of added j q ≡ Some c → (child_of nodes j q ≡ Some c) ⊎ ((j ≡ n) × (k ≡ q) × (c ≡ number))
   child_added j q c e = ⊎_elim
       (λ l. ⊎_elim
-      (λ same. at_parent (eq_number j n same) (sym (ap (λ z. number_at z.children.0 q) (before j l)) ∙ e))
-      (λ apart. inl (sym (ap (λ z. number_at z.children.0 q) (before j l ∙ other-set nodes n j (with_child k number blocks (node_of nodes n)) apart)) ∙ e))
+      (λ same. at_parent (eq_number j n same) (sym (ap (λ z. at_key z.children.0 q) (before j l)) ∙ e))
+      (λ apart. inl (sym (ap (λ z. at_key z.children.0 q) (before j l ∙ other-set nodes n j (with_child k number blocks (node_of nodes n)) apart)) ∙ e))
       (cases_eq j.0 n.0))
       (λ l. ⊎_elim
-      (λ same. let void : ◌≡◌ {A = Option NodeNumber} None (Some c) = sym (ap (λ z. number_at z.children.0 q) (at_number j same) ∙ ap (λ z. number_at z q) is_fresh.children) ∙ e in cc)
-      (λ apart. let void : ◌≡◌ {A = Option NodeNumber} None (Some c) = sym (ap (λ z. number_at z.children.0 q) (past j (omega (arith, l, apart)))) ∙ e in cc)
+      (λ same. let void : ◌≡◌ {A = Option NodeNumber} None (Some c) = sym (ap (λ z. at_key z.children.0 q) (at_number j same) ∙ ap (λ z. at_key z q) is_fresh.children) ∙ e in cc)
+      (λ apart. let void : ◌≡◌ {A = Option NodeNumber} None (Some c) = sym (ap (λ z. at_key z.children.0 q) (past j (omega (arith, l, apart)))) ∙ e in cc)
       (cases_eq j.0 (length nodes)))
       (cases_lt j.0 (length nodes))
     where
@@ -238,7 +238,7 @@ module _ (nodes : List Node) (tree : AreTree nodes) (n : NodeNumber) (within : n
       at_parent same f =
           let here : child_of (set nodes n.0 (with_child k number blocks (node_of nodes n))) n q ≡ Some c = subst (λ z. child_of (set nodes n.0 (with_child k number blocks (node_of nodes n))) z q ≡ Some c) same f in
           let pushed : (if key_eq k q then Some number else child_of nodes n q) ≡ Some c =
-          sym (ap (λ z. number_at z.children.0 q) (here-set nodes n (with_child k number blocks (node_of nodes n)) within) ∙ number_at-insert_rank (node_of nodes n).children.0 k number q none) ∙ here in
+          sym (ap (λ z. at_key z.children.0 q) (here-set nodes n (with_child k number blocks (node_of nodes n)) within) ∙ at_key-insert_rank (node_of nodes n).children.0 k number q none) ∙ here in
           ⊎_elim
           (λ g. inl (subst (λ z. child_of nodes z q ≡ Some c) (sym same) g))
           (λ g. inr (same, g.0, g.1))
@@ -247,10 +247,10 @@ module _ (nodes : List Node) (tree : AreTree nodes) (n : NodeNumber) (within : n
   child_kept : (j : NodeNumber) (q : Key) (c : NodeNumber) → child_of nodes j q ≡ Some c → child_of added j q ≡ Some c
   child_kept j q c e = ⊎_elim
       (λ l. ⊎_elim
-      (λ same. ap (λ z. number_at z.children.0 q) (before j l) ∙ at_parent (eq_number j n same))
-      (λ apart. ap (λ z. number_at z.children.0 q) (before j l ∙ other-set nodes n j (with_child k number blocks (node_of nodes n)) apart) ∙ e)
+      (λ same. ap (λ z. at_key z.children.0 q) (before j l) ∙ at_parent (eq_number j n same))
+      (λ apart. ap (λ z. at_key z.children.0 q) (before j l ∙ other-set nodes n j (with_child k number blocks (node_of nodes n)) apart) ∙ e)
       (cases_eq j.0 n.0))
-      (λ l. let void : ◌≡◌ {A = Option NodeNumber} None (Some c) = sym (ap (λ z. number_at z.children.0 q) (missing j l)) ∙ e in absurd (cc))
+      (λ l. let void : ◌≡◌ {A = Option NodeNumber} None (Some c) = sym (ap (λ z. at_key z.children.0 q) (missing j l)) ∙ e in absurd (cc))
       (cases_lt j.0 (length nodes))
     where
       chosen : (b : Bool) → (b ≡ true → k ≡ q) → child_of nodes n q ≡ Some c → (if b then Some number else child_of nodes n q) ≡ Some c
@@ -260,8 +260,8 @@ module _ (nodes : List Node) (tree : AreTree nodes) (n : NodeNumber) (within : n
       at_parent : j ≡ n → child_of (set nodes n.0 (with_child k number blocks (node_of nodes n))) j q ≡ Some c
       at_parent same =
           subst (λ z. child_of (set nodes n.0 (with_child k number blocks (node_of nodes n))) z q ≡ Some c) (sym same)
-          (ap (λ z. number_at z.children.0 q) (here-set nodes n (with_child k number blocks (node_of nodes n)) within)
-          ∙ number_at-insert_rank (node_of nodes n).children.0 k number q none
+          (ap (λ z. at_key z.children.0 q) (here-set nodes n (with_child k number blocks (node_of nodes n)) within)
+          ∙ at_key-insert_rank (node_of nodes n).children.0 k number q none
           ∙ chosen (key_eq k q) (key_decides.same k q) (subst (λ z. child_of nodes z q ≡ Some c) same e))
 
   longer : length added ≡ length nodes + 1
@@ -314,8 +314,8 @@ module _ (nodes : List Node) (tree : AreTree nodes) (n : NodeNumber) (within : n
 
   pub child_new : child_of added n k ≡ Some number
   child_new =
-      ap (λ z. number_at z.children.0 k) (before n within ∙ here-set nodes n (with_child k number blocks (node_of nodes n)) within)
-      ∙ number_at-insert_rank (node_of nodes n).children.0 k number k none
+      ap (λ z. at_key z.children.0 k) (before n within ∙ here-set nodes n (with_child k number blocks (node_of nodes n)) within)
+      ∙ at_key-insert_rank (node_of nodes n).children.0 k number k none
       ∙ (let own : key_eq k k ≡ true = key_decides.itself k in rw own)
 
 -- what the call of an insertion comes to

@@ -9,7 +9,7 @@ use Rattle.doc_api.specs.declared.role.Role.{Role}
 use Rattle.doc_api.specs.declared.role.Role.TheVariants.{Through}
 use Rattle.doc_nodes.specs.declared.node.NodeNumber.{NodeNumber}
 use Rattle.doc_nodes.specs.declared.node.Node.{Node}
-use Rattle.doc_nodes.specs.Children.{number_at}
+use Rattle.key_map.specs.ByKey.{at_key}
 use Rattle.doc_nodes.specs.Walk.{walk, IsTree}
 use Rattle.doc_nodes.specs.Nodes.{blank_node, node_of, child_of, AreTree}
 use Rattle.doc_nodes.specs.PresenceAlong.{made_present, role_before, AddsPresenceAlong, HasRoomAlong, IsReady}
@@ -25,10 +25,18 @@ other-set nodes n j node apart = get_or-set_other nodes n.0 j.0 node blank_node 
 pub eq_number : (j n : NodeNumber) → j.0 ≡ n.0 → j ≡ n
 eq_number j n e = λ i. record { 0 = e i }
 
+-- what a node says elsewhere, or in a part that is not written
+pub unwritten : (nodes : List Node) (n : NodeNumber) → n.0 < length nodes → {X : Type 0} (part : Node → X) (node : Node) → part node ≡ part (node_of nodes n) → (c : NodeNumber)
+    → part (node_of (set nodes n.0 node) c) ≡ part (node_of nodes c)
+unwritten nodes n within part node same c = ⊎_elim
+    (λ e. subst (λ z. part (node_of (set nodes n.0 node) z) ≡ part (node_of nodes z)) (sym (eq_number c n e)) (ap part (here-set nodes n node within) ∙ same))
+    (λ e. ap part (other-set nodes n c node e))
+    (cases_eq c.0 n.0)
+
 -- where the children of the written node stay, the tree keeps its shape
 pub shape-set : (nodes : List Node) (n : NodeNumber) (node : Node) → n.0 < length nodes → node.children.0 ≡ (node_of nodes n).children.0
     → child_of (set nodes n.0 node) ≡ child_of nodes
-shape-set nodes n node within same = fun_ext (λ j. fun_ext (λ k. ap (λ cs. number_at cs k) (at j)))
+shape-set nodes n node within same = fun_ext (λ j. fun_ext (λ k. ap (λ cs. at_key cs k) (at j)))
   where
     at : (j : NodeNumber) → (node_of (set nodes n.0 node) j).children.0 ≡ (node_of nodes j).children.0
     at j = ⊎_elim

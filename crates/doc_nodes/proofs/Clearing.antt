@@ -7,7 +7,7 @@ use Rattle.op_core.specs.declared.cursor.Key.{Key}
 use Rattle.presence_set.proofs.ByIdLaws.{uncovered-uncovered}
 use Rattle.doc_nodes.specs.declared.node.NodeNumber.{NodeNumber}
 use Rattle.doc_nodes.specs.declared.node.Node.{Node}
-use Rattle.doc_nodes.specs.Children.{number_at}
+use Rattle.key_map.specs.ByKey.{at_key}
 use Rattle.doc_nodes.specs.Walk.{walk, IsTree}
 use Rattle.list_laws.proofs.Members.{Contains-nil}
 use Rattle.std.proofs.lemmas.List.Elements.{Contains-append_cases}
@@ -21,7 +21,7 @@ cleared-cleared front node =
 -- so the tree keeps its shape
 pub same_children : (front : List (List ℕ × ℕ)) (old new : List Node) → IsPartCleared front old new → child_of new ≡ child_of old
 same_children front old new each =
-    fun_ext (λ n. fun_ext (λ k. ap (λ cs. number_at cs k) (⊎_elim (λ e. ap (λ z. z.children.0) e) (λ e. ap (λ z. z.children.0) e) (each n))))
+    fun_ext (λ n. fun_ext (λ k. ap (λ cs. at_key cs k) (⊎_elim (λ e. ap (λ z. z.children.0) e) (λ e. ap (λ z. z.children.0) e) (each n))))
 
 -- clearing part after part
 pub each-each : (front : List (List ℕ × ℕ)) (a b c : List Node) → IsPartCleared front a b → IsPartCleared front b c → IsPartCleared front a c

@@ -24,7 +24,7 @@ use Rattle.doc_nodes.specs.HasPresence.{HasEntry, IsPresentBy, HasPresence, Have
 use Rattle.doc_nodes.proofs.Walks.{parts_of, walk_join}
 use Rattle.doc_nodes.proofs.Clearing.{none_yet, same_children}
 use Rattle.doc_nodes.proofs.AddingPresence.{here-set, other-set, eq_number, shape-set}
-use Rattle.doc_nodes.proofs.WriteFacts.{unwritten}
+use Rattle.doc_nodes.proofs.AddingPresence.{unwritten}
 use Rattle.doc_nodes.proofs.Plain.{node_of-plain, child_of-plain, length-plain, write-plain, tree-plain}
 
 -- what is in entries

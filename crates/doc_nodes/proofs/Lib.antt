@@ -1,14 +1,7 @@
-pub mod KeyOrder
 pub mod Walks
-pub mod Trails
-pub mod ChildrenLaws
-pub mod Blocks
-pub mod Gone
 pub mod Clearing
 pub mod HasPresence
-pub mod Places
 pub mod AddingPresence
-pub mod WriteFacts
 pub mod Growing
 pub mod Adding
 pub mod Made

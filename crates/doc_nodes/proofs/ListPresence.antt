@@ -2,8 +2,8 @@
 use Rattle.std.proofs.Common.{◌≡◌, ◌≢◌, ℕ, ◌<◌, List, [], ◌∷◌, length, get_or, set, Bool, true, false, Option, Some, None, ◌⊎◌, inl, inr, ⊎_elim, refl, sym, ap, ◌∙◌, subst, true≢false, arith, Contains}
 use Rattle.std.proofs.lemmas.Bool.{cases_eq, cases_lt}
 use Rattle.std.proofs.lemmas.List.{get_or_past, get_or_default, set-get_or}
-use Rattle.doc_nodes.specs.Children.{number_at}
-use Rattle.doc_nodes.proofs.Gone.{in_block, in_joined}
+use Rattle.key_map.specs.ByKey.{at_key}
+use Rattle.key_map.proofs.Gone.{in_block, in_joined}
 use Rattle.doc_api.specs.Words.{Id, Key}
 use Rattle.op_core.specs.declared.cursor.Key.TheVariants.{Doc, Text, Element, Head}
 use Rattle.crdt_rules.specs.Same.{id_eq}
@@ -15,14 +15,14 @@ use Rattle.crdt_rules.specs.Context.{reference}
 use Rattle.doc_nodes.specs.Walk.{root}
 use Rattle.doc_api.specs.declared.role.Role.{Role}
 use Rattle.presence_set.specs.ById.{uncovered}
-use Rattle.doc_nodes.specs.Blocks.{joined}
+use Rattle.key_map.specs.Blocks.{joined}
 use Rattle.doc_nodes.specs.Nodes.{blank_node, node_of, child_of, AreTree}
 use Rattle.doc_nodes.proofs.Plain.{blocks-plain}
 use Rattle.doc_nodes.specs.Writes.{with_entry}
 use Rattle.doc_nodes.specs.Growth.{Grows}
 use Rattle.doc_nodes.specs.ListPresence.{is_some_entry, is_node_present, with_element_presence, with_list_presence, ShowsPresence, ShowsPresenceBut, ListsShowPresence, ListsShowPresenceBut, plain, with_blocks, candidates, IsCandidate, IsCandidateBut, HaveCandidates, ChangesBlocks, KeepsBlocks, MayDropBlock}
 use Rattle.doc_nodes.proofs.AddingPresence.{here-set, other-set, eq_number, shape-set}
-use Rattle.doc_nodes.proofs.WriteFacts.{unwritten}
+use Rattle.doc_nodes.proofs.AddingPresence.{unwritten}
 
 -- where the list is the same, and the child is present as it was
 shows_presence_kept : (old new : List Node) (n : NodeNumber) (i : Id) → (node_of new n).order.0 ≡ (node_of old n).order.0
@@ -194,12 +194,12 @@ module _ (nodes : List Node) (at : NodeNumber) (within : at.0 < length nodes) (r
   }
 
   pub keeps_from : (key : Key) → ((e : Key × NodeNumber) → Contains (joined (get_or nodes at.0 read).children.1) e → Contains (joined children.1) e)
-      → ((c : NodeNumber) → number_at (get_or nodes at.0 read).children.0 key ≡ Some c → Contains (joined children.1) (key, c))
+      → ((c : NodeNumber) → at_key (get_or nodes at.0 read).children.0 key ≡ Some c → Contains (joined children.1) (key, c))
       → KeepsBlocks nodes (set nodes at.0 (record (get_or nodes at.0 read) { children = children })) at key
   keeps_from key kept noted = record {
     changes = changes_from;
     kept = λ e there. kept e (subst (λ z. Contains (joined z.children.1) e) (sym node_is) there);
-    noted = λ c found. noted c (ap (λ z. number_at z.children.0 key) node_is ∙ found);
+    noted = λ c found. noted c (ap (λ z. at_key z.children.0 key) node_is ∙ found);
   }
 
   pub drops_from : (block : ℕ) → ((m : ℕ) → m ≢ block → get_or children.1 m [] ≡ get_or (get_or nodes at.0 read).children.1 m [])
@@ -228,8 +228,8 @@ drops_nothing nodes at block = record {
 
 -- a child that a block has is a node
 pub child_within : (nodes : List Node) → AreTree nodes → (at : NodeNumber) → at.0 < length nodes → (read : Node) (e : Key × NodeNumber)
-    → number_at (get_or nodes at.0 read).children.0 e.0 ≡ Some e.1 → e.1.0 < length nodes
-child_within nodes tree at within read e found = tree.within at e.0 e.1 (ap (λ z. number_at z.children.0 e.0) (sym (get_or_default nodes at.0 read blank_node within)) ∙ found)
+    → at_key (get_or nodes at.0 read).children.0 e.0 ≡ Some e.1 → e.1.0 < length nodes
+child_within nodes tree at within read e found = tree.within at e.0 e.1 (ap (λ z. at_key z.children.0 e.0) (sym (get_or_default nodes at.0 read blank_node within)) ∙ found)
 
 -- a block of a node may be gone
 pub candidates-dropped : (old new : List Node) (at : NodeNumber) (block : ℕ) → at.0 < length old → MayDropBlock old new at block → HaveCandidates old → HaveCandidates new
@@ -308,20 +308,20 @@ module _ (nodes : List Node) (at : NodeNumber) (within : at.0 < length nodes) (c
   -- then what was right for all but the child is right for all
   pub list_presence-but : AreTree nodes → (k : Key) → child_of nodes at k ≡ Some child → (n : NodeNumber) (i : Id) → ShowsPresenceBut nodes child n i
       → ShowsPresence (with_list_presence nodes at (reference k) child) n i
-  list_presence-but tree k found n i (inl there) = let one = tree.unique n at (Element i) k child there found in at_key k found one.0 one.1
+  list_presence-but tree k found n i (inl there) = let one = tree.unique n at (Element i) k child there found in for_key k found one.0 one.1
     where
-      at_key : (k : Key) → child_of nodes at k ≡ Some child → n ≡ at → Element i ≡ k → ShowsPresence (with_list_presence nodes at (reference k) child) n i
-      at_key (Element id) found here same = shows_presence-updated id found n i (inr (here, cc))
-      at_key Doc found here same = absurd (cc)
-      at_key Head found here same = absurd (cc)
-      at_key (Text t) found here same = absurd (cc)
-  list_presence-but tree k found n i (inr right) = at_key k found
+      for_key : (k : Key) → child_of nodes at k ≡ Some child → n ≡ at → Element i ≡ k → ShowsPresence (with_list_presence nodes at (reference k) child) n i
+      for_key (Element id) found here same = shows_presence-updated id found n i (inr (here, cc))
+      for_key Doc found here same = absurd (cc)
+      for_key Head found here same = absurd (cc)
+      for_key (Text t) found here same = absurd (cc)
+  list_presence-but tree k found n i (inr right) = for_key k found
     where
-      at_key : (k : Key) → child_of nodes at k ≡ Some child → ShowsPresence (with_list_presence nodes at (reference k) child) n i
-      at_key (Element id) found = shows_presence-updated id found n i (inl right)
-      at_key Doc found = right
-      at_key Head found = right
-      at_key (Text t) found = right
+      for_key : (k : Key) → child_of nodes at k ≡ Some child → ShowsPresence (with_list_presence nodes at (reference k) child) n i
+      for_key (Element id) found = shows_presence-updated id found n i (inl right)
+      for_key Doc found = right
+      for_key Head found = right
+      for_key (Text t) found = right
 
 -- no list shows the root
 pub shows_presence-but_root : (nodes : List Node) → AreTree nodes → (n : NodeNumber) (i : Id) → ShowsPresenceBut nodes root n i → ShowsPresence nodes n i

@@ -1,17 +1,15 @@
--- The nodes but for what their lists tell: the same facts, and each write to another part is the same write.
+-- The nodes but for what their lists tell: each write to another part is the same write.
 use Rattle.std.proofs.Common.{◌≡◌, ◌<◌, ℕ, zero, suc, List, [], ◌∷◌, length, map, set, get_or, Option, Some, None, refl, sym, ap, ◌∙◌, subst, true}
 use Rattle.std.proofs.lemmas.List.{length-map, map-set, set-get_or}
-use Rattle.std.specs.Prelude.{IsSome, is_some, option_and_then}
+use Rattle.std.specs.Prelude.{IsSome, option_and_then}
 use mathlib.Core.Path.{fun_ext}
 use Rattle.doc_api.specs.Words.{Id, Key, Tagged}
-use Rattle.presence_set.specs.ById.{get}
-use Rattle.list_order.specs.Entries.{ids_of}
-use Rattle.list_order.proofs.Entries.{ids_of-all_absent, all_absent-with}
+use Rattle.list_order.proofs.Entries.{all_absent-with}
 use Rattle.doc_nodes.specs.declared.node.NodeNumber.{NodeNumber}
 use Rattle.doc_nodes.specs.declared.node.Node.{Node}
-use Rattle.doc_nodes.specs.Children.{number_at}
-use Rattle.doc_nodes.specs.Walk.{walk, root, trail, list_trail, IsTree}
-use Rattle.doc_nodes.specs.Nodes.{blank_node, node_of, child_of, node_at, list_node_at, role_in, part_in, ids_in, role_at, facts_of, AreTree}
+use Rattle.key_map.specs.ByKey.{at_key}
+use Rattle.doc_nodes.specs.Walk.{walk, root, trail, IsTree}
+use Rattle.doc_nodes.specs.Nodes.{blank_node, node_of, child_of, node_at, AreTree}
 use Rattle.doc_nodes.specs.PresenceAlong.{HasRoomAlong, IsReady}
 use Rattle.doc_nodes.specs.ListPresence.{with_element_presence, is_node_present, with_list_presence, without_list_presence, with_blocks, plain}
 
@@ -25,7 +23,7 @@ module _ (nodes : List Node) where
   node_of-plain n = without_list_presence_at nodes n.0
 
   pub child_of-plain : child_of (plain nodes) ≡ child_of nodes
-  child_of-plain = fun_ext (λ n. fun_ext (λ k. ap (λ z. number_at z.children.0 k) (without_list_presence_at nodes n.0)))
+  child_of-plain = fun_ext (λ n. fun_ext (λ k. ap (λ z. at_key z.children.0 k) (without_list_presence_at nodes n.0)))
 
   pub length-plain : length (plain nodes) ≡ length nodes
   length-plain = length-map nodes without_list_presence
@@ -76,42 +74,6 @@ module _ (nodes : List Node) where
       map-set without_list_presence nodes n.0 (with_blocks blocks (node_of nodes n))
       ∙ ap (set (plain nodes) n.0) (sym (node_of-plain n))
       ∙ set-get_or (plain nodes) n.0 blank_node
-
-  part_in-plain : {X : Type 0} (part : Node → X) → ((node : Node) → part (without_list_presence node) ≡ part node) → (n : NodeNumber) → part (node_of (plain nodes) n) ≡ part (node_of nodes n)
-  part_in-plain part same n = ap part (node_of-plain n) ∙ same (node_of nodes n)
-
-  pub role-plain : (p : List Tagged) (k : Key) (i : Id) → role_at (plain nodes) p k i ≡ role_at nodes p k i
-  unfolding role_at
-  role-plain p k i = ap (λ o. role_in (plain nodes) o i) (node_at-plain p k) ∙ go (node_at nodes p k)
-    where
-      go : (o : Option NodeNumber) → role_in (plain nodes) o i ≡ role_in nodes o i
-      go None = refl
-      go (Some c) = ap (λ z. get z.presence.0 i) (node_of-plain c)
-
-  value-plain : {X : Type 0} (part : Node → List (Id × X)) → ((node : Node) → part (without_list_presence node) ≡ part node) → (p : List Tagged) (k : Key) (i : Id)
-      → part_in part (plain nodes) (node_at (plain nodes) p k) i ≡ part_in part nodes (node_at nodes p k) i
-  value-plain {X} part same p k i = ap (λ o. part_in part (plain nodes) o i) (node_at-plain p k) ∙ go (node_at nodes p k)
-    where
-      go : (o : Option NodeNumber) → part_in part (plain nodes) o i ≡ part_in part nodes o i
-      go None = refl
-      go (Some c) = ap (λ l. get l i) (part_in-plain part same c)
-
-  ids-plain : (p : List Tagged) → ids_in (plain nodes) (list_node_at (plain nodes) p) ≡ ids_in nodes (list_node_at nodes p)
-  ids-plain p = ap (λ f. ids_in (plain nodes) (option_and_then (walk f root) (list_trail p))) child_of-plain ∙ go (list_node_at nodes p)
-    where
-      go : (o : Option NodeNumber) → ids_in (plain nodes) o ≡ ids_in nodes o
-      go None = refl
-      go (Some c) = ap (λ z. ids_of z.order.0) (node_of-plain c) ∙ ids_of-all_absent (node_of nodes c).order.0
-
-  pub facts-plain : facts_of (plain nodes) ≡ facts_of nodes
-  unfolding facts_of
-  facts-plain =
-      λ x. record {
-        present = λ p k i. ap is_some (role-plain p k i) x;
-        register = λ p k i. value-plain (λ z. z.register.0) (λ z. refl) p k i x;
-        counter = λ p k i. value-plain (λ z. z.counter.0) (λ z. refl) p k i x;
-        order = λ p. ids-plain p x;
-      }
 
 -- nodes have the same children where their plain ones have
 pub shape_of-plain : (old new : List Node) → child_of (plain new) ≡ child_of (plain old) → child_of new ≡ child_of old

@@ -5,8 +5,8 @@ use Rattle.std.specs.Prelude.{ℕ, true, unwrap_or, option_map}
 use Rattle.op_core.specs.declared.cursor.Key.{Key}
 use Rattle.doc_nodes.specs.declared.node.NodeNumber.{NodeNumber}
 use Rattle.doc_nodes.specs.declared.node.Node.{Node}
-use Rattle.doc_nodes.specs.KeyOrder.{key_rank}
-use Rattle.doc_nodes.specs.Blocks.{joined}
+use Rattle.key_map.specs.KeyOrder.{key_rank}
+use Rattle.key_map.specs.Blocks.{joined}
 use Rattle.doc_nodes.specs.Walk.{walk}
 use Rattle.doc_nodes.specs.Nodes.{node_of, child_of}
 use Rattle.doc_nodes.specs.PresenceAlong.{HasRoomAlong}

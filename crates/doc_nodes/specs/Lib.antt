@@ -1,6 +1,3 @@
-pub mod KeyOrder
-pub mod Children
-pub mod Blocks
 pub mod Walk
 pub mod Nodes
 pub mod PresenceAlong

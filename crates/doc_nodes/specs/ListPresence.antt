@@ -9,7 +9,7 @@ use Rattle.doc_api.specs.declared.role.Role.{Role}
 use Rattle.list_order.specs.Entries.{with_presence, all_absent}
 use Rattle.doc_nodes.specs.declared.node.NodeNumber.{NodeNumber}
 use Rattle.doc_nodes.specs.declared.node.Node.{Node}
-use Rattle.doc_nodes.specs.Blocks.{joined}
+use Rattle.key_map.specs.Blocks.{joined}
 use Rattle.doc_nodes.specs.Nodes.{node_of, child_of}
 
 -- a list has an element

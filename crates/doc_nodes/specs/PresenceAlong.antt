@@ -4,9 +4,6 @@ use Rattle.std.specs.Prelude.{◌||◌, IsSome, Bool}
 use Rattle.std.specs.Prelude.{true, false}
 use Rattle.doc_api.specs.Words.{Id, Key, Tagged}
 use Rattle.op_core.specs.Shape.{key_of}
-use Rattle.crdt_rules.specs.Same.{id_eq}
-use Rattle.crdt_rules.specs.Within.{is_within}
-use Rattle.crdt_rules.specs.Facts.{Facts}
 use Rattle.doc_api.specs.declared.role.Role.{Role}
 use Rattle.doc_api.specs.declared.role.Role.TheVariants.{Through}
 use Rattle.presence_set.specs.ById.{put_at_id}
@@ -83,7 +80,3 @@ pub record IsReady (nodes : List Node) (n : NodeNumber) (keys : List Key) : Type
   pub within : n.0 < length nodes
   pub reached : IsSome (walk (child_of nodes) n keys)
   pub room : HasRoomAlong nodes n keys
-
--- a place, and those above it, are present by an id
-abbrev pub presence_facts : Facts → List Tagged → Key → Id → Facts
-presence_facts f p k id = record f { present = λ q j i. f.present q j i || (is_within p k q j && id_eq id i) }

@@ -2,8 +2,6 @@
 //! made present, written and cleared.
 #![tactic(auto)]
 
-mod child_blocks;
-mod children;
 mod clear;
 mod counter;
 mod finding;
@@ -13,12 +11,11 @@ mod node;
 mod presence;
 mod write;
 
-pub use child_blocks::{EachChild, SearchHint};
-pub use children::Children;
 pub use clear::{clear_under, clear_way};
 pub use counter::Counter;
 pub use finding::{find, find_list, find_list_below, keys};
 pub use growth::{prepare_way, reserve_order, reserve_value};
-pub use node::{Node, NodeNumber, PlaceNodes, ROOT, Register, element_in};
+pub use key_map::SearchHint;
+pub use node::{Children, EachChild, Node, NodeNumber, PlaceNodes, ROOT, Register, element_in};
 pub use presence::add_presence_along;
 pub use write::{count, enter, link};

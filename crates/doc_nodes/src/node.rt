@@ -2,9 +2,9 @@
 ghost use Rattle.std.specs.Prelude.{◌≡◌, []};
 ghost use Rattle.crdt_rules.specs.Context.{reference};
 
-use crate::children::Children;
 use crate::counter::Counter;
 use json_scalar::Scalar;
+use key_map::{EachEntry, KeyMap};
 use lamport_id::Id;
 use list_order::ListOrder;
 use op_core::{Front, Key};
@@ -30,6 +30,13 @@ pub struct PlaceNodes {
 
 /// The scalars that operations put at a place.
 pub type Register = ById<Scalar>;
+
+/// The nodes below a node, by their keys. A block of them is gone once it is known that none in it
+/// is present, until one may be again.
+pub type Children = KeyMap<NodeNumber>;
+
+/// Children one after another, in the order of their keys.
+pub type EachChild<'a> = EachEntry<'a, NodeNumber>;
 
 /// The id of an element's key.
 pub fn element_in(key: &Key) -> Option<Id>

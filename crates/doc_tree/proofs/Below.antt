@@ -10,11 +10,12 @@ use Rattle.crdt_rules.specs.Same.{key_eq}
 use Rattle.doc_nodes.specs.declared.node.NodeNumber.{NodeNumber}
 use Rattle.doc_nodes.specs.declared.node.Node.{Node}
 use Rattle.doc_nodes.specs.Walk.{trail, trail_below, list_trail, list_trail_below, walk, root}
-use Rattle.doc_nodes.specs.Nodes.{AreTree, node_of, child_of, node_at, list_node_at, role_in, role_at, facts_of}
+use Rattle.doc_nodes.specs.Nodes.{AreTree, node_of, child_of, node_at, list_node_at}
+use Rattle.doc_tree.specs.Facts.{role_in, role_at, facts_of}
 use Rattle.doc_nodes.specs.ListPresence.{is_node_present}
 use Rattle.doc_nodes.proofs.HasPresence.{some_entry}
 use Rattle.doc_nodes.proofs.Walks.{parts_of, walk-append, walk_split}
-use Rattle.doc_nodes.proofs.Places.{node_by}
+use Rattle.doc_tree.proofs.Places.{node_by}
 
 -- the way to what is below a place goes by the place
 trail_below-into : (s : Tagged) (p : List Tagged) (t : Tagged) (x : Key) → may_follow t x ≡ true

@@ -13,9 +13,11 @@ use Rattle.presence_set.proofs.ByIdLaws.{get-uncovered}
 use Rattle.doc_nodes.specs.declared.node.NodeNumber.{NodeNumber}
 use Rattle.doc_nodes.specs.declared.node.Node.{Node}
 use Rattle.doc_nodes.specs.Walk.{walk}
-use Rattle.doc_nodes.specs.Nodes.{node_of, child_of, node_at, list_node_at, role_in, part_in, ids_in, role_at, facts_of, AreTree, ClearsUnder, cleared, clear_facts_at}
+use Rattle.doc_nodes.specs.Nodes.{node_of, child_of, node_at, list_node_at, AreTree, ClearsUnder, cleared}
+use Rattle.doc_tree.specs.Facts.{role_in, part_in, ids_in, role_at, facts_of}
+use Rattle.doc_tree.specs.Changes.{clear_facts_at}
 use Rattle.doc_nodes.proofs.Clearing.{same_children}
-use Rattle.doc_nodes.proofs.Places.{node_above, within_from_walk}
+use Rattle.doc_tree.proofs.Places.{node_above, within_from_walk}
 use Rattle.doc_tree.proofs.SameShape.{same_node_at, same_ids}
 
 module _ (front : List (List ℕ × ℕ)) (old new : List Node) (tree : AreTree old) (p : List Tagged) (k : Key) (m : NodeNumber)

@@ -12,7 +12,8 @@ use Rattle.list_order.proofs.Entries.{present_of-holding}
 use Rattle.doc_nodes.specs.declared.node.NodeNumber.{NodeNumber}
 use Rattle.doc_nodes.specs.declared.node.Node.{Node}
 use Rattle.doc_nodes.specs.Walk.{trail, trail_below, list_trail, list_trail_below, walk, root}
-use Rattle.doc_nodes.specs.Nodes.{node_of, child_of, node_at, list_node_at, facts_of}
+use Rattle.doc_nodes.specs.Nodes.{node_of, child_of, node_at, list_node_at}
+use Rattle.doc_tree.specs.Facts.{facts_of}
 use Rattle.doc_nodes.specs.ListPresence.{is_node_present, ListsShowPresence}
 use Rattle.doc_nodes.proofs.Walks.{parts_of, walk-append}
 use Rattle.doc_tree.proofs.Reading.{ids_read}

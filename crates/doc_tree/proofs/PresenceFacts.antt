@@ -13,11 +13,13 @@ use Rattle.presence_set.proofs.ByIdLaws.{get-put}
 use Rattle.doc_nodes.specs.declared.node.NodeNumber.{NodeNumber}
 use Rattle.doc_nodes.specs.declared.node.Node.{Node}
 use Rattle.doc_nodes.specs.Walk.{walk, root, trail}
-use Rattle.doc_nodes.specs.Nodes.{node_of, child_of, node_at, role_in, part_in, role_at, facts_of, AreTree}
-use Rattle.doc_nodes.specs.PresenceAlong.{made_present, role_before, AddsPresenceAlong, presence_facts}
+use Rattle.doc_nodes.specs.Nodes.{node_of, child_of, node_at, AreTree}
+use Rattle.doc_tree.specs.Facts.{role_in, part_in, role_at, facts_of}
+use Rattle.doc_nodes.specs.PresenceAlong.{made_present, role_before, AddsPresenceAlong}
+use Rattle.doc_tree.specs.Changes.{presence_facts}
 use Rattle.doc_nodes.proofs.Walks.{one_way}
-use Rattle.doc_nodes.proofs.Trails.{above, within, one_place}
-use Rattle.doc_nodes.proofs.Places.{way_to, node_above}
+use Rattle.doc_tree.proofs.Trails.{above, within, one_place}
+use Rattle.doc_tree.proofs.Places.{way_to, node_above}
 use Rattle.doc_tree.proofs.SameShape.{same_node_at, same_ids}
 
 module _ (id : Id) (role : Role) (old new : List Node) (tree : AreTree old) (p : List Tagged) (k : Key) (keys : List Key) (m : NodeNumber)

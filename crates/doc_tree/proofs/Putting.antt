@@ -12,19 +12,24 @@ use Rattle.presence_set.proofs.ByIdLaws.{length-uncovered}
 use Rattle.doc_nodes.specs.declared.node.NodeNumber.{NodeNumber}
 use Rattle.doc_nodes.specs.declared.node.Node.{Node}
 use Rattle.doc_nodes.specs.Walk.{walk, root, trail, trail_below}
-use Rattle.doc_nodes.specs.Nodes.{node_of, child_of, node_at, AreTree, ClearsUnder, facts_of, role_at, clear_facts_at, IsPartCleared}
-use Rattle.doc_nodes.specs.PresenceAlong.{keys_below, keys_to, HasRoomAlong, IsReady, AddsPresenceAlong, presence_facts}
+use Rattle.doc_nodes.specs.Nodes.{node_of, child_of, node_at, AreTree, ClearsUnder, IsPartCleared}
+use Rattle.doc_tree.specs.Facts.{facts_of, role_at}
+use Rattle.doc_tree.specs.Changes.{clear_facts_at}
+use Rattle.doc_nodes.specs.PresenceAlong.{keys_below, keys_to, HasRoomAlong, IsReady, AddsPresenceAlong}
+use Rattle.doc_tree.specs.Changes.{presence_facts}
 use Rattle.doc_nodes.proofs.Clearing.{same_children, tree-cleared}
-use Rattle.doc_nodes.specs.Writes.{put_facts, put_role, enter_facts, with_scalar, with_number, add_facts, add_role, count_facts}
+use Rattle.doc_nodes.specs.Writes.{with_scalar, with_number}
+use Rattle.doc_tree.specs.Changes.{put_facts, put_role, enter_facts, add_facts, add_role, count_facts}
 use Rattle.crdt_rules.specs.Within.{is_within}
 use Rattle.doc_api.specs.declared.role.Role.TheVariants.{Through}
-use Rattle.doc_nodes.proofs.Places.{way_to, node_within}
+use Rattle.doc_tree.proofs.Places.{way_to, node_within}
 use Rattle.doc_tree.proofs.ClearFacts.{facts-cleared, role-cleared}
 use Rattle.doc_tree.proofs.PresenceFacts.{facts-made_present, role-made_present}
-use Rattle.doc_nodes.proofs.WriteFacts.{facts-entered, facts-counted, role-set}
+use Rattle.doc_tree.proofs.WriteFacts.{facts-entered, facts-counted, role-set}
 use Rattle.doc_nodes.proofs.AddingPresence.{tree-set}
 use Rattle.doc_nodes.specs.ListPresence.{plain, ShowsPresence, ShowsPresenceBut, ListsShowPresenceBut, HaveCandidates}
-use Rattle.doc_nodes.proofs.Plain.{child_of-plain, node_of-plain, node_at-plain, tree-plain, facts-plain, role-plain, shape_of-plain, tree_same}
+use Rattle.doc_nodes.proofs.Plain.{child_of-plain, node_of-plain, node_at-plain, tree-plain, shape_of-plain, tree_same}
+use Rattle.doc_tree.proofs.PlainFacts.{facts-plain, role-plain}
 
 -- the keys of a trail
 keys_of_trail_below : (t : Tagged) (p : List Tagged) (k : Key) (keys : List Key) → trail_below t p k ≡ Some keys → keys ≡ keys_below p k

@@ -6,7 +6,8 @@ use Rattle.presence_set.specs.ById.{get}
 use Rattle.list_order.specs.Entries.{ids_of}
 use Rattle.doc_nodes.specs.declared.node.NodeNumber.{NodeNumber}
 use Rattle.doc_nodes.specs.declared.node.Node.{Node}
-use Rattle.doc_nodes.specs.Nodes.{node_of, node_at, list_node_at, role_in, register_in, number_in, ids_in, role_at, facts_of}
+use Rattle.doc_nodes.specs.Nodes.{node_of, node_at, list_node_at}
+use Rattle.doc_tree.specs.Facts.{role_in, register_in, number_in, ids_in, role_at, facts_of}
 
 module _ (nodes : List Node) (p : List Tagged) (k : Key) where
   pub role_read : (n : NodeNumber) → node_at nodes p k ≡ Some n → (i : Id) → get (node_of nodes n).presence.0 i ≡ role_at nodes p k i

@@ -6,7 +6,7 @@ use Rattle.crdt_rules.specs.Same.{tagged_eq}
 use Rattle.crdt_rules.specs.Context.{Context, node, child, register, counter, present, order, descend}
 use Rattle.crdt_rules.specs.Facts.{Facts, facts}
 use Rattle.crdt_rules.proofs.StepFacts.{facts_step}
-use Rattle.doc_nodes.specs.Nodes.{clear_facts_at}
+use Rattle.doc_tree.specs.Changes.{clear_facts_at}
 use Rattle.doc_tree.specs.Clearing.{clear_at}
 use Rattle.doc_tree.proofs.Stepping.{delete_step}
 

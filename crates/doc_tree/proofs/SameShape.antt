@@ -6,7 +6,8 @@ use Rattle.list_order.specs.Entries.{ids_of}
 use Rattle.doc_nodes.specs.declared.node.NodeNumber.{NodeNumber}
 use Rattle.doc_nodes.specs.declared.node.Node.{Node}
 use Rattle.doc_nodes.specs.Walk.{walk, root, trail, list_trail}
-use Rattle.doc_nodes.specs.Nodes.{node_of, child_of, node_at, list_node_at, ids_in}
+use Rattle.doc_nodes.specs.Nodes.{node_of, child_of, node_at, list_node_at}
+use Rattle.doc_tree.specs.Facts.{ids_in}
 
 module _ (old new : List Node) (shape : child_of new ≡ child_of old) where
   pub same_node_at : (q : List Tagged) (j : Key) → node_at new q j ≡ node_at old q j

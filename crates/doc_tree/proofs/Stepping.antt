@@ -15,11 +15,14 @@ use Rattle.doc_api.specs.declared.role.Role.TheVariants.{Counter}
 use Rattle.doc_nodes.specs.declared.node.NodeNumber.{NodeNumber}
 use Rattle.doc_nodes.specs.declared.node.Node.{Node}
 use Rattle.doc_nodes.specs.Walk.{root, walk, trail}
-use Rattle.doc_nodes.specs.Nodes.{node_of, child_of, node_at, clear_facts_at}
-use Rattle.doc_nodes.specs.Writes.{put_facts, put_role, add_facts, add_role, order_facts, with_entry, IsReadyFor}
+use Rattle.doc_nodes.specs.Nodes.{node_of, child_of, node_at}
+use Rattle.doc_tree.specs.Changes.{clear_facts_at}
+use Rattle.doc_nodes.specs.Writes.{with_entry}
+use Rattle.doc_tree.specs.Changes.{put_facts, put_role, add_facts, add_role, order_facts}
+use Rattle.doc_tree.specs.Prepared.{IsReadyFor}
 use Rattle.doc_rules.specs.Role.{step_roles, role_of}
 use Rattle.doc_nodes.proofs.AddingPresence.{shape-set}
-use Rattle.doc_nodes.proofs.WriteFacts.{unwritten}
+use Rattle.doc_nodes.proofs.AddingPresence.{unwritten}
 
 -- an operation with a known mutation
 abbrev with_mutation : Op → Mutation → Op

@@ -6,7 +6,8 @@ use Rattle.doc_api.specs.declared.role.Role.{Role}
 use Rattle.doc_nodes.specs.declared.node.Node.{Node}
 use Rattle.doc_nodes.specs.declared.node.NodeNumber.{NodeNumber}
 use Rattle.doc_nodes.specs.Walk.{list_trail_below, walk}
-use Rattle.doc_nodes.specs.Nodes.{facts_of, role_at, child_of, node_at, list_node_at}
+use Rattle.doc_nodes.specs.Nodes.{child_of, node_at, list_node_at}
+use Rattle.doc_tree.specs.Facts.{facts_of, role_at}
 use Rattle.doc_nodes.specs.ListPresence.{is_node_present}
 use Rattle.doc_tree.specs.declared.tree.Prepared.{Prepared}
 

@@ -1,17 +1,27 @@
 -- When the tree has all that an operation needs.
-use Rattle.std.specs.Prelude.{◌≡◌, ◌<◌, List, length, true, false, Some, IsSome, Contains}
+use Rattle.std.specs.Prelude.{◌≡◌, ◌<◌, List, length, Bool, true, false, Some, IsSome, Contains}
 use Rattle.std.specs.Option.{ForSome}
-use Rattle.doc_api.specs.Words.{Tagged, Op}
+use Rattle.doc_api.specs.Words.{Key, Tagged, Op}
 use Rattle.crdt_rules.specs.Effect.{is_add, is_delete, is_insertion, scalar_put, path_of, end_key}
 use Rattle.crdt_rules.specs.Context.{reference}
 use Rattle.crdt_rules.specs.Facts.{Facts}
 use Rattle.doc_nodes.specs.declared.node.NodeNumber.{NodeNumber}
 use Rattle.doc_nodes.specs.declared.node.Node.{Node}
 use Rattle.doc_nodes.specs.declared.node.PlaceNodes.{PlaceNodes}
-use Rattle.doc_nodes.specs.Walk.{trail, list_trail}
+use Rattle.doc_nodes.specs.Walk.{root, trail, list_trail}
 use Rattle.doc_nodes.specs.Nodes.{node_of, node_at, list_node_at}
-use Rattle.doc_nodes.specs.Writes.{IsReadyFor}
+use Rattle.doc_nodes.specs.PresenceAlong.{keys_to, HasRoomAlong}
 use Rattle.doc_tree.specs.Nodes.{TreeValue}
+
+-- a place has a node, with room for one more id on the way, and at the end for one more
+-- number, or for one more scalar
+pub record IsReadyFor (nodes : List Node) (p : List Tagged) (k : Key) (adds : Bool) : Type 0 where
+  pub found : IsSome (node_at nodes p k)
+  pub along : HasRoomAlong nodes root (keys_to p k)
+  pub register : adds ≡ false → (m : NodeNumber) → node_at nodes p k ≡ Some m
+      → length (node_of nodes m).register.0 < (node_of nodes m).register.1
+  pub counter : adds ≡ true → (m : NodeNumber) → node_at nodes p k ≡ Some m
+      → (node_of nodes m).counter.1 ≡ true
 
 -- a list has a node, with room for one more id
 pub record IsReadyList (nodes : List Node) (p : List Tagged) : Type 0 where

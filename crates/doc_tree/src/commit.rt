@@ -12,12 +12,13 @@ ghost use Rattle.crdt_rules.specs.Context.{reference};
 ghost use Rattle.crdt_rules.specs.Facts.{step_facts};
 ghost use Rattle.doc_api.specs.declared.role.Role.TheVariants.{Counter};
 ghost use Rattle.doc_nodes.specs.declared.node.NodeNumber.{NodeNumber};
-ghost use Rattle.doc_nodes.specs.Nodes.{AreTree, node_at, list_node_at, facts_of, role_at};
-ghost use Rattle.doc_nodes.specs.Nodes.{clear_facts_at};
+ghost use Rattle.doc_nodes.specs.Nodes.{AreTree, node_at, list_node_at};
+ghost use Rattle.doc_tree.specs.Facts.{facts_of, role_at};
+ghost use Rattle.doc_tree.specs.Changes.{clear_facts_at};
 ghost use Rattle.doc_nodes.specs.ListPresence.{ListsShowPresence, ListsShowPresenceBut};
 ghost use Rattle.doc_nodes.specs.HasPresence.{HavePresence};
-ghost use Rattle.doc_nodes.specs.Writes.{add_facts, add_role, put_facts, put_role, order_facts};
-ghost use Rattle.doc_nodes.specs.Writes.{IsReadyFor};
+ghost use Rattle.doc_tree.specs.Changes.{add_facts, add_role, put_facts, put_role, order_facts};
+ghost use Rattle.doc_tree.specs.Prepared.{IsReadyFor};
 ghost use Rattle.doc_rules.specs.Role.{role_of, step_roles};
 ghost use Rattle.doc_tree.specs.Prepared.{AreReady, IsNewElement, IsReadyList, KnowsReference};
 

@@ -3,7 +3,7 @@ use Rattle.std.proofs.Common.{◌≡◌, [], refl}
 use Rattle.crdt_rules.specs.Context.{empty}
 use Rattle.crdt_rules.specs.Facts.{facts}
 use Rattle.doc_tree.specs.Nodes.{TreeValue}
-use Rattle.doc_nodes.specs.Nodes.{facts_of}
+use Rattle.doc_tree.specs.Facts.{facts_of}
 use Rattle.doc_tree.specs.Nodes.{tree_facts, tree_role}
 use Rattle.doc_rules.specs.Role.{AreOf}
 use Rattle.doc_rules.proofs.Roles.{are_of_new}

@@ -7,8 +7,8 @@ use Rattle.op_core.specs.declared.cursor.Key.TheVariants.{Doc, Text, Element, He
 use Rattle.list_laws.proofs.Members.{Contains-nil, Contains-here, Contains-there, Contains-cases}
 use Rattle.crdt_rules.specs.Facts.{Facts}
 use Rattle.doc_nodes.specs.declared.node.NodeNumber.{NodeNumber}
-use Rattle.doc_nodes.specs.KeyOrder as key_order
-use Rattle.doc_nodes.proofs.KeyOrder.{text_lt}
+use Rattle.key_map.specs.KeyOrder as key_order
+use Rattle.key_map.proofs.KeyOrder.{text_lt}
 use Rattle.doc_rules.specs.Views.{AreKeys, IsPresent, into_map}
 use Rattle.doc_rules.specs.Sorted.{IsRising, AreThose}
 use Rattle.doc_rules.specs.Sorted.AreThose.{none, keep, skip}

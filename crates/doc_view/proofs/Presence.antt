@@ -6,7 +6,8 @@ use Rattle.doc_api.specs.declared.role.Role.{Role}
 use Rattle.presence_set.specs.ById.{get, IsAscending}
 use Rattle.doc_tree.specs.Nodes.{TreeValue}
 use Rattle.doc_nodes.specs.declared.node.NodeNumber.{NodeNumber}
-use Rattle.doc_nodes.specs.Nodes.{facts_of, node_at, node_of}
+use Rattle.doc_nodes.specs.Nodes.{node_at, node_of}
+use Rattle.doc_tree.specs.Facts.{facts_of}
 use Rattle.doc_nodes.specs.ListPresence.{is_some_entry, is_node_present}
 use Rattle.doc_tree.specs.Nodes.{tree_facts, tree_present, tree_role}
 use Rattle.doc_tree.proofs.Reading.{role_read, role_absent}

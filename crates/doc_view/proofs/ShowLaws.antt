@@ -14,7 +14,7 @@ use Rattle.doc_api.specs.declared.role.Role.{Role}
 use Rattle.doc_api.specs.declared.role.Role.TheVariants as role
 use Rattle.doc_tree.specs.Nodes.{TreeValue}
 use Rattle.doc_nodes.specs.declared.node.NodeNumber.{NodeNumber}
-use Rattle.doc_nodes.specs.KeyOrder as key_order
+use Rattle.key_map.specs.KeyOrder as key_order
 use Rattle.doc_tree.specs.Nodes.{tree_facts}
 use Rattle.doc_rules.specs.Views.{AreKeys, AreEntries, AreTerms, AreElements, IsPresent, into_map, into_list}
 use Rattle.doc_rules.specs.Role.{value_in}

@@ -4,12 +4,12 @@ use Rattle.list_laws.proofs.Reading.{take_read}
 use Rattle.op_core.specs.declared.cursor.Key.TheVariants.{Element, Head}
 use Rattle.doc_nodes.specs.declared.node.Node.{Node}
 use Rattle.crdt_rules.specs.Context.{reference}
-use Rattle.doc_nodes.specs.Blocks.{joined}
+use Rattle.key_map.specs.Blocks.{joined}
 use Rattle.doc_nodes.specs.Nodes.{blank_node, node_of, child_of, cleared, IsPartCleared, ClearsUnder, ClearsFirst}
 use Rattle.doc_nodes.specs.HasPresence.{HavePresenceFrom}
 use Rattle.doc_nodes.specs.ListPresence.{plain, with_list_presence, ShowsPresence, ShowsPresenceBut, HaveCandidates}
 use Rattle.doc_nodes.proofs.Clearing.{none_yet, one_more, each-each, same_children}
-use Rattle.doc_nodes.proofs.Gone.{taken-more}
+use Rattle.key_map.proofs.Gone.{taken-more}
 use Rattle.doc_nodes.proofs.Plain.{child_of-plain, length-plain, shape_of-plain, write-plain, list_presence-plain, tree_same}
 use Rattle.doc_nodes.proofs.HasPresence.{has_presence_from, has_presence-same, has_presence-first, has_presence-cleared, clears-absent, clears-childless, clears-all}
 use Rattle.doc_nodes.proofs.AddingPresence.{here-set, other-set}

@@ -3,7 +3,7 @@ use Rattle.lamport_id.specs.declared.id.Id.{Id}
 use Rattle.op_core.specs.declared.cursor.Key.{Key}
 use Rattle.doc_nodes.specs.declared.node.NodeNumber.{NodeNumber}
 use Rattle.doc_nodes.specs.declared.node.Node.{Node}
-use Rattle.doc_nodes.specs.Blocks.{joined}
+use Rattle.key_map.specs.Blocks.{joined}
 use Rattle.doc_nodes.specs.Nodes.{node_of, IsPartCleared, ClearsFirst}
 use Rattle.doc_nodes.specs.HasPresence.{HavePresenceFrom}
 use Rattle.doc_nodes.specs.ListPresence.{plain, ShowsPresence, ShowsPresenceBut, HaveCandidates}

@@ -1,6 +1,6 @@
 use Rattle.std.proofs.Common.{◌≡◌, ◌<◌, ◌∙◌, refl, sym, ap, subst, Option, Some, None, ◌++◌, ◌∷◌, [], true}
 use Rattle.std.specs.Prelude.{Contains, option_and_then}
-use Rattle.doc_nodes.specs.Children.{number_at}
+use Rattle.key_map.specs.ByKey.{at_key}
 use Rattle.std.proofs.lemmas.List.{get_or_default}
 use Rattle.op_core.specs.declared.cursor.Key.TheVariants.{Text, Element}
 use Rattle.op_core.specs.declared.cursor.Tagged.TheVariants.{Map, List as ListAt}
@@ -8,9 +8,9 @@ use Rattle.doc_nodes.specs.declared.node.NodeNumber.{NodeNumber}
 use Rattle.doc_nodes.specs.Nodes.{blank_node, node_of, node_at, child_of}
 use Rattle.doc_tree.specs.Nodes.{tree_facts, tree_number}
 use Rattle.list_laws.proofs.Members.{Contains-nil}
-use Rattle.doc_nodes.specs.Blocks.{joined}
+use Rattle.key_map.specs.Blocks.{joined}
 use Rattle.crdt_rules.proofs.Tests.{same_found}
-use Rattle.doc_nodes.proofs.Places.{node_within}
+use Rattle.doc_tree.proofs.Places.{node_within}
 use Rattle.doc_tree.proofs.Below.{number-into, present_child}
 use Rattle.doc_tree.proofs.tree.Tree.children.Goals as goal
 
@@ -100,7 +100,7 @@ returns-in-Some-clause-members c = λ text n has.
     ∙ get_or_default nodes c.in-Some.at.0 c.index.result.now blank_node (node_within nodes c.self.invariant.0 p k c.in-Some.at found) in
     ap (λ t. tree_number t (p ++ Map k ∷ []) (Text text)) (sym c.self.view_is)
     ∙ number-into nodes p (Map k) (Text text) refl ∙ ap (option_and_then (λ m. child_of nodes m (Text text))) found
-    ∙ ap (λ z. number_at z.children.0 (Text text)) (sym read) ∙ c.each.ensures.some (Text text, n) has
+    ∙ ap (λ z. at_key z.children.0 (Text text)) (sym read) ∙ c.each.ensures.some (Text text, n) has
 
 pub returns-in-None-clause-elements : goal.returns-in-None-clause-elements
 returns-in-None-clause-elements c = λ i n has. absurd (Contains-nil (subst (λ l. Contains l (Element i, n)) c.none.ensures has))
@@ -118,4 +118,4 @@ returns-in-Some-clause-elements c = λ i n has.
     ∙ get_or_default nodes c.in-Some.at.0 c.index.result.now blank_node (node_within nodes c.self.invariant.0 p k c.in-Some.at found) in
     ap (λ t. tree_number t (p ++ ListAt k ∷ []) (Element i)) (sym c.self.view_is)
     ∙ number-into nodes p (ListAt k) (Element i) refl ∙ ap (option_and_then (λ m. child_of nodes m (Element i))) found
-    ∙ ap (λ z. number_at z.children.0 (Element i)) (sym read) ∙ c.each.ensures.some (Element i, n) has
+    ∙ ap (λ z. at_key z.children.0 (Element i)) (sym read) ∙ c.each.ensures.some (Element i, n) has

@@ -2,8 +2,8 @@ use Rattle.std.proofs.Common.{rules, ◌≡◌, ◌≤◌, ◌∙◌, length, sy
 use Rattle.std.proofs.lemmas.List.{get_or_past}
 use Rattle.list_laws.proofs.Members.{Contains-nil}
 use Rattle.doc_nodes.specs.declared.node.NodeNumber.{NodeNumber}
-use Rattle.doc_nodes.specs.Children.{number_at}
-use Rattle.doc_nodes.specs.Blocks.{joined}
+use Rattle.key_map.specs.ByKey.{at_key}
+use Rattle.key_map.specs.Blocks.{joined}
 use Rattle.doc_nodes.specs.Nodes.{blank_node, AreTree, node_of}
 use Rattle.doc_nodes.specs.ListPresence.{HaveCandidates}
 use Rattle.doc_tree.specs.Nodes.{TreeValue}
@@ -16,7 +16,7 @@ returns-in-None-clause-found c = λ k n has. absurd (Contains-nil (subst (λ l. 
 pub returns-in-None-clause-present : goal.returns-in-None-clause-present
 returns-in-None-clause-present c = λ k n down there.
     let past : length c.args.self.now.0 ≤ c.args.at.0 = search rules in
-    let void : ◌≡◌ {A = Option NodeNumber} None (Some n) = ap (λ z. number_at z.children.0 k) (sym (get_or_past c.args.self.now.0 c.args.at.0 blank_node past)) ∙ down in
+    let void : ◌≡◌ {A = Option NodeNumber} None (Some n) = ap (λ z. at_key z.children.0 k) (sym (get_or_past c.args.self.now.0 c.args.at.0 blank_node past)) ∙ down in
     absurd (cc)
 
 pub returns-in-None-clause-deeper : goal.returns-in-None-clause-deeper
@@ -25,7 +25,7 @@ returns-in-None-clause-deeper c = λ k n has. absurd (Contains-nil (subst (λ l.
 pub returns-in-Some-clause-found : goal.returns-in-Some-clause-found
 returns-in-Some-clause-found c = λ k n has.
     let read : c.in-Some.node.now ≡ node_of c.args.self.now.0 c.args.at = search rules in
-    ap (λ z. number_at z.children.0 k) (sym read) ∙ c.each.ensures.some (k, n) has
+    ap (λ z. at_key z.children.0 k) (sym read) ∙ c.each.ensures.some (k, n) has
 
 pub returns-in-Some-clause-present : goal.returns-in-Some-clause-present
 returns-in-Some-clause-present c = λ k n down there.
@@ -37,4 +37,4 @@ pub returns-in-Some-clause-deeper : goal.returns-in-Some-clause-deeper
 returns-in-Some-clause-deeper c = λ k n has.
     let read : c.in-Some.node.now ≡ node_of c.args.self.now.0 c.args.at = search rules in
     child_deeper c.args.self.now.0 (subst (λ (t : TreeValue). AreTree t.0) c.self.view_is c.self.invariant.0) c.args.at k n
-    (ap (λ z. number_at z.children.0 k) (sym read) ∙ c.each.ensures.some (k, n) has)
+    (ap (λ z. at_key z.children.0 k) (sym read) ∙ c.each.ensures.some (k, n) has)

@@ -1,6 +1,0 @@
-use Rattle.std.proofs.Common.{length}
-use Rattle.doc_nodes.proofs.child_blocks.+open_blocks.Given as goal
-
--- proposed from what the function passes where it calls itself
-abbrev pub decreases-open_blocks : goal.decreases-open_blocks
-decreases-open_blocks l = length l.gone.now

@@ -1,0 +1,4 @@
+pub mod KeyOrder
+pub mod ByKeyLaws
+pub mod BlockLaws
+pub mod Gone

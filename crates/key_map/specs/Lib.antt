@@ -1,0 +1,3 @@
+pub mod KeyOrder
+pub mod ByKey
+pub mod Blocks
