@@ -1,10 +1,10 @@
 -- The children of a place, and the places below it.
-use Rattle.std.proofs.Common.{◌≡◌, ℕ, ◌<◌, length, List, [], ◌∷◌, ◌++◌, Bool, true, false, Option, Some, None, if◌then◌else◌, refl, sym, ap, ◌∙◌, true≢false}
+use Rattle.std.proofs.Common.{◌≡◌, ◌<◌, length, List, [], ◌∷◌, ◌++◌, Bool, true, false, Option, Some, None, if◌then◌else◌, refl, sym, ap, ◌∙◌, true≢false}
 use Rattle.std.specs.Prelude.{option_and_then, is_some}
 use Rattle.std.specs.Option.{option_map}
 use Rattle.doc_api.specs.Words.{Id, Key, Tagged}
-use Rattle.op_core.specs.declared.cursor.Key.TheVariants.{Doc, Text}
-use Rattle.op_core.specs.declared.cursor.Tagged.TheVariants.{Map as MapAt, List as ListAt}
+use Rattle.op_core.specs.declared.cursor.Key.TheVariants.{Doc}
+use Rattle.op_core.specs.declared.cursor.Tagged.TheVariants.{List as ListAt}
 use Rattle.op_core.specs.Shape.{key_of, may_follow}
 use Rattle.crdt_rules.specs.Same.{key_eq}
 use Rattle.doc_nodes.specs.declared.node.NodeNumber.{NodeNumber}

@@ -1,5 +1,5 @@
 -- The facts of a document that is kept as numbered nodes.
-use Rattle.std.specs.Prelude.{ℤ, List, [], Option, None, is_some}
+use Rattle.std.specs.Prelude.{ℤ, List, [], Option, Some, None, is_some}
 use Rattle.doc_api.specs.Words.{Id, Scalar, Key, Tagged}
 use Rattle.doc_api.specs.declared.role.Role.{Role}
 use Rattle.crdt_rules.specs.Facts.{Facts}

@@ -1,4 +1,4 @@
-use Rattle.std.proofs.Common.{◌≡◌, ◌<◌, ◌∙◌, refl, sym, ap, subst, Option, Some, None, ◌++◌, ◌∷◌, [], true}
+use Rattle.std.proofs.Common.{rules, ◌≡◌, ◌<◌, ◌∙◌, refl, sym, ap, subst, Option, Some, None, ◌++◌, ◌∷◌, [], true}
 use Rattle.std.specs.Prelude.{Contains, option_and_then}
 use Rattle.key_map.specs.ByKey.{at_key}
 use Rattle.std.proofs.lemmas.List.{get_or_default}
@@ -22,20 +22,21 @@ index-requires c =
     ∙ ap (λ l. node_at l c.keys.result.now c.args.key.now) (sym c.as_slice.ensures.value) ∙ sym c.find.ensures ∙ c.in-Some.is in
     subst (λ n. c.in-Some.at.0 < n) (sym c.self.inside.nodes.ok.0) (node_within nodes c.self.invariant.0 c.args.path.now c.args.key.now c.in-Some.at found)
 
-pub returns-in-None-clause-map : goal.returns-in-None-clause-map
-returns-in-None-clause-map c = λ text i there.
+pub returns-in_default-clause-map : goal.returns-in_default-clause-map
+returns-in_default-clause-map c = λ text i there.
     let nodes = c.self.inside.nodes.items in
     let p = c.args.path.now in
     let k = c.args.key.now in
+    let none_found : c.find.result ≡ None = search rules in
     let absent : node_at nodes p k ≡ None =
     ap (λ p. node_at nodes p c.args.key.now) (sym c.keys.ensures)
-    ∙ ap (λ l. node_at l c.keys.result.now c.args.key.now) (sym c.as_slice.ensures.value) ∙ sym c.find.ensures ∙ c.in-None.is in
+    ∙ ap (λ l. node_at l c.keys.result.now c.args.key.now) (sym c.as_slice.ensures.value) ∙ sym c.find.ensures ∙ none_found in
     let child = present_child nodes p (Map k) (Text text) refl i (subst (λ t. (tree_facts t).present (p ++ Map k ∷ []) (Text text) i ≡ true) (sym c.self.view_is) there) in
     let none : ◌≡◌ {A = Option NodeNumber} None (Some child.0) = sym absent ∙ child.2 in
     absurd (cc)
 
-pub returns-in-Some-clause-map : goal.returns-in-Some-clause-map
-returns-in-Some-clause-map c = λ text i there.
+pub returns-clause-map : goal.returns-clause-map
+returns-clause-map c = λ text i there.
     let nodes = c.self.inside.nodes.items in
     let p = c.args.path.now in
     let k = c.args.key.now in
@@ -53,20 +54,21 @@ returns-in-Some-clause-map c = λ text i there.
           (c.self.invariant.1.1 c.in-Some.at (Text text) child.1 at child.4),
     )
 
-pub returns-in-None-clause-list : goal.returns-in-None-clause-list
-returns-in-None-clause-list c = λ e i there.
+pub returns-in_default-clause-list : goal.returns-in_default-clause-list
+returns-in_default-clause-list c = λ e i there.
     let nodes = c.self.inside.nodes.items in
     let p = c.args.path.now in
     let k = c.args.key.now in
+    let none_found : c.find.result ≡ None = search rules in
     let absent : node_at nodes p k ≡ None =
     ap (λ p. node_at nodes p c.args.key.now) (sym c.keys.ensures)
-    ∙ ap (λ l. node_at l c.keys.result.now c.args.key.now) (sym c.as_slice.ensures.value) ∙ sym c.find.ensures ∙ c.in-None.is in
+    ∙ ap (λ l. node_at l c.keys.result.now c.args.key.now) (sym c.as_slice.ensures.value) ∙ sym c.find.ensures ∙ none_found in
     let child = present_child nodes p (ListAt k) (Element e) refl i (subst (λ t. (tree_facts t).present (p ++ ListAt k ∷ []) (Element e) i ≡ true) (sym c.self.view_is) there) in
     let none : ◌≡◌ {A = Option NodeNumber} None (Some child.0) = sym absent ∙ child.2 in
     absurd (cc)
 
-pub returns-in-Some-clause-list : goal.returns-in-Some-clause-list
-returns-in-Some-clause-list c = λ e i there.
+pub returns-clause-list : goal.returns-clause-list
+returns-clause-list c = λ e i there.
     let nodes = c.self.inside.nodes.items in
     let p = c.args.path.now in
     let k = c.args.key.now in
@@ -84,11 +86,11 @@ returns-in-Some-clause-list c = λ e i there.
           (c.self.invariant.1.1 c.in-Some.at (Element e) child.1 at child.4),
     )
 
-pub returns-in-None-clause-members : goal.returns-in-None-clause-members
-returns-in-None-clause-members c = λ text n has. absurd (Contains-nil (subst (λ l. Contains l (Text text, n)) c.none.ensures has))
+pub returns-in_default-clause-members : goal.returns-in_default-clause-members
+returns-in_default-clause-members c = λ text n has. absurd (Contains-nil (subst (λ l. Contains l (Text text, n)) c.none.ensures has))
 
-pub returns-in-Some-clause-members : goal.returns-in-Some-clause-members
-returns-in-Some-clause-members c = λ text n has.
+pub returns-clause-members : goal.returns-clause-members
+returns-clause-members c = λ text n has.
     let nodes = c.self.inside.nodes.items in
     let p = c.args.path.now in
     let k = c.args.key.now in
@@ -102,11 +104,11 @@ returns-in-Some-clause-members c = λ text n has.
     ∙ number-into nodes p (Map k) (Text text) refl ∙ ap (option_and_then (λ m. child_of nodes m (Text text))) found
     ∙ ap (λ z. at_key z.children.0 (Text text)) (sym read) ∙ c.each.ensures.some (Text text, n) has
 
-pub returns-in-None-clause-elements : goal.returns-in-None-clause-elements
-returns-in-None-clause-elements c = λ i n has. absurd (Contains-nil (subst (λ l. Contains l (Element i, n)) c.none.ensures has))
+pub returns-in_default-clause-elements : goal.returns-in_default-clause-elements
+returns-in_default-clause-elements c = λ i n has. absurd (Contains-nil (subst (λ l. Contains l (Element i, n)) c.none.ensures has))
 
-pub returns-in-Some-clause-elements : goal.returns-in-Some-clause-elements
-returns-in-Some-clause-elements c = λ i n has.
+pub returns-clause-elements : goal.returns-clause-elements
+returns-clause-elements c = λ i n has.
     let nodes = c.self.inside.nodes.items in
     let p = c.args.path.now in
     let k = c.args.key.now in
