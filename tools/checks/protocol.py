@@ -14,7 +14,8 @@ from protocol_files import Protocol
 
 # The functions of line_proto that name requests, with the number of items of these. One that has a kind names requests of it alone.
 PARSERS: Dict[str, Tuple[int, str]] = {
-    "bare_request": (0, "bare"), "plain_request": (1, ""), "short_request": (2, ""), "look_of": (2, "look"), "long_request": (3, ""),
+    "bare_request": (0, "bare"), "plain_request": (1, ""), "state_of_word": (1, "state"),
+    "short_request": (2, ""), "look_of": (2, "look"), "long_request": (3, ""),
     "read_mutation": (3, "change"),
 }
 

@@ -31,6 +31,17 @@ pub enum Look {
     Sum,
 }
 
+/// What is read of a document as a whole.
+#[derive(Clone, Copy, Debug, PartialEq, Eq)]
+pub enum State {
+    /// The front (a version vector) of the whole log.
+    Front,
+    /// The held operations, and what each waits for.
+    Held,
+    /// How many of the logged operations are the asking seat's.
+    Account,
+}
+
 /// What a document is asked, with nothing changed.
 #[derive(Debug, Drop)]
 pub enum Query {
@@ -40,10 +51,6 @@ pub enum Query {
     Look(Look, Place),
     /// The first so many of the logged operations that the front does not cover.
     Operations(Front, u64),
-    /// The front of the whole log.
-    Front,
-    /// The held operations, and what each waits for.
-    Held,
-    /// How many of the logged operations are the asking seat's.
-    Account,
+    /// The document as a whole.
+    State(State),
 }

@@ -213,6 +213,4 @@ one_answer r mine (query.Resolve place) x y = one_at r place (λ c a. a ≡ repl
 one_answer r mine (query.Look l place) x y =
     one_at r place (LooksHere (replica_facts r) (value_put_at r.log) l) (one_look (replica_facts r) (value_put_at r.log) l) x y
 one_answer r mine (query.Operations front limit) x y = λ a b. a ∙ sym b
-one_answer r mine query.Front x y = λ a b. a ∙ sym b
-one_answer r mine query.Held x y = λ a b. a ∙ sym b
-one_answer r mine query.Account x y = λ a b. a ∙ sym b
+one_answer r mine (query.State s) x y = λ a b. a ∙ sym b

@@ -6,6 +6,7 @@ use Rattle.std.proofs.lemmas.Bool.{false_from_ne_true, both_ways}
 use Rattle.doc_api.specs.Words.{Id, Refusal, Cursor, Key, Tagged, Op}
 use Rattle.doc_api.specs.declared.ask.Query.{Query}
 use Rattle.doc_api.specs.declared.ask.Query.TheVariants as query
+use Rattle.doc_api.specs.declared.ask.State.TheVariants as state
 use Rattle.doc_api.specs.declared.reply.Reply.{Reply}
 use Rattle.doc_api.specs.declared.reply.Reply.TheVariants as reply
 use Rattle.doc_api.specs.declared.role.Role.{Role}
@@ -106,7 +107,5 @@ module _ (r s : Replica) (good : IsGood r.log) (other_good : IsGood s.log) (same
           looks_same (replica_facts s) (value_put_at r.log) (value_put_at s.log) (λ p k i here. value_at-same r.log s.log good other_good same p k i) l c answer
           (subst (λ f. LooksHere f (value_put_at r.log) l c answer) same_facts looks)
       by (Err e) refused = refused
-  answers_same mine theirs query.Front answer of h = h ∙ ap reply.Front (front_of-same r.log s.log good other_good same)
-  answers_same mine theirs (query.Operations front limit) answer of h = absurd of
-  answers_same mine theirs query.Held answer of h = absurd of
-  answers_same mine theirs query.Account answer of h = absurd of
+  answers_same mine theirs (query.State state.Front) answer of h = h ∙ ap reply.Front (front_of-same r.log s.log good other_good same)
+  answers_same mine theirs asked answer of h = absurd of

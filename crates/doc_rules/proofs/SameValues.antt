@@ -61,11 +61,8 @@ here_moved reads reads' reply_of move c answer (Ok x, h, is) = (Ok x, (h.0, move
 here_moved reads reads' reply_of move c answer (Err e, h, is) = (Err e, h, is)
 
 pub looks_same : (f : Facts) (v w : Values) → AgreeOnPresent f v w → (l : Look) (c : Cursor) (answer : Reply) → LooksHere f v l c answer → LooksHere f w l c answer
-looks_same f v w same look.Keys c answer h = h
-looks_same f v w same look.Values c answer h = h
-looks_same f v w same look.Items c answer h = h
 looks_same f v w same look.Conflicts c answer h =
     here_moved (ConflictsText f v) (ConflictsText f w) reply.Conflicts (λ p k text h. (h.0, conflicts_same f v w same p k h.0 h.1, h.2)) c answer h
 looks_same f v w same look.Show c answer h =
     here_moved (ShowsText f v) (ShowsText f w) reply.Show (λ p k text h. (h.0, shows_same f v w same p k h.0 h.1, h.2)) c answer h
-looks_same f v w same look.Sum c answer h = h
+looks_same f v w same look c answer h = h

@@ -7,6 +7,8 @@ use Rattle.doc_api.specs.declared.ask.Look.{Look}
 use Rattle.doc_api.specs.declared.ask.Look.TheVariants as look
 use Rattle.doc_api.specs.declared.ask.Query.{Query}
 use Rattle.doc_api.specs.declared.ask.Query.TheVariants as query
+use Rattle.doc_api.specs.declared.ask.State.{State}
+use Rattle.doc_api.specs.declared.ask.State.TheVariants as state
 use Rattle.doc_api.specs.declared.place.Place.{Place}
 use Rattle.doc_api.specs.declared.reply.Reply.{Reply}
 use Rattle.doc_api.specs.declared.reply.Reply.TheVariants as reply
@@ -50,16 +52,20 @@ ReadsAt r place reads answer =
 abbrev pub since : List (List ℕ × ℕ) → List Op → List Op
 since front log = filter (λ o. not (covers front o.id)) log
 
--- mine is how many of the logged operations are the asking seat's, which the replica doesn't know
+-- The reply to a reading of the whole. mine is how many of the logged operations are the asking
+-- seat's, which the replica doesn't know.
+abbrev pub state_reply : Replica → ℕ → State → Reply
+state_reply r mine state.Front = reply.Front (front_of r.log)
+state_reply r mine state.Held = reply.Waiting (map (λ o. (o.id, missing o r.log)) r.held)
+state_reply r mine state.Account = reply.Account mine
+
 abbrev pub Reads : Replica → ℕ → Query → Reply → Type 0
 Reads r mine (query.Resolve place) answer = ReadsAt r place (λ c a. a ≡ reply.Resolved c) answer
 Reads r mine (query.Look look place) answer =
     ReadsAt r place (LooksHere (replica_facts r) (value_put_at r.log) look) answer
 Reads r mine (query.Operations front limit) answer =
     answer ≡ reply.Operations (operations_text (take limit (since front r.log)))
-Reads r mine query.Front answer = answer ≡ reply.Front (front_of r.log)
-Reads r mine query.Held answer = answer ≡ reply.Waiting (map (λ o. (o.id, missing o r.log)) r.held)
-Reads r mine query.Account answer = answer ≡ reply.Account mine
+Reads r mine (query.State s) answer = answer ≡ state_reply r mine s
 
 -- what may be answered
 abbrev pub MayAnswer : Replica → ℕ → Query → Reply → Type 0
@@ -70,5 +76,5 @@ MayAnswer r mine q answer = Reads r mine q answer ⊎ (answer ≡ reply.Refused 
 abbrev pub IsOfOperations : Query → Type 0
 IsOfOperations (query.Resolve place) = Unit {0}
 IsOfOperations (query.Look look place) = Unit {0}
-IsOfOperations query.Front = Unit {0}
+IsOfOperations (query.State state.Front) = Unit {0}
 IsOfOperations _ = ⊥

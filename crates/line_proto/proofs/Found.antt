@@ -1,5 +1,5 @@
 -- What is read has the JSON that it was read from, and is within the limits.
-use Rattle.std.proofs.Common.{◌≡◌, ℕ, ℤ, pos, negsuc, zero, suc, ◌^◌, ◌&&◌, nat_le, nat_lt, Bool, true, false, cond, List, [], ◌∷◌, map, codes, length, Option, Some, None, Result, Ok, Err, ok_or, IfOk, IsTrue, refl, sym, ap, ◌∙◌}
+use Rattle.std.proofs.Common.{◌≡◌, ℕ, ℤ, pos, negsuc, zero, suc, ◌^◌, ◌&&◌, nat_le, nat_lt, Bool, true, false, cond, List, [], ◌∷◌, map, codes, length, Option, Some, None, option_map, Result, Ok, Err, ok_or, IfOk, IsTrue, refl, sym, ap, ◌∙◌}
 use Rattle.std.specs.Str.{bytes_eq}
 use Rattle.std.proofs.lemmas.Slice.Eq.{bytes_eq-Decides}
 use Rattle.std.proofs.lemmas.Option.{cond_some}
@@ -14,23 +14,22 @@ use Rattle.json_scalar.specs.declared.scalar.Val.TheVariants.{Scalar, EmptyMap, 
 use Rattle.json_scalar.specs.declared.scalar.Scalar.TheVariants.{Int, Text, Bool as Truth, Null}
 use Rattle.json_scalar.proofs.Readings.{ok_step, val_of-Ok}
 use Rattle.version_vector.specs.Front.{is_ascending}
-use Rattle.op_core.specs.Reading.{some_if, id_from, front_of_json, op_from}
+use Rattle.op_core.specs.Reading.{id_from, front_of_json, op_from}
 use Rattle.op_core.specs.Wire.{list_data}
 use Rattle.op_core.proofs.Wires.{some_step, option_map-Some, as_u64-Some, some_if-Some, as_array-Some, as_str-Some, both_items, ReadsId-from_answer, ReadsFront-from_answer}
 use Rattle.op_core.proofs.Operations.{ReadsOp-from_answer}
 use Rattle.doc_api.specs.declared.place.Step.{Step}
 use Rattle.doc_api.specs.declared.place.Step.TheVariants.{Get, Index}
 use Rattle.doc_api.specs.declared.ask.Look.{Look}
-use Rattle.doc_api.specs.declared.ask.Look.TheVariants.{Keys, Values, Items as Elements, Conflicts, Show, Sum}
-use Rattle.line_proto.specs.Reading.{step_from, steps_from, variable_of, variable_from, start_of_number, start_from, expr_items, expr_from, bare_request, plain_request, look_of, look_from, deletion_request, delivery_from, forgetting_from, short_request, naming_from, limit_of, limit_from, in_order, ops_from, amount_of, addition_of, mutation_of_verb, change_request, long_request, doc_request_items, bare_from, named_from, request_items, request_from, line_data, request_of}
-use Rattle.line_proto.specs.Written.{start_data, step_data, expr_data, asks, look_word, change_data, doc_request_data, request_data, is_variable, is_start, is_amount, is_put, is_change, is_doc_request, is_request}
+use Rattle.line_proto.specs.Reading.{step_from, steps_from, variable_of, variable_from, start_of_number, start_from, expr_items, expr_from, named, bare_requests, bare_request, states, state_of_word, plain_request, looks, look_of, look_from, deletion_request, delivery_from, forgetting_from, short_request, naming_from, limit_of, limit_from, in_order, ops_from, amount_of, addition_of, mutation_of_verb, change_request, long_request, doc_request_items, bare_from, named_from, request_items, request_from, line_data, request_of}
+use Rattle.line_proto.specs.Written.{start_data, step_data, expr_data, asks, state_word, look_word, change_data, doc_request_data, request_data, is_variable, is_start, is_amount, is_put, is_change, is_doc_request, is_request}
 use Rattle.line_proto.specs.declared.request.Start.{Start}
 use Rattle.line_proto.specs.declared.request.Start.TheVariants.{Document, Variable}
 use Rattle.line_proto.specs.declared.request.CursorExpr.{CursorExpr}
 use Rattle.line_proto.specs.declared.request.DocRequest.{DocRequest}
 use Rattle.line_proto.specs.declared.request.DocRequest.TheVariants as ask
 use Rattle.line_proto.specs.declared.request.Request.{Request}
-use Rattle.line_proto.specs.declared.request.Request.TheVariants.{Quit, Version, Of}
+use Rattle.line_proto.specs.declared.request.Request.TheVariants.{Of}
 
 -- ---- steps
 
@@ -54,6 +53,20 @@ by_word P verb word x y here behind = go (bytes_eq verb word) (bytes_eq-Decides 
     go : (b : Bool) → (b ≡ true → verb ≡ word) → P (cond b x y)
     go true h = here (h refl)
     go false h = behind
+
+-- what each entry of a table has, what is found by a word has with that word
+named-Some : {X Y : Type 0} (f : X → Y) (g : List ℕ → Y) (table : List (List ℕ × X)) (verb : List ℕ) (x : X) → map (λ e. f e.1) table ≡ map (λ e. g e.0) table
+    → named verb table ≡ Some x → f x ≡ g verb
+named-Some f g [] verb x same h = cc
+named-Some f g (e ∷ table) verb x same h =
+    let first : f e.1 ≡ g e.0 = cc in
+    let rest : map (λ e. f e.1) table ≡ map (λ e. g e.0) table = cc in
+    go (bytes_eq verb e.0) (bytes_eq-Decides verb e.0).0 first (named-Some f g table verb x rest) h
+  where
+    go : (b : Bool) → (b ≡ true → verb ≡ e.0) → f e.1 ≡ g e.0 → (named verb table ≡ Some x → f x ≡ g verb)
+        → cond b (Some e.1) (named verb table) ≡ Some x → f x ≡ g verb
+    go true is first behind h = let found : e.1 ≡ x = cc in ap f (sym found) ∙ first ∙ ap g (sym (is refl))
+    go false is first behind h = behind h
 
 -- ---- cursor expressions
 
@@ -199,21 +212,8 @@ forgetting-Ok verb document a is asked h =
 abbrev IsLookOf : List ℕ → Option Look → Type 0
 IsLookOf verb o = (look : Look) → o ≡ Some look → verb ≡ look_word look
 
-look_is : (verb : List ℕ) (one : Look) → verb ≡ look_word one → IsLookOf verb (Some one)
-look_is verb one is look h = let same : one ≡ look = cc in is ∙ ap look_word same
-
-sum_is : (verb : List ℕ) → IsLookOf verb (some_if (bytes_eq verb (codes "sum")) Sum)
-sum_is verb look h =
-    let made = some_if-Some (bytes_eq verb (codes "sum")) Sum look h in
-    (bytes_eq-Decides verb (codes "sum")).0 made.0 ∙ ap look_word made.1
-
 look_of-Some : (verb : List ℕ) → IsLookOf verb (look_of verb)
-look_of-Some verb =
-    by_word (IsLookOf verb) verb (codes "keys") _ _ (look_is verb Keys)
-    (by_word (IsLookOf verb) verb (codes "values") _ _ (look_is verb Values)
-    (by_word (IsLookOf verb) verb (codes "items") _ _ (look_is verb Elements)
-    (by_word (IsLookOf verb) verb (codes "conflicts") _ _ (look_is verb Conflicts)
-    (by_word (IsLookOf verb) verb (codes "show") _ _ (look_is verb Show) (sum_is verb)))))
+look_of-Some verb look h = sym (named-Some look_word (λ w. w) looks verb look refl h)
 
 look-Ok : (verb document : List ℕ) (a : Data) → OkWrites verb document (a ∷ []) (look_from verb a)
 look-Ok verb document a asked h =
@@ -321,16 +321,15 @@ plain_is verb word document one is form within asked h =
     let same : asked ≡ one = cc in
     (ap (doc_request_data document) same ∙ form ∙ ap (λ w. asks w document []) (sym is), ap is_doc_request same ∙ within)
 
-account_is : (verb document : List ℕ) → SomeWrites verb document [] (some_if (bytes_eq verb (codes "account")) ask.Account)
-account_is verb document asked h =
-    let made = some_if-Some (bytes_eq verb (codes "account")) ask.Account asked h in
-    plain_is verb (codes "account") document ask.Account ((bytes_eq-Decides verb (codes "account")).0 made.0) refl refl asked (ap Some made.1)
+state-Some : (verb document : List ℕ) → SomeWrites verb document [] (option_map ask.State (state_of_word verb))
+state-Some verb document asked h =
+    let s = option_map-Some ask.State (state_of_word verb) asked h in
+    let word = named-Some state_word (λ w. w) states verb s.0 refl s.1 in
+    (ap (doc_request_data document) (sym s.2) ∙ ap (λ w. asks w document []) word, ap is_doc_request (sym s.2))
 
 plain_request-Some : (verb document : List ℕ) → SomeWrites verb document [] (plain_request verb)
 plain_request-Some verb document =
-    by_word (SomeWrites verb document []) verb (codes "open") _ _ (λ is. plain_is verb _ document ask.Open is refl refl)
-    (by_word (SomeWrites verb document []) verb (codes "front") _ _ (λ is. plain_is verb _ document ask.Front is refl refl)
-    (by_word (SomeWrites verb document []) verb (codes "held") _ _ (λ is. plain_is verb _ document ask.Held is refl refl) (account_is verb document)))
+    by_word (SomeWrites verb document []) verb (codes "open") _ _ (λ is. plain_is verb _ document ask.Open is refl refl) (state-Some verb document)
 
 -- ---- requests
 
@@ -343,24 +342,9 @@ is_of : (verb document : Data) (v n : List ℕ) (ds : List Data) (asked : DocReq
 is_of verb document v n ds asked r at_verb at_document writes same =
     (ap request_data (sym same) ∙ writes.0 ∙ (λ i. list_data (sym (as_str-Some verb v at_verb) i ∷ sym (as_str-Some document n at_document) i ∷ ds)), ap is_request (sym same) ∙ writes.1)
 
-bare_is : (verb : List ℕ) (one r : Request) (word : List ℕ) → verb ≡ word → request_data one ≡ list_data (string word ∷ []) → is_request one ≡ true → one ≡ r → IsOf (list_data (string verb ∷ [])) r
-bare_is verb one r word is form within same =
-    (ap request_data (sym same) ∙ form ∙ ap (λ w. list_data (string w ∷ [])) (sym is), ap is_request (sym same) ∙ within)
-
-abbrev SomeIsOf : Data → Option Request → Type 0
-SomeIsOf d o = (r : Request) → o ≡ Some r → IsOf d r
-
-bare_request-Some : (verb : List ℕ) → SomeIsOf (list_data (string verb ∷ [])) (bare_request verb)
-bare_request-Some verb =
-    by_word (SomeIsOf (list_data (string verb ∷ []))) verb (codes "quit") _ _ quits asks_version
-  where
-    quits : verb ≡ codes "quit" → SomeIsOf (list_data (string verb ∷ [])) (Some Quit)
-    quits is r h = bare_is verb Quit r (codes "quit") is refl refl cc
-
-    asks_version : SomeIsOf (list_data (string verb ∷ [])) (some_if (bytes_eq verb (codes "version")) Version)
-    asks_version r h =
-        let made = some_if-Some (bytes_eq verb (codes "version")) Version r h in
-        bare_is verb Version r (codes "version") ((bytes_eq-Decides verb (codes "version")).0 made.0) refl refl made.1
+bare_request-Some : (verb : List ℕ) (r : Request) → bare_request verb ≡ Some r → IsOf (list_data (string verb ∷ [])) r
+bare_request-Some verb r h =
+    (named-Some request_data (λ w. list_data (string w ∷ [])) bare_requests verb r refl h, named-Some is_request (λ w. true) bare_requests verb r refl h)
 
 bare_from-Ok : (verb : Data) (r : Request) → bare_from verb ≡ Ok r → IsOf (list_data (verb ∷ [])) r
 bare_from-Ok verb r h =

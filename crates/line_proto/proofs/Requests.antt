@@ -18,14 +18,16 @@ use Rattle.line_proto.specs.Written.{step_data, expr_data, is_start, is_variable
 use Rattle.doc_api.specs.declared.place.Step.{Step}
 use Rattle.doc_api.specs.declared.place.Step.TheVariants.{Get, Index}
 use Rattle.doc_api.specs.declared.ask.Look.{Look}
-use Rattle.doc_api.specs.declared.ask.Look.TheVariants.{Keys, Values, Items, Conflicts, Show, Sum}
+use Rattle.doc_api.specs.declared.ask.Look.TheVariants.{Keys}
+use Rattle.doc_api.specs.declared.ask.State.{State}
+use Rattle.doc_api.specs.declared.ask.State.TheVariants.{Front}
 use Rattle.line_proto.specs.declared.request.Start.{Start}
 use Rattle.line_proto.specs.declared.request.Start.TheVariants.{Document, Variable}
 use Rattle.line_proto.specs.declared.request.CursorExpr.{CursorExpr}
 use Rattle.line_proto.specs.declared.request.DocRequest.{DocRequest}
 use Rattle.line_proto.specs.declared.request.DocRequest.TheVariants as ask
 use Rattle.line_proto.specs.declared.request.Request.{Request}
-use Rattle.line_proto.specs.declared.request.Request.TheVariants.{Quit, Version, Of}
+use Rattle.line_proto.specs.declared.request.Request.TheVariants.{Of}
 
 steps_from-step_data : (steps : List Step) → steps_from (items_of (map step_data steps)) ≡ Some steps
 steps_from-step_data [] = refl
@@ -62,17 +64,15 @@ reads_change document expr (Add n) h k = rw (expr_from-expr_data expr h, int_of-
 reads_look : (document : List ℕ) (expr : CursorExpr) (look : Look) → is_start expr.start ≡ true
     → request_from (request_data (Of document (ask.Look expr look))) ≡ Ok (Of document (ask.Look expr look))
 reads_look document expr Keys h = rw (expr_from-expr_data expr h) refl
-reads_look document expr Values h = rw (expr_from-expr_data expr h) refl
-reads_look document expr Items h = rw (expr_from-expr_data expr h) refl
-reads_look document expr Conflicts h = rw (expr_from-expr_data expr h) refl
-reads_look document expr Show h = rw (expr_from-expr_data expr h) refl
-reads_look document expr Sum h = rw (expr_from-expr_data expr h) refl
+reads_look document expr look h = rw (expr_from-expr_data expr h) refl
+
+reads_state : (document : List ℕ) (s : State) → request_from (request_data (Of document (ask.State s))) ≡ Ok (Of document (ask.State s))
+reads_state document Front = refl
+reads_state document s = refl
 
 reads_doc_request : (document : List ℕ) (asked : DocRequest) → is_doc_request asked ≡ true → request_from (request_data (Of document asked)) ≡ Ok (Of document asked)
 reads_doc_request document ask.Open h = refl
-reads_doc_request document ask.Front h = refl
-reads_doc_request document ask.Held h = refl
-reads_doc_request document ask.Account h = refl
+reads_doc_request document (ask.State s) h = reads_state document s
 reads_doc_request document (ask.Change expr change) h = let parts = and_parts (is_start expr.start) (is_change change) h in reads_change document expr change parts.0 parts.1
 reads_doc_request document (ask.Look expr look) h = reads_look document expr look h
 reads_doc_request document (ask.Let name expr) h =
@@ -86,9 +86,8 @@ reads_doc_request document (ask.Operations front limit) h =
 reads_doc_request document (ask.Forget id) h = rw (id_from-id_data id h) refl
 
 pub request_from-request_data : (r : Request) → is_request r ≡ true → request_from (request_data r) ≡ Ok r
-request_from-request_data Quit h = refl
-request_from-request_data Version h = refl
 request_from-request_data (Of document asked) h = reads_doc_request document asked h
+request_from-request_data r h = refl
 
 -- no two requests have the same written form
 pub request_data_injective : (r other : Request) → is_request r ≡ true → is_request other ≡ true → request_data r ≡ request_data other → r ≡ other

@@ -17,8 +17,9 @@ use Rattle.op_core.specs.Reading.{◌>>=◌, some_if, u64_of, id_from, front_of_
 use Rattle.doc_api.specs.declared.place.Step.{Step}
 use Rattle.doc_api.specs.declared.place.Step.TheVariants.{Get, Index}
 use Rattle.doc_api.specs.declared.ask.Look.{Look}
-use Rattle.doc_api.specs.declared.ask.Look.TheVariants.{Keys, Values, Items as Elements, Conflicts}
-use Rattle.doc_api.specs.declared.ask.Look.TheVariants.{Show, Sum}
+use Rattle.doc_api.specs.declared.ask.Look.TheVariants as look
+use Rattle.doc_api.specs.declared.ask.State.{State}
+use Rattle.doc_api.specs.declared.ask.State.TheVariants as state
 use Rattle.line_proto.specs.declared.request.Start.{Start}
 use Rattle.line_proto.specs.declared.request.Start.TheVariants.{Document, Variable}
 use Rattle.line_proto.specs.declared.request.CursorExpr.{CursorExpr}
@@ -78,25 +79,34 @@ expr_from d = as_array d >>= expr_items
 
 -- ---- requests, by how many items they have
 
+-- what the word names in this table
+abbrev pub named : {X : Type 0} → List ℕ → List (List ℕ × X) → Option X
+named verb [] = None
+named verb (e ∷ table) = if bytes_eq verb e.0 then Some e.1 else named verb table
+
+abbrev pub bare_requests : List (List ℕ × Request)
+bare_requests = (codes "quit", Quit) ∷ (codes "version", Version) ∷ []
+
 abbrev pub bare_request : List ℕ → Option Request
-bare_request verb =
-    if bytes_eq verb (codes "quit") then Some Quit else some_if (bytes_eq verb (codes "version")) Version
+bare_request verb = named verb bare_requests
+
+abbrev pub states : List (List ℕ × State)
+states = (codes "front", state.Front) ∷ (codes "held", state.Held)
+    ∷ (codes "account", state.Account) ∷ []
+
+abbrev pub state_of_word : List ℕ → Option State
+state_of_word verb = named verb states
 
 abbrev pub plain_request : List ℕ → Option DocRequest
 plain_request verb =
-    if bytes_eq verb (codes "open") then Some ask.Open
-    else (if bytes_eq verb (codes "front") then Some ask.Front
-    else (if bytes_eq verb (codes "held") then Some ask.Held
-    else some_if (bytes_eq verb (codes "account")) ask.Account))
+    if bytes_eq verb (codes "open") then Some ask.Open else option_map ask.State (state_of_word verb)
+
+abbrev pub looks : List (List ℕ × Look)
+looks = (codes "keys", look.Keys) ∷ (codes "values", look.Values) ∷ (codes "items", look.Items)
+    ∷ (codes "conflicts", look.Conflicts) ∷ (codes "show", look.Show) ∷ (codes "sum", look.Sum) ∷ []
 
 abbrev pub look_of : List ℕ → Option Look
-look_of verb =
-    if bytes_eq verb (codes "keys") then Some Keys
-    else (if bytes_eq verb (codes "values") then Some Values
-    else (if bytes_eq verb (codes "items") then Some Elements
-    else (if bytes_eq verb (codes "conflicts") then Some Conflicts
-    else (if bytes_eq verb (codes "show") then Some Show
-    else some_if (bytes_eq verb (codes "sum")) Sum))))
+look_of verb = named verb looks
 
 abbrev pub look_from : List ℕ → Data → Result DocRequest Refusal
 look_from verb d =
@@ -135,11 +145,13 @@ limit_from d = u64_of d >>= limit_of
 abbrev pub in_order : List (List ℕ × ℕ) → Result (List (List ℕ × ℕ)) Refusal
 in_order front = if is_ascending front then Ok front else Err BadFront
 
+abbrev pub ascending_from : Data → Result (List (List ℕ × ℕ)) Refusal
+ascending_from f = and_then (ok_or (front_of_json f) BadRequest) in_order
+
 abbrev pub ops_from : Data → Data → Result DocRequest Refusal
 ops_from f n =
     and_then (ok_or (limit_from n) BadRequest) (λ limit.
-    and_then (and_then (ok_or (front_of_json f) BadRequest) in_order)
-    (λ front. Ok (ask.Operations front limit)))
+    and_then (ascending_from f) (λ front. Ok (ask.Operations front limit)))
 
 -- an integer of 64 bits
 abbrev pub amount_of : Data → Option ℤ

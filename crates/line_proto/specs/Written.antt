@@ -15,7 +15,9 @@ use Rattle.std.specs.List.{list_all}
 use Rattle.doc_api.specs.declared.place.Step.{Step}
 use Rattle.doc_api.specs.declared.place.Step.TheVariants.{Get, Index}
 use Rattle.doc_api.specs.declared.ask.Look.{Look}
-use Rattle.doc_api.specs.declared.ask.Look.TheVariants.{Keys, Values, Items, Conflicts, Show, Sum}
+use Rattle.doc_api.specs.declared.ask.Look.TheVariants as look
+use Rattle.doc_api.specs.declared.ask.State.{State}
+use Rattle.doc_api.specs.declared.ask.State.TheVariants as state
 use Rattle.line_proto.specs.declared.request.Start.{Start}
 use Rattle.line_proto.specs.declared.request.Start.TheVariants.{Document, Variable}
 use Rattle.line_proto.specs.declared.request.CursorExpr.{CursorExpr}
@@ -41,13 +43,18 @@ expr_data expr = list_data (start_data expr.start ∷ map step_data expr.steps)
 abbrev pub asks : List ℕ → List ℕ → List Data → Data
 asks word document ds = list_data (string word ∷ string document ∷ ds)
 
+abbrev pub state_word : State → List ℕ
+state_word state.Front = codes "front"
+state_word state.Held = codes "held"
+state_word state.Account = codes "account"
+
 abbrev pub look_word : Look → List ℕ
-look_word Keys = codes "keys"
-look_word Values = codes "values"
-look_word Items = codes "items"
-look_word Conflicts = codes "conflicts"
-look_word Show = codes "show"
-look_word Sum = codes "sum"
+look_word look.Keys = codes "keys"
+look_word look.Values = codes "values"
+look_word look.Items = codes "items"
+look_word look.Conflicts = codes "conflicts"
+look_word look.Show = codes "show"
+look_word look.Sum = codes "sum"
 
 abbrev pub change_data : List ℕ → Data → Mutation → Data
 change_data document expr (Assign val) = asks (codes "assign") document (expr ∷ val_data val ∷ [])
@@ -57,9 +64,7 @@ change_data document expr (Add n) = asks (codes "add") document (expr ∷ number
 
 abbrev pub doc_request_data : List ℕ → DocRequest → Data
 doc_request_data document ask.Open = asks (codes "open") document []
-doc_request_data document ask.Front = asks (codes "front") document []
-doc_request_data document ask.Held = asks (codes "held") document []
-doc_request_data document ask.Account = asks (codes "account") document []
+doc_request_data document (ask.State s) = asks (state_word s) document []
 doc_request_data document (ask.Change expr change) = change_data document (expr_data expr) change
 doc_request_data document (ask.Look expr look) = asks (look_word look) document (expr_data expr ∷ [])
 doc_request_data document (ask.Let name expr) = asks (codes "let") document (string name ∷ expr_data expr ∷ [])
@@ -105,9 +110,7 @@ is_limit limit = nat_le 1 limit && nat_le limit greatest_limit
 
 abbrev pub is_doc_request : DocRequest → Bool
 is_doc_request ask.Open = true
-is_doc_request ask.Front = true
-is_doc_request ask.Held = true
-is_doc_request ask.Account = true
+is_doc_request (ask.State s) = true
 is_doc_request (ask.Change expr change) = is_start expr.start && is_change change
 is_doc_request (ask.Look expr look) = is_start expr.start
 is_doc_request (ask.Let name expr) = is_variable name && is_start expr.start
@@ -117,6 +120,5 @@ is_doc_request (ask.Operations front limit) = (list_all is_entry front && is_asc
 is_doc_request (ask.Forget id) = is_id id
 
 abbrev pub is_request : Request → Bool
-is_request Quit = true
-is_request Version = true
 is_request (Of document ask) = is_doc_request ask
+is_request _ = true

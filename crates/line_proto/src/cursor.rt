@@ -81,7 +81,8 @@ fn variable(alloc: Global, text: &str) -> Result<Name, Refusal>
     Name::new(alloc, text)
 }
 
-fn read_steps(alloc: Global, items: &[Value]) -> Result<Steps, Refusal>
+/// The steps that these items write. `BadRequest` where one writes none, `NoMemory` when out of memory.
+pub fn read_steps(alloc: Global, items: &[Value]) -> Result<Steps, Refusal>
     ensures { UnlessMemory result (ok_or (steps_from (items_view items.now)) BadRequest) }
 {
     let mut steps = Vec::with_capacity(alloc, items.len())?;

@@ -22,11 +22,7 @@ pub(crate) fn heap_line(alloc: Global, reply: &Reply) -> Result<Vec<u8>, Refusal
         Reply::Values(scalars) => tagged_line(alloc, "values", scalars),
         Reply::Sum(total) => tagged_line(alloc, "sum", total),
         Reply::Front(front) => tagged_line(alloc, "front", front),
-        Reply::Applied { .. } | Reply::Known | Reply::Held(_) => unreachable!(),
-        Reply::Waiting(_) => unreachable!(),
-        Reply::Keys(_) | Reply::Items(_) | Reply::Conflicts(_) => unreachable!(),
-        Reply::Show(_) | Reply::Operations(_) => unreachable!(),
-        Reply::Forgotten | Reply::Account(_) | Reply::Refused(_) => unreachable!(),
+        _ => unreachable!(),
     }
 }
 

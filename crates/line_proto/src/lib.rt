@@ -12,7 +12,9 @@ mod stack_line;
 mod text_line;
 mod write;
 
+pub use cursor::read_steps;
 pub use line_reply::{LineReply, VERSION};
 pub use name::Name;
+pub use parse::{look_of, read_ascending, read_json, read_limit, read_mutation};
 pub use request::{CursorExpr, DocRequest, Request, Start};
 pub use write::WriteFault;

@@ -2,15 +2,17 @@
 ghost use Rattle.std.specs.Prelude.{◌≡◌, ok_or};
 ghost use Rattle.serde_json.specs.Read.{read};
 ghost use Rattle.serde_json.specs.View.{view, items_view};
-ghost use Rattle.json_scalar.specs.Refusal.{UnlessMemory, and_then};
+ghost use Rattle.json_scalar.specs.Refusal.{UnlessMemory};
 ghost use Rattle.json_scalar.specs.declared.refusal.Refusal.TheVariants.{BadRequest, BadValue};
 ghost use Rattle.json_scalar.specs.declared.refusal.Refusal.TheVariants.{NotJson, NoMemory};
 ghost use Rattle.op_core.specs.Reading.{front_of_json};
-ghost use Rattle.line_proto.specs.Reading.{bare_request, plain_request, look_of, look_from};
+ghost use Rattle.line_proto.specs.Reading.{bare_request, state_of_word, plain_request, look_of};
+ghost use Rattle.line_proto.specs.Reading.{look_from};
 ghost use Rattle.line_proto.specs.Reading.{deletion_request};
 ghost use Rattle.line_proto.specs.Reading.{delivery_from, forgetting_from, short_request};
 ghost use Rattle.line_proto.specs.Reading.{naming_from, limit_of};
-ghost use Rattle.line_proto.specs.Reading.{limit_from, in_order, ops_from, addition_of};
+ghost use Rattle.line_proto.specs.Reading.{limit_from, in_order, ascending_from, ops_from};
+ghost use Rattle.line_proto.specs.Reading.{addition_of};
 ghost use Rattle.line_proto.specs.Reading.{mutation_of_verb, amount_of};
 ghost use Rattle.line_proto.specs.Reading.{change_request, long_request, doc_request_items};
 ghost use Rattle.line_proto.specs.Reading.{bare_from, named_from};
@@ -20,7 +22,7 @@ ghost use Rattle.line_proto.specs.Loading.{Loads};
 use crate::cursor::{read_expr, read_variable};
 use crate::name::Name;
 use crate::request::{DocRequest, Request};
-use doc_api::Look;
+use doc_api::{Look, State};
 use json_scalar::{Refusal, Val, val_from_json};
 use op_core::{Front, Mutation, read_front, read_id, read_wire};
 use serde_json::Value;
@@ -90,7 +92,9 @@ fn read_line(alloc: Global, line: &[u8]) -> Result<Request, Refusal>
     read_request(alloc, &value)
 }
 
-fn read_json(alloc: Global, line: &[u8]) -> Result<Value, Refusal>
+/// The JSON that a line's bytes are. `NotJson` where they aren't JSON text, are nested more than 127
+/// deep or have a number that is neither a finite float nor an integer; `NoMemory` when out of memory.
+pub fn read_json(alloc: Global, line: &[u8]) -> Result<Value, Refusal>
     ensures { Loads (line_data line.now) result }
 {
     match str::from_utf8(line) {
@@ -188,9 +192,17 @@ fn plain_request(verb: &str) -> Option<DocRequest>
 {
     match verb {
         "open" => Some(DocRequest::Open),
-        "front" => Some(DocRequest::Front),
-        "held" => Some(DocRequest::Held),
-        "account" => Some(DocRequest::Account),
+        _ => Some(DocRequest::State(state_of_word(verb)?)),
+    }
+}
+
+fn state_of_word(verb: &str) -> Option<State>
+    ensures { result ≡ state_of_word verb.now }
+{
+    match verb {
+        "front" => Some(State::Front),
+        "held" => Some(State::Held),
+        "account" => Some(State::Account),
         _ => None,
     }
 }
@@ -236,7 +248,8 @@ fn read_look(alloc: Global, verb: &str, cursor: &Value) -> Result<DocRequest, Re
     Ok(DocRequest::Look(read_expr(alloc, cursor)?, look))
 }
 
-fn look_of(verb: &str) -> Option<Look>
+/// What the word of a request reads at a place, if it does.
+pub fn look_of(verb: &str) -> Option<Look>
     ensures { result ≡ look_of verb.now }
 {
     match verb {
@@ -281,7 +294,8 @@ fn read_ops(alloc: Global, front: &Value, limit: &Value) -> Result<DocRequest, R
     Ok(DocRequest::Operations(read_ascending(alloc, front)?, limit))
 }
 
-fn read_limit(limit: &Value) -> Option<u64>
+/// The limit that this JSON writes, if it writes one: 1 to 64.
+pub fn read_limit(limit: &Value) -> Option<u64>
     ensures { result ≡ limit_from (view limit.now) }
 {
     limit_of(limit.as_u64()?)
@@ -297,8 +311,10 @@ fn limit_of(limit: u64) -> Option<u64>
     }
 }
 
-fn read_ascending(alloc: Global, value: &Value) -> Result<Front, Refusal>
-    ensures { UnlessMemory result (and_then (ok_or (front_of_json (view value.now)) BadRequest) in_order) }
+/// The front that this JSON writes. `BadRequest` where it writes none, `BadFront` where that doesn't
+/// ascend, `NoMemory` when out of memory.
+pub fn read_ascending(alloc: Global, value: &Value) -> Result<Front, Refusal>
+    ensures { UnlessMemory result (ascending_from (view value.now)) }
 {
     in_order(read_any_front(alloc, value)?)
 }
@@ -335,7 +351,10 @@ fn read_change(
     Ok(DocRequest::Change(cursor, read_mutation(alloc, verb, value)?))
 }
 
-fn read_mutation(alloc: Global, verb: &str, value: &Value) -> Result<Mutation, Refusal>
+/// What a change with a value does, by the request's word: to assign, to insert or to add it.
+/// `BadRequest` for another word, `BadValue` for a value of a wrong kind, `NoMemory` when out of
+/// memory.
+pub fn read_mutation(alloc: Global, verb: &str, value: &Value) -> Result<Mutation, Refusal>
     ensures { UnlessMemory result (mutation_of_verb verb.now (view value.now)) }
 {
     match verb {

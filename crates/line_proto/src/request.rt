@@ -1,6 +1,6 @@
 //! The requests of a client.
 use crate::name::Name;
-use doc_api::{Look, Steps};
+use doc_api::{Look, State, Steps};
 use lamport_id::Id;
 use op_core::{Front, Mutation, Operation};
 
@@ -27,12 +27,8 @@ pub struct CursorExpr {
 pub enum DocRequest {
     /// A seat at the document.
     Open,
-    /// The front (a version vector) of the whole log.
-    Front,
-    /// The held operations, and what each waits for.
-    Held,
-    /// How many logged operations are the session's own.
-    Account,
+    /// A query of the document as a whole.
+    State(State),
     /// A local change at a cursor.
     Change(CursorExpr, Mutation),
     /// A query at a cursor.

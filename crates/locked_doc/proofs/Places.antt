@@ -74,10 +74,7 @@ value_at-same set set' one one' same = fun_ext (λ p. fun_ext (λ k. fun_ext (λ
 read_of : (r : Replica) (mine : ℕ) (q : Query) (answer : Reply) → MayAnswer r mine q answer → IsReadOf (replica_facts r) (value_put_at r.log) q answer
 read_of r mine (query.Resolve place) answer h = h
 read_of r mine (query.Look look place) answer h = h
-read_of r mine (query.Operations front limit) answer h = tt
-read_of r mine query.Front answer h = tt
-read_of r mine query.Held answer h = tt
-read_of r mine query.Account answer h = tt
+read_of r mine asked answer h = tt
 
 pub in_each_order : (r : Replica) (mine : ℕ) (q : Query) (answer : Reply) → IsGood r.log → MayAnswer r mine q answer → IsReadInEachOrder r.log q answer
 in_each_order r mine q answer good h = λ order causal.

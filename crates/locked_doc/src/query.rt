@@ -2,7 +2,7 @@
 use crate::answer::Answer;
 use crate::doc::{LockedDoc, turned_away};
 use crate::seat::Seat;
-use doc_api::{Query, Reply};
+use doc_api::{Query, Reply, State};
 use share_ledger::Marker;
 use std::marker::PhantomData;
 
@@ -23,7 +23,7 @@ impl<M: Marker> LockedDoc<M> {
         ensures other { ¬ IsSeatOf self.now.number self.now.document seat.old
             → TurnsAway self.now.document seat.old result self.now.document seat.new }
         ensures account { IsSeatOf self.now.number self.now.document seat.old
-            → query ≡ Query.Account → result.reply ≡ Reply.Account (length seat.old.told) }
+            → query ≡ Query.State State.Account → result.reply ≡ Reply.Account (length seat.old.told) }
         ensures orders { IsSeatOf self.now.number self.now.document seat.old
             → IsReadInEachOrder self.now.document.replica.log query result.reply }
         ensures free { IsSeatOf self.now.number self.now.document seat.old
@@ -42,7 +42,7 @@ impl<M: Marker> LockedDoc<M> {
     fn read_for(&self, seat: &mut Seat<M>, query: Query) -> Answer<M>
         requires { IsSeatOf self.now.number self.now.document seat.old }
         ensures answers { AnswersFor self.now.document seat.old query result seat.new }
-        ensures account { query ≡ Query.Account
+        ensures account { query ≡ Query.State State.Account
             → result.reply ≡ Reply.Account (length seat.old.told) }
         ensures told { operation_ids (logged_by seat.old.seat self.now.document) ≡ seat.old.told }
     {

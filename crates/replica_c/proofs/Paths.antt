@@ -1,6 +1,6 @@
--- The keys of a path, and the items after a word, as they are read.
-use Rattle.std.proofs.Common.{◌≡◌, ◌≢◌, ℕ, ◌+◌, ◌-◌, ◌<◌, ◌≤◌, List, [], ◌∷◌, ◌++◌, length, take, drop, get_or, Option, Some, None, option_map, Result, Ok, Err, refl, sym, ap, ◌∙◌, append_assoc, arith}
-use Rattle.std.proofs.lemmas.List.{at_drop_more, take_rest}
+-- The parts of a place, and the items after a word, as they are read.
+use Rattle.std.proofs.Common.{◌≡◌, ◌≢◌, ℕ, ◌-◌, ◌≤◌, List, [], ◌∷◌, length, take, drop, get_or, Option, Some, None, Result, Ok, Err, refl, sym, ◌∙◌, arith}
+use Rattle.std.proofs.lemmas.List.{take_rest}
 use Rattle.std.specs.Option.{ok_or}
 use Rattle.serde_json.specs.View.{view, items_view}
 use Rattle.serde_json.specs.declared.value.Value.{Value}
@@ -8,32 +8,12 @@ use Rattle.json_scalar.specs.Refusal.{UnlessMemory}
 use Rattle.json_scalar.specs.declared.refusal.Refusal.{Refusal}
 use Rattle.json_scalar.specs.declared.refusal.Refusal.TheVariants.{BadRequest, NoMemory}
 use Rattle.op_core.specs.Reading.{◌>>=◌}
-use Rattle.op_core.specs.declared.cursor.Tagged.{Tagged}
 use Rattle.op_core.specs.declared.cursor.Cursor.{Cursor}
 use Rattle.serde_json.specs.Data.{item}
 use Rattle.doc_api.specs.declared.place.Step.{Step}
 use Rattle.line_proto.specs.Reading.{steps_from}
-use Rattle.replica_c.specs.Places.{place_items, place_start, start_tagged, start_path}
+use Rattle.replica_c.specs.Places.{place_items, place_start}
 use Rattle.replica_c.specs.Asking.{ask_by}
-
--- one more key of a path is read
-pub start_path-more : (vs : List Value) (i : ℕ) (d : Value) (keys : List Tagged) (t : Tagged) → i < length vs
-    → start_path (items_view vs) ≡ option_map (λ rest. keys ++ rest) (start_path (items_view (drop i vs)))
-    → start_tagged (view (get_or vs i d)) ≡ Some t
-    → start_path (items_view vs) ≡ option_map (λ rest. (keys ++ t ∷ []) ++ rest) (start_path (items_view (drop (i + 1) vs)))
-start_path-more vs i d keys t h before is =
-    rw (before, at_drop_more (λ rest. option_map (λ rest. keys ++ rest) (start_path (items_view rest))) vs i d h, is) (after (start_path (items_view (drop (i + 1) vs))))
-  where
-    after : (o : Option (List Tagged)) → option_map (λ rest. keys ++ rest) (o >>= (λ rest. Some (t ∷ rest))) ≡ option_map (λ rest. (keys ++ t ∷ []) ++ rest) o
-    after None = refl
-    after (Some rest) = ap Some (sym (append_assoc keys (t ∷ []) rest))
-
-pub start_path-none : (vs : List Value) (i : ℕ) (d : Value) (keys : List Tagged) → i < length vs
-    → start_path (items_view vs) ≡ option_map (λ rest. keys ++ rest) (start_path (items_view (drop i vs)))
-    → start_tagged (view (get_or vs i d)) ≡ None
-    → start_path (items_view vs) ≡ None
-start_path-none vs i d keys h before is =
-    rw (before, at_drop_more (λ rest. option_map (λ rest. keys ++ rest) (start_path (items_view rest))) vs i d h, is) refl
 
 pub ask_by-many : (verb : List ℕ) (vs : List Value) → 3 ≤ length vs → ask_by verb (items_view vs) ≡ Err BadRequest
 ask_by-many verb [] h = absurd (omega arith)

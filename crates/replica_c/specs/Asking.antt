@@ -9,11 +9,13 @@ use Rattle.serde_json.specs.Find.{as_str, as_array}
 use Rattle.json_scalar.specs.Refusal.{and_then}
 use Rattle.json_scalar.specs.declared.refusal.Refusal.TheVariants.{NotJson, BadRequest}
 use Rattle.op_core.specs.Op.{Op}
-use Rattle.op_core.specs.Reading.{some_if, id_from, front_of_json, op_from}
+use Rattle.op_core.specs.Reading.{some_if, id_from, op_from}
 use Rattle.doc_api.specs.Words.{Refusal, Delete}
 use Rattle.doc_api.specs.declared.ask.Command.TheVariants.{Change, Deliver, Forget}
 use Rattle.doc_api.specs.declared.ask.Query.TheVariants as query
-use Rattle.line_proto.specs.Reading.{in_order, limit_from, line_data, look_of, mutation_of_verb}
+use Rattle.doc_api.specs.declared.ask.State.TheVariants.{Front, Held}
+use Rattle.line_proto.specs.Reading.{ascending_from, limit_from, line_data, look_of}
+use Rattle.line_proto.specs.Reading.{mutation_of_verb}
 use Rattle.replica_c.specs.Places.{place_from}
 use Rattle.replica_c.specs.declared.ask.Ask.{Ask}
 use Rattle.replica_c.specs.declared.ask.Ask.TheVariants.{Act, Read}
@@ -22,8 +24,8 @@ use Rattle.replica_c.specs.declared.ask.Ask.TheVariants.{Act, Read}
 
 abbrev pub plain_ask : List ℕ → Option Ask
 plain_ask verb =
-    if bytes_eq verb (codes "front") then Some (Read query.Front)
-    else some_if (bytes_eq verb (codes "held")) (Read query.Held)
+    if bytes_eq verb (codes "front") then Some (Read (query.State Front))
+    else some_if (bytes_eq verb (codes "held")) (Read (query.State Held))
 
 abbrev pub ask_deletion : Data → Result Ask Refusal
 ask_deletion d = and_then (ok_or (place_from d) BadRequest)
@@ -55,8 +57,7 @@ short_ask verb d =
 abbrev pub ask_ops : Data → Data → Result Ask Refusal
 ask_ops f n =
     and_then (ok_or (limit_from n) BadRequest) (λ limit.
-    and_then (and_then (ok_or (front_of_json f) BadRequest) in_order) (λ front.
-    Ok (Read (query.Operations front limit))))
+    and_then (ascending_from f) (λ front. Ok (Read (query.Operations front limit))))
 
 abbrev pub ask_change : List ℕ → Data → Data → Result Ask Refusal
 ask_change verb p d =

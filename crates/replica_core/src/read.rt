@@ -7,7 +7,7 @@ ghost use Rattle.doc_api.specs.declared.ask.Query.TheVariants as query;
 ghost use Rattle.replica_core.specs.Whole.{replica_with};
 
 use crate::body::Body;
-use doc_api::{CompactText, Look, Place, Query, Reply, Scalars};
+use doc_api::{CompactText, Look, Place, Query, Reply, Scalars, State};
 use doc_tree::Tree;
 use doc_view::{conflicts_text, items_text, keys_text, resolve, show, sum, values};
 use json_scalar::Refusal;
@@ -21,15 +21,26 @@ impl Body {
     pub fn read(&self, alloc: Global, mine: u64, query: Query) -> Reply
         ensures answer { (name : List ℕ)
             → MayAnswer (replica_with name self.now) mine query result }
-        ensures account { query ≡ Query.Account → result ≡ Reply.Account mine }
+        ensures account { query ≡ Query.State State.Account → result ≡ Reply.Account mine }
     {
         match query {
             Query::Resolve(place) => self.resolve_place(place),
             Query::Look(look, place) => self.look_at_place(alloc, look, place),
             Query::Operations(front, limit) => self.operations(&front, limit),
-            Query::Front => self.whole_front(),
-            Query::Held => self.waiting(),
-            Query::Account => Reply::Account(mine),
+            Query::State(state) => self.read_state(mine, state),
+        }
+    }
+
+    // The answer to a reading of the whole.
+    fn read_state(&self, mine: u64, state: State) -> Reply
+        ensures answer { (name : List ℕ)
+            → MayAnswer (replica_with name self.now) mine (query.State state) result }
+        ensures account { state ≡ State.Account → result ≡ Reply.Account mine }
+    {
+        match state {
+            State::Front => self.whole_front(),
+            State::Held => self.waiting(),
+            State::Account => Reply::Account(mine),
         }
     }
 
@@ -72,7 +83,7 @@ impl Body {
     // The front of the log.
     fn whole_front(&self) -> Reply
         ensures { (name : List ℕ) (mine : ℕ)
-            → MayAnswer (replica_with name self.now) mine query.Front result }
+            → MayAnswer (replica_with name self.now) mine (query.State State.Front) result }
     {
         match self.log().front() {
             Ok(front) => Reply::Front(front),
@@ -83,7 +94,7 @@ impl Body {
     // The held operations, and what each waits for.
     fn waiting(&self) -> Reply
         ensures { (name : List ℕ) (mine : ℕ)
-            → MayAnswer (replica_with name self.now) mine query.Held result }
+            → MayAnswer (replica_with name self.now) mine (query.State State.Held) result }
     {
         match self.held().waiting(self.log()) {
             Ok(waiting) => Reply::Waiting(waiting),

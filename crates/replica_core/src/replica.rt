@@ -18,7 +18,7 @@ use crate::limits::keeps_limits;
 use crate::outcome::{Applied, Delivered};
 use crate::outcome_reply::{applied_reply, delivered_reply, forgotten_reply};
 use crate::restore::{Misfit, logged, tree_of};
-use doc_api::{Command, Place, Query, Reply};
+use doc_api::{Command, Place, Query, Reply, State};
 use doc_tree::Tree;
 use doc_view::resolve;
 use json_scalar::Refusal;
@@ -173,7 +173,7 @@ impl Replica {
     /// query but that of the account may be refused with out of memory.
     pub fn read(&self, mine: u64, query: Query) -> Reply
         ensures answer { MayAnswer self.now mine query result }
-        ensures account { query ≡ Query.Account → result ≡ Reply.Account mine }
+        ensures account { query ≡ Query.State State.Account → result ≡ Reply.Account mine }
     {
         self.body.read(self.alloc, mine, query)
     }

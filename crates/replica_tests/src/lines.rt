@@ -1,4 +1,4 @@
-use doc_api::{CompactText, Ids, Look, Reply, Scalars, Waiting};
+use doc_api::{CompactText, Ids, Look, Reply, Scalars, State, Waiting};
 use json_scalar::{Refusal, Scalar};
 use lamport_id::{Id, ReplicaName};
 use line_feed::Writer;
@@ -20,15 +20,21 @@ fn kind_of(request: &Request) -> &'static str {
 fn kind_on_document(ask: &DocRequest) -> &'static str {
     match ask {
         DocRequest::Open => "open",
-        DocRequest::Front => "front",
-        DocRequest::Held => "held",
-        DocRequest::Account => "account",
+        DocRequest::State(state) => kind_of_state(*state),
         DocRequest::Change(_, mutation) => kind_of_change(mutation),
         DocRequest::Look(_, look) => kind_of_query(*look),
         DocRequest::Let(_, _) => "let",
         DocRequest::Deliver(_) => "deliver",
         DocRequest::Operations(_, _) => "operations",
         DocRequest::Forget(_) => "forget",
+    }
+}
+
+fn kind_of_state(state: State) -> &'static str {
+    match state {
+        State::Front => "front",
+        State::Held => "held",
+        State::Account => "account",
     }
 }
 

@@ -13,7 +13,7 @@ use Rattle.line_proto.specs.Writing.{needs_heap, line_needs_heap}
 use Rattle.line_proto.specs.declared.request.DocRequest.{DocRequest}
 use Rattle.line_proto.specs.declared.request.DocRequest.TheVariants as ask
 use Rattle.line_proto.specs.declared.request.Request.{Request}
-use Rattle.line_proto.specs.declared.request.Request.TheVariants.{Quit, Version, Of}
+use Rattle.line_proto.specs.declared.request.Request.TheVariants.{Of}
 use Rattle.line_proto.specs.declared.line_reply.LineReply.{LineReply}
 use Rattle.line_proto.specs.declared.line_reply.LineReply.TheVariants as line_reply
 use Rattle.session_rules.specs.Session.{Access, KnownSeat, Session, OpenDocument, Deed, act, read, bind_to, deed_of, has_room, with_variable, put_opened, opened_at, number_of_name, refused, Binds, DoesDeed, LosesReply, Performs, Refuses, Asks, Opens, AsksOf, OnDocument, Serves, AnswersLine, MayAnswerLine, is_bye, LosesReplyTo, LosesReplyOn, LosesReplyToRequest, LosesReplyToLine}
@@ -70,8 +70,7 @@ module _ {D : Type 0} (a : Access D)
 
   serves_lost : (request : Request) → Serves a s request response t → (t ≡ s) ⊎ LosesReplyToRequest a s request t
   serves_lost (Of name ask) serves = on_lost (number_of_name name a.names) ask serves
-  serves_lost Version serves = inl serves.1
-  serves_lost Quit serves = short response line_reply.Bye serves.0 refl takes
+  serves_lost request serves = inl serves.1
 
   answers_lost : (line : List ℕ) → AnswersLine a s line response t → (t ≡ s) ⊎ LosesReplyToLine a s line t
   answers_lost line answers = go (request_of line) answers
@@ -96,10 +95,7 @@ bye_written response out (inr (takes, is)) = by response takes ∙ ap is_bye (sy
   where
     by : (response : LineReply) → line_needs_heap response ≡ true → is_bye response ≡ false
     by line_reply.Bye h = absurd (cc)
-    by (line_reply.Opened n) h = refl
-    by line_reply.Bound h = refl
-    by line_reply.Version h = refl
-    by (line_reply.Answered reply) h = refl
+    by other h = refl
 
 -- ---- that there is no memory is response in its place
 

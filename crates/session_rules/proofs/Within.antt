@@ -15,7 +15,7 @@ use Rattle.line_proto.specs.Written.{request_data, is_change, is_request, is_sta
 use Rattle.line_proto.specs.declared.request.CursorExpr.{CursorExpr}
 use Rattle.line_proto.specs.declared.request.DocRequest.TheVariants as ask
 use Rattle.line_proto.specs.declared.request.Request.{Request}
-use Rattle.line_proto.specs.declared.request.Request.TheVariants.{Quit, Version, Of}
+use Rattle.line_proto.specs.declared.request.Request.TheVariants.{Of}
 use Rattle.line_proto.proofs.Found.{reads_line}
 use Rattle.json_scalar.specs.declared.scalar.Scalar.TheVariants.{Int, Text, Bool as Truth, Null}
 use Rattle.json_scalar.specs.declared.scalar.Val.TheVariants.{Scalar, EmptyMap, EmptyList}
@@ -138,18 +138,9 @@ change_within document expr (Add (pos n)) within fit = within
 change_within document expr (Add (negsuc n)) within fit = fit.1.1.1.0
 
 well_made : (request : Request) → is_request request ≡ true → HasFit (request_data request) → IsWellMadeRequest request
-well_made Quit within fit = tt
-well_made Version within fit = tt
-well_made (Of document ask.Open) within fit = tt
-well_made (Of document ask.Front) within fit = tt
-well_made (Of document ask.Held) within fit = tt
-well_made (Of document ask.Account) within fit = tt
 well_made (Of document (ask.Change expr change)) within fit = change_within document expr change (and_parts (is_start expr.start) (is_change change) within).1 fit
-well_made (Of document (ask.Look expr look)) within fit = tt
-well_made (Of document (ask.Let name expr)) within fit = tt
 well_made (Of document (ask.Deliver op)) within fit = within
-well_made (Of document (ask.Operations front limit)) within fit = tt
-well_made (Of document (ask.Forget id)) within fit = tt
+well_made request within fit = tt
 
 pub read_well_made : (line : List ℕ) (request : Request) → request_of line ≡ Ok request → IsWellMadeRequest request
 read_well_made line request is =

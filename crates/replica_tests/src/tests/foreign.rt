@@ -1,7 +1,7 @@
 //! The worked row on refused deliveries.
 use super::cases::{Before, Case, after};
 use super::samples::{Deed, Digest, holds, operation};
-use doc_api::{Query, Reply};
+use doc_api::{Query, Reply, State};
 use json_scalar::Refusal;
 use lamport_id::ReplicaName;
 use op_core::Operation;
@@ -83,7 +83,11 @@ fn is_bad_front(op: Result<Operation, Refusal>) -> bool {
 #[test]
 fn foreign_refusals(rt: HostRuntime) -> Result<(), Fail> {
     let replica = after(&rt, rt.alloc(), &FOREIGN)?;
-    let is_front = is_front(replica.read(0, Query::Front), ("o", 2), ("q", 3));
+    let is_front = is_front(
+        replica.read(0, Query::State(State::Front)),
+        ("o", 2),
+        ("q", 3),
+    );
     holds(&rt, is_front, "front");
     let is_refused = is_bad_front(operation(rt.alloc(), NO_SHAPE));
     holds(&rt, is_refused, NO_SHAPE);

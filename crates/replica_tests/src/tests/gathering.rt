@@ -7,7 +7,7 @@ use super::samples::{
     Deed, Digest, adds_up, are_ids, command, delivers, digest_of, document, holds, is_count,
     tail_count,
 };
-use doc_api::Query;
+use doc_api::{Query, State};
 use json_scalar::Refusal;
 use locked_doc::{Gathering, LockedDoc, Seat, SeatEnd};
 use share_ledger::{Blank, Marker, Table};
@@ -285,7 +285,7 @@ fn have_accounts<M: Marker>(
 }
 
 fn is_account<M: Marker>(doc: &LockedDoc<M>, seat: &mut Seat<M>, expected: u64) -> bool {
-    let digest = digest_of(doc.read(seat, Query::Account).into_reply());
+    let digest = digest_of(doc.read(seat, Query::State(State::Account)).into_reply());
     digest == Digest::Account(expected) && seat.account() == expected
 }
 
@@ -300,7 +300,7 @@ fn turns_away<M: Marker, R: Abort>(
     let away = Digest::Refused(Refusal::NotOpen);
     let before = seat.account();
     delivers(rt, alloc, doc, seat, (FIRST, away))?;
-    let read = digest_of(doc.read(seat, Query::Account).into_reply());
+    let read = digest_of(doc.read(seat, Query::State(State::Account)).into_reply());
     holds(rt, read == away, "account elsewhere");
     let counts = (seat.account(), doc.opened(), tail_count(doc, 0, 5)?);
     holds(rt, counts == (before, 0, 0), "nothing is changed elsewhere");

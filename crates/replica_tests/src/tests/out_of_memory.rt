@@ -14,7 +14,7 @@ use super::samples::{
     Deed, Digest, adds_up, alone, are_totals, command, digest_of, holding, holds, is_count,
     is_digest, look_at, member, restored, server, tail_count, whole,
 };
-use doc_api::{Command, Look, Query, Reply};
+use doc_api::{Command, Look, Query, Reply, State};
 use json_scalar::Refusal;
 use locked_doc::{Gathering, Ledgers, LockedDoc, Seat, SeatEnd, Shelf};
 use op_core::Front;
@@ -98,9 +98,9 @@ fn query(alloc: Global, which: usize) -> Result<Query, Refusal> {
         5 => look_at(alloc, Look::Sum, "n"),
         6 => Ok(Query::Resolve(member(alloc, "k")?)),
         7 => Ok(Query::Operations(Front::from_pairs(alloc, &[])?, 100)),
-        8 => Ok(Query::Front),
-        9 => Ok(Query::Held),
-        _ => Ok(Query::Account),
+        8 => Ok(Query::State(State::Front)),
+        9 => Ok(Query::State(State::Held)),
+        _ => Ok(Query::State(State::Account)),
     }
 }
 

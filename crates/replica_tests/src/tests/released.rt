@@ -3,7 +3,7 @@ ghost use Rattle.std.specs.Prelude.{◌≡◌};
 ghost use Rattle.share_ledger.specs.Begun.{BeginEmpty};
 
 use super::samples::{Digest, are_ids, delivers, digest_of, document, holds, is_number, look_at};
-use doc_api::{Look, Query, Reply};
+use doc_api::{Look, Query, Reply, State};
 use json_scalar::Refusal;
 use locked_doc::{LockedDoc, Seat};
 use share_ledger::{Blank, Marker};
@@ -70,10 +70,10 @@ fn third_first<M: Marker, R: Abort>(
 ) -> Result<(), Refusal> {
     delivers(rt, alloc, doc, seat, THIRD)?;
     delivers(rt, alloc, doc, seat, SECOND)?;
-    let held = doc.read(seat, Query::Held).into_reply();
+    let held = doc.read(seat, Query::State(State::Held)).into_reply();
     holds(rt, are_waiting(held), "what is held");
     delivers(rt, alloc, doc, seat, FIRST)?;
-    let account = digest_of(doc.read(seat, Query::Account).into_reply());
+    let account = digest_of(doc.read(seat, Query::State(State::Account)).into_reply());
     holds(rt, account == Digest::Account(3), "account");
     let values = doc
         .read(seat, look_at(alloc, Look::Values, "k")?)

@@ -1,4 +1,3 @@
-use Rattle.std.proofs.Common.{inl, refl}
 use Rattle.replica_core.proofs.body.Body.read.Goals as goal
 
 pub returns-in-Resolve-clause-answer : goal.returns-in-Resolve-clause-answer
@@ -10,11 +9,5 @@ returns-in-Look-clause-answer c name = rw c.in-Look.is (c.look_at_place.ensures 
 pub returns-in-Operations-clause-answer : goal.returns-in-Operations-clause-answer
 returns-in-Operations-clause-answer c name = rw c.in-Operations.is (c.operations.ensures name c.args.mine)
 
-pub returns-in-Front-clause-answer : goal.returns-in-Front-clause-answer
-returns-in-Front-clause-answer c name = rw c.in-Front.is (c.whole_front.ensures name c.args.mine)
-
-pub returns-in-Held-clause-answer : goal.returns-in-Held-clause-answer
-returns-in-Held-clause-answer c name = rw c.in-Held.is (c.waiting.ensures name c.args.mine)
-
-pub returns-in-Account-clause-answer : goal.returns-in-Account-clause-answer
-returns-in-Account-clause-answer c name = rw c.in-Account.is (inl refl)
+pub returns-in-State-clause-answer : goal.returns-in-State-clause-answer
+returns-in-State-clause-answer c name = rw c.in-State.is (c.read_state.ensures.answer name)

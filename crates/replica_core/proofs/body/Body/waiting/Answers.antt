@@ -1,6 +1,7 @@
 use Rattle.std.proofs.Common.{List, inl, inr, refl, ap, subst}
 use Rattle.doc_api.specs.Words.{Op}
 use Rattle.doc_api.specs.declared.ask.Query.TheVariants as query
+use Rattle.doc_api.specs.declared.ask.State.TheVariants as state
 use Rattle.doc_api.specs.declared.reply.Reply.TheVariants as reply
 use Rattle.doc_rules.specs.Answers.{MayAnswer}
 use Rattle.replica_core.specs.Whole.{replica_of}
@@ -9,8 +10,8 @@ use Rattle.replica_core.proofs.body.Body.waiting.Goals as goal
 
 pub returns-in-Ok : goal.returns-in-Ok
 returns-in-Ok c name mine =
-    subst (λ (h : List Op). MayAnswer (replica_of name c.args.self.now.log h) mine query.Held (reply.Waiting c.in-Ok.waiting)) c.held.ensures.held
-    (subst (λ (l : List Op). MayAnswer (replica_of name l c.held.result.now.held) mine query.Held (reply.Waiting c.in-Ok.waiting)) c.log.ensures.log
+    subst (λ (h : List Op). MayAnswer (replica_of name c.args.self.now.log h) mine (query.State state.Held) (reply.Waiting c.in-Ok.waiting)) c.held.ensures.held
+    (subst (λ (l : List Op). MayAnswer (replica_of name l c.held.result.now.held) mine (query.State state.Held) (reply.Waiting c.in-Ok.waiting)) c.log.ensures.log
     (inl (ap (λ x. reply.Waiting x) (answered c.in-Ok.ensures))))
 
 pub returns-in-Err : goal.returns-in-Err

@@ -2,17 +2,9 @@ use Rattle.line_proto.specs.declared.request.DocRequest.TheVariants as ask
 use Rattle.session_core.proofs.Served.{served_as}
 use Rattle.session_core.proofs.open_document.OpenDocument.perform.Goals as goal
 
-pub returns-in-Front : goal.returns-in-Front
-returns-in-Front g c =
-    served_as g.A.DocAccess c.args.access.now c.read.new.access c.args.self.now c.read.new.self c.read.result c.args.ask ask.Front c.in-Front.is c.read.ensures
-
-pub returns-in-Held : goal.returns-in-Held
-returns-in-Held g c =
-    served_as g.A.DocAccess c.args.access.now c.read-in-Held.new.access c.args.self.now c.read-in-Held.new.self c.read-in-Held.result c.args.ask ask.Held c.in-Held.is c.read-in-Held.ensures
-
-pub returns-in-Account : goal.returns-in-Account
-returns-in-Account g c =
-    served_as g.A.DocAccess c.args.access.now c.read-in-Account.new.access c.args.self.now c.read-in-Account.new.self c.read-in-Account.result c.args.ask ask.Account c.in-Account.is c.read-in-Account.ensures
+pub returns-in-State : goal.returns-in-State
+returns-in-State g c =
+    served_as g.A.DocAccess c.args.access.now c.read.new.access c.args.self.now c.read.new.self c.read.result c.args.ask (ask.State c.in-State.state) c.in-State.is c.read.ensures
 
 pub returns-in-Change : goal.returns-in-Change
 returns-in-Change g c =
