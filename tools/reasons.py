@@ -4,8 +4,9 @@ import re
 from typing import Iterator, List, NamedTuple, Sequence, Tuple
 from xml.etree import ElementTree
 
-# Stands above what is repeated.
+# Stands above what is repeated, and above what is repeated of a first try where the second one passed.
 HEAD = "What failed:"
+SECOND = "Passed at the second try. What failed at the first:"
 
 # The most lines of one value, of a crate's check or test, and of a step without HEAD; and the most letters of a line.
 VALUE, CRATE, STEP, WIDE = 8, 40, 25, 400
@@ -135,5 +136,15 @@ def value_of(lines: Sequence[str], word: str) -> List[str]:
 
 def of_step(lines: Sequence[str]) -> List[str]:
     """What a command that failed has repeated at its end; else its last lines."""
-    heads = [at for at, it in enumerate(lines) if it.strip() == HEAD]
-    return cut(lines[heads[-1] + 1 :], 5 * CRATE) if heads else list(lines[-STEP:])
+    return behind(HEAD, lines) or list(lines[-STEP:])
+
+
+def of_first_try(lines: Sequence[str]) -> List[str]:
+    """What a command that passed has repeated of what failed at its first try, if something did."""
+    return behind(SECOND, lines)
+
+
+def behind(head: str, lines: Sequence[str]) -> List[str]:
+    """The lines behind the last one that is this head."""
+    heads = [at for at, it in enumerate(lines) if it.strip() == head]
+    return cut(lines[heads[-1] + 1 :], 5 * CRATE) if heads else []

@@ -164,8 +164,8 @@ def operation_in(text: Any) -> Operation:
 
 
 class Listener:
-    """What a Log is delivered to. `has` is how far it is by its own word, `own` what it handed out itself of
-    contested replicas, and `news` is set when the log has more."""
+    """What a Log is delivered to. `has` is how far it is by its own word, `own` up to where it handed out all itself
+    of contested replicas, and `news` is set when the log has more."""
 
     def __init__(self, log: Log, has: Front, source: Optional[Source] = None) -> None:
         self.log, self.has, self.source = log, has, source or Source()
@@ -187,12 +187,14 @@ class Listener:
             front = {replica: self.known(replica) for replica in self.has}
         return front, encoded(["ops", self.log.name, pairs_of(front), PAGE])
 
-    def handed_out(self, places: Iterable[int]) -> None:
-        """Notes that it has these operations of the log."""
+    def handed_out(self, places: Iterable[int], front: Front) -> None:
+        """Notes that it has these operations of the log, which it was asked for behind a front. A replica may be
+        contested since then, and the front beyond what it handed out itself: then it is asked for all of that."""
         for counter, replica, _ in map(self.log.operations.__getitem__, places):
             self.has[replica] = max(counter, self.has.get(replica, 0))
-            if replica in self.log.contested:
-                self.own[replica] = max(counter, self.own.get(replica, 0))
+            own = self.own.get(replica, 0)
+            if replica in self.log.contested and front.get(replica, 0) <= own:
+                self.own[replica] = max(counter, own)
 
     def contests(self, front: Front, operations: Iterable[Operation]) -> bool:
         """Looks at operations that weren't taken. What they depend on and the request's front covered is

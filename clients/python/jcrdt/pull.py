@@ -89,7 +89,7 @@ async def _pull_page(link: Link, place: Listener) -> int:
     [reply] = await link.ask_lines([line])
     page = operations_of(reply, front)
     taken = Early(place.log, place.source).take(page)
-    place.handed_out(taken)
+    place.handed_out(taken, front)
     contested = place.contests(front, (it for it in page if place.log.missing(it)))
     if page and not taken and not contested:
         raise Misbehaved("operations without those that they depend on")
@@ -121,7 +121,8 @@ async def _pull_window(link: Link, place: Listener, chains: List[Chain], window:
 async def _pull_chains(link: Link, place: Listener, turn: Turn) -> None:
     """Takes all that a server has, some pages at once."""
     place.has.update(await link.front(place.log.name))
-    chains, window = [Chain(replica, place.known(replica)) for replica in place.has], _Window()
+    front = {replica: place.known(replica) for replica in place.has}
+    chains, window = [Chain(*it) for it in front.items()], _Window()
     early, found = Early(place.log, place.source), True
     while found:
         chains = [it for it in chains if it.last < place.has[it.replica]]
@@ -129,7 +130,7 @@ async def _pull_chains(link: Link, place: Listener, turn: Turn) -> None:
             break
         came = await _pull_window(link, place, chains, window, turn)
         # Whatever an operation depends on has a lesser counter.
-        place.handed_out(early.take(sorted(came, key=_id_of)))
+        place.handed_out(early.take(sorted(came, key=_id_of)), front)
         found = bool(came)
     # What is left follows other operations than those of the log, or nothing.
     astray = {it.replica for it in chains if it.behind} | {replica for _, replica in early.missing()}

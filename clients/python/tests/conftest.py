@@ -4,6 +4,7 @@ import json
 import os
 import subprocess
 import sys
+import time
 from pathlib import Path
 from typing import IO, Any, Callable, Iterator, List, Optional
 
@@ -16,8 +17,8 @@ os.environ["JCRDT"] = PROGRAM
 os.environ["PYTHONDONTWRITEBYTECODE"] = "1"
 sys.dont_write_bytecode = True
 sys.path.insert(0, str(PACKAGE))
-# The longest that a test waits for a process.
-SECONDS = 120
+# The longest that a test waits for a process or a fact. It is far more than a slow machine takes.
+SECONDS = 300
 
 
 class Server:
@@ -79,3 +80,11 @@ def tool(*words: str, text: str = "", status: int = 0) -> str:
     told = run.stdout.decode()
     assert run.returncode == status, told
     return told
+
+
+def wait_until(holds: Callable[[], Any]) -> None:
+    """Waits for a fact."""
+    until = time.monotonic() + SECONDS
+    while not holds():
+        assert time.monotonic() < until, "not so in time"
+        time.sleep(0.02)

@@ -8,12 +8,11 @@ import shutil
 import subprocess
 import sys
 import threading
-import time
 from pathlib import Path
 from typing import Callable, Iterator, List
 
 import pytest
-from conftest import PACKAGE, SECONDS, Server, tool
+from conftest import PACKAGE, SECONDS, Server, tool, wait_until
 
 import jcrdt
 from jcrdt import StoredLog, file_status, front_on_disk, log
@@ -95,49 +94,56 @@ def test_a_link_to_the_file(serve: Serve, tmp_path: Path) -> None:
     assert tool("log", str(tmp_path / "link.db")) == "     1  1@srv-1          assign /k = 1\n"
 
 
-def wait_until(holds: Callable[[], bool], seconds: float = 30) -> None:
-    until = time.monotonic() + seconds
-    while not holds():
-        assert time.monotonic() < until
-        time.sleep(0.02)
+# How many changes a document gets before its writer waits for the reader, how many fronts are looked for, and how many
+# such parts a document has room for.
+PART, FRONTS, PARTS = 1000, 20, 90
 
 
-@contextlib.contextmanager
-def writing(address: str, documents: List[str]) -> Iterator[None]:
-    """Changes as fast as they are answered, meanwhile."""
-    stop = threading.Event()
+class Writer:
+    """Changes a document meanwhile. It is at most two parts ahead of what was seen in the file, so that however slow the
+    reader is, there are many fronts to see, and that whenever it looks, more is being written."""
 
-    def work(document: str) -> None:
-        with contextlib.suppress(ConnectionError), jcrdt.connected(address) as session:
-            session.open(document)
-            number = 0
-            while not stop.is_set() and number < 90_000:
-                number += 50
-                session.ask_all([["assign", document, [0, f"k{number % 1000}"], "x" * 200]] * 50)
+    def __init__(self, address: str, document: str, seen: Callable[[], int]) -> None:
+        self.address, self.document, self.seen = address, document, seen
+        self.stop = threading.Event()
+        self.thread = threading.Thread(target=self._work)
 
-    threads = [threading.Thread(target=work, args=(document,)) for document in documents]
-    for thread in threads:
-        thread.start()
-    try:
-        yield
-    finally:
-        stop.set()
-        for thread in threads:
-            thread.join()
+    def _work(self) -> None:
+        with contextlib.suppress(ConnectionError), jcrdt.connected(self.address) as session:
+            session.open(self.document)
+            for part in range(PARTS):
+                wait_until(lambda at=part: self.stop.is_set() or self.seen() >= (at - 1) * PART)  # type: ignore[misc]
+                for number in range(0, PART, 50):
+                    if self.stop.is_set():
+                        return
+                    session.ask_all([["assign", self.document, [0, f"k{number + it}"], "x" * 200] for it in range(50)])
+
+    def __enter__(self) -> "Writer":
+        self.thread.start()
+        return self
+
+    def __exit__(self, *_: object) -> None:
+        self.stop.set()
+        self.thread.join()
 
 
 def test_what_is_on_disk_while_a_server_writes(serve: Serve, tmp_path: Path) -> None:
     """Each front that is told is in the file at that time: a copy of it, as a kill leaves it, has it."""
     server = serve("d", "e")
-    fronts: List[Front] = []
-    with writing(server.address, ["d", "e"]):
+    fronts: List[Front] = [{"srv-1": 0}]
+
+    def seen() -> int:
+        return fronts[-1]["srv-1"]
+
+    with Writer(server.address, "d", seen), Writer(server.address, "e", seen):
         wait_until(lambda: os.path.exists(server.file) and bool(front_on_disk(server.file, "d")))
         with StoredLog(server.file) as stored:
-            began = time.monotonic()
-            while time.monotonic() < began + 3 or len({it["srv-1"] for it in fronts}) <= 5:
-                assert time.monotonic() < began + 60, fronts
+            def has_seen_many() -> bool:
                 stored.refresh()
                 fronts.append(dict(stored.front("d")))
+                return len({it["srv-1"] for it in fronts}) > FRONTS
+
+            wait_until(has_seen_many)
         server.kill()
     server.start()
     with jcrdt.connected(server.address) as session:
@@ -163,7 +169,7 @@ def test_fronts_are_followed(serve: Serve) -> None:
                         assert json.loads(follower.stdout.readline()) == due
                 follower.stdout.close()
                 # Nobody reads it any more.
-                assert follower.wait(20) == 0
+                assert follower.wait(SECONDS) == 0
         finally:
             follower.kill()
 

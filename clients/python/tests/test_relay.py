@@ -1,5 +1,6 @@
 """The relay between real servers, and peers that lie, freeze or never end a line."""
 
+import asyncio
 import contextlib
 import json
 import os
@@ -15,12 +16,18 @@ from typing import Any, Callable, Dict, Iterator, List, Union
 
 import pytest
 
-from conftest import PACKAGE, SECONDS, TOP, Server
+from conftest import PACKAGE, SECONDS, TOP, Server, wait_until as wait_for
+
+from jcrdt import operation_log, pull, wire
 
 Serve = Callable[..., Server]
 # What a peer answers to a word: bytes of a line, or what writes to the connection.
 Answer = Union[bytes, Callable[[socket.socket], None]]
 OPERATION = b'["op",[1,"z"],[],[[["m",0]],"z"],["assign",1]]'
+# A relay that waits for a reply as long as a test does, and for agreement at its end: on a slow machine it takes nobody for
+# one that is away.
+PATIENT = f"from jcrdt import link, relay; link.LIMITS = link.LIMITS._replace(begin={SECONDS}, silence={SECONDS}, slowest={SECONDS})"
+PATIENT_END = f"relay.LAST_ROUNDS = relay.LAST_LOOK = {SECONDS}"
 GOOD: Dict[str, Answer] = {
     "open": b'["opened",1]', "front": b'["front",[]]', "ops": b'["ops",[]]', "deliver": b'["known"]',
     "show": b'["show",[]]', "forget": b'["forgotten"]', "version": b'["version",2]', "quit": b'["bye"]'}
@@ -51,7 +58,7 @@ class Peer:
         self.answers = {**GOOD, **answers}
         self.listener = socket.create_server(("127.0.0.1", 0))
         self.address = f"127.0.0.1:{self.listener.getsockname()[1]}"
-        self.connections = 0
+        self.connections, self.began = 0, time.monotonic()
         threading.Thread(target=self._accept, daemon=True).start()
 
     def _accept(self) -> None:
@@ -72,11 +79,12 @@ class Peer:
 
 
 class Relay:
-    """`python -m jcrdt relay`, by the module alone."""
+    """`python -m jcrdt relay`, by the module alone. It is PATIENT, also at its end unless it is said to end soon."""
 
-    def __init__(self, folder: Path, *words: str, python: str = sys.executable) -> None:
+    def __init__(self, folder: Path, *words: str, ends_soon: bool = False) -> None:
         self.told, self.said = folder / "relay.err", folder / "relay.out"
-        command = [python, "-B", "-c", "from jcrdt import relay; relay.main()", *words, "--doc", "d"]
+        script = "; ".join([PATIENT, *([] if ends_soon else [PATIENT_END]), "relay.main()"])
+        command = [sys.executable, "-B", "-c", script, *words, "--doc", "d"]
         with open(self.told, "ab") as errors, open(self.said, "ab") as output:
             self.process = subprocess.Popen(command, stdout=output, stderr=errors,
                                             env={**os.environ, "PYTHONPATH": str(PACKAGE)})
@@ -87,10 +95,16 @@ class Relay:
     def output(self) -> str:
         return self.said.read_text()
 
-    def end(self, most: float = 20) -> int:
-        """SIGTERM ends it with a status, within a few seconds."""
+    def end(self) -> int:
+        """SIGTERM ends it with a status."""
         self.process.send_signal(signal.SIGTERM)
-        return self.process.wait(most)
+        return self.process.wait(2 * SECONDS)
+
+    def catches(self, number: int) -> bool:
+        """Whether it has a handler of a signal: `relay` takes it away when the signal has come."""
+        with open(f"/proc/{self.process.pid}/status", encoding="utf-8") as status:
+            caught = next(line for line in status if line.startswith("SigCgt")).split()[1]
+        return bool(int(caught, 16) >> (number - 1) & 1)
 
     def memory(self) -> int:
         """The memory that it has, in MB."""
@@ -149,22 +163,23 @@ def write(server: Server, key: str, count: int = 1) -> None:
     assert all(it[0] == "applied" for it in replies), replies[-1]
 
 
-def wait_for(what: Callable[[], Any], seconds: float = 60) -> float:
-    """Waits until it holds. Returns how long that took."""
-    start = time.monotonic()
-    while not what():
-        assert time.monotonic() - start < seconds, "not so in time"
-        time.sleep(0.02)
-    return time.monotonic() - start
-
-
-def comes(server: Server, key: str, seconds: float = 60, last: Any = None) -> float:
-    """Waits until a key has a value, or this one. Returns how long that took."""
+def comes(server: Server, key: str, last: Any = None) -> None:
+    """Waits until a key has a value, or this one."""
     with Session(server.address) as session:
         def is_there() -> bool:
             found = session.ask(["values", "d", [0, key]])[0][1]
             return bool(found) and last in (None, found[-1])
-        return wait_for(is_there, seconds)
+        wait_for(is_there)
+
+
+def has(server: Server, replica: str, counter: int) -> bool:
+    """Whether a server has a replica's operations up to this counter."""
+    return any(name == replica and last >= counter for name, last in asked(server.address, ["front", "d"])[0][1])
+
+
+def pauses(connections: int) -> float:
+    """How long one that is left out at each of so many connections was left alone between them, in seconds, at least."""
+    return sum(min(60.0, 2.0 ** strikes / 2) for strikes in range(1, connections))
 
 
 def test_servers_agree(serve: Serve, relay: Callable[..., Relay]) -> None:
@@ -183,7 +198,11 @@ def test_servers_agree(serve: Serve, relay: Callable[..., Relay]) -> None:
     comes(alice, "c")
     wait_for(lambda: kept.output() == "d: all 2 agree\n" * 2)
     assert kept.end() == 0
-    assert kept.errors().count("\n") == 4, kept.errors()
+    lines = kept.errors().splitlines()
+    # It may look while bob is away: that is another reason.
+    away = [it for it in lines if it.startswith(f"{bob.address}: not connected: ")]
+    assert 1 <= len(away) == len({*away}) and lines.count(f"{bob.address}: connected") == 2, lines
+    assert len(lines) == len(away) + 3, lines
     assert asked(alice.address, ["show", "d", [0]]) == asked(bob.address, ["show", "d", [0]])
 
 
@@ -194,13 +213,17 @@ def test_bad_replies_harm_nobody_else(serve: Serve, relay: Callable[..., Relay])
     kept = relay(alice.address, bob.address, *(peer.address for peer in peers))
     for number in range(4):
         write(alice, f"k{number}", 100)
-        comes(bob, f"k{number}", 12)
+        comes(bob, f"k{number}")
         time.sleep(0.5)
+
+    def named(peer: Peer) -> List[str]:
+        return [it for it in kept.errors().split("\n") if peer.address in it and "connected" not in it]
+
+    wait_for(lambda: all(map(named, peers)))
     assert kept.process.poll() is None
     for peer, (word, line) in zip(peers, BAD_REPLIES):
-        named = [it for it in kept.errors().split("\n") if peer.address in it and "connected" not in it]
-        assert len(named) == 1, (word, line[:80], named)
-        assert peer.connections < 8
+        assert len(named(peer)) == 1, (word, line[:80], named(peer))
+        assert pauses(peer.connections) <= time.monotonic() - peer.began
     assert "\x1b" not in kept.errors()
     assert "agree" not in kept.output()
     assert kept.end() == 1
@@ -227,20 +250,25 @@ def test_a_line_without_an_end(serve: Serve, relay: Callable[..., Relay]) -> Non
     alice, bob = serve("d", name="alice"), serve("d", name="bob")
     peers = [Peer({"front": flood}), Peer({"open": flood}), Peer({"ops": flood})]
     kept = relay(alice.address, bob.address, *(peer.address for peer in peers))
-    most, until = 0, time.monotonic() + 6
-    while time.monotonic() < until:
-        most = max(most, kept.memory())
-        time.sleep(0.1)
-    assert most < 250, most
+    most = [0]
+
+    def are_left_out() -> bool:
+        most[0] = max(most[0], kept.memory())
+        return all(f"{peer.address}: left out" in kept.errors() for peer in peers)
+
+    wait_for(are_left_out)
     write(alice, "a")
-    comes(bob, "a", 12)
+    comes(bob, "a")
+    # They are tried again, too.
+    wait_for(lambda: are_left_out() and all(peer.connections > 2 for peer in peers))
+    assert most[0] < 250, most
     for peer in peers:
         assert kept.errors().count(f"{peer.address}: left out") == 1, kept.errors()
     kept.end()
 
 
 def test_a_server_that_freezes_in_mid_pull(serve: Serve, relay: Callable[..., Relay]) -> None:
-    """The others go on at once, also with bursts of more than a page."""
+    """The others go on while it is frozen, also with bursts of more than a page."""
     servers = [serve("d", name=it) for it in ("alice", "bob", "carol")]
     alice, bob, carol = servers
     for _ in range(3):
@@ -252,10 +280,11 @@ def test_a_server_that_freezes_in_mid_pull(serve: Serve, relay: Callable[..., Re
     try:
         for number, burst in enumerate((1, 100, 500, 1)):
             write(bob, f"b{number}", burst)
-            comes(carol, f"b{number}", 8, burst - 1)
+            comes(carol, f"b{number}", burst - 1)
+        assert f"{alice.address}: not connected" not in kept.errors()
     finally:
         alice.process.send_signal(signal.SIGCONT)
-    wait_for(lambda: "agree" in kept.output(), 60)
+    wait_for(lambda: "agree" in kept.output())
     assert "Traceback" not in kept.errors() and "never retrieved" not in kept.errors()
     assert kept.end() == 0
 
@@ -271,30 +300,44 @@ FORGERIES = {
 }
 
 
+class Forgery:
+    """Alice, bob, carol, who has alice's first operation, and a peer that makes up operations of alice. A first relay has
+    delivered these to bob, who had none of her own."""
+
+    def __init__(self, serve: Serve, relay: Callable[..., Relay], page: List[List[Any]]) -> None:
+        self.alice, self.bob, self.carol = (serve("d", name=it) for it in ("alice", "bob", "carol"))
+        write(self.alice, "first")
+        first = asked(self.alice.address, ["ops", "d", [], 1])[0][1][0]
+        assert asked(self.carol.address, ["deliver", "d", first])[0][0] == "applied"
+        self.page, self.made = page, {name: counter for _, (counter, name), *_ in page}
+        self.served = threading.Event()
+        self.peer = Peer({"front": json.dumps(["front", sorted(self.made.items())]).encode(), "ops": self._operations})
+        early = relay(self.bob.address, self.peer.address)
+        wait_for(lambda: all(has(self.bob, *it) for it in self.made.items()))
+        early.end()
+        self.served.clear()
+
+    def _operations(self, connection: socket.socket) -> None:
+        """At a start of the relay, once, all that is made up."""
+        connection.sendall(json.dumps(["ops", [] if self.served.is_set() else self.page]).encode() + b"\n")
+        self.served.set()
+
+    def relay(self, relay: Callable[..., Relay]) -> Relay:
+        """A relay of all, that has what is made up."""
+        kept = relay(self.peer.address, self.bob.address, self.carol.address, self.alice.address)
+        wait_for(self.served.is_set)
+        return kept
+
+
 @pytest.mark.parametrize("what", FORGERIES)
 def test_made_up_operations_silence_nobody(serve: Serve, relay: Callable[..., Relay], what: str) -> None:
     """A peer makes up operations of alice, before she makes one or later. What she makes reaches carol, who
-    had her first one; and nobody says that all agree."""
-    page = FORGERIES[what]
-    alice, bob, carol = (serve("d", name=it) for it in ("alice", "bob", "carol"))
-    write(alice, "first")
-    first = asked(alice.address, ["ops", "d", [], 1])[0][1][0]
-    assert asked(carol.address, ["deliver", "d", first])[0][0] == "applied"
-    made = {name: counter for _, (counter, name), *_ in page}
-    served = threading.Event()
-
-    def operations(connection: socket.socket) -> None:
-        connection.sendall(json.dumps(["ops", [] if served.is_set() else page]).encode() + b"\n")
-        served.set()
-
-    peer = Peer({"front": json.dumps(["front", sorted(made.items())]).encode(), "ops": operations})
-    early = relay(bob.address, peer.address)
-    wait_for(served.is_set)
-    time.sleep(0.5)
-    early.end()
-    served.clear()
-    kept = relay(peer.address, bob.address, carol.address, alice.address)
-    wait_for(served.is_set)
+    had her first one, and bob, who can't know it from what follows the made-up one. Nobody says that all agree."""
+    made_up = Forgery(serve, relay, FORGERIES[what])
+    alice, bob, carol = made_up.alice, made_up.bob, made_up.carol
+    kept = made_up.relay(relay)
+    # An operation knows what the one before it knows: else bob must refuse it.
+    wait_for(lambda: all(has(alice, name, counter) for name, counter in made_up.made.items() if name != "alice-1"))
     for number in range(6):
         write(alice, f"real{number}", 20)
         comes(carol, f"real{number}")
@@ -303,6 +346,66 @@ def test_made_up_operations_silence_nobody(serve: Serve, relay: Callable[..., Re
     comes(bob, "of carol")
     assert "agree" not in kept.output()
     assert kept.end() == 1
+
+
+def test_who_took_a_made_up_operation_is_named(serve: Serve, relay: Callable[..., Relay]) -> None:
+    """Alice's fourth operation doesn't know what the made-up third one knows. So bob, who has that one, must refuse it,
+    whoever delivers it. The relay says so, and alice and carol go on."""
+    made_up = Forgery(serve, relay, FORGERIES["a later one after a chain of another"])
+    alice, bob, carol = made_up.alice, made_up.bob, made_up.carol
+    write(alice, "real", 20)
+    kept = made_up.relay(relay)
+    comes(carol, "real", last=19)
+    write(carol, "of carol", 3)
+    comes(alice, "of carol", last=2)
+    wait_for(lambda: f"{bob.address}: d: refused 4 of alice-1: 13 bad-front" in kept.errors())
+    assert asked(bob.address, ["front", "d"])[0][1] == [["alice-1", 3], ["mallory-1", 2]]
+    assert "agree" not in kept.output()
+    assert kept.end() == 1
+    assert f"d: {bob.address} lacks " in kept.output()
+
+
+def test_contested_while_a_page_is_under_way() -> None:
+    """A server is asked for what follows a made-up operation, and meanwhile another refuses that one. What it handed out
+    then isn't all that it has: it is asked for the rest, whether it is a page or many."""
+    for count, at in ((20, 1), (500, 1), (500, 4)):
+        log = operation_log.Log("d")
+        for made in FORGERIES["a later one after a chain of another"]:
+            log.add(made)
+        real = [["op", [number, "alice-1"], [["alice-1", number - 1]] if number > 1 else [], [[["m", 0]], "k"], ["assign", number]]
+                for number in range(1, count + 1)]
+        alice: Any = Answering(real, at, lambda: log.contest("alice-1"))
+        place = operation_log.Listener(log, {"alice-1": count})
+
+        async def pull_twice() -> None:
+            for _ in range(2):
+                await pull.pull(alice, place)
+
+        asyncio.run(pull_twice())
+        assert {it.text for it in log.operations} >= {wire.encoded(it) for it in real}
+        assert alice.asked < 40
+
+
+class Answering:
+    """The session of a server that has these operations of one replica. Something happens while one of the replies is due."""
+
+    def __init__(self, operations: List[List[Any]], at: int, meanwhile: Callable[[], object]) -> None:
+        self.operations, self.at, self.meanwhile, self.asked = operations, at, meanwhile, 0
+
+    async def front(self, _: str) -> Dict[str, int]:
+        return {"alice-1": len(self.operations)}
+
+    async def ask_lines(self, lines: List[bytes], take: Callable[[bytes], object] = lambda _: None) -> List[bytes]:
+        replies = []
+        for line in lines:
+            self.asked += 1
+            [_, _, front, most] = json.loads(line)
+            start = dict(front).get("alice-1", 0)
+            replies.append(wire.encoded(["ops", self.operations[start:start + most]]))
+            if self.asked == self.at:
+                self.meanwhile()
+            take(replies[-1])
+        return replies
 
 
 def test_equal_fronts_and_other_documents(serve: Serve, relay: Callable[..., Relay]) -> None:
@@ -339,27 +442,23 @@ def test_a_refusal_is_no_agreement(serve: Serve, relay: Callable[..., Relay]) ->
 
 
 def test_it_ends_within_seconds(serve: Serve, relay: Callable[..., Relay]) -> None:
-    """SIGTERM ends it though a server is frozen; a second Ctrl-C ends it at once."""
+    """SIGINT ends it though a server is frozen, with what that one lacks; a second one ends it at once, without."""
     alice, bob = serve("d", name="alice"), serve("d", name="bob")
     write(alice, "a")
     for second in (False, True):
-        kept = relay(alice.address, bob.address)
+        kept = relay(alice.address, bob.address, ends_soon=True)
         comes(bob, "a")
         wait_for(lambda: kept.output() == "d: all 2 agree\n")
         bob.process.send_signal(signal.SIGSTOP)
         try:
             write(alice, "b")
             time.sleep(0.5)
-            start = time.monotonic()
             kept.process.send_signal(signal.SIGINT)
-            time.sleep(0.5)
+            wait_for(lambda: not kept.catches(signal.SIGINT))
             if second:
                 kept.process.send_signal(signal.SIGINT)
-                kept.process.wait(4)
-            else:
-                assert kept.process.wait(14) == 1
-                assert f"d: {bob.address} lacks" in kept.output()
-            print(time.monotonic() - start)
+            assert kept.process.wait(SECONDS) == (-signal.SIGINT if second else 1)
+            assert (f"d: {bob.address} lacks" in kept.output()) is not second
         finally:
             bob.process.send_signal(signal.SIGCONT)
 
@@ -382,7 +481,7 @@ def test_lines_that_nobody_reads(serve: Serve, tmp_path: Path) -> None:
         write(servers[0], "b")
         comes(servers[1], "b")
         kept.send_signal(signal.SIGTERM)
-        assert kept.wait(20) == 1
+        assert kept.wait(SECONDS) == 1
     finally:
         kept.kill()
         kept.wait()

@@ -11,8 +11,8 @@ from typing import Any, Callable, Iterator, List
 
 import pytest
 
-from conftest import SECONDS
-from test_relay import Relay, Serve, asked, comes, relay, wait_for, write  # noqa: F401
+from conftest import SECONDS, wait_until as wait_for
+from test_relay import Relay, Serve, asked, comes, relay, write  # noqa: F401
 
 pytest.importorskip("redis.asyncio", reason="python3-redis isn't installed")
 if not shutil.which("redis-server"):
@@ -84,10 +84,10 @@ def redis(tmp_path: Path) -> Iterator[Callable[..., Redis]]:
         it.kill()
 
 
-def pair(serve: Serve, relay: Callable[..., Relay], url: str) -> Any:  # noqa: F811
+def pair(serve: Serve, relay: Callable[..., Relay], url: str, **options: bool) -> Any:  # noqa: F811
     """Two sites, each with a relay that reaches its own server and Redis alone."""
     sites = [serve("d", name=name) for name in ("alice", "bob")]
-    return sites, [relay(site.address, "--redis", url) for site in sites]
+    return sites, [relay(site.address, "--redis", url, **options) for site in sites]
 
 
 def test_bad_entries_are_skipped(serve: Serve, relay: Callable[..., Relay], redis: Callable[..., Redis]) -> None:  # noqa: F811
@@ -103,7 +103,7 @@ def test_bad_entries_are_skipped(serve: Serve, relay: Callable[..., Relay], redi
     comes(bob, "after")
     again = relay(bob.address, "--redis", f"redis://{store.address}/0")
     write(bob, "of bob", 30)
-    comes(alice, "of bob")
+    comes(alice, "of bob", last=29)
     for kept in (*relays, again):
         wait_for(lambda: "all 2 agree" in kept.output())
         assert kept.errors().count("is skipped") == 10, kept.errors()
@@ -246,7 +246,7 @@ def test_a_full_redis(serve: Serve, relay: Callable[..., Relay], redis: Callable
 def test_frozen_redis_does_not_hold_up_the_end(serve: Serve, relay: Callable[..., Relay],  # noqa: F811
                                                redis: Callable[..., Redis]) -> None:
     store = redis()
-    (alice, bob), relays = pair(serve, relay, store.address)
+    (alice, bob), relays = pair(serve, relay, store.address, ends_soon=True)
     write(alice, "a")
     comes(bob, "a")
     os.kill(store.process.pid, 19)

@@ -6,12 +6,12 @@ import sys
 
 import pytest
 
-from conftest import PROGRAM, TOP
+from conftest import PROGRAM, SECONDS, TOP
 
 
 def soak(*words: str) -> None:
     command = [sys.executable, str(TOP / "tests" / "relay-soak"), PROGRAM, "--seconds", "8", "--servers", "3", "--seed=5", *words]
-    run = subprocess.run(command, stdout=subprocess.PIPE, stderr=subprocess.STDOUT, timeout=90)
+    run = subprocess.run(command, stdout=subprocess.PIPE, stderr=subprocess.STDOUT, timeout=SECONDS)
     assert run.returncode == 0, run.stdout.decode()
 
 
