@@ -15,13 +15,14 @@ import os
 import socket
 from collections import deque
 from types import TracebackType
-from typing import Any, AsyncIterator, Callable, Deque, Generator, Iterable, List, Optional, Sequence, Tuple, Type, TypeVar
+from typing import Any, AsyncIterator, Callable, Deque, Generator, Iterable, List, Literal, Optional, Sequence, Tuple, Type, TypeVar
 
-from . import nested, wire
+from . import mending, nested, wire
 from .limits import USUAL, Limits
 from .line_reader import CHUNK, LineReader, lines_of
 from .replies import Reply, checked_beginning, front_in, id_in, logged_in, page_in, reply_of
 from .session import FORKED, WATCH_SECONDS
+from .steps import Steps
 from .wire import Away, Cursor, Front, Id, Lost, Misbehaved, Operation, Refused, encoded
 
 T = TypeVar("T")
@@ -137,7 +138,7 @@ class Session:
             self._end(error)
             raise
 
-    async def _run(self, steps: "nested.Steps[T]") -> T:
+    async def _run(self, steps: Steps[T]) -> T:
         """Asks what the steps want, and returns what they found."""
         try:
             requests = next(steps)
@@ -267,11 +268,12 @@ class Session:
         async with self._writing:
             return await self._run(nested.extend(document, cursor, values))
 
-    async def put(self, document: str, cursor: Cursor, value: Any) -> None:
-        """Assigns a nested value, one request for each part: see jcrdt.Session.put. Another nested write of this session
-        waits meanwhile. A task that is cancelled leaves the first part of it there."""
+    async def put(self, document: str, cursor: Cursor, value: Any, only: Optional[Literal["changed"]] = None) -> None:
+        """Assigns a nested value, one request for each part, or what differs alone: see jcrdt.Session.put. Another nested
+        write of this session waits meanwhile. A task that is cancelled leaves the first part of it there."""
         async with self._writing:
-            await self._run(nested.put(document, cursor, value))
+            await self._run(nested.put(document, cursor, value) if only is None else
+                            mending.put_changed(document, cursor, value))
 
     # Readings.
 
