@@ -4,7 +4,7 @@ import time
 from typing import Any, Dict, List, Optional, Sequence, Tuple
 
 from . import wire
-from .difference import Items, Mend, Plan, Whole, planned
+from .difference import Items, Plan, Whole, planned
 from .nested import BIND_SECONDS, OWN_NAME, Writer, bind, bind_all, depth
 from .replies import good
 from .steps import Steps

@@ -14,7 +14,7 @@ import contextlib
 import os
 import signal
 import time
-from typing import Any, Awaitable, Callable, Dict, Iterable, List, Optional, Sequence, Set, Tuple
+from typing import Any, Awaitable, Callable, Dict, List, Optional, Sequence, Set, Tuple
 
 from .link import Link, link_to
 from .notes import Notes
