@@ -17,12 +17,13 @@ from collections import deque
 from types import TracebackType
 from typing import Any, AsyncIterator, Callable, Deque, Generator, Iterable, List, Literal, Optional, Sequence, Tuple, Type, TypeVar
 
-from . import mending, nested, wire
+from . import loading, mending, nested, wire
 from .limits import USUAL, Limits
 from .line_reader import CHUNK, LineReader, lines_of
 from .replies import Reply, checked_beginning, front_in, id_in, logged_in, page_in, reply_of
 from .session import FORKED, WATCH_SECONDS
 from .steps import Steps
+from .tagged import tagged
 from .wire import Away, Cursor, Front, Id, Lost, Misbehaved, Operation, Refused, encoded
 
 T = TypeVar("T")
@@ -301,6 +302,15 @@ class Session:
     async def plain(self, document: str, cursor: Cursor) -> Any:
         """The value at the cursor as plain JSON, with Counter and Conflict: see jcrdt.Session.plain."""
         return wire.plain(await self.show(document, cursor))
+
+    async def export(self, document: str, cursor: Cursor = (0,)) -> Any:
+        """The value at the cursor as JSON that keeps counters and conflicts by tags: see jcrdt.Session.export."""
+        return tagged(await self.plain(document, cursor))
+
+    async def load_json(self, document: str, cursor: Cursor, data: Any) -> int:
+        """Makes what is at the cursor into a value that `export` gave: see jcrdt.Session.load_json."""
+        async with self._writing:
+            return await self._run(loading.load_json(document, cursor, data))
 
     # What servers deliver to each other.
 

@@ -6,7 +6,7 @@ Values are those of `plain`: a Counter and a Conflict are no maps.
 import difflib
 from typing import Any, Dict, List, Optional, Tuple, Union
 
-from .room import count_of, count_of_element
+from .room import count_of, count_of_element, makers_of
 from .wire import Conflict, Counter, apart, encoded, parts_of
 
 # Where lists have more pairs of equal elements than that, their elements are compared in their order alone.
@@ -14,11 +14,11 @@ MOST_PAIRS = 1_000_000
 
 
 def text_of(value: Any) -> str:
-    """A text that two values share if both show the same. The scalars of a conflict have no order in it."""
+    """A text that two values share if both show the same. Of a conflict the scalars have an order."""
     if type(value) is Counter:
         return f"counter {value['counter']}"
     if type(value) is Conflict:
-        return f"({' | '.join(sorted(map(text_of, value['conflict'])))})"
+        return f"({' | '.join(map(text_of, sorted(value['conflict'], key=_kind)))})"
     if type(value) is dict:
         return "{%s}" % ",".join(f"{encoded(key).decode()}:{text_of(inner)}" for key, inner in sorted(value.items()))
     if type(value) is list:
@@ -26,11 +26,21 @@ def text_of(value: Any) -> str:
     return encoded(value).decode()
 
 
+def _kind(value: Any) -> int:
+    """The order of a conflict's values as `plain` has it."""
+    return 0 if type(value) is dict else 1 if type(value) is list else 3 if type(value) is Counter else 2
+
+
 class Whole:
     """The place is assigned anew."""
 
     def __init__(self, value: Any) -> None:
         self.value, self.count = value, count_of(value)
+
+    @property
+    def makers(self) -> int:
+        """How many new replicas it takes."""
+        return makers_of(self.value)
 
 
 class Mend:
@@ -49,6 +59,11 @@ class Mend:
     def count(self) -> int:
         keys = sum(plan.count if plan else 1 for _, plan in self.keys)
         return keys + (self.items.count if self.items else 0) + len(list(parts_of(self.added)))
+
+    @property
+    def makers(self) -> int:
+        """How many new replicas it takes."""
+        return max([self.items.makers if self.items else 0, *(plan.makers for _, plan in self.keys if plan)])
 
 
 Plan = Union[Whole, Mend]
@@ -69,6 +84,11 @@ class Items:
     def count(self) -> int:
         put_in = sum(count_of_element(it) for _, values in self.put_in for it in values)
         return len(self.gone) + sum(plan.count for _, plan in self.mended) + put_in
+
+    @property
+    def makers(self) -> int:
+        """How many new replicas it takes."""
+        return max([0, *(plan.makers for _, plan in self.mended), *(makers_of(it) for _, values in self.put_in for it in values)])
 
     def _take(self, start: int, shown: List[Any], wanted: List[Any]) -> None:
         """Makes these elements, from `start` on, into the wanted ones: each is mended as long as there are any."""
@@ -131,7 +151,16 @@ def _mending(shown: Any, value: Any) -> Optional[Mend]:
 def _keys(shown: Dict[str, Any], wanted: Dict[str, Any]) -> List[Tuple[str, Optional[Plan]]]:
     found: List[Tuple[str, Optional[Plan]]] = [(key, None) for key in shown if key not in wanted]
     for key, value in wanted.items():
-        plan = planned(shown[key], value) if key in shown else Whole(value)
+        plan = planned(shown[key], value) if key in shown else _new(value)
         if plan:
             found.append((key, plan))
     return found
+
+
+def _new(value: Any) -> Plan:
+    """What puts a value where nothing is."""
+    if type(value) is not Counter:
+        return Whole(value)
+    mend = Mend()
+    mend.added = value["counter"]
+    return mend

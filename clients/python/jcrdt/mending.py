@@ -40,7 +40,7 @@ class Mender(Writer):
         [[branches]] = good((yield [["show", self.document, steady]]))
         plan = planned(wire.plain(branches), value)
         if plan:
-            yield from self.check_room(plan.count)
+            yield from self.check_room(plan.count, plan.makers)
             yield from self.mend(steady, plan, 0)
             yield from self.send()
         return self.made
@@ -100,6 +100,7 @@ class Mender(Writer):
         for name, (_, plan) in zip(named, changes):
             if name in gone:
                 continue
+            self.note_name(name, cursor, named[name])
             if plan:
                 yield from self.mend([name], plan, level + 1)
             else:

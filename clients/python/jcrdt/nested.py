@@ -123,10 +123,11 @@ class Writer:
         changed."""
         good((yield [["let", self.document, it, [0]] for it in names]))
 
-    def check_room(self, needed: int) -> Steps[None]:
-        """Raises Refused (18) before anything is changed where not all has room. One that is refused alone changes nothing."""
+    def check_room(self, needed: int, makers: int = 0) -> Steps[None]:
+        """Raises Refused (18, and 19 for that many new replicas) before anything is changed where not all has room. One that is
+        refused alone changes nothing."""
         if needed > 1:
-            yield from room.check(self.document, needed)
+            yield from room.check(self.document, needed, makers)
 
     def steady(self, cursor: Cursor) -> Steps[List[Any]]:
         """The cursor with a name in place of its beginning up to the last index."""
@@ -154,20 +155,30 @@ class Writer:
 
     def write(self, cursor: List[Any], value: Any, level: int = 0) -> Steps[None]:
         values, counter = apart(value)
+        if len(values) > 1:
+            yield from self.write_conflict(cursor, values, counter, level)
+            return
         if values:
             yield from self.later("assign", self.document, cursor, bare(values[0]))
         else:
             yield from self.later("delete", self.document, cursor)
         yield from self.fill(cursor, values, counter, level)
 
+    def write_conflict(self, cursor: List[Any], values: List[Any], counter: Optional[int], level: int) -> Steps[None]:
+        """Writes several values to one place, which a session can't."""
+        raise NotImplementedError
+
+    def note_name(self, name: str, cursor: List[Any], element: Id) -> None:
+        """A name is bound to this element of the list at the cursor."""
+
     def fill(self, cursor: List[Any], values: List[Any], counter: Optional[int], level: int) -> Steps[None]:
-        """Puts what is in the value into the empty map or list at the cursor, and the counter beside it."""
-        value = values[0] if values else None
-        if isinstance(value, dict):
-            for key, inner in value.items():
-                yield from self.write([*cursor, key], inner, level)
-        elif isinstance(value, list):
-            yield from self.insert_all(cursor, [*cursor, 0], 1, value, level)
+        """Puts what is in the values into the empty map and list at the cursor, and the counter beside them."""
+        for value in values:
+            if isinstance(value, dict):
+                for key, inner in value.items():
+                    yield from self.write([*cursor, key], inner, level)
+            elif isinstance(value, list):
+                yield from self.insert_all(cursor, [*cursor, 0], 1, value, level)
         for part in parts_of(counter):
             yield from self.later("add", self.document, cursor, part)
 
@@ -197,7 +208,7 @@ class Writer:
         """Inserts an element, makes sure that a name means it, and fills it."""
         values, counter = apart(value)
         name = OWN_NAME(level)
-        first = bare(values[0]) if values else None
+        first = bare(values[0]) if len(values) == 1 else None
         made, bound, conflicts = yield [
             ["insert", self.document, behind, first], ["let", self.document, name, [*cursor, index]],
             ["conflicts", self.document, [name]]]
@@ -206,6 +217,10 @@ class Writer:
         right = not isinstance(bound, Exception) and _has(conflicts, element)
         # Another session has changed the list in between, or deleted the element: then it stays deleted.
         if right or (yield from bind(self.document, name, cursor, element)):
+            self.note_name(name, cursor, element)
+            if len(values) > 1:
+                yield from self.write_conflict([name], values, counter, level + 1)
+                return element
             if not values:
                 # A counter and no value: what was inserted is deleted, and `add` makes it present again.
                 yield from self.later("delete", self.document, [name])

@@ -12,7 +12,8 @@ from . import wire
 from .protocol import NUMBERS
 from .replies import front_in, good
 from .steps import Request, Steps
-from .wire import Conflict, Counter, Front, OPERATION_LIMIT, Operation, PAGE, Refused, apart, pairs_of, parts_of
+from .wire import (Conflict, Counter, Front, OPERATION_LIMIT, Operation, PAGE, REPLICA_LIMIT, Refused, apart, pairs_of,
+                   parts_of)
 
 # So many replicas' operations are counted at once.
 CHAINS = 16
@@ -58,9 +59,18 @@ class _Chain:
         self.at = own[-1] if own else self.last
 
 
-def check(document: str, needed: int) -> Steps[None]:
-    """Raises Refused (18, log-full) if a document has no room for so many more operations."""
+def makers_of(value: Any) -> int:
+    """How many replicas make the conflicts of a value: as many as its greatest one has values."""
+    values, _ = apart(value)
+    inner = [it for part in values for it in (part.values() if isinstance(part, dict) else part if isinstance(part, list) else ())]
+    return max([len(values) if len(values) > 1 else 0, *map(makers_of, inner)])
+
+
+def check(document: str, needed: int, makers: int = 0) -> Steps[None]:
+    """Raises Refused if a document has no room for so many more operations (18, log-full) or replicas (19, too-many-replicas)."""
     front = front_in(good((yield [["front", document]]))[0])
+    if makers and len(front) + makers > REPLICA_LIMIT:
+        raise Refused(NUMBERS["too-many-replicas"])
     chains = [_Chain(replica, last) for replica, last in front.items()]
     least, asked, limit = max(front.values(), default=0), chains, 1
     while True:

@@ -22,11 +22,12 @@ import time
 from types import TracebackType
 from typing import Any, Deque, Iterable, Iterator, List, Literal, Optional, Sequence, Type, TypeVar
 
-from . import mending, nested, wire
+from . import loading, mending, nested, wire
 from .limits import USUAL, Limits
 from .replies import Reply, checked_beginning, front_in, id_in, logged_in, page_in, reply_of
 from .steps import Steps
 from .stream import Stream
+from .tagged import tagged
 from .wire import Away, Cursor, Front, Id, Lost, Misbehaved, Operation, Refused, encoded
 
 T = TypeVar("T")
@@ -260,6 +261,19 @@ class Session:
         """The value at the cursor as plain JSON, with a Counter for a counter and a Conflict where several
         values are."""
         return wire.plain(self.show(document, cursor))
+
+    def export(self, document: str, cursor: Cursor = (0,)) -> Any:
+        """The value at the cursor as JSON that keeps counters and conflicts by tags: see tagged.py."""
+        return tagged(self.plain(document, cursor))
+
+    def load_json(self, document: str, cursor: Cursor, data: Any) -> int:
+        """Makes what is at the cursor into a value that `export` gave, by sending what differs alone. Returns how many
+        operations that took. Each value of a conflict that isn't there yet is made by a replica of its own, of which a
+        document has 256.
+
+        Raises ValueError for what is no such value, or a cursor with an index or a name, and Refused (18, 19) where the
+        document has no room, both before anything is changed. Otherwise as `put` with only="changed"."""
+        return self._run(loading.load_json(document, cursor, data))
 
     # What servers deliver to each other.
 
