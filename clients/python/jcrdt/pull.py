@@ -10,6 +10,8 @@ from .operation_log import OPERATION_BYTES, Early, Listener, Turn
 from .replies import rest_of
 from .wire import Front, Misbehaved, Operation, PAGE, Refused, checked_operation, covers, encoded, front_of
 
+# How many pulls in a row may find that a server has logged something of others meanwhile.
+DOUBTS = 20
 # How many pages of operations are asked for at once, before and after their size is known, and how many
 # bytes these may have together.
 FIRST_PAGES, PAGES, WINDOW_BYTES = 8, 128, 16 << 20
@@ -132,10 +134,23 @@ async def _pull_chains(link: Link, place: Listener, turn: Turn) -> None:
         # Whatever an operation depends on has a lesser counter.
         place.handed_out(early.take(sorted(came, key=_id_of)), front)
         found = bool(came)
+    if not chains and not early.missing():
+        return
+    if place.doubts < DOUBTS and await _has_more(link, place, early.missing()):
+        # What is missing was logged since the front was read. The next page has it.
+        place.doubts += 1
+        return
     # What is left follows other operations than those of the log, or nothing.
     astray = {it.replica for it in chains if it.behind} | {replica for _, replica in early.missing()}
-    if (chains or astray) and not any([place.log.contest(it) for it in astray]):
+    if not any([place.log.contest(it) for it in astray]):
         raise Misbehaved("operations without those that they depend on")
+
+
+async def _has_more(link: Link, place: Listener, missing: List[Tuple[int, str]]) -> bool:
+    """Reads the front again. Returns whether it covers more of what is missing than the one before did."""
+    before = dict(place.has)
+    place.has.update(await link.front(place.log.name))
+    return any(covers(place.has, it) and not covers(before, it) for it in missing)
 
 
 async def pull(link: Link, place: Listener) -> None:
@@ -143,3 +158,4 @@ async def pull(link: Link, place: Listener) -> None:
     while await _pull_page(link, place) == PAGE:
         async with Turn(place.log) as turn:
             await _pull_chains(link, place, turn)
+    place.doubts = 0

@@ -37,6 +37,7 @@ from .replaced_file import replaced
 from .history import id_text, readable
 from .renewal import Renewal, settled_branches, without_ids
 from .session import Session, connected
+from .progress import Report, add_argument, progress_of, silent
 from .terminal import checked_address, say
 from .wire import Front, Id, Operation, Refused, covers, encoded, pairs_of
 
@@ -54,7 +55,8 @@ class TooMuch(ValueError):
 class Union:
     """The operations of a document that several servers have together, and the front of each server."""
 
-    def __init__(self, servers: Sequence[str], document: str, known: Optional[Front] = None) -> None:
+    def __init__(self, servers: Sequence[str], document: str, known: Optional[Front] = None, report: Report = silent) -> None:
+        """`report` is called with how many operations were read so far."""
         self.operations: List[Operation] = []
         self.front: Front = dict(known or {})
         self.fronts: Dict[str, Front] = {}
@@ -63,6 +65,7 @@ class Union:
                 for operation in server.operations(document, self.front):
                     self.operations.append(operation)
                     self.front[operation[1][1]] = operation[1][0]
+                    report("operations read", len(self.operations), None)
                 self.fronts[address] = server.front(document)
 
 
@@ -109,7 +112,7 @@ def check_size(renewal: Renewal, force: bool) -> None:
 
 def count(asked: argparse.Namespace) -> int:
     """Prints a line for each server, one for all, and one for a new document. Returns the exit status."""
-    union, full = Union(asked.servers, asked.doc), False
+    union, full = Union(asked.servers, asked.doc, None, progress_of("renew", asked.progress)), False
     for name, front in [*union.fronts.items(), ("all together", union.front)]:
         operations = sum(covers(front, it[1]) for it in union.operations)
         say(f"{name}: {amount(operations, wire.OPERATION_LIMIT, 'operations')}, "
@@ -129,7 +132,8 @@ def count(asked: argparse.Namespace) -> int:
 
 
 def put(asked: argparse.Namespace) -> int:
-    union = Union(asked.servers, asked.doc)
+    report = progress_of("renew", asked.progress)
+    union = Union(asked.servers, asked.doc, None, report)
     if asked.front is not None:
         if not all(counter <= union.front.get(replica, 0) for replica, counter in asked.front.items()):
             raise ValueError("these servers lack operations that the front covers")
@@ -140,7 +144,7 @@ def put(asked: argparse.Namespace) -> int:
     with opened(asked.into, asked.new_doc) as target:
         check_target(target, asked, renewal)
         say(f"if this is interrupted, run it again with --front '{line_of(union.front)}'")
-        deliver(target, asked.new_doc, renewal.operations)
+        deliver(target, asked.new_doc, renewal.operations, report)
         made = target.show(asked.new_doc, [0])
     if without_ids(made) != without_ids(branches):
         say(f"old: {json.dumps(wire.plain(branches))}")
@@ -169,7 +173,7 @@ def check_target(target: Session, asked: argparse.Namespace, renewal: Renewal) -
         raise ValueError(f"{asked.new_doc} at {asked.into} isn't empty: {others[0]} has written to it")
 
 
-def deliver(server: Session, document: str, operations: List[Operation]) -> None:
+def deliver(server: Session, document: str, operations: List[Operation], report: Report = silent) -> None:
     for at in range(0, len(operations), BATCH):
         part = operations[at:at + BATCH]
         for operation, reply in zip(part, server.ask_all([["deliver", document, it] for it in part])):
@@ -177,6 +181,7 @@ def deliver(server: Session, document: str, operations: List[Operation]) -> None
                 raise reply
             if isinstance(reply, Exception) or reply and len(reply) != 3:
                 raise ValueError(f"{id_text(operation[1])} isn't taken: {reply}")
+        report("operations delivered", at + len(part), len(operations))
 
 
 def change_over(asked: argparse.Namespace, front: Front) -> None:
@@ -196,7 +201,7 @@ def since_line(asked: argparse.Namespace, front: Front) -> str:
 
 def since(asked: argparse.Namespace) -> int:
     """Lists the operations that the front doesn't cover, and how many they are."""
-    union, ids = Union(asked.servers, asked.doc, asked.front), ids_of(asked.map) if asked.map else {}
+    union, ids = Union(asked.servers, asked.doc, asked.front, progress_of("renew", asked.progress)), ids_of(asked.map) if asked.map else {}
     for operation in union.operations:
         say(f"{id_text(operation[1]):<16} {readable(in_new_document(operation, ids))}")
     say(f"{len(union.operations)} operations since then" + (". Ask next with:" if union.operations else ""))
@@ -235,6 +240,7 @@ def parsed(words: Sequence[str]) -> argparse.Namespace:
     for part in (counting, putting, late):
         part.add_argument("servers", nargs="+", metavar="SERVER", type=checked_address)
         part.add_argument("--doc", required=True)
+        add_argument(part)
     putting.add_argument("--into", required=True, metavar="SERVER", type=checked_address)
     putting.add_argument("--new-doc", required=True, metavar="DOC")
     putting.add_argument("--conflicts", choices=("keep", "last", "first"), default="keep")
