@@ -29,6 +29,9 @@ pub const MAX_OPERATIONS: usize = 100_000;
 /// The most replicas of a log.
 pub const MAX_REPLICAS: usize = 256;
 
+// As long as it takes to find out what a front lacks of a replica, so many pairs are compared.
+const COMPARED: usize = 4;
+
 impl OpLog {
     /// The first cause against an operation: bad-front, forked (with the last counter of its
     /// replica), bad-cursor, log-full, too-many-replicas. It is `Ok` if the operation fits. For an
@@ -112,12 +115,25 @@ impl OpLog {
         ensures { result ≡ knows_front front.now self.now.operations }
     {
         let below = self.last_below(front, name);
+        let mut looked: usize = 0;
         for at in 0..front.len() {
             if !self.is_pair_below(front, below, at) {
-                return self.knows_rest(front, below, at);
+                if self.has_looked_long(front, looked) {
+                    return self.knows_rest(front, below, at);
+                }
+                if !self.knows_entry(front, 0, front.pair_at(at)) {
+                    return false;
+                }
+                looked = looked.saturating_add(1);
             }
         }
         true
+    }
+
+    // Whether comparing the front with those of so many operations has taken as long as it takes to
+    // find out up to where it covers all.
+    fn has_looked_long(&self, front: &Front, looked: usize) -> bool {
+        looked.saturating_mul(front.len()) >= self.replica_count().saturating_mul(COMPARED)
     }
 
     // Whether the log knows the pairs of the front from an index on.
@@ -125,7 +141,8 @@ impl OpLog {
         requires ascending { is_ascending front.now ≡ true }
         requires below { IfSome (option_copied below) (λ op.
             Contains self.now.operations op × (is_le op.front front.now ≡ true)) }
-        ensures { result ≡ list_all (is_pair_known front.now self.now.operations) (drop from front.now) }
+        ensures { result
+            ≡ list_all (is_pair_known front.now self.now.operations) (drop from front.now) }
     {
         let covered = self.covered_before(front);
         for at in from..front.len() {

@@ -285,7 +285,8 @@ impl OpLog {
         ensures good { IsGood self.now.operations }
         ensures within { IfSome result (λ k. k < length self.now.operations) }
         ensures found { MatchOption result (find_id self.now.operations id ≡ None)
-            (λ k. (op : Op) × (slice_get self.now.operations k ≡ Some op) × (find_id self.now.operations id ≡ Some op)) }
+            (λ k. (op : Op) × (slice_get self.now.operations k ≡ Some op)
+            × (find_id self.now.operations id ≡ Some op)) }
     {
         self.index.position_of(&self.entries, &id)
     }
