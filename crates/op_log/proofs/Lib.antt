@@ -11,3 +11,4 @@ pub mod Pairs
 pub mod WholeFronts
 pub mod Deciding
 pub mod Below
+pub mod Lacks

@@ -6,27 +6,16 @@ use Rattle.std.proofs.lemmas.Option.{slice_get_read}
 use Rattle.std.proofs.lemmas.List.Elements.{Contains-push_cases}
 use Rattle.version_vector.specs.Front.{covers}
 use Rattle.op_core.specs.Op.{Op}
-use Rattle.crdt_rules.specs.Dependencies.{entry_of}
 use Rattle.crdt_rules.specs.Log.{IsGood}
-use Rattle.crdt_rules.proofs.Fronts.{covers_at, covers_from, entry_of-Contains}
+use Rattle.crdt_rules.proofs.Fronts.{covers_at, covers_from}
 use Rattle.crdt_rules.proofs.Tests.{some_same}
 use Rattle.doc_rules.specs.Answers.{since}
-use Rattle.op_log.specs.Index.{HasOpAt, AreLasts, IsLast, IsFirstFrom, CoversChain, CoversBetween, IsUncovered}
+use Rattle.op_log.specs.Index.{HasOpAt, AreLasts, IsLast, CoversChain, CoversBetween, IsUncovered}
 use Rattle.list_laws.proofs.Reading.{take_at, drop_read}
 use Rattle.list_laws.specs.Sorted.{get_by}
 use Rattle.list_laws.proofs.Bisection.{get-own, get-Contains}
 use Rattle.op_log.proofs.Fronts.{names_ordered}
 use Rattle.op_log.proofs.Indexes.{rises_up_to}
-
--- up to a counter that the front has for the replica, its operations are covered
-pub chain_up_to : (front : List (List ℕ × ℕ)) (log : List Op) (name : List ℕ) (counter from n : ℕ) → entry_of front name ≡ Some counter
-    → ((k : ℕ) (at : HasOpAt log name k) → from ≤ k → k < n → at.op.id.counter ≤ counter) → CoversChain front log name from n
-chain_up_to front log name counter from n is up_to k at behind below =
-    covers_at front (name, counter) at.op.id (entry_of-Contains front name counter is) (sym at.made) (up_to k at behind below)
-
--- none stands before the first of all
-pub chain_none : (front : List (List ℕ × ℕ)) (log : List Op) (name : List ℕ) (from n : ℕ) → IsFirstFrom log name from 0 n → CoversChain front log name from n
-chain_none front log name from n first k at behind below = let less : at.op.id.counter < 0 = first.first k at behind below in absurd (omega arith)
 
 -- a replica has no operation behind its last
 pub chain_ended : (front : List (List ℕ × ℕ)) (log : List Op) (name : List ℕ) (last from n : ℕ) → IsLast log name last → last < from → CoversChain front log name from n

@@ -2,3 +2,5 @@ pub mod Front
 pub mod Log
 pub mod Index
 pub mod Elements
+pub mod Lacks
+pub mod Known

@@ -1,20 +1,21 @@
 //! Whether an operation fits a log.
-ghost use Rattle.std.specs.Prelude.{◌≡◌, ◌<◌, ◌↔◌, ◌&&◌, [], ◌∷◌, Contains, Some, length, get_or};
+ghost use Rattle.std.specs.Prelude.{◌≡◌, ◌<◌, ◌↔◌, [], ◌∷◌, Contains, Some, length, get_or, drop};
 ghost use Rattle.std.specs.Prelude.{true, nat_le, IfSome};
 ghost use Rattle.std.specs.Prelude.{IsOk, IsTrue};
 ghost use Rattle.std.specs.Option.{option_copied};
-ghost use Rattle.std.specs.List.{list_any, list_all};
+ghost use Rattle.std.specs.List.{list_all};
 ghost use Rattle.op_core.specs.Limits.{most_replicas};
-ghost use Rattle.version_vector.specs.Front.{id_of, is_ascending, is_le};
+ghost use Rattle.version_vector.specs.Front.{is_ascending, is_le};
 ghost use Rattle.op_core.specs.Op.{Op};
 ghost use Rattle.op_core.specs.Shape.{is_shaped, key_of};
 ghost use Rattle.crdt_rules.specs.Facts.{inserts};
 ghost use Rattle.crdt_rules.specs.Log.{IsGood};
 ghost use Rattle.crdt_rules.specs.Fits.{Fits, is_element, knows_cursor, knows_front, last_counter};
 ghost use Rattle.crdt_rules.specs.Fits.{replicas};
-ghost use Rattle.crdt_rules.specs.Same.{id_eq};
 ghost use Rattle.doc_rules.specs.Cause.{cause_of, misfit_of, room_cause};
 ghost use Rattle.op_log.specs.Elements.{covers_cursor, covers_key, inserts_cursor};
+ghost use Rattle.op_log.specs.Index.{CoversBetween};
+ghost use Rattle.op_log.specs.Known.{is_pair_known};
 
 use crate::front::{self, Entry};
 use crate::log::{OpLog, keeps_good};
@@ -27,6 +28,9 @@ pub const MAX_OPERATIONS: usize = 100_000;
 
 /// The most replicas of a log.
 pub const MAX_REPLICAS: usize = 256;
+
+// As long as it takes to find out what a front lacks of a replica, so many pairs are compared.
+const COMPARED: usize = 4;
 
 impl OpLog {
     /// The first cause against an operation: bad-front, forked (with the last counter of its
@@ -80,7 +84,7 @@ impl OpLog {
     {
         let replica = op.id().replica;
         let last = self.last_counter(replica);
-        if !self.knows_front(op.front()) {
+        if !self.knows_front(op.front(), replica) {
             return Err(Refusal::BadFront);
         }
         if front::counter_in(op.front(), op.id().replica) != last {
@@ -104,63 +108,108 @@ impl OpLog {
         last.is_some() || count < MAX_REPLICAS
     }
 
-    // The pairs of a logged operation's front are known already: where that front is at
-    // most this one, they need no look.
-    fn knows_front(&self, front: &Front) -> bool
+    // Whether the log knows the front of an operation of this replica. The pairs of a logged
+    // operation's front are known already: where that front is at most this one, they need no look.
+    fn knows_front(&self, front: &Front, name: ReplicaName) -> bool
         requires { is_ascending front.now ≡ true }
         ensures { result ≡ knows_front front.now self.now.operations }
     {
-        let below = self.last_below(front);
+        let below = self.last_below(front, name);
+        let mut looked: usize = 0;
         for at in 0..front.len() {
-            if !self.knows_pair(front, below, at) {
+            if !self.is_pair_below(front, below, at) {
+                if self.has_looked_long(front, looked) {
+                    return self.knows_rest(front, below, at);
+                }
+                if !self.knows_entry(front, 0, front.pair_at(at)) {
+                    return false;
+                }
+                looked = looked.saturating_add(1);
+            }
+        }
+        true
+    }
+
+    // Whether comparing the front with those of so many operations has taken as long as it takes to
+    // find out up to where it covers all.
+    fn has_looked_long(&self, front: &Front, looked: usize) -> bool {
+        looked.saturating_mul(front.len()) >= self.replica_count().saturating_mul(COMPARED)
+    }
+
+    // Whether the log knows the pairs of the front from an index on.
+    fn knows_rest(&self, front: &Front, below: Option<&Operation>, from: usize) -> bool
+        requires ascending { is_ascending front.now ≡ true }
+        requires below { IfSome (option_copied below) (λ op.
+            Contains self.now.operations op × (is_le op.front front.now ≡ true)) }
+        ensures { result
+            ≡ list_all (is_pair_known front.now self.now.operations) (drop from front.now) }
+    {
+        let covered = self.covered_before(front);
+        for at in from..front.len() {
+            if !self.knows_pair(front, below, covered, at) {
                 return false;
             }
         }
         true
     }
 
-    // The last operation, if its front is at most this one.
-    fn last_below(&self, front: &Front) -> Option<&Operation>
+    // The last operation, or the last one of this replica, if its front is at most this one.
+    fn last_below(&self, front: &Front, name: ReplicaName) -> Option<&Operation>
         requires { is_ascending front.now ≡ true }
         ensures below { IfSome (option_copied result) (λ op.
             Contains self.now.operations op × (is_le op.front front.now ≡ true)) }
         ensures good { IsGood self.now.operations }
     {
         keeps_good(self);
-        let last = self.as_slice().last()?;
-        if is_front_at_most(last, front) {
-            Some(last)
-        } else {
-            None
+        match if_below(self.as_slice().last(), front) {
+            Some(last) => Some(last),
+            None => if_below(self.last_by(name), front),
         }
     }
 
-    // Whether the pair at an index is a logged operation, whose own front is at most this one. The
-    // pairs of an operation below are.
-    fn knows_pair(&self, front: &Front, below: Option<&Operation>, at: usize) -> bool
+    // Whether the pair at an index is a logged operation, whose own front is at most this one.
+    fn knows_pair(
+        &self,
+        front: &Front,
+        below: Option<&Operation>,
+        covered: usize,
+        at: usize,
+    ) -> bool
         requires ascending { is_ascending front.now ≡ true }
         requires within { at < length front.now }
         requires below { IfSome (option_copied below) (λ op.
             Contains self.now.operations op × (is_le op.front front.now ≡ true)) }
-        ensures { result ≡ list_any
-            (λ o. id_eq o.id (id_of (get_or front.now at ([], 0)))
-            && is_le o.front front.now) self.now.operations }
+        requires covered { CoversBetween front.now self.now.operations 0 covered }
+        ensures { result
+            ≡ is_pair_known front.now self.now.operations (get_or front.now at ([], 0)) }
     {
-        if front::has_pair(below, front, at) {
-            keeps_good(self);
+        if self.is_pair_below(front, below, at) {
             return true;
         }
-        self.knows_entry(front, front.pair_at(at))
+        self.knows_entry(front, covered, front.pair_at(at))
     }
 
-    // Whether the pair is a logged operation, whose own front is at most this one.
-    fn knows_entry(&self, front: &Front, entry: Entry) -> bool
-        requires { is_ascending front.now ≡ true }
-        ensures { result ≡ list_any (λ o. id_eq o.id (id_of entry)
-            && is_le o.front front.now) self.now.operations }
+    // Whether the pair at an index is that operation, or its front has it, so that it is known.
+    fn is_pair_below(&self, front: &Front, below: Option<&Operation>, at: usize) -> bool
+        requires within { at < length front.now }
+        requires below { IfSome (option_copied below) (λ op.
+            Contains self.now.operations op × (is_le op.front front.now ≡ true)) }
+        ensures { IsTrue result
+            → is_pair_known front.now self.now.operations (get_or front.now at ([], 0)) ≡ true }
     {
-        match self.get(id_of(entry.0, entry.1)) {
-            Some(op) => is_front_at_most(op, front),
+        keeps_good(self);
+        front::has_pair(below, front, at) || front::is_pair(below, front, at)
+    }
+
+    // Whether the pair is a logged operation, whose own front is at most this one. It is for those
+    // before a position before which the front covers all, since what they knew is logged there.
+    fn knows_entry(&self, front: &Front, covered: usize, entry: Entry) -> bool
+        requires ascending { is_ascending front.now ≡ true }
+        requires covered { CoversBetween front.now self.now.operations 0 covered }
+        ensures { result ≡ is_pair_known front.now self.now.operations entry }
+    {
+        match self.position_of(id_of(entry.0, entry.1)) {
+            Some(at) => at < covered || is_front_at_most(&self.as_slice()[at], front),
             None => false,
         }
     }
@@ -225,6 +274,20 @@ fn inserts_at(path: &[Tagged], op: &Operation) -> bool
     ensures { result ≡ inserts op.now path.now }
 {
     matches!(op.mutation(), Mutation::Insert(_)) && op.cursor().path.as_slice() == path
+}
+
+// The operation, if there is one, and its front is at most this one.
+fn if_below<'a>(op: Option<&'a Operation>, front: &Front) -> Option<&'a Operation>
+    requires { is_ascending front.now ≡ true }
+    ensures same { IfSome (option_copied result) (λ o. option_copied op.entry ≡ Some o) }
+    ensures below { IfSome (option_copied result) (λ o. is_le o.front front.now ≡ true) }
+{
+    let op = op?;
+    if is_front_at_most(op, front) {
+        Some(op)
+    } else {
+        None
+    }
 }
 
 // Whether the front of an operation is at most another.

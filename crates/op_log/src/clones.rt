@@ -2,6 +2,7 @@
 ghost use Rattle.std.specs.Prelude.{◌≡◌, ◌++◌, ◌∷◌, [], take, IfOk, IfErr, OnOk};
 ghost use Rattle.doc_rules.specs.Answers.{since};
 
+use crate::index::Lacks;
 use crate::log::OpLog;
 use json_scalar::Refusal;
 use op_core::{Front, Operation};
@@ -32,9 +33,10 @@ pub fn first_uncovered(
     ensures err { IfErr result (λ e. e ≡ Refusal.NoMemory) }
 {
     let mut found = Vec::with_capacity(alloc, limit.min(log.len()))?;
+    let mut lacks = Lacks::new(alloc);
     let mut from = 0;
     for _ in 0..limit {
-        let at = log.next_uncovered(front, from);
+        let at = log.next_uncovered(front, from, &mut lacks)?;
         if at == log.len() {
             return Ok(found);
         }

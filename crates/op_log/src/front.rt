@@ -10,14 +10,14 @@ ghost use Rattle.op_core.specs.Op.{Op};
 ghost use Rattle.std.specs.Vec.{vec_capacity};
 ghost use Rattle.json_scalar.specs.Refusal.{UnlessMemory};
 ghost use Rattle.lamport_id.specs.Order.{name_cmp};
-ghost use Rattle.version_vector.specs.Front.{is_ascending, is_le};
+ghost use Rattle.version_vector.specs.Front.{id_of, is_ascending, is_le};
 ghost use Rattle.crdt_rules.specs.Dependencies.{entry_of};
 ghost use Rattle.op_log.specs.Front.{PutsEntry};
 ghost use Rattle.list_laws.specs.Sorted.{IsIndexOf, IsGap, KeysRise, get_by};
 
 use json_scalar::Refusal;
 use lamport_id::ReplicaName;
-use op_core::{Counters, Front, Operation};
+use op_core::{Counters, Front, Operation, id_of};
 use std::alloc::Global;
 use std::cmp::Ordering;
 
@@ -75,6 +75,21 @@ pub fn counter_in(front: &Front, name: ReplicaName) -> Option<u64>
 {
     let (names, counters) = front.parts();
     counter_among(names, counters, name)
+}
+
+/// The counter of the replica in a front, if it names it. The pair at this index is looked at
+/// before the others.
+pub fn counter_near(front: &Front, index: usize, name: ReplicaName) -> Option<u64>
+    requires { is_ascending front.now ≡ true }
+    ensures { result ≡ entry_of front.now name }
+{
+    if index < front.len() {
+        let (near, counter) = front.pair_at(index);
+        if near == name {
+            return Some(counter);
+        }
+    }
+    counter_in(front, name)
 }
 
 fn counter_among(names: &[ReplicaName], counters: &Counters, name: ReplicaName) -> Option<u64>
@@ -177,6 +192,25 @@ pub fn has_pair(op: Option<&Operation>, front: &Front, at: usize) -> bool
         Some(op) => has_pair_at(op.front(), at, front.pair_at(at)),
         None => false,
     }
+}
+
+/// Whether the pair at this index of a front is the operation's id.
+pub fn is_pair(op: Option<&Operation>, front: &Front, at: usize) -> bool
+    requires { at < length front.now }
+    ensures { IsTrue result
+        → (o : Op) × (option_copied op.entry ≡ Some o)
+        × (o.id ≡ id_of (get_or front.now at ([], 0))) }
+{
+    match op {
+        Some(op) => has_id(op, front.pair_at(at)),
+        None => false,
+    }
+}
+
+fn has_id(op: &Operation, pair: Entry) -> bool
+    ensures { IsTrue result → op.now.id ≡ id_of pair }
+{
+    op.id() == id_of(pair.0, pair.1)
 }
 
 fn has_pair_at(front: &Front, at: usize, pair: Entry) -> bool

@@ -1,12 +1,13 @@
 //! The log.
 ghost use Rattle.std.specs.Prelude.{◌≡◌, ◌+◌, ◌<◌, ◌≤◌, ℕ, List, [], ◌∷◌, ◌++◌, length, get_or};
-ghost use Rattle.std.specs.Prelude.{take, drop, map};
+ghost use Rattle.std.specs.Prelude.{take, drop, map, true, Some, None, MatchOption, slice_get};
 ghost use Rattle.std.specs.Prelude.{filter, not, ◌==◌, Contains, OnOk, IfOk, IfErr, IfSome, Ok};
 ghost use Rattle.std.specs.List.{list_all};
 ghost use Rattle.std.specs.Option.{option_copied};
 ghost use Rattle.json_scalar.specs.Refusal.{UnlessMemory};
 ghost use Rattle.op_core.specs.Limits.{most_replicas};
-ghost use Rattle.version_vector.specs.Front.{id_of};
+ghost use Rattle.version_vector.specs.Front.{id_of, is_ascending};
+ghost use Rattle.op_core.specs.Op.{Op};
 ghost use Rattle.crdt_rules.specs.Dependencies.{is_logged, is_ready, missing};
 ghost use Rattle.crdt_rules.specs.Fits.{last_counter, Fits, replicas};
 ghost use Rattle.crdt_rules.specs.Log.{IsGood};
@@ -14,12 +15,13 @@ ghost use Rattle.crdt_rules.specs.Pull.{front_of};
 ghost use Rattle.doc_rules.specs.Answers.{since};
 ghost use Rattle.doc_rules.specs.Encoded.{operations_text};
 ghost use Rattle.doc_rules.specs.Replica.{find_id};
-ghost use Rattle.op_log.specs.Index.{IsUncovered};
+ghost use Rattle.op_log.specs.Index.{IsUncovered, CoversBetween};
+ghost use Rattle.op_log.specs.Lacks.{HoldsLacks, IsNextOfSince};
 
 use crate::clones::{clone_all, first_uncovered};
 use crate::encode::text_of_uncovered;
 use crate::front::{self, Entry};
-use crate::index::Index;
+use crate::index::{Index, Lacks};
 use doc_api::{CompactText, Ids, Operations};
 use json_scalar::Refusal;
 use lamport_id::{Id, ReplicaName};
@@ -198,15 +200,21 @@ impl OpLog {
 
     // The position of the first operation from a position on that the front does not cover, or the
     // number of operations. The one right before that position, if there is one, isn't covered.
-    pub(crate) fn next_uncovered(&self, front: &Front, from: usize) -> usize
+    // The only error is out of memory.
+    pub(crate) fn next_uncovered(
+        &self,
+        front: &Front,
+        from: usize,
+        lacks: &mut Lacks,
+    ) -> Result<usize, Refusal>
         requires within { from ≤ length self.now.operations }
         requires before { (k : ℕ) → k + 1 ≡ from → IsUncovered front.now self.now.operations k }
-        ensures within { result ≤ length self.now.operations }
-        ensures covered { since front.now (drop result self.now.operations)
-            ≡ since front.now (drop from self.now.operations) }
-        ensures uncovered { IsUncovered front.now self.now.operations result }
+        requires lacks { HoldsLacks front.now self.now.operations lacks.old }
+        ensures lacks { HoldsLacks front.now self.now.operations lacks.new }
+        ensures ok { IfOk result (IsNextOfSince front.now self.now.operations from) }
+        ensures err { IfErr result (λ e. e ≡ Refusal.NoMemory) }
     {
-        self.index.next_uncovered(&self.entries, front, from)
+        self.index.next_uncovered(&self.entries, front, from, lacks)
     }
 
     /// The operations after the first `from`, at most `max` of them.
@@ -260,6 +268,35 @@ impl OpLog {
             return true;
         }
         self.contains(id_at(front, at))
+    }
+
+    // The last operation of a replica, if it has one.
+    pub(crate) fn last_by(&self, name: ReplicaName) -> Option<&Operation>
+        ensures { IfSome (option_copied result) (λ op. Contains self.now.operations op) }
+    {
+        match self.index.last_of(name) {
+            Some(at) => Some(&self.entries[at.number()]),
+            None => None,
+        }
+    }
+
+    // The position of the operation of an id.
+    pub(crate) fn position_of(&self, id: Id) -> Option<usize>
+        ensures good { IsGood self.now.operations }
+        ensures within { IfSome result (λ k. k < length self.now.operations) }
+        ensures found { MatchOption result (find_id self.now.operations id ≡ None)
+            (λ k. (op : Op) × (slice_get self.now.operations k ≡ Some op)
+            × (find_id self.now.operations id ≡ Some op)) }
+    {
+        self.index.position_of(&self.entries, &id)
+    }
+
+    // A position before which the front covers all operations. Its pairs ascend.
+    pub(crate) fn covered_before(&self, front: &Front) -> usize
+        requires { is_ascending front.now ≡ true }
+        ensures { CoversBetween front.now self.now.operations 0 result }
+    {
+        self.index.covered_before(&self.entries, front)
     }
 
     // The ids of a front that are not logged.

@@ -1,6 +1,7 @@
 use Rattle.std.proofs.Common.{◌≡◌, ◌+◌, ℕ, ◌≤◌, take, drop, length}
 use Rattle.doc_rules.specs.Answers.{since}
 use Rattle.op_log.specs.Index.{IsUncovered}
+use Rattle.op_log.specs.Lacks.{HoldsLacks}
 use Rattle.op_log.proofs.clones.first_uncovered.Given as goal
 
 abbrev pub invariant-loop : goal.invariant-loop
@@ -10,3 +11,4 @@ invariant-loop l =
     × (since l.front (drop l.from l.log.operations) ≡ drop l.counter all)
     × (l.from ≤ length l.log.operations)
     × ((k : ℕ) → k + 1 ≡ l.from → IsUncovered l.front l.log.operations k)
+    × HoldsLacks l.front l.log.operations l.lacks

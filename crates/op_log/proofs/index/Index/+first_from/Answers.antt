@@ -1,4 +1,4 @@
-use Rattle.std.proofs.Common.{◌≡◌, ℕ, ◌<◌, ◌≤◌, Some, slice_get, sym, subst}
+use Rattle.std.proofs.Common.{◌≡◌, ◌<◌, ◌≤◌, Some, slice_get, sym, subst}
 use Rattle.op_core.specs.Op.{Op}
 use Rattle.op_log.specs.Index.{HasOpAt}
 use Rattle.op_log.proofs.Growing.{far_stands, before_stands, first_at}

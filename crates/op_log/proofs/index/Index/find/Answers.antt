@@ -1,11 +1,9 @@
-use Rattle.std.proofs.Common.{sym, subst}
-use Rattle.op_log.specs.Index.{IsLast}
-use Rattle.op_log.proofs.Growing.{none_of_replica}
+use Rattle.std.proofs.Common.{Some, sym, ap, ◌∙◌}
+use Rattle.op_core.specs.Op.{Op}
+use Rattle.op_log.proofs.Indexes.{read_at}
 use Rattle.op_log.proofs.index.Index.find.Goals as goal
 
-pub find_from-requires-clause-last : goal.find_from-requires-clause-last
-find_from-requires-clause-last c =
-    subst (IsLast c.args.entries.now c.args.id.now.replica) (sym c.number.ensures) (c.requires.index.lasts.each c.args.id.now.replica c.in-Some.last (sym c.in-Some.ensures))
-
-pub returns-in-None : goal.returns-in-None
-returns-in-None c = sym (none_of_replica c.requires.index.lasts c.args.id.now (sym c.in-None.ensures))
+pub returns-in-Some : goal.returns-in-Some
+returns-in-Some c =
+    let (op, there, found) = c.in-Some.ensures.found in
+    ap (λ (o : Op). Some o) (read_at c.args.entries.now c.in-Some.at op c.index-entries-at.result there c.index-entries-at.is) ∙ sym found
