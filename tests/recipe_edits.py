@@ -165,6 +165,11 @@ COUNT_READ = """    // How many operations are logged.
     // The held operations, and what each waits for.
     fn waiting"""
 
+COUNT_ANSWER = """
+pub returns-in-Count-clause-answer : goal.returns-in-Count-clause-answer
+returns-in-Count-clause-answer c name = rw c.in-Count.is (c.count.ensures name c.args.mine)
+"""
+
 STATE = [
     entry("state", "version", '{"word": "count", "kind": "state", "items": ["doc"], "replies": ["count"], '
           '"says": ["`[\\"count\\",n]`: how many operations are logged"]}'),
@@ -204,6 +209,8 @@ STATE = [
     Edit("state", 17, "crates/replica_core/src/read.rt", ["read_state"], [
         behind("            State::Account => Reply::Account(mine),\n", "            State::Count => self.count(),\n"),
         ("    // The held operations, and what each waits for.\n    fn waiting", COUNT_READ)]),
+    Edit("state", 17, "crates/replica_core/proofs/body/Body/read_state/Answers.antt", ["read_state"], [
+        behind("returns-in-Held-clause-answer c name = rw c.in-Held.is (c.waiting.ensures name c.args.mine)\n", COUNT_ANSWER)]),
 ]
 
 # ---- A change: what the table alone says of it.

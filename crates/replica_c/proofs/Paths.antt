@@ -6,13 +6,13 @@ use Rattle.serde_json.specs.View.{view, items_view}
 use Rattle.serde_json.specs.declared.value.Value.{Value}
 use Rattle.json_scalar.specs.Refusal.{UnlessMemory}
 use Rattle.json_scalar.specs.declared.refusal.Refusal.{Refusal}
-use Rattle.json_scalar.specs.declared.refusal.Refusal.TheVariants.{BadRequest, NoMemory}
+use Rattle.json_scalar.specs.declared.refusal.Refusal.TheVariants.{BadOperation, BadRequest, NoMemory}
 use Rattle.op_core.specs.Reading.{◌>>=◌}
 use Rattle.op_core.specs.declared.cursor.Cursor.{Cursor}
 use Rattle.serde_json.specs.Data.{item}
 use Rattle.doc_api.specs.declared.place.Step.{Step}
 use Rattle.line_proto.specs.Reading.{steps_from}
-use Rattle.replica_c.specs.Places.{place_items, place_start}
+use Rattle.replica_c.specs.Places.{in_a_place, place_items, place_start}
 use Rattle.replica_c.specs.Asking.{ask_by}
 
 pub ask_by-many : (verb : List ℕ) (vs : List Value) → 3 ≤ length vs → ask_by verb (items_view vs) ≡ Err BadRequest
@@ -29,6 +29,15 @@ part_Ok (Some y) r x h is = let due : r ≡ Ok y = h (λ e. cc) in cc
 pub part_Err : {A : Type 0} (o : Option A) (r : Result A Refusal) (e : Refusal) → UnlessMemory r (ok_or o BadRequest) → r ≡ Err e → e ≢ NoMemory → (o ≡ None) × (e ≡ BadRequest)
 part_Err None r e h is other = let due : r ≡ Err BadRequest = h (λ f. other (let same : Err e ≡ Err NoMemory = sym is ∙ f in cc)) in (refl, cc)
 part_Err (Some y) r e h is other = let due : r ≡ Ok y = h (λ f. other (let same : Err e ≡ Err NoMemory = sym is ∙ f in cc)) in (cc, cc)
+
+-- what a cursor is refused for, and then its place
+pub moved_cause : {A : Type 0} (o : Option A) (r : Result A Refusal) (e : Refusal) → UnlessMemory r (ok_or o BadOperation) → r ≡ Err e → UnlessMemory (Err (in_a_place e)) (ok_or o BadRequest)
+moved_cause o r NoMemory h is = λ other. absurd (other refl)
+moved_cause None r e h is = λ other. refl
+moved_cause (Some x) r e h is =
+    let due : r ≡ Ok x = h (λ m. let same : Err e ≡ Err NoMemory = sym is ∙ m in cc) in
+    let clash : Err e ≡ Ok x = sym is ∙ due in
+    cc
 
 -- the first item is the start, and the others are steps
 pub place_items-by : (vs : List Value) (a : Value) → 1 ≤ length vs → a ≡ get_or vs 0 a → (start : Option Cursor) (steps : Option (List Step))

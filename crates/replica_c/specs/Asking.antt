@@ -1,7 +1,6 @@
 -- What a line asks of a replica: the command or the query that has this JSON, or the first cause
 -- against it. The forms are those of a session's requests without the document's name.
-use Rattle.std.specs.Prelude.{ℕ, List, [], ◌∷◌, codes, Option, Some, None, option_map, Result, Ok}
-use Rattle.std.specs.Prelude.{Err, ok_or}
+use Rattle.std.specs.Prelude.{ℕ, List, codes, Option, Some, option_map, Result, Ok, Err, ok_or}
 use Rattle.std.specs.Prelude.{if◌then◌else◌}
 use Rattle.std.specs.Str.{bytes_eq}
 use Rattle.serde_json.specs.Data.{Data, Items, no_items, item}

@@ -5,11 +5,18 @@ use Rattle.std.specs.Prelude.{ℕ, zero, suc, [], Option, Some, None}
 use Rattle.serde_json.specs.Data.{Data, null, boolean, number, string, array, object, Items}
 use Rattle.serde_json.specs.Data.{no_items, item}
 use Rattle.serde_json.specs.Find.{as_u64, as_array}
+use Rattle.json_scalar.specs.declared.refusal.Refusal.{Refusal}
+use Rattle.json_scalar.specs.declared.refusal.Refusal.TheVariants.{BadRequest, NoMemory}
 use Rattle.op_core.specs.Reading.{◌>>=◌, cursor_within}
 use Rattle.op_core.specs.declared.cursor.Cursor.{Cursor}
 use Rattle.op_core.specs.declared.cursor.Key.TheVariants.{Doc}
 use Rattle.doc_api.specs.declared.place.Place.{Place}
 use Rattle.line_proto.specs.Reading.{steps_from}
+
+-- the cause against a place with a cursor that was refused for this one
+abbrev pub in_a_place : Refusal → Refusal
+in_a_place NoMemory = NoMemory
+in_a_place _ = BadRequest
 
 -- the document itself
 abbrev pub whole_document : Cursor

@@ -4,7 +4,7 @@ ghost use Rattle.serde_json.specs.View.{view, items_view};
 ghost use Rattle.json_scalar.specs.Refusal.{UnlessMemory};
 ghost use Rattle.json_scalar.specs.declared.refusal.Refusal.TheVariants.{BadRequest};
 ghost use Rattle.op_core.specs.Reading.{cursor_within};
-ghost use Rattle.replica_c.specs.Places.{whole_document, place_start_number};
+ghost use Rattle.replica_c.specs.Places.{in_a_place, whole_document, place_start_number};
 ghost use Rattle.replica_c.specs.Places.{place_start, place_items, place_from};
 
 use doc_api::Place;
@@ -74,7 +74,16 @@ fn read_written(alloc: Global, value: &Value) -> Result<Cursor, Refusal>
 {
     match read_cursor(alloc, value, None) {
         Ok(cursor) => Ok(cursor),
-        Err(Refusal::NoMemory) => Err(Refusal::NoMemory),
-        Err(_) => Err(Refusal::BadRequest),
+        Err(cause) => Err(in_a_place(cause)),
+    }
+}
+
+// The cause against a place with a cursor that was refused for this one.
+fn in_a_place(cause: Refusal) -> Refusal
+    ensures { result ≡ in_a_place cause }
+{
+    match cause {
+        Refusal::NoMemory => Refusal::NoMemory,
+        _ => Refusal::BadRequest,
     }
 }
