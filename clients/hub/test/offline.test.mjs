@@ -16,7 +16,7 @@ const ONLINE = `["ada", "bob"].every((side) =>
 const COPIED = `caches.open("jcrdt").then((it) => it.keys()).then((all) =>
   all.some(({ url }) => url.endsWith("/jcrdt.wasm")) && navigator.serviceWorker.controller !== null)`;
 const skip = missing() || false;
-const test = (name, work) => node(name, { timeout: 300_000, skip }, work);
+const test = (name, work) => node(name, { timeout: 900_000, skip }, work);
 
 const textOf = async (tab, side) => (await tab.textOf(`#${side} .text`))[0];
 const nameOf = (tab) => tab.evaluate(`document.querySelector("#ada h2").title`);
@@ -47,7 +47,7 @@ test("the network is taken away: typed, reloaded, found; two tabs; then all meet
     const { folder, address } = server;
     const again = await startServer(["page"], { folder, address });
     await startHub(again.address, { web: hub.web });
-    for (const it of [tab, second]) await it.until(ONLINE, 60);
+    for (const it of [tab, second]) await it.until(ONLINE);
     for (const it of [tab, second]) {
       for (const side of ["ada", "bob"]) {
         await until(`${side} has all`, async () => (await textOf(it, side)) === "Number one offline!");
@@ -75,10 +75,10 @@ test("a hub that doesn't answer: the page opens from its copies", async () => {
     await until("bob has it", async () => (await textOf(tab, "bob")) === "one ");
     process.kill(hub.child.pid, "SIGSTOP");
     await tab.type("#ada .text", "offline");
-    await tab.reload(60);
+    await tab.reload();
     await until("it is there again", async () => (await textOf(tab, "ada")) === "one offline");
     process.kill(hub.child.pid, "SIGCONT");
-    await tab.until(ONLINE, 60);
+    await tab.until(ONLINE);
     await until("bob has it", async () => (await textOf(tab, "bob")) === "one offline");
     // Nothing is left of that: the hub's files are asked for again, and a new one is taken.
     const text = await tab.evaluate(`caches.open("jcrdt").then((it) =>

@@ -14,7 +14,7 @@ const CLIENTS = fileURLToPath(new URL("../..", import.meta.url));
 const AMBIENT = fileURLToPath(new URL("../../js/test/ambient.d.ts", import.meta.url));
 const skip = spawnSync("tsc", ["--version"]).status !== 0 && "tsc isn't installed";
 
-test("types of the page", { skip, timeout: 240_000 }, () => {
+test("types of the page", { skip, timeout: 900_000 }, () => {
   const room = mkdtempSync(join(tmpdir(), "jcrdt-types-"));
   const options = {
     allowJs: true, checkJs: true, strict: true, noEmit: true, skipLibCheck: true, types: [],

@@ -149,9 +149,9 @@ suite("the program and the package", {}, () => {
     client.end();
     // npx keeps SIGTERM to itself.
     const npx = launch("npx", ["--offline", "jcrdt-hub", address, "--lines", "127.0.0.1:0"], { cwd: room });
-    await within(60, "it listens", new Promise((says) => npx.stdout.once("data", says)));
+    await within("it listens", new Promise((says) => npx.stdout.once("data", says)));
     npx.kill();
-    await within(20, "the hub has ended", npx.ended);
+    await within("the hub has ended", npx.ended);
     // Its page comes with the modules of the package jcrdt.
     const page = lines[1][1];
     const text = await (await fetch(`${page}web/page.mjs`)).text();

@@ -4,19 +4,19 @@ import { deepEqual, equal, ok } from "node:assert/strict";
 import { existsSync } from "node:fs";
 import { test } from "node:test";
 import { fileURLToPath } from "node:url";
-import { kill, launch, pause, Raw, startHub, startServer, suite, until } from "./support.mjs";
+import { hasServer, kill, launch, pause, Raw, startHub, startServer, suite, until } from "./support.mjs";
 
 const PYTHON = fileURLToPath(new URL("../../python", import.meta.url));
 
-/** A server, a hub before it, and how the server is started again. */
+/** A server whose replies say what is stored, a hub before it, and how the server is started again. */
 async function both(...options) {
-  let server = await startServer(["d", "e"]);
+  let server = await startServer(["d", "e"], { more: ["--durable"] });
   const hub = await startHub(server.address, "--poll", "20", ...options);
   const again = async (more = {}) => {
-    await pause(300); // what was logged is stored
     await kill(server.child);
-    await pause(300);
-    server = await startServer(["d", "e"], { ...server, ...more });
+    await hasServer(hub, false);
+    server = await startServer(["d", "e"], { more: ["--durable"], ...server, ...more });
+    await hasServer(hub, true);
   };
   return { hub, again, stop: () => kill(server.child) };
 }
@@ -142,7 +142,7 @@ suite("pushes", { concurrency: true }, () => {
     const { hub } = await both();
     const ada = await opened(hub);
     for (let at = 0; at < 1030; at++) ada.send(["assign", "d", [0, "k"], at]);
-    await until("all is logged", () => ada.lines.length === 1030, 60);
+    await until("all is logged", () => ada.lines.length === 1030);
     ada.lines.length = 0;
     const counters = async (front, bytes) => {
       const [word, operations] = JSON.parse(await ada.ask(["page", "d", front, bytes]));
@@ -185,7 +185,7 @@ suite("pushes", { concurrency: true }, () => {
     const text = "x".repeat(4000);
     const COUNT = 3000;
     for (let at = 0; at < COUNT; at++) bob.send(["assign", "d", [0, "k"], `${at} ${text}`]);
-    await until("all is changed", () => bob.lines.length >= COUNT, 60);
+    await until("all is changed", () => bob.lines.length >= COUNT);
     bob.lines.length = 0;
     ada.socket.resume();
     await until("the front of all has come", () => ada.lines.includes(`["changed","d",[["srv-1",${COUNT}]]]`));

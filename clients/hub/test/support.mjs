@@ -20,7 +20,8 @@ export const HUB = fileURLToPath(new URL("../hub.mjs", import.meta.url));
 /** A folder of this test's own, which is removed at its end. */
 export const ROOM = mkdtempSync(join(tmpdir(), "jcrdt-hub-test-"));
 
-const START_SECONDS = 120; // for the first lines of a command
+const START_SECONDS = 240; // for the first lines of a command
+const PATIENCE_SECONDS = 240; // for what is to come: a busy machine takes its time
 const started = new Set();
 const endings = [];
 process.on("exit", () => started.forEach(end));
@@ -31,7 +32,7 @@ export const atEnd = (work) => void endings.push(work);
 /** A suite of tests that need the program and node-ws. Whatever they started ends with it: else the
  *  process would go on. */
 export function suite(name, options, define) {
-  describe(name, { skip: missing, timeout: 400_000, ...options }, () => {
+  describe(name, { skip: missing, timeout: 1_500_000, ...options }, () => {
     after(async () => {
       for (const work of endings.splice(0)) await work();
       for (const child of started) end(child);
@@ -102,16 +103,20 @@ export async function kill(child, signal = "SIGKILL") {
 export const pause = (ms) => new Promise((resume) => setTimeout(resume, ms));
 
 /** Waits until something holds, and returns what it is. */
-export async function until(what, holds, seconds = 20) {
-  for (const stop = Date.now() + seconds * 1000; Date.now() < stop; await pause(20)) {
+export async function until(what, holds) {
+  for (const stop = Date.now() + PATIENCE_SECONDS * 1000; Date.now() < stop; await pause(20)) {
     const found = await holds();
     if (found) return found;
   }
-  throw new Error(`not so after ${seconds} s: ${what}`);
+  throw new Error(`not so after ${PATIENCE_SECONDS} s: ${what}`);
 }
 
 /** Fails if something isn't there in time. */
-export const within = (seconds, what, promise) => inTime(seconds, () => what, promise);
+export const within = (what, promise) => inTime(PATIENCE_SECONDS, () => what, promise);
+
+/** Waits until a hub has no server, or has one again. */
+export const hasServer = ({ page }, has) => until(`the hub has ${has ? "its" : "no"} server`, async () =>
+  (await (await fetch(`${page}health`)).json()).connected === has);
 
 /** The package ws, or `undefined`. */
 export function webSockets() {
@@ -144,7 +149,7 @@ export async function hubWithin(options) {
 
 /** A client over TCP, with these documents open. */
 export async function joinLines(address, ...documents) {
-  const client = await connected(address, { seconds: 120, connectSeconds: 60 });
+  const client = await connected(address, { seconds: 240, connectSeconds: 240 });
   atEnd(() => client.end());
   for (const document of documents) await client.open(document);
   return client;
@@ -158,7 +163,7 @@ export async function joinWeb(page, options, path = "lines") {
     }
   };
   const url = `${page.replace("http", "ws")}${path}`;
-  const client = await connectedToHub(url, Browser, { seconds: 120, connectSeconds: 60 });
+  const client = await connectedToHub(url, Browser, { seconds: 240, connectSeconds: 240 });
   atEnd(() => client.end());
   return client;
 }
@@ -188,13 +193,13 @@ export class Raw {
   }
 
   /** Sends a line, and returns the next one that comes. */
-  async ask(line, seconds = 20) {
+  async ask(line) {
     this.send(line);
-    return this.next(seconds);
+    return this.next();
   }
 
-  async next(seconds = 20) {
-    await until("a line comes", () => this.lines.length > 0 || this.isEnded, seconds);
+  async next() {
+    await until("a line comes", () => this.lines.length > 0 || this.isEnded);
     return this.lines.shift();
   }
 

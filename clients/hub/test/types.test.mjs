@@ -11,7 +11,7 @@ import { lacks, ROOM } from "./support.mjs";
 const PACKAGE = fileURLToPath(new URL("../", import.meta.url));
 const DEBIAN_TYPES = "/usr/share/nodejs/@types";
 
-test("types", { skip: lacks("tsc", "dpkg-deb"), timeout: 300_000 }, (context) => {
+test("types", { skip: lacks("tsc", "dpkg-deb"), timeout: 900_000 }, (context) => {
   const types = nodeTypes();
   if (!types) return context.skip("@types/node isn't to be had: Debian's package nodejs has it");
   const options = {
@@ -36,7 +36,7 @@ function nodeTypes() {
   const versions = spawnSync("apt-cache", ["madison", "nodejs"], { encoding: "utf8" }).stdout ?? "";
   const version = /nodejs \| (\S+dfsg\S*) /.exec(versions)?.[1];
   if (!version) return undefined;
-  spawnSync("apt-get", ["download", `nodejs=${version}`], { cwd: room, timeout: 60_000 });
+  spawnSync("apt-get", ["download", `nodejs=${version}`], { cwd: room, timeout: 240_000 });
   const file = readdirSync(room).find((it) => it.endsWith(".deb"));
   if (file) spawnSync("dpkg-deb", ["-x", file, room], { cwd: room });
   return existsSync(types) ? types : undefined;

@@ -6,7 +6,7 @@ import { Replica, connected, freshName, parse, plain, print } from "../index.mjs
 import { engines } from "./engines.mjs";
 import { startServer } from "./support.mjs";
 
-const LIMIT = { timeout: 60_000 };
+const LIMIT = { timeout: 900_000 };
 
 /** @param {import("../session.mjs").Client} client
  *  @returns {(line: string) => Promise<string>} */

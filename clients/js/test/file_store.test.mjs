@@ -11,7 +11,7 @@ import { fileStore } from "../file_store.mjs";
 import { until } from "./chromium.mjs";
 import { room } from "./serving.mjs";
 
-const test = (name, work) => node(name, { timeout: 30_000 }, work);
+const test = (name, work) => node(name, { timeout: 900_000 }, work);
 const part = (name) => fileURLToPath(new URL(`parts/${name}`, import.meta.url));
 const opened = (file, document = "notes") =>
   Provider.open({ document, word: "ada", store: fileStore(file) });
@@ -125,7 +125,7 @@ test("a lock of a program that has ended, and whose parent hasn't asked how", as
   const holder = `require("fs").writeFileSync(process.argv[1] + ".lock", JSON.stringify({
     process: process.pid, host: require("os").hostname(), number: 0,
     since: require("fs").readFileSync("/proc/self/stat", "utf8").split(") ")[1].split(" ")[19] }));`;
-  const words = `"$0" -e '${holder}' "$1" & echo $!; exec sleep 30`; // sleep never asks
+  const words = `"$0" -e '${holder}' "$1" & echo $!; exec sleep 600`; // sleep never asks
   const child = spawn("sh", ["-c", words, process.execPath, file]);
   const id = String((await once(child.stdout, "data"))[0]).trim();
   await until("it has ended", () => /\) Z /.test(readFileSync(`/proc/${id}/stat`, "utf8")));

@@ -16,7 +16,7 @@ import { end, room, start, startServer } from "./serving.mjs";
 const HUB = fileURLToPath(new URL("../../hub/hub.mjs", import.meta.url));
 const endings = new Set();
 
-const test = (name, work) => node(name, { timeout: 240_000 }, async (t) => {
+const test = (name, work) => node(name, { timeout: 900_000 }, async (t) => {
   try {
     await work(t);
   } finally {
@@ -103,7 +103,7 @@ async function all() {
 async function opened(proxy, options = {}) {
   const provider = await Provider.open({ document: "d", at: proxy.address, ...options });
   endings.add(() => provider.close());
-  await provider.synced(60);
+  await provider.synced(300);
   return provider;
 }
 
@@ -180,13 +180,13 @@ test("a long document is opened by pages of the hub, as one event", async () => 
   const { proxy } = await all();
   const ada = await opened(proxy);
   ada.replica.splice([0, "t"], 0, 0, "a text of many characters ".repeat(100));
-  await ada.synced(60);
+  await ada.synced(300);
   proxy.clear();
   const bob = await Provider.open({ document: "d", at: proxy.address });
   endings.add(() => bob.close());
   const events = [];
   bob.listen(({ what, lines }) => what === "changed" && events.push(lines.length));
-  await bob.synced(60);
+  await bob.synced(300);
   equal(texts(bob).join(""), texts(ada).join(""));
   equal(proxy.asked.get("ops"), undefined);
   deepEqual([events, ada.replica.count], [[ada.replica.count], 2600]);
@@ -306,7 +306,7 @@ test("two copies of one store type at a hub: nothing is lost, nothing is there t
     }
     if (key % 3 === 0) await until("the copies are exchanged", () => copies.every((it) => it.unsent.length === 0));
   }
-  for (const it of copies) await it.synced(60);
+  for (const it of copies) await it.synced(300);
   await allHave([...copies, eve], 41);
   for (const it of [...copies, eve]) deepEqual(texts(it).sort(), typed.sort());
   ok(copies.some(({ problems }) => problems.has("remade")));
@@ -322,7 +322,7 @@ test("the server's disk took changes back: they are given again through the hub"
   await startServer(["d"], { address: server.address, folder: room() }); // an empty one in its place
   bob.replica.assign([0, "k"], 1);
   await allHave([ada, bob], 3);
-  for (const it of [ada, bob]) await it.synced(60);
+  for (const it of [ada, bob]) await it.synced(300);
   const eve = await opened(proxy);
   deepEqual([texts(eve), eve.replica.count], [["one"], 3]);
 });

@@ -14,7 +14,7 @@ import { Refused } from "../wire.mjs";
 const WebSocket = webSockets()?.WebSocket;
 const MOST = 100_000; // operations of a document, as docs/FORMATS.md has it
 const providers = new Set();
-const test = (name, work) => node(name, { timeout: 300_000 }, async (t) => {
+const test = (name, work) => node(name, { timeout: 900_000 }, async (t) => {
   try {
     await work(t);
   } finally {
@@ -56,16 +56,16 @@ test("a client that may only read: it is known before the first edit, and `synce
   const hub = await readers(server);
   const writer = await opened(`${hub.lines}?token=writer`);
   writer.replica.assign([0, "title"], "Plan");
-  await writer.synced(60);
+  await writer.synced(300);
   equal(writer.canWrite, true);
   const file = `${room()}/ada`;
   const ada = await opened(hub.lines, { store: fileStore(file) });
-  await ada.synced(60);
+  await ada.synced(300);
   equal(ada.canWrite, false);
   equal(ada.state.word, "online"); // nothing is refused yet
   ada.replica.put([0, "list"], ["first", "second"]);
   ada.replica.assign([0, "title"], "Trip");
-  await rejects(ada.synced(60), (error) => {
+  await rejects(ada.synced(300), (error) => {
     ok(error instanceof Refused);
     equal(error.number, 103);
     match(error.message, /refuses 4 changes of this replica: 103 not-allowed\. .*only read/);
@@ -78,16 +78,16 @@ test("a client that may only read: it is known before the first edit, and `synce
   equal(ada.unsent.length, 4);
 
   const lines = ada.unsent;
-  deepEqual((await ada.discardRefused({ seconds: 60 })).sort(), lines.sort());
+  deepEqual((await ada.discardRefused({ seconds: 300 })).sort(), lines.sort());
   equal(ada.state.word, "online");
   equal(ada.problems.size, 0);
-  await ada.synced(60);
+  await ada.synced(300);
   deepEqual(ada.replica.plain([0]), { title: "Plan" });
   deepEqual(await ada.discardRefused(), []);
   await ada.close();
   ok(!readFileSync(file, "utf8").includes("first"));
   const again = await opened(hub.lines, { store: fileStore(file) });
-  await again.synced(60);
+  await again.synced(300);
   deepEqual(again.replica.plain([0]), { title: "Plan" });
 });
 
@@ -97,12 +97,12 @@ test("a right to write that is given later: what was refused is sent", async () 
   const file = `${room()}/ada`;
   const ada = await opened(hub.lines, { store: fileStore(file) });
   ada.replica.assign([0, "title"], "Trip");
-  await rejects(ada.synced(60), { number: 103 });
+  await rejects(ada.synced(300), { number: 103 });
   await ada.close();
   const words = [];
   const again = await opened(`${hub.lines}?token=writer`, { store: fileStore(file) });
   again.listen(({ what }) => what === "state" && words.push(again.state.word));
-  await again.synced(60);
+  await again.synced(300);
   deepEqual(words, ["online"]);
   equal(again.canWrite, true);
   equal(again.unsent.length, 0);
@@ -111,7 +111,7 @@ test("a right to write that is given later: what was refused is sent", async () 
 test("256 replicas: an early edit is refused, stays, and can be taken back", async () => {
   const server = await startServer(["d"]);
   const early = await opened(server.address);
-  await early.synced(60);
+  await early.synced(300);
   equal(early.canWrite, true);
   early.goOffline();
   const client = await connected(server.address);
@@ -121,7 +121,7 @@ test("256 replicas: an early edit is refused, stays, and can be taken back", asy
   early.replica.assign([0, "title"], "Plan");
   early.replica.assign([0, "date"], "May");
   early.goOnline();
-  await rejects(early.synced(60), { number: 19, message: /refuses 2 changes .*19 too-many-replicas/ });
+  await rejects(early.synced(300), { number: 19, message: /refuses 2 changes .*19 too-many-replicas/ });
   equal(early.state.word, "refused");
   equal(early.state.refused.count, 2);
   equal(early.canWrite, false);
@@ -130,7 +130,7 @@ test("256 replicas: an early edit is refused, stays, and can be taken back", asy
   equal(early.state.word, "online");
   equal(early.canWrite, false); // it has no name in the document
   throws(() => early.replica.assign([0, "title"], "Plan"), { number: 19 });
-  await early.synced(60);
+  await early.synced(300);
   await client.quit();
 });
 
@@ -139,20 +139,20 @@ test("a full document: each own change that the server lacks counts", async () =
   const [ada, bob] = [await opened(server.address), await opened(server.address)];
   for (const it of [ada, bob]) {
     it.replica.add([0, "n"], 1);
-    await it.synced(60);
+    await it.synced(300);
   }
   for (const it of [ada, bob]) it.goOffline();
   for (let count = 0; count < 41; count++) ada.replica.add([0, "ada"], 1);
   for (let count = 0; count < 40; count++) bob.replica.add([0, "bob"], 1);
   const client = await fill(server.address, MOST - 52); // 50 are left
   ada.goOnline();
-  await ada.synced(200);
+  await ada.synced(300);
   bob.goOnline();
-  await rejects(bob.synced(200), { number: 18, message: /refuses 31 changes .*18 log-full/ });
+  await rejects(bob.synced(300), { number: 18, message: /refuses 31 changes .*18 log-full/ });
   equal(bob.state.word, "refused");
   equal(bob.state.refused.count, 31);
   equal(bob.canWrite, false);
-  equal((await bob.discardRefused({ seconds: 100 })).length, 31);
+  equal((await bob.discardRefused({ seconds: 300 })).length, 31);
   equal(bob.state.word, "online");
   deepEqual([bob.replica.sum([0, "ada"]), bob.replica.sum([0, "bob"])], ["41", "9"]);
   await until("both are alike", () => ada.replica.sum([0, "bob"]) === "9");

@@ -5,7 +5,7 @@ import { test } from "node:test";
 import { Conflict, Counter, Refused, Replica, freshName, plain, print } from "../index.mjs";
 import { engines } from "./engines.mjs";
 import { RandomSession } from "./random_sessions.mjs";
-import { answered, cpuOf } from "./support.mjs";
+import { answered, cpuOf, slowness } from "./support.mjs";
 
 const SECONDS = Number(process.env.SECONDS ?? 2); // of random sessions, for each engine
 const AT_ONCE = 8; // documents of one `run`
@@ -237,7 +237,7 @@ for (const [title, engine] of engines) {
     deepEqual(plain(me.show([0, "v"])), { a: [1] });
   });
 
-  test(`${title}: random sessions agree with the program byte for byte`, { timeout: 120_000 }, () => {
+  test(`${title}: random sessions agree with the program byte for byte`, { timeout: 900_000 }, () => {
     const end = Date.now() + SECONDS * 1000;
     let count = 0;
     do {
@@ -252,7 +252,7 @@ for (const [title, engine] of engines) {
 
 // ---- What it costs, in processor time. rules.mjs alone has `index` and `follow`.
 
-const SPEED = { timeout: 120_000 };
+const SPEED = { timeout: 900_000 };
 
 /** A replica with so many characters at [0,"t"].
  *  @param {number} count */
@@ -302,15 +302,6 @@ test("deleting a watched list of 50,000 takes less than a second, and is one spl
   deepEqual(splices, [{ index: 0, remove: 50_000, insert: [] }]);
   ok(deleting < 1000 * slowness(), `deleting: ${deleting} ms`);
 });
-
-/** Processor time for a fixed piece of work, as a multiple of what an idle machine takes: other
- *  programs that share a core slow it down. */
-function slowness() {
-  const from = process.cpuUsage().user;
-  let sum = 0;
-  for (let at = 0; at < 3e7; at++) sum = (sum * 31 + at) | 0;
-  return Math.max(1, (process.cpuUsage().user - from) / 1000 / 60 + (sum === 1 ? 1 : 0));
-}
 
 /** What no operation can hold. @returns {any[]} */
 const badValues = () => [

@@ -12,7 +12,7 @@ import { inTime } from "./chromium.mjs";
 const TOP = new URL("../../../", import.meta.url);
 export const PROGRAM = process.env.JCRDT ?? fileURLToPath(new URL("release/jcrdt", TOP));
 const HUB = fileURLToPath(new URL("clients/hub/hub.mjs", TOP));
-const START_SECONDS = 120; // for the first lines of a command
+const START_SECONDS = 240; // for the first lines of a command
 const started = new Set();
 const rooms = new Set();
 

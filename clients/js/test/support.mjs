@@ -22,7 +22,7 @@ process.on("exit", () => {
   rmSync(folder, { recursive: true, force: true });
 });
 
-const START_SECONDS = 120; // for the line that says where it listens
+const START_SECONDS = 240; // for the line that says where it listens
 let files = 0;
 
 /** Starts a server of these documents, and resolves with its process and address.
@@ -51,7 +51,7 @@ export async function startServer(documents, options = {}) {
  *  @param {string[]} lines */
 export function answered(words, lines) {
   const input = `${lines.join("\n")}\n`;
-  const { stdout, stderr } = spawnSync(program, words, { input, maxBuffer: 2 ** 30, timeout: 60_000 });
+  const { stdout, stderr } = spawnSync(program, words, { input, maxBuffer: 2 ** 30, timeout: 600_000 });
   const replies = String(stdout).split("\n");
   if (replies.pop() !== "") throw new Error(String(stderr));
   return replies;
@@ -64,7 +64,7 @@ export const pause = (ms) => new Promise((resume) => setTimeout(resume, ms));
  *  @param {string} what
  *  @param {() => any} holds
  *  @param {number} [seconds] */
-export async function until(what, holds, seconds = 20) {
+export async function until(what, holds, seconds = 240) {
   for (const end = Date.now() + seconds * 1000; Date.now() < end; await pause(20)) {
     if (await holds()) return;
   }
@@ -88,4 +88,13 @@ export async function cpuOf(work) {
   await work();
   const { user, system } = process.cpuUsage(from);
   return (user + system) / 1000;
+}
+
+/** Processor time for a fixed piece of work, as a multiple of what an idle machine takes: other
+ *  programs that share a core slow it down. */
+export function slowness() {
+  const from = process.cpuUsage().user;
+  let sum = 0;
+  for (let at = 0; at < 3e7; at++) sum = (sum * 31 + at) | 0;
+  return Math.max(1, (process.cpuUsage().user - from) / 1000 / 60 + (sum === 1 ? 1 : 0));
 }

@@ -6,7 +6,7 @@ import { Replica } from "../index.mjs";
 import { Provider, Unstored, memoryStore } from "../provider.mjs";
 import { bindText } from "../text_field.mjs";
 import { engines } from "./engines.mjs";
-import { cpuOf, pause, until } from "./support.mjs";
+import { cpuOf, pause, slowness, until } from "./support.mjs";
 
 const MANY = 40_000;
 const KEYS = 20;
@@ -76,7 +76,7 @@ for (const [title, engine] of engines) {
     await pad.close();
   });
 
-  test(`${title}: a key in a field of ${MANY} characters`, { timeout: 120_000 }, async (context) => {
+  test(`${title}: a key in a field of ${MANY} characters`, { timeout: 900_000 }, async (context) => {
     const { pad, field, end } = await bound("x".repeat(MANY));
     await pause(2000); // until nothing is shown any more
     const took = await cpuOf(async () => {
@@ -86,7 +86,7 @@ for (const [title, engine] of engines) {
       }
     });
     context.diagnostic(`a key: ${(took / KEYS).toFixed(2)} ms`);
-    ok(took < KEYS * 60, `a key: ${took / KEYS} ms`);
+    ok(took < KEYS * 60 * slowness(), `a key: ${took / KEYS} ms`);
     const other = Replica.restore(pad.replica.lines().map((it, at) => (at ? it : '["replica","bob","d"]')));
     const theirs = await cpuOf(async () => {
       for (let at = 0; at < KEYS; at++) {
@@ -96,7 +96,7 @@ for (const [title, engine] of engines) {
       }
     });
     context.diagnostic(`a key of another, and waiting for it: ${(theirs / KEYS).toFixed(2)} ms`);
-    ok(theirs < KEYS * 150, `a key of another: ${theirs / KEYS} ms`);
+    ok(theirs < KEYS * 150 * slowness(), `a key of another: ${theirs / KEYS} ms`);
     equal(pad.replica.text([0, "text"]), field.value);
     end();
     await pad.close();

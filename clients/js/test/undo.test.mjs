@@ -197,7 +197,7 @@ for (const [name, engine] of engines) {
     equal(me.sum([0, "n"]), "0", "it was cleared");
   });
 
-  test(`${name}: undo without room for it changes nothing`, { timeout: 200_000 }, () => {
+  test(`${name}: undo without room for it changes nothing`, { timeout: 900_000 }, () => {
     const me = new Replica("a", "d", { engine });
     me.put([0, "l"], Array.from({ length: 100 }, () => "x"));
     me.delete([0, "l"]);
@@ -304,7 +304,7 @@ for (const [name, engine] of engines) {
     deepEqual(plain(ada.show([0, "card"])), { title: "t", votes: new Counter(2) });
   });
 
-  test(`${name}: undo asks for the room that it needs`, { timeout: 200_000 }, () => {
+  test(`${name}: undo asks for the room that it needs`, { timeout: 900_000 }, () => {
     const me = new Replica("a", "d", { engine });
     const all = Array.from({ length: MOST.log - 1000 }, (_, at) =>
       ["op", [at + 1, "p"], at === 0 ? [] : [["p", at]], [[["m", 0]], "k"], ["delete"]]);

@@ -172,9 +172,13 @@ def comes(server: Server, key: str, last: Any = None) -> None:
         wait_for(is_there)
 
 
-def has(server: Server, replica: str, counter: int) -> bool:
-    """Whether a server has a replica's operations up to this counter."""
-    return any(name == replica and last >= counter for name, last in asked(server.address, ["front", "d"])[0][1])
+def reaches(server: Server, front: Dict[str, int]) -> None:
+    """Waits until a server has this front."""
+    with Session(server.address) as session:
+        def is_there() -> bool:
+            found = dict(session.ask(["front", "d"])[0][1])
+            return all(found.get(replica, 0) >= counter for replica, counter in front.items())
+        wait_for(is_there)
 
 
 def pauses(connections: int) -> float:
@@ -313,7 +317,7 @@ class Forgery:
         self.served = threading.Event()
         self.peer = Peer({"front": json.dumps(["front", sorted(self.made.items())]).encode(), "ops": self._operations})
         early = relay(self.bob.address, self.peer.address)
-        wait_for(lambda: all(has(self.bob, *it) for it in self.made.items()))
+        reaches(self.bob, self.made)
         early.end()
         self.served.clear()
 
@@ -337,7 +341,7 @@ def test_made_up_operations_silence_nobody(serve: Serve, relay: Callable[..., Re
     alice, bob, carol = made_up.alice, made_up.bob, made_up.carol
     kept = made_up.relay(relay)
     # An operation knows what the one before it knows: else bob must refuse it.
-    wait_for(lambda: all(has(alice, name, counter) for name, counter in made_up.made.items() if name != "alice-1"))
+    reaches(alice, {name: counter for name, counter in made_up.made.items() if name != "alice-1"})
     for number in range(6):
         write(alice, f"real{number}", 20)
         comes(carol, f"real{number}")

@@ -3,12 +3,11 @@
 import json
 import re
 import threading
-import time
 from pathlib import Path
 from typing import Any, Callable, Dict, List
 
 import pytest
-from conftest import Server, tool
+from conftest import Server, tool, wait_until
 
 import jcrdt
 from jcrdt import Refused, Session, renew, settled
@@ -238,8 +237,7 @@ def test_the_replicas_are_used_up_by_a_restart(serve: Serve) -> None:
         assert last[1] == "srv-1"
         with pytest.raises(Refused, match="19 too-many-replicas"):
             session.deliver("old", ["op", [1, "one-more"], [], [[["m", 0]], "k"], ["assign", 1]])
-        while not jcrdt.covers(jcrdt.front_on_disk(server.file, "old"), last):
-            time.sleep(0.1)  # the file follows
+        wait_until(lambda: jcrdt.covers(jcrdt.front_on_disk(server.file, "old"), last))
     server.restart()
     with jcrdt.connected(server.address) as session:
         session.open("old")
@@ -252,8 +250,7 @@ def test_the_replicas_are_used_up_by_a_restart(serve: Serve) -> None:
     assert "1 replicas" in put(server, "new")
     with jcrdt.connected(server.address) as session:
         session.open("new")
-        while jcrdt.front_on_disk(server.file, "new") != session.front("new"):
-            time.sleep(0.1)  # the file follows
+        wait_until(lambda: jcrdt.front_on_disk(server.file, "new") == session.front("new"))
     server.restart()
     with jcrdt.connected(server.address) as session:
         session.open("new")

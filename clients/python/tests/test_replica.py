@@ -8,6 +8,7 @@ from typing import Any, Iterator
 
 import pytest
 
+from conftest import SECONDS
 from test_session import forked
 
 import jcrdt
@@ -133,7 +134,7 @@ def test_long_answers_come_whole(ada: Replica) -> None:
 
 def test_notes_work_offline(tmp_path: Path) -> None:
     def notes(*words: str) -> str:
-        done = subprocess.run([sys.executable, TOP / "examples/notes.py", tmp_path / "notes", *words], stdout=subprocess.PIPE, text=True, check=True, timeout=60)
+        done = subprocess.run([sys.executable, TOP / "examples/notes.py", tmp_path / "notes", *words], stdout=subprocess.PIPE, text=True, check=True, timeout=SECONDS)
         return done.stdout
     notes("add", "buy", "milk")
     notes("add", "call Ada")

@@ -244,10 +244,8 @@ def test_a_reply_that_takes_too_long(stopped: Dict[str, Any]) -> None:
     server, session = stopped["server"], stopped["session"]
     freeze(server)
     session.seconds = 0.5
-    begin = time.monotonic()
     with pytest.raises(Lost, match="no reply for 0.5 s"):
         session.add("d", [0, "n"], 1)
-    assert time.monotonic() - begin < 15
     server.process.send_signal(signal.SIGCONT)
     with pytest.raises(Lost):
         session.sum("d", [0, "n"])
@@ -329,10 +327,8 @@ def test_a_line_too_long_has_its_refusal(stopped: Dict[str, Any]) -> None:
 def test_used_up_sessions_are_noticed(serve: Serve) -> None:
     server = serve("d", sessions=1)
     with jcrdt.connected(server.address):
-        begin = time.monotonic()
-        with pytest.raises(Away, match="may be used up"):
+        with pytest.raises(Away, match="no session begins within 1 s: the server's sessions may be used up"):
             jcrdt.connected(server.address, begin=1)
-        assert time.monotonic() - begin < 20
 
 
 @pytest.mark.parametrize("reply, word", [(b"HTTP/1.1 400 Bad Request\r\n\r\n", "no server of jcrdt"), (b"", "ended"),

@@ -16,7 +16,7 @@ from pathlib import Path
 from typing import Callable, Iterator, List
 
 import pytest
-from conftest import PACKAGE, PROGRAM, SECONDS, Server, tool
+from conftest import PACKAGE, PROGRAM, SECONDS, Server, tool, wait_until
 from test_session import answering
 
 import jcrdt
@@ -195,7 +195,8 @@ def test_a_server_is_stopped_before_it_listens(serve: Serve) -> None:
     words = [PROGRAM, "serve", "--addr", server.address, "--sessions", "3", "--file", server.file, "d"]
     with subprocess.Popen(words, stdout=subprocess.PIPE, stderr=subprocess.DEVNULL, text=True) as process:
         until = time.monotonic() + SECONDS
-        while not is_open(server.file) and time.monotonic() < until:
+        while not is_open(server.file):
+            assert time.monotonic() < until
             time.sleep(0.001)
         stop = Stop(server.address, Backlog(server.file))
         try:
@@ -259,9 +260,7 @@ def test_what_is_left_to_write_is_told(serve: Serve) -> None:
     with jcrdt.connected(server.address) as session:
         session.open("d")
         session.assign("d", [0, "k"], 1)
-        until = time.monotonic() + 20
-        while not jcrdt.front_on_disk(server.file, "d") and time.monotonic() < until:
-            time.sleep(0.02)
+        wait_until(lambda: bool(jcrdt.front_on_disk(server.file, "d")))
     lines = b'["open","d"]\n' + b'["assign","d",[0,"k"],"x"]\n' * 60_000 + b'["quit"]\n'
     host, port = server.address.split(":")
     with socket.create_connection((host, int(port))) as connection:
@@ -302,9 +301,9 @@ class Terminal:
     def type(self, text: str) -> None:
         os.write(self.master, text.encode())
 
-    def wait_for(self, text: str, seconds: float = 30) -> None:
+    def wait_for(self, text: str) -> None:
         """Reads until the text has come, and forgets what came before its end."""
-        until = time.monotonic() + seconds
+        until = time.monotonic() + SECONDS
         while text not in self.told:
             assert time.monotonic() < until, self.told
             if select.select([self.master], [], [], 0.2)[0]:
@@ -313,7 +312,7 @@ class Terminal:
         self.told = self.told.split(text, 1)[1]
 
     def end(self) -> int:
-        self.program.wait(20)
+        self.program.wait(SECONDS)
         os.close(self.master)
         return self.program.returncode
 

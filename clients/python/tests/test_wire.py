@@ -100,13 +100,13 @@ def test_shape_as_the_program_sees_it() -> None:
     """Thousands of broken operations get the same cause from the program. Only what has a right shape may be
     applied, held or refused by the log."""
     import subprocess
-    from conftest import PROGRAM
+    from conftest import PROGRAM, SECONDS
     source = random.Random(5)
     rights = [operation for operation, cause in SHAPES if cause is None and len(str(operation)) < 300]
     operations = [mutated(source, source.choice(rights)) for _ in range(4000)]
     lines = [["open", "d"]] + [["deliver", "d", it] for it in operations]
     text = b"\n".join(map(wire.encoded, lines)) + b"\n"
-    told = subprocess.run([PROGRAM, "run", "--name", "reader", "d"], input=text, stdout=subprocess.PIPE, timeout=60).stdout
+    told = subprocess.run([PROGRAM, "run", "--name", "reader", "d"], input=text, stdout=subprocess.PIPE, timeout=SECONDS).stdout
     replies = [json.loads(line) for line in told.splitlines()][1:]
     assert len(replies) == len(operations)
     for operation, reply in zip(operations, replies):

@@ -10,7 +10,7 @@ from pathlib import Path
 from typing import Any, Callable, Iterator, List
 
 import pytest
-from conftest import TOP, Server
+from conftest import SECONDS, TOP, Server, wait_until
 from test_session import answering, freeze
 
 import jcrdt
@@ -99,7 +99,7 @@ def test_a_flush_that_ends(serve: Serve, tmp_path: Path) -> None:
             writes.flush(session, file=other.file, seconds=0.5)
         threading.Timer(0.3, server.kill).start()
         with pytest.raises(Lost):
-            writes.flush(session, file=other.file, seconds=20)
+            writes.flush(session, file=other.file, seconds=SECONDS)
     assert len(writes.answered) == 1
 
 
@@ -118,9 +118,9 @@ def hub(server: Server, *words: str) -> Iterator[str]:
             running.terminate()
 
 
-def eventually(ask: Callable[[], Any], seconds: float = 20) -> Any:
+def eventually(ask: Callable[[], Any]) -> Any:
     """What it gives once the hub has its server again."""
-    until = time.monotonic() + seconds
+    until = time.monotonic() + SECONDS
     while True:
         try:
             return ask()
@@ -139,9 +139,7 @@ def test_a_session_at_the_hub_over_a_restart(serve: Serve) -> None:
         session.let("d", "it", [0, "a"])
         session.ask("watch", "d")
         front_there = {"srv-1": 3}
-        until = time.monotonic() + 20
-        while front_on_disk(server.file, "d") != front_there and time.monotonic() < until:
-            time.sleep(0.02)
+        wait_until(lambda: front_on_disk(server.file, "d") == front_there)
         server.restart()
         for key in "abcabc":
             assert eventually(lambda: session.values("d", [0, key])) == [key * 3]
@@ -190,7 +188,7 @@ def test_writes_over_the_hub(serve: Serve) -> None:
 
 def flushed(writes: Writes, session: jcrdt.Session) -> None:
     """Sends again what a kill has lost, until all is on disk."""
-    until = time.monotonic() + 30
+    until = time.monotonic() + SECONDS
     while True:
         try:
             writes.send_again(session)
@@ -205,7 +203,7 @@ def send_through(writes: Writes, session: jcrdt.Session, number: int) -> None:
     with contextlib.suppress(ConnectionError):
         writes.send(session, "assign", [0, f"k{number}"], number)
         return
-    until = time.monotonic() + 20
+    until = time.monotonic() + SECONDS
     while writes.waiting:
         assert time.monotonic() < until
         with contextlib.suppress(ConnectionError):
@@ -248,7 +246,7 @@ def test_a_follower_sees_each_change_once(serve: Serve) -> None:
         writes.send_again(session)
         writes.send(session, "assign", [0, "k"], "end")
         writes.flush(session, file=server.file)
-        assert ended.wait(30)
+        assert ended.wait(SECONDS)
     assert sorted(seen[:-1]) == list(range(1, number + 1))
 
 
@@ -268,15 +266,12 @@ def test_a_follower_of_a_server(serve: Serve) -> None:
             writes.send(session, "assign", [0, "k"], number)
         thread.start()
         writes.flush(session, file=server.file)
-    until = time.monotonic() + 20
-    while len(seen) < 9 and time.monotonic() < until:
-        time.sleep(0.02)
+    wait_until(lambda: len(seen) >= 9)
     server.restart()
     with jcrdt.connected(server.address) as session:
         session.open("d")
         session.assign("d", [0, "k"], "after")
-        while len(seen) < 10 and time.monotonic() < until:
-            time.sleep(0.02)
+        wait_until(lambda: len(seen) >= 10)
     assert seen == [*range(1, 10), "after"]
 
 
@@ -294,9 +289,7 @@ def test_a_follower_at_the_hub(serve: Serve) -> None:
         with jcrdt.connected(server.address) as session:
             session.open("d")
             writes.send_again(session)
-        until = time.monotonic() + 60
-        while len(seen) < number and time.monotonic() < until:
-            time.sleep(0.05)
+        wait_until(lambda: len(seen) >= number)
         assert sorted(seen) == list(range(1, number + 1))
 
 
@@ -317,7 +310,7 @@ def test_a_hub_without_its_server(serve: Serve) -> None:
             session.open("d")
         server.kill()
         with jcrdt.connected(address) as session:
-            until = time.monotonic() + 20
+            until = time.monotonic() + SECONDS
             with pytest.raises(Away):
                 while time.monotonic() < until:
                     session.open("d")
