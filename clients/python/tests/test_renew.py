@@ -219,6 +219,25 @@ def test_two_renewers_at_once(server: Server) -> None:
     assert alike({**shown, "seen": 0}) == alike({**old, "seen": 0})
 
 
+def test_another_renewal_that_begins_first_is_not_joined(server: Server, monkeypatch: pytest.MonkeyPatch) -> None:
+    """Its first operation comes between the look at the empty document and our first one."""
+    union = renew.Union([server.address], "old")
+    _, mine = renew.renewal_of(union, "old", "keep")
+    _, other = renew.renewal_of(union, "old", "last")
+    asked = renew.parsed(["put", server.address, "--doc", "old", "--into", server.address, "--new-doc", "kept"])
+    with renew.opened(server.address, "kept") as target:
+        look = target.front
+
+        def front(document: str) -> Dict[str, int]:
+            found = look(document)
+            target.deliver(document, other.operations[0])
+            return found
+
+        monkeypatch.setattr(target, "front", front)
+        with pytest.raises(ValueError, match=f"another renewal, {other.name}, fills it"):
+            renew.check_target(target, asked, mine)
+
+
 def test_counts(server: Server) -> None:
     told = tool("renew", "count", server.address, server.address, "--doc", "old")
     assert told.count("4 replicas of 256") == 2 and "a new document: " in told
