@@ -170,8 +170,6 @@ class Listener:
     def __init__(self, log: Log, has: Front, source: Optional[Source] = None) -> None:
         self.log, self.has, self.source = log, has, source or Source()
         self.own: Front = {}
-        # How many pulls in a row found operations whose dependencies it logged only then.
-        self.doubts = 0
         self.news = asyncio.Event()
         log.listeners.add(self.news)
 

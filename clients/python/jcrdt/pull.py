@@ -10,8 +10,6 @@ from .operation_log import OPERATION_BYTES, Early, Listener, Turn
 from .replies import rest_of
 from .wire import Front, Misbehaved, Operation, PAGE, Refused, checked_operation, covers, encoded, front_of
 
-# How many pulls in a row may find that a server has logged something of others meanwhile.
-DOUBTS = 20
 # How many pages of operations are asked for at once, before and after their size is known, and how many
 # bytes these may have together.
 FIRST_PAGES, PAGES, WINDOW_BYTES = 8, 128, 16 << 20
@@ -136,9 +134,8 @@ async def _pull_chains(link: Link, place: Listener, turn: Turn) -> None:
         found = bool(came)
     if not chains and not early.missing():
         return
-    if place.doubts < DOUBTS and await _has_more(link, place, early.missing()):
-        # What is missing was logged since the front was read. The next page has it.
-        place.doubts += 1
+    if await _has_more(link, place, early.missing()):
+        # What is missing was logged since the front was read. The next page has it, or something else that is new: so it ends.
         return
     # What is left follows other operations than those of the log, or nothing.
     astray = {it.replica for it in chains if it.behind} | {replica for _, replica in early.missing()}
@@ -158,4 +155,3 @@ async def pull(link: Link, place: Listener) -> None:
     while await _pull_page(link, place) == PAGE:
         async with Turn(place.log) as turn:
             await _pull_chains(link, place, turn)
-    place.doubts = 0

@@ -3,7 +3,7 @@
 usage: renew count SERVER.. --doc DOC
        renew put SERVER.. --doc DOC --into SERVER --new-doc DOC [--conflicts keep|last|first] [--force]
                  [--map FILE] [--front FRONT]
-       renew since SERVER.. --doc DOC --front FRONT [--map FILE]
+       renew since SERVER.. --doc DOC --front FRONT [--map FILE] [--lines FILE]
 
 SERVER is HOST:PORT. A document takes 100,000 operations, of 256 replicas at most. Nothing is ever taken out of
 it. Name all servers that have the document: what they have together may be more than one of them takes.
@@ -20,7 +20,11 @@ put     Makes what the document shows anew in an empty one: lists in their order
         4 what would be half full, but for --force. --map writes a line [OLD,NEW] for each element of a list, with
         its ids: a replica makes edits that the old document refused again by it.
 since   Lists what was done to the old document behind a front, and prints the front to ask with next. With the
-        --map of put, elements of lists have the ids of the new document.
+        --map of put, elements of lists have the ids of the new document. --lines writes the operations to a file,
+        one a line as `save` does and with their old ids: with the map, `remakeIn` of the JavaScript package
+        makes them again in the new document.
+
+With --progress, and always at a terminal, standard error has a line now and then.
 
 Status 0: all is well. 1: an error. 2: a wrong command line.
 """
@@ -189,7 +193,7 @@ def change_over(asked: argparse.Namespace, front: Front) -> None:
     say(f"1. Start all servers that have {asked.doc} with {asked.new_doc} as well, and let a relay bring it to them: relay .. "
         f"--doc {asked.new_doc}.")
     say(f"2. Let all clients write to {asked.new_doc}. Until the last one does, {asked.doc} is edited still.")
-    say(f"3. See what was done to {asked.doc} meanwhile, and do it again in {asked.new_doc}:")
+    say(f"3. See what was done to {asked.doc} meanwhile, and do it again in {asked.new_doc} (--lines FILE writes the operations):")
     say(f"   {since_line(asked, front)}")
     say(f"4. Ask again with the front that it prints. When it lists nothing, start the servers without {asked.doc}. Its rows "
         "stay in their files.")
@@ -200,8 +204,11 @@ def since_line(asked: argparse.Namespace, front: Front) -> str:
 
 
 def since(asked: argparse.Namespace) -> int:
-    """Lists the operations that the front doesn't cover, and how many they are."""
+    """Lists the operations that the front doesn't cover, and how many they are, and writes them to a file."""
     union, ids = Union(asked.servers, asked.doc, asked.front, progress_of("renew", asked.progress)), ids_of(asked.map) if asked.map else {}
+    if asked.lines:
+        with replaced(asked.lines) as file:
+            file.writelines(encoded(operation) + b"\n" for operation in union.operations)
     for operation in union.operations:
         say(f"{id_text(operation[1]):<16} {readable(in_new_document(operation, ids))}")
     say(f"{len(union.operations)} operations since then" + (". Ask next with:" if union.operations else ""))
@@ -249,6 +256,7 @@ def parsed(words: Sequence[str]) -> argparse.Namespace:
         part.add_argument("--map", metavar="FILE")
     putting.add_argument("--front", type=front_of)
     late.add_argument("--front", required=True, type=front_of)
+    late.add_argument("--lines", metavar="FILE")
     return parser.parse_args(words)
 
 

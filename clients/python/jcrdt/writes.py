@@ -124,8 +124,7 @@ class Writes:
             self._await_file(server, file, last, seconds)
         else:
             self._await_hub(server, last)
-        count = len(self.answered)
-        self.answered.clear()
+        count, self.answered = len(self.answered), deque()
         if refused:
             raise refused[0]
         return count

@@ -136,11 +136,34 @@ def test_late_changes_come_to_an_end(server: Server, tmp_path: Path) -> None:
     assert again == "0 operations since then\n"
 
 
+def test_late_changes_are_written_as_operations(server: Server, tmp_path: Path) -> None:
+    """As the log has them, one a line, in an order in which they can be delivered: a document that was saved at the front takes
+    them. The file is replaced as a whole."""
+    front, lines, saved = front_printed(put(server, "kept")), tmp_path / "lines", str(tmp_path / "saved")
+    tool("save", server.address, "old", saved)
+    words = ("renew", "since", server.address, "--doc", "old", "--lines", str(lines), "--front")
+    with jcrdt.connected(server.address) as alice:
+        alice.open("old")
+        known = alice.front("old")
+        alice.append("old", [0, "list"], {"text": "late\x1b[2J"})
+        alice.add("old", [0, "votes"], 2)
+        alice.delete("old", [0, "list", 1])
+        late = [jcrdt.wire.encoded(it).decode() for it in alice.operations("old", known)]
+        told = tool(*words, front)
+        assert lines.read_text().splitlines() == late and len(late) == 4 and "4 operations since then" in told
+        with jcrdt.started(["old"], "reader") as reader:
+            reader.open("old")
+            for line in [*Path(saved).read_text().splitlines(), *lines.read_text().splitlines()]:
+                assert reader.deliver("old", json.loads(line)) == 1
+            assert reader.show("old", [0]) == alice.show("old", [0])
+    assert tool(*words, front_printed(told)) == "0 operations since then\n" and lines.read_text() == ""
+
+
 def test_one_that_was_interrupted_is_continued(server: Server, monkeypatch: pytest.MonkeyPatch) -> None:
     """The same command continues it, also if the old document was edited meanwhile; another renewal is refused."""
     delivered: List[int] = []
 
-    def cut(session: Session, document: str, operations: List[Operation]) -> None:
+    def cut(session: Session, document: str, operations: List[Operation], *_: Any) -> None:
         delivered.append(len(operations))
         for operation in operations[:20]:
             session.deliver(document, operation)
@@ -193,6 +216,25 @@ def test_two_renewers_at_once(server: Server) -> None:
             alice.open(document)
         shown, old = alice.plain("kept", [0]), alice.plain("old", [0])
     assert alike({**shown, "seen": 0}) == alike({**old, "seen": 0})
+
+
+def test_another_renewal_that_begins_first_is_not_joined(server: Server, monkeypatch: pytest.MonkeyPatch) -> None:
+    """Its first operation comes between the look at the empty document and our first one."""
+    union = renew.Union([server.address], "old")
+    _, mine = renew.renewal_of(union, "old", "keep")
+    _, other = renew.renewal_of(union, "old", "last")
+    asked = renew.parsed(["put", server.address, "--doc", "old", "--into", server.address, "--new-doc", "kept"])
+    with renew.opened(server.address, "kept") as target:
+        look = target.front
+
+        def front(document: str) -> Dict[str, int]:
+            found = look(document)
+            target.deliver(document, other.operations[0])
+            return found
+
+        monkeypatch.setattr(target, "front", front)
+        with pytest.raises(ValueError, match=f"another renewal, {other.name}, fills it"):
+            renew.check_target(target, asked, mine)
 
 
 def test_counts(server: Server) -> None:
