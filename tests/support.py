@@ -23,7 +23,7 @@ TOP = os.path.dirname(os.path.dirname(os.path.abspath(__file__)))
 sys.path.append(f"{TOP}/tools")
 import needs as needs  # noqa: E402
 
-SECONDS = 120
+SECONDS = 600
 NO_MEMORY = ["no", 22, "no-memory"]
 # Standard error of a server whose notes are kept for `said`.
 KEPT = -100
@@ -66,12 +66,12 @@ def shortened(value: object) -> str:
     return text if len(text) < 200 else f"{text[:200]}.. ({len(text)} characters)"
 
 
-def wait_until(what: str, test: Callable[[], object], seconds: float = 20.0) -> float:
+def wait_until(what: str, test: Callable[[], object]) -> float:
     """Waits until the test holds, and returns how many seconds that took."""
     began = time.monotonic()
     while not test():
-        if time.monotonic() - began > seconds:
-            raise Differs(f"{what}: not within {seconds:g} s")
+        if time.monotonic() - began > SECONDS:
+            raise Differs(f"{what}: not within {SECONDS} s")
         time.sleep(0.005)
     return time.monotonic() - began
 

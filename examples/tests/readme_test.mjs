@@ -21,7 +21,9 @@ function person(address) {
   mkdirSync(`${folder}/node_modules`, { recursive: true });
   symlinkSync(`${TOP}clients/js`, `${folder}/node_modules/jcrdt`);
   return (text, at = address) => {
-    writeFileSync(`${folder}/todo.mjs`, lines.join("\n").replace("127.0.0.1:7000", at));
+    // At the server a busy machine has more than the seconds that it says.
+    const seconds = at === address ? "synced(240)" : "synced(5)";
+    writeFileSync(`${folder}/todo.mjs`, lines.join("\n").replace("127.0.0.1:7000", at).replace("synced(5)", seconds));
     const { stdout, stderr, status } = spawnSync(process.execPath, ["todo.mjs", text], { cwd: folder });
     deepEqual([status, stderr.toString()], [0, ""]);
     return stdout.toString();

@@ -24,7 +24,7 @@ def script(name: str, *words: str) -> List[str]:
 
 def printed(command: List[str], text: str = "") -> str:
     """What a command prints, its errors too, and then its status where that isn't 0."""
-    run = subprocess.run(command, input=text.encode(), stdout=subprocess.PIPE, stderr=subprocess.STDOUT, timeout=50)
+    run = subprocess.run(command, input=text.encode(), stdout=subprocess.PIPE, stderr=subprocess.STDOUT, timeout=600)
     return run.stdout.decode() + (f"status {run.returncode}\n" if run.returncode else "")
 
 

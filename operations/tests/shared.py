@@ -21,8 +21,9 @@ _parser.add_argument("name", nargs="*", help="names of tests; all if none is giv
 _words = _parser.parse_args()
 PROGRAM: str = _words.program
 os.environ.update(JCRDT=PROGRAM, PYTHONDONTWRITEBYTECODE="1", PYTHONPATH=PACKAGE)
-SECONDS = 120
+SECONDS = 600
 
+from jcrdt import front_on_disk  # noqa: E402
 from jcrdt.session import Session, connected  # noqa: E402
 from jcrdt.wire import Refused, decoded  # noqa: E402
 
@@ -120,8 +121,8 @@ def free_address() -> str:
         return f"127.0.0.1:{listener.getsockname()[1]}"
 
 
-def wait_for(what: Callable[[], Any], seconds: float = 60) -> None:
-    until = time.monotonic() + seconds
+def wait_for(what: Callable[[], Any]) -> None:
+    until = time.monotonic() + SECONDS
     while not what():
         require("it holds in time", time.monotonic() < until)
         time.sleep(0.05)
@@ -141,5 +142,5 @@ def run_all(tests: List[Callable[[], None]]) -> None:
         print(f"{test.__name__}: {time.monotonic() - start:.1f} s", flush=True)
 
 
-__all__ = ["Failed", "HERE", "OPERATIONS", "PACKAGE", "PROGRAM", "SECONDS", "Server", "Session", "TOP", "Writer", "free_address", "connected",
+__all__ = ["Failed", "HERE", "OPERATIONS", "PACKAGE", "PROGRAM", "SECONDS", "Server", "Session", "TOP", "Writer", "front_on_disk", "free_address", "connected",
            "require", "rows", "run", "run_all", "script", "skip", "wait_for"]

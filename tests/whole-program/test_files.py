@@ -164,7 +164,7 @@ def test_a_disk_that_is_full_while_a_start_folds(tried: Tried, path: str) -> Non
     """The log has more rows than the disk has room for: the start is refused, and no row is lost, nor is the epoch given out again."""
     server = Started(tried, path, 2)
     server.talk([["open", "d"], *([["assign", "d", [0, "k"], "x" * 200]] * 2_000)])
-    wait_until("the log", lambda: os.stat(f"{path}-wal").st_size > 600_000, SECONDS)
+    wait_until("the log", lambda: os.stat(f"{path}-wal").st_size > 600_000)
     server.kill()
     told = on_small_disk(tried, path, 131_072)
     if told is None:

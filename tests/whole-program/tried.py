@@ -19,7 +19,7 @@ import pytest
 from support import Differs, Reply, Server, built, needs, preloaded
 
 HERE = os.path.dirname(os.path.abspath(__file__))
-SECONDS = 60
+SECONDS = 600
 LONG = 4_000
 
 # Command-line words.

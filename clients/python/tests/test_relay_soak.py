@@ -11,7 +11,7 @@ from conftest import PROGRAM, SECONDS, TOP
 
 def soak(*words: str) -> None:
     command = [sys.executable, str(TOP / "tests" / "relay-soak"), PROGRAM, "--seconds", "8", "--servers", "3", "--seed=5", *words]
-    run = subprocess.run(command, stdout=subprocess.PIPE, stderr=subprocess.STDOUT, timeout=SECONDS)
+    run = subprocess.run(command, stdout=subprocess.PIPE, stderr=subprocess.STDOUT, timeout=3 * SECONDS)
     assert run.returncode == 0, run.stdout.decode()
 
 
