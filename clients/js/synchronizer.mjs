@@ -266,7 +266,7 @@ export class Synchronizer {
    *  @param {Logged} event */
   hears({ why, lines }) {
     if (why !== "taken" || !this.#isRunning || this.#isTakingPush) return false;
-    this.#taken.push(...lines);
+    this.#taken = this.#taken.concat(lines);
     const isLater = this.#parts.connection.link?.isSynced;
     if (isLater && this.#parts.clock.now() - this.#toldAt > TELL_MS) this.#tellTaken();
     return true;
