@@ -4,6 +4,7 @@ usage: renew count SERVER.. --doc DOC
        renew put SERVER.. --doc DOC --into SERVER --new-doc DOC [--conflicts keep|last|first] [--force]
                  [--map FILE] [--front FRONT]
        renew since SERVER.. --doc DOC --front FRONT [--map FILE] [--lines FILE]
+       renew again SERVER.. --doc DOC --into SERVER --new-doc DOC --map FILE --lines FILE
 
 SERVER is HOST:PORT. A document takes 100,000 operations, of 256 replicas at most. Nothing is ever taken out of
 it. Name all servers that have the document: what they have together may be more than one of them takes.
@@ -21,8 +22,10 @@ put     Makes what the document shows anew in an empty one: lists in their order
         its ids: a replica makes edits that the old document refused again by it.
 since   Lists what was done to the old document behind a front, and prints the front to ask with next. With the
         --map of put, elements of lists have the ids of the new document. --lines writes the operations to a file,
-        one a line as `save` does and with their old ids: with the map, `remakeIn` of the JavaScript package
-        makes them again in the new document.
+        one a line as `save` does and with their old ids, for `again`, and for `remakeIn` of the JavaScript package.
+again   Makes the operations of such a file again in the new document, and adds the elements that it inserts to the
+        map. The same file makes nothing twice, also where it was interrupted. It lists what can't be made, since
+        its element isn't in the new document.
 
 With --progress, and always at a terminal, standard error has a line now and then.
 
@@ -33,9 +36,10 @@ import argparse
 import contextlib
 import hashlib
 import json
-from typing import Any, Dict, Iterator, List, Optional, Sequence, Tuple
+from typing import Any, Dict, Iterable, Iterator, List, Optional, Sequence, Tuple
 
 from . import wire
+from .again import Again, known_by, name_of
 from .facts import Branches, shown
 from .replaced_file import replaced
 from .history import id_text, readable
@@ -193,7 +197,8 @@ def change_over(asked: argparse.Namespace, front: Front) -> None:
     say(f"1. Start all servers that have {asked.doc} with {asked.new_doc} as well, and let a relay bring it to them: relay .. "
         f"--doc {asked.new_doc}.")
     say(f"2. Let all clients write to {asked.new_doc}. Until the last one does, {asked.doc} is edited still.")
-    say(f"3. See what was done to {asked.doc} meanwhile, and do it again in {asked.new_doc} (--lines FILE writes the operations):")
+    say(f"3. See what was done to {asked.doc} meanwhile, and do it again in {asked.new_doc}: --lines FILE writes the operations, and renew again makes "
+        "them there:")
     say(f"   {since_line(asked, front)}")
     say(f"4. Ask again with the front that it prints. When it lists nothing, start the servers without {asked.doc}. Its rows "
         "stay in their files.")
@@ -215,6 +220,37 @@ def since(asked: argparse.Namespace) -> int:
     if union.operations:
         say(f"   {since_line(asked, union.front)}")
     return 0
+
+
+def again(asked: argparse.Namespace) -> int:
+    """Makes the operations of a file again in the new document."""
+    report = progress_of("renew", asked.progress)
+    with open(asked.lines, "rb") as file:
+        lines = [wire.checked_operation(wire.decoded(line)) for line in file if line.strip()]
+    union, name = Union(asked.servers, asked.doc, None, report), name_of(asked.new_doc, lines)
+    missing = [it for it in lines if not covers(union.front, it[1])]
+    if missing:
+        raise ValueError(f"these servers lack {id_text(missing[0][1])} of {asked.lines}")
+    with opened(asked.into, asked.new_doc) as target:
+        work = Again(name, known_by(target, asked.new_doc, name), ids_of(asked.map), union.operations)
+        for operation in lines:
+            work.take(operation)
+        deliver(target, asked.new_doc, work.operations, report)
+    add_to_map(asked.map, work.elements)
+    for operation in work.lost:
+        say(f"{id_text(operation[1]):<16} {readable(operation)}: its element isn't in {asked.new_doc}")
+    say(f"{asked.new_doc}: {len(work.operations)} of {len(lines)} operations were made again, {len(work.lost)} can't be")
+    return 0
+
+
+def add_to_map(path: str, elements: Iterable[Tuple[Id, Id]]) -> None:
+    """Adds the lines of elements that a map doesn't have yet."""
+    with open(path, "rb") as file:
+        lines = file.read().splitlines()
+    known = set(lines)
+    lines += [it for it in (encoded(list(pair)) for pair in elements) if it not in known]
+    with replaced(path) as written:
+        written.writelines(line + b"\n" for line in lines)
 
 
 def ids_of(path: str) -> Dict[Tuple[int, str], Id]:
@@ -243,13 +279,15 @@ def parsed(words: Sequence[str]) -> argparse.Namespace:
     raw = argparse.RawDescriptionHelpFormatter
     parser = argparse.ArgumentParser(prog="renew", description=__doc__, formatter_class=raw)
     parts = parser.add_subparsers(dest="act", required=True)
-    counting, putting, late = (parts.add_parser(it, description=__doc__, formatter_class=raw) for it in ("count", "put", "since"))
-    for part in (counting, putting, late):
+    counting, putting, late, remaking = (parts.add_parser(it, description=__doc__, formatter_class=raw)
+                                         for it in ("count", "put", "since", "again"))
+    for part in (counting, putting, late, remaking):
         part.add_argument("servers", nargs="+", metavar="SERVER", type=checked_address)
         part.add_argument("--doc", required=True)
         add_argument(part)
-    putting.add_argument("--into", required=True, metavar="SERVER", type=checked_address)
-    putting.add_argument("--new-doc", required=True, metavar="DOC")
+    for part in (putting, remaking):
+        part.add_argument("--into", required=True, metavar="SERVER", type=checked_address)
+        part.add_argument("--new-doc", required=True, metavar="DOC")
     putting.add_argument("--conflicts", choices=("keep", "last", "first"), default="keep")
     putting.add_argument("--force", action="store_true")
     for part in (putting, late):
@@ -257,13 +295,15 @@ def parsed(words: Sequence[str]) -> argparse.Namespace:
     putting.add_argument("--front", type=front_of)
     late.add_argument("--front", required=True, type=front_of)
     late.add_argument("--lines", metavar="FILE")
+    for word in ("--map", "--lines"):
+        remaking.add_argument(word, required=True, metavar="FILE")
     return parser.parse_args(words)
 
 
 def main(words: Sequence[str]) -> int:
     asked = parsed(words)
     try:
-        return {"count": count, "put": put, "since": since}[asked.act](asked)
+        return {"count": count, "put": put, "since": since, "again": again}[asked.act](asked)
     except TooMuch as error:
         say(f"{asked.doc}: {error}")
         return TOO_MUCH
