@@ -124,7 +124,7 @@ def test_tasks_load_too(serve: Serve) -> None:
             assert await session.load_json("d", [0], data) == 1 + 2 + 2
             assert await session.export("d") == data and await session.load_json("d", [0], data) == 0
 
-    asyncio.run(asyncio.wait_for(test(), 120))
+    asyncio.run(asyncio.wait_for(test(), 600))
 
 
 def test_the_tools(serve: Serve, tmp_path: Path) -> None:

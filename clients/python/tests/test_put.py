@@ -71,10 +71,11 @@ def test_each_part_is_counted(session: Session) -> None:
         assert len(list(session.operations("d", front))) == room.count_of(value), value
 
 
-def test_room_beside_other_replicas() -> None:
+def test_room_beside_other_replicas(monkeypatch: pytest.MonkeyPatch) -> None:
     """The counters of a front say less than the log's length at least and more at most: then it is counted."""
-    counts = {"a": [range(1, 50_001)], "b": [range(50_001, LOG - 99)], "c": [range(1, 41)]}
-    logs = {name: [it for part in parts for it in part] for name, parts in counts.items()}
+    limit_of_log = 10_000
+    monkeypatch.setattr(room, "OPERATION_LIMIT", limit_of_log)
+    logs = {"a": list(range(1, 5_001)), "b": list(range(5_001, limit_of_log - 99)), "c": list(range(1, 41))}
     length = sum(map(len, logs.values()))
     asked: List[int] = []
 
@@ -100,33 +101,33 @@ def test_room_beside_other_replicas() -> None:
         except StopIteration:
             return len(asked)
 
-    for needed in (1, LOG - length):
+    for needed in (1, limit_of_log - length):
         assert checked(needed) == 3, "the first operation of each replica"
     with pytest.raises(Refused, match="18 log-full"):
-        checked(LOG - length + 1)
+        checked(limit_of_log - length + 1)
     # Every second counter is another replica's: nothing but counting says how many there are.
-    logs["a"], logs["b"] = list(range(1, 60_001, 2)), list(range(2, 60_001, 2))
-    logs["c"] = list(range(59_001, 60_001))
-    assert checked(LOG - 61_000) < 1_000
+    logs["a"], logs["b"], logs["c"] = list(range(1, 6_001, 2)), list(range(2, 6_001, 2)), list(range(5_901, 6_001))
+    assert checked(limit_of_log - 6_100) < 110
     with pytest.raises(Refused, match="18 log-full"):
-        checked(LOG - 61_000 + 1)
+        checked(limit_of_log - 6_100 + 1)
 
 
-def test_room_is_asked_for_by_tasks_too(serve: Serve) -> None:
+def test_room_is_asked_for_by_tasks_too(serve: Serve, monkeypatch: pytest.MonkeyPatch) -> None:
     server = serve("d")
+    monkeypatch.setattr(room, "OPERATION_LIMIT", 100)
 
     async def test() -> None:
         async with aio.connected(server.address) as session:
             await session.open("d")
             await session.put("d", [0], {"a": 1, "b": 2})
-            await session.ask_all([["assign", "d", [0, "churn"], it] for it in range(LOG - 4)])
+            await session.ask_all([["assign", "d", [0, "churn"], it] for it in range(96)])
             with pytest.raises(Refused, match="18 log-full"):
                 await session.put("d", [0], {"c": 1})
             assert await session.keys("d", [0]) == ["a", "b", "churn"]
-            await session.put("d", [0], {"a": 1, "b": 3, "churn": LOG - 5}, only="changed")
+            await session.put("d", [0], {"a": 1, "b": 3, "churn": 95}, only="changed")
             assert await session.values("d", [0, "b"]) == [3]
 
-    asyncio.run(asyncio.wait_for(test(), 120))
+    asyncio.run(asyncio.wait_for(test(), 600))
 
 
 # What differs.
@@ -158,17 +159,19 @@ def test_elements_stay_who_they_are(session: Session) -> None:
     assert len(list(session.operations("d", front))) == 3
 
 
-def test_an_import_each_night_costs_what_changed(session: Session) -> None:
-    """50,000 values of which one changes: each night costs one operation, where a second whole one has no room."""
-    table = {f"part {part}": {f"key {number}": number for number in range(1000)} for part in range(50)}
+def test_an_import_each_night_costs_what_changed(session: Session, monkeypatch: pytest.MonkeyPatch) -> None:
+    """More than half a document of values of which one changes: each night costs one operation, where a second whole one has no
+    room."""
+    monkeypatch.setattr(room, "OPERATION_LIMIT", 1000)
+    table = {f"part {part}": {f"key {number}": number for number in range(100)} for part in range(6)}
     session.put("d", [0], table)
     with pytest.raises(Refused, match="18 log-full"):
         session.put("d", [0], table)
     for night in range(3):
-        table["part 7"][f"key {night}"] = -1
+        table["part 5"][f"key {night}"] = -1
         session.put("d", [0], table, only="changed")
     assert session.plain("d", [0]) == table
-    assert sum(session.front("d").values()) == 50 * 1001 + 1 + 3
+    assert sum(session.front("d").values()) == 6 * 101 + 1 + 3
 
 
 def test_a_value_that_takes_fewer_operations_anew(session: Session) -> None:

@@ -16,7 +16,7 @@ T = TypeVar("T")
 
 def run(work: Awaitable[T]) -> T:
     async def limited() -> T:
-        return await asyncio.wait_for(work, 60)
+        return await asyncio.wait_for(work, 600)
 
     return asyncio.run(limited())
 
