@@ -108,7 +108,7 @@ suite("rights", { concurrency: false }, () => {
     const heard = new Promise((resolve) => all.hear("e", (value, guest) => resolve([value, guest.replace(/\d+$/, "N")])));
     await all.version();
     await eve.say("e", "here");
-    deepEqual(await within(5, "it is heard", heard), ["here", "eve__-N"]);
+    deepEqual(await within(120, "it is heard", heard), ["here", "eve__-N"]);
     [tcp, all, eve].forEach((client) => client.end());
   });
 });

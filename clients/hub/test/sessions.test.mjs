@@ -80,7 +80,7 @@ suite("sessions of the server", { concurrency: true, ...LIMIT }, () => {
     const seen = new Promise((resolve) => bob.watch("d", (front) => front.size > 0 && resolve()));
     await ada.let("d", "it", [0, "k"]);
     await ada.assign("d", ["it"], "word");
-    await within(5, "bob sees it", seen);
+    await within(120, "bob sees it", seen);
     deepEqual(await bob.values("d", [0, "k"]), ["word"]);
     [ada, bob].forEach((client) => client.end());
   });

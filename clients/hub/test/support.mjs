@@ -79,10 +79,10 @@ export async function start(command, words, lineCount, options) {
 let files = 0;
 /** Starts a server, and resolves with its process, address and file. */
 export async function startServer(
-  documents = ["d"], { address = "127.0.0.1:0", file = `${++files}.db`, sessions = 200, more = [] } = {},
+  documents = ["d"], { address = "127.0.0.1:0", file = `${++files}.db`, sessions = 200, more = [], env = {} } = {},
 ) {
   const words = ["serve", "--addr", address, "--sessions", `${sessions}`, "--file", file, ...more, ...documents];
-  const { child, lines } = await start(PROGRAM, words, 1);
+  const { child, lines } = await start(PROGRAM, words, 1, { env: { ...process.env, ...env } });
   return { child, address: lines[0][1], file: resolve(ROOM, file) };
 }
 
@@ -102,7 +102,7 @@ export async function kill(child, signal = "SIGKILL") {
 export const pause = (ms) => new Promise((resume) => setTimeout(resume, ms));
 
 /** Waits until something holds, and returns what it is. */
-export async function until(what, holds, seconds = 20) {
+export async function until(what, holds, seconds = 120) {
   for (const stop = Date.now() + seconds * 1000; Date.now() < stop; await pause(20)) {
     const found = await holds();
     if (found) return found;
@@ -188,12 +188,12 @@ export class Raw {
   }
 
   /** Sends a line, and returns the next one that comes. */
-  async ask(line, seconds = 20) {
+  async ask(line, seconds = 120) {
     this.send(line);
     return this.next(seconds);
   }
 
-  async next(seconds = 20) {
+  async next(seconds = 120) {
     await until("a line comes", () => this.lines.length > 0 || this.isEnded, seconds);
     return this.lines.shift();
   }

@@ -64,7 +64,7 @@ export const pause = (ms) => new Promise((resume) => setTimeout(resume, ms));
  *  @param {string} what
  *  @param {() => any} holds
  *  @param {number} [seconds] */
-export async function until(what, holds, seconds = 20) {
+export async function until(what, holds, seconds = 120) {
   for (const end = Date.now() + seconds * 1000; Date.now() < end; await pause(20)) {
     if (await holds()) return;
   }
