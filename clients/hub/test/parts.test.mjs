@@ -208,8 +208,9 @@ test("a name whose session has ended is bound anew at another one", LIMIT, async
 
 /** A server that answers each line, and then writes what a test wants. */
 async function fakeServer(context, more = () => "") {
-  const came = [];
+  const [came, sockets] = [[], []];
   const server = net.createServer((socket) => {
+    sockets.push(socket);
     socket.on("error", () => {}).setEncoding("utf8");
     let rest = "";
     socket.on("data", (text) => {
@@ -222,7 +223,10 @@ async function fakeServer(context, more = () => "") {
     });
   });
   await new Promise((open) => server.listen(0, "127.0.0.1", open));
-  context.after(() => server.close());
+  context.after(() => {
+    server.close();
+    for (const socket of sockets) socket.destroy();
+  });
   const linkOf = (options = {}) => new Link({ server: `127.0.0.1:${server.address().port}`,
     replyBytes: 2 ** 20, linesPerSession: 100, clock: () => 0, wornOut() {}, ...options });
   return { came, linkOf };
