@@ -132,6 +132,7 @@ def test_a_task_that_is_cancelled(serve: Serve) -> None:
             await session.assign("d", [0, "b"], "right")
             freeze(server)
             waiting = [asyncio.ensure_future(session.add("d", [0, "n"], 1)) for _ in range(3)]
+            await asyncio.sleep(0)  # each has asked: since Python 3.12 wait_for makes no task that would come behind them
             with pytest.raises(asyncio.TimeoutError):
                 await asyncio.wait_for(session.add("d", [0, "n"], 10), 0.2)
             waiting[1].cancel()
