@@ -1,11 +1,16 @@
 """What the checks and the runners of mutations read of edits: one parser of their files.
 
 An edit is a file of lines `WORD: TEXT`: `breaks:` names the function and the clauses that it breaks, `crate:` and `tests:` the
-crates that it changes and whose tests refuse it, where its folder doesn't, and each `file:`, `old:`, `new:` is a change."""
+crates that it changes and whose tests refuse it, where its folder doesn't, and each `file:`, `old:`, `new:` is a change. An edit
+outside the crates names files from the top, and by a line `test: FILE: NAME` each test that refuses it."""
 
 import glob
 import os
 from typing import Dict, List, NamedTuple, Optional, Tuple
+
+
+# Folders of tests/mutations whose edits are of no crate: they are tried by tests/mutations/run-clients.
+OUTSIDE = ("hub", "js", "python", "operations")
 
 
 class Change(NamedTuple):
@@ -20,10 +25,16 @@ class Edit(NamedTuple):
     tests: str
     breaks: Optional[str]
     changes: List[Change]
+    refusers: List[str]
 
     @property
     def folder(self) -> str:
-        return f"crates/{self.crate}"
+        return "." if self.is_outside else f"crates/{self.crate}"
+
+    @property
+    def is_outside(self) -> bool:
+        """Whether it is of no crate."""
+        return self.path.split("/")[-3:-1] in [["mutations", it] for it in OUTSIDE]
 
     @property
     def is_of_gate(self) -> bool:
@@ -33,6 +44,7 @@ class Edit(NamedTuple):
 def read_edit(path: str, crate: str = "replica_core", tests: str = "replica_tests") -> Edit:
     """An edit; of these crates where it names none."""
     changes: List[Change] = []
+    refusers: List[str] = []
     words: Dict[str, str] = {"crate": crate, "tests": tests}
     with open(path, encoding="utf-8") as it:
         lines = it.read().split("\n")
@@ -41,9 +53,11 @@ def read_edit(path: str, crate: str = "replica_core", tests: str = "replica_test
         text = text[1:] if text.startswith(" ") else text
         if colon and word in ("crate", "tests", "breaks", "file", "old"):
             words[word] = text
+        elif colon and word == "test":
+            refusers.append(text)
         elif colon and word == "new":
             changes.append(Change(words.get("file", ""), words.get("old", ""), text))
-    return Edit(path, words["crate"], words["tests"], words.get("breaks"), changes)
+    return Edit(path, words["crate"], words["tests"], words.get("breaks"), changes, refusers)
 
 
 def read_edits(top: str) -> List[Edit]:

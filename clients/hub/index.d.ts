@@ -54,6 +54,8 @@ export interface HubOptions {
   linesPerSession?: number;
   /** Gets notes in place of standard error. */
   note?: (text: string) => void;
+  /** The time that its pauses and limits go by: for tests. */
+  clock?: import("jcrdt/clock").Clock;
 }
 
 export interface Health {

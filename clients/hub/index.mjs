@@ -2,7 +2,7 @@
 
 import { Figures } from "./lib/figures.mjs";
 import { StoredFronts } from "./lib/file.mjs";
-import { addressParts } from "./lib/client_package.mjs";
+import { CLOCK, addressParts } from "./lib/client_package.mjs";
 import { openLines } from "./lib/lines.mjs";
 import { notes } from "./lib/notes.mjs";
 import { numbersOf } from "./lib/options.mjs";
@@ -26,14 +26,15 @@ const QUIT_MS = 200; // so that the server reads `quit`
  *  @returns {import("./lib/state.mjs").State} */
 function stateOf(options) {
   const { sessions, poll, patience, idle, replyLimit, linesPerSession } = numbersOf(options);
-  const { server, durable = false, file, admit, note = notes() } = options;
+  const { server, durable = false, file, admit, note = notes(), clock = CLOCK } = options;
   const replyBytes = replyLimit * MEGABYTE;
-  const pool = new Pool({ server, sessions, replyBytes, linesPerSession, note });
+  const pool = new Pool({ server, sessions, replyBytes, linesPerSession, note, clock });
+  const stored = file === undefined ? undefined : new StoredFronts(file, note, clock);
   return {
     pool,
-    watches: new Watches(pool, poll),
+    watches: new Watches(pool, poll, clock),
     presence: new Presence(),
-    storage: new Storage(durable, file === undefined ? undefined : new StoredFronts(file, note)),
+    storage: new Storage(durable, clock, stored),
     figures: new Figures(),
     unread: new Unread(UNREAD_BYTES, note),
     documents: new Set(),
@@ -41,6 +42,7 @@ function stateOf(options) {
     guestCount: 0,
     patience: patience * SECOND,
     idle: idle * SECOND,
+    clock,
     ...(admit && { admit }),
     note,
   };
@@ -68,16 +70,16 @@ async function opened(state, { lines, web, origins = [] }) {
   const opening = web === undefined ? undefined : openWeb(state, web, origins);
   opening?.catch(() => overTcp?.server.close());
   const overHttp = await opening;
-  const timer = setInterval(() => dropIdle(state), SECOND);
+  const stopDropping = state.clock.every(SECOND, () => dropIdle(state));
   const stop = async () => {
     end(state);
-    clearInterval(timer);
+    stopDropping();
     overTcp?.server.close();
     overHttp?.server.close();
     overHttp?.end();
     for (const guest of [...state.guests.lines, ...state.guests.web]) guest.drop();
     overHttp?.server.closeAllConnections();
-    await new Promise((resume) => setTimeout(resume, QUIT_MS));
+    await new Promise((resume) => void CLOCK.after(QUIT_MS, () => resume(undefined), true));
   };
   return {
     ...(overTcp && { lines: overTcp.at }),

@@ -5,8 +5,8 @@ import { Refused } from "./errors.mjs";
 import { Link } from "./link.mjs";
 import { wordsOf } from "./notices.mjs";
 import { connected, connectedToHub } from "./session.mjs";
-import { endWithin } from "./timers.mjs";
 
+/** @typedef {import("./clock.mjs").Span} Span */
 /** @typedef {import("./session.mjs").Client} Client */
 
 const CONNECT_SECONDS = 8;
@@ -15,7 +15,8 @@ const RETRY_MS = { first: 250, most: 15_000, awaited: 1000 }; // `awaited` while
 /** @typedef {object} Way
  *  @property {string} at HOST:PORT, ws:// or wss://
  *  @property {string} document
- *  @property {any} [WebSocket] */
+ *  @property {any} [WebSocket]
+ *  @property {() => number} random From 0 to 1: how long it waits between two tries. */
 
 /** @typedef {object} User Who uses the connection.
  *  @property {(link: Link) => Promise<void>} begin Begins to work over a new one.
@@ -31,7 +32,7 @@ export class Connection {
   isFirst = true;
   /** @type {Link | undefined} */
   link;
-  /** @type {AbortController | undefined} of the time from `goOnline` to `goOffline` */
+  /** @type {{ span: Span, end: () => void } | undefined} the time from `goOnline` to `goOffline` */
   #turn;
   #wake = () => {};
   #way;
@@ -40,7 +41,7 @@ export class Connection {
 
   /** @param {Way} way
    *  @param {User} user
-   *  @param {AbortSignal} life */
+   *  @param {Span} life */
   constructor(way, user, life) {
     this.#way = way;
     this.#user = user;
@@ -55,15 +56,15 @@ export class Connection {
   /** Connects from now on. Where it does so already, it tries at once. */
   goOnline() {
     if (this.#turn) return this.wake();
-    this.#turn = endWithin(this.#life);
+    this.#turn = this.#life.inner();
     [this.isFirst, this.why] = [true, ""];
     this.#user.changed();
-    this.#run(this.#turn.signal);
+    this.#run(this.#turn.span);
   }
 
   /** Ends the connection, and makes none. */
   goOffline() {
-    this.#turn?.abort();
+    this.#turn?.end();
     [this.#turn, this.link, this.why] = [undefined, undefined, ""];
     this.#user.changed();
   }
@@ -73,24 +74,26 @@ export class Connection {
     this.#wake();
   }
 
-  /** @param {AbortSignal} signal of this turn */
-  async #run(signal) {
+  /** @param {Span} turn */
+  async #run(turn) {
+    const { signal } = turn;
     for (let failures = 0; !signal.aborted; ) {
-      const wasSynced = await this.#connect(signal).catch((error) => this.#failed(signal, error));
+      const wasSynced = await this.#connect(turn).catch((error) => this.#failed(signal, error));
       if (signal.aborted) return;
       failures = wasSynced ? 0 : failures + 1;
       this.isFirst = false;
       this.why ||= "the connection has ended";
       this.#user.changed();
-      await this.#rest(failures, signal);
+      await turn.rest(this.#restOf(failures), (wake) => (this.#wake = wake));
     }
   }
 
   /** Works over a connection until it ends. Resolves whether everything was exchanged once.
-   *  @param {AbortSignal} signal */
-  async #connect(signal) {
+   *  @param {Span} turn */
+  async #connect(turn) {
+    const { signal } = turn;
     /** @type {Link} */
-    const link = new Link(await this.#opened(signal), signal, {
+    const link = new Link(await this.#opened(signal), turn, {
       silent: () => this.#explain(link, "the server doesn't reply"),
       alive: () => this.link === link && this.why !== "" && this.#user.resume(),
       failed: (error) => this.link === link && this.#explain(link, this.#wordsOf(error)),
@@ -124,21 +127,12 @@ export class Connection {
     return false;
   }
 
-  /** @param {number} failures
-   *  @param {AbortSignal} signal */
-  #rest(failures, signal) {
+  /** So many milliseconds it waits behind so many failures. Not all clients come back at once.
+   *  @param {number} failures */
+  #restOf(failures) {
     const longest = this.#user.isAwaited() ? RETRY_MS.awaited : RETRY_MS.most;
     const most = Math.min(longest, RETRY_MS.first * 2 ** failures);
-    const ms = most * (0.5 + Math.random() / 2);
-    return new Promise((/** @type {(_?: unknown) => void} */ resume) => {
-      const timer = setTimeout(() => this.#wake(), ms); // it keeps a program alive
-      this.#wake = () => {
-        clearTimeout(timer);
-        signal.removeEventListener("abort", this.#wake);
-        resume();
-      };
-      signal.addEventListener("abort", this.#wake, { once: true });
-    });
+    return most * (0.5 + this.#way.random() / 2);
   }
 
   /** @param {Link} link

@@ -27,6 +27,7 @@ import { endOf, isPrefix, textsOf } from "./places.mjs";
  *  @property {() => Splice[]} take What has changed since it was last called.
  *  @property {(op: Operation) => void} [note] Is called with each operation at, under or above the
  *    watch's place, once the engine has it, before `take`.
+ *  @property {() => void} [renew] Anything may have changed before `take`.
  *  @property {() => void} end
  *  @property {number} [length] Of the list, if the source knows it. */
 
@@ -37,7 +38,7 @@ import { endOf, isPrefix, textsOf } from "./places.mjs";
  *  @property {number} length Of the list, as the splices made it.
  *  @property {Changed} changed */
 
-/** @typedef {{line: string, op: Operation, texts: string[]}} Logged */
+/** @typedef {{line: string, op: Operation}} Logged */
 
 export class Events {
   /** @type {Set<Heard>} */
@@ -102,13 +103,18 @@ export class Events {
     }
   }
 
+  /** Is called in place of `note` where all that the engine has is new. */
+  renew() {
+    for (const { source } of this.#watches) source.renew?.();
+  }
+
   /** @param {string} line
    *  @param {Operation} op
    *  @param {Why} why */
   log(line, op, why) {
     if (why !== this.#why) this.#close(false);
     this.#why = why;
-    this.#logged.push({ line, op, texts: this.#watches.size > 0 ? textsOf(endOf(op)) : [] });
+    this.#logged.push({ line, op });
   }
 
   /** Makes an event of what was logged. */
@@ -126,7 +132,7 @@ export class Events {
    *  @param {Why} why
    *  @param {Logged[]} logged */
   #look(watch, why, logged) {
-    if (!logged.some(({ op, texts }) => concerns(watch, op, texts))) return;
+    if (!logged.some(({ op }) => concerns(watch, op, textsOf(endOf(op))))) return;
     this.#queueSplices(watch, watch.source.take(), why);
   }
 
@@ -203,7 +209,7 @@ function eventOf(why, logged) {
   return {
     why,
     lines: logged.map(({ line }) => line),
-    ids: logged.map(({ op }) => op[1]),
+    get ids() { return logged.map(({ op }) => op[1]); },
     get changes() { return (changes ??= logged.map(({ op }) => changeOf(op))); },
   };
 }

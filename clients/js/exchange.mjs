@@ -54,6 +54,7 @@ import { NAME_USED_TWICE } from "./protocol.mjs";
 
 const MOST_REFUSED = 1000; // operations of a report
 const PAGE_BYTES = 2 ** 18; // of a hub's page, about
+const AT_ONCE = 1024; // operations that are taken together; an empty replica takes all so
 const MOST_PAGES = 16; // of the server, that one of a hub has
 
 export class Exchange {
@@ -237,7 +238,9 @@ export class Exchange {
    *  @param {Report} report */
   async #take(ask, answer, theirs, report) {
     const isFollowed = this.#followedBy(answer) !== undefined;
-    for await (const page of pagesOf(ask, this.#core.front(), isFollowed)) {
+    const front = this.#core.front();
+    const pages = pagesOf(ask, front, isFollowed);
+    for await (const page of joined(pages, front.size > 0 ? AT_ONCE : Infinity)) {
       for (const op of page) if (isId(op?.[1])) this.#noteTheirs(answer, theirs, op[1]);
       const { taken, refused } = this.#core.take(page);
       report.taken += taken;
@@ -539,6 +542,29 @@ async function* pagesOf(ask, front, isHub) {
     if (isMore) asked = next();
     yield page;
   }
+}
+
+/** Pages together, of so many operations at least. Where a page can't be had, those before come
+ *  first, and then it is thrown.
+ *  @param {AsyncIterable<any[]>} pages
+ *  @param {number} least */
+async function* joined(pages, least) {
+  /** @type {any[]} */
+  let found = [];
+  /** @type {unknown[]} */
+  const errors = [];
+  try {
+    for await (const page of pages) {
+      for (const op of page) found.push(op);
+      if (found.length < least) continue;
+      yield found;
+      found = [];
+    }
+  } catch (error) {
+    errors.push(error);
+  }
+  if (found.length > 0) yield found;
+  for (const error of errors) throw error;
 }
 
 /** Adds the ids of a page to what was seen. Returns whether one of them is new.

@@ -9,7 +9,7 @@
    in one line and gives the engine of rules.mjs, which answers alike. */
 
 import { Refused } from "./errors.mjs";
-import { parse, print } from "./json.mjs";
+import { isSimple, parse, print } from "./json.mjs";
 import { open as openByHand } from "./rules.mjs";
 
 /** @typedef {import("./rules.mjs").Answer} Answer */
@@ -182,16 +182,7 @@ class Heap {
 /** The line of a request. What JSON doesn't have is written as NO_VALUE.
  *  @param {any[]} request */
 const written = (request) =>
-  isJson(request) ? JSON.stringify(request) : print(writable(request));
-
-/** Whether JSON.stringify writes a value, that some operation may have, as `print` does.
- *  @param {any} value
- *  @returns {boolean} */
-function isJson(value) {
-  if (Array.isArray(value)) return value.every(isJson);
-  return typeof value === "string" || Number.isFinite(value) || typeof value === "boolean" ||
-    value === null;
-}
+  isSimple(request) ? JSON.stringify(request) : print(writable(request));
 
 /** What stands for a value that no operation can have, as NaN: what is there then is refused for the
  *  same cause. */
@@ -251,7 +242,7 @@ class Proved {
     const at = fault + BigInt(FAULT);
     try {
       const { written = 0 } = encoder.encodeInto(name, bytesAt(exports, at, 32));
-      const length = this.#heap.put(lines.map((line) => `${line}\n`).join(""));
+      const length = this.#heap.put(lines.length > 0 ? `${lines.join("\n")}\n` : "");
       const number = exports.jcrdt_open(this.#handle, at, BigInt(written), this.#heap.in,
         BigInt(length), fault);
       if (number !== 0n) throw this.#refusal(fault);

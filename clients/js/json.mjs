@@ -24,13 +24,26 @@ export function parse(text) {
  *  isn't written as null.
  *  @param {any} value
  *  @returns {string} */
-export function print(value) {
+export const print = (value) => (isSimple(value) ? JSON.stringify(value) : printed(value));
+
+/** Whether JSON.stringify writes a value as `print` does: one without objects and BigInt.
+ *  @param {any} value
+ *  @returns {boolean} */
+export function isSimple(value) {
+  if (Array.isArray(value)) return value.every(isSimple);
+  return typeof value === "string" || Number.isFinite(value) || typeof value === "boolean" ||
+    value === null;
+}
+
+/** @param {any} value
+ *  @returns {string} */
+function printed(value) {
   if (typeof value === "bigint") return value.toString();
-  if (Array.isArray(value)) return `[${value.map(print).join(",")}]`;
+  if (Array.isArray(value)) return `[${value.map(printed).join(",")}]`;
   if (isMap(value)) {
     if (!isPlain(value)) throw new TypeError(`${kindOf(value)} is no value of JSON`);
     const fields = Object.entries(value).filter(([, it]) => it !== undefined);
-    return `{${fields.map(([key, it]) => `${JSON.stringify(key)}:${print(it)}`).join(",")}}`;
+    return `{${fields.map(([key, it]) => `${JSON.stringify(key)}:${printed(it)}`).join(",")}}`;
   }
   const isLostInText = typeof value === "number" && !Number.isFinite(value);
   const text = isLostInText ? undefined : JSON.stringify(value);

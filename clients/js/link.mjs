@@ -3,8 +3,8 @@
 
 import { Away, Lost } from "./errors.mjs";
 import { isRefusedBy } from "./protocol.mjs";
-import { endWithin, repeat } from "./timers.mjs";
 
+/** @typedef {import("./clock.mjs").Span} Span */
 /** @typedef {import("./session.mjs").Client} Client */
 
 const PING_MS = 2000; // where nothing was asked for so long, a reply is asked for
@@ -23,31 +23,33 @@ export class Link {
   isSynced = false;
   client;
   #watcher;
-  #end;
+  #life;
   #waiting = 0; // requests without a reply
   #silentMs = 0; // how long none of them had one
-  #lookedAt = Date.now();
-  #askedAt = Date.now();
+  #lookedAt;
+  #askedAt;
 
   /** @param {Client} client
-   *  @param {AbortSignal} signal ends it
+   *  @param {Span} turn its end is the link's
    *  @param {Watcher} watcher */
-  constructor(client, signal, watcher) {
+  constructor(client, turn, watcher) {
     this.client = client;
     this.#watcher = watcher;
-    this.#end = endWithin(signal);
-    client.closed.then(() => this.#end.abort());
-    this.#end.signal.addEventListener("abort", () => client.end(), { once: true });
-    repeat(LOOK_MS, this.#end.signal, () => this.#look());
+    this.#life = turn.inner();
+    const { span } = this.#life;
+    this.#lookedAt = this.#askedAt = span.now;
+    client.closed.then(() => this.end());
+    span.signal.addEventListener("abort", () => client.end(), { once: true });
+    span.repeat(LOOK_MS, () => this.#look());
   }
 
   end() {
-    this.#end.abort();
+    this.#life.end();
   }
 
   /** Notes that something came unasked: that is a sign of life, too. */
   noteSign() {
-    this.#askedAt = Date.now();
+    this.#askedAt = this.#life.span.now;
   }
 
   /** Does something that asks the server, and notes how long its reply takes.
@@ -55,7 +57,7 @@ export class Link {
    *  @param {() => Promise<T>} work
    *  @returns {Promise<T>} */
   async timed(work) {
-    this.#askedAt = Date.now();
+    this.#askedAt = this.#life.span.now;
     this.#waiting += 1;
     try {
       return await work();
@@ -79,12 +81,12 @@ export class Link {
   /** Sees how long no reply has come, and asks for one where nothing else was asked. While a page
    *  is held up, or a machine sleeps, replies wait for it: that isn't the server's silence. */
   #look() {
-    const late = Math.min(Date.now() - this.#lookedAt, LATE_MS);
-    this.#lookedAt = Date.now();
+    const late = Math.min(this.#life.span.now - this.#lookedAt, LATE_MS);
+    this.#lookedAt = this.#life.span.now;
     this.#silentMs = this.#waiting > 0 ? this.#silentMs + late : 0;
     if (this.#silentMs > DROP_MS) return this.end();
     if (this.#silentMs > SILENT_MS) return this.#watcher.silent();
-    if (this.#waiting === 0 && Date.now() - this.#askedAt > PING_MS) this.#ping();
+    if (this.#waiting === 0 && this.#life.span.now - this.#askedAt > PING_MS) this.#ping();
   }
 
   async #ping() {

@@ -68,7 +68,7 @@ export class Mirror {
     const [end, [word, value]] = [endOf(op), op[4]];
     const { length } = this.#place;
     const id = end[length];
-    if (end.length <= length && (word === "assign" || word === "delete")) this.#noteAll();
+    if (end.length <= length && (word === "assign" || word === "delete")) this.renew();
     if (this.#isAll || !isId(id)) return;
     const isDeeper = end.length > length + 1;
     if (word === "insert" && !isDeeper && typeof value === "string") this.#fresh.set(String(id), value);
@@ -76,7 +76,8 @@ export class Mirror {
     this.#noteElement(id, isDeeper);
   }
 
-  #noteAll() {
+  /** Notes that anything may have changed. */
+  renew() {
     this.#isAll = true;
     this.#changed.clear();
     this.#fresh.clear();
@@ -88,7 +89,7 @@ export class Mirror {
   #noteElement(id, isDeeper) {
     if (isDeeper && this.has(id)) return;
     this.#changed.set(String(id), id);
-    if (this.#changed.size > FEW + this.#keys.length * PART) this.#noteAll();
+    if (this.#changed.size > FEW + this.#keys.length * PART) this.renew();
   }
 
   /** What has changed since it was last called.

@@ -11,6 +11,7 @@
    What is stored is sent, and nothing else. While something can't be stored, as on a full disk,
    edits are refused by Unstored, so that nothing more is at stake; it is tried again by itself. */
 
+import { CLOCK, Span } from "./clock.mjs";
 import { Connection } from "./connection.mjs";
 import { Away } from "./errors.mjs";
 import { print } from "./json.mjs";
@@ -90,6 +91,8 @@ export { Busy, Unstored, memoryStore } from "./stores.mjs";
  * @property {any} [WebSocket] for ws:// in Node: the class of the package ws
  * @property {(line: string, reply: string) => void} [onReply] is called with each request of the
  *   exchange and its reply, as for a protocol
+ * @property {import("./clock.mjs").Clock} [clock] for tests: what its pauses and limits go by
+ * @property {() => number} [random] for tests: what the pauses between two tries go by, from 0 to 1
  */
 
 /** A replica with a store, and an exchange that goes on by itself. */
@@ -103,6 +106,7 @@ export class Provider {
   #store;
   #life = new AbortController(); // ends each part: timers, listeners, the connection
   #notices = new Notices();
+  #clock;
   #writer;
   #connection;
   #exchange;
@@ -136,15 +140,17 @@ export class Provider {
    *  @param {Problem[]} problems of the store */
   constructor(options, store, replica, problems) {
     const { document, at = "", WebSocket, word = "replica", onReply } = options;
-    const { signal } = this.#life;
+    const { clock = CLOCK, random = Math.random } = options;
+    const life = new Span(clock, this.#life.signal);
     this.#options = options;
     this.#store = store;
     this.replica = replica;
-    this.#writer = new StoreWriter(store, this.#notices, signal);
-    this.#connection = new Connection({ at, document, WebSocket }, this.#user(), signal);
+    this.#clock = clock;
+    this.#writer = new StoreWriter(store, this.#notices, life);
+    this.#connection = new Connection({ at, document, WebSocket, random }, this.#user(), life);
     this.#exchange = new Synchronizer({
       replica, store, writer: this.#writer, notices: this.#notices, connection: this.#connection,
-      changed: () => this.#show(), word, onReply, signal,
+      changed: () => this.#show(), word, onReply, clock, life,
     });
     for (const problem of problems) this.#notices.report(problem);
     this.#begin();
@@ -335,14 +341,14 @@ export class Provider {
   async synced(wait = {}) {
     /** @type {Wait} */
     const { seconds = 10, signal } = typeof wait === "number" ? { seconds: wait } : wait;
-    const end = Date.now() + seconds * 1000;
+    const end = this.#clock.now() + seconds * 1000;
     this.#awaited += 1;
     this.#connection.wake();
     this.#exchange.now();
     try {
       while (!this.#exchange.isDone || !["online", "refused"].includes(this.state.word)) {
         signal?.throwIfAborted();
-        const left = end - Date.now();
+        const left = end - this.#clock.now();
         if (left <= 0) throw new Away(`not exchanged: ${this.state.why || "it takes long"}`);
         await this.#stateOrTime(left, signal);
       }
@@ -359,12 +365,12 @@ export class Provider {
   #stateOrTime(ms, signal) {
     return new Promise((/** @type {(_?: unknown) => void} */ resolve) => {
       const resume = () => {
-        clearTimeout(timer);
+        stop();
         signal?.removeEventListener("abort", resume);
         this.#waiters.delete(resume);
         resolve();
       };
-      const timer = setTimeout(resume, ms);
+      const stop = this.#clock.after(ms, resume, true);
       signal?.addEventListener("abort", resume, { once: true });
       this.#waiters.add(resume);
     });

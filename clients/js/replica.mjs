@@ -519,6 +519,7 @@ export class Replica {
    *  @returns {Taken} */
   deliverAll(operations) {
     return this.#events.batch(() => {
+      if (this.#beginWith(operations)) return { taken: operations.length, refused: [] };
       /** @type {Taken} */
       const report = { taken: 0, refused: [] };
       for (const op of operations) {
@@ -529,6 +530,25 @@ export class Replica {
       }
       return report;
     });
+  }
+
+  /** Takes many operations into an empty replica by an engine that begins with them, if it is one
+   *  that only answers requests: that is several times quicker. Returns whether it has taken them.
+   *  Where one of them can't be logged, they are to be delivered one by one.
+   *  @param {(string | Operation)[]} operations */
+  #beginWith(operations) {
+    const isEmpty = this.#count === 0 && !this.#mayHold;
+    if (!isEmpty || this.#engine.follow || operations.length < MANY) return false;
+    const ops = operations.map((it) => (typeof it === "string" ? parsedLine(it) : it));
+    const lines = refusalOf(() => ops.map(checkedLine));
+    const engine = lines instanceof Refused ? lines : refusalOf(() => this.#open(this.#name, lines));
+    if (lines instanceof Refused || engine instanceof Refused) return false;
+    this.#use(engine, lines.length);
+    this.#events.renew();
+    for (const [at, op] of ops.entries()) {
+      this.#events.log(lines[at], /** @type {Operation} */ (op), "taken");
+    }
+    return true;
   }
 
   /** Drops a held operation.
@@ -629,6 +649,7 @@ export class Replica {
   }
 }
 
+const MANY = 256; // operations that an empty replica takes at once
 const MOST_SINGLY = 256; // so many elements are asked for one by one, and not with the whole list
 
 /** @param {any} value */
@@ -661,6 +682,17 @@ function readLine(line) {
   const op = parsedLine(line);
   if (!op) throw new Refused(12);
   return /** @type {Operation} */ (op);
+}
+
+/** The line of what may be an operation. Throws Refused for what JSON has no form for.
+ *  @param {any} op */
+function checkedLine(op) {
+  if (!isArray(op)) throw new Refused(REFUSALS["bad-operation"]);
+  try {
+    return print(op);
+  } catch {
+    throw new Refused(REFUSALS["bad-operation"]);
+  }
 }
 
 /** What was delivered as a text, also if it is no operation.

@@ -3,8 +3,8 @@
 
 import { wordsOf } from "./notices.mjs";
 import { Unstored } from "./stores.mjs";
-import { later } from "./timers.mjs";
 
+/** @typedef {import("./clock.mjs").Span} Span */
 /** @typedef {import("./notices.mjs").Notices} Notices */
 /** @typedef {import("./stores.mjs").Store} Store */
 
@@ -20,15 +20,15 @@ export class StoreWriter {
   #isRetrySet = false;
   #store;
   #notices;
-  #signal;
+  #life;
 
   /** @param {Store} store
    *  @param {Notices} notices
-   *  @param {AbortSignal} signal of the provider's life */
-  constructor(store, notices, signal) {
+   *  @param {Span} life of the provider */
+  constructor(store, notices, life) {
     this.#store = store;
     this.#notices = notices;
-    this.#signal = signal;
+    this.#life = life;
   }
 
   /** Whether everything is stored. If not, it is under way, or has failed. */
@@ -44,7 +44,7 @@ export class StoreWriter {
 
   /** Throws Unstored where an edit couldn't be stored: what came before it isn't. */
   check() {
-    if (this.#signal.aborted) throw new Unstored("this provider is closed");
+    if (this.#life.signal.aborted) throw new Unstored("this provider is closed");
     this.retry();
     this.#throwProblem();
   }
@@ -88,7 +88,7 @@ export class StoreWriter {
     this.#notices.report({ kind: "store", words, cause: error, lines: [...this.#unwritten] });
     if (this.#isRetrySet) return;
     this.#isRetrySet = true;
-    later(RETRY_MS, this.#signal, () => {
+    this.#life.later(RETRY_MS, () => {
       this.#isRetrySet = false;
       this.#write();
     });

@@ -7,8 +7,9 @@ import { freshName } from "./names.mjs";
 import { frontPairs } from "./operations.mjs";
 import { DOCUMENT_FULL, NAME_USED_TWICE, REFUSALS, isRefusedBy } from "./protocol.mjs";
 import { Unstored } from "./stores.mjs";
-import { later } from "./timers.mjs";
 
+/** @typedef {import("./clock.mjs").Clock} Clock */
+/** @typedef {import("./clock.mjs").Span} Span */
 /** @typedef {import("./connection.mjs").Connection} Connection */
 /** @typedef {import("./events.mjs").Event} Logged */
 /** @typedef {import("./exchange.mjs").Refusal} Refusal */
@@ -32,7 +33,8 @@ const NOT_ALLOWED = REFUSALS["not-allowed"];
  *  @property {() => void} changed Its state may be another.
  *  @property {string} word What a new name of the replica begins with.
  *  @property {(line: string, reply: string) => void} [onReply]
- *  @property {AbortSignal} signal Of the provider's life. */
+ *  @property {Clock} clock
+ *  @property {Span} life Of the provider. */
 
 export class Synchronizer {
   /** Whether the server lets this client edit; `undefined` before it was asked.
@@ -169,7 +171,7 @@ export class Synchronizer {
   /** Returns whether to go on at once.
    *  @param {Link} link */
   async #exchangeOver(link) {
-    const { connection, notices, signal } = this.#parts;
+    const { connection, notices } = this.#parts;
     const isSame = () => connection.link === link;
     this.#isStale = false;
     try {
@@ -181,17 +183,16 @@ export class Synchronizer {
       this.#isStale = this.#isDoubtful = true;
       if (!isSame()) return true;
       if (!(error instanceof Unstored)) connection.fail(error);
-      this.#retry(signal);
+      this.#retry();
       return false;
     }
     return true;
   }
 
-  /** @param {AbortSignal} signal */
-  #retry(signal) {
+  #retry() {
     if (this.#isRetrySet) return;
     this.#isRetrySet = true;
-    later(RETRY_MS, signal, () => {
+    this.#parts.life.later(RETRY_MS, () => {
       this.#isRetrySet = false;
       this.#run();
     });
@@ -265,16 +266,16 @@ export class Synchronizer {
    *  @param {Logged} event */
   hears({ why, lines }) {
     if (why !== "taken" || !this.#isRunning || this.#isTakingPush) return false;
-    this.#taken.push(...lines);
+    this.#taken = this.#taken.concat(lines);
     const isLater = this.#parts.connection.link?.isSynced;
-    if (isLater && Date.now() - this.#toldAt > TELL_MS) this.#tellTaken();
+    if (isLater && this.#parts.clock.now() - this.#toldAt > TELL_MS) this.#tellTaken();
     return true;
   }
 
   #tellTaken() {
     const lines = this.#taken;
     this.#taken = [];
-    this.#toldAt = Date.now();
+    this.#toldAt = this.#parts.clock.now();
     if (lines.length > 0) this.#parts.notices.tell({ what: "changed", why: "taken", lines });
   }
 
@@ -302,17 +303,17 @@ export class Synchronizer {
   async discard(ms) {
     /** @type {(lines: string[]) => void} */
     let resume = () => {};
-    /** @type {ReturnType<typeof setTimeout> | undefined} */
-    let timer;
+    let stop = () => {};
     const done = new Promise((/** @type {(lines: string[]) => void} */ resolve, reject) => {
       resume = resolve;
       const why = this.#parts.connection.why || "it takes long";
-      timer = setTimeout(() => reject(new Away(`nothing was taken back: ${why}`)), ms);
+      const late = () => reject(new Away(`nothing was taken back: ${why}`));
+      stop = this.#parts.clock.after(ms, late, true);
     });
     this.#discards.add(resume);
     this.now();
     return done.finally(() => {
-      clearTimeout(timer);
+      stop();
       this.#discards.delete(resume);
     });
   }

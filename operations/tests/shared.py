@@ -16,7 +16,10 @@ sys.dont_write_bytecode = True
 sys.path[:0] = [PACKAGE, f"{TOP}/tests"]
 import support  # noqa: E402
 
-PROGRAM: str = support.options(f"usage: {sys.argv[0]} PROGRAM").parse_args().program
+_parser = support.options(f"usage: {sys.argv[0]} PROGRAM [NAME..]")
+_parser.add_argument("name", nargs="*", help="names of tests; all if none is given")
+_words = _parser.parse_args()
+PROGRAM: str = _words.program
 os.environ.update(JCRDT=PROGRAM, PYTHONDONTWRITEBYTECODE="1", PYTHONPATH=PACKAGE)
 SECONDS = 600
 
@@ -126,8 +129,11 @@ def wait_for(what: Callable[[], Any]) -> None:
 
 
 def run_all(tests: List[Callable[[], None]]) -> None:
-    """Runs the tests of a file, each in a folder of its own."""
-    for test in tests:
+    """Runs the tests of a file, or those that the command line names, each in a folder of its own."""
+    unknown = set(_words.name) - {it.__name__ for it in tests}
+    if unknown:
+        _parser.error(f"there is no test {', '.join(sorted(unknown))}")
+    for test in (it for it in tests if not _words.name or it.__name__ in _words.name):
         os.mkdir(test.__name__)
         os.chdir(test.__name__)
         start = time.monotonic()

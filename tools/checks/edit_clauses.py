@@ -1,7 +1,7 @@
 """Each edit applies, and each of crates/*/must-fail names the clause that it breaks. --refused FILE: it was refused there.
 
 Edits are those of crates/*/must-fail, tests/mutations and tests/refused-by-tests. An edit applies if each `old:` is exactly
-once in its file, after the edit's earlier changes. An edit of must-fail has, and others may have, a line `breaks: FUNCTION: CLAUSE`,
+once in its file, after the edit's earlier changes. One outside the crates names a test that its file has. An edit of must-fail has, and others may have, a line `breaks: FUNCTION: CLAUSE`,
 or `breaks: FUNCTION` if that function's only clause has no name. `requires` is what the function asks of its callers. A list at the
 end has the edits of functions that neither `main` nor the embedded replica reaches.
 
@@ -42,6 +42,21 @@ def names_no_clause(edit: Edit, functions: List[Function]) -> Optional[str]:
     known = {clause for it in functions if it.name == name and (it in here or owner) for clause in it.clauses} | {"requires"}
     wrong = [it for it in clauses or [""] if it not in known]
     return f"{edit.breaks.partition(': ')[0]} ensures no clause {wrong[0] or 'without a name'}" if wrong else None
+
+
+def lacks_test(top: str, edit: Edit) -> Iterator[str]:
+    """What is wrong with the tests that an edit outside the crates names."""
+    if not edit.refusers:
+        yield "it has no line test:"
+    for refuser in edit.refusers:
+        file, _, name = refuser.partition(": ")
+        path = f"{top}/{file}"
+        if not os.path.isfile(path):
+            yield f"there is no test {file}"
+            continue
+        with open(path, encoding="utf-8") as it:
+            if not name or name not in it.read():
+                yield f"{file} has no test {name}"
 
 
 def changed_function(top: str, edit: Edit, functions: List[Function]) -> Optional[Function]:
@@ -125,7 +140,9 @@ def check_all(top: str, every: List[Edit]) -> int:
     functions, bad = list(rattle.all_functions(top)), 0
     for edit in every:
         faults = edits.applied(top, edit)[1]
-        if (edit.is_of_gate or edit.breaks) and not faults:
+        if edit.is_outside:
+            faults += lacks_test(top, edit)
+        elif (edit.is_of_gate or edit.breaks) and not faults:
             faults += filter(None, [names_no_clause(edit, functions)])
         for fault in faults:
             bad += 1

@@ -26,6 +26,10 @@ export const MODULE = existsSync(packed) ? packed : new URL("../../release/jcrdt
 const wire = await import(placeOf("wire"));
 export const { addressParts, covers, frontPairs, isId, MOST } = wire;
 
+/** @type {typeof import("../../js/clock.mjs")} */
+const clock = await import(placeOf("clock"));
+export const { CLOCK, pauseBy } = clock;
+
 /** @type {typeof import("../../js/protocol.mjs")} */
 const protocol = await import(placeOf("protocol"));
 export const { REQUESTS, isChange, refusalLine } = protocol;

@@ -1,7 +1,6 @@
 /* What a monitor asks for: whether there is a server, and the hub's figures for Prometheus. */
 
-import { frontPairs, MOST } from "./client_package.mjs";
-import { pause } from "./notes.mjs";
+import { frontPairs, MOST, pauseBy } from "./client_package.mjs";
 
 /** @typedef {import("./state.mjs").State} State */
 /** @typedef {{ front: Map<string, number>, operations: number, unstored: number | undefined,
@@ -80,9 +79,9 @@ export class Figures {
 
   /** In seconds; NaN where the server doesn't reply.
    *  @param {State} hub */
-  async #lag({ pool }) {
+  async #lag({ pool, clock }) {
     const began = performance.now();
-    const reply = await Promise.race([pool.watching?.ask('["version"]'), pause(MOST_MS)]);
+    const reply = await Promise.race([pool.watching?.ask('["version"]'), pauseBy(clock, MOST_MS)]);
     return typeof reply === "string" ? (performance.now() - began) / 1000 : NaN;
   }
 
@@ -90,7 +89,7 @@ export class Figures {
    *  @param {State} hub */
   async #countAll(hub) {
     const counting = [...hub.documents].map((document) => this.#count(hub, document));
-    await Promise.race([Promise.all(counting), pause(MOST_MS)]);
+    await Promise.race([Promise.all(counting), pauseBy(hub.clock, MOST_MS)]);
   }
 
   /** Counts the operations that came since they were counted last, and those that aren't stored.

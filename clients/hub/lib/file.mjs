@@ -4,7 +4,7 @@ import { spawn } from "node:child_process";
 import { existsSync } from "node:fs";
 import { createInterface } from "node:readline";
 import { fileURLToPath } from "node:url";
-import { pause } from "./notes.mjs";
+import { pauseBy } from "./client_package.mjs";
 
 /** @typedef {import("../../js/wire.mjs").Front} Front */
 
@@ -16,6 +16,7 @@ const PYTHON = fileURLToPath(new URL("../../python", import.meta.url));
 export class StoredFronts {
   #file;
   #note;
+  #clock;
   /** @type {Map<string, Map<string, number>>} */
   #fronts = new Map();
   /** @type {(() => void)[]} */
@@ -25,10 +26,12 @@ export class StoredFronts {
   #isStopped = false;
 
   /** @param {string} file
-   *  @param {import("./notes.mjs").Note} note */
-  constructor(file, note) {
+   *  @param {import("./notes.mjs").Note} note
+   *  @param {import("../../js/clock.mjs").Clock} clock */
+  constructor(file, note, clock) {
     this.#file = file;
     this.#note = note;
+    this.#clock = clock;
     this.#keep();
   }
 
@@ -43,7 +46,7 @@ export class StoredFronts {
   async next(ms) {
     /** @type {Promise<void>} */
     const changed = new Promise((resume) => this.#waiting.push(resume));
-    await Promise.race([changed, pause(ms)]);
+    await Promise.race([changed, pauseBy(this.#clock, ms)]);
   }
 
   stop() {
@@ -57,7 +60,7 @@ export class StoredFronts {
       if (this.#isStopped) return;
       this.#fronts.clear(); // a start of its own knows it anew
       this.#note(`${this.#file} can't be read: ${cause}`);
-      await pause(RETRY_MS);
+      await pauseBy(this.#clock, RETRY_MS);
     }
   }
 

@@ -47,8 +47,8 @@ export class Guest {
   /** Pushes that wait until the client reads, by what they are about.
    *  @type {Map<string, string>} */
   #late = new Map();
-  /** Drops a client which doesn't read.
-   *  @type {NodeJS.Timeout | undefined} */
+  /** Ends the time in which it is to read: then it would be dropped.
+   *  @type {(() => void) | undefined} */
   #unread;
   #readAgain = () => {};
   /** Whether its connection has ended. */
@@ -89,7 +89,7 @@ export class Guest {
   say(line) {
     if (this.#stream.destroyed || this.#stream.writableEnded) return;
     if (this.#stream.write(line + this.#ending)) return;
-    this.#unread ??= setTimeout(() => this.drop(), this.#hub.patience);
+    this.#unread ??= this.#hub.clock.after(this.#hub.patience, () => this.drop());
     this.#hub.unread.add(this);
   }
 
@@ -149,7 +149,7 @@ export class Guest {
   /** Gives back what the client has. */
   leave() {
     this.isGone = true;
-    clearTimeout(this.#unread);
+    this.#unread?.();
     this.#hub.unread.delete(this);
     this.#readAgain();
     this.#hub.watches.leave(this);
@@ -161,7 +161,7 @@ export class Guest {
   }
 
   #drained() {
-    clearTimeout(this.#unread);
+    this.#unread?.();
     this.#unread = undefined;
     this.#hub.unread.delete(this);
     this.#readAgain();

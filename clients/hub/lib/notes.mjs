@@ -1,4 +1,4 @@
-/* What the hub writes to standard error, and small helpers. */
+/* What the hub writes to standard error, and errors in words. */
 
 /** @typedef {(text: string) => void} Note */
 
@@ -18,9 +18,6 @@ export function notes(write = (line) => process.stderr.write(line)) {
 
 /** @param {string} character */
 const escaped = (character) => `\\u${character.charCodeAt(0).toString(16).padStart(4, "0")}`;
-
-/** @param {number} ms @returns {Promise<void>} */
-export const pause = (ms) => new Promise((resume) => void setTimeout(resume, ms).unref());
 
 /** @param {unknown} error @returns {string} */
 export const messageOf = (error) => (error instanceof Error ? error.message : String(error));

@@ -1,7 +1,7 @@
 /* The hub's sessions of the server: got one after the other, watched, renewed, and got again. */
 
+import { pauseBy } from "./client_package.mjs";
 import { Link } from "./link.mjs";
-import { pause } from "./notes.mjs";
 
 const TICK_MS = 1000;
 const PING_TICKS = 4; // a session that is silent for so long is asked something
@@ -17,7 +17,7 @@ const AWAY = 10_000; // as many clients more has a session that isn't connected,
 
 /** @typedef {import("./guest.mjs").Guest} Guest */
 /** @typedef {{ server: string, sessions: number, replyBytes: number, linesPerSession: number,
- *    note: import("./notes.mjs").Note }} PoolOptions */
+ *    note: import("./notes.mjs").Note, clock: import("../../js/clock.mjs").Clock }} PoolOptions */
 
 /** A place for a link, and the clients that it carries, or that have a variable there. */
 export class Session {
@@ -55,20 +55,21 @@ export class Pool {
   #stopped = false;
   #ticks = 0; // stands still with the process, so that nothing is too late after a pause of it
   #isAway = true;
-  #awaySince = performance.now();
+  #awaySince;
   /** @type {Link | undefined} the one that the server doesn't serve yet */
   #pending;
   #pendingSince = 0;
   #version = "";
   #next = new Signal(); // of a link more
   #fewer = new Signal(); // of a link less
-  #timer;
+  #stopTicks;
 
   /** @param {PoolOptions} options */
   constructor(options) {
     this.#options = options;
     this.sessions = Array.from({ length: options.sessions + 1 }, () => new Session());
-    this.#timer = setInterval(() => this.#tick(), TICK_MS);
+    this.#awaySince = options.clock.now();
+    this.#stopTicks = options.clock.every(TICK_MS, () => this.#tick());
     this.#keep();
   }
 
@@ -109,9 +110,9 @@ export class Pool {
       this.#lookIfAway();
       if (!this.#isAway) guest.move(this.leastLoaded);
       else {
-        const left = this.#awaySince + AWAY_MS - performance.now();
+        const left = this.#awaySince + AWAY_MS - this.#options.clock.now();
         if (left <= 0 || this.#stopped) return undefined;
-        await Promise.race([this.#next.promise, pause(left)]);
+        await Promise.race([this.#next.promise, pauseBy(this.#options.clock, left)]);
       }
     }
     return undefined;
@@ -119,7 +120,7 @@ export class Pool {
 
   stop() {
     this.#stopped = true;
-    clearInterval(this.#timer);
+    this.#stopTicks();
     this.#pending?.destroy("the hub ends");
     for (const link of this.links) link.quit();
     this.#next.give();
@@ -140,7 +141,8 @@ export class Pool {
         this.#take(link);
       } else {
         if (link !== UNSERVED) this.#notes(this.#explained(link));
-        await pause(RETRY_MS[Math.min(failures++, RETRY_MS.length - 1)] ?? 0);
+        const ms = RETRY_MS[Math.min(failures++, RETRY_MS.length - 1)] ?? 0;
+        await pauseBy(this.#options.clock, ms);
       }
     }
   }
@@ -203,7 +205,7 @@ export class Pool {
     if (this.#isAway === (this.links.length === 0)) return;
     this.#isAway = !this.#isAway;
     this.since = new Date();
-    if (this.#isAway) this.#awaySince = performance.now();
+    if (this.#isAway) this.#awaySince = this.#options.clock.now();
   }
 
   /** @param {string} trouble */

@@ -1,7 +1,7 @@
 /* What both ways in have: who is admitted, and how a connection's lines are answered. */
 
-import { addressParts } from "./client_package.mjs";
-import { messageOf, pause } from "./notes.mjs";
+import { addressParts, pauseBy } from "./client_package.mjs";
+import { messageOf } from "./notes.mjs";
 import { Rights } from "./rights.mjs";
 
 /** @typedef {import("./state.mjs").State} State */
@@ -16,10 +16,10 @@ const ADMIT_MS = 10_000; // so long `admit` may take
  *  @param {State} hub
  *  @param {import("../index.js").AdmitRequest} request
  *  @returns {Promise<Rights | undefined>} */
-export async function admitted({ admit, note }, request) {
+export async function admitted({ admit, note, clock }, request) {
   if (!admit) return new Rights({ read: true, write: true });
   try {
-    const admission = await Promise.race([admit(request), pause(ADMIT_MS)]);
+    const admission = await Promise.race([admit(request), pauseBy(clock, ADMIT_MS)]);
     if (admission === undefined) note(`admit didn't answer within ${ADMIT_MS / 1000} s`);
     return admission ? new Rights(admission) : undefined;
   } catch (error) {
@@ -39,7 +39,7 @@ export function serve(hub, guest, stream, lines) {
   const end = () => {
     isEnding = true;
     stream.removeAllListeners("data").resume().end();
-    setTimeout(() => stream.destroy(), END_MS).unref();
+    hub.clock.after(END_MS, () => stream.destroy());
   };
   /** @param {Iterable<string>} some */
   const answer = async (some) => {

@@ -1,5 +1,6 @@
 /* What the parts of a hub share. It is a part of `index.mjs`. */
 
+/** @typedef {import("../../js/clock.mjs").Clock} Clock */
 /** @typedef {import("./guest.mjs").Guest} Guest */
 /** @typedef {{
  *    pool: import("./pool.mjs").Pool,
@@ -13,6 +14,7 @@
  *    guestCount: number,
  *    patience: number,
  *    idle: number,
+ *    clock: Clock,
  *    admit?: import("../index.js").Admit,
  *    note: import("./notes.mjs").Note,
  *  }} State

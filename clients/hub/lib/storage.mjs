@@ -10,12 +10,15 @@ const MOST_MS = 30_000; // so long an operation of the log may take to be in the
 /** What the hub knows of the file: nothing, or the front of each document's rows. */
 export class Storage {
   #isDurable;
+  #clock;
   #file;
 
   /** @param {boolean} isDurable whether the server was started with `--durable`
+   *  @param {import("../../js/clock.mjs").Clock} clock
    *  @param {import("./file.mjs").StoredFronts} [file] */
-  constructor(isDurable, file) {
+  constructor(isDurable, clock, file) {
     this.#isDurable = isDurable;
+    this.#clock = clock;
     this.#file = file;
   }
 
@@ -30,9 +33,9 @@ export class Storage {
     // What the server doesn't have won't be in its file.
     if (!covers(new Map(await frontOfServer()), id)) return false;
     if (this.#isDurable || !this.#file) return true;
-    for (const end = Date.now() + MOST_MS; !isCovered(); ) {
-      if (Date.now() >= end) return false;
-      await this.#file.next(end - Date.now());
+    for (const end = this.#clock.now() + MOST_MS; !isCovered(); ) {
+      if (this.#clock.now() >= end) return false;
+      await this.#file.next(end - this.#clock.now());
     }
     return true;
   }

@@ -20,18 +20,19 @@ import { MOST, frontPairs } from "./client_package.mjs";
 
 export class Watches {
   #pool;
-  #timer;
+  #stop;
   /** @type {Map<string, Watch>} */
   #watched = new Map();
 
   /** Looks at each document after so many milliseconds, for what others changed at the server.
    *  @param {import("./pool.mjs").Pool} pool
-   *  @param {number} every */
-  constructor(pool, every) {
+   *  @param {number} every
+   *  @param {import("../../js/clock.mjs").Clock} clock */
+  constructor(pool, every, clock) {
     this.#pool = pool;
-    this.#timer = setInterval(() => {
+    this.#stop = clock.every(every, () => {
       for (const document of this.#watched.keys()) this.look(document);
-    }, every);
+    });
   }
 
   /** @param {Guest} guest */
@@ -81,7 +82,7 @@ export class Watches {
   }
 
   stop() {
-    clearInterval(this.#timer);
+    this.#stop();
   }
 
   /** @param {string} document @param {Watch} watch */

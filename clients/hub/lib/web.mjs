@@ -59,8 +59,8 @@ export async function openWeb(hub, address, origins) {
     }, () => socket.destroy());
   });
   const patience = hub.patience / 1000;
-  const timer = setInterval(() => sockets.clients.forEach((ws) => pingOrDrop(ws, patience)), 1000);
-  server.on("close", () => clearInterval(timer));
+  const pingAll = () => sockets.clients.forEach((ws) => pingOrDrop(ws, patience));
+  server.on("close", hub.clock.every(1000, pingAll));
   return { server, at, end: () => sockets.clients.forEach((ws) => ws.terminate()) };
 }
 
@@ -83,7 +83,7 @@ function refuse(hub, socket, status) {
   hub.figures.dropped();
   const end = () => socket.destroy();
   socket.end(`HTTP/1.1 ${status}\r\nConnection: close\r\nContent-Length: 0\r\n\r\n`, end);
-  setTimeout(end, 1000).unref();
+  hub.clock.after(1000, end);
 }
 
 /** @param {State} hub @param {Socket} ws @param {import("./rights.mjs").Rights} rights */

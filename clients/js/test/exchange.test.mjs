@@ -360,3 +360,26 @@ for (const [title, engine] of engines) {
   });
 }
 
+
+test("of many operations that an empty replica takes, those that don't fit are refused one by one", () => {
+  const ada = new Replica("ada", "d");
+  ada.splice([0, "t"], 0, 0, "x".repeat(300));
+  const [first, ...lines] = ada.lines().slice(1);
+  const later = '["op",[2,"eve"],[["carl",1]],[[["m",0]],"k"],["assign",1]]';
+  for (const [title, engine] of engines) {
+    const of = (taken) => {
+      const replica = new Replica("bob", "d", { engine });
+      const report = replica.deliverAll(taken);
+      const refused = report.refused.map(({ line, refusal }) => [line, refusal.number]);
+      return { taken: report.taken, refused, held: replica.held(), text: replica.text([0, "t"]) };
+    };
+    const text = "x".repeat(300);
+    const all = { taken: 300, refused: [], held: [], text };
+    deepEqual(of([first, ...lines]), all, title);
+    deepEqual(of([first, first, ...lines]), all, title); // one that is known already
+    deepEqual(of([first, later, ...lines]), { ...all, held: [[[2, "eve"], [[1, "carl"]]]] }, title);
+    deepEqual(of([first, "no JSON", ...lines]), { ...all, refused: [["no JSON", 12]] }, title);
+    const isBad = (line) => ({ ...all, taken: 300, refused: [[line, 12]] });
+    deepEqual(of([first, '["op"]', ...lines]), isBad('["op"]'), title);
+  }
+});

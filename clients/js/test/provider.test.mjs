@@ -5,6 +5,7 @@ import { copyFileSync } from "node:fs";
 import { createServer } from "node:net";
 import node from "node:test";
 import { pause, until, webSockets } from "./chromium.mjs";
+import { TestClock } from "./clock.mjs";
 import { end, room, start, startHub, startServer } from "./serving.mjs";
 import { Provider } from "../provider.mjs";
 import { fileStore } from "../file_store.mjs";
@@ -159,13 +160,49 @@ test("long offline, a server that is there again is met by `synced`", async () =
   const first = await startServer(["d"]);
   const { address, folder } = first;
   await end(first);
+<<<<<<< HEAD
   const all = await Promise.all(Array.from({ length: 6 }, () => opened(address)));
   await pause(15_000); // from here on the pauses between two tries are several seconds long
   const waits = all.map((provider) => provider.synced(240));
   await pause(1500); // the try of that moment fails
   await startServer(["d"], { address, folder });
   await Promise.all(waits);
+=======
+  const clock = new TestClock();
+  const provider = await opened(address, { clock, random: () => 1 });
+  // From here on the pauses between two tries are as long as they get.
+  for (let pause = 0; pause < 15_000; clock.pass(pause)) pause = await clock.until(pauseOf);
+  await clock.until(pauseOf);
+  const waits = provider.synced(60);
+  equal(await clock.until((all) => all.find((ms) => ms >= 500 && ms <= 1000)), 1000);
+  await startServer(["d"], { address, folder });
+  clock.pass(1000); // nothing more than one short pause
+  await waits;
+>>>>>>> 5aaceae41dcbe22d6ff1ff5a469e8c8f9ca37fb6
 });
+
+test("pauses between two tries are twice as long each, up to 15 s, and not the same for all", async () => {
+  const gone = await startServer(["d"]);
+  await end(gone);
+  const pausesOf = async (random) => {
+    const clock = new TestClock();
+    await opened(gone.address, { clock, random });
+    const found = [];
+    for (let count = 0; count < 8; count++) {
+      found.push(await clock.until(pauseOf));
+      clock.pass(found.at(-1));
+    }
+    return found;
+  };
+  deepEqual(await pausesOf(() => 1), [500, 1000, 2000, 4000, 8000, 15_000, 15_000, 15_000]);
+  deepEqual(await pausesOf(() => 0), [250, 500, 1000, 2000, 4000, 7500, 7500, 7500]);
+});
+
+/** The pause until the next try to connect, among what a clock waits for: `Link` looks each 250 ms,
+ *  and `connected` has limits of its own. */
+function pauseOf(waiting) {
+  return waiting[0];
+}
 
 test("a program ends once it has closed its provider", async () => {
   const server = await startServer(["d"]);

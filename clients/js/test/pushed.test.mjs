@@ -10,6 +10,7 @@ import { fileStore } from "../file_store.mjs";
 import { Provider } from "../provider.mjs";
 import { connected } from "../session.mjs";
 import { until } from "./chromium.mjs";
+import { engines } from "./engines.mjs";
 import { end, room, start, startServer } from "./serving.mjs";
 
 const HUB = fileURLToPath(new URL("../../hub/hub.mjs", import.meta.url));
@@ -191,6 +192,31 @@ test("a long document is opened by pages of the hub, as one event", async () => 
   deepEqual([events, ada.replica.count], [[ada.replica.count], 2600]);
   // Of 1,024, 1,024 and 552; `synced` itself asks once more, at most.
   ok(proxy.asked.get("page") <= 4, `${proxy.asked.get("page")} pages`);
+});
+
+test("straight at a server a long document is opened as one batch, and one event", async () => {
+  const server = await startServer(["d"]);
+  const ada = await Provider.open({ document: "d", at: server.address });
+  endings.add(() => ada.close());
+  ada.replica.splice([0, "t"], 0, 0, "a text of many characters ".repeat(100));
+  await ada.synced(60);
+  for (const [title, engine] of engines) {
+    const asked = [];
+    const options = { document: "d", at: server.address, engine, isOnline: false };
+    const bob = await Provider.open({ ...options, onReply: (line) => asked.push(wordOf(line)) });
+    endings.add(() => bob.close());
+    const [events, watched, logged] = [[], [], []];
+    bob.listen(({ what, lines }) => what === "changed" && events.push(lines.length));
+    bob.replica.listen(({ lines, ids }) => logged.push([lines.length, ids.length]));
+    bob.replica.watch([0, "t"], (splices) => watched.push(splices));
+    bob.goOnline();
+    await bob.synced(60);
+    deepEqual([events, logged], [[2600], [[2600, 2600]]], title);
+    deepEqual(watched, [[{ index: 0, remove: 0, insert: texts(ada) }]], title);
+    deepEqual(bob.replica.lines().slice(1), ada.replica.lines().slice(1), title);
+    // 40 full pages and one that isn't; what is asked once all is here gives none.
+    ok(asked.filter((word) => word === "ops").length <= 41 + 2, `${asked}`);
+  }
 });
 
 test("lines that no hub pushes change nothing, and what there is is pulled", async () => {

@@ -1,7 +1,8 @@
 /** @typedef {object} Way
  *  @property {string} at HOST:PORT, ws:// or wss://
  *  @property {string} document
- *  @property {any} [WebSocket] */
+ *  @property {any} [WebSocket]
+ *  @property {() => number} random From 0 to 1: how long it waits between two tries. */
 /** @typedef {object} User Who uses the connection.
  *  @property {(link: Link) => Promise<void>} begin Begins to work over a new one.
  *  @property {() => void} resume Works again: the server replies again.
@@ -11,8 +12,8 @@
 export class Connection {
     /** @param {Way} way
      *  @param {User} user
-     *  @param {AbortSignal} life */
-    constructor(way: Way, user: User, life: AbortSignal);
+     *  @param {Span} life */
+    constructor(way: Way, user: User, life: Span);
     /** Why it isn't online, in words; "" while it is, or begins to be. */
     why: string;
     /** Whether nothing has failed since it was switched on. */
@@ -32,6 +33,7 @@ export class Connection {
     fail(error: unknown): void;
     #private;
 }
+export type Span = import("./clock.mjs").Span;
 export type Client = import("./session.mjs").Client;
 export type Way = {
     /**
@@ -40,6 +42,10 @@ export type Way = {
     at: string;
     document: string;
     WebSocket?: any;
+    /**
+     * From 0 to 1: how long it waits between two tries.
+     */
+    random: () => number;
 };
 /**
  * Who uses the connection.

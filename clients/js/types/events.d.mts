@@ -19,6 +19,7 @@
  *  @property {() => Splice[]} take What has changed since it was last called.
  *  @property {(op: Operation) => void} [note] Is called with each operation at, under or above the
  *    watch's place, once the engine has it, before `take`.
+ *  @property {() => void} [renew] Anything may have changed before `take`.
  *  @property {() => void} end
  *  @property {number} [length] Of the list, if the source knows it. */
 /** @typedef {object} Watch
@@ -27,7 +28,7 @@
  *  @property {Source} source
  *  @property {number} length Of the list, as the splices made it.
  *  @property {Changed} changed */
-/** @typedef {{line: string, op: Operation, texts: string[]}} Logged */
+/** @typedef {{line: string, op: Operation}} Logged */
 export class Events {
     /** @param {(error: any) => any} failed Is called with what a listener has thrown. */
     constructor(failed: (error: any) => any);
@@ -47,6 +48,8 @@ export class Events {
     /** Is called with what the engine has logged at once, before `log`.
      *  @param {Operation[]} ops */
     note(ops: import("./operations.mjs").Operation[]): void;
+    /** Is called in place of `note` where all that the engine has is new. */
+    renew(): void;
     /** @param {string} line
      *  @param {Operation} op
      *  @param {Why} why */
@@ -98,6 +101,10 @@ export type Source = {
      * watch's place, once the engine has it, before `take`.
      */
     note?: ((op: import("./operations.mjs").Operation) => void) | undefined;
+    /**
+     * Anything may have changed before `take`.
+     */
+    renew?: (() => void) | undefined;
     end: () => void;
     /**
      * Of the list, if the source knows it.
@@ -120,5 +127,4 @@ export type Watch = {
 export type Logged = {
     line: string;
     op: ["op", import("./operations.mjs").Id, import("./operations.mjs").Front, [import("./operations.mjs").Path, import("./operations.mjs").Key], import("./operations.mjs").Mutation];
-    texts: string[];
 };

@@ -3,15 +3,15 @@
  *  @param {string} text
  *  @returns {any} */
 export function parse(text: string): any;
-/** Writes compact JSON, as the server does. Throws TypeError for what JSON has no form for: it
- *  isn't written as null.
+/** Whether JSON.stringify writes a value as `print` does: one without objects and BigInt.
  *  @param {any} value
- *  @returns {string} */
-export function print(value: any): string;
+ *  @returns {boolean} */
+export function isSimple(value: any): boolean;
 /** Whether an object is one that `{}` makes, also one of another window: no Date, Map, class.
  *  @param {any} value */
 export function isPlain(value: any): boolean;
 export function shortest(integer: bigint): number | bigint;
+export function print(value: any): string;
 export function isArray(value: any, length?: number | undefined): value is any[];
 export function isMap(value: any): boolean;
 export function kindOf(value: any): string;

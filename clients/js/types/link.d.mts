@@ -4,9 +4,9 @@
  *  @property {(error: unknown) => void} failed It couldn't: the hub has no server. */
 export class Link {
     /** @param {Client} client
-     *  @param {AbortSignal} signal ends it
+     *  @param {Span} turn its end is the link's
      *  @param {Watcher} watcher */
-    constructor(client: Client, signal: AbortSignal, watcher: Watcher);
+    constructor(client: Client, turn: Span, watcher: Watcher);
     /** Whether everything was exchanged once over it. */
     isSynced: boolean;
     client: import("./session.mjs").Client;
@@ -25,6 +25,7 @@ export class Link {
     ask(line: string): Promise<string>;
     #private;
 }
+export type Span = import("./clock.mjs").Span;
 export type Client = import("./session.mjs").Client;
 export type Watcher = {
     /**

@@ -14,6 +14,8 @@ export class Mirror implements Source {
     /** Notes an operation that was logged: one at, under or above the place.
      *  @param {Operation} op */
     note(op: import("./operations.mjs").Operation): void;
+    /** Notes that anything may have changed. */
+    renew(): void;
     /** What has changed since it was last called.
      *  @returns {Splice[]} */
     take(): Splice[];

@@ -59,6 +59,8 @@
  * @property {any} [WebSocket] for ws:// in Node: the class of the package ws
  * @property {(line: string, reply: string) => void} [onReply] is called with each request of the
  *   exchange and its reply, as for a protocol
+ * @property {import("./clock.mjs").Clock} [clock] for tests: what its pauses and limits go by
+ * @property {() => number} [random] for tests: what the pauses between two tries go by, from 0 to 1
  */
 /** A replica with a store, and an exchange that goes on by itself. */
 export class Provider {
@@ -257,6 +259,14 @@ export type Options = {
      * exchange and its reply, as for a protocol
      */
     onReply?: ((line: string, reply: string) => void) | undefined;
+    /**
+     * for tests: what its pauses and limits go by
+     */
+    clock?: import("./clock.mjs").Clock | undefined;
+    /**
+     * for tests: what the pauses between two tries go by, from 0 to 1
+     */
+    random?: (() => number) | undefined;
 };
 import { Replica } from "./replica.mjs";
 export { Busy, Unstored, memoryStore } from "./stores.mjs";

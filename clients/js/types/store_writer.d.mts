@@ -1,8 +1,8 @@
 export class StoreWriter {
     /** @param {Store} store
      *  @param {Notices} notices
-     *  @param {AbortSignal} signal of the provider's life */
-    constructor(store: Store, notices: Notices, signal: AbortSignal);
+     *  @param {Span} life of the provider */
+    constructor(store: Store, notices: Notices, life: Span);
     /** Whether everything is stored. If not, it is under way, or has failed. */
     get isDone(): boolean;
     /** @param {string[]} lines */
@@ -15,5 +15,6 @@ export class StoreWriter {
     flushed(): Promise<void>;
     #private;
 }
+export type Span = import("./clock.mjs").Span;
 export type Notices = import("./notices.mjs").Notices;
 export type Store = import("./stores.mjs").Store;

@@ -7,7 +7,8 @@
  *  @property {() => void} changed Its state may be another.
  *  @property {string} word What a new name of the replica begins with.
  *  @property {(line: string, reply: string) => void} [onReply]
- *  @property {AbortSignal} signal Of the provider's life. */
+ *  @property {Clock} clock
+ *  @property {Span} life Of the provider. */
 export class Synchronizer {
     /** @param {Parts} parts */
     constructor(parts: Parts);
@@ -46,6 +47,8 @@ export class Synchronizer {
     discard(ms: number): Promise<string[]>;
     #private;
 }
+export type Clock = import("./clock.mjs").Clock;
+export type Span = import("./clock.mjs").Span;
 export type Connection = import("./connection.mjs").Connection;
 export type Logged = import("./events.mjs").Event;
 export type Refusal = import("./exchange.mjs").Refusal;
@@ -73,9 +76,10 @@ export type Parts = {
      */
     word: string;
     onReply?: ((line: string, reply: string) => void) | undefined;
+    clock: Clock;
     /**
-     * Of the provider's life.
+     * Of the provider.
      */
-    signal: AbortSignal;
+    life: Span;
 };
 import { Refused } from "./errors.mjs";

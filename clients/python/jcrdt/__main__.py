@@ -7,6 +7,8 @@ exchange ADDRESS ADDRESS DOC        two servers deliver to each other what the o
 relay ADDRESS.. --doc DOC           keeps servers in agreement for as long as it runs
 save ADDRESS DOC FILE               a document as lines, one operation each
 load ADDRESS DOC FILE               such lines into a server of another name
+export ADDRESS DOC FILE             what a document shows, as JSON with its counters and conflicts
+load-json ADDRESS DOC FILE          such JSON into a document, by what differs
 log FILE                            what a stored log has; how full it is; what is on disk
 renew count|put|since ..            a document that fills up into a new one
 stop --file F                       stops the server of a file so that the file has everything
@@ -24,9 +26,9 @@ from typing import List
 from .terminal import say_error
 from .wire import Refused
 
-TOOLS = ("talk", "exchange", "relay", "save", "load", "log", "renew", "stop")
+TOOLS = ("talk", "exchange", "relay", "save", "load", "export", "load-json", "log", "renew", "stop")
 # Where two tools are one module.
-MODULES = {"save": "save_load", "load": "save_load"}
+MODULES = {"save": "save_load", "load": "save_load", "export": "json_file", "load-json": "json_file"}
 
 
 def run(words: List[str]) -> int:

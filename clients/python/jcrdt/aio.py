@@ -15,13 +15,15 @@ import os
 import socket
 from collections import deque
 from types import TracebackType
-from typing import Any, AsyncIterator, Callable, Deque, Generator, Iterable, List, Optional, Sequence, Tuple, Type, TypeVar
+from typing import Any, AsyncIterator, Callable, Deque, Generator, Iterable, List, Literal, Optional, Sequence, Tuple, Type, TypeVar
 
-from . import nested, wire
+from . import loading, mending, nested, wire
 from .limits import USUAL, Limits
 from .line_reader import CHUNK, LineReader, lines_of
 from .replies import Reply, checked_beginning, front_in, id_in, logged_in, page_in, reply_of
 from .session import FORKED, WATCH_SECONDS
+from .steps import Steps
+from .tagged import tagged
 from .wire import Away, Cursor, Front, Id, Lost, Misbehaved, Operation, Refused, encoded
 
 T = TypeVar("T")
@@ -137,7 +139,7 @@ class Session:
             self._end(error)
             raise
 
-    async def _run(self, steps: "nested.Steps[T]") -> T:
+    async def _run(self, steps: Steps[T]) -> T:
         """Asks what the steps want, and returns what they found."""
         try:
             requests = next(steps)
@@ -267,11 +269,12 @@ class Session:
         async with self._writing:
             return await self._run(nested.extend(document, cursor, values))
 
-    async def put(self, document: str, cursor: Cursor, value: Any) -> None:
-        """Assigns a nested value, one request for each part: see jcrdt.Session.put. Another nested write of this session
-        waits meanwhile. A task that is cancelled leaves the first part of it there."""
+    async def put(self, document: str, cursor: Cursor, value: Any, only: Optional[Literal["changed"]] = None) -> None:
+        """Assigns a nested value, one request for each part, or what differs alone: see jcrdt.Session.put. Another nested
+        write of this session waits meanwhile. A task that is cancelled leaves the first part of it there."""
         async with self._writing:
-            await self._run(nested.put(document, cursor, value))
+            await self._run(nested.put(document, cursor, value) if only is None else
+                            mending.put_changed(document, cursor, value))
 
     # Readings.
 
@@ -299,6 +302,15 @@ class Session:
     async def plain(self, document: str, cursor: Cursor) -> Any:
         """The value at the cursor as plain JSON, with Counter and Conflict: see jcrdt.Session.plain."""
         return wire.plain(await self.show(document, cursor))
+
+    async def export(self, document: str, cursor: Cursor = (0,)) -> Any:
+        """The value at the cursor as JSON that keeps counters and conflicts by tags: see jcrdt.Session.export."""
+        return tagged(await self.plain(document, cursor))
+
+    async def load_json(self, document: str, cursor: Cursor, data: Any) -> int:
+        """Makes what is at the cursor into a value that `export` gave: see jcrdt.Session.load_json."""
+        async with self._writing:
+            return await self._run(loading.load_json(document, cursor, data))
 
     # What servers deliver to each other.
 

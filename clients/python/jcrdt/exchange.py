@@ -1,6 +1,6 @@
 """Two servers deliver to each other what the other lacks, until neither has news.
 
-usage: exchange ADDRESS ADDRESS DOC     (HOST:PORT of two running servers, with different names)
+usage: exchange [--progress] ADDRESS ADDRESS DOC     (HOST:PORT of two running servers, with different names)
 
 This is a single meeting; `relay` keeps servers in agreement for as long as it runs. The status is 0 if nothing
 was refused, and both show the same document.
@@ -9,6 +9,7 @@ was refused, and both show the same document.
 import argparse
 from typing import Dict, List, Sequence, Tuple
 
+from .progress import Report, add_argument, progress_of, silent
 from .protocol import NAME_USED_TWICE
 from .session import Session, connected
 from .terminal import checked_address, say
@@ -25,8 +26,9 @@ RefusedId = Tuple[Id, Refused]
 class Pull:
     """What a target lacks of a source."""
 
-    def __init__(self, source: Session, target: Session, document: str) -> None:
-        self.source, self.target, self.document = source, target, document
+    def __init__(self, source: Session, target: Session, document: str, report: Report = silent, before: int = 0) -> None:
+        """`report` is called with how many were handed over, with those before."""
+        self.source, self.target, self.document, self.report, self.before = source, target, document, report, before
         self.logged = 0
         self.refused: List[RefusedId] = []
         # The least refused counter of each replica: what depends on one would wait for ever.
@@ -56,6 +58,7 @@ class Pull:
             elif reply and self.is_stopped(operation):
                 waiting.append(operation[1])
         self.target.ask_all([["forget", self.document, it] for it in waiting])
+        self.report("operations handed over", self.before + self.logged, None)
 
     def is_stopped(self, operation: Operation) -> bool:
         """Whether it was refused, or depends on one that was."""
@@ -65,19 +68,21 @@ class Pull:
         return any(number >= self.stopped.get(name, number + 1) for name, number in [*operation[2], (replica, counter)])
 
 
-def pull(source: Session, target: Session, document: str) -> Tuple[int, List[RefusedId]]:
-    """Delivers to the target what it lacks of the source. Returns how many it logged, and what it refused."""
-    work = Pull(source, target, document)
+def pull(source: Session, target: Session, document: str, report: Report = silent, before: int = 0) -> Tuple[int, List[RefusedId]]:
+    """Delivers to the target what it lacks of the source. Returns how many it logged, and what it refused. `report` is called now
+    and then with how many were handed over, with those before."""
+    work = Pull(source, target, document, report, before)
     work.run()
     return work.logged, work.refused
 
 
-def exchange(one: Session, other: Session, document: str) -> Tuple[int, List[RefusedId]]:
-    """Pulls both ways until a round logs nothing. Returns how many were logged, and what was refused last."""
+def exchange(one: Session, other: Session, document: str, report: Report = silent) -> Tuple[int, List[RefusedId]]:
+    """Pulls both ways until a round logs nothing. Returns how many were logged, and what was refused last. `report` is called now
+    and then with how many were handed over so far."""
     total = 0
     while True:
-        to_other, refused_there = pull(one, other, document)
-        to_one, refused_here = pull(other, one, document)
+        to_other, refused_there = pull(one, other, document, report, total)
+        to_one, refused_here = pull(other, one, document, report, total + to_other)
         total += to_other + to_one
         if to_other + to_one == 0:
             return total, refused_there + refused_here
@@ -108,11 +113,12 @@ def main(words: Sequence[str]) -> int:
     parser = argparse.ArgumentParser(prog="exchange", description=__doc__, formatter_class=argparse.RawDescriptionHelpFormatter)
     parser.add_argument("addresses", nargs=2, metavar="ADDRESS", type=checked_address)
     parser.add_argument("document", metavar="DOC")
+    add_argument(parser)
     asked = parser.parse_args(words)
     with connected(asked.addresses[0]) as one, connected(asked.addresses[1]) as other:
         for server in (one, other):
             server.open(asked.document)
-        total, refused = exchange(one, other, asked.document)
+        total, refused = exchange(one, other, asked.document, progress_of("exchange", asked.progress))
         kinds: Dict[str, List[RefusedId]] = {}
         for it in refused:
             kinds.setdefault(str(it[1]), []).append(it)

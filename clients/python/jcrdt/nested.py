@@ -1,20 +1,13 @@
-"""Writing nested values, and binding names to elements, while others change the same lists.
-
-Each function yields the requests to send at once, gets their replies, and returns what it found: so a session of
-either transport runs it.
-"""
+"""Writing nested values, and binding names to elements, while others change the same lists."""
 
 import time
-from typing import Any, Generator, List, Optional, Sequence, TypeVar
+from typing import Any, Dict, Iterable, List, Optional, Sequence, Set
 
-from . import wire
-from .protocol import NUMBERS
+from . import room, wire
+from .protocol import CHANGES, NUMBERS
 from .replies import Reply, good, id_in
+from .steps import Request, Steps
 from .wire import Cursor, Id, Refused, apart, bare, parts_of
-
-T = TypeVar("T")
-Request = Sequence[Any]
-Steps = Generator[List[Request], List[Reply], T]
 
 # How long `bind` tries while others change the list, in seconds.
 BIND_SECONDS = 10.0
@@ -27,14 +20,31 @@ OWN_NAME = "jcrdt {}".format
 def put(document: str, cursor: Cursor, value: Any) -> Steps[None]:
     """Assigns a nested value. Raises ValueError for one that can't be put, before anything is sent."""
     wire.checked_value(value, len(cursor) - 1)
-    return _Writer(document).put(cursor, value)
+    return Writer(document).put(cursor, value)
 
 
 def extend(document: str, cursor: Cursor, values: Sequence[Any]) -> Steps[List[Id]]:
     """Inserts values behind the last element of a list, and returns their ids. Raises ValueError as `put`."""
     for value in values:
         wire.checked_value(value, len(cursor))
-    return _Writer(document).extend(cursor, values)
+    return Writer(document).extend(cursor, values)
+
+
+def bind_all(document: str, cursor: Cursor, elements: Dict[str, Id]) -> Steps[Set[str]]:
+    """Binds names to elements of one list, all at once if nobody changes the document meanwhile, else as `bind` does. Returns the
+    names whose elements aren't there."""
+    front, items = good((yield [["front", document], ["items", document, cursor]]))
+    places = {tuple(it): number for number, (it, _) in enumerate(items[0], 1)}
+    there = {name: places[tuple(it)] for name, it in elements.items() if tuple(it) in places}
+    *bound, now = yield [*(["let", document, name, [*cursor, at]] for name, at in there.items()), ["front", document]]
+    if good([now]) == [front]:
+        good(bound)
+        return set(elements) - set(there)
+    gone = set()
+    for name, element in elements.items():
+        if not (yield from bind(document, name, cursor, element)):
+            gone.add(name)
+    return gone
 
 
 def bind(document: str, name: str, cursor: Cursor, element: Id) -> Steps[bool]:
@@ -78,24 +88,29 @@ def _bound_to(document: str, name: str, cursor: Cursor, front: List[Any]) -> Ste
     return list(operation[1] if is_insertion else operation[3][1])
 
 
-class _Writer:
+class Writer:
     """Writes nested values. Its cursors have no indices but at their ends, so they stay at their place when others
     change the lists: it binds names to elements."""
 
     def __init__(self, document: str) -> None:
         self.document = document
         self.waiting: List[Request] = []
+        # How many operations came of it.
+        self.made = 0
 
     def put(self, cursor: Cursor, value: Any) -> Steps[None]:
-        yield from self.reserve(_depth([value]))
+        yield from self.reserve(map(OWN_NAME, range(depth([value]))))
+        yield from self.check_room(room.count_of(value))
         steady = yield from self.steady(cursor)
         yield from self.write(steady, value)
         yield from self.send()
 
     def extend(self, cursor: Cursor, values: Sequence[Any]) -> Steps[List[Id]]:
-        yield from self.reserve(1 + _depth([list(values)]))
+        deepest = depth([list(values)])
+        yield from self.reserve(map(OWN_NAME, range(1 + deepest)))
+        yield from self.check_room(sum(map(room.count_of_element, values)))
         steady = yield from self.steady(cursor)
-        end = OWN_NAME(_depth([list(values)]))
+        end = OWN_NAME(deepest)
         while True:
             [[items]] = good((yield [["items", self.document, steady]]))
             if not items:
@@ -103,10 +118,16 @@ class _Writer:
             if (yield from bind(self.document, end, steady, items[-1][0])):
                 return (yield from self.insert_all(steady, [end], len(items) + 1, values, 0))
 
-    def reserve(self, count: int) -> Steps[None]:
+    def reserve(self, names: Iterable[str]) -> Steps[None]:
         """Binds the names that will be needed, so that a session with too many names is refused before anything is
         changed."""
-        good((yield [["let", self.document, OWN_NAME(it), [0]] for it in range(count)]))
+        good((yield [["let", self.document, it, [0]] for it in names]))
+
+    def check_room(self, needed: int, makers: int = 0) -> Steps[None]:
+        """Raises Refused (18, and 19 for that many new replicas) before anything is changed where not all has room. One that is
+        refused alone changes nothing."""
+        if needed > 1:
+            yield from room.check(self.document, needed, makers)
 
     def steady(self, cursor: Cursor) -> Steps[List[Any]]:
         """The cursor with a name in place of its beginning up to the last index."""
@@ -125,25 +146,39 @@ class _Writer:
 
     def send(self) -> Steps[List[List[Any]]]:
         """Sends what waits, and returns the replies. Raises the first error."""
+        if not self.waiting:
+            return []
         waiting, self.waiting = self.waiting, []
-        return good((yield waiting))
+        replies = good((yield waiting))
+        self.made += sum(request[0] in CHANGES for request in waiting)
+        return replies
 
     def write(self, cursor: List[Any], value: Any, level: int = 0) -> Steps[None]:
         values, counter = apart(value)
+        if len(values) > 1:
+            yield from self.write_conflict(cursor, values, counter, level)
+            return
         if values:
             yield from self.later("assign", self.document, cursor, bare(values[0]))
         else:
             yield from self.later("delete", self.document, cursor)
         yield from self.fill(cursor, values, counter, level)
 
+    def write_conflict(self, cursor: List[Any], values: List[Any], counter: Optional[int], level: int) -> Steps[None]:
+        """Writes several values to one place, which a session can't."""
+        raise NotImplementedError
+
+    def note_name(self, name: str, cursor: List[Any], element: Id) -> None:
+        """A name is bound to this element of the list at the cursor."""
+
     def fill(self, cursor: List[Any], values: List[Any], counter: Optional[int], level: int) -> Steps[None]:
-        """Puts what is in the value into the empty map or list at the cursor, and the counter beside it."""
-        value = values[0] if values else None
-        if isinstance(value, dict):
-            for key, inner in value.items():
-                yield from self.write([*cursor, key], inner, level)
-        elif isinstance(value, list):
-            yield from self.insert_all(cursor, [*cursor, 0], 1, value, level)
+        """Puts what is in the values into the empty map and list at the cursor, and the counter beside them."""
+        for value in values:
+            if isinstance(value, dict):
+                for key, inner in value.items():
+                    yield from self.write([*cursor, key], inner, level)
+            elif isinstance(value, list):
+                yield from self.insert_all(cursor, [*cursor, 0], 1, value, level)
         for part in parts_of(counter):
             yield from self.later("add", self.document, cursor, part)
 
@@ -173,14 +208,19 @@ class _Writer:
         """Inserts an element, makes sure that a name means it, and fills it."""
         values, counter = apart(value)
         name = OWN_NAME(level)
-        first = bare(values[0]) if values else None
+        first = bare(values[0]) if len(values) == 1 else None
         made, bound, conflicts = yield [
             ["insert", self.document, behind, first], ["let", self.document, name, [*cursor, index]],
             ["conflicts", self.document, [name]]]
         element = id_in(good([made])[0])
+        self.made += 1
         right = not isinstance(bound, Exception) and _has(conflicts, element)
         # Another session has changed the list in between, or deleted the element: then it stays deleted.
         if right or (yield from bind(self.document, name, cursor, element)):
+            self.note_name(name, cursor, element)
+            if len(values) > 1:
+                yield from self.write_conflict([name], values, counter, level + 1)
+                return element
             if not values:
                 # A counter and no value: what was inserted is deleted, and `add` makes it present again.
                 yield from self.later("delete", self.document, [name])
@@ -199,16 +239,16 @@ def _is_filled(value: Any) -> bool:
     return isinstance(value, (wire.Counter, wire.Conflict)) or isinstance(value, (dict, list)) and bool(value)
 
 
-def _depth(values: List[Any]) -> int:
+def depth(values: List[Any]) -> int:
     """How many names are needed at once: one for each list within lists whose elements are filled."""
     deepest = 0
     for value in values:
         if isinstance(value, wire.Counter):
             continue
         if isinstance(value, wire.Conflict):
-            deepest = max(deepest, _depth(apart(value)[0]))
+            deepest = max(deepest, depth(apart(value)[0]))
         elif isinstance(value, dict):
-            deepest = max(deepest, _depth(list(value.values())))
+            deepest = max(deepest, depth(list(value.values())))
         elif isinstance(value, list) and any(map(_is_filled, value)):
-            deepest = max(deepest, 1 + _depth(value))
+            deepest = max(deepest, 1 + depth(value))
     return deepest

@@ -132,10 +132,22 @@ async def _pull_chains(link: Link, place: Listener, turn: Turn) -> None:
         # Whatever an operation depends on has a lesser counter.
         place.handed_out(early.take(sorted(came, key=_id_of)), front)
         found = bool(came)
+    if not chains and not early.missing():
+        return
+    if await _has_more(link, place, early.missing()):
+        # What is missing was logged since the front was read. The next page has it, or something else that is new: so it ends.
+        return
     # What is left follows other operations than those of the log, or nothing.
     astray = {it.replica for it in chains if it.behind} | {replica for _, replica in early.missing()}
-    if (chains or astray) and not any([place.log.contest(it) for it in astray]):
+    if not any([place.log.contest(it) for it in astray]):
         raise Misbehaved("operations without those that they depend on")
+
+
+async def _has_more(link: Link, place: Listener, missing: List[Tuple[int, str]]) -> bool:
+    """Reads the front again. Returns whether it covers more of what is missing than the one before did."""
+    before = dict(place.has)
+    place.has.update(await link.front(place.log.name))
+    return any(covers(place.has, it) and not covers(before, it) for it in missing)
 
 
 async def pull(link: Link, place: Listener) -> None:

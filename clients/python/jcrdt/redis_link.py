@@ -81,7 +81,7 @@ class Stream(relays.Place):
     """How far the stream of one document is."""
 
     def __init__(self, member: "Streams", log: Log, client: Any) -> None:
-        super().__init__(member.address, None, log, {}, StreamSource(), member.tell)
+        super().__init__(member.address, None, log, {}, StreamSource(), member.troubles)
         self.member, self.client, self.key = member, client, f"jcrdt:{log.name}"
         self._next = self._pause()
         self._pulling, self._pushing = asyncio.Lock(), asyncio.Lock()
@@ -156,8 +156,7 @@ class Stream(relays.Place):
             found, length, first = await asking.execute()
         entries = found[0][1] if found else []
         self._take(entries)
-        if self._early.count:
-            self.tell(f"{self.server}: {self.key}: {self._early.count} operations wait for others that it lacks")
+        self._tell_waiting()
         if len(entries) == PAGE or length == self._count and (first[0][0] if first else b"") == self._first:
             return
         self._begin()
@@ -166,9 +165,19 @@ class Stream(relays.Place):
             if not found:
                 break
             self._take(found[0][1])
-        self.member.relay.tell(f"{self.server}: {self.key}: entries are gone; {self.lacks()} operations are added again")
+        self.troubles.begin(f"{self.key}: cut", "", f"{self.server}: {self.key}: entries are gone; {self.lacks()} operations are added again")
         self._ready = True
         self.news.set()
+
+    def _tell_waiting(self) -> None:
+        if self._early.count:
+            self.troubles.begin(f"{self.key}: waiting", "", f"{self.server}: {self.key}: {self._early.count} operations wait for others "
+                                "that it lacks")
+        else:
+            self.troubles.end(f"{self.key}: waiting", f"{self.server}: {self.key}: no operation waits for others")
+        if self.agrees():
+            # The next cut is another one.
+            self.troubles.end(f"{self.key}: cut")
 
     async def push(self) -> int:
         """Adds what the stream lacks, a page whole or not at all. Returns how many entries that were."""

@@ -2,8 +2,9 @@
 
 A relay is one lasting session of each server, and asks each for news every so many seconds. It keeps
 nothing in files: started again, it reads the documents anew. A server that is away is tried again. One
-that sends what no server sends is named once, left out, and tried again after a while, up to a minute
-later; the others go on meanwhile. A relay holds what the documents have in memory: at most 100,000
+that sends what no server sends is named, left out, and tried again after a while, up to a minute
+later; the others go on meanwhile. Whatever is wrong has a line when it begins, each hour while it lasts,
+and when it has ended. A relay holds what the documents have in memory: at most 100,000
 operations from each server and 1 GiB for each document.
 """
 
@@ -13,13 +14,14 @@ import contextlib
 import os
 import signal
 import time
-from typing import Any, Awaitable, Callable, Dict, Iterable, List, Optional, Sequence, Set, Tuple
+from typing import Any, Awaitable, Callable, Dict, List, Optional, Sequence, Set, Tuple
 
 from .link import Link, link_to
 from .notes import Notes
 from .operation_log import Known, Listener, Log, Source
 from .protocol import NAME_USED_TWICE
 from .pull import pull
+from .troubles import Troubles
 from .wire import (Away, Front, Lost, Misbehaved, Refused, covers, decoded, decoded_reply, encoded, host_and_port,
                    is_integer, pairs_of, refusal)
 
@@ -75,10 +77,9 @@ class Unable(Exception):
 class Place(Listener):
     """How far one server is at one document."""
 
-    def __init__(self, server: str, link: Optional[Link], log: Log, has: Front, source: Optional[Source] = None,
-                 tell: Tell = lambda line: None) -> None:
+    def __init__(self, server: str, link: Optional[Link], log: Log, has: Front, source: Source, troubles: Troubles) -> None:
         super().__init__(log, has, source)
-        self.server, self._link, self.tell = server, link, tell
+        self.server, self._link, self.troubles = server, link, troubles
         # What was refused, by number: how many, and the first. And whether something is to be delivered again.
         self.refused: Dict[int, Tuple[int, Tuple[int, str], Refused]] = {}
         self.again = False
@@ -175,14 +176,15 @@ class Place(Listener):
         begin = b'["deliver",%s,' % encoded(self.log.name)
         operations = [self.log.operations[at] for at in chunk]
         replies = await self.link.ask_lines([begin + it.text + b"]" for it in operations])
-        logged, waiting = 0, []
+        logged = 0
+        waiting: List[Tuple[Known, Optional[Refused]]] = []
         for at, operation, line in zip(chunk, operations, replies):
             # Most replies are of one kind, and needn't be parsed.
             reply: List[Any] = ["applied", 1] if line.startswith(APPLIED) else _delivery_reply(line)
             if reply[0] == "applied":
                 logged += reply[1]
             if self._heard(at, operation, reply):
-                waiting.append((operation, reply[0] == "held"))
+                waiting.append((operation, None if reply[0] == "held" else Refused(reply[1])))
         await self._look_at_waiting(waiting)
         return logged
 
@@ -204,10 +206,9 @@ class Place(Listener):
             self.again = True
             return False
         if cause.number in PASSING:
-            self._tell_once(operation_id, cause)
             return True
         self._judged.add(at)
-        self._tell_once(operation_id, cause)
+        self._tell_refusal(operation_id, cause)
         count, first, found = self.refused.get(cause.number, (0, operation_id, cause))
         self.refused[cause.number] = (count + 1, first, found)
         if cause.number in NAME_USED_TWICE:
@@ -216,20 +217,27 @@ class Place(Listener):
             self._stopped.add(operation_id)
         return False
 
-    def _tell_once(self, operation_id: Tuple[int, str], cause: Refused) -> None:
+    def _tell_refusal(self, operation_id: Tuple[int, str], cause: Refused) -> None:
         counter, replica = operation_id
-        if cause.number not in self.refused:
-            self.tell(f"{self.server}: {self.log.name}: refused {counter} of {replica}: {advice(cause)}")
+        self.troubles.begin(f"{self.log.name}: refused", str(cause.number),
+                            f"{self.server}: {self.log.name}: refused {counter} of {replica}: {advice(cause)}")
 
-    async def _look_at_waiting(self, waiting: Iterable[Tuple[Known, bool]]) -> None:
+    def tell_if_agreed(self) -> None:
+        """Says that nothing is refused any more, where something was."""
+        if self.agrees():
+            self.troubles.end(f"{self.log.name}: refused", f"{self.server}: {self.log.name}: it has all, and refuses nothing")
+
+    async def _look_at_waiting(self, waiting: Sequence[Tuple[Known, Optional[Refused]]]) -> None:
         """Lets the server forget what waits for a refused operation, since it would wait for ever. All else that
         was held or put off is delivered again."""
-        forgotten = []
-        for operation, is_held in waiting:
-            if not self._is_stopped(operation):
-                self.again = True
-            elif is_held:
-                forgotten.append(encoded(["forget", self.log.name, [operation.counter, operation.replica]]))
+        again = [it for it in waiting if not self._is_stopped(it[0])]
+        forgotten = [encoded(["forget", self.log.name, [it.counter, it.replica]]) for it, cause in waiting
+                     if not cause and self._is_stopped(it)]
+        self.again = self.again or bool(again)
+        for operation, cause in again:
+            # What is forgotten makes room for what was put off.
+            if cause and not forgotten:
+                self._tell_refusal(operation[:2], cause)
         await self.link.ask_lines(forgotten)
 
     async def look_again(self) -> None:
@@ -300,25 +308,19 @@ class Member:
         self.relay, self.address = relay, address
         self.places: List[Place] = []
         self.sources = {log.name: Source() for log in relay.logs}
-        self._told: Set[str] = set()
-        self._away, self._strikes, self._since = "", 0, 0.0
-        self._connected = False
-
-    def tell(self, line: str) -> None:
-        """Says a line once, and never again."""
-        if line not in self._told and len(self._told) < 1000:
-            self._told.add(line)
-            self.relay.tell(line)
+        self.troubles = Troubles(relay.tell, relay.clock)
+        self._strikes, self._since = 0, 0.0
+        self._is_new = True
 
     def is_connected(self) -> None:
         """To be called at a connection that works, and after each round. One that misbehaved is to do well
         for a while before that is said."""
-        now = time.monotonic()
-        if self._strikes and now - self._since < LEFT_OUT:
+        if self._strikes and self.relay.clock() - self._since < LEFT_OUT:
             return
-        self._strikes, self._away = 0, ""
-        if not self._connected:
-            self._connected = True
+        self._strikes = 0
+        self.troubles.end("connection", f"{self.address}: connected")
+        if self._is_new:
+            self._is_new = False
             self.relay.tell(f"{self.address}: connected")
 
     async def session(self) -> None:
@@ -329,7 +331,7 @@ class Member:
         """Connects again and again. Whatever goes wrong is told, and never ends it."""
         pause = SHORTEST
         while True:
-            start = self._since = time.monotonic()
+            start = self._since = self.relay.clock()
             try:
                 await self.session()
             except Misbehaved as error:
@@ -337,7 +339,7 @@ class Member:
                 pause = min(LEFT_OUT, 2.0 ** min(self._strikes, 10) / 2)
             except (OSError, Refused) as error:
                 self._is_away(reason(error))
-                pause = SHORTEST if time.monotonic() - start > LONGEST else min(2 * pause, LONGEST)
+                pause = SHORTEST if self.relay.clock() - start > LONGEST else min(2 * pause, LONGEST)
             except Exception as error:  # pylint: disable=broad-except
                 self._misbehaved(error)
                 longest = LONGEST if isinstance(error, Unable) else LEFT_OUT
@@ -347,18 +349,20 @@ class Member:
                     place.close()
                     self.relay.count_refused(place)
                 self.places = []
-            await asyncio.sleep(pause)
+            await self.relay.sleep(pause)
 
     def _is_away(self, why: str) -> None:
-        if not self._strikes and self._away != why:
-            self.relay.tell(f"{self.address}: not connected: {why}; trying again")
-        self._away, self._connected = why, False
+        self._is_out(f"not connected: {why}; trying again")
 
     def _misbehaved(self, error: Exception) -> None:
         why = {Misbehaved: f"it sends {error}", Unable: str(error)}.get(type(error), f"{type(error).__name__}: {error}")
-        self.tell(f"{self.address}: left out: {why:.300}; trying again now and then")
+        self._is_out(f"left out: {why:.300}; trying again now and then")
         self._strikes += 1
-        self._connected = False
+
+    def _is_out(self, why: str) -> None:
+        # The line of an outage says that it is connected, also the first time.
+        self._is_new = False
+        self.troubles.begin("connection", why, f"{self.address}: {why}")
 
 
 class Server(Member):
@@ -383,10 +387,11 @@ class Server(Member):
                 await link.ask("open", log.name)
             except Refused as cause:
                 # It is left out until the server starts again: a connection is one of its sessions.
-                self.tell(f"{self.address}: {log.name}: {advice(cause)}")
+                self.troubles.begin(f"{log.name}: not opened", str(cause), f"{self.address}: {log.name}: {advice(cause)}")
                 continue
+            self.troubles.end(f"{log.name}: not opened", f"{self.address}: {log.name}: it is opened")
             has = await link.front(log.name)
-            self.places.append(Place(self.address, link, log, has, self.sources[log.name], self.tell))
+            self.places.append(Place(self.address, link, log, has, self.sources[log.name], self.troubles))
 
     async def _keep(self, place: Place) -> None:
         pause = self.relay.every
@@ -394,6 +399,7 @@ class Server(Member):
             place.news.clear()
             logged = await place.round()
             self.is_connected()
+            place.tell_if_agreed()
             if place.again:
                 await asyncio.sleep(pause)
                 pause = self.relay.every if logged else min(2 * pause, max(LONGEST, self.relay.every))
@@ -406,10 +412,13 @@ class Server(Member):
 class Relay:
     """Servers, and perhaps streams, that are kept in agreement at some documents."""
 
-    def __init__(self, addresses: Sequence[str], documents: Sequence[str], every: float, tell: Tell, say: Tell) -> None:
-        """`tell` takes the lines for standard error, `say` those for standard output."""
+    def __init__(self, addresses: Sequence[str], documents: Sequence[str], every: float, tell: Tell, say: Tell,
+                 clock: Callable[[], float] = time.monotonic, sleep: Callable[[float], Awaitable[None]] = asyncio.sleep) -> None:
+        """`tell` takes the lines for standard error, `say` those for standard output. `clock` and `sleep` are those by which
+        members are tried again, in seconds."""
         self.logs = [Log(name) for name in documents]
-        self.every, self.tell, self.say = every, tell, say
+        self.every, self.tell, self.say, self.clock, self.sleep = every, tell, say, clock, sleep
+        self.troubles = Troubles(tell, clock)
         self.members: List[Member] = [Server(self, address) for address in addresses]
         # For each server, document and number: how often it refused, and why.
         self._refused: Dict[Tuple[str, str, int], Tuple[int, Refused]] = {}
@@ -464,9 +473,11 @@ class Relay:
         if alike:
             self._differing.discard(log.name)
             self._alike[log.name] = front
-        elif log.name not in self._differing:
+            self.troubles.end(log.name)
+            return
+        self.troubles.begin(log.name, "differ", f"{log.name}: the fronts agree, and the documents differ: a name was used by two starts")
+        if log.name not in self._differing:
             self._differing.add(log.name)
-            self.tell(f"{log.name}: the fronts agree, and the documents differ: a name was used by two starts")
             # Each server is asked for everything: what differs is delivered, and refused with its id.
             for replica in list(log.front):
                 log.contest(replica)
@@ -554,8 +565,9 @@ stream is added again.
 
 Standard output has a line when all agree for the first time, and again after some came or went: their
 fronts are the same, none refused an operation, and all show the same. After SIGTERM or Ctrl-C it has the
-fronts, and what was refused; a second one ends the relay at once. Standard error has a line for each
-server that comes or goes, and for the first refusal of each kind.
+fronts, and what was refused; a second one ends the relay at once. Standard error has a line where a
+server comes or goes, is left out, or refuses something: when that begins, each hour while it lasts, and
+when it has ended. Of one cause at most ten lines are written in an hour.
 
 status: 0 all agreed at the end, 1 they didn't, 2 the command line is wrong""")
     parser.add_argument("servers", nargs="+", metavar="SERVER", help="HOST:PORT")

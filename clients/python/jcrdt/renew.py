@@ -3,7 +3,8 @@
 usage: renew count SERVER.. --doc DOC
        renew put SERVER.. --doc DOC --into SERVER --new-doc DOC [--conflicts keep|last|first] [--force]
                  [--map FILE] [--front FRONT]
-       renew since SERVER.. --doc DOC --front FRONT [--map FILE]
+       renew since SERVER.. --doc DOC --front FRONT [--map FILE] [--lines FILE]
+       renew again SERVER.. --doc DOC --into SERVER --new-doc DOC --map FILE --lines FILE
 
 SERVER is HOST:PORT. A document takes 100,000 operations, of 256 replicas at most. Nothing is ever taken out of
 it. Name all servers that have the document: what they have together may be more than one of them takes.
@@ -20,7 +21,13 @@ put     Makes what the document shows anew in an empty one: lists in their order
         4 what would be half full, but for --force. --map writes a line [OLD,NEW] for each element of a list, with
         its ids: a replica makes edits that the old document refused again by it.
 since   Lists what was done to the old document behind a front, and prints the front to ask with next. With the
-        --map of put, elements of lists have the ids of the new document.
+        --map of put, elements of lists have the ids of the new document. --lines writes the operations to a file,
+        one a line as `save` does and with their old ids, for `again`, and for `remakeIn` of the JavaScript package.
+again   Makes the operations of such a file again in the new document, and adds the elements that it inserts to the
+        map. The same file makes nothing twice, also where it was interrupted. It lists what can't be made, since
+        its element isn't in the new document.
+
+With --progress, and always at a terminal, standard error has a line now and then.
 
 Status 0: all is well. 1: an error. 2: a wrong command line.
 """
@@ -29,14 +36,16 @@ import argparse
 import contextlib
 import hashlib
 import json
-from typing import Any, Dict, Iterator, List, Optional, Sequence, Tuple
+from typing import Any, Dict, Iterable, Iterator, List, Optional, Sequence, Tuple
 
 from . import wire
+from .again import Again, known_by, name_of
 from .facts import Branches, shown
 from .replaced_file import replaced
 from .history import id_text, readable
 from .renewal import Renewal, settled_branches, without_ids
 from .session import Session, connected
+from .progress import Report, add_argument, progress_of, silent
 from .terminal import checked_address, say
 from .wire import Front, Id, Operation, Refused, covers, encoded, pairs_of
 
@@ -54,7 +63,8 @@ class TooMuch(ValueError):
 class Union:
     """The operations of a document that several servers have together, and the front of each server."""
 
-    def __init__(self, servers: Sequence[str], document: str, known: Optional[Front] = None) -> None:
+    def __init__(self, servers: Sequence[str], document: str, known: Optional[Front] = None, report: Report = silent) -> None:
+        """`report` is called with how many operations were read so far."""
         self.operations: List[Operation] = []
         self.front: Front = dict(known or {})
         self.fronts: Dict[str, Front] = {}
@@ -63,6 +73,7 @@ class Union:
                 for operation in server.operations(document, self.front):
                     self.operations.append(operation)
                     self.front[operation[1][1]] = operation[1][0]
+                    report("operations read", len(self.operations), None)
                 self.fronts[address] = server.front(document)
 
 
@@ -109,7 +120,7 @@ def check_size(renewal: Renewal, force: bool) -> None:
 
 def count(asked: argparse.Namespace) -> int:
     """Prints a line for each server, one for all, and one for a new document. Returns the exit status."""
-    union, full = Union(asked.servers, asked.doc), False
+    union, full = Union(asked.servers, asked.doc, None, progress_of("renew", asked.progress)), False
     for name, front in [*union.fronts.items(), ("all together", union.front)]:
         operations = sum(covers(front, it[1]) for it in union.operations)
         say(f"{name}: {amount(operations, wire.OPERATION_LIMIT, 'operations')}, "
@@ -129,7 +140,8 @@ def count(asked: argparse.Namespace) -> int:
 
 
 def put(asked: argparse.Namespace) -> int:
-    union = Union(asked.servers, asked.doc)
+    report = progress_of("renew", asked.progress)
+    union = Union(asked.servers, asked.doc, None, report)
     if asked.front is not None:
         if not all(counter <= union.front.get(replica, 0) for replica, counter in asked.front.items()):
             raise ValueError("these servers lack operations that the front covers")
@@ -140,7 +152,7 @@ def put(asked: argparse.Namespace) -> int:
     with opened(asked.into, asked.new_doc) as target:
         check_target(target, asked, renewal)
         say(f"if this is interrupted, run it again with --front '{line_of(union.front)}'")
-        deliver(target, asked.new_doc, renewal.operations)
+        deliver(target, asked.new_doc, renewal.operations, report)
         made = target.show(asked.new_doc, [0])
     if without_ids(made) != without_ids(branches):
         say(f"old: {json.dumps(wire.plain(branches))}")
@@ -169,7 +181,7 @@ def check_target(target: Session, asked: argparse.Namespace, renewal: Renewal) -
         raise ValueError(f"{asked.new_doc} at {asked.into} isn't empty: {others[0]} has written to it")
 
 
-def deliver(server: Session, document: str, operations: List[Operation]) -> None:
+def deliver(server: Session, document: str, operations: List[Operation], report: Report = silent) -> None:
     for at in range(0, len(operations), BATCH):
         part = operations[at:at + BATCH]
         for operation, reply in zip(part, server.ask_all([["deliver", document, it] for it in part])):
@@ -177,6 +189,7 @@ def deliver(server: Session, document: str, operations: List[Operation]) -> None
                 raise reply
             if isinstance(reply, Exception) or reply and len(reply) != 3:
                 raise ValueError(f"{id_text(operation[1])} isn't taken: {reply}")
+        report("operations delivered", at + len(part), len(operations))
 
 
 def change_over(asked: argparse.Namespace, front: Front) -> None:
@@ -184,7 +197,8 @@ def change_over(asked: argparse.Namespace, front: Front) -> None:
     say(f"1. Start all servers that have {asked.doc} with {asked.new_doc} as well, and let a relay bring it to them: relay .. "
         f"--doc {asked.new_doc}.")
     say(f"2. Let all clients write to {asked.new_doc}. Until the last one does, {asked.doc} is edited still.")
-    say(f"3. See what was done to {asked.doc} meanwhile, and do it again in {asked.new_doc}:")
+    say(f"3. See what was done to {asked.doc} meanwhile, and do it again in {asked.new_doc}: --lines FILE writes the operations, and renew again makes "
+        "them there:")
     say(f"   {since_line(asked, front)}")
     say(f"4. Ask again with the front that it prints. When it lists nothing, start the servers without {asked.doc}. Its rows "
         "stay in their files.")
@@ -195,14 +209,48 @@ def since_line(asked: argparse.Namespace, front: Front) -> str:
 
 
 def since(asked: argparse.Namespace) -> int:
-    """Lists the operations that the front doesn't cover, and how many they are."""
-    union, ids = Union(asked.servers, asked.doc, asked.front), ids_of(asked.map) if asked.map else {}
+    """Lists the operations that the front doesn't cover, and how many they are, and writes them to a file."""
+    union, ids = Union(asked.servers, asked.doc, asked.front, progress_of("renew", asked.progress)), ids_of(asked.map) if asked.map else {}
+    if asked.lines:
+        with replaced(asked.lines) as file:
+            file.writelines(encoded(operation) + b"\n" for operation in union.operations)
     for operation in union.operations:
         say(f"{id_text(operation[1]):<16} {readable(in_new_document(operation, ids))}")
     say(f"{len(union.operations)} operations since then" + (". Ask next with:" if union.operations else ""))
     if union.operations:
         say(f"   {since_line(asked, union.front)}")
     return 0
+
+
+def again(asked: argparse.Namespace) -> int:
+    """Makes the operations of a file again in the new document."""
+    report = progress_of("renew", asked.progress)
+    with open(asked.lines, "rb") as file:
+        lines = [wire.checked_operation(wire.decoded(line)) for line in file if line.strip()]
+    union, name = Union(asked.servers, asked.doc, None, report), name_of(asked.new_doc, lines)
+    missing = [it for it in lines if not covers(union.front, it[1])]
+    if missing:
+        raise ValueError(f"these servers lack {id_text(missing[0][1])} of {asked.lines}")
+    with opened(asked.into, asked.new_doc) as target:
+        work = Again(name, known_by(target, asked.new_doc, name), ids_of(asked.map), union.operations)
+        for operation in lines:
+            work.take(operation)
+        deliver(target, asked.new_doc, work.operations, report)
+    add_to_map(asked.map, work.elements)
+    for operation in work.lost:
+        say(f"{id_text(operation[1]):<16} {readable(operation)}: its element isn't in {asked.new_doc}")
+    say(f"{asked.new_doc}: {len(work.operations)} of {len(lines)} operations were made again, {len(work.lost)} can't be")
+    return 0
+
+
+def add_to_map(path: str, elements: Iterable[Tuple[Id, Id]]) -> None:
+    """Adds the lines of elements that a map doesn't have yet."""
+    with open(path, "rb") as file:
+        lines = file.read().splitlines()
+    known = set(lines)
+    lines += [it for it in (encoded(list(pair)) for pair in elements) if it not in known]
+    with replaced(path) as written:
+        written.writelines(line + b"\n" for line in lines)
 
 
 def ids_of(path: str) -> Dict[Tuple[int, str], Id]:
@@ -231,25 +279,31 @@ def parsed(words: Sequence[str]) -> argparse.Namespace:
     raw = argparse.RawDescriptionHelpFormatter
     parser = argparse.ArgumentParser(prog="renew", description=__doc__, formatter_class=raw)
     parts = parser.add_subparsers(dest="act", required=True)
-    counting, putting, late = (parts.add_parser(it, description=__doc__, formatter_class=raw) for it in ("count", "put", "since"))
-    for part in (counting, putting, late):
+    counting, putting, late, remaking = (parts.add_parser(it, description=__doc__, formatter_class=raw)
+                                         for it in ("count", "put", "since", "again"))
+    for part in (counting, putting, late, remaking):
         part.add_argument("servers", nargs="+", metavar="SERVER", type=checked_address)
         part.add_argument("--doc", required=True)
-    putting.add_argument("--into", required=True, metavar="SERVER", type=checked_address)
-    putting.add_argument("--new-doc", required=True, metavar="DOC")
+        add_argument(part)
+    for part in (putting, remaking):
+        part.add_argument("--into", required=True, metavar="SERVER", type=checked_address)
+        part.add_argument("--new-doc", required=True, metavar="DOC")
     putting.add_argument("--conflicts", choices=("keep", "last", "first"), default="keep")
     putting.add_argument("--force", action="store_true")
     for part in (putting, late):
         part.add_argument("--map", metavar="FILE")
     putting.add_argument("--front", type=front_of)
     late.add_argument("--front", required=True, type=front_of)
+    late.add_argument("--lines", metavar="FILE")
+    for word in ("--map", "--lines"):
+        remaking.add_argument(word, required=True, metavar="FILE")
     return parser.parse_args(words)
 
 
 def main(words: Sequence[str]) -> int:
     asked = parsed(words)
     try:
-        return {"count": count, "put": put, "since": since}[asked.act](asked)
+        return {"count": count, "put": put, "since": since, "again": again}[asked.act](asked)
     except TooMuch as error:
         say(f"{asked.doc}: {error}")
         return TOO_MUCH

@@ -1,7 +1,7 @@
 """A document as lines, one operation each: saved from a server, loaded into one of another name.
 
-usage: save ADDRESS DOC FILE     (HOST:PORT of a running server; `-` for standard output)
-       load ADDRESS DOC FILE     (`-` for standard input)
+usage: save [--progress] ADDRESS DOC FILE     (HOST:PORT of a running server; `-` for standard output)
+       load [--progress] ADDRESS DOC FILE     (`-` for standard input)
 
 save writes a new file and puts it in the place of FILE once all is written. load delivers each line. What the
 server has already is known, and isn't loaded again. The status is 1 if a line was refused, or waits for
@@ -12,6 +12,7 @@ import argparse
 from typing import BinaryIO, Iterator, List, Sequence, Tuple
 
 from . import wire
+from .progress import Report, add_argument, progress_of, silent
 from .protocol import NAME_USED_TWICE
 from .replaced_file import replaced
 from .session import Session, connected
@@ -22,12 +23,14 @@ from .wire import Id, Refused, encoded
 BATCH = 256
 
 
-def save(server: Session, document: str, file: BinaryIO) -> int:
-    """Writes each logged operation as a line, in an order in which they can be delivered. Returns how many."""
+def save(server: Session, document: str, file: BinaryIO, report: Report = silent) -> int:
+    """Writes each logged operation as a line, in an order in which they can be delivered. Returns how many. `report` is called with
+    how many were written so far."""
     count = 0
     for operation in server.operations(document):
         file.write(encoded(operation) + b"\n")
         count += 1
+        report("operations saved", count, None)
     return count
 
 
@@ -41,8 +44,9 @@ class Loaded:
         self.waiting: List[Tuple[Id, List[Id]]] = []
 
 
-def load(server: Session, document: str, file: BinaryIO) -> Loaded:
-    """Delivers each line of a file. Blank lines are left out."""
+def load(server: Session, document: str, file: BinaryIO, report: Report = silent) -> Loaded:
+    """Delivers each line of a file. Blank lines are left out. `report` is called now and then with how many were delivered so
+    far."""
     result, came = Loaded(), set()
     for part in _parts(file):
         good: List[Tuple[int, wire.Operation]] = []
@@ -61,6 +65,8 @@ def load(server: Session, document: str, file: BinaryIO) -> Loaded:
                 result.logged += reply[0]
             else:
                 result.known += not reply
+        if part:
+            report("lines delivered", part[-1][0], None)
     result.waiting = [(waiting, missing) for waiting, missing in server.held(document) if tuple(waiting) in came]
     result.refused.sort(key=lambda it: it[0])
     return result
@@ -98,14 +104,16 @@ def main(words: Sequence[str]) -> int:
     parser.add_argument("address", metavar="ADDRESS", type=checked_address)
     for name, shown in (("document", "DOC"), ("file", "FILE")):
         parser.add_argument(name, metavar=shown)
+    add_argument(parser)
     asked = parser.parse_args(words[1:])
+    report_progress = progress_of(words[0], asked.progress)
     with connected(asked.address) as server:
         server.open(asked.document)
         if words[0] == "save":
             with replaced(asked.file) as file:
-                count = save(server, asked.document, file)
+                count = save(server, asked.document, file, report_progress)
             if asked.file != "-":
                 say(f"saved {count} operations")
             return 0
         with open(0 if asked.file == "-" else asked.file, "rb", closefd=asked.file != "-") as lines:
-            return report(load(server, asked.document, lines))
+            return report(load(server, asked.document, lines, report_progress))

@@ -20,12 +20,14 @@ import socket
 import threading
 import time
 from types import TracebackType
-from typing import Any, Deque, Iterable, Iterator, List, Optional, Sequence, Type, TypeVar
+from typing import Any, Deque, Iterable, Iterator, List, Literal, Optional, Sequence, Type, TypeVar
 
-from . import nested, wire
+from . import loading, mending, nested, wire
 from .limits import USUAL, Limits
 from .replies import Reply, checked_beginning, front_in, id_in, logged_in, page_in, reply_of
+from .steps import Steps
 from .stream import Stream
+from .tagged import tagged
 from .wire import Away, Cursor, Front, Id, Lost, Misbehaved, Operation, Refused, encoded
 
 T = TypeVar("T")
@@ -139,7 +141,7 @@ class Session:
             self.broken = str(error)
             raise
 
-    def _run(self, steps: "nested.Steps[T]") -> T:
+    def _run(self, steps: Steps[T]) -> T:
         """Asks what the steps want, and returns what they found. Other threads wait meanwhile."""
         self._check_process()
         with self.lock:
@@ -211,18 +213,26 @@ class Session:
         return self.extend(document, cursor, [value])[0]
 
     def extend(self, document: str, cursor: Cursor, values: Sequence[Any]) -> List[Id]:
-        """Inserts values behind the last element of the list at the cursor. Returns their ids."""
+        """Inserts values behind the last element of the list at the cursor. Returns their ids. Raises as `put`."""
         return self._run(nested.extend(document, cursor, values))
 
-    def put(self, document: str, cursor: Cursor, value: Any) -> None:
+    def put(self, document: str, cursor: Cursor, value: Any, only: Optional[Literal["changed"]] = None) -> None:
         """Assigns a nested value: {} or [] first, and then what is in it, one request each. It takes what
         `plain` gives: a counter begins at its sum. Other sessions may change the same lists meanwhile: each
         element is bound and checked before it is filled, and one that was deleted meanwhile is left out.
 
+        With only="changed" it sends what differs from what is there, and nothing where nothing does. Elements of
+        lists that change stay the same elements, and what is no part of the value is deleted.
+
         Raises ValueError for a value that can't be put, before anything is changed: one that isn't made of dicts
         with texts as keys, lists, integers of 64 bits, texts of at most 4,096 bytes, True, False and None, or a
-        conflict of two values (make it one by `settled`). After a Refused or Lost the first part of it is there."""
-        self._run(nested.put(document, cursor, value))
+        conflict of two values (make it one by `settled`).
+
+        Raises Refused (18, log-full) before anything is changed if the document has no room for all of it, as far
+        as its front and the counters of its operations say: see room.py. So nothing is left half made but where
+        others take the room meanwhile, or the connection fails: after such a Refused or Lost the first part of the
+        value is there."""
+        self._run(nested.put(document, cursor, value) if only is None else mending.put_changed(document, cursor, value))
 
     # Readings.
 
@@ -251,6 +261,19 @@ class Session:
         """The value at the cursor as plain JSON, with a Counter for a counter and a Conflict where several
         values are."""
         return wire.plain(self.show(document, cursor))
+
+    def export(self, document: str, cursor: Cursor = (0,)) -> Any:
+        """The value at the cursor as JSON that keeps counters and conflicts by tags: see tagged.py."""
+        return tagged(self.plain(document, cursor))
+
+    def load_json(self, document: str, cursor: Cursor, data: Any) -> int:
+        """Makes what is at the cursor into a value that `export` gave, by sending what differs alone. Returns how many
+        operations that took. Each value of a conflict that isn't there yet is made by a replica of its own, of which a
+        document has 256.
+
+        Raises ValueError for what is no such value, or a cursor with an index or a name, and Refused (18, 19) where the
+        document has no room, both before anything is changed. Otherwise as `put` with only="changed"."""
+        return self._run(loading.load_json(document, cursor, data))
 
     # What servers deliver to each other.
 

@@ -327,19 +327,20 @@ def settled(value: Any, choose: Callable[[List[Any]], Any] = lambda values: valu
     return [settled(inner, choose) for inner in value] if isinstance(value, list) else value
 
 
-def checked_value(value: Any, depth: int = 0, place: str = "") -> Any:
+def checked_value(value: Any, depth: int = 0, place: str = "", has_conflicts: bool = False) -> Any:
     """The value, if `put` can write all of it at a place of this depth: plain dicts with texts as keys,
     lists, exact integers of 64 bits, texts, True, False, None, a Counter, and a Conflict of one value
-    beside a Counter. Raises ValueError, which names the part that isn't right."""
+    beside a Counter; of several only if it may have conflicts. Raises ValueError, which names the part
+    that isn't right."""
     where = place or "/"
     if depth > PATH_LIMIT:
         raise ValueError(f"{where}: nested more than {PATH_LIMIT} deep")
     if type(value) is Conflict:
         values, _ = apart(value)
-        if len(values) > 1:
+        if len(values) > 1 and not has_conflicts:
             raise ValueError(f"{where}: {len(values)} values at one place: settle the conflict first")
         for inner in value["conflict"]:
-            checked_value(inner, depth, place)
+            checked_value(inner, depth, place, has_conflicts)
     elif type(value) is Counter:
         if not is_integer(value["counter"]):
             raise ValueError(f"{where}: the sum of a counter is an integer")
@@ -347,10 +348,10 @@ def checked_value(value: Any, depth: int = 0, place: str = "") -> Any:
         for key, inner in value.items():
             if not _is_text(key, KEY_BYTES):
                 raise ValueError(f"{where}: the key {key!r:.40} is no text of at most {KEY_BYTES} bytes")
-            checked_value(inner, depth + 1, f"{place}/{key}")
+            checked_value(inner, depth + 1, f"{place}/{key}", has_conflicts)
     elif type(value) is list:
         for number, inner in enumerate(value, 1):
-            checked_value(inner, depth + 1, f"{place}/{number}")
+            checked_value(inner, depth + 1, f"{place}/{number}", has_conflicts)
     elif not is_scalar_or_empty(value):
         raise ValueError(f"{where}: {value!r:.40} is no integer of 64 bits, no text of at most {TEXT_BYTES} bytes, "
                          "no True, False, None, dict or list")

@@ -2,7 +2,7 @@
 
 import time
 from collections import deque
-from typing import Any, Deque, List, Optional, Tuple
+from typing import Any, Deque, Dict, Iterable, List, Optional, Tuple
 
 from . import wire
 from .stored_log import StoredLog
@@ -16,10 +16,10 @@ REPEATABLE = ("assign", "delete")
 
 
 class Write:
-    """A request, and the id of its operation once it has a reply."""
+    """A request, and the id of its operation once it has a reply. With `number` it assigns a total that is known once it is sent."""
 
-    def __init__(self, request: List[Any]) -> None:
-        self.request = request
+    def __init__(self, request: List[Any], number: Optional[int] = None) -> None:
+        self.request, self.number = request, number
         self.id: Optional[Id] = None
         self.refused: Optional[Refused] = None
 
@@ -35,8 +35,8 @@ class Writes:
     A refused write is dropped: nothing was changed. One whose reply is missing (Lost) stays in `waiting`, as does
     one that reached no server (Away). What the server has isn't sent again, since that would be a second
     operation. A write without a reply is sent again: an `insert` or `add` may then be there twice, an `assign` or
-    `delete` does the same once more. `unknown` is that write; `drop_unknown` takes it for done. An index in a
-    cursor means what is there at that time. If servers exchange, a peer may deliver what was lost: let it do so
+    `delete` does the same once more. `unknown` is that write; `drop_unknown` takes it for done. `add` of this class counts
+    once in any case, by a key of the writer's own. An index in a cursor means what is there at that time. If servers exchange, a peer may deliver what was lost: let it do so
     before `send_again`. Writes with replies are kept until `flush`, or until another start of the server has them.
     """
 
@@ -46,11 +46,27 @@ class Writes:
         self.answered: Deque[Write] = deque()
         self.waiting: Deque[Write] = deque()
         self.unknown: Optional[Write] = None
+        # The totals of own keys that this object added to.
+        self._totals: Dict[Tuple[Any, ...], int] = {}
 
     def send(self, server: Session, word: str, cursor: Cursor, *value: Any) -> Id:
         """Sends what waits and then this request, and returns the id of its operation. Raises Refused if it is
         refused, Lost or Away if it or one before it isn't answered: it stays."""
-        write = Write([word, self.document, cursor, *value])
+        return self._sent(server, Write([word, self.document, cursor, *value]))
+
+    def add(self, server: Session, cursor: Cursor, number: int, key: str) -> Id:
+        """Adds a number exactly once, however often connections break and the server is killed. It is no `add` of a counter:
+        each writer has a key of its own in the map at the cursor, and assigns its running total there, which may be repeated.
+        The sum is that of all keys: `sum(server.plain(document, cursor).values())`.
+
+        `key` is this writer's alone: no other process or machine ever uses it at the same time. It may be used again later,
+        behind a `flush`: the total that is there is read with the first addition. The cursor has no index.
+
+        Raises as `send`, and what waits has the addition then: after a Lost or Away don't call it again for the same one, but
+        `send_again`. Raises ValueError, and keeps nothing, where something else than one integer is at the key."""
+        return self._sent(server, Write(["assign", self.document, [*cursor, key]], number))
+
+    def _sent(self, server: Session, write: Write) -> Id:
         self.waiting.append(write)
         self._send_waiting(server)
         if write.refused:
@@ -58,10 +74,31 @@ class Writes:
         assert write.id is not None
         return write.id
 
+    def _without_totals(self, writes: Iterable[Write]) -> None:
+        """Takes additions back that are sent again: one of them may be refused this time."""
+        for write in writes:
+            if write.number is not None and len(write.request) > 3:
+                del write.request[3:]
+                self._totals[tuple(write.request[2])] -= write.number
+
+    def _set_total(self, server: Session, write: Write) -> None:
+        """Completes the request of an addition."""
+        place = tuple(write.request[2])
+        if place not in self._totals:
+            there = server.values(self.document, list(place))
+            if len(there) > 1 or not all(map(wire.is_integer, there)):
+                self.waiting.popleft()
+                raise ValueError(f"{self.document}: {place[-1]} has something else than one integer")
+            self._totals[place] = there[0] if there else 0
+        assert write.number is not None
+        self._totals[place] += write.number
+        write.request.append(self._totals[place])
+
     def send_again(self, server: Session) -> Tuple[int, List[Refused]]:
         """Sends what the server lacks, in its order. Returns how many writes that were, and the Refused among
         them."""
         self.waiting.extendleft(reversed(self._take_lost(server)))
+        self._without_totals(self.waiting)
         count = len(self.waiting)
         return count, self._send_waiting(server)
 
@@ -87,8 +124,7 @@ class Writes:
             self._await_file(server, file, last, seconds)
         else:
             self._await_hub(server, last)
-        count = len(self.answered)
-        self.answered.clear()
+        count, self.answered = len(self.answered), deque()
         if refused:
             raise refused[0]
         return count
@@ -139,6 +175,8 @@ class Writes:
         refused: List[Refused] = []
         while self.waiting:
             write = self.waiting[0]
+            if write.number is not None and len(write.request) == 3:
+                self._set_total(server, write)
             # Until it has its reply.
             self.unknown = write
             try:
@@ -146,6 +184,8 @@ class Writes:
             except Refused as cause:
                 write.refused = cause
                 refused.append(cause)
+                if write.number is not None:
+                    self._totals[tuple(write.request[2])] -= write.number
             except Away:
                 self.unknown = None
                 raise
@@ -164,5 +204,6 @@ class Writes:
             self.answered.clear()
             # The older ones come behind this one now. What it assigned is to stay.
             again = [write] if lost and write.request[0] in REPEATABLE else []
+            self._without_totals([*lost, *again])
             self.waiting.extendleft(reversed(lost + again))
         self.answered.append(write)

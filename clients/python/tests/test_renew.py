@@ -4,7 +4,7 @@ import json
 import re
 import threading
 from pathlib import Path
-from typing import Any, Callable, Dict, List
+from typing import Any, Callable, Dict, List, Tuple
 
 import pytest
 from conftest import Server, tool, wait_until
@@ -136,11 +136,123 @@ def test_late_changes_come_to_an_end(server: Server, tmp_path: Path) -> None:
     assert again == "0 operations since then\n"
 
 
+def test_late_changes_are_written_as_operations(server: Server, tmp_path: Path) -> None:
+    """As the log has them, one a line, in an order in which they can be delivered: a document that was saved at the front takes
+    them. The file is replaced as a whole."""
+    front, lines, saved = front_printed(put(server, "kept")), tmp_path / "lines", str(tmp_path / "saved")
+    tool("save", server.address, "old", saved)
+    words = ("renew", "since", server.address, "--doc", "old", "--lines", str(lines), "--front")
+    with jcrdt.connected(server.address) as alice:
+        alice.open("old")
+        known = alice.front("old")
+        alice.append("old", [0, "list"], {"text": "late\x1b[2J"})
+        alice.add("old", [0, "votes"], 2)
+        alice.delete("old", [0, "list", 1])
+        late = [jcrdt.wire.encoded(it).decode() for it in alice.operations("old", known)]
+        told = tool(*words, front)
+        assert lines.read_text().splitlines() == late and len(late) == 4 and "4 operations since then" in told
+        with jcrdt.started(["old"], "reader") as reader:
+            reader.open("old")
+            for line in [*Path(saved).read_text().splitlines(), *lines.read_text().splitlines()]:
+                assert reader.deliver("old", json.loads(line)) == 1
+            assert reader.show("old", [0]) == alice.show("old", [0])
+    assert tool(*words, front_printed(told)) == "0 operations since then\n" and lines.read_text() == ""
+
+
+def lines_of(server: Server, front: str, tmp_path: Path) -> Tuple[str, str]:
+    """What was done since, as a file of operations, and the front to go on from."""
+    path = str(tmp_path / "late")
+    return path, tool("renew", "since", server.address, "--doc", "old", "--front", front, "--lines", path)
+
+
+def test_late_changes_are_made_again(serve: Serve, tmp_path: Path) -> None:
+    """Once, by a file of them: edits of elements that were inserted meanwhile too, insertions behind deleted elements, and counters.
+    An element that another deleted in the new document comes back with an edit, as where two don't know of each other."""
+    server, path = serve("old", "kept", name="alice"), str(tmp_path / "map")
+    again = ("renew", "again", server.address, "--doc", "old", "--into", server.address, "--new-doc", "kept", "--map", path, "--lines")
+    with jcrdt.connected(server.address) as alice:
+        alice.open("old")
+        alice.open("kept")
+        alice.put("old", [0], {"list": ["zero", "a", {"text": "b"}, "c"], "title": "x"})
+        alice.delete("old", [0, "list", 1])
+        front = front_printed(put(server, "kept", "--map", path))
+        alice.delete("kept", [0, "list", 3])
+        alice.assign("old", [0, "list", 2, "text"], "b2")
+        alice.append("old", [0, "list"], {"text": "d"})
+        alice.assign("old", [0, "list", 4, "text"], "d2")
+        alice.let("old", "a", [0, "list", 1])
+        alice.delete("old", ["a"])
+        alice.insert("old", ["a"], "behind a")
+        alice.add("old", [0, "n"], 5)
+        alice.assign("old", [0, "list", 3], "c2")
+        alice.delete("old", [0, "title"])
+        late, told = lines_of(server, front, tmp_path)
+        for _ in range(2):
+            said = tool(*again, late)
+            assert said == "kept: 9 of 9 operations were made again, 0 can't be\n"
+            assert alice.plain("kept", [0]) == {"list": ["behind a", {"text": "b2"}, "c2", {"text": "d2"}], "n": jcrdt.Counter(5)}
+        # The next round, with an edit of an element that came by the first one.
+        alice.assign("old", [0, "list", 4, "text"], "d3")
+        alice.add("old", [0, "n"], 1)
+        late, told = lines_of(server, front_printed(told), tmp_path)
+        assert "2 of 2" in tool(*again, late)
+        assert alice.plain("kept", [0, "list", 4]) == {"text": "d3"} and alice.sum("kept", [0, "n"]) == 6
+
+
+def test_what_cannot_be_made_again_is_told(server: Server, tmp_path: Path) -> None:
+    """An edit in an element that the map hasn't. And one of two servers that lacks the edits makes none."""
+    path = tmp_path / "map"
+    front = front_printed(put(server, "kept", "--map", str(path)))
+    path.write_text("")
+    with jcrdt.connected(server.address) as alice:
+        alice.open("old")
+        alice.open("kept")
+        element = alice.items("old", [0, "list"])[2][0]
+        alice.assign("old", [0, "list", 3, "x"], "lost")
+        alice.delete("old", [0, "list", 3])
+        alice.assign("old", [0, "title"], "late")
+        late, _ = lines_of(server, front, tmp_path)
+        words = ("--doc", "old", "--into", server.address, "--new-doc", "kept", "--map", str(path), "--lines", late)
+        said = tool("renew", "again", server.address, *words)
+        assert f'assign /list/{element[0]}@{element[1]}/x = "lost": its element isn\'t in kept' in said
+        assert said.endswith("kept: 1 of 3 operations were made again, 1 can't be\n")
+        assert alice.values("kept", [0, "title"]) == ["late"]
+        before = alice.front("kept")
+        assert "these servers lack" in tool("renew", "again", server.address, "--doc", "last", *words[2:], status=1)
+        assert alice.front("kept") == before
+
+
+def test_one_that_is_made_again_is_continued(server: Server, tmp_path: Path, monkeypatch: pytest.MonkeyPatch) -> None:
+    """It was cut off behind 20 of 40 additions, and others write to the new document meanwhile."""
+    path = str(tmp_path / "map")
+    front = front_printed(put(server, "kept", "--map", path))
+    with jcrdt.connected(server.address) as alice:
+        alice.open("old")
+        alice.open("kept")
+        alice.ask_all([["add", "old", [0, "late"], 1]] * 40)
+        late, _ = lines_of(server, front, tmp_path)
+        words = ["again", server.address, "--doc", "old", "--into", server.address, "--new-doc", "kept", "--map", path, "--lines", late]
+
+        def cut(session: Session, document: str, operations: List[Operation], *_: Any) -> None:
+            for operation in operations[:20]:
+                session.deliver(document, operation)
+            raise KeyboardInterrupt
+
+        with monkeypatch.context() as patch, pytest.raises(KeyboardInterrupt):
+            patch.setattr(renew, "deliver", cut)
+            renew.main(words)
+        assert alice.sum("kept", [0, "late"]) == 20
+        alice.assign("kept", [0, "title"], "written meanwhile")
+        for _ in range(2):
+            assert "40 of 40" in tool("renew", *words)
+            assert alice.sum("kept", [0, "late"]) == 40 and alice.values("kept", [0, "title"]) == ["written meanwhile"]
+
+
 def test_one_that_was_interrupted_is_continued(server: Server, monkeypatch: pytest.MonkeyPatch) -> None:
     """The same command continues it, also if the old document was edited meanwhile; another renewal is refused."""
     delivered: List[int] = []
 
-    def cut(session: Session, document: str, operations: List[Operation]) -> None:
+    def cut(session: Session, document: str, operations: List[Operation], *_: Any) -> None:
         delivered.append(len(operations))
         for operation in operations[:20]:
             session.deliver(document, operation)
@@ -193,6 +305,25 @@ def test_two_renewers_at_once(server: Server) -> None:
             alice.open(document)
         shown, old = alice.plain("kept", [0]), alice.plain("old", [0])
     assert alike({**shown, "seen": 0}) == alike({**old, "seen": 0})
+
+
+def test_another_renewal_that_begins_first_is_not_joined(server: Server, monkeypatch: pytest.MonkeyPatch) -> None:
+    """Its first operation comes between the look at the empty document and our first one."""
+    union = renew.Union([server.address], "old")
+    _, mine = renew.renewal_of(union, "old", "keep")
+    _, other = renew.renewal_of(union, "old", "last")
+    asked = renew.parsed(["put", server.address, "--doc", "old", "--into", server.address, "--new-doc", "kept"])
+    with renew.opened(server.address, "kept") as target:
+        look = target.front
+
+        def front(document: str) -> Dict[str, int]:
+            found = look(document)
+            target.deliver(document, other.operations[0])
+            return found
+
+        monkeypatch.setattr(target, "front", front)
+        with pytest.raises(ValueError, match=f"another renewal, {other.name}, fills it"):
+            renew.check_target(target, asked, mine)
 
 
 def test_counts(server: Server) -> None:
