@@ -33,7 +33,7 @@ function stateOf(options) {
   return {
     pool,
     watches: new Watches(pool, poll, clock),
-    presence: new Presence(),
+    presence: new Presence(clock, patience * SECOND),
     storage: new Storage(durable, clock, stored),
     figures: new Figures(),
     unread: new Unread(UNREAD_BYTES, note),
@@ -91,7 +91,8 @@ async function opened(state, { lines, web, origins = [] }) {
 }
 
 /** @param {import("./lib/state.mjs").State} state */
-function end({ pool, watches, storage }) {
+function end({ pool, watches, presence, storage }) {
+  presence.stop();
   pool.stop();
   watches.stop();
   storage.stop();

@@ -48,7 +48,9 @@ import { NAME_USED_TWICE } from "./protocol.mjs";
  *  @property {Read} read
  *  @property {() => Map<string, number>} front
  *  @property {(operations: any[]) => Taken} take Delivers operations as one batch.
- *  @property {() => boolean} isShared */
+ *  @property {() => boolean} isShared
+ *  @property {(count: number) => void} fetched Is called with the operations that came, once more
+ *    have come, and are to be taken. */
 
 /** @typedef {{taken: number, refused: {line: string, refusal: Refused}[]}} Taken */
 
@@ -240,7 +242,8 @@ export class Exchange {
     const isFollowed = this.#followedBy(answer) !== undefined;
     const front = this.#core.front();
     const pages = pagesOf(ask, front, isFollowed);
-    for await (const page of joined(pages, front.size > 0 ? AT_ONCE : Infinity)) {
+    const came = counted(pages, this.#core.fetched);
+    for await (const page of joined(came, front.size > 0 ? AT_ONCE : Infinity)) {
       for (const op of page) if (isId(op?.[1])) this.#noteTheirs(answer, theirs, op[1]);
       const { taken, refused } = this.#core.take(page);
       report.taken += taken;
@@ -540,6 +543,18 @@ async function* pagesOf(ask, front, isHub) {
     count += page.length;
     if (count > MOST.log || seen.size > 2 * MOST.replicas) throw malformed("ops");
     if (isMore) asked = next();
+    yield page;
+  }
+}
+
+/** Pages as they come, of which `fetched` is called with how many operations they have together.
+ *  @param {AsyncIterable<any[]>} pages
+ *  @param {(count: number) => void} fetched */
+async function* counted(pages, fetched) {
+  let count = 0;
+  for await (const page of pages) {
+    count += page.length;
+    if (page.length > 0) fetched(count);
     yield page;
   }
 }

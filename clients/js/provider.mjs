@@ -17,6 +17,7 @@ import { Away } from "./errors.mjs";
 import { print } from "./json.mjs";
 import { freshName } from "./names.mjs";
 import { Notices, wordsOf } from "./notices.mjs";
+import { Presence } from "./presence.mjs";
 import { Replica } from "./replica.mjs";
 import { StoreWriter } from "./store_writer.mjs";
 import { memoryStore } from "./stores.mjs";
@@ -70,9 +71,9 @@ export { Busy, Unstored, memoryStore } from "./stores.mjs";
 /**
  * What `listen` gives.
  * @typedef {object} Event
- * @property {"changed" | "state" | "problem" | "server"} what "changed": operations were logged,
- *   one event for all that came at once. "state", "problem": these have others now. "server": the
- *   server has another front.
+ * @property {"changed" | "state" | "problem" | "server" | "presence" | "progress"} what "changed":
+ *   operations were logged, one event for all that came at once. "state", "problem", "presence",
+ *   "progress": these are others now. "server": the server has another front.
  * @property {string} [why] of "changed": "own", "undo", "taken" or "remade"
  * @property {string[]} [lines] of "changed": the operations; none where it was remade
  */
@@ -100,6 +101,9 @@ export class Provider {
   /** The document as it is here. It is read and edited at any time, and isn't `sync`ed by hand.
    *  @type {Replica} */
   replica;
+  /** Who else has the document open at the hub: see presence.mjs.
+   *  @type {Presence} */
+  presence;
   /** @type {State} */
   state = { word: "offline", since: new Date(), why: "it is opened" };
   #options;
@@ -152,6 +156,8 @@ export class Provider {
       replica, store, writer: this.#writer, notices: this.#notices, connection: this.#connection,
       changed: () => this.#show(), word, onReply, clock, life,
     });
+    const heard = () => this.#notices.tell({ what: "presence" });
+    this.presence = new Presence({ doc: document, life, changed: heard });
     for (const problem of problems) this.#notices.report(problem);
     this.#begin();
   }
@@ -160,7 +166,10 @@ export class Provider {
    *  @returns {import("./connection.mjs").User} */
   #user() {
     return {
-      begin: (link) => this.#exchange.begin(link),
+      begin: async (link) => {
+        await this.#exchange.begin(link);
+        this.presence.begin(link).catch(() => {}); // the connection has ended
+      },
       resume: () => this.#exchange.now(),
       isAwaited: () => this.#awaited > 0,
       changed: () => this.#show(),
@@ -243,6 +252,14 @@ export class Provider {
   async discardRefused(wait) {
     const { seconds = 10 } = wait ?? {};
     return this.#exchange.refused ? this.#exchange.discard(seconds * 1000) : [];
+  }
+
+  /** How many operations the exchange that goes on has got of the server, which show once they are
+   *  taken; `undefined` where it gets none. An event "progress" says twice a second that it is
+   *  another. */
+  get progress() {
+    const { fetched } = this.#exchange;
+    return fetched === undefined ? undefined : { fetched };
   }
 
   // ---- Events

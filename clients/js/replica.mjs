@@ -58,6 +58,9 @@ export class Replica {
   /** Called with what a listener has thrown. The others go on.
    *  @type {(error: any) => any} */
   failed = (error) => console.error(error);
+  /** Called while `sync` gets operations of a server: with how many have come until now.
+   *  @type {(count: number) => any} */
+  fetched = () => {};
   #name;
   #doc;
   /** @type {Open} */
@@ -98,6 +101,7 @@ export class Replica {
     return new Exchange({
       name: () => this.#name, doc: this.#doc, read: this.#read, front: () => this.#front,
       take: (operations) => this.deliverAll(operations), isShared: () => this.isShared,
+      fetched: (count) => this.fetched(count),
     }, stored);
   }
 

@@ -60,13 +60,18 @@ export class Synchronizer {
   #given = new Map();
   /** @type {string[]} what the exchange that goes on has taken, and nobody was told */
   #taken = [];
-  #toldAt = 0;
+  #toldAt = -TELL_MS;
+  /** How many operations the exchange under way has fetched, once it is some.
+   *  @type {number | undefined} */
+  fetched;
+  #progressAt = -TELL_MS;
   /** @type {Set<(lines: string[]) => void>} who waits until what is refused was taken back */
   #discards = new Set();
 
   /** @param {Parts} parts */
   constructor(parts) {
     this.#parts = parts;
+    parts.replica.fetched = (count) => this.#noteFetched(count);
   }
 
   /** Whether nothing differs, as far as is known. */
@@ -205,7 +210,7 @@ export class Synchronizer {
     const answer = this.#answerOf(link);
     if (this.#isDoubtful && this.#pushing === link) this.#parts.replica.follow(answer);
     this.#isDoubtful = false;
-    const { refused } = await this.#parts.replica.sync(answer).finally(() => this.#tellTaken());
+    const { refused } = await this.#parts.replica.sync(answer).finally(() => this.#endTaking());
     const own = refused.filter((it) => it.own);
     if (own.some(({ number }) => NAME_USED_TWICE.has(number))) return this.#remake(answer);
     if (own.length > 0 && this.#discards.size > 0) return this.#discard(answer);
@@ -270,6 +275,22 @@ export class Synchronizer {
     const isLater = this.#parts.connection.link?.isSynced;
     if (isLater && this.#parts.clock.now() - this.#toldAt > TELL_MS) this.#tellTaken();
     return true;
+  }
+
+  /** @param {number} count */
+  #noteFetched(count) {
+    this.fetched = count;
+    if (this.#parts.clock.now() - this.#progressAt < TELL_MS) return;
+    this.#progressAt = this.#parts.clock.now();
+    this.#parts.notices.tell({ what: "progress" });
+  }
+
+  #endTaking() {
+    this.#tellTaken();
+    this.#progressAt = -TELL_MS;
+    if (this.fetched === undefined) return;
+    this.fetched = undefined;
+    this.#parts.notices.tell({ what: "progress" });
   }
 
   #tellTaken() {

@@ -7,6 +7,7 @@
    typing alone. Each character is an operation, of the 100,000 that a document takes. What others
    type is shown soon: a long text that comes in parts leaves the browser time for other things. */
 
+import { Carets, saidCaret } from "./carets.mjs";
 import { paced } from "./pace.mjs";
 
 /** @typedef {import("./provider.mjs").Provider} Provider */
@@ -16,6 +17,9 @@ import { paced } from "./pace.mjs";
 /** @typedef {{ id?: Id, text?: string }} Element Of the list; without an id where it has just come. */
 
 const NOTHING = () => {};
+/** What the field is listened to for. */
+const EVENTS = ["compositionstart", "compositionend", "beforeinput", "input", "keydown", "focus",
+  "blur"];
 const MOST_SINGLY = 1000; // so many elements that came are asked for one by one
 
 /**
@@ -25,6 +29,9 @@ const MOST_SINGLY = 1000; // so many elements that came are asked for one by one
  * @property {number} [long] how many characters at once are asked for: 2,000 unless it is said
  * @property {(count: number) => Promise<boolean>} [confirm] asks whether so many are to come in;
  *   they do where there is none
+ * @property {(carets: import("./carets.mjs").Caret[]) => void} [carets] is called with the carets of
+ *   others whenever they are elsewhere: `caretMarks` of caret_marks.mjs draws them. With it the
+ *   field's own caret is said to the others, while the field has the focus
  */
 
 /** Shows the text at a place in a field, and takes what is typed there. What this returns ends it.
@@ -76,6 +83,7 @@ class BoundText {
   #options;
   #unlisten = () => {};
   #unwatch = NOTHING;
+  #carets;
   #showSoon = paced(() => this.#isEnded || this.#show());
 
   /** @param {Provider} provider
@@ -88,16 +96,15 @@ class BoundText {
     this.#field = field;
     this.#options = options;
     this.#isForReading = field.readOnly;
-    field.addEventListener("compositionstart", this);
-    field.addEventListener("compositionend", this);
-    field.addEventListener("beforeinput", this);
-    field.addEventListener("input", this);
-    field.addEventListener("keydown", this);
+    this.#carets = new Carets(place);
+    for (const name of EVENTS) field.addEventListener(name, this);
+    if (options.carets) field.ownerDocument.addEventListener("selectionchange", this);
     // A cursor with an index leads elsewhere once its list moves: there the list is read each time.
     const isFixed = place.every((step, at) => at === 0 || typeof step === "string");
     if (isFixed) this.#unwatch = provider.replica.watch(place, (splices) => this.#follow(splices));
     this.#unlisten = provider.listen(({ what }) => {
       if (what === "state") this.#lock();
+      if (what === "presence") this.#showCarets();
       if (what !== "changed" || this.#isOwn) return;
       this.#isOld = true;
       this.#showSoon();
@@ -115,18 +122,38 @@ class BoundText {
     this.#isEnded = true;
     this.#unlisten();
     this.#unwatch();
-    for (const name of ["compositionstart", "compositionend", "beforeinput", "input", "keydown"]) {
-      this.#field.removeEventListener(name, this);
-    }
+    for (const name of EVENTS) this.#field.removeEventListener(name, this);
+    if (!this.#options.carets) return;
+    this.#field.ownerDocument.removeEventListener("selectionchange", this);
+    this.#provider.presence.set({ caret: undefined });
   }
 
   /** @param {any} event */
   handleEvent(event) {
+    if (["selectionchange", "focus", "blur"].includes(event.type)) return this.#sayCaret();
     if (event.type === "keydown") return this.#takeKey(event);
     if (event.type === "beforeinput") return this.#takeUndo(event);
     if (event.type === "compositionstart") this.#isBusy = true;
     if (event.type === "compositionend") this.#isBusy = false;
     if (!this.#isBusy) this.#takeInput();
+  }
+
+  /** Says to the others where the caret is: nowhere, where the field hasn't got the focus. What is
+   *  typed and isn't taken yet has no elements, so nothing is said then. */
+  #sayCaret() {
+    const { carets } = this.#options;
+    if (!carets || this.#isEnded || this.#isBusy) return;
+    const { ownerDocument, value, selectionStart, selectionEnd } = this.#field;
+    const isHere = ownerDocument.activeElement === this.#field;
+    if (isHere && value.length !== offsetOf(this.#shown, this.#shown.length)) return;
+    const [from, to] = [selectionStart ?? 0, selectionEnd ?? 0];
+    const caret = isHere ? saidCaret(this.#place, this.#shown, from, to) : undefined;
+    this.#provider.presence.set({ caret });
+  }
+
+  /** @param {(offset: number) => number} [moved] from the text that was shown before */
+  #showCarets(moved) {
+    this.#options.carets?.(this.#carets.in(this.#provider.presence.others, this.#shown, moved));
   }
 
   /** @param {KeyboardEvent} event */
@@ -208,8 +235,11 @@ class BoundText {
         }
         for (const id of gone) replica.delete([...this.#place, id]);
       });
+      const old = this.#options.carets && [...this.#shown];
       this.#shown.splice(index, remove, ...added);
       this.#options.refused?.(undefined);
+      if (old) this.#showCarets(movedBy(old, this.#shown));
+      this.#sayCaret();
     } catch (error) {
       this.#isOld = true;
       this.#options.refused?.(error);
@@ -279,7 +309,7 @@ class BoundText {
     const field = this.#field;
     const text = now.map((character) => character.text).join("");
     this.#shown = now;
-    if (field.value === text) return;
+    if (field.value === text) return this.#showCarets();
     const { selectionStart, selectionEnd, selectionDirection, scrollTop } = field;
     const moved = movedBy(old, now);
     const places = [selectionStart, selectionEnd].map((offset) => moved(offset ?? 0));
@@ -288,6 +318,8 @@ class BoundText {
       field.setSelectionRange(places[0], places[1], selectionDirection ?? "none");
     }
     field.scrollTop = scrollTop;
+    this.#showCarets(moved);
+    this.#sayCaret();
   }
 }
 

@@ -797,6 +797,65 @@ test("the text pad takes no keys before its store is open, and loses none", asyn
   deepEqual(tab.faults, []);
 });
 
+/** Of each caret that a pad shows: its name, and the text before it, as where the browser draws it
+ *  says. */
+const CARETS = `[...document.querySelectorAll("#paper .caret")].map((mark) => {
+  const layer = mark.parentElement;
+  const text = layer.firstChild;
+  const box = mark.getBoundingClientRect();
+  const range = document.createRange();
+  let at = 0;
+  for (; at <= text.length; at++) {
+    range.setStart(text, at);
+    range.collapse(true);
+    const { left } = range.getBoundingClientRect();
+    if (Math.abs(left - box.left) < 1) break;
+  }
+  return mark.textContent + ": " + text.data.slice(0, at);
+})`;
+
+test("the text pad shows who is here, and their carets, which move with the text", async () => {
+  const url = await padUrl();
+  const { browser } = await (shared ??= sharedParts());
+  const [ada, bob] = await Promise.all([0, 1].map(async () =>
+    browser.tab(url, { profile: await browser.profile() })));
+  for (const tab of [ada, bob]) await tab.until(PAD_ONLINE);
+  await ada.type("#name", "Ada");
+  await bob.until(`document.querySelector("#here").textContent === "Here: Ada"`);
+  await ada.type("#text", "Hello world");
+  await bob.until(`document.querySelector("#text").value === "Hello world"`);
+  await ada.evaluate(`document.querySelector("#text").setSelectionRange(5, 5)`);
+  const shows = (tab, carets) => tab.until(`JSON.stringify(${CARETS}) === ${JSON.stringify(JSON.stringify(carets))}`);
+  await shows(bob, ["Ada: Hello"]);
+  await bob.type("#text", "Oh, ", 0);
+  await shows(bob, ["Ada: Oh, Hello"]);
+  await ada.reload();
+  await ada.until(PAD_ONLINE);
+  await bob.until(`document.querySelector("#here").textContent === "Here: Ada"`); // it is recalled
+  await ada.send("Page.navigate", { url: "about:blank" });
+  await bob.until(`document.querySelector("#here").textContent === ""`);
+  await shows(bob, []);
+  deepEqual([...ada.faults, ...bob.faults], []);
+});
+
+test("the text pad says that it loads, and how much has come", async () => {
+  const url = await padUrl();
+  const { browser } = await (shared ??= sharedParts());
+  const held = `const { receive } = window; const said = (window.said = []);
+    new MutationObserver(() => said.push(document.querySelector("#state")?.textContent))
+      .observe(document, { childList: true, subtree: true, characterData: true });`;
+  const writer = await browser.tab(url, { profile: await browser.profile() });
+  await writer.until(PAD_ONLINE);
+  await writer.type("#text", "x".repeat(1500));
+  await writer.until(`document.querySelector("#text").value.length === 1500`);
+  const reader = await padTab(url, held);
+  await reader.until(`document.querySelector("#text").value.length === 1500`);
+  const said = (await reader.evaluate("said")).filter((it, at, all) => it && it !== all[at - 1]);
+  equal(said[0], "loading");
+  ok(said.some((it) => /^loading: \d+ changes have come$/.test(it)), `${said}`);
+  equal(said.at(-1), "online ");
+});
+
 test("a browser without IndexedDB: the text pad goes on in memory, and says so", async () => {
   const url = await padUrl();
   const none = `Object.defineProperty(window, "indexedDB", { get() {} });`;

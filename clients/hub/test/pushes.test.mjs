@@ -1,10 +1,13 @@
 /* What the hub sends without being asked: only to who asked for it. Presence, too. */
 
-import { deepEqual, equal, ok } from "node:assert/strict";
+import { deepEqual, equal, match, ok } from "node:assert/strict";
 import { existsSync } from "node:fs";
 import { test } from "node:test";
 import { fileURLToPath } from "node:url";
-import { hasServer, kill, launch, pause, Raw, startHub, startServer, suite, until } from "./support.mjs";
+import { TestClock } from "../../js/test/clock.mjs";
+import {
+  hasServer, hubWithin, kill, launch, pause, Raw, startHub, startServer, suite, until,
+} from "./support.mjs";
 
 const PYTHON = fileURLToPath(new URL("../../python", import.meta.url));
 
@@ -244,6 +247,65 @@ suite("pushes", { concurrency: true }, () => {
     await until("the last one is heard", () => ada.lines.at(-1)?.includes('"2999 '));
     ok(ada.lines.length < 3000, `${ada.lines.length} of 3000 were kept`);
     [ada, bob].forEach((client) => client.end());
+  });
+
+  test("presence: one client's values are pushed ten times a second at most, the last one too", async () => {
+    const [clock, server] = [new TestClock(), await startServer(["d"])];
+    const hub = await hubWithin({ server: server.address, lines: "127.0.0.1:0", clock, note: () => {} });
+    const [ada, bob] = [await opened(hub), await opened(hub)];
+    await ada.ask(["hear", "d"]);
+    clock.pass(1000);
+    for (let at = 0; at < 50; at++) equal(await bob.ask(["say", "d", at]), '["said"]');
+    match(await ada.next(), /,0\]$/);
+    clock.pass(99);
+    equal(await ada.ask(["version"]), '["version",2]'); // nothing was pushed before it
+    clock.pass(1);
+    match(await ada.next(), /,49\]$/);
+    clock.pass(1000);
+    equal(await ada.ask(["version"]), '["version",2]');
+    equal(await bob.ask(["say", "d", 50]), '["said"]');
+    match(await ada.next(), /,50\]$/);
+    [ada, bob].forEach((client) => client.end());
+  });
+
+  test("presence: who sends nothing for 30 seconds is there no more, until it sends again", async () => {
+    const [clock, server] = [new TestClock(), await startServer(["d"])];
+    const hub = await hubWithin({ server: server.address, lines: "127.0.0.1:0", clock, note: () => {} });
+    const [ada, bob] = [await opened(hub), await opened(hub)];
+    for (const client of [ada, bob]) equal(await client.ask(["hear", "d"]), '["hearing","d"]');
+    await bob.ask(["say", "d", "here"]);
+    match(await ada.next(), /"here"\]$/);
+    for (let second = 0; second < 30; second++) {
+      equal(await ada.ask(["version"]), '["version",2]');
+      clock.pass(1000);
+    }
+    clock.pass(2000);
+    match(await ada.next(), /,null\]$/);
+    const late = await opened(hub);
+    equal(await late.ask(["hear", "d"]), '["hearing","d"]');
+    equal(await late.ask(["version"]), '["version",2]'); // it doesn't hear of it
+    equal(await bob.ask(["version"]), '["version",2]');
+    clock.pass(1000);
+    for (const client of [ada, late]) match(await client.next(), /"here"\]$/);
+    [ada, bob, late].forEach((client) => client.end());
+  });
+
+  test("presence: who has left is forgotten, and what is null isn't heard by who comes later", async () => {
+    const { hub } = await both();
+    const [ada, bob, eve] = [await opened(hub), await opened(hub), await opened(hub)];
+    await ada.ask(["hear", "d"]);
+    await bob.ask(["say", "d", 1]);
+    await eve.ask(["say", "d", 2]);
+    match(await ada.next(), /,1\]$/);
+    match(await ada.next(), /,2\]$/);
+    await bob.ask(["say", "d", null]);
+    match(await ada.next(), /,null\]$/);
+    eve.end();
+    match(await ada.next(), /,null\]$/);
+    const late = await opened(hub);
+    equal(await late.ask(["hear", "d"]), '["hearing","d"]');
+    equal(await late.ask(["version"]), '["version",2]');
+    [ada, bob, late].forEach((client) => client.end());
   });
 
   const isMissing = !existsSync(`${PYTHON}/jcrdt/session.py`) && "clients/python isn't there";

@@ -26,7 +26,7 @@ async function saidTo(address, ...pieces) {
   const ended = new Promise((end) => socket.on("end", end).on("close", end));
   for (const piece of pieces) socket.write(piece);
   socket.end();
-  await within(60, "the hub ends the connection", ended);
+  await within("the hub ends the connection", ended);
   socket.destroy();
   return said;
 }
@@ -76,7 +76,7 @@ suite("security", { concurrency: true }, () => {
     const fromWeb = rejects(joinWeb(hub.page), { name: "Away" });
     await clock.until((waiting) => waiting.filter((ms) => ms === 10_000).length === 2);
     clock.pass(10_000);
-    await within(60, "both are refused", Promise.all([coming, fromWeb]));
+    await within("both are refused", Promise.all([coming, fromWeb]));
     equal(noted.filter((it) => it === "admit didn't answer within 10 s").length, 2);
   });
 

@@ -2,10 +2,16 @@
 
 import { deepEqual, equal, match, ok } from "node:assert/strict";
 import { execFileSync } from "node:child_process";
+import { rmSync, writeFileSync } from "node:fs";
+import { join } from "node:path";
 import { test } from "node:test";
-import { joinLines, kill, PROGRAM, Raw, startHub, startServer, suite } from "./support.mjs";
+import { fileURLToPath } from "node:url";
+import {
+  joinLines, kill, lacks, PROGRAM, Raw, ROOM, startHub, startServer, suite,
+} from "./support.mjs";
 
 const NOT_KEPT = '["no",104,"not-kept"]';
+const HOLDER = fileURLToPath(new URL("../../../tests/hold-writes.c", import.meta.url));
 
 /** How many operations of a document are in a file that nobody serves. */
 const rows = (file) => {
@@ -40,6 +46,27 @@ suite("stored", { concurrency: true }, () => {
     await kill(server.child);
     equal(rows(server.file), 3000);
     client.end();
+  });
+
+  test("what the server hasn't written to its file isn't stored", { skip: lacks("cc") }, async () => {
+    const [library, hold] = [join(ROOM, "hold.so"), join(ROOM, "hold")];
+    execFileSync("cc", ["-shared", "-fPIC", "-o", library, HOLDER, "-ldl"]);
+    const server = await startServer(["d"], { env: { LD_PRELOAD: library, HOLD: hold } });
+    const hub = await startHub(server.address, "--file", server.file);
+    const [client, other] = [new Raw(hub.lines), new Raw(hub.lines)];
+    for (const it of [client, other]) await it.ask(["open", "d"]);
+    await client.ask(["assign", "d", [0, "k"], 1]);
+    equal(await client.ask(["stored", "d", [1, "srv-1"]]), '["stored","d",[1,"srv-1"]]');
+    writeFileSync(hold, "");
+    equal(await client.ask(["assign", "d", [0, "k"], 2]), '["applied",1,0,[2,"srv-1"]]');
+    client.send(["stored", "d", [2, "srv-1"]]);
+    for (let it = 0; it < 100; it++) await other.ask(["values", "d", [0, "k"]]); // a reply would have come
+    deepEqual(client.lines, []);
+    rmSync(hold);
+    equal(await client.next(), '["stored","d",[2,"srv-1"]]');
+    await kill(server.child);
+    equal(rows(server.file), 2);
+    for (const it of [client, other]) it.end();
   });
 
   test("what isn't in the log won't be in the file, and what is no id is no request", async () => {

@@ -80,10 +80,10 @@ export async function start(command, words, lineCount, options) {
 let files = 0;
 /** Starts a server, and resolves with its process, address and file. */
 export async function startServer(
-  documents = ["d"], { address = "127.0.0.1:0", file = `${++files}.db`, sessions = 200, more = [] } = {},
+  documents = ["d"], { address = "127.0.0.1:0", file = `${++files}.db`, sessions = 200, more = [], env = {} } = {},
 ) {
   const words = ["serve", "--addr", address, "--sessions", `${sessions}`, "--file", file, ...more, ...documents];
-  const { child, lines } = await start(PROGRAM, words, 1);
+  const { child, lines } = await start(PROGRAM, words, 1, { env: { ...process.env, ...env } });
   return { child, address: lines[0][1], file: resolve(ROOM, file) };
 }
 
@@ -103,12 +103,12 @@ export async function kill(child, signal = "SIGKILL") {
 export const pause = (ms) => new Promise((resume) => setTimeout(resume, ms));
 
 /** Waits until something holds, and returns what it is. */
-export async function until(what, holds) {
-  for (const stop = Date.now() + PATIENCE_SECONDS * 1000; Date.now() < stop; await pause(20)) {
+export async function until(what, holds, seconds = PATIENCE_SECONDS) {
+  for (const stop = Date.now() + seconds * 1000; Date.now() < stop; await pause(20)) {
     const found = await holds();
     if (found) return found;
   }
-  throw new Error(`not so after ${PATIENCE_SECONDS} s: ${what}`);
+  throw new Error(`not so after ${seconds} s: ${what}`);
 }
 
 /** Fails if something isn't there in time. */

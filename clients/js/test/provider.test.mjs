@@ -160,14 +160,6 @@ test("long offline, a server that is there again is met by `synced`", async () =
   const first = await startServer(["d"]);
   const { address, folder } = first;
   await end(first);
-<<<<<<< HEAD
-  const all = await Promise.all(Array.from({ length: 6 }, () => opened(address)));
-  await pause(15_000); // from here on the pauses between two tries are several seconds long
-  const waits = all.map((provider) => provider.synced(240));
-  await pause(1500); // the try of that moment fails
-  await startServer(["d"], { address, folder });
-  await Promise.all(waits);
-=======
   const clock = new TestClock();
   const provider = await opened(address, { clock, random: () => 1 });
   // From here on the pauses between two tries are as long as they get.
@@ -178,7 +170,6 @@ test("long offline, a server that is there again is met by `synced`", async () =
   await startServer(["d"], { address, folder });
   clock.pass(1000); // nothing more than one short pause
   await waits;
->>>>>>> 5aaceae41dcbe22d6ff1ff5a469e8c8f9ca37fb6
 });
 
 test("pauses between two tries are twice as long each, up to 15 s, and not the same for all", async () => {

@@ -6,35 +6,11 @@ import { Replica } from "../index.mjs";
 import { Provider, Unstored, memoryStore } from "../provider.mjs";
 import { bindText } from "../text_field.mjs";
 import { engines } from "./engines.mjs";
+import { Field } from "./field.mjs";
 import { cpuOf, pause, slowness, until } from "./support.mjs";
 
 const MANY = 40_000;
 const KEYS = 20;
-
-/** A field without a page. */
-class Field extends EventTarget {
-  value = "";
-  readOnly = false;
-  selectionStart = 0;
-  selectionEnd = 0;
-  selectionDirection = "none";
-  scrollTop = 0;
-  ownerDocument = { activeElement: this };
-
-  /** @param {number} start
-   *  @param {number} end */
-  setSelectionRange(start, end) { [this.selectionStart, this.selectionEnd] = [start, end]; }
-
-  /** @param {number} at
-   *  @param {string} text */
-  type(at, text) {
-    this.value = this.value.slice(0, at) + text + this.value.slice(at);
-    this.selectionStart = this.selectionEnd = at + text.length;
-    this.dispatchEvent(new Event("input"));
-  }
-}
-
-globalThis.requestAnimationFrame ??= (then) => Number(setTimeout(then, 1));
 
 for (const [title, engine] of engines) {
   /** @param {string} text */

@@ -113,6 +113,11 @@ export type Core = {
      */
     take: (operations: any[]) => Taken;
     isShared: () => boolean;
+    /**
+     * Is called with the operations that came, once more
+     * have come, and are to be taken.
+     */
+    fetched: (count: number) => void;
 };
 export type Taken = {
     taken: number;

@@ -39,9 +39,9 @@
 /**
  * What `listen` gives.
  * @typedef {object} Event
- * @property {"changed" | "state" | "problem" | "server"} what "changed": operations were logged,
- *   one event for all that came at once. "state", "problem": these have others now. "server": the
- *   server has another front.
+ * @property {"changed" | "state" | "problem" | "server" | "presence" | "progress"} what "changed":
+ *   operations were logged, one event for all that came at once. "state", "problem", "presence",
+ *   "progress": these are others now. "server": the server has another front.
  * @property {string} [why] of "changed": "own", "undo", "taken" or "remade"
  * @property {string[]} [lines] of "changed": the operations; none where it was remade
  */
@@ -78,6 +78,9 @@ export class Provider {
     /** The document as it is here. It is read and edited at any time, and isn't `sync`ed by hand.
      *  @type {Replica} */
     replica: Replica;
+    /** Who else has the document open at the hub: see presence.mjs.
+     *  @type {Presence} */
+    presence: Presence;
     /** @type {State} */
     state: State;
     /** Whether everything that was edited here is stored. If not, it is under way, or has failed. */
@@ -101,6 +104,12 @@ export class Provider {
     discardRefused(wait?: {
         seconds?: number | undefined;
     } | undefined): Promise<string[]>;
+    /** How many operations the exchange that goes on has got of the server, which show once they are
+     *  taken; `undefined` where it gets none. An event "progress" says twice a second that it is
+     *  another. */
+    get progress(): {
+        fetched: number;
+    } | undefined;
     /** What a person should know, by kind, until it is over. */
     get problems(): Map<"unread" | "remade" | "refused" | "store" | "memory" | "server" | "listener", Problem>;
     /** Calls a function with each event, one at a time, until what this returns is called.
@@ -205,11 +214,11 @@ export type Problem = {
  */
 export type Event = {
     /**
-     * "changed": operations were logged,
-     * one event for all that came at once. "state", "problem": these have others now. "server": the
-     * server has another front.
+     * "changed":
+     * operations were logged, one event for all that came at once. "state", "problem", "presence",
+     * "progress": these are others now. "server": the server has another front.
      */
-    what: "changed" | "state" | "problem" | "server";
+    what: "changed" | "state" | "problem" | "server" | "presence" | "progress";
     /**
      * of "changed": "own", "undo", "taken" or "remade"
      */
@@ -269,4 +278,5 @@ export type Options = {
     random?: (() => number) | undefined;
 };
 import { Replica } from "./replica.mjs";
+import { Presence } from "./presence.mjs";
 export { Busy, Unstored, memoryStore } from "./stores.mjs";

@@ -36,6 +36,9 @@ export class Replica {
     /** Called with what a listener has thrown. The others go on.
      *  @type {(error: any) => any} */
     failed: (error: any) => any;
+    /** Called while `sync` gets operations of a server: with how many have come until now.
+     *  @type {(count: number) => any} */
+    fetched: (count: number) => any;
     get name(): string;
     get doc(): string;
     /** How many operations are logged: at most 100,000. */

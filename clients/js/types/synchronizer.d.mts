@@ -21,6 +21,9 @@ export class Synchronizer {
         count: number;
         cause: Refused;
     } | undefined;
+    /** How many operations the exchange under way has fetched, once it is some.
+     *  @type {number | undefined} */
+    fetched: number | undefined;
     /** Whether nothing differs, as far as is known. */
     get isDone(): boolean;
     /** What the server had when it last said so, by a push or a reply.

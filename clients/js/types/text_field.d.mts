@@ -5,6 +5,9 @@
  * @property {number} [long] how many characters at once are asked for: 2,000 unless it is said
  * @property {(count: number) => Promise<boolean>} [confirm] asks whether so many are to come in;
  *   they do where there is none
+ * @property {(carets: import("./carets.mjs").Caret[]) => void} [carets] is called with the carets of
+ *   others whenever they are elsewhere: `caretMarks` of caret_marks.mjs draws them. With it the
+ *   field's own caret is said to the others, while the field has the focus
  */
 /** Shows the text at a place in a field, and takes what is typed there. What this returns ends it.
  *
@@ -33,6 +36,12 @@ export type TextOptions = {
      * they do where there is none
      */
     confirm?: ((count: number) => Promise<boolean>) | undefined;
+    /**
+     * is called with the carets of
+     * others whenever they are elsewhere: `caretMarks` of caret_marks.mjs draws them. With it the
+     * field's own caret is said to the others, while the field has the focus
+     */
+    carets?: ((carets: import("./carets.mjs").Caret[]) => void) | undefined;
 };
 export type Provider = import("./provider.mjs").Provider;
 export type Field = HTMLTextAreaElement | HTMLInputElement;

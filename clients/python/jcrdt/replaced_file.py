@@ -9,8 +9,8 @@ from typing import BinaryIO, Iterator
 
 @contextlib.contextmanager
 def replaced(path: str) -> Iterator[BinaryIO]:
-    """A new file that takes the place of another one when all is written, and is removed if that fails. What is no
-    file, as a pipe, is written to."""
+    """A new file that takes the place of another one when all is written, and is removed if that fails. At the end it
+    survives a power cut under its name. What is no file, as a pipe, is written to."""
     if path == "-":
         yield sys.stdout.buffer
         sys.stdout.buffer.flush()
@@ -30,7 +30,17 @@ def replaced(path: str) -> Iterator[BinaryIO]:
         os.umask(mask)
         os.chmod(new, 0o666 & ~mask)
         os.replace(new, path)
+        _sync_folder(os.path.dirname(path))
     except BaseException:
         with contextlib.suppress(FileNotFoundError):
             os.remove(new)
         raise
+
+
+def _sync_folder(path: str) -> None:
+    """Puts the names of a folder's files on disk."""
+    folder = os.open(path, os.O_RDONLY | os.O_DIRECTORY)
+    try:
+        os.fsync(folder)
+    finally:
+        os.close(folder)

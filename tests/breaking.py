@@ -1,0 +1,130 @@
+"""What tests/page-programs breaks programs with: a server and a hub that are killed and start again, and a disk that is full for a
+moment; and the count of what was confirmed."""
+
+import contextlib
+import os
+import random
+import socket
+import subprocess
+import threading
+import time
+from types import TracebackType
+from typing import Callable, Counter, Dict, List, Optional, Sequence, Set, Type
+
+from support import Differs, wait_until
+
+# For what a busy machine takes its time for.
+PATIENCE = 240.0
+# Before a program that has ended is started again.
+PAUSE = 0.2
+
+
+def free_port() -> int:
+    with socket.create_server(("127.0.0.1", 0)) as it:
+        return int(it.getsockname()[1])
+
+
+class Kept:
+    """A program that is started again each time it ends, as by its unit, until `stop`. What it writes goes to a file."""
+
+    def __init__(self, words: Sequence[str], notes: str) -> None:
+        self.words, self.notes, self.starts, self.is_stopped = words, notes, 0, False
+        self.statuses: List[int] = []
+        self.process: Optional["subprocess.Popen[bytes]"] = None
+        self.thread = threading.Thread(target=self.keep, daemon=True)
+        self.thread.start()
+
+    def keep(self) -> None:
+        while not self.is_stopped:
+            with open(self.notes, "ab") as notes:
+                self.process = subprocess.Popen(self.words, stdin=subprocess.DEVNULL, stdout=notes, stderr=notes)
+            self.starts += 1
+            if self.is_stopped:
+                self.process.kill()
+            self.statuses.append(self.process.wait())
+            time.sleep(PAUSE)
+
+    def kill(self) -> None:
+        """Ends it by SIGKILL, if it runs."""
+        if self.process:
+            self.process.kill()
+
+    def stop(self) -> None:
+        self.is_stopped = True
+        self.kill()
+        self.thread.join()
+
+
+class Stage:
+    """A server with a hub before it, at addresses that stay."""
+
+    def __init__(self, clone: str, program: str, folder: str, file: str, document: str, more: Sequence[str] = ()) -> None:
+        self.at, self.lines, self.web = (f"127.0.0.1:{free_port()}" for _ in range(3))
+        self.file, self.document = file, document
+        server = [program, "serve", "--addr", self.at, "--sessions", "256", "--file", file, "--name", "srv", *more, document]
+        hub = ["node", f"{clone}/clients/hub/hub.mjs", self.at, "--lines", self.lines, "--web", self.web]
+        self.server, self.hub = Kept(server, f"{folder}/server"), Kept(hub, f"{folder}/hub")
+
+    def __enter__(self) -> "Stage":
+        return self
+
+    def __exit__(self, kind: Optional[Type[BaseException]], error: Optional[BaseException], trace: Optional[TracebackType]) -> None:
+        self.hub.stop()
+        self.server.stop()
+
+
+class SmallDisk:
+    """A disk of a few megabytes, if one can be mounted, and what fills it."""
+
+    def __init__(self, folder: Optional[str]) -> None:
+        self.folder = folder
+
+    def fill(self) -> None:
+        """Leaves no room at all."""
+        with contextlib.suppress(OSError), open(f"{self.folder}/ballast", "ab", buffering=0) as file:
+            while True:
+                file.write(bytes(1 << 12))
+
+    def free(self) -> None:
+        with contextlib.suppress(FileNotFoundError):
+            os.remove(f"{self.folder}/ballast")
+
+
+class Count:
+    """What was tried, and what was confirmed, by names that are used once."""
+
+    def __init__(self) -> None:
+        self.tried: Set[str] = set()
+        self.confirmed: Set[str] = set()
+        self.breaks: Counter[str] = Counter()
+        # What else went wrong.
+        self.faults: List[str] = []
+
+    def grows(self, most: int = 3) -> None:
+        """Waits until so many more are confirmed."""
+        due = len(self.confirmed) + most
+        wait_until(f"{most} more are confirmed", lambda: self.faults or len(self.confirmed) >= due, PATIENCE)
+        if self.faults:
+            raise Differs(self.faults[0])
+
+    def check(self, there: Sequence[str]) -> str:
+        """Raises Differs unless what was confirmed is there once, and nothing else but what was tried."""
+        lost, doubled = self.confirmed - set(there), {it for it in there if list(there).count(it) > 1}
+        if lost or doubled or set(there) - self.tried:
+            raise Differs(f"lost {sorted(lost)[:9]}, doubled {sorted(doubled)[:9]}, never tried {sorted(set(there) - self.tried)[:9]}; {self.said(there)}")
+        return self.said(there)
+
+    def said(self, there: Sequence[str]) -> str:
+        breaks = ", ".join(f"{count} {word}" for word, count in sorted(self.breaks.items()))
+        return f"{len(self.tried)} tried, {len(self.confirmed)} confirmed, {len(there)} there; broken by {breaks}"
+
+
+def broken(count: Count, ways: Dict[str, Callable[[], None]], times: int, moves: random.Random) -> None:
+    """Breaks something so many times, each way at least once, and each time waits until more is confirmed."""
+    chosen = [*ways, *(moves.choice([*ways]) for _ in range(times - len(ways)))]
+    moves.shuffle(chosen)
+    for word in chosen:
+        time.sleep(moves.uniform(0, 0.5))
+        ways[word]()
+        count.breaks[word] += 1
+        count.grows()
