@@ -103,7 +103,7 @@ class Count:
     def grows(self, most: int = 3) -> None:
         """Waits until so many more are confirmed."""
         due = len(self.confirmed) + most
-        wait_until(f"{most} more are confirmed", lambda: self.faults or len(self.confirmed) >= due, PATIENCE)
+        wait_until(f"{most} more are confirmed", lambda: self.faults or len(self.confirmed) >= due)
         if self.faults:
             raise Differs(self.faults[0])
 
