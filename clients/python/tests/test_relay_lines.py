@@ -191,15 +191,15 @@ def chain(replica: str, count: int, first: int = 1) -> List[Operation]:
 
 
 def test_a_full_side_has_one_line() -> None:
-    """2,000 operations for a server that takes 100 and holds 256, again after each of ten connections."""
+    """800 operations for a server that takes 100 and holds 256, again after each of three connections."""
     lines: List[str] = []
 
     async def work() -> None:
         log, link, clock = Log("d"), Link(100, 256), Clock()
-        for it in chain("a", 1000) + chain("b", 1000):
+        for it in chain("a", 400) + chain("b", 400):
             log.add(it)
         troubles = Troubles(lines.append, clock)
-        for _ in range(10):
+        for _ in range(3):
             place = relays.Place("m", link, log, await link.front("d"), Source(), troubles)  # type: ignore[arg-type]
             for _ in range(3):
                 await place.push()
