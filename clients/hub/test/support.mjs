@@ -10,7 +10,7 @@ import { createRequire } from "node:module";
 import { after, describe } from "node:test";
 import { fileURLToPath } from "node:url";
 import { connected, connectedToHub } from "../../js/session.mjs";
-import { inTime } from "../../js/test/chromium.mjs";
+import { atPort, inTime } from "../../js/test/chromium.mjs";
 import { hub as hubOf } from "../index.mjs";
 
 const TOP = fileURLToPath(new URL("../../../", import.meta.url));
@@ -83,7 +83,7 @@ export async function startServer(
   documents = ["d"], { address = "127.0.0.1:0", file = `${++files}.db`, sessions = 200, more = [], env = {} } = {},
 ) {
   const words = ["serve", "--addr", address, "--sessions", `${sessions}`, "--file", file, ...more, ...documents];
-  const { child, lines } = await start(PROGRAM, words, 1, { env: { ...process.env, ...env } });
+  const { child, lines } = await atPort(() => start(PROGRAM, words, 1, { env: { ...process.env, ...env } }));
   return { child, address: lines[0][1], file: resolve(ROOM, file) };
 }
 

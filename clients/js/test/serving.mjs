@@ -7,7 +7,7 @@ import { join } from "node:path";
 import { createInterface } from "node:readline";
 import { after } from "node:test";
 import { fileURLToPath } from "node:url";
-import { inTime } from "./chromium.mjs";
+import { atPort, inTime } from "./chromium.mjs";
 
 const TOP = new URL("../../../", import.meta.url);
 export const PROGRAM = process.env.JCRDT ?? fileURLToPath(new URL("release/jcrdt", TOP));
@@ -45,6 +45,7 @@ export async function start(command, words, lineCount) {
   const child = spawn(command, words, { stdio: ["ignore", "pipe", "pipe"], detached: true });
   started.add(child);
   child.ended = new Promise((end) => child.on("exit", end));
+  const closed = new Promise((end) => child.on("close", end));
   let errors = "";
   child.stderr.on("data", (text) => (errors += text));
   const lines = [];
@@ -53,6 +54,7 @@ export async function start(command, words, lineCount) {
     for await (const line of createInterface({ input: child.stdout })) {
       if (lines.push(JSON.parse(line)) === lineCount) return;
     }
+    await closed;
     throw new Error(`it has ended. ${about()}`);
   };
   await inTime(START_SECONDS, about, first());
@@ -69,14 +71,14 @@ export async function end({ child }) {
 export async function startServer(documents, { folder = room(), address = "127.0.0.1:0" } = {}) {
   const file = join(folder, "test.db");
   const words = ["serve", "--addr", address, "--sessions", "256", "--file", file, ...documents];
-  const { child, lines } = await start(PROGRAM, words, 1);
+  const { child, lines } = await atPort(() => start(PROGRAM, words, 1));
   return { child, address: lines[0][1], folder };
 }
 
 /** Starts a hub before a server, and resolves with its process, its addresses and its page. */
 export async function startHub(server, { web = "127.0.0.1:0", more = [] } = {}) {
   const words = [HUB, server, "--web", web, "--sessions", "3", ...more];
-  const { child, lines, errors } = await start(process.execPath, words, 1);
+  const { child, lines, errors } = await atPort(() => start(process.execPath, words, 1));
   const page = lines[0][1];
   return { child, page, lines: `${page.replace("http", "ws")}lines`, web: new URL(page).host, errors };
 }

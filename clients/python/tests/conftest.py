@@ -33,8 +33,16 @@ class Server:
     def start(self) -> None:
         words = [PROGRAM, "serve", "--addr", self.address, "--sessions", str(self.sessions), "--file", self.file,
                  "--name", self.name, *self.documents]
-        self.program = subprocess.Popen(words, bufsize=0, stdout=subprocess.PIPE, stderr=subprocess.DEVNULL)
-        self.address = json.loads(self.out.readline())[1]
+        for _ in range(20):
+            self.program = subprocess.Popen(words, bufsize=0, stdout=subprocess.PIPE, stderr=subprocess.DEVNULL)
+            line = self.out.readline()
+            if line:
+                self.address = json.loads(line)[1]
+                return
+            # Another program may have its port for a moment.
+            self.kill()
+            time.sleep(0.5)
+        raise AssertionError(f"{words} doesn't start")
 
     @property
     def out(self) -> IO[bytes]:
