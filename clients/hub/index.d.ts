@@ -52,6 +52,8 @@ export interface HubOptions {
   durable?: boolean;
   /** Lines of a session until it is renewed (990,000): for tests. */
   linesPerSession?: number;
+  /** Clients of each way in, at most (2,000): for tests. */
+  mostClients?: number;
   /** Gets notes in place of standard error. */
   note?: (text: string) => void;
   /** The time that its pauses and limits go by: for tests. */

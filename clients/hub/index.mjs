@@ -25,7 +25,8 @@ const QUIT_MS = 200; // so that the server reads `quit`
  *  @param {HubOptions} options
  *  @returns {import("./lib/state.mjs").State} */
 function stateOf(options) {
-  const { sessions, poll, patience, idle, replyLimit, linesPerSession } = numbersOf(options);
+  const { sessions, poll, patience, idle, replyLimit, ...limits } = numbersOf(options);
+  const { linesPerSession, mostClients } = limits;
   const { server, durable = false, file, admit, note = notes(), clock = CLOCK } = options;
   const replyBytes = replyLimit * MEGABYTE;
   const pool = new Pool({ server, sessions, replyBytes, linesPerSession, note, clock });
@@ -42,6 +43,7 @@ function stateOf(options) {
     guestCount: 0,
     patience: patience * SECOND,
     idle: idle * SECOND,
+    mostClients,
     clock,
     ...(admit && { admit }),
     note,

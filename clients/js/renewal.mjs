@@ -5,7 +5,7 @@
 
 import { Refused, refusalOf } from "./errors.mjs";
 import { isArray, parse } from "./json.mjs";
-import { isId } from "./operations.mjs";
+import { checkShape, isId } from "./operations.mjs";
 import { endOf } from "./places.mjs";
 
 /** @typedef {import("./replica.mjs").Replica} Replica */
@@ -40,14 +40,26 @@ export function remakeIn(old, other, map, lines) {
   /** @type {string[]} */
   const lost = [];
   let remade = 0;
-  for (const line of lines) {
-    /** @type {Operation} */
-    const op = parse(line);
-    const made = refusalOf(() => again(old, other, ids, op));
+  for (const line of lines.filter((it) => it.trim() !== "")) {
+    const op = operationOf(line);
+    const made = op && refusalOf(() => again(old, other, ids, op));
     if (!made || made instanceof Refused) lost.push(line);
     else remade++;
   }
   return { remade, lost };
+}
+
+/** The operation of a line, of whatever replica; `undefined` where it is none.
+ *  @param {string} line
+ *  @returns {Operation | undefined} */
+function operationOf(line) {
+  try {
+    const op = parse(line);
+    checkShape(op);
+    return op;
+  } catch {
+    return undefined;
+  }
 }
 
 /** Returns whether it was made.

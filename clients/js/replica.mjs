@@ -28,7 +28,9 @@ import { endOf, requestOf, writtenOf } from "./places.mjs";
 import { REFUSALS } from "./protocol.mjs";
 import { remakeIn } from "./renewal.mjs";
 import { open } from "./rules.mjs";
-import { Counter, bare, checkValue, checkedInteger, isGiven, pieces, plain } from "./values.mjs";
+import {
+  Counter, bare, checkValue, checkedInteger, integer, isGiven, pieces, plain,
+} from "./values.mjs";
 
 /** @typedef {import("./events.mjs").Changed} Changed */
 /** @typedef {import("./events.mjs").Heard} Heard */
@@ -459,10 +461,9 @@ export class Replica {
   items(cursor) { return this.#read("items", this.#request(cursor)); }
   /** @param {Cursor} cursor @returns {[Id, any][]} */
   conflicts(cursor) { return this.#read("conflicts", this.#request(cursor)); }
-  /** In decimal digits.
-   *  @param {Cursor} cursor
-   *  @returns {string} */
-  sum(cursor) { return this.#read("sum", this.#request(cursor)); }
+  /** @param {Cursor} cursor
+   *  @returns {number | bigint} a BigInt beyond 2^53, as of a session */
+  sum(cursor) { return integer(this.#read("sum", this.#request(cursor))); }
   /** @returns {[string, number][]} */
   front() { return frontPairs(this.#front); }
   /** The held operations, each with what is missing.

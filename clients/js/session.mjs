@@ -360,8 +360,14 @@ export class Client {
   /** At the hub: resolves once the operation of this id is in the server's file. Refused with 104,
    *  `not-kept`, if the hub can't know, and with 2 by a server, which has no such request.
    *  @param {string} document
-   *  @param {Id} id */
-  stored = async (document, id) => void (await this.ask("stored", document, id));
+   *  @param {Id} id
+   *  @param {{ signal?: AbortSignal }} [wait] ends the wait: then the signal's reason is thrown */
+  async stored(document, id, wait) {
+    const signal = wait?.signal;
+    signal?.throwIfAborted();
+    const asked = this.ask("stored", document, id);
+    await (signal ? endedBy(signal, asked) : asked);
+  }
 
   /** @param {string} document @returns {Promise<[Id, Id[]][]>} */
   held = async (document) => (await this.ask("held", document))[0];
@@ -384,9 +390,28 @@ export class Client {
    *  Refused if the document isn't open.
    *  @param {string} document
    *  @param {Changed} changed
-   *  @param {number} [every]
+   *  @param {number | { every?: number, signal?: AbortSignal }} [options] a number is `every`: 500
+   *    ms. The signal ends it, as `AbortSignal.timeout(ms)` does after so long
    *  @returns {Promise<() => void>} */
-  async watch(document, changed, every = 500) {
+  async watch(document, changed, options) {
+    const given = typeof options === "number" ? { every: options } : options;
+    const { every = 500, signal } = given ?? {};
+    signal?.throwIfAborted();
+    const end = await this.#watch(document, changed, every);
+    if (signal?.aborted) end();
+    signal?.throwIfAborted();
+    signal?.addEventListener("abort", end, { once: true });
+    return () => {
+      signal?.removeEventListener("abort", end);
+      end();
+    };
+  }
+
+  /** @param {string} document
+   *  @param {Changed} changed
+   *  @param {number} every
+   *  @returns {Promise<() => void>} */
+  async #watch(document, changed, every) {
     const add = (/** @type {Watch | undefined} */ watch) =>
       watch?.watchers.set(changed, watch.watchers.get(changed) ?? "");
     add(this.#watches.get(document)); // a push may come just behind the reply
@@ -557,6 +582,19 @@ export class Client {
       this.failed(error);
     }
   }
+}
+
+/** What a promise gives, unless the signal is aborted before: then its reason is thrown.
+ *  @template T
+ *  @param {AbortSignal} signal
+ *  @param {Promise<T>} promise
+ *  @returns {Promise<T>} */
+function endedBy(signal, promise) {
+  return new Promise((resolve, reject) => {
+    const stop = () => reject(signal.reason);
+    signal.addEventListener("abort", stop, { once: true });
+    promise.then(resolve, reject).finally(() => signal.removeEventListener("abort", stop));
+  });
 }
 
 /** Whether the other side has no such request.

@@ -1,5 +1,7 @@
 /* The options of a hub, each once: what the program calls it, its help, and a number's bounds. */
 
+import { MOST_CLIENTS } from "./serve.mjs";
+
 /** @typedef {import("../index.js").HubOptions} HubOptions */
 /** @typedef {{ least: number, most: number, usual: number }} Bounds */
 /** @typedef {{ word?: string, value?: string, isMany?: boolean, help?: string, bounds?: Bounds }} Option
@@ -48,7 +50,8 @@ address of --web is none that a browser opens, as 0.0.0.0:7201`,
   },
   file: { value: "F", help: `answer "stored" by the server's file F, on this machine` },
   durable: { help: "the server was started with --durable: what is acknowledged is stored" },
-  linesPerSession: { bounds: from(100, 990_000, 990_000) }, // for tests
+  linesPerSession: { bounds: from(100, 990_000, 990_000) }, // for tests, as the next one
+  mostClients: { bounds: from(1, MOST_CLIENTS, MOST_CLIENTS) },
 });
 
 /** @type {[keyof typeof OPTIONS, Option][]} */

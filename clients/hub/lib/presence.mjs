@@ -35,6 +35,10 @@ export class Presence {
   /** @param {Guest} guest */
   has = (guest) => [...this.#hearers.values()].some((hearers) => hearers.has(guest));
 
+  /** How many clients say something of a document.
+   *  @param {string} document */
+  count = (document) => this.#said.get(document)?.size ?? 0;
+
   stop() {
     this.#stop();
   }

@@ -78,8 +78,8 @@ export function dropIdle({ guests, patience, idle }) {
 /** Whether one more client has room on a way in: the one that was idle for longest makes it.
  *  @param {State} hub
  *  @param {Set<Guest>} guests those of this way */
-export function hasRoom({ patience }, guests) {
-  if (guests.size < MOST_CLIENTS) return true;
+export function hasRoom({ patience, mostClients }, guests) {
+  if (guests.size < mostClients) return true;
   const idle = [...guests].filter((it) => it.silence > patience / 1000 && !it.isListening);
   const first = idle.reduce(
     (a, b) => (a && a.silence >= b.silence ? a : b), /** @type {Guest | undefined} */ (undefined));

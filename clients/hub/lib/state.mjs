@@ -14,6 +14,7 @@
  *    guestCount: number,
  *    patience: number,
  *    idle: number,
+ *    mostClients: number,
  *    clock: Clock,
  *    admit?: import("../index.js").Admit,
  *    note: import("./notes.mjs").Note,

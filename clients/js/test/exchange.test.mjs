@@ -174,7 +174,7 @@ for (const [title, engine] of engines) {
     await again.sync(answer);
     const notes = plain(again.show([0, "notes"])).map((/** @type {any} */ it) => it.text);
     deepEqual(notes.sort(), ["buy milk", "call mum", "one"]);
-    equal(again.sum([0, "count"]), "2");
+    equal(again.sum([0, "count"]), 2);
     equal(print(["show", again.show([0])]), await client.answer('["show","d",[0]]'));
     client.end();
   });
@@ -224,7 +224,7 @@ for (const [title, engine] of engines) {
       await left.sync(server.answer);
       const texts = right.items([0, "list"]).map(([, [text]]) => text).sort();
       deepEqual(texts, ["base", "left 1", "left 2", "right 1", "right 2", "right 3", "right 4"]);
-      equal(right.sum([0, "votes"]), "1");
+      equal(right.sum([0, "votes"]), 1);
       equal(print(left.show([0])), print(right.show([0])));
     }
   });
@@ -355,7 +355,7 @@ for (const [title, engine] of engines) {
     const { remade, lost } = old.remakeIn(me, map);
     deepEqual([remade, lost.map((line) => parse(line)[4])], [7, [["assign", "c2"]]]);
     deepEqual(plain(me.show([0])).list, ["behind a", { text: "b2" }, { text: "d2" }]);
-    equal(me.sum([0, "n"]), "5");
+    equal(me.sum([0, "n"]), 5);
     deepEqual(events, [7]);
   });
 }

@@ -95,6 +95,8 @@ const USE = `
   import { Client, Counter, Refused, Replica, connected, plain, type Id } from "jcrdt";
   import { browserStore } from "jcrdt/browser_store";
   import { fileStore } from "jcrdt/file_store";
+  import { caretMarks } from "jcrdt/caret_marks";
+  import { followed } from "jcrdt/follow";
   import { load } from "jcrdt/jcrdt";
   import { Provider, type State } from "jcrdt/provider";
   import { Replica as Same } from "jcrdt/replica";
@@ -107,7 +109,10 @@ const USE = `
   const id: Id = me.assign([0, "k"], 1);
   const stop: () => void = me.listen(({ lines }) => lines.map((line: string) => line.length));
   const client: Client = await connected("127.0.0.1:1", { seconds: 5 });
-  const sum: number | bigint = await client.sum("d", [0, "n"]);
+  let sum: number | bigint = await client.sum("d", [0, "n"]);
+  sum = me.sum([0, "n"]);
+  for await (const [, [counter]] of followed("127.0.0.1:1", "d", { front: [["a", 1]] })) sum = counter;
+  const others: ReadonlyMap<string, any> = notes.presence.others;
   const stores: Store[] = [memoryStore(), fileStore("notes"), browserStore("notes")];
   const notes: Provider = await Provider.open({ document: "d", at: "wss://h/lines", store: stores[0] });
   const state: State = notes.state;
@@ -115,14 +120,19 @@ const USE = `
   const taken: string[] = await notes.discardRefused({ seconds: 1 });
   const may: boolean | undefined = notes.canWrite;
   await notes.synced({ seconds: 5, signal: new AbortController().signal });
-  const end: () => void = bindText(notes, [0, "text"], document.querySelector("textarea")!);
+  const field = document.querySelector("textarea")!;
+  const end: () => void = bindText(notes, [0, "text"], field, { carets: caretMarks(field) });
   const front: Map<string, number> = await (await connectedToHub("wss://h/lines")).front("d");
   // @ts-expect-error: a cursor is an array
   me.values(0);
+  // @ts-expect-error: a place is an array
+  me.assign("d", "title");
+  // @ts-expect-error: so is that of a session
+  await client.assign("d", "title", "Plan");
   // @ts-expect-error: a document is wanted
   await Provider.open({ at: "127.0.0.1:1" });
   // @ts-expect-error: there is no such state
   const wrong: "lost" = notes.state.word;
-  console.log(taken, may, state.refused?.count, id, stop, sum, new Counter(1), Refused, Away, plain([]), parse("[]"), load, word, end, front, wrong);
+  console.log(taken, may, state.refused?.count, id, stop, sum, new Counter(1), Refused, Away, plain([]), parse("[]"), load, word, end, front, wrong, others);
   export {};
 `;

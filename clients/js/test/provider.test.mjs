@@ -220,14 +220,14 @@ test("a hub that is killed and started again", async () => {
   const hub = await startHub(server.address);
   const [ada, bob] = [await opened(hub.lines), await opened(hub.lines)];
   ada.replica.add([0, "votes"], 1);
-  await until("bob has it", () => bob.replica.sum([0, "votes"]) === "1");
+  await until("bob has it", () => bob.replica.sum([0, "votes"]) === 1);
   await end(hub);
   await until("offline", () => ada.state.word === "offline");
   ada.replica.add([0, "votes"], 1);
   bob.replica.add([0, "votes"], 1);
   await startHub(server.address, { web: hub.web });
   await until("both have three", () =>
-    [ada, bob].every(({ replica }) => replica.sum([0, "votes"]) === "3"));
+    [ada, bob].every(({ replica }) => replica.sum([0, "votes"]) === 3));
   await online(ada); // its exchange may go on for a moment
 });
 
@@ -339,7 +339,7 @@ test("a listener that throws, and one that edits", async () => {
   ada.listen(({ what, lines }) => {
     if (what !== "changed") return;
     heard.push(...lines);
-    if (ada.replica.sum([0, "n"]) === "0") ada.replica.add([0, "n"], 1);
+    if (ada.replica.sum([0, "n"]) === 0) ada.replica.add([0, "n"], 1);
   });
   ada.replica.assign([0, "title"], "Plan");
   equal(heard.length, 2);
@@ -348,7 +348,7 @@ test("a listener that throws, and one that edits", async () => {
   await ada.close();
   const again = await opened(undefined, { store: fileStore(store.file) });
   equal(valueOf(again, "title"), "Plan");
-  equal(again.replica.sum([0, "n"]), "1");
+  equal(again.replica.sum([0, "n"]), 1);
 });
 
 test("an old file that was put back: nothing is lost, no two elements are one", async () => {

@@ -154,7 +154,7 @@ test("a full document: each own change that the server lacks counts", async () =
   equal(bob.canWrite, false);
   equal((await bob.discardRefused({ seconds: 300 })).length, 31);
   equal(bob.state.word, "online");
-  deepEqual([bob.replica.sum([0, "ada"]), bob.replica.sum([0, "bob"])], ["41", "9"]);
-  await until("both are alike", () => ada.replica.sum([0, "bob"]) === "9");
+  deepEqual([bob.replica.sum([0, "ada"]), bob.replica.sum([0, "bob"])], [41, 9]);
+  await until("both are alike", () => ada.replica.sum([0, "bob"]) === 9);
   await client.quit();
 });

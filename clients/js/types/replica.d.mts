@@ -129,10 +129,9 @@ export class Replica {
     items(cursor: import("./operations.mjs").Cursor): [import("./operations.mjs").Id, Scalar[]][];
     /** @param {Cursor} cursor @returns {[Id, any][]} */
     conflicts(cursor: import("./operations.mjs").Cursor): [import("./operations.mjs").Id, any][];
-    /** In decimal digits.
-     *  @param {Cursor} cursor
-     *  @returns {string} */
-    sum(cursor: import("./operations.mjs").Cursor): string;
+    /** @param {Cursor} cursor
+     *  @returns {number | bigint} a BigInt beyond 2^53, as of a session */
+    sum(cursor: import("./operations.mjs").Cursor): number | bigint;
     /** @returns {[string, number][]} */
     front(): [string, number][];
     /** The held operations, each with what is missing.

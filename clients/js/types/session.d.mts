@@ -151,8 +151,11 @@ export class Client {
     /** At the hub: resolves once the operation of this id is in the server's file. Refused with 104,
      *  `not-kept`, if the hub can't know, and with 2 by a server, which has no such request.
      *  @param {string} document
-     *  @param {Id} id */
-    stored: (document: string, id: import("./operations.mjs").Id) => Promise<undefined>;
+     *  @param {Id} id
+     *  @param {{ signal?: AbortSignal }} [wait] ends the wait: then the signal's reason is thrown */
+    stored(document: string, id: import("./operations.mjs").Id, wait?: {
+        signal?: AbortSignal | undefined;
+    } | undefined): Promise<void>;
     /** @param {string} document @returns {Promise<[Id, Id[]][]>} */
     held: (document: string) => Promise<[import("./operations.mjs").Id, import("./operations.mjs").Id[]][]>;
     /** @param {string} document @param {Id} id */
@@ -167,9 +170,13 @@ export class Client {
      *  Refused if the document isn't open.
      *  @param {string} document
      *  @param {Changed} changed
-     *  @param {number} [every]
+     *  @param {number | { every?: number, signal?: AbortSignal }} [options] a number is `every`: 500
+     *    ms. The signal ends it, as `AbortSignal.timeout(ms)` does after so long
      *  @returns {Promise<() => void>} */
-    watch(document: string, changed: Changed, every?: number | undefined): Promise<() => void>;
+    watch(document: string, changed: Changed, options?: number | {
+        every?: number | undefined;
+        signal?: AbortSignal | undefined;
+    } | undefined): Promise<() => void>;
     /** @param {string} document
      *  @param {Changed} changed */
     unwatch(document: string, changed: Changed): void;
