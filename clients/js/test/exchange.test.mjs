@@ -67,7 +67,8 @@ for (const [title, engine] of engines) {
     for (const [word, cursor] of [["show", [0]], ["items", [0, "text"]], ["sum", [0, "big"]]]) {
       const reply = await one.answer(print([word, "d", cursor]));
       for (const it of [again, bob]) {
-        equal(print([word, /** @type {any} */ (it)[/** @type {string} */ (word)](cursor)]), reply);
+        const read = /** @type {any} */ (it)[/** @type {string} */ (word)](cursor);
+        equal(print([word, word === "sum" ? String(read) : read]), reply); // a reply has the sum as text
       }
     }
     equal(print(["front", bob.front()]), await one.answer('["front","d"]'));

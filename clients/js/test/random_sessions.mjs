@@ -54,6 +54,8 @@ export class Session {
     if (word === "forget") return this.replica.forget(rest[0]) ?? '["forgotten"]';
     if (word === "deliver") return print(this.replica.deliver(rest[0]));
     if (word === "ops") return print(["ops", page(this.replica, ...rest).map(parse)]);
+    // A reply has the sum as text.
+    if (word === "sum") return print([word, String(this.replica.sum(this.#place(rest[0])))]);
     if (READINGS.includes(word)) return print([word, this.replica[word](this.#place(rest[0]))]);
     return this.#change(word, ...rest);
   }
