@@ -147,12 +147,14 @@ test("long offline, who waits by `synced` has it tried each second, and others d
   // From here on the pauses between two tries are of 7 s at least.
   await until("both were tried for long", () => all.every(({ count }) => count > 6));
   const before = all.map(({ count }) => count);
-  const isAway = rejects(ada.synced(240), Away);
+  const wait = new AbortController();
+  const isEnded = rejects(ada.synced({ seconds: 240, signal: wait.signal }));
   await until("ada is tried again and again", () => all[0].count >= before[0] + 12);
   const [more, few] = all.map(({ count }, at) => count - before[at]);
   ok(few <= more / 3, `${more} tries, and ${few} where nobody waits`);
+  wait.abort();
+  await isEnded;
   await Promise.all([ada.close(), bob.close()]);
-  await isAway;
   all.forEach((it) => it.close());
 });
 
