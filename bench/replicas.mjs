@@ -1,6 +1,6 @@
-/* The columns of a row of bench/replicas: node replicas.mjs module|rules|yjs MODULE */
+/* The columns of a row of bench/replicas: node replicas.mjs module|yjs MODULE */
 
-import { readFileSync, readdirSync } from "node:fs";
+import { readFileSync } from "node:fs";
 import { createRequire } from "node:module";
 import { gzipSync } from "node:zlib";
 
@@ -34,14 +34,16 @@ function ofEngine(open) {
     for (const line of lines) engine.ask(["deliver", JSON.parse(line)]);
     return engine;
   };
-  return { make, take, watched: (lines) => watched(open, lines) };
+  /** Opens what `writer` has stored, its lines. */
+  const reopen = (writer) => open("writer", writer.lines);
+  return { make, take, reopen, watched: (lines) => watched(open, lines) };
 }
 
 /** What types a key at random into a list that is watched; and what takes a key of another. */
 async function watched(open, lines) {
   const { Replica } = await import(new URL("replica.mjs", CLIENTS));
-  const of = (name, engine) => Replica.restore([`["replica","${name}","d"]`, ...lines], { engine });
-  const [me, other] = [of("me", open), of("other")];
+  const of = (name) => Replica.restore([`["replica","${name}","d"]`, ...lines], { engine: open });
+  const [me, other] = [of("me"), of("other")];
   let heard = 0;
   me.watch([0, "l"], (splices) => (heard += splices.length));
   const came = [];
@@ -82,35 +84,36 @@ function ofYjs(Y) {
       isHeard: () => heard === 2 * KEYS,
     };
   };
-  return { make, take, watched };
+  /** Opens what `writer` would store, one update of all. */
+  const reopen = (writer) => take([Y.encodeStateAsUpdate(writer.doc)]);
+  return { make, take, reopen, watched };
 }
 
 const FILES = {
   module: () => [readFileSync(module), ...["jcrdt.mjs", "errors.mjs", "json.mjs", "protocol.mjs"].map((it) => readFileSync(new URL(it, CLIENTS)))],
-  rules: () => ["rules.mjs", "errors.mjs", "json.mjs", "limits.mjs", "names.mjs", "operations.mjs", "protocol.mjs", "values.mjs", ...readdirSync(CLIENTS).filter((it) => it === "order.mjs")].map((it) => readFileSync(new URL(it, CLIENTS))),
   yjs: () => [readFileSync("/usr/share/nodejs/yjs/dist/yjs.cjs")],
 };
 const LOAD = {
   module: async () => {
     const { load } = await import(new URL("jcrdt.mjs", CLIENTS));
-    const open = await load({ module: readFileSync(module), say: (why) => { throw new Error(why); } });
+    const open = await load({ module: readFileSync(module) });
     open("none", []).free();
     return ofEngine(open);
   },
-  rules: async () => ofEngine((await import(new URL("rules.mjs", CLIENTS))).open),
   yjs: async () => ofYjs(createRequire(import.meta.url)("/usr/share/nodejs/yjs")),
 };
 
 const bytes = Buffer.concat(FILES[which]());
 const before = megabytes();
-const [load, { make, take, watched: watchedOf }] = await timed(LOAD[which]);
+const [load, { make, take, reopen, watched: watchedOf }] = await timed(LOAD[which]);
 const writer = make("writer");
 const [type] = await timed(() => { for (let at = 0; at < 20_000; at++) writer.type(random(at + 1)); });
 for (let at = 20_000; writer.lines.length < 50_000; at++) writer.type(random(at + 1));
 const [took, reader] = await timed(() => take(writer.lines));
 const grown = megabytes() - before;
+const [opening, opened] = await timed(() => reopen(writer));
 const list = await watchedOf(writer.lines.slice(0, WATCHED + 1));
 const [key] = await timed(() => { for (let at = 0; at < KEYS; at++) list.type(); });
 const [theirs] = await timed(() => { for (let at = 0; at < KEYS; at++) list.take(); });
-console.log([bytes.length / 1000, gzipSync(bytes).length / 1000, load, type / 1000, took / 1000, grown, key / KEYS, theirs / KEYS].join(" "));
-if (!reader || !list.isHeard()) process.exit(1);
+console.log([bytes.length / 1000, gzipSync(bytes).length / 1000, load, type / 1000, took / 1000, grown, opening / 1000, key / KEYS, theirs / KEYS].join(" "));
+if (!reader || !opened || !list.isHeard()) process.exit(1);

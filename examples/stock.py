@@ -19,6 +19,7 @@ from typing import List
 sys.path.insert(0, os.path.join(os.path.dirname(os.path.abspath(__file__)), "..", "clients", "python"))
 import jcrdt  # noqa: E402
 from jcrdt.replica import Replica  # noqa: E402
+from jcrdt.store import Store  # noqa: E402
 
 DOCUMENT, ITEM, ROUNDS, EACH = "stock", "tea", 4, 25
 
@@ -76,15 +77,12 @@ class Till:
                 self.session = self.connected()
 
 
-def add_offline(server: Server, me: Replica, file: str, numbers: List[int]) -> None:
+def add_offline(server: Server, me: Replica, numbers: List[int]) -> None:
     """Adds to a counter in this program, stores that, and delivers it as often as it takes."""
     for number in numbers:
         me.add([0, "by replicas", ITEM], number)
+    me.save()
     while True:
-        with open(file, "a", encoding="utf-8") as stored:
-            stored.writelines(f"{line}\n" for line in me.logged())
-            stored.flush()
-            os.fsync(stored.fileno())
         try:
             with jcrdt.connected(server.address) as session:
                 me.sync(session, DOCUMENT)
@@ -102,27 +100,19 @@ def main(file: str) -> None:
             for number in range(EACH):
                 tills[0].add(2)
                 tills[1].add(-1)
-            with Replica("till-9", stored_lines(file)) as me:
-                add_offline(server, me, file, [3] * EACH)
+            with Store(file, DOCUMENT, "till") as store, Replica.stored(store) as me:
+                add_offline(server, me, [3] * EACH)
             if turn < ROUNDS - 1:
                 server.kill()
                 server.start()
         for till in tills:
             till.end()
         # The last kill may have lost what the replica delivered: it delivers that again, and nothing twice.
-        with Replica("till-9", stored_lines(file)) as me, tills[0].session as session:
+        with Store(file, DOCUMENT) as store, Replica.stored(store) as me, tills[0].session as session:
             me.sync(session, DOCUMENT)
             stock = session.plain(DOCUMENT, [0, ITEM])
             print(f"sold by sessions: {stock}, together {sum(stock.values())}")
             print(f"sold by the replica: {session.sum(DOCUMENT, [0, 'by replicas', ITEM])}")
-
-
-def stored_lines(file: str) -> List[str]:
-    if not os.path.exists(file):
-        return []
-    with open(file, encoding="utf-8") as stored:
-        # A line without a newline is one that a crash cut off: it was never sent.
-        return [line.rstrip("\n") for line in stored if line.endswith("\n")]
 
 
 if __name__ == "__main__":

@@ -44,7 +44,13 @@
      any other                      nothing
 
    An operation is held if it comes before one that its maker had seen. Who delivers another log in
-   its order has none held. examples/trip.c is a program with files that does all this.
+   its order has none held. examples/trip.c is a program with files that does all this, and
+   examples/store.c a file with a lock, to copy: two programs that append to one file would give an
+   id out twice. No copy of a file is used, and no older one: its replica's ids are taken. It goes
+   on under a new name, as in examples/remake.c.
+
+   A fork copies the replica. Both processes would give the next id, each to an operation of its
+   own. So one of them goes on with it; the other only closes it, and opens one of another name.
 
    A request is JSON: within a text a quote is \" and a backslash \\, and no character below 32 stands
    in it as it is.
@@ -64,6 +70,14 @@
 #ifdef __cplusplus
 extern "C" {
 #endif
+
+/* The version of this header, MAJOR.MINOR.PATCH. Within one MAJOR no call, form or number changes its
+   meaning, and the shared library's name keeps its number: libjcrdt.so.1. */
+#define JCRDT_VERSION "1.2.0"
+
+/* The version of the library: a text that is there as long as the program. It differs from JCRDT_VERSION
+   where the program was compiled for another one. */
+const char *jcrdt_version(void);
 
 /* A handle: it owns one open replica, or none. JCRDT_CLOSED owns none. */
 typedef struct jcrdt {

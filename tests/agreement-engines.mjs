@@ -5,12 +5,11 @@ import { createReadStream } from "node:fs";
 import { readFile } from "node:fs/promises";
 import { createInterface } from "node:readline";
 import { load } from "../clients/js/jcrdt.mjs";
-import { open as byHand } from "../clients/js/rules.mjs";
 import { parse, print } from "../clients/js/wire.mjs";
+import { open as byHand } from "./rules.mjs";
 
 const [engine, jobs, module] = process.argv.slice(2);
-const say = (why) => { throw new Error(why); };
-const open = engine === "rules" ? byHand : await load({ module: await readFile(module), say });
+const open = engine === "rules" ? byHand : await load({ module: await readFile(module) });
 for await (const line of createInterface({ input: createReadStream(jobs) })) {
   const { name, requests } = JSON.parse(line);
   const replica = open(name, []);

@@ -5,6 +5,8 @@
 #include <stdio.h>
 #include <stdlib.h>
 #include <string.h>
+#include <sys/wait.h>
+#include <unistd.h>
 
 static size_t left; /* so many allocations from now one is refused; 0: none is */
 
@@ -13,18 +15,18 @@ static int refused(void) { return left && --left == 0; }
 /* What the library calls, in place of its own three over malloc. */
 typedef struct { size_t ok; void *at; } answer;
 
-answer rattle_alloc(size_t size, size_t align) {
+answer jcrdt_alloc(size_t size, size_t align) {
   void *at = refused() ? NULL : malloc(size ? size : align);
   return (answer){at != NULL, at ? at : (void *)16};
 }
 
-answer rattle_realloc(void *old, size_t was, size_t size, size_t align) {
+answer jcrdt_realloc(void *old, size_t was, size_t size, size_t align) {
   (void)was;
   void *at = refused() ? NULL : realloc(old, size ? size : align);
   return (answer){at != NULL, at ? at : (void *)16};
 }
 
-void rattle_dealloc(void *at) { free(at); }
+void jcrdt_dealloc(void *at) { free(at); }
 
 static const char *requests[] = {
   "[\"assign\",[0,\"l\"],[]]", "[\"insert\",[0,\"l\",0],\"a text that has no room in a scalar by itself\"]",
@@ -81,6 +83,25 @@ static void opens(const char *name, const char *lines, uint64_t number, uint64_t
   jcrdt_close(&replica);
 }
 
+/* A fork copies the replica: both processes give the next id, each to an operation of its own, until one of them closes its copy. */
+static void after_fork(void) {
+  static const char *request = "[\"assign\",[0,\"a\"],1]", *made = "[\"applied\",1,0,[1,\"ada\"]]";
+  jcrdt replica = JCRDT_CLOSED;
+  jcrdt_fault fault;
+  int status = 1;
+  jcrdt_open(&replica, "ada", 3, "", 0, &fault);
+  pid_t child = fork();
+  if (child == 0) {
+    ask(&replica, request, text);
+    jcrdt_close(&replica);
+    _exit(strncmp(text, made, strlen(made)) != 0);
+  }
+  if (waitpid(child, &status, 0) != child || status != 0) stop("a child that was forked", "it doesn't answer by itself");
+  ask(&replica, request, text);
+  if (strncmp(text, made, strlen(made)) != 0) stop("a child that was forked", "its parent's replica has changed");
+  jcrdt_close(&replica);
+}
+
 int main(void) {
   size_t n = 0;
   while (session(n) || n == 0) n++;
@@ -111,6 +132,7 @@ int main(void) {
   if (jcrdt_again(&replica, text, ROOM) != whole || memcmp(text + whole - 2, "]\n", 2) != 0) stop("again", text);
   jcrdt_close(&replica);
   jcrdt_close(&replica);
+  after_fork();
   printf("the library answers alike with each of %zu allocations refused, and misuse as its header says\n", n - 1);
   return 0;
 }

@@ -1,9 +1,9 @@
 /* Tries jcrdt.wasm: node library-module.mjs MODULE. Its heap, each allocation of a session refused in turn, and the refusals of
-   `open`. Prints one line, or what went wrong, with status 1. Without memories of 64 bits it says so, and that is all. */
+   `open`. Prints one line, or what went wrong, with status 1. */
 
 import assert from "node:assert/strict";
 import { readFile } from "node:fs/promises";
-import { hasMemory64, opener } from "../clients/js/jcrdt.mjs";
+import { opener } from "../clients/js/jcrdt.mjs";
 import { Refused, print } from "../clients/js/wire.mjs";
 
 const REQUESTS = [
@@ -115,19 +115,15 @@ function refusals(open) {
   assert.equal(refused("ada", [FIRST, second]), null);
 }
 
-if (!hasMemory64()) {
-  console.log("left out: the module, since Node has no WebAssembly memories of 64 bits");
-} else {
-  const module = await WebAssembly.compile(await readFile(process.argv[2]));
-  assert.deepEqual(WebAssembly.Module.imports(module), []);
-  for (const it of [heap, blocks, leavings]) it(instanceOf(module).exports);
-  refusals(opener(module));
-  const due = session(instanceOf(module), 0);
-  let n = 1;
-  for (; n < 2000; n++) {
-    const instance = instanceOf(module);
-    assert.deepEqual(session(instance, n), due, `with allocation ${n} refused`);
-    if (n > 400) break;
-  }
-  console.log(`the module's heap, its refusals, and each of ${n} allocations refused in turn: as they are to be`);
+const module = await WebAssembly.compile(await readFile(process.argv[2]));
+assert.deepEqual(WebAssembly.Module.imports(module), []);
+for (const it of [heap, blocks, leavings]) it(instanceOf(module).exports);
+refusals(opener(module));
+const due = session(instanceOf(module), 0);
+let n = 1;
+for (; n < 2000; n++) {
+  const instance = instanceOf(module);
+  assert.deepEqual(session(instance, n), due, `with allocation ${n} refused`);
+  if (n > 400) break;
 }
+console.log(`the module's heap, its refusals, and each of ${n} allocations refused in turn: as they are to be`);

@@ -35,7 +35,9 @@ const commands = {
   move: (title, rank) => replica.assign([...place(title), "rank"], rank),
   vote: (title) => replica.add([...place(title), "votes"], 1),
   delete: (title) => replica.delete(place(title)),
-  undo: () => replica.undo(),
+  undo: () => {
+    if (!replica.undo()) throw new Error("no step to undo: another had the name of this replica");
+  },
   show: () => {},
   synced: () => provider.synced(SECONDS),
 };

@@ -117,7 +117,7 @@ LOOK = [
              behind('        return int(self.ask("sum", document, cursor)[0])\n',
                     '\n    def total(self, document: str, cursor: Cursor) -> int:\n        return int(self.ask("total", document, cursor)[0])\n'),
              ('  equal(await client.total("d", [0, "total"]), 0);\n', 'def test_total(alice: Session) -> None:\n    assert alice.total("d", [0, "total"]) == 0')),
-    Edit("look", 2, "clients/js/rules.mjs", ["rules"], [
+    Edit("look", 2, "tests/rules.mjs", ["rules"], [
         behind('      case "sum": return String(node.sum);\n', '      case "total": return String(node.sum);\n')]),
     Edit("look", 3, LINES, ["kind_of", "REQUESTS", "its length", "a reply"], [
         behind('        Look::Sum => "sum",\n', '        Look::Total => "total",\n'),
@@ -156,8 +156,8 @@ LOOK = [
 
 COUNT_READ = """    // How many operations are logged.
     fn count(&self) -> Reply
-        ensures { (name : List ℕ) (mine : ℕ)
-            → MayAnswer (replica_with name self.now) mine (query.State State.Count) result }
+        ensures { (name : List ℕ) (counts : Counts)
+            → MayAnswer (replica_with name self.now) counts (query.State State.Count) result }
     {
         Reply::Count(self.log().len() as u64)
     }
@@ -167,7 +167,7 @@ COUNT_READ = """    // How many operations are logged.
 
 COUNT_ANSWER = """
 pub returns-in-Count-clause-answer : goal.returns-in-Count-clause-answer
-returns-in-Count-clause-answer c name = rw c.in-Count.is (c.count.ensures name c.args.mine)
+returns-in-Count-clause-answer c name = rw c.in-Count.is (c.count.ensures name c.args.counts)
 """
 
 STATE = [
@@ -191,26 +191,25 @@ STATE = [
         behind("    Account(u64),\n", "    /// How many operations are logged.\n    Count(u64),\n"),
         behind("            Reply::Account(_) => {}\n", "            Reply::Count(_) => {}\n")]),
     Edit("state", 15, "crates/doc_rules/specs/Answers.antt", ["state_reply"], [
-        ("use Rattle.std.specs.Prelude.{MatchResult}\n", "use Rattle.std.specs.Prelude.{MatchResult, length}\n"),
-        behind("state_reply r mine state.Account = reply.Account mine\n", "state_reply r mine state.Count = reply.Count (length r.log)\n")]),
+        behind("state_reply r counts state.Account = reply.Account counts.mine\n", "state_reply r counts state.Count = reply.Count (length r.log)\n")]),
     Edit("state", 16, "crates/line_proto/specs/Written.antt", ["state_word"], [
         behind('state_word state.Account = codes "account"\n', 'state_word state.Count = codes "count"\n')]),
     Edit("state", 16, "crates/line_proto/specs/Reading.antt", ["states"], [
-        ('(codes "account", state.Account) ∷ []', '(codes "account", state.Account) ∷ (codes "count", state.Count) ∷ []')]),
+        ('(codes "account", state.Account) ∷ ', '(codes "account", state.Account) ∷ (codes "count", state.Count) ∷ ')]),
     Edit("state", 16, "crates/line_proto/specs/Replies.antt", ["reply_data"], [
-        ("TheVariants.{Account, Refused}", "TheVariants.{Account, Count, Refused}"),
+        ("TheVariants.{Account, Size, Copied, Refused}", "TheVariants.{Account, Count, Size, Copied, Refused}"),
         behind('reply_data (Account n) = worded (codes "account") (count_data n ∷ [])\n', 'reply_data (Count n) = worded (codes "count") (count_data n ∷ [])\n')]),
     Edit("state", 16, "crates/line_proto/specs/Writing.antt", ["needs_heap"], [
-        ("TheVariants.{Account, Refused, Keys, Items, Conflicts}", "TheVariants.{Account, Count, Refused, Keys, Items, Conflicts}"),
+        ("TheVariants.{Account, Size, Copied, Refused, Keys, Items}", "TheVariants.{Account, Count, Size, Copied, Refused, Keys, Items}"),
         behind("needs_heap (Account n) = false\n", "needs_heap (Count n) = false\n")]),
     Edit("state", 16, "crates/line_proto/src/parse.rt", ["state_of_word"], [behind('        "account" => Some(State::Account),\n', '        "count" => Some(State::Count),\n')]),
     Edit("state", 16, "crates/line_proto/src/write.rt", [], [
         behind('        Reply::Account(n) => Some(numbered("[\\"account\\",", *n)),\n', '        Reply::Count(n) => Some(numbered("[\\"count\\",", *n)),\n')]),
     Edit("state", 17, "crates/replica_core/src/read.rt", ["read_state"], [
-        behind("            State::Account => Reply::Account(mine),\n", "            State::Count => self.count(),\n"),
+        behind("            State::Account => Reply::Account(counts.mine),\n", "            State::Count => self.count(),\n"),
         ("    // The held operations, and what each waits for.\n    fn waiting", COUNT_READ)]),
     Edit("state", 17, "crates/replica_core/proofs/body/Body/read_state/Answers.antt", ["read_state"], [
-        behind("returns-in-Held-clause-answer c name = rw c.in-Held.is (c.waiting.ensures name c.args.mine)\n", COUNT_ANSWER)]),
+        behind("returns-in-Held-clause-answer c name = rw c.in-Held.is (c.waiting.ensures name c.args.counts)\n", COUNT_ANSWER)]),
 ]
 
 # ---- A change: what the table alone says of it.

@@ -209,18 +209,19 @@ class Run(Lines):
 
 class Server:
     """`serve` over a file: where it listens, what it noted, and how it ended. Its notes are kept unless `errors` says where they go.
-    `first` is its first line, or nothing where it ended without one. With `killed_after` it is killed so many seconds after its start."""
+    `first` is its first line, or nothing where it ended without one. With `killed_after` it is killed so many seconds after its start.
+    With `clients` it stays, for so many at once, until its input ends, if it `drains` then."""
 
     def __init__(self, program: str, path: str, *documents: str, sessions: int = 256, name: Optional[str] = None, address: str = "127.0.0.1:0",
                  options: Sequence[str] = (), prefix: Sequence[str] = (), environment: Optional[Mapping[str, str]] = None,
                  limits: Optional[Callable[[], object]] = None, folder: Optional[str] = None, errors: Optional[int] = KEPT,
-                 killed_after: Optional[float] = None) -> None:
-        self.path, self.documents, self.sessions, self.used = path, documents, sessions, 0
+                 killed_after: Optional[float] = None, clients: int = 0, drains: bool = True) -> None:
+        self.path, self.documents, self.sessions, self.used, self.clients = path, documents, sessions, 0, clients
         self.notes: IO[bytes] = tempfile.TemporaryFile()
-        words = [*prefix, program, "serve", "--addr", address, "--sessions", str(sessions), "--file", path,
-                 *(["--name", name] if name else []), *options, *documents]
-        self.process = subprocess.Popen(words, cwd=folder, bufsize=0, stdin=subprocess.DEVNULL, stdout=subprocess.PIPE, env=environment, preexec_fn=limits,
-                                        stderr=self.notes if errors == KEPT else errors)
+        count = ["--clients", str(clients), *(["--until-input-ends"] if drains else [])] if clients else ["--sessions", str(sessions)]
+        words = [*prefix, program, "serve", "--addr", address, *count, "--file", path, *(["--name", name] if name else []), *options, *documents]
+        self.process = subprocess.Popen(words, cwd=folder, bufsize=0, stdin=subprocess.PIPE if clients else subprocess.DEVNULL, stdout=subprocess.PIPE,
+                                        env=environment, preexec_fn=limits, stderr=self.notes if errors == KEPT else errors)
         assert self.process.stdout
         self.output = self.process.stdout
         self.watch = threading.Timer(SECONDS if killed_after is None else killed_after, self.process.kill)
@@ -261,11 +262,20 @@ class Server:
         return self.process.returncode, [json.loads(it) for it in out.splitlines()]
 
     def end(self) -> Tuple[int, List[Any]]:
-        """Uses up the sessions that are left, and returns the status and the totals."""
+        """Ends its input where it stays, or uses up the sessions that are left, and returns the status and the totals."""
+        if self.clients:
+            self.drain()
+            return self.totals()
         for _ in range(self.sessions - self.used):
             with contextlib.suppress(OSError):
                 socket.create_connection(self.address, timeout=SECONDS).close()
         return self.totals()
+
+    def drain(self) -> None:
+        """Ends its input."""
+        if self.process.stdin:
+            self.process.stdin.close()
+            self.process.stdin = None
 
     def kill(self) -> None:
         self.process.kill()
@@ -284,6 +294,7 @@ class Server:
         return self
 
     def __exit__(self, *_: object) -> None:
+        self.drain()
         leave(self.process, self.watch, self.output, self.notes)
 
 

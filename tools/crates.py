@@ -19,7 +19,14 @@ TOP = os.path.dirname(os.path.dirname(os.path.abspath(__file__)))
 PROGRAM = "jcrdt"
 # The static library, and what tools/embed makes of it.
 EMBEDDED = "replica_c"
-EMBEDDED_FILES = {"library": "libjcrdt.a", "shared": "libjcrdt.so", "module": "jcrdt.wasm"}
+EMBEDDED_FILES = {"library": "libjcrdt.a", "shared": "libjcrdt.so", "library-arm64": "aarch64/libjcrdt.a", "shared-arm64": "aarch64/libjcrdt.so",
+                  "pkg-config": "jcrdt.pc", "module": "jcrdt.wasm"}
+# By this name the system's loader looks for each shared one.
+SONAME = "libjcrdt.so.1"
+# What they are built from beside crates.
+EMBEDDED_SOURCES = ("wasm/heap.c", "embedded/allocation.c", "embedded/version.c", "embedded/jcrdt.pc", "include/jcrdt.h", "tools/embed")
+# The module before binaryen lowers it, which isn't released.
+UNLOWERED = "jcrdt64.wasm"
 PARTS = ("src", "specs", "proofs")
 
 # Memory that a check may need, in bytes: most need 1 to 3 GB, a few up to 5.2.
@@ -109,12 +116,12 @@ def source_sum(top: str = TOP) -> str:
 
 
 def embedded_sum(top: str = TOP) -> str:
-    """The sum of the sources that the embedded replica is built from: those of its crates, the module's heap, and what builds it."""
+    """The sum of the sources that the embedded replica is built from: those of its crates, its C, and what builds it."""
     every, found = read(top), hashlib.sha256()
     names = sorted([*below(every, EMBEDDED), EMBEDDED])
     found.update(repr([every[name].line for name in names]).encode())
     files = [f"{at}/{it}" for name in names for part in PARTS for at, _, its in os.walk(f"{top}/crates/{name}/{part}") for it in its]
-    for file in [*sorted(files), *(f"{top}/{it}" for it in ("HANDLES", "wasm/heap.c", "tools/embed"))]:
+    for file in [*sorted(files), *(f"{top}/{it}" for it in ("HANDLES", *EMBEDDED_SOURCES))]:
         with open(file, "rb") as it:
             found.update(repr((os.path.relpath(file, top), it.read())).encode())
     return found.hexdigest()

@@ -2,7 +2,8 @@
 
 An edit is a file of lines `WORD: TEXT`: `breaks:` names the function and the clauses that it breaks, `crate:` and `tests:` the
 crates that it changes and whose tests refuse it, where its folder doesn't, and each `file:`, `old:`, `new:` is a change. An edit
-outside the crates names files from the top, and by a line `test: FILE: NAME` each test that refuses it."""
+outside the crates names files from the top, and by a line `test: FILE: NAME` each test that refuses it. One of tests/refused-by-program
+names by `test: FILE WORD..` the test of the whole program that does."""
 
 import glob
 import os
@@ -37,6 +38,11 @@ class Edit(NamedTuple):
         return self.path.split("/")[-3:-1] in [["mutations", it] for it in OUTSIDE]
 
     @property
+    def is_of_program(self) -> bool:
+        """Whether a test of the whole program refuses it."""
+        return "/refused-by-program/" in self.path
+
+    @property
     def is_of_gate(self) -> bool:
         return "/must-fail/" in self.path
 
@@ -64,7 +70,7 @@ def read_edits(top: str) -> List[Edit]:
     """All edits, by their paths."""
     found = [(it, it.split("/")[-3]) for it in glob.glob(f"{top}/crates/*/must-fail/*.edit")]
     found += [(it, it.split("/")[-2]) for it in glob.glob(f"{top}/tests/mutations/*/*.edit")]
-    found += [(it, "replica_core") for it in glob.glob(f"{top}/tests/refused-by-tests/*.edit")]
+    found += [(it, "replica_core") for folder in ("tests", "program") for it in glob.glob(f"{top}/tests/refused-by-{folder}/*.edit")]
     return [read_edit(path, crate) for path, crate in sorted(found)]
 
 

@@ -68,6 +68,8 @@ def is_here(name: str) -> bool:
         return has_node_package(rest)
     if kind == "header":
         return has_header(rest)
+    if kind == "file":
+        return os.path.exists(rest)
     return shutil.which(os.environ.get("CC", name) if name == "cc" else name) is not None
 
 
@@ -122,7 +124,6 @@ ROOM: Dict[str, Callable[[], bool]] = {
     "it isn't root": lambda: os.geteuid() != 0,
     "no systemd can be started here": lambda: True,
     "no bare Debian can be made here": lambda: True,
-    "this Node has no memories of 64 bits": lambda: True,
     "libjcrdt.so isn't here": lambda: not is_built("libjcrdt.so"),
     "libjcrdt.a isn't here": lambda: not is_built("libjcrdt.a"),
 }

@@ -1,5 +1,5 @@
-/* The heap of jcrdt.wasm: malloc, realloc and free over memory.grow, the three functions by which the
-   library takes memory, and those that clang calls for copies.
+/* The heap of jcrdt.wasm: malloc, realloc and free over memory.grow, and the functions that clang calls for
+   copies.
 
    A block has a header of 8 bytes with its class, and begins at a multiple of 16. Classes are 16 bytes
    apart up to 1,024 bytes, and from there 8 to a doubling. A free block waits in the list of its class.
@@ -64,7 +64,8 @@ static usize size_of(usize class) {
 
 static usize memory_end(void) { return __builtin_wasm_memory_size(0) * PAGE - HEADER; }
 
-static int grows(usize pages) { return __builtin_wasm_memory_grow(0, pages) != (usize)-1; }
+/* Lowered to a memory of 32 bits, a growth that fails answers -1 of 32 bits, which binaryen 108 makes 2^32 - 1. */
+static int grows(usize pages) { return (int)__builtin_wasm_memory_grow(0, pages) != -1; }
 
 static usize taken_from(usize class) {
   usize block = lists[class];
@@ -170,19 +171,3 @@ void *realloc(void *at, usize n) {
   free(at);
   return to;
 }
-
-/* what the library calls: whether there is memory, and where */
-typedef struct { usize ok, at; } Answer;
-
-Answer rattle_alloc(usize size, usize align) {
-  void *at = malloc(size ? size : align);
-  return (Answer){at != 0, (usize)at};
-}
-
-Answer rattle_realloc(void *at, usize old, usize size, usize align) {
-  (void)old;
-  void *to = realloc(at, size ? size : align);
-  return (Answer){to != 0, (usize)to};
-}
-
-void rattle_dealloc(void *at) { free(at); }

@@ -1,4 +1,4 @@
-/* What a call of a client fails with: three errors, by what was changed. */
+/* What a call of a client fails with: errors, by what was changed. */
 
 import { NAMES, REFUSALS, isChange } from "./protocol.mjs";
 
@@ -34,6 +34,17 @@ export class Lost extends Error {
 /** The request wasn't carried out: there is no connection, or the hub has no server. */
 export class Away extends Error {
   name = "Away";
+}
+
+/** A replica's engine stopped within the call, as by an exhausted stack: `cause` says why. Nothing was
+ *  changed. The next call finds it opened again, from the log. */
+export class Broken extends Error {
+  name = "Broken";
+
+  /** @param {unknown} cause */
+  constructor(cause) {
+    super(`the engine stopped within a call, which changed nothing: ${cause}`, { cause });
+  }
 }
 
 /** What `work` returns, or its refusal.

@@ -1,11 +1,13 @@
 /* What listeners of a replica hear: one event for all that was logged together, one at a time. */
 
+import { reserve } from "./lasting.mjs";
 import { endOf, isPrefix, textsOf } from "./places.mjs";
 
 /** @typedef {import("./operations.mjs").Cursor} Cursor */
 /** @typedef {import("./operations.mjs").Id} Id */
 /** @typedef {import("./operations.mjs").Operation} Operation */
-/** @typedef {import("./rules.mjs").Splice} Splice */
+/** @typedef {{index: number, remove: number, insert: any[]}} Splice As of Array.splice: to be
+ *    made one after another. */
 /** @typedef {"own" | "undo" | "taken" | "remade"} Why */
 
 /** @typedef {object} Change Where an operation ended, by ids, and what it was.
@@ -17,6 +19,7 @@ import { endOf, isPrefix, textsOf } from "./places.mjs";
 /** @typedef {object} Event
  *  @property {Why} why
  *  @property {string[]} lines The operations, as they are stored. None with "remade".
+ *  @property {string[]} [gone] With "remade": what was in the log, and isn't any more.
  *  @property {Id[]} ids
  *  @property {Change[]} changes */
 
@@ -27,7 +30,8 @@ import { endOf, isPrefix, textsOf } from "./places.mjs";
  *  @property {() => Splice[]} take What has changed since it was last called.
  *  @property {(op: Operation) => void} [note] Is called with each operation at, under or above the
  *    watch's place, once the engine has it, before `take`.
- *  @property {() => void} [renew] Anything may have changed before `take`.
+ *  @property {(all: Operation[]) => void} [renew] Anything may have changed before `take`: these are
+ *    all operations.
  *  @property {() => void} end
  *  @property {number} [length] Of the list, if the source knows it. */
 
@@ -80,11 +84,13 @@ export class Events {
     };
   }
 
-  /** All that is logged within `work` is one event, at its end.
+  /** All that is logged within `work` is one event, at its end. Where the stack is nearly exhausted
+   *  it throws instead: what was begun there could be logged, and not heard.
    *  @template T
    *  @param {() => T} work
    *  @returns {T} */
   batch(work) {
+    if (this.#depth === 0) reserve();
     this.#depth++;
     try {
       return work();
@@ -103,9 +109,10 @@ export class Events {
     }
   }
 
-  /** Is called in place of `note` where all that the engine has is new. */
-  renew() {
-    for (const { source } of this.#watches) source.renew?.();
+  /** Is called in place of `note` where all that the engine has is new.
+   *  @param {Operation[]} all */
+  renew(all) {
+    for (const { source } of this.#watches) source.renew?.(all);
   }
 
   /** @param {string} line
@@ -172,9 +179,10 @@ export class Events {
   }
 
   /** Everything is another: watches go on at the places of now.
+   *  @param {string[]} gone
    *  @param {(place: Cursor) => {place: Cursor, source: Source, values: any[]} | undefined} again */
-  remade(again) {
-    const event = eventOf("remade", []);
+  remade(gone, again) {
+    const event = { ...eventOf("remade", []), gone };
     this.#queue.push(() => this.#call(this.#listeners, event));
     for (const watch of this.#watches) {
       watch.source.end();

@@ -1,22 +1,23 @@
-/* The exchange of a replica with servers, and going on under a new name. */
+/* The exchange of a replica with servers. */
 
-import { Refused, refusalOf } from "./errors.mjs";
+import { copiedBy, copyPlace } from "./copies.mjs";
+import { Away, Refused, refusalOf } from "./errors.mjs";
 import { operationsOf } from "./followers.mjs";
+import { generationOf } from "./generations.mjs";
 import { isArray, parse, print } from "./json.mjs";
 import { MOST } from "./limits.mjs";
 import { freshName } from "./names.mjs";
-import {
-  covers, frontPairs, isAscending, isFront, isId, keysOf, nextCounter,
-} from "./operations.mjs";
-import { NAME_USED_TWICE } from "./protocol.mjs";
+import { covers, frontPairs, isAscending, isFront, isId, keepTexts } from "./operations.mjs";
+import { NAME_USED_TWICE, REFUSALS } from "./protocol.mjs";
+import { Remaking } from "./remaking.mjs";
 
 /** @typedef {import("./operations.mjs").Front} Front */
 /** @typedef {import("./operations.mjs").Id} Id */
 /** @typedef {import("./operations.mjs").Operation} Operation */
 /** @typedef {import("./operations.mjs").Path} Path */
 /** @typedef {import("./operations.mjs").Key} Key */
-/** @typedef {import("./rules.mjs").Engine} Engine */
-/** @typedef {import("./rules.mjs").Open} Open */
+/** @typedef {import("./jcrdt.mjs").Engine} Engine */
+/** @typedef {import("./jcrdt.mjs").Open} Open */
 /** @typedef {import("./followers.mjs").Read} Read */
 /** @typedef {(line: string) => Promise<string>} Answer Sends a request's line; resolves its reply. */
 
@@ -31,11 +32,7 @@ import { NAME_USED_TWICE } from "./protocol.mjs";
  *  @property {number} given Operations that the server has logged.
  *  @property {Refusal[]} refused Operations that were refused, here or there: at most 1,000. */
 
-/** @typedef {object} Remade
- *  @property {number} remade How many own operations were made again.
- *  @property {string[]} lost The operations that couldn't be.
- *  @property {string[]} melted Own insertions that the server already has, and that another of this
- *    name may have made there: their elements are one. */
+/** @typedef {import("./remaking.mjs").Remade} Remade */
 
 /** @typedef {object} Followed A server that says what it logs.
  *  @property {Answer} answer
@@ -49,6 +46,12 @@ import { NAME_USED_TWICE } from "./protocol.mjs";
  *  @property {() => Map<string, number>} front
  *  @property {(operations: any[]) => Taken} take Delivers operations as one batch.
  *  @property {() => boolean} isShared
+ *  @property {() => number} now In milliseconds since some moment.
+ *  @property {() => boolean} isFiled Whether copies may be made of what is edited: a file has it.
+ *  @property {() => boolean} wasOpen Whether what was restored may be that of a program that goes on.
+ *  @property {(place: import("./operations.mjs").Cursor) => void} say Deletes what isn't there.
+ *  @property {(counter: number) => string} sessionOf A word of the time in which an own operation was
+ *    made, from the opening of its store to its end.
  *  @property {(count: number) => void} fetched Is called with the operations that came, once more
  *    have come, and are to be taken. */
 
@@ -57,7 +60,9 @@ import { NAME_USED_TWICE } from "./protocol.mjs";
 const MOST_REFUSED = 1000; // operations of a report
 const PAGE_BYTES = 2 ** 18; // of a hub's page, about
 const AT_ONCE = 1024; // operations that are taken together; an empty replica takes all so
+const MOST_ROUNDS = 8; // in which copies of a store may be in each other's way
 const MOST_PAGES = 16; // of the server, that one of a hub has
+const WAIT_MS = 5000; // behind the last operation of this replica that another sends, for the next one
 
 export class Exchange {
   #core;
@@ -68,6 +73,13 @@ export class Exchange {
   #confirmed = 0; // up to this counter a server has them, and they are the same
   #forked = Infinity; // from this counter on others have the ids of own operations, or may
   #hasSeenFront = false;
+  /** @type {Set<number>} Own operations that a server has logged behind another's of this name. */
+  #strays = new Set();
+  #hasSaid = false; // whether a copy has said up to which operation it may be one, or needn't
+  #isCopy = false; // whether it has said so: then others may send under this name at any time
+  /** Another sends own operations: the last one, and when that was seen. */
+  #foreign = { last: 0, seenAt: 0 };
+  #isLogging = false; // whether the server has logged an own one in this exchange
   /** @type {Followed | undefined} */
   #followed;
   /** @type {{answer: Answer, done: Promise<Report>} | undefined} The last one that waits. */
@@ -170,7 +182,8 @@ export class Exchange {
     const report = { taken: 0, given: 0, refused: [] };
     const ask = asking(answer, this.#core.doc);
     const theirs = await this.#frontOf(answer, ask);
-    this.#look(theirs, report);
+    await this.#look(ask, theirs, report);
+    this.#sayWhatIsLacking(theirs);
     const isFollowed = this.#followedBy(answer) !== undefined;
     if (!isFollowed || !this.#hasAll(theirs)) await this.#take(ask, answer, theirs, report);
     await this.#give(ask, answer, theirs, report);
@@ -210,18 +223,85 @@ export class Exchange {
 
   /** Looks for own operations at the server that were never sent. Then another has this name, as
    *  where an older store was put back: the own ones with their ids aren't sent.
+   *  @param {Ask} ask
    *  @param {Map<string, number>} theirs
    *  @param {Report} report */
-  #look(theirs, report) {
+  async #look(ask, theirs, report) {
     const name = this.#core.name();
     const last = theirs.get(name) ?? 0;
-    const most = this.#core.isShared() ? this.#core.front().get(name) ?? 0 : this.#sent;
+    const most = () => (this.#core.isShared() ? this.#core.front().get(name) ?? 0 : this.#sent);
+    if (last > most() && this.#forked === Infinity) await this.#findCopied(ask, theirs);
     this.#hasSeenFront = true;
-    if (last > most) this.#forked = Math.min(this.#forked, most + 1);
+    if (last > most()) this.#forked = Math.min(this.#forked, most() + 1);
     else this.#confirmed = Math.max(this.#confirmed, Math.min(last, this.#forked - 1));
     if (this.#forked === Infinity) return;
     const front = new Map(this.#core.front()).set(name, this.#forked - 1);
     for (const op of operationsOf(this.#core.read, front)) this.#refuse(report, op, new Refused(16));
+  }
+
+  /** Takes for its own what a copy has sent of it: what is the same here, up to where the copy says
+   *  that it was made. Throws Away while that may still come.
+   *  @param {Ask} ask
+   *  @param {Map<string, number>} theirs */
+  async #findCopied(ask, theirs) {
+    const last = theirs.get(this.#core.name()) ?? 0;
+    const { same, copied } = await this.#compared(ask, theirs);
+    const isOurs = this.#applied > this.#stored; // it sends under this name
+    const sure = Math.min(same, isOurs ? Infinity : copied);
+    if (sure > this.#sent) this.#sent = this.#stored = sure;
+    else if (same > this.#sent && !isOurs) this.#waitFor(last);
+  }
+
+  /** @param {number} last Of the server's operations of this name. */
+  #waitFor(last) {
+    const now = this.#core.now();
+    if (last > this.#foreign.last) this.#foreign = { last, seenAt: now };
+    if (this.#core.isFiled() && now - this.#foreign.seenAt < WAIT_MS) {
+      throw new Away("another program sends what this one has: a copy of its store, perhaps");
+    }
+  }
+
+  /** Of the server's operations of this name that weren't sent from here: up to which they are the
+   *  same here, and up to which a copy says that it has them.
+   *  @param {Ask} ask
+   *  @param {Map<string, number>} theirs */
+  async #compared(ask, theirs) {
+    const name = this.#core.name();
+    const mine = operationsOf(this.#core.read, new Map(this.#core.front()).set(name, this.#sent));
+    const own = [...mine].filter(([, [, replica]]) => replica === name).map(print);
+    let [same, copied, at, isSame] = [this.#sent, 0, 0, true];
+    const behind = new Map(theirs);
+    if (this.#sent > 0) behind.set(name, this.#sent);
+    else behind.delete(name);
+    for await (const page of pagesOf(ask, behind, false)) {
+      for (const op of page.filter((it) => isId(it?.[1]) && it[1][1] === name)) {
+        copied = Math.max(copied, copiedBy(op, name));
+        isSame &&= print(op) === own[at++];
+        if (isSame) same = op[1][0];
+      }
+    }
+    return { same, copied };
+  }
+
+  /** Whether what was restored may be that of a program that goes on, and nobody was told. */
+  get isDoubtful() {
+    return this.#core.wasOpen() && !this.#hasSaid && this.#stored > 0;
+  }
+
+  /** Says, where the store wasn't closed, which operations the program that had it may have, too. It
+   *  is to come right behind them, and before any of them is sent. */
+  say() {
+    if (!this.isDoubtful) return;
+    this.#hasSaid = this.#isCopy = true;
+    const session = this.#core.sessionOf(Infinity);
+    this.#core.say(copyPlace(this.#core.name(), this.#stored, session));
+  }
+
+  /** @param {Map<string, number>} theirs */
+  #sayWhatIsLacking(theirs) {
+    if (this.#forked < Infinity) return;
+    if ((theirs.get(this.#core.name()) ?? 0) < this.#stored) this.say();
+    else this.#hasSaid = true;
   }
 
   /** @param {Report} report
@@ -266,7 +346,8 @@ export class Exchange {
       (id) => this.#noteTheirs(answer, theirs, id));
     if (unsure.length > 0 && (await give(unsure))) return;
     const lacked = operationsOf(this.#core.read, theirs);
-    for (const page of pagesToGive(lacked, name)) {
+    this.#isLogging = false;
+    for (const page of pagesToGive(lacked, name, () => this.#isLogging && !this.#isCopy)) {
       // What a server that is followed has logged meanwhile isn't sent to it.
       if (await give(page.filter((it) => !isBarred(barred, it) && !covers(theirs, it[1])))) return;
     }
@@ -303,7 +384,12 @@ export class Exchange {
       if (reply instanceof Error && !(reply instanceof Refused)) throw reply;
       const [, [counter, replica]] = page[at];
       const isOwn = replica === this.#core.name();
-      const isNew = isOwn && reply === undefined && counter > before && !this.#core.isShared();
+      const isNew = isOwn && reply === undefined && counter > before && !this.#core.isShared()
+        && this.#applied <= this.#stored;
+      if (isNew && page.length === 1 && this.#core.isFiled()) {
+        this.#sent = before; // it came from another: the next exchange looks who that is
+        this.#waitFor(counter);
+      }
       const refusal = reply instanceof Refused ? reply : isNew ? new Refused(15) : undefined;
       if (refusal) {
         this.#refuse(report, page[at], refusal);
@@ -311,7 +397,9 @@ export class Exchange {
         if (isOwn && NAME_USED_TWICE.has(refusal.number)) this.#forked = Math.min(this.#forked, counter);
       } else {
         if (typeof reply === "number") report.given++;
+        this.#isLogging ||= isOwn && typeof reply === "number";
         if (!isArray(reply)) given(page[at][1]); // it isn't held
+        if (isOwn && barred.has(replica) && typeof reply === "number") this.#strays.add(counter);
         if (isOwn && !barred.has(replica)) this.#confirm(counter, typeof reply === "number");
       }
     }
@@ -325,25 +413,57 @@ export class Exchange {
     if (isApplied || counter <= this.#stored) this.#applied = Math.max(this.#applied, counter);
   }
 
-  /** The lines to go on with under a new name: the server's, those of others that it lacks, and own
-   *  ones that it lacks, made again, or lost.
+  /** What to go on with under a new name: `run` of it gives that at once, and `free` ends it. What
+   *  was restored from a store is made again the same by each copy of the store, and is at the
+   *  server by then.
    *  @param {string} name
    *  @param {Answer} answer
    *  @param {Open} open
-   *  @param {boolean} isRemade Whether own ones that it lacks are made again.
-   *  @returns {Promise<Remade & {lines: string[], ids: Map<string, Id>}>} */
+   *  @param {boolean} isRemade Whether own operations that the server lacks are made again.
+   *  @returns {Promise<Remaking>} */
   async remade(name, answer, open, isRemade) {
     const ask = asking(answer, this.#core.doc);
-    const [, front] = await Promise.all([ask("open"), ask("front")]);
-    this.#look(new Map(checkedFront(front)), { taken: 0, given: 0, refused: [] });
-    const scratch = open(freshName("scratch"));
-    try {
-      for await (const page of pagesOf(ask, new Map(), false)) for (const op of page) deliverTo(scratch, op);
+    for (let round = 1, maySend = true; ; round++) {
       const sure = Math.max(this.#applied, this.#stored);
-      return new Remaking(this.#core, scratch, name, this.#forked, sure, isRemade).run();
-    } finally {
-      scratch.free();
+      const forked = await this.#forkedAt(ask);
+      const scratch = open(freshName("scratch"));
+      const stored = isRemade ? this.#copyable : 0;
+      const how = { name, forked, sure, stored, strays: this.#strays, isRemade, maySend };
+      /** @type {Remaking} */
+      const remaking = new Remaking(this.#core, scratch, how);
+      try {
+        for await (const page of pagesOf(ask, new Map(), false)) for (const op of page) remaking.begin(op);
+        this.#checkGeneration(scratch);
+        if (await remaking.send(ask)) return remaking;
+        maySend = remaking.maySend && round < MOST_ROUNDS;
+      } catch (error) {
+        remaking.free();
+        throw error;
+      }
+      remaking.free();
     }
+  }
+
+  /** Up to this counter copies of the store may have own operations. */
+  get #copyable() {
+    const last = this.#core.front().get(this.#core.name()) ?? 0;
+    return this.#core.isFiled() ? last : this.#stored;
+  }
+
+  /** Throws where the server has another generation of the document than this replica.
+   *  @param {Engine} scratch It has what the server has. */
+  #checkGeneration(scratch) {
+    const front = scratch.ask(["front"]).reply[1];
+    const isSame = front.length === 0 || generationOf(front) === generationOf(this.#core.front());
+    if (!isSame) throw new Refused(REFUSALS.renewed);
+  }
+
+  /** From where on others have the ids of own operations.
+   *  @param {Ask} ask */
+  async #forkedAt(ask) {
+    const [, front] = await Promise.all([ask("open"), ask("front")]);
+    await this.#look(ask, new Map(checkedFront(front)), { taken: 0, given: 0, refused: [] });
+    return this.#forked;
   }
 }
 
@@ -353,120 +473,6 @@ function raise(front, [counter, name]) {
   front.set(name, Math.max(counter, front.get(name) ?? 0));
 }
 
-/** Delivers what it can.
- *  @param {Engine} engine
- *  @param {any} op */
-function deliverTo(engine, op) {
-  return refusalOf(() => engine.ask(["deliver", op]).reply);
-}
-
-/** A log under way from one name to another. */
-class Remaking {
-  /** @type {Map<string, Id>} Of own operations: as they were, and as they are now. */
-  ids = new Map();
-  /** @type {string[]} */
-  lost = [];
-  /** @type {string[]} */
-  melted = [];
-  /** @type {Map<string, number>} Of a replica: the last of its operations that are the same here
-   *  and there. */
-  #good = new Map();
-  #ownLast = 0; // the last one under the new name
-  #isForked = false;
-
-  /** @param {Core} core
-   *  @param {Engine} scratch
-   *  @param {string} name
-   *  @param {number} forked
-   *  @param {number} sure Own insertions up to this counter are this replica's own.
-   *  @param {boolean} isRemade */
-  constructor(core, scratch, name, forked, sure, isRemade) {
-    this.core = core;
-    this.scratch = scratch;
-    this.name = name;
-    this.forked = forked;
-    this.sure = sure;
-    this.isRemade = isRemade;
-  }
-
-  run() {
-    for (const op of operationsOf(this.core.read, [])) {
-      if (op[1][1] === this.core.name()) this.#takeOwn(op);
-      else this.#takeOther(op);
-    }
-    const { ids, lost, melted } = this;
-    const lines = [...operationsOf(reading(this.scratch), [])].map(print);
-    return { remade: ids.size, lost, melted, lines, ids };
-  }
-
-  /** @param {Operation} op */
-  #deliver(op) {
-    const [word] = this.scratch.ask(["deliver", op]).reply;
-    if (word === "held") this.scratch.ask(["forget", op[1]]);
-    return word;
-  }
-
-  /** @param {Operation} op */
-  #takeOther(op) {
-    const [counter, replica] = op[1];
-    const word = this.#deliver(op);
-    if (word === "applied" || word === "known") this.#good.set(replica, counter);
-    else this.lost.push(print(op));
-  }
-
-  /** @param {Operation} op */
-  #takeOwn(op) {
-    const [, [counter, replica], , , [word]] = op;
-    if (!this.#isForked && counter < this.forked && this.#isThere(op)) {
-      this.#good.set(replica, counter);
-      if (word === "insert" && counter > this.sure) this.melted.push(print(op));
-      return;
-    }
-    this.#isForked = true;
-    const again = this.isRemade && this.#renamed(op);
-    if (!again || this.#deliver(again) !== "applied") return void this.lost.push(print(op));
-    this.ids.set(String(op[1]), again[1]);
-    this.#ownLast = again[1][0];
-  }
-
-  /** Whether the server has the very same operation.
-   *  @param {Operation} op */
-  #isThere(op) {
-    const front = new Map(this.scratch.ask(["front"]).reply[1]);
-    return covers(front, op[1]) && this.#deliver(op) === "known";
-  }
-
-  /** The operation under the new name, with what it knew; `undefined` if it is about an element
-   *  that isn't there.
-   *  @param {Operation} op
-   *  @returns {Operation | undefined} */
-  #renamed([, , front, [path, key], mutation]) {
-    const known = new Map(front);
-    /** @type {Front} */
-    const pairs = frontPairs([...this.#good].map(([replica, last]) =>
-      /** @type {[string, number]} */ ([replica, Math.min(last, known.get(replica) ?? 0)]))
-      .filter(([, last]) => last > 0));
-    const own = this.#ownLast;
-    const all = own > 0 ? frontPairs([...pairs, [this.name, own]]) : pairs;
-    const keys = keysOf([path, key]).filter(isId);
-    if (keys.some((id) => !this.ids.has(String(id)) && !covers(this.#good, id))) return undefined;
-    /** @param {Key} it @returns {Key} */
-    const now = (it) => (isId(it) ? this.ids.get(String(it)) ?? it : it);
-    /** @type {Path} */
-    const where = path.map(([tag, it]) => [tag, now(it)]);
-    return ["op", [nextCounter(all), this.name], all, [where, now(key)], mutation];
-  }
-}
-
-/** Reads of an engine.
- *  @param {Engine} engine
- *  @returns {Read} */
-export const reading = (engine) => (word, ...items) => {
-  const { reply } = engine.ask([word, ...items]);
-  if (reply[0] === "no") throw new Refused(reply[1], reply[2], reply[3]);
-  return reply[1];
-};
-
 /** @typedef {(word: string, ...items: any[]) => Promise<any>} Ask */
 
 /** What sends requests: resolves what is behind the word of the reply, or throws Refused.
@@ -475,9 +481,11 @@ export const reading = (engine) => (word, ...items) => {
  *  @returns {Ask} */
 function asking(answer, doc) {
   return async (word, ...items) => {
-    const reply = parse(await answer(print([word, doc, ...items])));
+    const line = await answer(print([word, doc, ...items]));
+    const reply = parse(line);
     if (!isArray(reply) || reply.length === 0) throw malformed(word);
     const [kind, first, second, third] = reply;
+    if ((kind === "page" || kind === "ops") && isArray(first)) keepTexts(first, line);
     if (kind === "no") throw new Refused(first, second, third);
     return first;
   };
@@ -494,25 +502,25 @@ function checkedFront(front) {
   return front;
 }
 
-/** Operations in pages, as they are delivered. The first one, and the first own one, go alone: one
- *  that is refused bars the others. So of two copies of one store that deliver at once, one gets
- *  nothing logged under the name of both.
+/** Operations in pages, as they are delivered. The first one goes alone, and own ones until the
+ *  server logs one: one that is refused bars the others. So of two copies of one store that deliver
+ *  at once, one gets nothing logged under the name of both, but for what both have.
  *  @param {Iterable<Operation>} operations
  *  @param {string} name
+ *  @param {() => boolean} isLogged Whether the server has logged an own one of these.
  *  @returns {Generator<Operation[]>} */
-function* pagesToGive(operations, name) {
+function* pagesToGive(operations, name, isLogged) {
   /** @type {Operation[]} */
   let page = [];
-  let [isFirst, isFirstOwn] = [true, true];
+  let isFirst = true;
   for (const op of operations) {
-    const isOwn = op[1][1] === name;
-    const isAlone = isFirst || (isOwn && isFirstOwn);
+    const isAlone = isFirst || (op[1][1] === name && !isLogged());
     if (isAlone && page.length > 0) {
       yield page;
       page = [];
     }
     page.push(op);
-    [isFirst, isFirstOwn] = [false, isFirstOwn && !isOwn];
+    isFirst = false;
     if (!isAlone && page.length < MOST.page) continue;
     yield page;
     page = [];

@@ -3,11 +3,14 @@
      import { fileStore } from "jcrdt/file_store";
      const provider = await Provider.open({ document: "notes", store: fileStore("my.notes") });
 
-   The file beside it, PATH.lock, says which process has it open. A second program is refused. */
+   A tab behind the names says that a program has it open, a space that it was closed.
+   The file beside it, PATH.lock, says which process has it open. A second program is refused, also
+   one that comes by a link. What a kill left is taken over, at the latest after a minute. */
 
 import * as fs from "node:fs";
 import { dirname } from "node:path";
-import { codeOf, locked } from "./file_lock.mjs";
+import { codeOf, locked, realPath } from "./file_lock.mjs";
+import { freshName } from "./names.mjs";
 
 /** @typedef {import("./stores.mjs").Store} Store */
 
@@ -22,8 +25,12 @@ class FileStore {
   #file = -1;
   #size = 0; // of what is stored, in bytes
   #hasMore = false; // behind that is what a failed write left
+  #markAt = -1; // the place of the mark
+  #session = ""; // a line with the word of this opening
+  #isSaid = false; // whether the file has it
   #document = "";
-  #unlock = () => {};
+  /** @type {import("./file_lock.mjs").Lock | undefined} */
+  #lock;
 
   /** @param {string} path */
   constructor(path) {
@@ -34,7 +41,8 @@ class FileStore {
    *  @param {() => string} fresh */
   open(document, fresh) {
     this.#document = document;
-    this.#unlock = locked(`${this.#path}.lock`);
+    this.#path = realPath(this.#path);
+    this.#lock = locked(`${this.#path}.lock`);
     try {
       return this.#read(document, fresh);
     } catch (error) {
@@ -47,7 +55,7 @@ class FileStore {
    *  @param {() => string} fresh */
   #read(document, fresh) {
     const bytes = fs.existsSync(this.#path) ? fs.readFileSync(this.#path) : Buffer.alloc(0);
-    const { head, lines, unread, size } = parts(bytes);
+    const { head, lines, unread, size, mark, sessions } = parts(bytes);
     if (head && head[2] !== document) {
       throw new TypeError(`${this.#path} has the document ${head[2]}, not ${document}`);
     }
@@ -55,18 +63,22 @@ class FileStore {
       throw new TypeError(`${this.#path} is no file of a replica`);
     }
     const name = head?.[1] ?? fresh();
-    if (head) this.#goOn(size);
-    else this.#replace(name, lines, size > 0);
-    return { name, lines, unread };
+    if (mark) this.#goOn(size, mark.at);
+    else this.#replace(name, lines, size > 0 && !head);
+    const word = freshName("at");
+    this.#session = JSON.stringify(["session", word]);
+    sessions.push({ before: lines.length, word });
+    return { name, lines, unread, wasOpen: mark?.isOpen ?? false, sessions };
   }
 
   /** Opens the file to write behind so many bytes. What was cut off in writing goes.
-   *  @param {number} size */
-  #goOn(size) {
+   *  @param {number} size
+   *  @param {number} markAt */
+  #goOn(size, markAt) {
     this.#file = fs.openSync(this.#path, "r+");
-    this.#size = size;
-    this.#hasMore = true;
+    [this.#size, this.#hasMore, this.#markAt] = [size, true, markAt];
     this.#cut();
+    fs.writeSync(this.#file, OPEN, markAt);
   }
 
   #cut() {
@@ -76,8 +88,10 @@ class FileStore {
 
   /** @param {string[]} lines */
   append(lines) {
+    this.#lock?.check();
     this.#cut();
-    const bytes = Buffer.from(lines.map((line) => `${line}\n`).join(""));
+    const session = this.#isSaid ? [] : [this.#session];
+    const bytes = Buffer.from([...session, ...lines].map((line) => `${line}\n`).join(""));
     this.#hasMore = true;
     try {
       writeAll(this.#file, bytes, this.#size);
@@ -86,6 +100,7 @@ class FileStore {
       throw error;
     }
     this.#hasMore = false;
+    this.#isSaid = true;
     this.#size += bytes.length;
   }
 
@@ -96,7 +111,9 @@ class FileStore {
   /** @param {string} name
    *  @param {string[]} lines */
   rename(name, lines) {
-    this.#replace(name, lines, true);
+    this.#lock?.check();
+    this.#replace(name, [this.#session, ...lines], true);
+    this.#isSaid = true;
   }
 
   /** Puts a new file in the old one's place. The old one stays as PATH.old where it is wanted.
@@ -105,7 +122,7 @@ class FileStore {
    *  @param {boolean} keepsOld */
   #replace(name, lines, keepsOld) {
     const head = JSON.stringify(["replica", name, this.#document]);
-    const bytes = Buffer.from([head, ...lines].map((line) => `${line}\n`).join(""));
+    const bytes = Buffer.from([`${head}${OPEN}`, ...lines].map((line) => `${line}\n`).join(""));
     const file = fs.openSync(`${this.#path}.new`, "w");
     try {
       writeAll(file, bytes, 0);
@@ -119,6 +136,7 @@ class FileStore {
     }
     if (this.#file >= 0) fs.closeSync(this.#file);
     [this.#file, this.#size, this.#hasMore] = [file, bytes.length, false];
+    this.#markAt = Buffer.byteLength(head);
     syncFolder(this.#path);
   }
 
@@ -127,10 +145,25 @@ class FileStore {
     this.close();
   }
 
-  close() {
-    if (this.#file >= 0) fs.closeSync(this.#file);
+  /** @param {boolean} [staysOpen] */
+  close(staysOpen = false) {
+    if (this.#file >= 0) closeMarked(this.#file, this.#markAt, staysOpen ? OPEN : CLOSED);
     this.#file = -1;
-    this.#unlock();
+    this.#lock?.giveBack();
+    this.#lock = undefined;
+  }
+}
+
+const [OPEN, CLOSED] = ["\t", " "]; // the marks
+
+/** @param {number} file
+ *  @param {number} markAt
+ *  @param {string} mark */
+function closeMarked(file, markAt, mark) {
+  try {
+    fs.writeSync(file, mark, markAt);
+  } finally {
+    fs.closeSync(file);
   }
 }
 
@@ -142,9 +175,29 @@ function parts(bytes) {
   const pieces = bytes.subarray(0, size).toString().split("\n");
   const head = headOf(pieces[0]);
   const rest = (head ? pieces.slice(1) : pieces).filter((line) => line !== "");
-  const lines = rest.filter(isOperation);
-  const unread = rest.filter((line) => !isOperation(line));
-  return { head, lines, unread, size };
+  const [lines, unread, sessions] = [[], [], []].map((it) => /** @type {any[]} */ (it));
+  for (const line of rest) {
+    const word = sessionOf(line);
+    if (isOperation(line)) lines.push(line);
+    else if (word !== undefined) sessions.push({ before: lines.length, word });
+    else unread.push(line);
+  }
+  return { head, lines, unread, size, mark: head && markOf(pieces[0]), sessions };
+}
+
+/** The word of a line that says that it was opened, and edited.
+ *  @param {string} line
+ *  @returns {string | undefined} */
+function sessionOf(line) {
+  const value = line.startsWith('["session",') ? readJson(line) : undefined;
+  return Array.isArray(value) && typeof value[1] === "string" ? value[1] : undefined;
+}
+
+/** The mark behind the names: whether the file is open, and its place. One of an older package has none.
+ *  @param {string} line */
+function markOf(line) {
+  if (![OPEN, CLOSED].includes(line.slice(-1))) return undefined;
+  return { isOpen: line.endsWith(OPEN), at: Buffer.byteLength(line) - 1 };
 }
 
 /** @param {string} line

@@ -121,6 +121,7 @@ class Following {
   }
 }
 
+/** @type {Set<number>} */
 const UNKNOWN = new Set([REFUSALS["bad-request"], REFUSALS["not-kept"]]);
 
 /** Gives something at first and whenever a document has changed. Throws Lost where the session has

@@ -1,38 +1,40 @@
-/* What a replica asks an engine for that has no `place`, `index` or `follow`: found by requests. */
+/* Where elements of a replica are, and its operations: found by requests. */
 
 import { Refused } from "./errors.mjs";
 import { MOST } from "./limits.mjs";
 import { Mirror } from "./mirror.mjs";
 import { compareIds, frontPairs, isId } from "./operations.mjs";
-import { endOf, isPrefix, placeOf, textsOf, writtenOf } from "./places.mjs";
+import { endOf, isPrefix, placeOf, textsOf } from "./places.mjs";
 
 /** @typedef {import("./operations.mjs").Cursor} Cursor */
 /** @typedef {import("./operations.mjs").Id} Id */
 /** @typedef {import("./operations.mjs").Operation} Operation */
-/** @typedef {import("./rules.mjs").Engine} Engine */
+/** @typedef {import("./jcrdt.mjs").Engine} Engine */
 /** @typedef {(word: string, ...items: any[]) => any} Read Asks; returns what is behind the word. */
 
-/** The place of a cursor.
+/** Reads of an engine.
  *  @param {Engine} engine
+ *  @returns {Read} */
+export const reading = (engine) => (word, ...items) => {
+  const { reply } = engine.ask([word, ...items]);
+  if (reply[0] === "no") throw new Refused(reply[1], reply[2], reply[3]);
+  return reply[1];
+};
+
+/** The place of a cursor.
  *  @param {Read} read
  *  @param {any[]} cursor Without ids, but for its start.
  *  @returns {Cursor} */
-export const placeAt = (engine, read, cursor) =>
-  placeOf(engine.place ? engine.place(cursor) : read("cursor", cursor));
+export const placeAt = (read, cursor) => placeOf(read("cursor", cursor));
 
 /** Where elements are in lists. Of the list that was last asked for it has a mirror. */
 export class Indices {
   /** @type {{texts: string[], mirror: Mirror} | null} */
   #last = null;
-  #engine;
   #read;
 
-  /** @param {Engine} engine
-   *  @param {Read} read */
-  constructor(engine, read) {
-    this.#engine = engine;
-    this.#read = read;
-  }
+  /** @param {Read} read */
+  constructor(read) { this.#read = read; }
 
   /** Is to be called with each logged operation.
    *  @param {Operation} op */
@@ -47,7 +49,6 @@ export class Indices {
    *  @param {Cursor} place
    *  @returns {number} */
   of(place) {
-    if (this.#engine.index) return this.#engine.index(writtenOf(place));
     const last = place[place.length - 1];
     if (last === 0 && place.length > 1) return 0;
     if (!isId(last)) throw new Refused(11);
@@ -115,14 +116,4 @@ export function* operationsOf(read, front) {
     yield* ops;
     page = ops;
   }
-}
-
-/** Follows a list.
- *  @param {Engine} engine
- *  @param {Read} read
- *  @param {Cursor} place
- *  @returns {import("./events.mjs").Source} */
-export function sourceOf(engine, read, place) {
-  if (engine.follow) return engine.follow(writtenOf(place));
-  return new Mirror(read, place);
 }

@@ -3,6 +3,7 @@
    meanwhile stays, and what the edit had cleared is added to it. */
 
 import { operationsOf } from "./followers.mjs";
+import { print } from "./json.mjs";
 import { covers, keysOf } from "./operations.mjs";
 import { isPrefix, endOf, textsOf, writtenOf } from "./places.mjs";
 import { pieces } from "./values.mjs";
@@ -65,6 +66,58 @@ export class History {
   }
 
   get isTurning() { return this.#isTurning; }
+
+  /** What it can take back, and make again. */
+  get steps() { return this.#steps; }
+
+  /** Takes over the steps of a generation before: those up to which all can be taken back here.
+   *  @param {{undo: Edit[][], redo: Edit[][]}} steps
+   *  @param {Map<string, Id>} ids of elements: as they were, and as they are now
+   *  @param {Front} start what this generation began with */
+  adopt({ undo, redo }, ids, start) {
+    const known = /** @type {Id} */ ([start[0]?.[1] ?? 1, start[0]?.[0] ?? ""]);
+    const of = (/** @type {Edit[][]} */ steps) => {
+      const kept = [];
+      for (const step of [...steps].reverse()) {
+        const edits = step.map((edit) => this.#adopted(edit, ids, known));
+        if (!edits.every((it) => it !== undefined)) break;
+        kept.push(/** @type {Edit[]} */ (edits));
+      }
+      return kept.reverse();
+    };
+    this.#steps = { undo: of(undo), redo: of(redo) };
+    for (const edit of [...this.#steps.undo, ...this.#steps.redo].flat()) {
+      if (edit.word === "add") this.#adds.add(edit);
+    }
+  }
+
+  /** An edit with the ids of now; `undefined` where one isn't there, or what it has cleared counts.
+   *  @param {Edit} edit
+   *  @param {Map<string, Id>} ids
+   *  @param {Id} known
+   *  @returns {Edit | undefined} */
+  #adopted(edit, ids, known) {
+    const mapped = (/** @type {Cursor} */ place) => {
+      const now = place.map((step) => (typeof step === "object" ? ids.get(String(step)) : step));
+      return now.includes(undefined) ? undefined : /** @type {Cursor} */ (now);
+    };
+    const [place, fresh] = [mapped(edit.place), edit.fresh && mapped(edit.fresh)];
+    const back = edit.back.map((it) => ({ ...it, terms: [], place: mapped(it.place) ?? [] }));
+    const isWhole = back.every((it) => it.place.length > 0 && it.word === "assign");
+    if (!place || fresh === undefined || !isWhole) return undefined;
+    const id = edit.word === "insert" ? ids.get(String(edit.id)) : this.#putOf(edit, place) ?? edit.id;
+    const counted = edit.word === "add" && edit.counted ? known : null;
+    return id && { ...edit, place, texts: textsOf(place), id, fresh, back, seen: [], counted };
+  }
+
+  /** The put at a place that has the value of an assignment.
+   *  @param {Edit} edit
+   *  @param {Cursor} place */
+  #putOf({ word, value }, place) {
+    if (word !== "assign") return undefined;
+    const same = this.#puts(place).filter(([, it]) => print(it) === print(value));
+    return same[same.length - 1]?.[0];
+  }
 
   clear() {
     this.#steps = { undo: [], redo: [] };

@@ -2,4 +2,5 @@
 
 export * from "./wire.mjs";
 export { Client, connected, connectedToHub } from "./session.mjs";
-export { Replica } from "./replica.mjs";
+export { Replica, openReplica } from "./replica.mjs";
+export { load } from "./jcrdt.mjs";

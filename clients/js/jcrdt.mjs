@@ -1,28 +1,38 @@
-/* The engine of a replica in WebAssembly: the proved replica, as jcrdt.wasm has it.
+/* The engine of a replica: the proved replica of the server, as jcrdt.wasm has it.
 
-     import { Replica } from "./replica.mjs";
-     import { load } from "./jcrdt.mjs";
-     const me = new Replica(freshName("ada"), "notes", { engine: await load() });
+     import { load } from "jcrdt/jcrdt";
+     import { Replica, freshName } from "jcrdt";
+     await load(); // once: Provider.open and openReplica do it
+     const me = new Replica(freshName("ada"), "notes");
 
-   It runs in browsers, workers and Node. The module needs memories of 64 bits: Chrome and Edge 133,
-   Firefox 134, Node 24; Node 20 and 22 with --experimental-wasm-memory64. Elsewhere `load` says so
-   in one line and gives the engine of rules.mjs, which answers alike. */
+   It runs in browsers, in workers and in Node. The module is beside this file. `load({ module })`
+   takes it from elsewhere, or its bytes. */
 
-import { Refused } from "./errors.mjs";
+import { Broken, Refused } from "./errors.mjs";
 import { isSimple, parse, print } from "./json.mjs";
-import { open as openByHand } from "./rules.mjs";
 
-/** @typedef {import("./rules.mjs").Answer} Answer */
-/** @typedef {import("./rules.mjs").Engine} Engine */
-/** @typedef {import("./rules.mjs").Open} Open */
 /** @typedef {import("./operations.mjs").Key} Key */
 /** @typedef {import("./operations.mjs").Path} Path */
 
+/** @typedef {object} Answer
+ *  @property {any[]} reply As a server's.
+ *  @property {string} [line] The operation that was made or delivered, in its written form. */
+
+/** @typedef {object} Engine Answers requests as a server does, but for the document's name, which it
+ *    doesn't have: those of REPLICA_REQUESTS in protocol.mjs. To ["cursor",CURSOR] it replies
+ *    ["cursor",[PATH,KEY]], which says where it leads. A cursor may start with a cursor in its
+ *    written form, [PATH,KEY], in place of 0.
+ *  @property {(request: any[]) => Answer} ask Throws Broken where the engine stopped within: then
+ *    each later call does.
+ *  @property {() => void} free Gives up its memory. It isn't asked any more.
+ *  @property {boolean} [isBroken] */
+
+/** @typedef {(name: string, lines?: string[]) => Engine} Open Makes an engine with a log. Throws
+ *    Refused for a line that doesn't fit, with `at`, its index. */
+
 /** @typedef {object} Options
  *  @property {URL | string | BufferSource | WebAssembly.Module} [module] Where jcrdt.wasm is, its
- *    bytes, or the compiled module. By default it is looked for beside this file.
- *  @property {(why: string) => void} [say] Called with one line where rules.mjs serves instead. By
- *    default console.warn. */
+ *    bytes, or the compiled module. By default it is looked for beside this file. */
 
 /** @typedef {object} Exports What the module exports. Addresses and lengths are BigInt.
  *  @property {WebAssembly.Memory} memory
@@ -36,69 +46,124 @@ import { open as openByHand } from "./rules.mjs";
  *  @property {(handle: bigint, out: bigint, room: bigint) => bigint} jcrdt_again
  *  @property {(handle: bigint) => void} jcrdt_close */
 
-/** A module with a memory of 64 bits, and one function: it loads a lane of a vector from an address
- *  there. Node 18 has such memories, and not such loads. */
-const SMALLEST = new Uint8Array([
-  0, 97, 115, 109, 1, 0, 0, 0, // its head
-  1, 4, 1, 96, 0, 0, 3, 2, 1, 0, 5, 3, 1, 4, 1, // a type, a function of it, the memory
-  10, 30, 1, 28, 0, 66, 0, 253, 12, ...new Uint8Array(16), // i64.const 0, v128.const 0
-  253, 86, 2, 0, 0, 26, 11, // v128.load32_lane, drop, end
-]);
-const HINT = typeof process === "object" && /^2[0-3]\./.test(process.versions?.node) ?
-  " (node --experimental-wasm-memory64 has them)" : "";
+/** A module without anything: it can't be had just where none may be. */
+const LEAST = new Uint8Array([0, 97, 115, 109, 1, 0, 0, 0]);
+const FORBIDDEN = "WebAssembly is forbidden here, which jcrdt.wasm needs: script-src of the page's"
+  + " Content-Security-Policy lacks 'wasm-unsafe-eval'";
+const NONE = "there is no WebAssembly here, which jcrdt.wasm needs";
+const UNLOADED = "the engine isn't loaded: await load() of jcrdt/jcrdt before, or make the replica by"
+  + " openReplica";
 const HANDLE = 16; // bytes of a handle
 const FAULT = 24; // bytes of a fault: three numbers
 const ROOM = 65_536; // bytes, at first, for a line and for a text
+const DEPTH = 127; // of what the module reads: what is nested deeper is no JSON to it
 const encoder = new TextEncoder();
 const decoder = new TextDecoder();
 
-/** Whether this engine of JavaScript has memories of 64 bits, with all that the module does there. */
-export const hasMemory64 = () =>
-  typeof WebAssembly === "object" && WebAssembly.validate(SMALLEST);
+/** What makes the engines of new replicas.
+ *  @type {Open | undefined} */
+let opened;
+/** @type {Promise<Open> | undefined} */
+let loading;
 
-/** Makes what opens engines: `open(name, lines)`, as of rules.mjs. Throws what fetching or compiling
- *  the module throws.
+/** Compiles jcrdt.wasm, once: replicas that are made later use it. With a module it compiles that
+ *  one, and they use it instead. Throws an Error that says why the module can't be had, as where a
+ *  page's policy forbids it; it may be called again then.
  *  @param {Options} [options]
  *  @returns {Promise<Open>} */
 export async function load(options = {}) {
-  const { module, say = console.warn } = options;
-  if (!hasMemory64()) {
-    say(`jcrdt: no WebAssembly memories of 64 bits here${HINT}, so rules.mjs serves in place of jcrdt.wasm`);
-    return openByHand;
-  }
-  return opener(module ? await compiled(module) : await found());
+  const { module } = options;
+  if (module !== undefined) return (opened = await openerOf(await given(module)));
+  if (opened) return opened;
+  loading ??= found().then(openerOf).finally(() => (loading = undefined));
+  const made = await loading;
+  return (opened ??= made);
 }
 
-/** The module beside this file, or, in a checkout, that of the release.
- *  @returns {Promise<WebAssembly.Module>} */
+/** What `load` has given. Throws an Error where it hasn't been called.
+ *  @returns {Open} */
+export function loaded() {
+  if (!opened) throw new Error(UNLOADED);
+  return opened;
+}
+
+/** The module beside this file, or, in a checkout, that of the release. The first alone is named by
+ *  a literal in `new URL`, which bundlers look for.
+ *  @returns {Promise<BufferSource>} */
 function found() {
   const beside = new URL("./jcrdt.wasm", import.meta.url);
-  const released = new URL("../../release/jcrdt.wasm", import.meta.url);
-  return compiled(beside).catch(() => compiled(released));
+  return bytesOf(beside).catch(async (error) => {
+    const released = "../../release/jcrdt.wasm";
+    const own = await bytesOf(new URL(released, import.meta.url)).catch(() => undefined);
+    if (!own) throw error;
+    return own;
+  });
 }
 
 /** @param {URL | string | BufferSource | WebAssembly.Module} from
- *  @returns {Promise<WebAssembly.Module>} */
-async function compiled(from) {
-  if (from instanceof WebAssembly.Module) return from;
-  if (typeof from !== "string" && !(from instanceof URL)) return WebAssembly.compile(from);
-  const url = new URL(from, import.meta.url);
-  if (url.protocol === "file:") {
-    const { readFileSync } = await import("node:fs");
-    return WebAssembly.compile(readFileSync(url));
-  }
-  const response = await fetch(url);
-  if (!response.ok) throw new Error(`${url}: ${response.status}`);
-  return WebAssembly.compile(await response.arrayBuffer());
+ *  @returns {Promise<BufferSource | WebAssembly.Module>} */
+async function given(from) {
+  const isPlace = typeof from === "string" || from instanceof URL;
+  return isPlace ? bytesOf(new URL(from, import.meta.url)) : from;
 }
 
-/** What opens engines of one instance of the module: they share its memory, which never shrinks.
+/** @param {URL} url
+ *  @returns {Promise<BufferSource>} */
+async function bytesOf(url) {
+  try {
+    if (url.protocol !== "file:") return await fetched(url);
+    const { readFileSync } = await import("node:fs");
+    return readFileSync(url);
+  } catch (cause) {
+    const { message } = /** @type {Error} */ (cause);
+    throw new Error(`jcrdt.wasm can't be had from ${url}: ${message}`, { cause });
+  }
+}
+
+/** @param {URL} url */
+async function fetched(url) {
+  const response = await fetch(url);
+  if (!response.ok) throw new Error(String(response.status));
+  return response.arrayBuffer();
+}
+
+/** @param {BufferSource | WebAssembly.Module} from
+ *  @returns {Promise<Open>} */
+async function openerOf(from) {
+  if (typeof WebAssembly !== "object") throw new Error(NONE);
+  try {
+    return opener(from instanceof WebAssembly.Module ? from : await WebAssembly.compile(from));
+  } catch (cause) {
+    throw (await isForbidden()) ? new Error(FORBIDDEN, { cause }) : cause;
+  }
+}
+
+/** Whether no module may be compiled, or used. */
+async function isForbidden() {
+  try {
+    new WebAssembly.Instance(await WebAssembly.compile(LEAST));
+    return false;
+  } catch {
+    return true;
+  }
+}
+
+/** What opens engines of the module. They share an instance and its memory, which never shrinks. Once
+ *  a call has stopped within, what is in that memory isn't relied on: the next ones get another.
  *  @param {WebAssembly.Module} module
  *  @returns {Open} */
 export function opener(module) {
-  const instance = new WebAssembly.Instance(module, {});
-  const heap = new Heap(/** @type {Exports} */ (/** @type {unknown} */ (instance.exports)));
-  return (name, lines = []) => new Proved(heap, name, lines);
+  let heap = heapOf(module);
+  return (name, lines = []) => {
+    if (heap.isBroken) heap = heapOf(module);
+    return new Proved(heap, name, lines);
+  };
+}
+
+/** @param {WebAssembly.Module} module */
+function heapOf(module) {
+  const { exports } = new WebAssembly.Instance(module, {});
+  return new Heap(/** @type {Exports} */ (/** @type {unknown} */ (exports)));
 }
 
 /** Room in the module's memory for what goes in, or comes out. */
@@ -145,6 +210,9 @@ const bytesAt = (exports, at, length) =>
 
 /** The module's memory, with room for the line that goes in and the text that comes out. */
 class Heap {
+  /** Whether a call has stopped within. While one goes on it counts as such: where the stack is
+   *  exhausted nothing can be noted any more. */
+  isBroken = false;
   #in;
   #out;
 
@@ -153,6 +221,25 @@ class Heap {
     this.exports = exports;
     this.#in = new Room(exports);
     this.#out = new Room(exports);
+  }
+
+  /** Does what calls the module. What it throws but for a refusal has stopped a call within: an
+   *  exhausted stack, as a rule. Then this memory isn't used any more.
+   *  @template T
+   *  @param {() => T} work
+   *  @returns {T} */
+  run(work) {
+    if (this.isBroken) throw new Broken("an earlier call has");
+    this.isBroken = true;
+    try {
+      const found = work();
+      this.isBroken = false;
+      return found;
+    } catch (error) {
+      if (!(error instanceof Refused)) throw new Broken(error);
+      this.isBroken = false;
+      throw error;
+    }
   }
 
   /** Puts a text where calls read it. Returns how many bytes it has.
@@ -177,6 +264,16 @@ class Heap {
     }
     return decoder.decode(this.#out.bytes.subarray(0, length));
   }
+}
+
+/** Whether a value has more arrays and objects within each other.
+ *  @param {any} value
+ *  @param {number} depth
+ *  @returns {boolean} */
+function isDeeper(value, depth) {
+  if (typeof value !== "object" || value === null) return false;
+  const all = Array.isArray(value) ? value : Object.values(value);
+  return depth === 0 || all.some((inner) => isDeeper(inner, depth - 1));
 }
 
 /** The line of a request. What JSON doesn't have is written as NO_VALUE.
@@ -208,8 +305,11 @@ const abandoned = typeof FinalizationRegistry === "undefined" ? undefined :
 /** @param {Heap} heap
  *  @param {bigint} handle */
 function release(heap, handle) {
-  heap.exports.jcrdt_close(handle);
-  heap.exports.free(handle);
+  if (heap.isBroken) return;
+  heap.run(() => {
+    heap.exports.jcrdt_close(handle);
+    heap.exports.free(handle);
+  });
 }
 
 /** An open replica in the module's memory.
@@ -223,27 +323,38 @@ class Proved {
    *  @param {string[]} lines */
   constructor(heap, name, lines) {
     this.#heap = heap;
-    this.#handle = taken(heap.exports, HANDLE);
-    bytesAt(heap.exports, this.#handle, HANDLE).fill(0);
-    try {
-      this.#open(name, lines);
-    } catch (error) {
-      heap.exports.free(this.#handle);
-      throw error;
-    }
+    this.#handle = heap.run(() => this.#opened(name, lines));
     abandoned?.register(this, { heap, handle: this.#handle }, this);
   }
 
+  get isBroken() { return this.#heap.isBroken; }
+
   /** @param {string} name
    *  @param {string[]} lines */
-  #open(name, lines) {
+  #opened(name, lines) {
+    const { exports } = this.#heap;
+    const handle = taken(exports, HANDLE);
+    bytesAt(exports, handle, HANDLE).fill(0);
+    try {
+      this.#open(handle, name, lines);
+    } catch (error) {
+      if (error instanceof Refused) exports.free(handle);
+      throw error;
+    }
+    return handle;
+  }
+
+  /** @param {bigint} handle
+   *  @param {string} name
+   *  @param {string[]} lines */
+  #open(handle, name, lines) {
     const { exports } = this.#heap;
     const fault = taken(exports, FAULT + 32);
     const at = fault + BigInt(FAULT);
     try {
       const { written = 0 } = encoder.encodeInto(name, bytesAt(exports, at, 32));
       const length = this.#heap.put(lines.length > 0 ? `${lines.join("\n")}\n` : "");
-      const number = exports.jcrdt_open(this.#handle, at, BigInt(written), this.#heap.in,
+      const number = exports.jcrdt_open(handle, at, BigInt(written), this.#heap.in,
         BigInt(length), fault);
       if (number !== 0n) throw this.#refusal(fault);
     } finally {
@@ -264,9 +375,18 @@ class Proved {
    *  @param {any[]} request
    *  @returns {Answer} */
   ask(request) {
+    if (this.#handle === 0n) throw new TypeError("this replica was freed");
+    if (isDeeper(request, DEPTH)) return { reply: new Refused(1).reply };
+    const line = written(request);
+    return this.#heap.run(() => this.#answer(line));
+  }
+
+  /** @param {string} line
+   *  @returns {Answer} */
+  #answer(line) {
     const { exports } = this.#heap;
     const handle = this.#handle;
-    const length = BigInt(this.#heap.put(written(request)));
+    const length = BigInt(this.#heap.put(line));
     const text = this.#heap.given(
       (out, room) => exports.jcrdt_ask(handle, this.#heap.in, length, out, room),
       (out, room) => exports.jcrdt_again(handle, out, room));
@@ -276,20 +396,12 @@ class Proved {
     return end + 1 < text.length ? { reply, line: text.slice(end + 1, -1) } : { reply };
   }
 
-  /** The place of a cursor by ids. Throws Refused.
-   *  @param {any[]} cursor
-   *  @returns {[Path, Key]} */
-  place(cursor) {
-    const [word, found, ...more] = this.ask(["cursor", cursor]).reply;
-    if (word === "no") throw new Refused(found, more[0], more[1]);
-    return found;
-  }
-
   /** Gives up its memory. It isn't asked any more. */
   free() {
     if (this.#handle === 0n) return;
     abandoned?.unregister(this);
-    release(this.#heap, this.#handle);
+    const handle = this.#handle;
     this.#handle = 0n;
+    release(this.#heap, handle);
   }
 }

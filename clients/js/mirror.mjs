@@ -12,7 +12,7 @@ import { endOf, placeOf, writtenOf } from "./places.mjs";
 /** @typedef {import("./operations.mjs").Id} Id */
 /** @typedef {import("./operations.mjs").Operation} Operation */
 /** @typedef {import("./events.mjs").Source} Source */
-/** @typedef {import("./rules.mjs").Splice} Splice */
+/** @typedef {import("./events.mjs").Splice} Splice */
 /** @typedef {import("./followers.mjs").Read} Read */
 
 /** @typedef {{index: number, key: string, id: Id}} Found A changed element, and how many are before
@@ -35,6 +35,7 @@ export class Mirror {
   /** @type {Map<string, string>} The texts of those that were inserted, and not changed, since. */
   #fresh = new Map();
   #isAll = false; // whether any may have
+  #isFlat = false; // whether all of them have scalars alone
   #read;
   #place;
 
@@ -76,11 +77,21 @@ export class Mirror {
     this.#noteElement(id, isDeeper);
   }
 
-  /** Notes that anything may have changed. */
-  renew() {
+  /** Notes that anything may have changed.
+   *  @param {Operation[]} [all] All that the engine has, where that is known. */
+  renew(all) {
     this.#isAll = true;
+    this.#isFlat = all !== undefined && all.every((op) => this.#isOfScalar(op));
     this.#changed.clear();
     this.#fresh.clear();
+  }
+
+  /** Whether an operation leaves elements of the list with scalars alone.
+   *  @param {Operation} op */
+  #isOfScalar([, , , [path], [word, value]]) {
+    const { length } = this.#place;
+    if (path.length !== length) return path.length < length;
+    return word === "delete" || (word !== "add" && !isArray(value) && !isMap(value));
   }
 
   /** An operation deeper in an element makes it present, and leaves its value.
@@ -97,7 +108,7 @@ export class Mirror {
   take() {
     if (!this.#isAll && this.#changed.size === 0) return [];
     const splices = this.#isAll ? this.#takeAll() : this.#takeChanged();
-    this.#isAll = false;
+    this.#isAll = this.#isFlat = false;
     this.#changed.clear();
     this.#fresh.clear();
     return splices;
@@ -119,6 +130,7 @@ export class Mirror {
     /** @type {[Id, any[]][]} */
     const items = this.#read("items", cursor);
     if (items.length === 0) return new Map();
+    if (this.#isFlat) return new Map(items.map(([id, values]) => [String(id), values[values.length - 1]]));
     const [, shown] = this.#read("show", cursor).find((/** @type {any[]} */ [kind]) => kind === "list");
     return new Map(items.map(([id, values], at) => {
       // A map or list may be the last value only where it is shown.

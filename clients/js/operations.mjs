@@ -105,3 +105,29 @@ export function checkShape(op) {
   if (!isFormed || !isPlaced(cursor) || !isMutation(mutation, cursor)) throw new Refused(12);
   if (!isAscending(front) || id[0] !== nextCounter(front)) throw new Refused(13);
 }
+
+// ---- The texts of operations that came in a reply
+
+/** @type {WeakMap<any[], string>} */
+const TEXTS = new WeakMap();
+const START = '["op",[';
+
+/** Keeps the texts of the operations that were read of a reply `[WORD,[OPERATION,..]]`: so they needn't
+ *  be written again. A quotation mark within a string has a backslash before it: so where `["op",[`
+ *  is, one begins, unless it is no operation. Then the number of the parts is another, or one is no
+ *  JSON: who uses these texts is to look at that.
+ *  @param {any[]} operations
+ *  @param {string} reply */
+export function keepTexts(operations, reply) {
+  const begins = [];
+  for (let at = reply.indexOf(START); at >= 0; at = reply.indexOf(START, at + 1)) begins.push(at);
+  if (begins.length !== operations.length) return;
+  for (const [number, op] of operations.entries()) {
+    const end = number + 1 < begins.length ? begins[number + 1] - 1 : reply.length - 2;
+    if (Array.isArray(op)) TEXTS.set(op, reply.slice(begins[number], end));
+  }
+}
+
+/** The text of an operation as it came in a reply, if that was kept.
+ *  @param {any[]} operation */
+export const textOf = (operation) => TEXTS.get(operation);

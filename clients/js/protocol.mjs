@@ -43,6 +43,8 @@ export const REQUESTS = new Map([
   ["held", form("state", ["doc"], ["waiting"])],
   ["forget", form("change", ["doc", "ID"], ["forgotten"])],
   ["account", form("state", ["doc"], ["account"])],
+  ["size", form("state", ["doc"], ["size"])],
+  ["copied", form("state", ["doc", "ID"], ["copied"])],
   ["version", form("bare", [], ["version"])],
   ["quit", form("bare", [], ["bye"])],
   ["watch", form("hub", ["doc"], ["watching"], ["\"ops\""])],
@@ -52,6 +54,10 @@ export const REQUESTS = new Map([
   ["unhear", form("hub", ["doc"], ["unheard"])],
   ["say", form("hub", ["doc", "VALUE"], ["said"])],
   ["stored", form("hub", ["doc", "ID"], ["stored"])],
+  ["create", form("hub", ["doc"], ["created"])],
+  ["history", form("hub", ["doc"], ["generations"])],
+  ["map", form("hub", ["doc", "GENERATION", "from"], ["map"])],
+  ["list", form("bare", ["AFTER"], ["documents"])],
 ]);
 
 /** What a replica answers, without a document's name.
@@ -77,7 +83,7 @@ export const REPLICA_REQUESTS = new Map([
 
 /** The first words of the hub's lines that answer no request.
  *  @type {ReadonlySet<string>} */
-export const PUSHES = new Set(["changed", "logged", "heard", "reopened"]);
+export const PUSHES = new Set(["changed", "logged", "heard", "renewed", "reopened"]);
 
 /** The numbers of refusals: from 100 on the hub's. */
 export const REFUSALS = Object.freeze({
@@ -112,6 +118,8 @@ export const REFUSALS = Object.freeze({
   "reply-too-long": 102,
   "not-allowed": 103,
   "not-kept": 104,
+  "there-already": 105,
+  "renewed": 106,
 });
 
 /** Two starts, or two replicas, had one name: one side is to be kept.
@@ -137,6 +145,8 @@ export const LIMITS = Object.freeze({
   lines: 1_000_000, // lines of a session
   sessions: 256, // sessions of a server
   said: 4_096, // bytes of a value that a client of the hub says
+  listed: 1_000, // documents of a reply to `list`
+  mapped: 1_000, // elements of a reply to `map`
 });
 
 /** Whether a request may change a document, or what it holds.

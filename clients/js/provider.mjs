@@ -14,6 +14,8 @@
 import { CLOCK, Span } from "./clock.mjs";
 import { Connection } from "./connection.mjs";
 import { Away } from "./errors.mjs";
+import { generationOf, isOfGeneration } from "./generations.mjs";
+import { load } from "./jcrdt.mjs";
 import { print } from "./json.mjs";
 import { freshName } from "./names.mjs";
 import { Notices, wordsOf } from "./notices.mjs";
@@ -57,11 +59,13 @@ export { Busy, Unstored, memoryStore } from "./stores.mjs";
 /**
  * Something that a person should know, until it is over.
  * @typedef {object} Problem
- * @property {"store" | "memory" | "unread" | "server" | "refused" | "remade" | "listener"} kind
+ * @property {"store" | "memory" | "unread" | "server" | "refused" | "remade" | "renewed"
+ *    | "listener"} kind
  *   "store": what was edited last isn't stored, and edits are refused. "memory": the store can't be
  *   opened, so nothing is stored. "unread": a part of the store couldn't be read. "server": it
  *   refuses to exchange. "refused": it refused some of one's own operations, which stay here.
- *   "remade": another had this replica's name, so that changes were made again. "listener": a
+ *   "remade": another had this replica's name, so that changes were made again. "renewed": the
+ *   document goes on in another generation, where some changes couldn't be made again. "listener": a
  *   function that `listen` was given threw.
  * @property {string} words
  * @property {unknown} [cause] the error, if there is one
@@ -87,8 +91,8 @@ export { Busy, Unstored, memoryStore } from "./stores.mjs";
  *   in a browser without IndexedDB. `problems` says so then. Without it the store's error is thrown
  * @property {string} [word] what a new name of the replica begins with: up to 21 of a-z, 0-9, -
  * @property {boolean} [isOnline] whether it connects at once: true, unless it is said
- * @property {import("./rules.mjs").Open} [engine] what keeps the document: rules.mjs, unless another
- *   is given
+ * @property {import("./jcrdt.mjs").Open} [engine] what keeps the document: what `load` gives, unless
+ *   it is said
  * @property {any} [WebSocket] for ws:// in Node: the class of the package ws
  * @property {(line: string, reply: string) => void} [onReply] is called with each request of the
  *   exchange and its reply, as for a protocol
@@ -121,11 +125,13 @@ export class Provider {
   /** @type {Promise<void> | undefined} */
   #closing;
 
-  /** Reads the store, and connects. Throws Busy where another program has the store open, TypeError
-   *  where it has something else, and Unstored where it can't store.
+  /** Loads the engine where it isn't loaded, reads the store, and connects. Throws Busy where another
+   *  program has the store open, TypeError where it has something else, Unstored where it can't store,
+   *  and what `load` throws.
    *  @param {Options} options
    *  @returns {Promise<Provider>} */
   static async open(options) {
+    if (!options.engine) await load();
     const { store, stored, problem } = await openedStore(options);
     try {
       const { replica, lost } = await restored(options, store, stored);
@@ -149,11 +155,11 @@ export class Provider {
     this.#options = options;
     this.#store = store;
     this.replica = replica;
-    this.#clock = clock;
+    this.#clock = this.replica.clock = clock;
     this.#writer = new StoreWriter(store, this.#notices, life);
     this.#connection = new Connection({ at, document, WebSocket, random }, this.#user(), life);
     this.#exchange = new Synchronizer({
-      replica, store, writer: this.#writer, notices: this.#notices, connection: this.#connection,
+      replica, writer: this.#writer, notices: this.#notices, connection: this.#connection,
       changed: () => this.#show(), word, onReply, clock, life,
     });
     const heard = () => this.#notices.tell({ what: "presence" });
@@ -193,8 +199,9 @@ export class Provider {
   /** Stores what the replica logged, sends it, and says so.
    *  @param {import("./events.mjs").Event} event */
   #hear(event) {
-    const { why, lines } = event;
-    if (!this.#isTakingStored && why !== "remade") this.#writer.add(lines);
+    const { why, lines, gone } = event;
+    if (gone) this.#writer.rename(this.replica.name, this.replica.lines().slice(1), gone);
+    else if (!this.#isTakingStored) this.#writer.add(lines);
     if (this.#exchange.hears(event)) return;
     this.#notices.tell({ what: "changed", why, lines });
     if (why !== "remade") this.#exchange.soon(why);
@@ -208,9 +215,13 @@ export class Provider {
       const all = this.replica.lines().slice(1);
       return this.#notices.report({ kind: "store", words, lines: all });
     }
+    const generation = generationOf(this.replica.front());
+    const own = lines.filter((line) => isOfGeneration(line, generation));
     this.#isTakingStored = true;
-    this.replica.deliverAll(lines); // one that doesn't fit stays where it is
+    this.replica.deliverAll(own); // one that doesn't fit stays where it is
     this.#isTakingStored = false;
+    // The other tab has gone on in another generation: so will this one.
+    if (own.length < lines.length) this.#exchange.now();
   }
 
   // ---- What is stored, and what is sent
@@ -284,6 +295,11 @@ export class Provider {
       this.state = { ...now, since: now.word === word ? since : now.since };
       this.#notices.tell({ what: "state" });
     }
+    this.#resumeAll();
+  }
+
+  /** Lets those who wait look at the state again. */
+  #resumeAll() {
     for (const resume of [...this.#waiters]) resume();
   }
 
@@ -325,10 +341,17 @@ export class Provider {
     this.#connection.goOffline();
   }
 
+  /** Whether it is closed, or is being closed. */
+  get #isClosed() {
+    return this.#closing !== undefined || this.#life.signal.aborted;
+  }
+
   /** Stores what isn't stored, ends the connection and lets others open the store. Throws Unstored
    *  where that fails: then something is lost that only `saved` has. */
   close() {
-    return (this.#closing ??= this.#close());
+    this.#closing ??= this.#close();
+    this.#resumeAll();
+    return this.#closing;
   }
 
   async #close() {
@@ -338,7 +361,7 @@ export class Provider {
       await this.#writer.flushed();
     } finally {
       this.#life.abort();
-      await this.#store.close();
+      await this.#store.close(this.replica.isDoubtful);
     }
   }
 
@@ -346,12 +369,13 @@ export class Provider {
   async deleteStored() {
     this.goOffline();
     this.#life.abort();
+    this.#resumeAll();
     await this.#store.clear();
   }
 
   /** Resolves once it is online and everything is exchanged that was logged here before. Where it
    *  is offline for now, it connects at once. Throws Refused where the server refuses changes of
-   *  this replica, with how many and why: these stay here.
+   *  this replica, with how many and why: these stay here. Throws Away at once where it is closed.
    *  @param {number | Wait} [wait] how long: a number is its seconds. Then Away is thrown, with
    *    what is known
    *  @returns {Promise<void>} */
@@ -365,6 +389,7 @@ export class Provider {
     try {
       while (!this.#exchange.isDone || !["online", "refused"].includes(this.state.word)) {
         signal?.throwIfAborted();
+        if (this.#isClosed) throw new Away("not exchanged: this provider is closed");
         const left = end - this.#clock.now();
         if (left <= 0) throw new Away(`not exchanged: ${this.state.why || "it takes long"}`);
         await this.#stateOrTime(left, signal);
@@ -417,11 +442,16 @@ async function openedStore({ document, store = memoryStore(), orMemory, word = "
  *  @param {Store} store
  *  @param {Stored} stored
  *  @returns {Promise<{ replica: Replica, lost: string[] }>} */
-async function restored({ document, engine, word = "replica" }, store, { name, lines, unread }) {
+async function restored({ document, engine, word = "replica" }, store, stored) {
+  const { name, lines, unread } = stored;
   const replicaOf = (/** @type {string} */ own, /** @type {string[]} */ all) => {
     const head = JSON.stringify(["replica", own, document]);
     const replica = Replica.restore([head, ...all], { engine });
     replica.isShared = store.follow !== undefined;
+    replica.isFiled = stored.wasOpen !== undefined;
+    replica.wasOpen = stored.wasOpen ?? false;
+    replica.sessions = (stored.sessions ?? []).map(({ before, word: of }) =>
+      ({ after: lastOwn(stored.lines.slice(0, before), own), word: of }));
     return replica;
   };
   const first = replicaOf(name, lines);
@@ -434,6 +464,14 @@ async function restored({ document, engine, word = "replica" }, store, { name, l
   const replica = replicaOf(fresh, good);
   await store.rename(fresh, good, []);
   return { replica, lost };
+}
+
+/** The counter of the last operation of a replica.
+ *  @param {string[]} lines
+ *  @param {string} name */
+function lastOwn(lines, name) {
+  const start = new RegExp(`^\\["op",\\[(\\d+),"${name}"\\]`);
+  return lines.reduce((last, line) => Number(start.exec(line)?.[1] ?? last), 0);
 }
 
 /** @param {string[]} lost

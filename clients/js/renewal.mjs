@@ -4,7 +4,7 @@
    of JSON, [[oldCounter,oldReplica],[newCounter,newReplica]]. Keys of maps are the same in both. */
 
 import { Refused, refusalOf } from "./errors.mjs";
-import { isArray, parse } from "./json.mjs";
+import { isArray, parse, print } from "./json.mjs";
 import { checkShape, isId } from "./operations.mjs";
 import { endOf } from "./places.mjs";
 
@@ -28,8 +28,8 @@ function idsOf(map) {
 }
 
 /** Makes the operations of these lines again in `other`. An element that the new document doesn't
- *  have can't be edited there: such a line is lost. What is behind a deleted element goes behind
- *  the one before it.
+ *  have, or that was deleted there, can't be edited there: such a line is lost, and the element stays
+ *  away. What is behind a deleted element goes behind the one before it.
  *  @param {Replica} old
  *  @param {Replica} other
  *  @param {Iterable<string | [Id, Id]>} map
@@ -37,16 +37,43 @@ function idsOf(map) {
  *  @returns {{remade: number, lost: string[]}} */
 export function remakeIn(old, other, map, lines) {
   const ids = idsOf(map);
+  const edits = lines.filter((it) => it.trim() !== "").map((line) => ({ line, op: operationOf(line) }));
+  for (const id of deletedIn(other, ids, edits.flatMap(({ op }) => (op ? [op] : [])))) ids.delete(id);
   /** @type {string[]} */
   const lost = [];
   let remade = 0;
-  for (const line of lines.filter((it) => it.trim() !== "")) {
-    const op = operationOf(line);
+  for (const { line, op } of edits) {
     const made = op && refusalOf(() => again(old, other, ids, op));
     if (!made || made instanceof Refused) lost.push(line);
     else remade++;
   }
   return { remade, lost };
+}
+
+/** The elements that operations are about and that were deleted in the new document.
+ *  @param {Replica} other
+ *  @param {Map<string, Id>} ids
+ *  @param {Operation[]} operations
+ *  @returns {Set<string>} */
+function deletedIn(other, ids, operations) {
+  /** @type {Map<string, Set<string>>} Of a list of the new document: its elements. */
+  const lists = new Map();
+  const isIn = (/** @type {Cursor} */ list, /** @type {Id} */ id) => {
+    const name = print(list);
+    const found = lists.get(name) ?? new Set(other.items(list).map(([it]) => String(it)));
+    lists.set(name, found);
+    return found.has(String(id));
+  };
+  const deleted = new Set();
+  for (const op of operations) {
+    const place = endOf(op);
+    for (const [at, step] of place.entries()) {
+      const list = mapped(ids, place.slice(0, at));
+      const now = isId(step) ? ids.get(String(step)) : undefined;
+      if (list && now && !isIn(list, now)) deleted.add(String(step));
+    }
+  }
+  return deleted;
 }
 
 /** The operation of a line, of whatever replica; `undefined` where it is none.

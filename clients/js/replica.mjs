@@ -1,8 +1,8 @@
 /* A replica for Node and browsers: it has the document, reads and edits it offline, and exchanges
    operations with servers.
 
-     import { Replica, freshName } from "jcrdt";
-     const me = new Replica(freshName("ada"), "notes");
+     import { freshName, openReplica } from "jcrdt";
+     const me = await openReplica(freshName("ada"), "notes");
      me.put([0], { title: "Plan", steps: ["ask", "build"] }); // needs no server
      await me.sync(answer); // answer(line) sends a request line and resolves its reply's line
 
@@ -13,21 +13,25 @@
    indices (into lists: 0 is the head, 1 the first element). A step can also be an element's id,
    [counter,replica]. Integers beyond 2^53 are BigInt, in both directions.
 
-   Log and tree are the engine's: rules.mjs, or another one that answers the same requests. */
+   Log and tree are the engine's: the proved replica, jcrdt.wasm. */
 
+import { CLOCK } from "./clock.mjs";
 import { Refused, refusalOf } from "./errors.mjs";
 import { Events } from "./events.mjs";
-import { Exchange, reading } from "./exchange.mjs";
-import { Indices, operationsOf, placeAt, sourceOf } from "./followers.mjs";
+import { Exchange } from "./exchange.mjs";
+import { Indices, operationsOf, placeAt, reading } from "./followers.mjs";
+import { carried, composed } from "./generations.mjs";
 import { History } from "./history.mjs";
+import { load, loaded } from "./jcrdt.mjs";
 import { isArray, isMap, parse, print } from "./json.mjs";
+import { LastingEngine } from "./lasting.mjs";
 import { MOST } from "./limits.mjs";
+import { Mirror } from "./mirror.mjs";
 import { isName } from "./names.mjs";
-import { frontPairs, isId } from "./operations.mjs";
+import { covers, frontPairs, isId, textOf } from "./operations.mjs";
 import { endOf, requestOf, writtenOf } from "./places.mjs";
 import { REFUSALS } from "./protocol.mjs";
 import { remakeIn } from "./renewal.mjs";
-import { open } from "./rules.mjs";
 import {
   Counter, bare, checkValue, checkedInteger, integer, isGiven, pieces, plain,
 } from "./values.mjs";
@@ -39,17 +43,27 @@ import {
 /** @typedef {import("./exchange.mjs").Remade} Remade */
 /** @typedef {import("./exchange.mjs").Report} Report */
 /** @typedef {import("./exchange.mjs").Taken} Taken */
-/** @typedef {import("./rules.mjs").Engine} Engine */
-/** @typedef {import("./rules.mjs").Open} Open */
+/** @typedef {import("./jcrdt.mjs").Open} Open */
 /** @typedef {import("./operations.mjs").Cursor} Cursor */
 /** @typedef {import("./operations.mjs").Id} Id */
 /** @typedef {import("./operations.mjs").Operation} Operation */
 /** @typedef {import("./operations.mjs").Scalar} Scalar */
 
 /** @typedef {object} Options
- *  @property {Open} [engine] What makes the engine: `open` of rules.mjs if it isn't given. */
+ *  @property {Open} [engine] What makes the engine: what `load` has given, unless it is said. */
 
 /** @typedef {{line: string, number: number, name: string}} Unread A line that couldn't be taken. */
+
+/** A new replica, or the one of stored operations: see `Replica` and `restore`. It loads the engine
+ *  first, where that isn't loaded yet.
+ *  @param {string} name
+ *  @param {string} doc
+ *  @param {string[]} [lines] The operations' lines.
+ *  @returns {Promise<Replica>} */
+export async function openReplica(name, doc, lines = []) {
+  await load();
+  return Replica.restore([print(["replica", name, doc]), ...lines]);
+}
 
 export class Replica {
   /** @type {Unread[]} After `restore`: the lines that couldn't be taken, and why. */
@@ -57,6 +71,16 @@ export class Replica {
   /** Whether others may send own operations for this replica, as tabs that share a store. If not,
    *  an own operation at a server that wasn't sent from here shows that another has the name. */
   isShared = false;
+  /** Whether a file has what is edited here, so that copies may be made of it meanwhile. */
+  isFiled = false;
+  /** Whether what was restored may be that of a program that goes on: its store wasn't closed. */
+  wasOpen = false;
+  /** For tests: what waiting goes by.
+   *  @type {import("./clock.mjs").Clock} */
+  clock = CLOCK;
+  /** Words of the times in which own operations were made, each from behind a counter on.
+   *  @type {{ after: number, word: string }[]} */
+  sessions = [];
   /** Called with what a listener has thrown. The others go on.
    *  @type {(error: any) => any} */
   failed = (error) => console.error(error);
@@ -67,7 +91,6 @@ export class Replica {
   #doc;
   /** @type {Open} */
   #open;
-  /** @type {Engine} */
   #engine;
   /** @type {Indices} */
   #indices;
@@ -75,6 +98,8 @@ export class Replica {
   /** @type {Map<string, number>} */
   #front = new Map();
   #mayHold = false; // whether operations may be held
+  /** @type {Map<string, Id>} Elements of generations before: what they are now. */
+  #moved = new Map();
   #events = new Events((error) => this.failed(error));
   /** @type {Set<() => void>} What is asked before each change of one's own. */
   #guards = new Set();
@@ -82,7 +107,7 @@ export class Replica {
   #exchange;
 
   /** A new replica, without operations. Throws TypeError for a name or document that can't be one:
-   *  both have 1 to 32 of a-z, 0-9, -.
+   *  both have 1 to 32 of a-z, 0-9, -. Throws an Error before `await load()`: openReplica does that.
    *  @param {string} name That no other replica of the document ever has.
    *  @param {string} doc
    *  @param {Options} [options] */
@@ -90,9 +115,9 @@ export class Replica {
     if (![name, doc].every(isName)) throw new TypeError(`${name}, ${doc}: 1 to 32 of a-z, 0-9, -`);
     this.#name = name;
     this.#doc = doc;
-    this.#open = options.engine ?? open;
-    this.#engine = this.#open(name, []);
-    this.#indices = new Indices(this.#engine, this.#read);
+    this.#open = options.engine ?? loaded();
+    this.#engine = new LastingEngine(this.#open, name);
+    this.#indices = new Indices(this.#read);
     this.#history = new History((request) => this.#engine.ask(request), this.#read,
       (word, place, ...value) => this.#edit(word, place, ...value));
     this.#exchange = this.#newExchange(0);
@@ -103,11 +128,19 @@ export class Replica {
     return new Exchange({
       name: () => this.#name, doc: this.#doc, read: this.#read, front: () => this.#front,
       take: (operations) => this.deliverAll(operations), isShared: () => this.isShared,
-      fetched: (count) => this.fetched(count),
+      now: () => this.clock.now(), isFiled: () => this.isFiled, wasOpen: () => this.wasOpen,
+      sessionOf: (counter) => this.#sessionOf(counter), say: (place) => this.#say(place), fetched: (count) => this.fetched(count),
     }, stored);
   }
 
+  /** @param {number} counter */
+  #sessionOf(counter) {
+    return this.sessions.filter(({ after }) => after < counter).pop()?.word ?? "";
+  }
+
   get name() { return this.#name; }
+  /** Whether what was restored may be that of a program that goes on, and nobody was told. */
+  get isDoubtful() { return this.#exchange.isDoubtful; }
   get doc() { return this.#doc; }
   /** How many operations are logged: at most 100,000. */
   get count() { return this.#count; }
@@ -134,7 +167,7 @@ export class Replica {
     const [word, name, doc] = parsedLine(first) ?? [];
     if (word !== "replica") throw new TypeError(`the first line names no replica: ${first}`);
     const replica = new Replica(name, doc, options);
-    const engine = refusalOf(() => replica.#open(name, lines));
+    const engine = refusalOf(() => new LastingEngine(replica.#open, name, lines));
     if (engine instanceof Refused) replica.#restoreSome(lines);
     else replica.#use(engine, lines.length);
     replica.#exchange = replica.#newExchange(replica.#front.get(name) ?? 0);
@@ -160,15 +193,15 @@ export class Replica {
     }
     const good = [...operationsOf(reading(scratch), [])].map(print);
     scratch.free();
-    this.#use(this.#open(this.#name, good), good.length);
+    this.#use(new LastingEngine(this.#open, this.#name, good), good.length);
   }
 
-  /** @param {Engine} engine
+  /** @param {LastingEngine} engine
    *  @param {number} count */
   #use(engine, count) {
     this.#engine.free();
     this.#engine = engine;
-    this.#indices = new Indices(engine, this.#read);
+    this.#indices = new Indices(this.#read);
     this.#count = count;
     this.#front = new Map(this.#read("front"));
     this.#mayHold = false;
@@ -185,7 +218,15 @@ export class Replica {
   /** The cursor as the engine takes it.
    *  @param {Cursor} cursor */
   #request(cursor) {
-    return requestOf(cursor, (it) => placeAt(this.#engine, this.#read, it));
+    return requestOf(this.#ofNow(cursor), (it) => placeAt(this.#read, it));
+  }
+
+  /** The cursor with the ids that elements have now.
+   *  @param {Cursor} cursor
+   *  @returns {Cursor} */
+  #ofNow(cursor) {
+    if (this.#moved.size === 0) return cursor;
+    return cursor.map((step) => (isId(step) ? this.#moved.get(String(step)) ?? step : step));
   }
 
   // ---- Changes. Each returns the id of the new operation. A refused one changes nothing.
@@ -205,7 +246,17 @@ export class Replica {
    *  @returns {T} */
   #change(work) {
     for (const check of this.#guards) check();
-    return this.#events.batch(work);
+    return this.#events.batch(() => {
+      this.#exchange.say();
+      return work();
+    });
+  }
+
+  /** Deletes what isn't there, so that an operation says something: it is no step of undo.
+   *  @param {Cursor} place */
+  #say(place) {
+    const { reply, line = "" } = this.#engine.ask(["delete", this.#request(place)]);
+    if (reply[0] !== "no") this.#events.batch(() => this.#log(parse(line), line, reply[1], "own"));
   }
 
   /** Assigns a scalar, {} or [].
@@ -338,7 +389,7 @@ export class Replica {
     const length = count + (index > 0 ? 1 : 0);
     if (length <= MOST_SINGLY) {
       return Array.from({ length }, (_, at) => /** @type {Id} */ (
-        placeAt(this.#engine, this.#read, [writtenOf(list), from + at]).pop()));
+        placeAt(this.#read, [writtenOf(list), from + at]).pop()));
     }
     /** @type {Id[]} */
     const ids = this.#read("items", [writtenOf(list)]).map((/** @type {[Id]} */ [id]) => id);
@@ -404,6 +455,7 @@ export class Replica {
    *  @param {string} line
    *  @param {Why} why */
   #note(op, line, why) {
+    this.#engine.logged(line);
     this.#count++;
     this.#front.set(op[1][1], op[1][0]);
     this.#history.note(op);
@@ -414,7 +466,7 @@ export class Replica {
   /** The same place by ids: it goes on to mean that element when the list moves.
    *  @param {Cursor} cursor
    *  @returns {Cursor} */
-  place(cursor) { return placeAt(this.#engine, this.#read, this.#request(cursor)); }
+  place(cursor) { return placeAt(this.#read, this.#request(cursor)); }
 
   /** The index of an element or head; of a deleted element, that of the present one before it.
    *  @param {Cursor} place
@@ -497,7 +549,7 @@ export class Replica {
    *  @param {Changed} changed */
   watch(cursor, changed) {
     const place = this.place(cursor);
-    const source = sourceOf(this.#engine, this.#read, place); // refuses a head
+    const source = new Mirror(this.#read, place); // refuses a head
     const { length = this.#read("items", [writtenOf(place)]).length } = source;
     return this.#events.watch(place, source, length, changed);
   }
@@ -537,19 +589,20 @@ export class Replica {
     });
   }
 
-  /** Takes many operations into an empty replica by an engine that begins with them, if it is one
-   *  that only answers requests: that is several times quicker. Returns whether it has taken them.
-   *  Where one of them can't be logged, they are to be delivered one by one.
+  /** Takes many operations into an empty replica by an engine that begins with them: that is several
+   *  times quicker. Returns whether it has taken them. Where one of them can't be logged, they are to
+   *  be delivered one by one.
    *  @param {(string | Operation)[]} operations */
   #beginWith(operations) {
     const isEmpty = this.#count === 0 && !this.#mayHold;
-    if (!isEmpty || this.#engine.follow || operations.length < MANY) return false;
+    if (!isEmpty || operations.length < MANY) return false;
     const ops = operations.map((it) => (typeof it === "string" ? parsedLine(it) : it));
     const lines = refusalOf(() => ops.map(checkedLine));
-    const engine = lines instanceof Refused ? lines : refusalOf(() => this.#open(this.#name, lines));
+    const engine = lines instanceof Refused ? lines : refusalOf(() =>
+      new LastingEngine(this.#open, this.#name, lines));
     if (lines instanceof Refused || engine instanceof Refused) return false;
     this.#use(engine, lines.length);
-    this.#events.renew();
+    this.#events.renew(/** @type {Operation[]} */ (ops));
     for (const [at, op] of ops.entries()) {
       this.#events.log(lines[at], /** @type {Operation} */ (op), "taken");
     }
@@ -608,19 +661,49 @@ export class Replica {
     return { lost };
   }
 
+  /** Goes on in another generation of the document: with its log, and with one's own operations that
+   *  the hub lacks made again there. Places by ids of before go on to mean the same elements, watches
+   *  go on, and so does `undo` as far as what it takes back is there. Then store all lines, and sync.
+   *  @param {string} name That no other replica of the document ever has.
+   *  @param {import("./generations.mjs").Step[]} steps from the generation of this replica on
+   *  @param {Operation[]} log of the last generation
+   *  @returns {{remade: number, lost: string[]}} */
+  renew(name, steps, log) {
+    if (!isName(name)) throw new TypeError(`${name}: 1 to 32 of a-z, 0-9, -`);
+    const { operations, ids, lost } = carried(this.operations(), steps);
+    const front = new Map(log.map(([, [counter, replica]]) => [replica, counter]));
+    const again = operations.filter(([, id]) => !covers(front, id));
+    const before = this.lines().slice(1);
+    const lines = [...log, ...again].map(print);
+    const engine = new LastingEngine(this.#open, name, lines);
+    this.#name = name;
+    const done = this.#history.steps;
+    this.#use(engine, lines.length);
+    this.#moved = composed(this.#moved, ids);
+    this.#history.adopt(done, ids, steps[steps.length - 1]?.start ?? []);
+    this.#exchange = this.#newExchange(0);
+    this.#events.remade(before, (place) => this.#watchAgain(place, ids));
+    return { remade: again.length, lost: lost.map(print) };
+  }
+
   /** @param {string} name
    *  @param {Answer} answer
    *  @param {boolean} isRemade Whether own operations that the server lacks are made again.
    *  @returns {Promise<Remade>} */
   async #goOnAs(name, answer, isRemade) {
     if (!isName(name)) throw new TypeError(`${name}: 1 to 32 of a-z, 0-9, -`);
-    const { lines, ids, ...report } =
-      await this.#exchange.remade(name, answer, this.#open, isRemade);
-    const engine = this.#open(name, lines);
+    const remaking = await this.#exchange.remade(name, answer, this.#open, isRemade);
+    const before = this.lines().slice(1);
+    const { lines, ids, ...report } = remaking.run(); // also what was edited meanwhile
+    remaking.free();
+    const engine = new LastingEngine(this.#open, name, lines);
     this.#name = name;
     this.#use(engine, lines.length);
     this.#exchange = this.#newExchange(0);
-    this.#events.remade((place) => this.#watchAgain(place, ids));
+    this.sessions = this.sessions.slice(-1).map(({ word }) => ({ after: 0, word }));
+    const now = new Set(lines);
+    const gone = before.filter((line) => !now.has(line));
+    this.#events.remade(gone, (place) => this.#watchAgain(place, ids));
     return report;
   }
 
@@ -628,7 +711,7 @@ export class Replica {
    *  @param {Map<string, Id>} ids */
   #watchAgain(old, ids) {
     const place = old.map((step) => (isId(step) ? ids.get(String(step)) ?? step : step));
-    const source = refusalOf(() => sourceOf(this.#engine, this.#read, place));
+    const source = refusalOf(() => new Mirror(this.#read, place));
     if (source instanceof Refused) return undefined;
     const values = this.items(place).map(([id]) =>
       this.conflicts([...place, id]).pop()?.[1] ?? null);
@@ -694,7 +777,7 @@ function readLine(line) {
 function checkedLine(op) {
   if (!isArray(op)) throw new Refused(REFUSALS["bad-operation"]);
   try {
-    return print(op);
+    return textOf(op) ?? print(op);
   } catch {
     throw new Refused(REFUSALS["bad-operation"]);
   }

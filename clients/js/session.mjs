@@ -19,6 +19,7 @@
    the hub has no server. `Lost`: the connection ended before the reply, so whether it was carried
    out is unknown. Integers beyond 2^53 are BigInt, in both directions. */
 
+import { CLOCK, pauseBy } from "./clock.mjs";
 import { Away, Lost, Refused, errorOf } from "./errors.mjs";
 import { Filling, lengthOf } from "./filling.mjs";
 import { isMap, parse, print } from "./json.mjs";
@@ -46,10 +47,12 @@ import {
 /** @typedef {object} Options
  *  @property {number} [seconds] How long the oldest request may wait for its reply (60).
  *  @property {number} [connectSeconds] How long until the session has begun (10).
- *  @property {number} [ping] Over WebSocket: after so many seconds without a request, `version` is
- *    asked (15).
+ *  @property {number} [ping] After so many seconds without a request `version` is asked (10), while
+ *    something is watched, and over WebSocket always: a server gives a session that is silent for 30
+ *    seconds to another that waits.
  *  @property {number} [most] Of a reply, in bytes (256 MiB).
- *  @property {AbortSignal} [signal] Ends the session when it is aborted, also before it begins. */
+ *  @property {AbortSignal} [signal] Ends the session when it is aborted, also before it begins.
+ *  @property {import("./clock.mjs").Clock} [clock] For tests: what pings and `watch` go by. */
 
 /** @param {string} line */
 const firstWord = (line) => /^\s*\[\s*"([a-z]+)"/.exec(line)?.[1] ?? "";
@@ -76,6 +79,10 @@ export class Client {
   /** @type {() => void} */
   #ended;
   #seconds;
+  #pingSeconds;
+  #clock;
+  #askedAt = 0; // when the last request was sent, in ms
+  #stopPings = () => {};
   #asked = 0;
   #answered = 0;
   /** @type {Map<number, Waiting>} The number of a request: who waits for its reply. */
@@ -105,17 +112,23 @@ export class Client {
    *  @type {(gone: [document: string, name: string][]) => any} */
   reopened = () => {};
 
+  /** Called when a document that is watched goes on in another generation.
+   *  @type {(document: string, generation: string) => any} */
+  renewed = () => {};
+
   /** Called with what a callback of the caller has thrown. The session goes on.
    *  @type {(error: any) => any} */
   failed = (error) => console.error(error);
 
   /** @param {(line: string) => void} sent Sends a line.
    *  @param {() => void} ended Ends the connection.
-   *  @param {{seconds?: number}} [options] */
+   *  @param {Options} [options] */
   constructor(sent, ended, options = {}) {
     this.#sent = sent;
     this.#ended = ended;
     this.#seconds = options.seconds ?? 60;
+    this.#pingSeconds = options.ping ?? PING_SECONDS;
+    this.#clock = options.clock ?? CLOCK;
   }
 
   // ---- The connection
@@ -150,6 +163,7 @@ export class Client {
     if (this.#lost) return;
     this.#lost = new Lost(cause);
     clearTimeout(this.#timer);
+    this.#stopPings();
     for (const waits of this.#waiting.values()) waits.failed(this.#lost);
     this.#waiting.clear();
     this.#watches.clear();
@@ -172,10 +186,21 @@ export class Client {
   answer(line) {
     if (this.#lost) return Promise.reject(new Away(`not sent, as the session has ended: ${this.#lost.message}`));
     return new Promise((answered, failed) => {
+      this.#askedAt = this.#clock.now();
       if (this.#waiting.size === 0) this.#since = performance.now();
       this.#waiting.set(this.#asked++, { word: firstWord(line), answered, failed });
       this.#timer ??= this.#check(this.#seconds * 1000);
       this.#sent(line);
+    });
+  }
+
+  /** From now on asks for the version where nothing else is asked for so long. */
+  ping() {
+    const half = (this.#pingSeconds * 1000) / 2;
+    this.#stopPings();
+    this.#stopPings = this.#clock.every(half, () => {
+      const isSilent = this.#waiting.size === 0 && this.#clock.now() - this.#askedAt >= half;
+      if (isSilent) this.version().catch(() => {});
     });
   }
 
@@ -373,6 +398,19 @@ export class Client {
   held = async (document) => (await this.ask("held", document))[0];
   /** @param {string} document @param {Id} id */
   forget = (document, id) => this.ask("forget", document, id);
+  /** How many operations are logged, how many of them the server's file has (0 in `run`), and of how
+   *  many replicas they are. Servers before 1.2.0 refuse it with 2.
+   *  @param {string} document
+   *  @returns {Promise<{ logged: number, copied: number, replicas: number }>} */
+  async size(document) {
+    const [logged, copied, replicas] = await this.ask("size", document);
+    return { logged, copied, replicas };
+  }
+
+  /** Whether the server's file has the operation of this id now. Servers before 1.2.0 refuse it
+   *  with 2. See `stored`, which waits.
+   *  @param {string} document @param {Id} id @returns {Promise<boolean>} */
+  copied = async (document, id) => (await this.ask("copied", document, id))[0];
   /** @param {string} document @returns {Promise<number>} */
   account = async (document) => (await this.ask("account", document))[0];
   /** @returns {Promise<number>} */
@@ -507,6 +545,7 @@ export class Client {
     /** @type {Watch} */
     const watch = { watchers: new Map(), isPushed: true, begun: Promise.resolve() };
     this.#watches.set(document, watch);
+    this.ping();
     watch.begun = this.ask("watch", document).then(() => {}, (refused) => {
       if (!isBadRequest(refused)) throw refused; // a server has no such word
       watch.isPushed = false;
@@ -523,7 +562,7 @@ export class Client {
     while (this.#watches.get(document) === watch) {
       const front = await this.front(document).catch(() => undefined);
       if (front) this.#tell(watch, watch.watchers.keys(), front);
-      await new Promise((resume) => setTimeout(resume, every));
+      await pauseBy(this.#clock, every);
     }
   }
 
@@ -561,11 +600,38 @@ export class Client {
    *  @param {any} value */
   say = async (document, value) => void (await this.ask("say", document, value));
 
+  /** At a hub that renews documents: the generations of one, the last of which takes changes. One of
+   *  before is read as the document NAME/GENERATION, if the hub has kept it.
+   *  @param {string} document
+   *  @returns {Promise<[generation: string, operations: number, replicas: number][]>} */
+  history = async (document) => (await this.ask("history", document))[0];
+
+  // ---- Which documents there are, at a hub that runs their servers
+
+  /** Makes a document. Refused with 105, `there-already`, where there is one of this name, with 103
+   *  where this client may not, and with 2 by a server and by a hub that has one.
+   *  @param {string} document */
+  create = async (document) => void (await this.ask("create", document));
+
+  /** The names of all documents that this client may read, in byte order. Refused with 103 where it
+   *  may not ask that, and with 2 by a server and by a hub that has one.
+   *  @returns {Promise<string[]>} */
+  async list() {
+    /** @type {string[]} */
+    const names = [];
+    for (let page; page === undefined || page.length === MOST.listed; ) {
+      [page] = await this.ask("list", names[names.length - 1] ?? "");
+      names.push(...page);
+    }
+    return names;
+  }
+
   /** @param {string} line */
   #push(line) {
     const [word, ...rest] = parsedReply(line) ?? [];
     if (word === "reopened") this.#run(this.reopened, rest[0]);
     const [document, first, second] = rest;
+    if (word === "renewed") this.#run(this.renewed, document, first);
     if (word === "changed" && Array.isArray(first)) this.#pushFront(document, first);
     if (word === "logged" && Array.isArray(second)) this.#pushOperations(document, first, second);
     if (word !== "heard") return;
@@ -627,9 +693,12 @@ const isEmpty = (value) => checkValue(value) === 1 && Object.keys(value).length 
  *  @param {Cursor} cursor */
 const depthOf = (cursor) => cursor.length - 1;
 
-/** @param {number | Options | undefined} options */
+const PING_SECONDS = 10;
+
+/** @param {number | Options | undefined} options
+ *  @returns {Options & { seconds: number, connectSeconds: number, most: number }} */
 const settings = (options) => ({
-  seconds: 60, connectSeconds: 10, ping: 15, most: MOST.reply, signal: undefined,
+  seconds: 60, connectSeconds: 10, most: MOST.reply, signal: undefined,
   ...(typeof options === "number" ? { seconds: options } : options),
 });
 
@@ -642,7 +711,7 @@ const settings = (options) => ({
  *  @param {number | Options} [options]
  *  @returns {Promise<Client>} */
 export async function connected(address, options) {
-  const { seconds, most, ...until } = settings(options);
+  const { most, ...until } = settings(options);
   const { connect } = await import("node:net");
   const alive = { noDelay: true, keepAlive: true, keepAliveInitialDelay: 30_000 };
   const socket = connect({ ...addressParts(address), ...alive });
@@ -654,7 +723,7 @@ export async function connected(address, options) {
     }
     socket.write(`${line}\n`);
   };
-  const client = new Client(send, () => socket.destroySoon(), { seconds });
+  const client = new Client(send, () => socket.destroySoon(), until);
   const decoder = new TextDecoder("utf-8", { ignoreBOM: true });
   const lines = new LineCutter((line) => client.receive(decoder.decode(line)), most);
   socket.on("data", (/** @type {Uint8Array} */ bytes) => {
@@ -672,29 +741,26 @@ export async function connected(address, options) {
 }
 
 /** Connects to the hub over WebSocket, and resolves once the session has begun: see `connected`. In
- *  Node the second argument is the class of `ws`. Every 15 seconds without a request it asks for
- *  the version, so that a hub that is frozen is noticed.
+ *  Node the second argument is the class of `ws`. Behind 10 seconds without a request it asks
+ *  for the version, so that a hub that is frozen is noticed.
  *  @param {string | URL} url
  *  @param {any} [WebSocket]
  *  @param {Options} [options]
  *  @returns {Promise<Client>} */
 export async function connectedToHub(url, WebSocket = globalThis.WebSocket, options = undefined) {
-  const { seconds, most, ping, ...until } = settings(options);
+  const { most, ...until } = settings(options);
   const socket = new WebSocket(url);
   const open = new Promise((opened) => socket.addEventListener("open", () => opened(undefined)));
   const send = (/** @type {string} */ line) =>
     socket.readyState === 0 ? open.then(() => socket.send(line)) : socket.send(line);
-  const client = new Client(send, () => socket.close(), { seconds });
+  const client = new Client(send, () => socket.close(), until);
   socket.addEventListener("message", (/** @type {{data: any}} */ { data }) => {
     if (typeof data === "string" && data.length <= most) client.receive(data);
     else client.breakOff(`${url}: a message that is no line of at most ${most} bytes`);
   });
   socket.addEventListener("error", () => client.lose(`${url}: no connection`));
   socket.addEventListener("close", () => client.lose(`${url}: the connection has ended`));
-  const timer = setInterval(() => {
-    if (client.waiting() === 0) client.version().catch(() => {});
-  }, ping * 1000);
-  client.closed.then(() => clearInterval(timer));
+  client.ping();
   return begun(client, String(url), until, () => socket.terminate?.());
 }
 

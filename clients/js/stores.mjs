@@ -7,6 +7,10 @@
  * @property {string} name the replica's name, which this program alone uses while it is open
  * @property {string[]} lines the operations as lines, each behind those it depends on
  * @property {string[]} unread what is there and is no line of an operation, as text
+ * @property {boolean} [wasOpen] whether it wasn't closed: its program was killed, or goes on with what
+ *   this is a copy of. Only of a store of which copies can be made
+ * @property {{ before: number, word: string }[]} [sessions] how often it was opened and edited: how many
+ *   lines were there before, and a random word. The last one is of this opening
  */
 
 /**
@@ -24,8 +28,8 @@
  *   Goes on under another name, with these lines in place of `gone` and of its own: all or nothing.
  * @property {() => void | Promise<void>} clear
  *   Deletes everything. It is open no more.
- * @property {() => void | Promise<void>} close
- *   Lets others open it.
+ * @property {(staysOpen?: boolean) => void | Promise<void>} close
+ *   Lets others open it, who find that it `wasOpen` if it is to stay so.
  * @property {(heard: Heard) => void} [follow]
  *   Calls `heard` when another tab stored or cleared something. Only of a store that is shared.
  */

@@ -4,6 +4,7 @@
 import { Away, Refused } from "./errors.mjs";
 import { print } from "./json.mjs";
 import { freshName } from "./names.mjs";
+import { laterGenerations, UnknownGeneration } from "./generations.mjs";
 import { frontPairs } from "./operations.mjs";
 import { DOCUMENT_FULL, NAME_USED_TWICE, REFUSALS, isRefusedBy } from "./protocol.mjs";
 import { Unstored } from "./stores.mjs";
@@ -17,16 +18,15 @@ import { Unstored } from "./stores.mjs";
 /** @typedef {import("./notices.mjs").Notices} Notices */
 /** @typedef {import("./replica.mjs").Replica} Replica */
 /** @typedef {import("./store_writer.mjs").StoreWriter} StoreWriter */
-/** @typedef {import("./stores.mjs").Store} Store */
 /** @typedef {(line: string) => Promise<string>} Answer */
 
 const RETRY_MS = 2000;
 const TELL_MS = 500; // so often, at most, is said what a long exchange has taken
 const NOT_ALLOWED = REFUSALS["not-allowed"];
+const RENEWED = REFUSALS.renewed;
 
 /** @typedef {object} Parts What it works with.
  *  @property {Replica} replica
- *  @property {Store} store
  *  @property {StoreWriter} writer
  *  @property {Notices} notices
  *  @property {Connection} connection
@@ -103,6 +103,7 @@ export class Synchronizer {
     await link.timed(() => client.open(doc));
     this.mayWrite = await mayWrite(link, doc);
     client.reopened = () => this.now(); // another session may be that of a server started again
+    client.renewed = () => this.now();
     const changed = (/** @type {Map<string, number>} */ front) => {
       this.#learn(front);
       if (!this.#hasSame(front)) this.soon();
@@ -210,12 +211,47 @@ export class Synchronizer {
     const answer = this.#answerOf(link);
     if (this.#isDoubtful && this.#pushing === link) this.#parts.replica.follow(answer);
     this.#isDoubtful = false;
-    const { refused } = await this.#parts.replica.sync(answer).finally(() => this.#endTaking());
+    const { refused, isRenewed } = await this.#synced(answer);
+    if (isRenewed) return this.#renew(answer);
     const own = refused.filter((it) => it.own);
     if (own.some(({ number }) => NAME_USED_TWICE.has(number))) return this.#remake(answer);
     if (own.length > 0 && this.#discards.size > 0) return this.#discard(answer);
     for (const resolve of this.#discards) resolve([]);
     this.#noteRefused(own);
+  }
+
+  /** Exchanges, as far as the replica is of the generation that the document is in.
+   *  @param {Answer} answer */
+  async #synced(answer) {
+    try {
+      const { refused } = await this.#parts.replica.sync(answer);
+      return { refused, isRenewed: refused.some(({ number }) => number === RENEWED) };
+    } catch (error) {
+      if (!(error instanceof Refused) || error.number !== RENEWED) throw error;
+      return { refused: [], isRenewed: true };
+    } finally {
+      this.#endTaking();
+    }
+  }
+
+  /** Goes on in the generation that the document is in. What was edited meanwhile goes along.
+   *  @param {Answer} answer */
+  async #renew(answer) {
+    const { replica, word, notices } = this.#parts;
+    const { steps, log } = await laterGenerations(answer, replica).catch((error) => {
+      const isUnknown = error instanceof UnknownGeneration;
+      if (isUnknown) notices.report({ kind: "server", words: error.message, cause: error });
+      throw error;
+    });
+    const { lost } = replica.renew(freshName(word), steps, log);
+    this.#given.clear();
+    this.#isStale = this.#isDoubtful = true;
+    if (lost.length > 0) {
+      const words = `the document was renewed, and ${changes(lost.length)} of before can't be made in it:`
+        + " what they changed isn't there any more, or others changed it meanwhile";
+      notices.report({ kind: "renewed", words, lines: lost });
+    }
+    await this.#parts.writer.flushed();
   }
 
   /** What sends lines over a connection: always the same one.
@@ -345,6 +381,7 @@ export class Synchronizer {
     const { lost } = await this.#goOnAs((replica, name) => replica.discard(name, answer));
     this.#noteRefused([]);
     this.#parts.changed();
+    await this.#parts.writer.flushed();
     for (const resolve of this.#discards) resolve(lost);
   }
 
@@ -355,19 +392,16 @@ export class Synchronizer {
       await this.#goOnAs((replica, name) => replica.remake(name, answer));
     const words = remadeWords(remade, lost, melted);
     this.#parts.notices.report({ kind: "remade", words, lines: lost });
+    await this.#parts.writer.flushed();
   }
 
-  /** Goes on under a new name, here and in the store.
+  /** Goes on under a new name. The provider stores it before anything is edited behind it.
    *  @template T
    *  @param {(replica: Replica, name: string) => Promise<T>} rename
    *  @returns {Promise<T>} */
   async #goOnAs(rename) {
-    const { replica, store, word } = this.#parts;
-    const before = replica.lines().slice(1);
+    const { replica, word } = this.#parts;
     const report = await rename(replica, freshName(word));
-    const [, ...lines] = replica.lines();
-    const after = new Set(lines);
-    await store.rename(replica.name, lines, before.filter((line) => !after.has(line)));
     this.#isStale = this.#isDoubtful = true;
     return report;
   }

@@ -270,7 +270,7 @@ class BoundText {
 
   // ---- What others typed
 
-  /** @param {import("./rules.mjs").Splice[]} splices */
+  /** @param {import("./events.mjs").Splice[]} splices */
   #follow(splices) {
     for (const { index, remove, insert } of splices) {
       if (insert.length > MOST_SINGLY) this.#elements = undefined;

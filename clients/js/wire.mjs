@@ -1,7 +1,7 @@
 /* What all clients share, under one name. It needs neither Node nor a browser. Each part is a
    module of its own: errors, JSON, values, operations, lines, names. */
 
-export { Away, Lost, Refused, errorOf, refusalOf } from "./errors.mjs";
+export { Away, Broken, Lost, Refused, errorOf, refusalOf } from "./errors.mjs";
 export { isArray, isMap, parse, print } from "./json.mjs";
 export { MOST } from "./limits.mjs";
 export { LineCutter, addressParts } from "./lines.mjs";

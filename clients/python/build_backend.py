@@ -1,8 +1,9 @@
 """Builds the wheel of this package with the standard library alone, so that it needs no network and no other package.
 
 `pip install` and `pip wheel` call it (PEP 517). pyproject.toml has all that it says of the package. The same sources
-give the same bytes. On x86-64 Linux the wheel has libjcrdt.so, by which `jcrdt.replica` works, and is for such
-machines alone; elsewhere, and where there is no release, it is for all.
+give the same bytes. On x86-64 and ARM64 Linux the wheel has libjcrdt.so, by which `jcrdt.replica` works, and is for
+such machines alone; elsewhere, and where there is no release, it is for all. A wheel for another platform than this
+one: `pip wheel . --config-settings platform=linux-aarch64`.
 """
 
 import ast
@@ -21,8 +22,8 @@ from typing import Any, Dict, Iterator, List, Optional, Tuple
 HERE = Path(__file__).resolve().parent
 # The earliest time that a zip file can have.
 TIME = (1980, 1, 1, 0, 0, 0)
-# The library, in a checkout and in a source distribution.
-LIBRARIES = (HERE.parent.parent / "release" / "libjcrdt.so", HERE / "jcrdt" / "libjcrdt.so")
+# The library of each platform that has one, in a checkout's release/ and in a source distribution's jcrdt/.
+LIBRARIES = {"linux-x86_64": "libjcrdt.so", "linux-aarch64": "aarch64/libjcrdt.so"}
 # A link to a page of the repository leads nowhere from an installed package: its text stays.
 LINK_TO_PAGE = re.compile(r"\[([^\]]+)\]\((?![a-z]+:)[^)]+\)")
 
@@ -71,9 +72,11 @@ def _sources() -> List[Tuple[str, bytes]]:
     return [(path.relative_to(HERE).as_posix(), path.read_bytes()) for path in paths]
 
 
-def _library() -> List[Tuple[str, bytes]]:
-    """The library as a file of the package, if it is here."""
-    return [(f"{NAME}/{path.name}", path.read_bytes()) for path in LIBRARIES if path.is_file()][:1]
+def _library(platform: str) -> Optional[bytes]:
+    """The library of a platform, if it is here."""
+    path = LIBRARIES.get(platform, "none")
+    places = (HERE.parent.parent / "release" / path, HERE / NAME / path)
+    return next((it.read_bytes() for it in places if it.is_file()), None)
 
 
 def _dist_info(tag: str) -> List[Tuple[str, bytes]]:
@@ -85,8 +88,10 @@ def _dist_info(tag: str) -> List[Tuple[str, bytes]]:
 
 def build_wheel(wheel_directory: str, config_settings: Optional[Dict[str, Any]] = None,
                 metadata_directory: Optional[str] = None) -> str:
-    library = _library() if sysconfig.get_platform() == "linux-x86_64" else []
-    tag = "py3-none-linux_x86_64" if library else EVERYWHERE
+    platform = (config_settings or {}).get("platform", sysconfig.get_platform())
+    found = _library(platform)
+    library = [] if found is None else [(f"{NAME}/libjcrdt.so", found)]
+    tag = f"py3-none-{platform.replace('-', '_')}" if library else EVERYWHERE
     name, files, record = f"{NAME}-{VERSION}-{tag}.whl", _sources() + library + _dist_info(tag), ""
     for path, content in files:
         digest = base64.urlsafe_b64encode(hashlib.sha256(content).digest()).rstrip(b"=").decode()
@@ -104,8 +109,9 @@ def build_wheel(wheel_directory: str, config_settings: Optional[Dict[str, Any]] 
 def build_sdist(sdist_directory: str, config_settings: Optional[Dict[str, Any]] = None) -> str:
     name = f"{NAME}-{VERSION}"
     kept = [(path, (HERE / path).read_bytes()) for path in ("pyproject.toml", "README.md", "build_backend.py")]
+    libraries = [(f"{NAME}/{path}", found) for platform, path in LIBRARIES.items() if (found := _library(platform))]
     with tarfile.open(os.path.join(sdist_directory, f"{name}.tar.gz"), "w:gz") as archive:
-        for path, content in [("PKG-INFO", _metadata().encode()), *kept, *_sources(), *_library()]:
+        for path, content in [("PKG-INFO", _metadata().encode()), *kept, *_sources(), *libraries]:
             entry = tarfile.TarInfo(f"{name}/{path}")
             entry.size, entry.mode = len(content), 0o644
             archive.addfile(entry, io.BytesIO(content))

@@ -12,10 +12,12 @@ from typing import Callable, Iterable, List, Optional, Sequence, Tuple
 
 import pytest
 
-from support import Differs, Reply, Server, operation, wait_until
+from support import Connection, Differs, Reply, Server, operation, wait_until
 from tried import NOTE, NO_FOLDER, NO_PATH, SECONDS, Tried, Words, bytes_of, compact, limited, replies_of, same, talk
 
 NO_COPY = b'["no",26,"copy-refused"]\n'
+FAILED = "the file failed: an I/O error; it is tried again. Until then changes are in memory only, and behind 4096 of a document they wait"
+FAILED_DURABLY = "the file failed: an I/O error; it is tried again. Until then a session with --durable ends at its next change, which is not answered"
 STOPPED = "copying stopped: an I/O error; what is accepted from now on is in memory only: exchange with a peer before you stop"
 ENDING = "copying stopped: an I/O error; a session with --durable ends at its next change, which is not answered"
 
@@ -90,12 +92,12 @@ def test_two_servers_on_one(tried: Tried, path: str) -> None:
 
 
 def test_one_that_is_full_while_it_is_served(tried: Tried, path: str) -> None:
-    """As on a full disk: sessions go on, and the next start has what was copied."""
+    """As on a full disk that stays so: sessions go on, and the next start has what was copied."""
     server = Started(tried, path, 1, 300_000)
     count = 4_000
     replies = server.talk(writes(count))
     same([it[0] for it in replies], ["opened"] + ["applied"] * count)
-    status, totals, told = server.ended(STOPPED)
+    status, totals, told = server.ended(FAILED, STOPPED)
     causes = ["copying stopped while sessions ran", "the file failed while it was closed"]
     found = [it.removeprefix("jcrdt: ").removesuffix(": an I/O error") for it in told.splitlines()]
     same((status, totals[0][:4], found), (1, ["total", "d", count, count], causes[: len(found)]))
@@ -110,14 +112,18 @@ def test_one_that_is_full_while_it_is_served(tried: Tried, path: str) -> None:
 
 
 def test_one_that_is_full_while_it_is_served_durable(tried: Tried, path: str) -> None:
-    """The same with --durable: what is answered is in the file, and the session ends without a reply to what isn't."""
-    server = Started(tried, path, 2, 300_000, "--durable")
+    """The same with --durable: what is answered is in the file, and the session ends without a reply to what isn't. One whose changes were
+    all answered reads on."""
+    server = Started(tried, path, 3, 300_000, "--durable")
     server.begun += 1
-    answered = 0
+    reader = Connection(server.address, ["d"])
+    same(reader.ask("assign", "d", [0, "first"], 1), ["applied", 1, 0, [1, "srv-1"]])
+    server.begun += 1
+    answered = 1
     with socket.create_connection(server.address, timeout=SECONDS) as connection, contextlib.suppress(ConnectionError):
         replies = connection.makefile("rb")
         connection.sendall(b'["open","d"]\n')
-        same(replies.readline(), b'["opened",1]\n')
+        same(replies.readline(), b'["opened",2]\n')
         while True:
             connection.sendall(b'["assign","d",[0,"k"],1]\n' * 10)
             told = [replies.readline() for _ in range(10)]
@@ -126,17 +132,19 @@ def test_one_that_is_full_while_it_is_served_durable(tried: Tried, path: str) ->
             answered += len(whole)
             if len(whole) < 10:
                 break
+    with reader:
+        same(reader.ask("values", "d", [0, "first"]), ["values", [1]])
     # Another one reads what is in memory, and its change is not answered either.
     server.begun += 1
     with socket.create_connection(server.address, timeout=SECONDS) as connection, contextlib.suppress(ConnectionError):
         replies = connection.makefile("rb")
         connection.sendall(b'["open","d"]\n')
-        same(replies.readline(), b'["opened",2]\n')
+        same(replies.readline(), b'["opened",3]\n')
         connection.sendall(b'["values","d",[0,"k"]]\n')
         same(replies.readline(), b'["values",[1]]\n')
         connection.sendall(b'["assign","d",[0,"k"],2]\n')
         same(replies.readline(), b"")
-    status, totals, _ = server.ended(ENDING)
+    status, totals, _ = server.ended(FAILED_DURABLY, ENDING)
     same((status, totals[0][:2]), (1, ["total", "d"]))
     status, out, errors = outcome(tried, ["check", "--file", path])
     document, epoch = replies_of(out)

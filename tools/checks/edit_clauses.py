@@ -1,6 +1,6 @@
 """Each edit applies, and each of crates/*/must-fail names the clause that it breaks. --refused FILE: it was refused there.
 
-Edits are those of crates/*/must-fail, tests/mutations and tests/refused-by-tests. An edit applies if each `old:` is exactly
+Edits are those of crates/*/must-fail, tests/mutations, tests/refused-by-tests and tests/refused-by-program. An edit applies if each `old:` is exactly
 once in its file, after the edit's earlier changes. One outside the crates names a test that its file has. An edit of must-fail has, and others may have, a line `breaks: FUNCTION: CLAUSE`,
 or `breaks: FUNCTION` if that function's only clause has no name. `requires` is what the function asks of its callers. A list at the
 end has the edits of functions that neither `main` nor the embedded replica reaches.
@@ -57,6 +57,12 @@ def lacks_test(top: str, edit: Edit) -> Iterator[str]:
         with open(path, encoding="utf-8") as it:
             if not name or name not in it.read():
                 yield f"{file} has no test {name}"
+
+
+def lacks_command(top: str, edit: Edit) -> Iterator[str]:
+    """What is wrong with the test of the whole program that an edit names."""
+    if len(edit.refusers) != 1 or not os.access(f"{top}/{edit.refusers[0].split()[0]}", os.X_OK):
+        yield f"it has no line test: with a test that is here, but {edit.refusers}"
 
 
 def changed_function(top: str, edit: Edit, functions: List[Function]) -> Optional[Function]:
@@ -142,6 +148,8 @@ def check_all(top: str, every: List[Edit]) -> int:
         faults = edits.applied(top, edit)[1]
         if edit.is_outside:
             faults += lacks_test(top, edit)
+        elif edit.is_of_program:
+            faults += lacks_command(top, edit)
         elif (edit.is_of_gate or edit.breaks) and not faults:
             faults += filter(None, [names_no_clause(edit, functions)])
         for fault in faults:

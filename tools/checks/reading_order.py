@@ -1,32 +1,43 @@
 """Two sections of docs/VERIFICATION.md are those of the sources.
 
-"What is promised": each clause of its tables is a clause of the function beside it, in the linked file, and each definition
-that the clause names is in a listed file. "What must be read": each listed specs file cites only files listed before it, and item 0
-lists the file of each model and ghost member that a promise goes through: those of the types that its function's signature names, of
-their fields' types, and of its bounds. Of a file that is listed as "of `crate/specs/File`: `name`, .." only these definitions and
-those that they name in it are read; "`name` by [`Type::law`](file)" stands for a definition of that file which the law pins down, and
-which so isn't read."""
+"What is promised": each clause of its tables is a clause of the function beside it, in the linked file. "What must be read": its items
+have what the rows need, and nothing else, in an order in which each file cites only what stands before it. What a row needs is found by
+names: the definitions that its clauses name, those that these name, and so on; what the values of the types in the function's signature
+are to a clause (the views of their models, and of their fields' types'), what the ghost members of the traits there are at the program's
+types, and the types that all these name of the code. Item 0 has the source files. Of a file that is listed as "of `crate/specs/File`:
+`name`, .." these definitions and those that they name in it are read, and of "`crate/specs/File` but `name`, .." all others. "`name` by
+[`Type::law`](file)" is a definition that the law pins down, so what it names isn't read.
+
+It prints what the page lacks, with what names it, and what no row needs. The lines that the page says are those that the items have."""
 
 import argparse
 import functools
 import glob
 import os
 import re
-from typing import Dict, Iterable, Iterator, List, Optional, Set, Tuple
+from typing import Dict, Iterable, Iterator, List, NamedTuple, Set, Tuple
 
 import antt
 import crates
+from reading import Definition, Reading, crates_of_program
 
-# A definition, type or file of the sources: its crate and its name.
+# A type or trait of the sources: its crate and its name.
 Name = Tuple[str, str]
-# What is read of a file: these definitions, or nothing for all.
-Known = Dict[Name, Optional[Set[str]]]
-# The definitions that laws pin down, by file.
-Laws = Dict[Name, Set[str]]
 # A linked function: its name and its file.
 Link = Tuple[str, str]
 
-NAMES = r"(?:,? ?(?:and )?`[A-Za-z_]+`(?: by \[`[A-Za-z_:]+`\]\([^)]*\))?)+"
+SOME = r"`[^`\s/]+`(?: by \[`[A-Za-z_:]+`\]\([^)]*\))?"
+NAMES = rf"{SOME}(?:,? (?:and )?{SOME})*"
+
+
+class Entry(NamedTuple):
+    """A specs file of the list: its item, crate and name, and which definitions: all, `of` these, or all `but` these."""
+
+    item: int
+    crate: str
+    part: str
+    sort: str
+    names: Tuple[str, ...]
 
 
 def section(text: str, title: str) -> str:
@@ -35,20 +46,26 @@ def section(text: str, title: str) -> str:
     return found[1] if found else ""
 
 
-def listed(text: str) -> Iterator[Tuple[str, str, Optional[List[str]]]]:
-    """The specs files of the list, in order: crate, name, and the definitions to be read of it, or None for all."""
-    text = re.sub(r"\s+", " ", text)
-    for crate, several, one, names in re.findall(rf"`([a-z_]+)/specs/(?:\{{([A-Za-z, ]+)\}}|([A-Za-z]+))`(?:: ?({NAMES}))?", text):
-        for name in (several or one).split(","):
-            yield crate, name.strip(), re.findall(r"(?<!\[)`([A-Za-z_]+)`(?! by)", names) if names else None
+def items_of(text: str) -> List[Tuple[int, str]]:
+    """The items of the list: their numbers, each with its text."""
+    return [(int(number), said) for number, said in re.findall(r"(?ms)^(\d+)\. (.*?)(?=^\d+\. |\Z)", text)]
 
 
-def pinned(text: str) -> Iterator[Tuple[str, str, str, str, str]]:
-    """The definitions that a law pins down: each with its crate, its file, and the law's name and file."""
+def listed(text: str) -> Iterator[Entry]:
+    """The specs files of the list, in order."""
+    for item, said in items_of(text):
+        said = re.sub(r"\s+", " ", said)
+        for crate, several, one, sort, names in re.findall(rf"`([a-z_]+)/specs/(?:\{{([A-Za-z, ]+)\}}|([A-Za-z]+))`(?:(:| but) ({NAMES}))?", said):
+            for part in (several or one).split(","):
+                yield Entry(item, crate, part.strip(), {":": "of", " but": "but"}.get(sort, "all"), tuple(re.findall(r"(?<!\[)`([^`\s]+)`", names)))
+
+
+def pinned(text: str) -> Iterator[Tuple[Definition, str, str]]:
+    """The definitions that a law pins down: each with the law's name and file."""
     text = re.sub(r"\s+", " ", text)
     for crate, part, names in re.findall(rf"`([a-z_]+)/specs/([A-Za-z]+)`: ?({NAMES})", text):
-        for name, law, file in re.findall(r"`([A-Za-z_]+)` by \[`([A-Za-z_:]+)`\]\((?:\.\./)?([^)]*)\)", names):
-            yield crate, part, name, law.split("::")[-1], file
+        for name, law, file in re.findall(r"`([^`\s]+)` by \[`([A-Za-z_:]+)`\]\((?:\.\./)?([^)]*)\)", names):
+            yield Definition(crate, part, name), law.split("::")[-1], file
 
 
 def table(text: str) -> Iterator[Tuple[List[Link], List[str]]]:
@@ -59,23 +76,12 @@ def table(text: str) -> Iterator[Tuple[List[Link], List[str]]]:
         yield [(name.split("::")[-1], file) for name, file in links], re.findall(r"`([a-z_]+)`", clauses)
 
 
-def models_listed(text: str) -> Set[str]:
+def sources_listed(text: str) -> Set[str]:
     """The source files of item 0."""
     found: Set[str] = set()
     for crate, several, one in re.findall(r"`([a-z_]+)/src/(?:\{([a-z_,\s]+)\}|([a-z_]+))`", text):
         found |= {f"crates/{crate}/src/{name.strip()}.rt" for name in (several or one).split(",")}
     return found
-
-
-def items_of(text: str) -> List[Tuple[int, str]]:
-    """The items of the list: their numbers, each with its text."""
-    return [(int(number), said) for number, said in re.findall(r"(?ms)^(\d+)\. (.*?)(?=^\d+\. |\Z)", text)]
-
-
-def is_read(known: Known, crate: str, part: str, words: List[str]) -> bool:
-    """Whether these definitions of a file are read: the file is listed, and as a whole or with them."""
-    read = known.get((crate, part), set())
-    return read is None or bool(words) and all(it in read for it in words)
 
 
 class Sources:
@@ -106,67 +112,16 @@ class Sources:
     def is_file(self, file: str) -> bool:
         return os.path.isfile(f"{self.top}/{file}")
 
-    def specs(self, crate: str, name: str) -> str:
-        return self.text(f"crates/{crate}/specs/{name}.antt")
-
-    def closure(self, crate: str, name: str, wanted: List[str]) -> Dict[str, str]:
-        """What is read of a file for these definitions: they, and those that they name in it."""
-        all_of, todo = antt.definitions(self.specs(crate, name)), list(wanted)
-        found: Dict[str, str] = {}
-        while todo:
-            one = todo.pop()
-            if one in found or one not in all_of:
-                continue
-            found[one] = all_of[one]
-            words = {*re.findall(r"[A-Za-z_]+", all_of[one])} | ({"◌>>=◌"} if re.search(">>=|←", all_of[one]) else set())
-            todo += sorted(words & {*all_of})
-        return found
-
-    def cited(self, crate: str, name: str, read: Optional[Dict[str, str]] = None) -> Iterator[Tuple[str, str, List[str]]]:
-        """The specs files of the repository that a file's imports name, with the names; types declared in the code are none. Of a file
-        that is read in part only what that part names."""
-        said = "\n".join((read or {}).values())
-        for other, part, names in re.findall(r"(?m)^(?:pub )?use Rattle\.([a-z_]+)\.specs\.([A-Z][A-Za-z]*)\b(?:\.\{([^}]*)\})?", self.specs(crate, name)):
-            words = [it.split(" as ")[0].strip() for it in names.split(",") if it.strip()]
-            if read is not None:
-                words = [it for it in words if re.search(rf"(?<![A-Za-z_]){re.escape(it.strip('◌'))}(?![A-Za-z_])", said)]
-            if os.path.isdir(f"{self.top}/crates/{other}") and (words or read is None):
-                yield other, part, words
-
-    def lines_of(self, crate: str, name: str, read: Optional[Dict[str, str]] = None) -> int:
-        text = self.specs(crate, name) if read is None else "\n".join(read.values())
-        return sum(1 for line in text.splitlines() if line.strip() and not re.match(r"(?:pub )?use ", line))
-
     def functions(self, file: str) -> Dict[str, str]:
         """Each function of a file with its contract, up to the brace of its body."""
         return dict(re.findall(r"(?ms)^[ ]*(?:pub )?fn ([a-z_]+)(.*?)\{\}?$", self.text(file)))
 
-    def imported(self, file: str) -> Dict[str, Name]:
-        """The definitions that a file's contracts may name: each name with the crate and the specs file that it comes from."""
-        found = re.findall(r"ghost use Rattle\.([a-z_]+)\.specs\.([A-Z][A-Za-z]*)(?:\.\{([^}]*)\}| as ([A-Za-z_]+))", self.text(file))
-        return {name.split(" as ")[-1].strip(): (crate, part) for crate, part, names, other in found for name in (names or other).split(",")
-                if os.path.isdir(f"{self.top}/crates/{crate}")}
-
-    def faults_of(self, names: List[Link], clauses: List[str], known: Known) -> Iterator[str]:
-        """What is wrong with a row of the table: what isn't where the row says, and what its clauses name that the list lacks."""
-        contracts = []
-        for name, file in names:
-            contract = self.functions(file).get(name) if self.is_file(file) else None
-            if contract is None:
-                yield f"{file} has no function {name}"
-            else:
-                contracts.append((contract, self.imported(file)))
-        if not names:
-            yield f"no function is linked for the clauses {', '.join(clauses)}"
-        for clause in clauses:
-            found = [(said, names_of) for contract, names_of in contracts
-                     for said in re.findall(rf"(?ms)ensures {clause}\b(.*?)(?=^\s*(?:ensures|requires|//)|\Z)", contract)]
-            if not found:
-                yield f"{', '.join(name for name, _ in names)}: no clause {clause}"
-            for said, names_of in found:
-                for word in sorted({*re.findall(r"[A-Za-z_]+", said)} & {*names_of}):
-                    if not is_read(known, *names_of[word], [word]):
-                        yield f"the clause {clause} names {word} of {'/specs/'.join(names_of[word])}, which isn't in the list"
+    def block_of(self, name: str, file: str) -> str:
+        """What is imported in the block that a function is in."""
+        text = self.text(file)
+        found = re.search(rf"(?m)^[ ]*(?:pub )?fn {name}\b", text)
+        blocks = re.findall(r"(?m)^(?:impl|pub trait)\b[^\n]*\n((?:    ghost use [^;]*;\n|\s*\n)*)", text[: found.start()]) if found else []
+        return str(blocks[-1]) if blocks else ""
 
     def meant(self, crate: str, name: str) -> List[Name]:
         """The types that a name may mean in a crate: its own, or those of the crates that it names."""
@@ -194,47 +149,122 @@ class Sources:
                 todo += [it for word in self.fields[one] for it in self.meant(one[0], word)]
         return {it[1]: self.models[it] for it in seen if it in self.models}
 
-    def laws_of(self, text: str) -> Tuple[Laws, List[str]]:
-        """What the laws of the list pin down, by file, and what is wrong with them."""
-        found: Laws = {}
-        faults = []
-        for crate, part, name, law, file in pinned(text):
-            contract = self.functions(file).get(law, "") if self.is_file(file) else ""
-            if not re.search(rf"\b{name}\b", contract):
-                faults.append(f"{file} has no law {law} of {name}")
-            found.setdefault((crate, part), set()).add(name)
-        return found, faults
 
-    def read_file(self, crate: str, name: str, names: Optional[List[str]], known: Known, laws: Laws) -> Tuple[int, List[str]]:
-        """Reads a listed file, of which these definitions are wanted or all. Returns its lines and its faults."""
-        if not self.is_file(f"crates/{crate}/specs/{name}.antt"):
-            return 0, [f"{crate}/specs/{name} isn't there"]
-        read = None if names is None else self.closure(crate, name, names)
-        faults = [f"{crate}/specs/{name} has no {it}" for it in names or [] if it not in (read or {})]
-        faults += [f"{crate}/specs/{name} cites {other}/specs/{part} ({', '.join(words)}), which doesn't stand before it"
-                   for other, part, words in self.cited(crate, name, read) if not is_read(known, other, part, words)]
-        known[crate, name] = None if read is None else {*read} | laws.get((crate, name), set())
-        return self.lines_of(crate, name, read), faults
+class Rows:
+    """What the rows of the tables need: definitions, in `reading`, and source files, each with why."""
+
+    def __init__(self, top: str, rows: List[Tuple[List[Link], List[str]]], text: str) -> None:
+        self.sources = Sources(top)
+        self.faults: List[str] = []
+        laws = list(pinned(text))
+        self.faults += [f"{file} has no law {law} of {one.name}" for one, law, file in laws
+                        if not self.sources.is_file(file) or not re.search(rf"\b{one.name}\b", self.sources.functions(file).get(law, ""))]
+        self.reading = Reading(top, [one for one, _, _ in laws])
+        self.files: Dict[str, str] = {}
+        for links, clauses in rows:
+            self.read_row(links, clauses)
+        self.read_models(self.sources.models_behind([it for links, _ in rows for it in links]))
+        for one, why in self.reading.declared.items():
+            file = self.reading.file_declaring(one)
+            if file:
+                self.files.setdefault(file, f"{one.part.split('.')[-1]} is declared there: {why}")
+        self.faults += [f"no definition is found of {it}" for it in sorted(self.reading.unknown)]
+
+    def read_row(self, links: List[Link], clauses: List[str]) -> None:
+        """Reads the clauses of a row, and notes which aren't where it says."""
+        contracts = {(name, file): self.sources.functions(file).get(name) if self.sources.is_file(file) else None for name, file in links}
+        self.faults += [f"{file} has no function {name}" for (name, file), contract in contracts.items() if contract is None]
+        if not links:
+            self.faults.append(f"no function is linked for the clauses {', '.join(clauses)}")
+        for clause in clauses:
+            found = [(name, file, said) for (name, file), contract in contracts.items()
+                     for said in re.findall(rf"(?ms)ensures {clause}\b(.*?)(?=^\s*(?:ensures|requires|//)|\Z)", contract or "")]
+            if not found:
+                self.faults.append(f"{', '.join(name for name, _ in links)}: no clause {clause}")
+            for name, file, said in found:
+                self.reading.clause(file, f"the clause {clause} of {name}", said, self.sources.block_of(name, file))
+
+    def read_models(self, models: Dict[str, str]) -> None:
+        """Reads what values are to a clause, and what ghost members are at the program's types."""
+        top = self.sources.top
+        of_program = [os.path.relpath(it, top) for crate in crates_of_program(top)
+                      for it in sorted(glob.glob(f"{top}/crates/{crate}/src/**/*.rt", recursive=True))]
+        for kind, file in sorted(models.items()):
+            self.files.setdefault(file, f"it has the model of {kind}")
+            self.reading.model(kind, file)
+            if re.search(rf"(?m)^pub trait {kind}\b", self.reading.text(file)):
+                self.reading.trait(kind, file)
+                for it in self.reading.implementers(kind, of_program):
+                    self.files.setdefault(it, f"it says what {kind} is at a type of the program")
+
+
+class Listed:
+    """What the items have: definitions by file, and source files."""
+
+    def __init__(self, text: str, rows: Rows) -> None:
+        self.entries = list(listed(text))
+        self.sources = sources_listed(text)
+        self.rows, self.reading = rows, rows.reading
+        self.faults: List[str] = []
+        self.has: Dict[Definition, Entry] = {}
+        for entry in self.entries:
+            for one in self.read_entry(entry):
+                self.has.setdefault(one, entry)
+
+    def read_entry(self, entry: Entry) -> Set[Definition]:
+        """The definitions that are read of a file."""
+        whole = Definition(entry.crate, entry.part, "")
+        if not self.reading.is_there(whole):
+            self.faults.append(f"{entry.crate}/specs/{entry.part} isn't there")
+            return set()
+        all_of = {whole._replace(name=it) for it in self.reading.of_file(entry.crate, entry.part)}
+        named = {whole._replace(name=it) for it in entry.names}
+        self.faults += [f"there is no {it}" for it in sorted(map(str, named - all_of))]
+        if entry.sort == "of":
+            return {it for one in named & all_of for it in self.reading.within(one)}
+        return all_of - named
+
+    def compare(self) -> List[str]:
+        """What the list lacks, what no row needs, and what doesn't stand before what cites it."""
+        needed, place = self.reading.found, {entry: at for at, entry in enumerate(self.entries)}
+        found = [f"the page lacks {one}, which {why} names" for one, why in needed.items() if one not in self.has]
+        found += [f"no row needs {one}" for one in self.has if one not in needed]
+        of_files = {(one.crate, one.part) for one in needed}
+        found += [f"no row needs {entry.crate}/specs/{entry.part}" for entry in self.entries if (entry.crate, entry.part) not in of_files]
+        for one, cites in self.reading.cites.items():
+            late = [it for it in cites if one in self.has and it in self.has and place[self.has[it]] > place[self.has[one]]]
+            found += [f"{one} names {it}, which doesn't stand before it" for it in sorted(late)]
+        files = self.rows.files
+        found += [f"item 0 lacks {file}: {why}" for file, why in sorted(files.items()) if file not in self.sources]
+        return found + [f"item 0 lists {it}, which no row needs" for it in sorted(self.sources - {*files})]
+
+    def lines(self) -> Dict[int, int]:
+        """The lines of each item, with the comments above definitions."""
+        found: Dict[int, int] = {}
+        for one, entry in self.has.items():
+            found[entry.item] = found.get(entry.item, 0) + self.reading.of_file(one.crate, one.part)[one.name].lines
+        return found
+
+
+def faults_of_figures(text: str, lines: Dict[int, int]) -> Iterator[str]:
+    """What is wrong with the lines that the page says: each figure is off by less than a hundred."""
+    are = sum(lines.get(it, 0) for it in range(1, 7)), sum(lines.values())
+    said = re.search(r"Items 1 to 6 have some ([\d,]+) lines, all some ([\d,]+)", re.sub(r"\s+", " ", text))
+    if not said or any(abs(int(told.replace(",", "")) - it) >= 100 for told, it in zip(said.groups(), are)):
+        first, every = (round(it, -2) for it in are)
+        yield f"the page doesn't say: Items 1 to 6 have some {first:,} lines, all some {every:,}"
 
 
 def check(words: argparse.Namespace) -> int:
     page = antt.read(f"{words.top}/docs/VERIFICATION.md")
     text, rows = section(page, "What must be read"), list(table(section(page, "What is promised")))
-    sources = Sources(words.top)
-    laws, faults = sources.laws_of(text)
-    known: Known = {}
-    lines: Dict[int, int] = {}
-    for number, crate, name, names in [(number, *it) for number, said in items_of(text) for it in listed(said)]:
-        count, wrong = sources.read_file(crate, name, names, known, laws)
-        lines[number] = lines.get(number, 0) + count
-        faults += wrong
-    for links, clauses in rows:
-        faults += sources.faults_of(links, clauses, known)
-    shown, needed = models_listed(text), sources.models_behind([it for links, _ in rows for it in links])
-    faults += [f"{file} has the model of {it}, and isn't in item 0" for it, file in sorted(needed.items()) if file not in shown]
-    faults += [f"item 0 lists {it}, which has no model that a promise goes through" for it in sorted(shown - set(needed.values()))]
+    needed = Rows(words.top, rows, text)
+    had = Listed(text, needed)
+    lines = had.lines()
+    faults = [*needed.faults, *had.faults, *had.compare(), *faults_of_figures(text, lines)]
     for fault in faults:
         print(fault)
-    print(f"{len(known)} files, {sum(lines.values())} lines without blank ones and imports; by item: {', '.join(f'{it} {n}' for it, n in lines.items())}")
-    print(f"{len(needed)} models, {len(rows)} promises; {len(faults)} faults")
-    return len(faults) if known and rows else max(1, len(faults))
+    print(f"{len(had.entries)} files, {len(had.has)} definitions, {sum(lines.values())} lines with the comments above; by item: "
+          f"{', '.join(f'{it} {n}' for it, n in lines.items())}")
+    print(f"{len(needed.files)} source files, {len(rows)} promises; {len(faults)} faults")
+    return len(faults) if had.entries and rows else max(1, len(faults))

@@ -24,11 +24,17 @@ export const MODULE = existsSync(packed) ? packed : new URL("../../release/jcrdt
 
 /** @type {typeof import("../../js/wire.mjs")} */
 const wire = await import(placeOf("wire"));
-export const { addressParts, covers, frontPairs, isId, MOST } = wire;
+export const {
+  addressParts, covers, freshName, frontPairs, isId, isName, MOST, parse, pieces, print,
+} = wire;
 
 /** @type {typeof import("../../js/clock.mjs")} */
 const clock = await import(placeOf("clock"));
 export const { CLOCK, pauseBy } = clock;
+
+/** @type {typeof import("../../js/file_lock.mjs")} */
+const lock = await import(placeOf("file_lock"));
+export const { locked } = lock;
 
 /** @type {typeof import("../../js/protocol.mjs")} */
 const protocol = await import(placeOf("protocol"));

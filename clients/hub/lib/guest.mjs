@@ -1,8 +1,8 @@
 /* A client of the hub: its lines, its documents, its variables, and what is pushed to it. */
 
-import { MOST, frontPairs, isId, refusalLine } from "./client_package.mjs";
+import { MOST, frontPairs, isId, isName, refusalLine } from "./client_package.mjs";
 import { NOT_SENT } from "./link.mjs";
-import { asks, mayAsk } from "./requests.mjs";
+import { asks, mayAsk, splitName } from "./requests.mjs";
 
 const MOST_LATE = 1000; // pushes that wait until the client reads
 const MOST_PAGES = 16; // replies to `ops` that one to `page` has
@@ -16,6 +16,7 @@ const BYE = '["bye"]';
 const UNBOUND = "unbound"; // a name that no session has bound
 
 /** @typedef {import("./link.mjs").Link} Link */
+/** @typedef {import("./pool.mjs").Pool} Pool */
 /** @typedef {import("./pool.mjs").Session} Session */
 /** @typedef {{ document: string, name: string, link: Link, bound: string }} Variable */
 /** @typedef {import("./state.mjs").State} State */
@@ -24,9 +25,6 @@ const UNBOUND = "unbound"; // a name that no session has bound
 /** A client of the hub. Its lines are answered one after the other, so that they keep their order
  *  whatever sessions they go to. */
 export class Guest {
-  /** The session that carries it.
-   *  @type {Session} */
-  home;
   /** What others hear it as. */
   name;
   /** For how many seconds it has sent nothing. They are counted, not taken from a clock: none pass
@@ -38,6 +36,9 @@ export class Guest {
   #stream;
   #ending; // of a line: a newline over TCP, nothing over WebSocket
   #rights;
+  /** The sessions that carry it, by the pools that they are of.
+   *  @type {Map<Pool, Session>} */
+  #homes = new Map();
   /** @type {Set<string>} */
   #opened = new Set();
   /** By "DOCUMENT NAME".
@@ -51,6 +52,9 @@ export class Guest {
    *  @type {(() => void) | undefined} */
   #unread;
   #readAgain = () => {};
+  /** Resolves once what was begun is answered.
+   *  @type {Promise<void>} */
+  #said = Promise.resolve();
   /** Whether its connection has ended. */
   isGone = false;
 
@@ -64,8 +68,6 @@ export class Guest {
     this.#ending = ending;
     this.#rights = rights;
     this.name = `${rights.name}-${++hub.guestCount}`;
-    this.home = hub.pool.leastLoaded;
-    this.home.clients.add(this);
     stream.on("drain", () => this.#drained());
     stream.on("error", () => {}); // its close follows
   }
@@ -74,6 +76,10 @@ export class Guest {
   get isListening() {
     return this.#hub.watches.has(this) || this.#hub.presence.has(this);
   }
+
+  /** Whether it has opened a document.
+   *  @param {string} document */
+  hasOpen = (document) => this.#opened.has(document);
 
   /** How many bytes wait until the client reads. */
   get unread() {
@@ -115,14 +121,32 @@ export class Guest {
     this.say(JSON.stringify(["reopened", gone.map(({ document, name }) => [document, name])]));
   }
 
+  /** The session of a pool that carries it: at first the one with the fewest clients.
+   *  @param {Pool} pool */
+  homeAt(pool) {
+    const home = this.#homes.get(pool) ?? pool.leastLoaded;
+    this.#homes.set(pool, home);
+    home.clients.add(this);
+    return home;
+  }
+
   /** Goes on at another session, since the one before has ended.
+   *  @param {Pool} pool
    *  @param {Session} session
    *  @param {Session} [from] */
-  move(session, from = this.home) {
+  move(pool, session, from = this.homeAt(pool)) {
     from.clients.delete(this);
-    if (from === this.home) this.home = session;
-    this.home.clients.add(this);
+    if (from === this.#homes.get(pool)) this.#homes.set(pool, session);
+    this.homeAt(pool);
     this.reopen();
+  }
+
+  /** A pool's sessions have ended. It says which variables are gone, if it had some there.
+   *  @param {Pool} pool */
+  leavePool(pool) {
+    this.#homes.delete(pool);
+    for (const session of pool.sessions) session.clients.delete(this);
+    if ([...this.#variables.values()].some(({ link }) => link.over)) this.reopen();
   }
 
   /** Answers a line, and waits until the client has read. False: the connection is to end.
@@ -133,10 +157,7 @@ export class Guest {
     this.lines++;
     const isLong = Buffer.byteLength(line) > MOST.line;
     const reply = isLong ? TOO_LONG : await this.#reply(line);
-    if (reply) {
-      this.#hub.figures.answered(reply);
-      this.say(reply);
-    }
+    this.#answer(reply);
     if (reply === BYE || reply === TOO_LONG) return false;
     if (this.#stream.writableNeedDrain && !this.isGone) {
       /** @type {Promise<void>} */
@@ -144,6 +165,23 @@ export class Guest {
       await isRead;
     }
     return !this.isGone;
+  }
+
+  /** Answers a line, while others of before wait for their replies. These come in their order.
+   *  @param {string} line
+   *  @returns {Promise<void>} resolves once it is answered */
+  begin(line) {
+    this.silence = 0;
+    this.lines++;
+    this.#said = Promise.all([this.#reply(line), this.#said]).then(([reply]) => this.#answer(reply));
+    return this.#said;
+  }
+
+  /** @param {string | undefined} reply */
+  #answer(reply) {
+    if (!reply) return;
+    this.#hub.figures.answered(reply);
+    this.say(reply);
   }
 
   /** Gives back what the client has. */
@@ -154,7 +192,9 @@ export class Guest {
     this.#readAgain();
     this.#hub.watches.leave(this);
     this.#hub.presence.leave(this);
-    for (const session of this.#hub.pool.sessions) session.clients.delete(this);
+    for (const pool of this.#homes.keys()) {
+      for (const session of pool.sessions) session.clients.delete(this);
+    }
     for (const { document, link, bound } of this.#variables.values()) {
       link.giveName(document, bound);
     }
@@ -183,17 +223,23 @@ export class Guest {
     const line = text.replace(/[\r\n]/g, " ");
     const [word, document] = request;
     if (word === "quit" && request.length === 1) return BYE;
-    if (!mayAsk(this.#rights, word, document)) return refusalLine("not-allowed");
-    if (typeof document !== "string") return this.#withoutDocument(line, request);
+    if (!this.#mayAsk(word, document)) return refusalLine("not-allowed");
+    const isBare = typeof document !== "string" || asks.isBare(word);
+    if (isBare) return this.#withoutDocument(line, request);
     if (asks.ofDocument(word) && !this.#opened.has(document)) return refusalLine("not-open");
+    const refusal = word === "create" ? undefined
+      : await this.#hub.shelf?.refusalOf(request, this.#rights);
+    if (refusal) return refusalLine(refusal);
     if (asks.ofHub(request)) return this.#ofHub(line, request);
-    const isLet = word === "let" && isName(request[2]);
-    const reply = isLet ? await this.#bind(line, request) : await this.#forward(line, request);
+    const reply = await this.#forward(line, request);
     if (reply.startsWith('["opened",')) {
       this.#opened.add(document);
-      this.#hub.documents.add(document);
+      if (!this.#hub.shelf) this.#hub.documents.add(document);
     }
-    if (reply.startsWith('["applied",')) this.#hub.watches.look(document);
+    if (reply.startsWith('["applied",')) {
+      this.#hub.watches.look(document);
+      this.#hub.shelf?.noteApplied(document, reply);
+    }
     return reply;
   }
 
@@ -201,7 +247,40 @@ export class Guest {
   async #withoutDocument(line, request) {
     // Clients ask for the version to see whether the server is there. The hub knows.
     const isVersion = request.length === 1 && request[0] === "version";
-    return (isVersion && this.#hub.pool.version) || this.#forward(line, request);
+    const { places, shelf } = this.#hub;
+    if (isVersion && places.version) return places.version;
+    return shelf ? this.#listed(shelf, request) : this.#forward(line, request);
+  }
+
+  /** Whether it may send a request. What a document was before it was renewed, NAME/GENERATION, is for
+   *  reading alone.
+   *  @param {unknown} word @param {unknown} document */
+  #mayAsk(word, document) {
+    if (!this.#hub.shelf || typeof document !== "string") return mayAsk(this.#rights, word, document);
+    const [name, generation] = splitName(document);
+    return mayAsk(this.#rights, word, name) && !(generation !== undefined && asks.changes(word));
+  }
+
+  /** The names of documents that it may read, some at once.
+   *  @param {import("./shelf.mjs").Shelf} shelf @param {any[]} request */
+  #listed(shelf, [word, after, ...more]) {
+    if (word !== "list" || typeof after !== "string" || more.length > 0) {
+      return refusalLine("bad-request");
+    }
+    if (!this.#rights.mayList) return refusalLine("not-allowed");
+    const names = shelf.names(after).filter(this.#rights.mayRead).slice(0, MOST.listed);
+    return JSON.stringify(["documents", names]);
+  }
+
+  /** Makes a document.
+   *  @param {string} document */
+  async #created(document) {
+    const { shelf } = this.#hub;
+    if (!shelf || !isName(document)) return refusalLine("bad-request");
+    if (!this.#rights.mayCreate(document)) return refusalLine("not-allowed");
+    const isMade = await shelf.create(document);
+    if (isMade === undefined) return SERVER_AWAY;
+    return isMade ? JSON.stringify(["created", document]) : refusalLine("there-already");
   }
 
   /** What the hub answers itself.
@@ -213,7 +292,7 @@ export class Guest {
       case "watch":
         this.#hasAsked = true;
         this.say('["watching"]');
-        return void watches.add(document, this, argument === "ops");
+        return void this.#watch(document, argument === "ops");
       case "unwatch":
         watches.remove(document, this);
         return `["unwatched",${name}]`;
@@ -225,12 +304,41 @@ export class Guest {
         return `["unheard",${name}]`;
       case "say":
         return this.#tell(document, valueOf(line));
+      case "create":
+        return this.#created(document);
+      case "history":
+        return this.#history(document);
+      case "map":
+        return this.#map(document, argument, bytes);
       case "page":
         return Number.isSafeInteger(bytes) && bytes > 0
           ? this.#page(document, argument, bytes) : refusalLine("bad-request");
       default:
         return isId(argument) ? this.#stored(document, argument) : refusalLine("bad-request");
     }
+  }
+
+  /** Has it pushed what changes in a document. A server that doesn't run is started for that.
+   *  @param {string} document @param {boolean} takesOperations */
+  #watch(document, takesOperations) {
+    const { watches, shelf } = this.#hub;
+    watches.add(document, this, takesOperations);
+    shelf?.use(document, async () => (await watches.look(document), ""))
+      .catch((error) => this.#hub.note(error.stack));
+  }
+
+  /** @param {string} document */
+  async #history(document) {
+    const { shelf } = this.#hub;
+    if (!shelf) return refusalLine("bad-request");
+    return JSON.stringify(["generations", await shelf.history(document)]);
+  }
+
+  /** @param {string} document @param {any} generation @param {any} from */
+  async #map(document, generation, from) {
+    const isFormed = typeof generation === "string" && Number.isSafeInteger(from) && from >= 0;
+    const reply = isFormed && await this.#hub.shelf?.map(document, generation, from);
+    return reply || refusalLine("bad-request");
   }
 
   /** Hands a value to the others that hear the document.
@@ -270,21 +378,30 @@ export class Guest {
    *  @param {string} document
    *  @param {import("../../js/wire.mjs").Id} id */
   async #stored(document, id) {
-    const isStored = await this.#hub.storage.isStored(document, id, async () => {
-      const reply = await this.#forward(JSON.stringify(["front", document]), ["front", document]);
-      return reply.startsWith('["front",') ? JSON.parse(reply)[1] : [];
-    });
+    const isStored = await this.#hub.storage.isStored(document, id,
+      (line) => this.#forward(line, JSON.parse(line)));
     return isStored ? JSON.stringify(["stored", document, id]) : refusalLine("not-kept");
   }
 
-  /** Sends a line to the session that has the variable of its cursor, or to the client's own.
+  /** Has a line answered by the server that has its document.
    *  @param {string} line
    *  @param {any[]} request @returns {Promise<string>} */
-  async #forward(line, [word, document, cursor]) {
+  async #forward(line, request) {
+    const { places } = this.#hub;
+    const reply = await places.use(request[1], (pool) => (request[0] === "let" && isVariable(request[2])
+      ? this.#bind(pool, line, request) : this.#sendWhole(pool, line, request)), request);
+    return reply ?? SERVER_AWAY;
+  }
+
+  /** Sends a line to the session that has the variable of its cursor, or to the client's own.
+   *  @param {Pool} pool
+   *  @param {string} line
+   *  @param {any[]} request @returns {Promise<string>} */
+  async #sendWhole(pool, line, [word, document, cursor]) {
     let lost = 0; // sessions that ended before the reply
     for (let tries = 0; tries < TRIES && lost < MOST_LOST && !this.isGone; tries++) {
       const inCursor = asks.withCursor(word);
-      const carrying = await this.#hub.pool.linkOf(this);
+      const carrying = await pool.linkOf(this);
       if (!carrying) return SERVER_AWAY;
       const start = inCursor ? this.#startOf(document, cursor) : {};
       const sent = start.bound ? withStrings(line, { 2: start.bound }) : line;
@@ -298,22 +415,23 @@ export class Guest {
 
   /** `let`: binds a name of the session that has the cursor's variable, or of one that has a free
    *  name, the client's own first. A name that was bound already is bound anew where it is.
+   *  @param {Pool} pool
    *  @param {string} line
    *  @param {any[]} request @returns {Promise<string>} */
-  async #bind(line, [, document, name, cursor]) {
+  async #bind(pool, line, [, document, name, cursor]) {
     this.#hasAsked = true;
     for (let tries = 0; tries < TRIES && !this.isGone; tries++) {
-      const carrying = await this.#hub.pool.linkOf(this);
+      const carrying = await pool.linkOf(this);
       if (!carrying) return SERVER_AWAY;
       const old = this.#variable(document, name);
       const start = this.#startOf(document, cursor);
-      const found = this.#nameFor(document, start, old, carrying);
+      const found = this.#nameFor(pool, document, start, old, carrying);
       if (!found) return refusalLine("variables-full");
       const { link, bound } = found;
       const sent = withStrings(line, { 2: bound, 3: start.bound });
       const reply = await this.#send(link, document, sent);
       const isBound = reply === '["bound"]' && !this.isGone;
-      if (isBound) this.#keep(old, { document, name, link, bound });
+      if (isBound) this.#keep(pool, old, { document, name, link, bound });
       else if (bound !== old?.bound || link !== old.link) link.giveName(document, bound);
       if (typeof reply === "string") return reply;
     }
@@ -321,13 +439,14 @@ export class Guest {
   }
 
   /** A name to bind, and the link that has it.
+   *  @param {Pool} pool
    *  @param {string} document
    *  @param {{ link?: Link }} start
    *  @param {Variable | undefined} old
    *  @param {Link} carrying */
-  #nameFor(document, start, old, carrying) {
+  #nameFor(pool, document, start, old, carrying) {
     const home = start.link ?? old?.link ?? carrying;
-    const others = this.#hub.pool.sessions.flatMap(({ link }) => (link ? [link] : []));
+    const others = pool.sessions.flatMap(({ link }) => (link ? [link] : []));
     for (const link of start.link ? [home] : [home, ...others]) {
       const bound = old?.link === link ? old.bound : link.takeName(document);
       if (bound) return { link, bound };
@@ -335,11 +454,11 @@ export class Guest {
     return undefined;
   }
 
-  /** @param {Variable | undefined} old @param {Variable} variable */
-  #keep(old, variable) {
+  /** @param {Pool} pool @param {Variable | undefined} old @param {Variable} variable */
+  #keep(pool, old, variable) {
     const { document, name, link } = variable;
     if (old && old.link !== link) old.link.giveName(document, old.bound);
-    this.#hub.pool.sessions.find((session) => session.link === link)?.clients.add(this);
+    pool.sessions.find((session) => session.link === link)?.clients.add(this);
     this.#variables.set(`${document} ${name}`, variable);
   }
 
@@ -355,7 +474,7 @@ export class Guest {
    *  @returns {{ link?: Link, bound?: string }} */
   #startOf(document, cursor) {
     const name = Array.isArray(cursor) ? cursor[0] : undefined;
-    if (!isName(name)) return {};
+    if (!isVariable(name)) return {};
     const isGone = this.#variables.get(`${document} ${name}`)?.link.over;
     if (isGone) this.reopen(); // it is told before it is refused
     return this.#variable(document, name) ?? { bound: UNBOUND };
@@ -370,7 +489,8 @@ export class Guest {
 }
 
 /** @param {unknown} value */
-const isName = (value) => typeof value === "string" && Buffer.byteLength(value) <= MOST.variable;
+const isVariable = (value) =>
+  typeof value === "string" && Buffer.byteLength(value) <= MOST.variable;
 
 /** The line with some of its strings replaced, by their place among all of them.
  *  @param {string} line

@@ -11,12 +11,15 @@ export const NOT_SENT = Symbol("not sent");
 /** @typedef {string | typeof UNANSWERED | typeof NOT_SENT} Answer */
 
 const VERSION = '["version"]';
+const TOO_LONG = refusalLine("line-too-long");
 const REPLY_TOO_LONG = refusalLine("reply-too-long");
+const DOCUMENT = /^(\s*\[\s*"(?:[^"\\]|\\.)*"\s*,\s*)"(?:[^"\\]|\\.)*"/;
 const HARD_LINES = 9_900; // so many lines more than at its renewal does a session take
 
 /** @typedef {{ answered: (answer: Answer) => void, sentAt: number, isPing: boolean }} Waiting */
 /** @typedef {{ server: string, replyBytes: number, linesPerSession: number, clock: () => number,
- *    wornOut: () => void }} LinkOptions `wornOut` is called once so many lines were sent */
+ *    wornOut: () => void, inner?: string }} LinkOptions `wornOut` is called once so many lines were
+ *    sent. `inner` is what the server calls its only document */
 
 /** One connection to the server: a session, with its documents and variables. */
 export class Link {
@@ -35,6 +38,7 @@ export class Link {
   #clock;
   #linesPerSession;
   #wornOut;
+  #inner;
   /** @type {Map<number, Waiting>} by the number of the line */
   #waiting = new Map();
   #answered = 0;
@@ -45,8 +49,9 @@ export class Link {
   #free = new Map();
 
   /** @param {LinkOptions} options */
-  constructor({ server, replyBytes, linesPerSession, clock, wornOut }) {
+  constructor({ server, replyBytes, linesPerSession, clock, wornOut, inner }) {
     this.#clock = clock;
+    this.#inner = inner;
     this.#linesPerSession = linesPerSession;
     this.#wornOut = wornOut;
     this.heardAt = clock();
@@ -95,15 +100,27 @@ export class Link {
    *  @returns {Promise<Answer>} */
   ask(line) {
     if (this.over) return Promise.resolve(NOT_SENT);
+    const sent = this.#inner === undefined ? line : withDocument(line, this.#inner);
+    if (sent !== line && Buffer.byteLength(sent) > MOST.line) return Promise.resolve(TOO_LONG);
     /** @type {Promise<Answer>} */
     const answer = new Promise((answered) => {
       const sentAt = this.#clock();
       this.#waiting.set(this.lines++, { answered, sentAt, isPing: line === VERSION });
-      this.#socket.write(`${line}\n`);
+      this.#write(`${sent}\n`);
     });
     if (this.isWorn) this.#wornOut();
     if (this.lines === this.#linesPerSession + HARD_LINES) this.quit();
     return answer;
+  }
+
+  /** What is asked at once goes out at once.
+   *  @param {string} text */
+  #write(text) {
+    if (this.#socket.writableCorked === 0) {
+      this.#socket.cork();
+      queueMicrotask(() => this.#socket.uncork());
+    }
+    this.#socket.write(text);
   }
 
   /** Whether it has sent so many lines that it is to be renewed. */
@@ -171,3 +188,8 @@ export class Link {
     this.#waiting.clear();
   }
 }
+
+/** The line with another name of its document, which is its second string.
+ *  @param {string} line @param {string} name */
+const withDocument = (line, name) =>
+  line.replace(DOCUMENT, (_, before) => `${before}${JSON.stringify(name)}`);

@@ -16,8 +16,10 @@ const UNSERVED = "no reply for a minute"; // why a connection is ended, which is
 const AWAY = 10_000; // as many clients more has a session that isn't connected, when one is chosen
 
 /** @typedef {import("./guest.mjs").Guest} Guest */
-/** @typedef {{ server: string, sessions: number, replyBytes: number, linesPerSession: number,
- *    note: import("./notes.mjs").Note, clock: import("../../js/clock.mjs").Clock }} PoolOptions */
+/** @typedef {{ server: () => string | undefined, inner?: string, sessions: number, replyBytes: number, linesPerSession: number,
+ *    note: import("./notes.mjs").Note, connected: import("./notes.mjs").Note,
+ *    clock: import("../../js/clock.mjs").Clock }} PoolOptions `server` says where it is, once it is
+ *    there, and `connected` gets the notes that all is well. */
 
 /** A place for a link, and the clients that it carries, or that have a variable there. */
 export class Session {
@@ -106,23 +108,42 @@ export class Pool {
    *  @returns {Promise<Link | undefined>} */
   async linkOf(guest) {
     while (!guest.isGone) {
-      if (guest.home.link) return guest.home.link;
+      const { link } = guest.homeAt(this);
+      if (link) return link;
       this.#lookIfAway();
-      if (!this.#isAway) guest.move(this.leastLoaded);
-      else {
-        const left = this.#awaySince + AWAY_MS - this.#options.clock.now();
-        if (left <= 0 || this.#stopped) return undefined;
-        await Promise.race([this.#next.promise, pauseBy(this.#options.clock, left)]);
-      }
+      if (!this.#isAway) guest.move(this, this.leastLoaded);
+      else if (!(await this.#mayCome())) return undefined;
     }
     return undefined;
   }
 
+  /** The link that watches, or any other, for what the hub asks itself. `undefined` where there is
+   *  none for some seconds.
+   *  @returns {Promise<Link | undefined>} */
+  async linked() {
+    while (!this.watching) {
+      this.#lookIfAway();
+      if (!(await this.#mayCome())) return undefined;
+    }
+    return this.watching;
+  }
+
+  /** Waits for a link. False: there was none for so long that nobody is to wait. */
+  async #mayCome() {
+    const left = this.#awaySince + AWAY_MS - this.#options.clock.now();
+    if (left <= 0 || this.#stopped) return false;
+    await Promise.race([this.#next.promise, pauseBy(this.#options.clock, left)]);
+    return true;
+  }
+
+  /** Ends the sessions behind what was asked. Clients that it carries find another pool. */
   stop() {
     this.#stopped = true;
     this.#stopTicks();
     this.#pending?.destroy("the hub ends");
     for (const link of this.links) link.quit();
+    const guests = new Set(this.sessions.flatMap(({ clients }) => [...clients]));
+    for (const guest of guests) guest.leavePool(this);
     this.#next.give();
     this.#fewer.give();
   }
@@ -151,7 +172,7 @@ export class Pool {
   #explained(cause) {
     const isFull = this.links.length > 0 && cause.includes("ECONNREFUSED");
     const why = isFull ? "it has no session left" : "trying again";
-    return `${this.#options.server}: ${cause}: ${why}`;
+    return `${this.#options.server() ?? "the server"}: ${cause}: ${why}`;
   }
 
   /** The first session without a link, or the one whose link is worn out most. */
@@ -162,9 +183,11 @@ export class Pool {
   }
 
   async #connected() {
-    const { server, replyBytes, linesPerSession } = this.#options;
+    const { replyBytes, linesPerSession, inner } = this.#options;
+    const server = this.#options.server();
+    if (server === undefined) return "it isn't there yet";
     this.#pending = new Link({
-      server, replyBytes, linesPerSession,
+      server, replyBytes, linesPerSession, ...(inner !== undefined && { inner }),
       clock: () => this.#ticks, wornOut: () => this.#fewer.give(),
     });
     this.#pendingSince = this.#ticks;
@@ -185,7 +208,8 @@ export class Pool {
     const [got, wanted] = [this.links.length, this.sessions.length];
     if (got === wanted) this.trouble = "";
     if (got === 1 || got === wanted) {
-      this.#options.note(`connected with ${this.#options.server}: ${got} of ${wanted} sessions`);
+      const { server, connected } = this.#options;
+      connected(`connected with ${server()}: ${got} of ${wanted} sessions`);
     }
     this.#next.give();
     // One that was renewed, or is back, has none of the variables that its clients had.
@@ -224,7 +248,7 @@ export class Pool {
       const { link, clients, endedAt } = session;
       const isAlone = !link && clients.size > 0 && this.#ticks - endedAt >= ALONE_TICKS;
       if (isAlone && this.links.length > 0) {
-        for (const guest of [...clients]) guest.move(this.leastLoaded, session);
+        for (const guest of [...clients]) guest.move(this, this.leastLoaded, session);
       }
     }
   }
@@ -249,7 +273,7 @@ export class Pool {
     if (!pending || pending.heardAt > this.#pendingSince) return;
     if (ticks === UNSERVED_TICKS) {
       const why = this.links.length > 0 ? "has no session left" : "has no session left, or hangs";
-      this.#notes(`${this.#options.server} accepts and doesn't reply: it ${why}`);
+      this.#notes(`${this.#options.server()} accepts and doesn't reply: it ${why}`);
     }
     if (ticks >= MOST_UNSERVED_TICKS) pending.destroy(UNSERVED);
   }

@@ -9,15 +9,20 @@ const MOST_NAME = 32;
 export class Rights {
   #read;
   #write;
+  #create;
+  /** Whether it may ask which documents there are. */
+  mayList;
   /** What others hear it as, without the number that follows. */
   name;
   /** Whether it may do everything. */
   isFull;
 
   /** @param {Admission} admission */
-  constructor({ read = false, write = false, name = "guest" }) {
+  constructor({ read = false, write = false, create = write, list, name = "guest" }) {
     this.#read = read;
     this.#write = write;
+    this.#create = create;
+    this.mayList = list ?? (read === true || write === true);
     this.isFull = write === true;
     this.name = String(name).replace(NAME, "_").slice(0, MOST_NAME) || "guest";
   }
@@ -27,8 +32,13 @@ export class Rights {
   mayRead = (document) => includes(this.#read, document) || this.mayWrite(document);
   /** @param {string} document */
   mayWrite = (document) => includes(this.#write, document);
+  /** Whether the document is made when it opens it.
+   *  @param {string} document */
+  mayCreate = (document) => includes(this.#create, document);
 }
 
-/** @param {boolean | string[]} documents @param {string} document */
-const includes = (documents, document) =>
-  Array.isArray(documents) ? documents.includes(document) : documents === true;
+/** @param {import("../index.js").Documents} documents @param {string} document */
+function includes(documents, document) {
+  if (typeof documents === "function") return documents(document) === true;
+  return Array.isArray(documents) ? documents.includes(document) : documents === true;
+}

@@ -1,6 +1,6 @@
 /* What both ways in have: who is admitted, and how a connection's lines are answered. */
 
-import { addressParts, pauseBy } from "./client_package.mjs";
+import { addressParts, MOST, pauseBy } from "./client_package.mjs";
 import { messageOf } from "./notes.mjs";
 import { Rights } from "./rights.mjs";
 
@@ -10,6 +10,7 @@ import { Rights } from "./rights.mjs";
 
 export const MOST_CLIENTS = 2000; // of each way in
 const END_MS = 5_000; // so long a client may take to end its side of the connection
+const MOST_BEGUN = 64; // deliveries of a client that wait for their replies together
 const ADMIT_MS = 10_000; // so long `admit` may take
 
 /** What a client may do; `undefined` if it isn't admitted.
@@ -28,7 +29,8 @@ export async function admitted({ admit, note, clock }, request) {
   }
 }
 
-/** Answers what a client sends. Nothing more is read meanwhile, so its lines can't pile up.
+/** Answers what a client sends. Nothing more is read meanwhile, so its lines can't pile up. Where each
+ *  change waits for the file, some deliveries wait together.
  *  @param {State} hub
  *  @param {Guest} guest
  *  @param {import("node:stream").Duplex} stream
@@ -36,6 +38,12 @@ export async function admitted({ admit, note, clock }, request) {
 export function serve(hub, guest, stream, lines) {
   let turn = Promise.resolve(); // resolves when what has come is answered
   let isEnding = false;
+  /** @type {Promise<void>[]} deliveries that were begun; each resolves once it is answered */
+  const begun = [];
+  const fail = (/** @type {unknown} */ error) => {
+    hub.note(/** @type {Error} */ (error).stack ?? messageOf(error));
+    stream.destroy();
+  };
   const end = () => {
     isEnding = true;
     stream.removeAllListeners("data").resume().end();
@@ -44,14 +52,19 @@ export function serve(hub, guest, stream, lines) {
   /** @param {Iterable<string>} some */
   const answer = async (some) => {
     if (isEnding) return;
-    for (const line of some) if (!(await guest.serve(line))) return end();
+    for (const line of some) {
+      if (hub.shelf && isShortDelivery(line) && !stream.writableNeedDrain) {
+        begun.push(guest.begin(line).catch(fail));
+        if (begun.length === MOST_BEGUN) await begun.shift();
+        continue;
+      }
+      await Promise.all(begun.splice(0));
+      if (!(await guest.serve(line))) return end();
+    }
   };
   /** @param {() => Promise<void>} work */
   const inTurn = (work) => {
-    turn = turn.then(work).catch((error) => {
-      hub.note(error.stack);
-      stream.destroy();
-    });
+    turn = turn.then(work).catch(fail);
   };
   stream.on("data", (piece) => {
     stream.pause();
@@ -62,9 +75,14 @@ export function serve(hub, guest, stream, lines) {
   });
   stream.on("end", () => inTurn(async () => {
     await answer(lines.rest());
+    await Promise.all(begun.splice(0));
     end();
   }));
 }
+
+/** @param {string} line */
+const isShortDelivery = (line) =>
+  line.startsWith('["deliver",') && Buffer.byteLength(line) <= MOST.line;
 
 /** Drops who has never sent anything, or nothing for long. Is called each second.
  *  @param {State} hub */

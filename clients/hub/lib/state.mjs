@@ -2,8 +2,24 @@
 
 /** @typedef {import("../../js/clock.mjs").Clock} Clock */
 /** @typedef {import("./guest.mjs").Guest} Guest */
+/** @typedef {import("./pool.mjs").Pool} Pool */
+/** @typedef {import("./link.mjs").Link} Link */
+
+/** @typedef {object} Places Where the documents are: at one server, or each at one of its own.
+ *  @property {Pool[]} pools Those that are there now.
+ *  @property {string | undefined} version The reply to `["version"]`, while there is a server.
+ *  @property {Omit<import("../index.js").Health, "clients">} health
+ *  @property {(document: string, work: (pool: Pool) => Promise<string>, request?: any[]) =>
+ *    Promise<string | undefined>} use Has a document's sessions asked. `undefined` where there are
+ *    none.
+ *  @property {(document: string) => Link | undefined} watching The link that looks at a document, or
+ *    any other of it; none where no server of it runs.
+ *  @property {() => Promise<void>} stop */
+
 /** @typedef {{
- *    pool: import("./pool.mjs").Pool,
+ *    places: Places,
+ *    shelf?: import("./shelf.mjs").Shelf,
+ *    desk?: import("./desk.mjs").Desk,
  *    watches: import("./watches.mjs").Watches,
  *    presence: import("./presence.mjs").Presence,
  *    storage: import("./storage.mjs").Storage,

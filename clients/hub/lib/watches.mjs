@@ -19,17 +19,17 @@ import { MOST, frontPairs } from "./client_package.mjs";
  *  @property {boolean} isStale */
 
 export class Watches {
-  #pool;
+  #places;
   #stop;
   /** @type {Map<string, Watch>} */
   #watched = new Map();
 
   /** Looks at each document after so many milliseconds, for what others changed at the server.
-   *  @param {import("./pool.mjs").Pool} pool
+   *  @param {Pick<import("./state.mjs").Places, "watching">} places
    *  @param {number} every
    *  @param {import("../../js/clock.mjs").Clock} clock */
-  constructor(pool, every, clock) {
-    this.#pool = pool;
+  constructor(places, every, clock) {
+    this.#places = places;
     this.#stop = clock.every(every, () => {
       for (const document of this.#watched.keys()) this.look(document);
     });
@@ -65,6 +65,21 @@ export class Watches {
     for (const document of [...this.#watched.keys()]) this.remove(document, guest);
   }
 
+  /** A document goes on in another generation.
+   *  @param {string} document @param {string} generation */
+  renewed(document, generation) {
+    const line = JSON.stringify(["renewed", document, generation]);
+    const guests = this.#watched.get(document)?.guests.keys() ?? [];
+    for (const guest of guests) guest.push(`renewed ${document}`, line);
+    this.look(document);
+  }
+
+  /** Nobody watches a document any more: it goes, or gets another name.
+   *  @param {string} document */
+  forget(document) {
+    this.#watched.delete(document);
+  }
+
   /** Asks for what is new in a document, and pushes it. However many changes come while it asks, it
    *  asks once more.
    *  @param {string} document */
@@ -87,7 +102,7 @@ export class Watches {
 
   /** @param {string} document @param {Watch} watch */
   async #update(document, watch) {
-    const link = this.#pool.watching;
+    const link = this.#places.watching(document);
     if (!link) return;
     link.open(document);
     if (watch.link === link && [...watch.guests.values()].some((it) => it.takesOperations)) {

@@ -136,12 +136,27 @@ async function answer(hub, request, response) {
     const text = await hub.figures.metrics(hub);
     return void response.writeHead(200, { "Content-Type": "text/plain; version=0.0.4" }).end(text);
   }
+  if (path.endsWith("/documents") && hub.shelf) return answerDocuments(hub, request, response);
   if (path === "/" || path.endsWith("/web")) {
     return void response.writeHead(302, { Location: `web/${queryOf(request.url ?? "")}` }).end();
   }
   const file = await fileAt(path);
   if (!file) return void response.writeHead(404).end("not here\n");
   response.writeHead(200, { ...HEADERS, "Content-Type": file.type }).end(file.bytes);
+}
+
+/** Answers which documents there are, to who may list them.
+ *  @param {State} hub
+ *  @param {http.IncomingMessage} request @param {http.ServerResponse} response */
+async function answerDocuments(hub, request, response) {
+  const { url = "/", headers, socket } = request;
+  const rights = await admitted(hub, { way: "web", address: `${socket.remoteAddress}`, url, headers });
+  if (!rights?.mayList) return void response.writeHead(403).end("not allowed\n");
+  const documents = (await hub.desk?.list() ?? []).filter(({ name }) => rights.mayRead(name));
+  const limits = { operations: MOST.log, replicas: MOST.replicas };
+  const text = JSON.stringify({ health: hub.figures.health(hub), limits, documents });
+  const type = { "Content-Type": "application/json", "Cache-Control": "no-store" };
+  response.writeHead(200, type).end(`${text}\n`);
 }
 
 /** A file of the page or of the package jcrdt, and nothing else.

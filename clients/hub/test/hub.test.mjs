@@ -4,7 +4,7 @@ import { deepEqual, equal, ok, rejects } from "node:assert/strict";
 import http from "node:http";
 import net from "node:net";
 import { before, test } from "node:test";
-import { Away, Replica, freshName } from "../../js/index.mjs";
+import { Away, freshName, openReplica } from "../../js/index.mjs";
 import { hasServer, joinLines, joinWeb, kill, pause, startHub, startServer, suite, until, within } from "./support.mjs";
 
 const DOCUMENTS = ["d", "e"];
@@ -139,7 +139,7 @@ suite("the hub", { concurrency: false }, () => {
     await first.put("e", LINE, [..."Dear , yours, "]);
     /** A replica with its caret behind what the line begins with. */
     const place = async (client, beginning) => {
-      const replica = new Replica(freshName("typist"), "e");
+      const replica = await openReplica(freshName("typist"), "e");
       await client.open("e");
       let turn = Promise.resolve();
       const sync = () => (turn = turn.then(() => replica.sync((line) => client.answer(line))));

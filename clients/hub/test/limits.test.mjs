@@ -7,6 +7,7 @@ import { test } from "node:test";
 import {
   atEnd, hubWithin, joinLines, pause, Raw, startHub, startServer, suite, until, webSockets, within,
 } from "./support.mjs";
+import { TestClock } from "../../js/test/clock.mjs";
 
 /** A connection that sends some bytes, with how long it lives. */
 function held(address, text = "") {
@@ -17,6 +18,16 @@ function held(address, text = "") {
   if (text) socket.write(text);
   const closed = new Promise((resolve) => socket.on("close", resolve));
   return { socket, closed };
+}
+
+/** Lets seconds pass by a clock. In each of them what is on its way may come.
+ *  @param {TestClock} clock
+ *  @param {number} count */
+async function secondsOf(clock, count) {
+  for (let second = 0; second < count; second++) {
+    clock.pass(1000);
+    await pause(20);
+  }
 }
 
 /** How many files and connections a process has open. */
@@ -108,8 +119,9 @@ suite("limits", { concurrency: false }, () => {
 
   test("a client that is held up, or whose requests wait, isn't dropped before its time", async () => {
     const server = await startServer(["d"]);
-    const [hub, hasty] = await Promise.all([
-      startHub(server.address, "--patience", "100"), startHub(server.address, "--patience", "3")]);
+    const [slow, quick] = [new TestClock(), new TestClock()];
+    const [hub, hasty] = await Promise.all([[slow, 100], [quick, 3]].map(([clock, patience]) =>
+      hubWithin({ server: server.address, web: "127.0.0.1:0", patience, clock, note() {} })));
     const opened = async ({ page }) => {
       const web = new (webSockets().WebSocket)(`${page.replace("http", "ws")}lines`);
       atEnd(() => web.terminate());
@@ -125,11 +137,11 @@ suite("limits", { concurrency: false }, () => {
     gone._socket.pause();
     process.kill(server.child.pid, "SIGSTOP");
     for (let at = 0; at < 40; at++) asking.send('["open","d"]'); // more than the hub reads ahead
-    await pause(7000);
+    await secondsOf(quick, 7);
     process.kill(server.child.pid, "SIGCONT");
     await until("all is answered", () => asking.replies === 41 || asking.readyState !== 1);
     equal(asking.replies, 41);
-    await pause(15_000);
+    await secondsOf(slow, 22);
     held._socket.resume();
     held.send('["version"]');
     await until("it is answered", () => held.replies === 2 || held.readyState !== 1);
@@ -157,15 +169,17 @@ suite("limits", { concurrency: false }, () => {
 
   test("2,001 idle clients: the one that was idle for longest makes room", async () => {
     const server = await startServer(["d"]);
-    const hub = await startHub(server.address, "--patience", "20");
+    const clock = new TestClock();
+    const hub = await hubWithin({
+      server: server.address, lines: "127.0.0.1:0", patience: 20, clock, note() {},
+    });
     const idle = [];
     for (let batch = 0; batch < 40; batch++) {
-      // No more at once: one that isn't heard for 20 s at first is dropped, as on a busy machine.
       const some = Array.from({ length: 50 }, () => held(hub.lines, '["version"]\n'));
       await until("each is answered", () => some.every(({ socket }) => socket.bytesRead > 0));
       idle.push(...some);
     }
-    await pause(22_000);
+    await secondsOf(clock, 22);
     const ada = await within("another client is served", joinLines(hub.lines, "d"));
     equal(await ada.add("d", [0, "n"], 1).then((id) => id[0]), 1);
     equal(idle.filter(({ socket }) => socket.destroyed).length, 1);
@@ -178,7 +192,7 @@ suite("limits", { concurrency: false }, () => {
     const hub = await startHub(server.address);
     const half = Array.from({ length: 300 }, () => held(hub.page, "GET /web/ HTTP/1.1\r\n"));
     half.push(held(hub.page)); // nothing at all
-    await pause(500);
+    await until("it has them", () => openFiles(hub.child) > half.length);
     equal((await fetch(`${hub.page}web/`)).status, 200);
     await within("all are closed", Promise.all(half.map(({ closed }) => closed)));
   });

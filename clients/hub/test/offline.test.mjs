@@ -1,15 +1,11 @@
 /* The page without a network, in headless Chromium: it opens again, has what was typed, and meets the
-   others later; and the engine that keeps its documents, in a page and in a worker. */
+   others later. */
 
-import { deepEqual, equal, match, ok } from "node:assert/strict";
-import { createReadStream } from "node:fs";
-import http from "node:http";
+import { deepEqual, equal, ok } from "node:assert/strict";
 import node from "node:test";
 import { Browser, missing, until } from "../../js/test/chromium.mjs";
 import { end, startHub, startServer } from "../../js/test/serving.mjs";
 import { connected } from "../../js/session.mjs";
-import { Replica } from "../../js/replica.mjs";
-import { MODULE } from "../lib/client_package.mjs";
 
 const ONLINE = `["ada", "bob"].every((side) =>
   document.getElementById(side)?.dataset.state === "online")`;
@@ -29,7 +25,6 @@ test("the network is taken away: typed, reloaded, found; two tabs; then all meet
     const profile = await browser.profile();
     const tab = await browser.tab(hub.page, { profile });
     await tab.until(ONLINE);
-    match((await tab.textOf("#engine"))[0], /jcrdt\.wasm, the proved replica$/);
     await tab.until(COPIED);
     await tab.type("#ada .text", "one ");
     await until("bob has it", async () => (await textOf(tab, "bob")) === "one ");
@@ -87,63 +82,5 @@ test("a hub that doesn't answer: the page opens from its copies", async () => {
     deepEqual(tab.faults, []);
   } finally {
     await browser.close();
-  }
-});
-
-/* What a page and a worker do: they type with the module, and give their lines. */
-const PROGRAM = `
-  import { Replica } from "/js/replica.mjs";
-  import { load } from "/js/jcrdt.mjs";
-  export async function typed(name) {
-    let why = "";
-    const engine = await load({ module: "/jcrdt.wasm", say: (words) => (why = words) });
-    const me = new Replica(name, "notes", { engine });
-    me.put([0], { title: "Plan", steps: ["ask", "build", { at: "Oslo" }], sum: 2n ** 62n });
-    me.splice([0, "steps"], 1, 1, "né😀");
-    me.undo();
-    me.add([0, "votes"], 3);
-    return { why, lines: me.lines() };
-  }`;
-const WORKER = `import { typed } from "/program.mjs"; typed("worker-1").then(postMessage);`;
-const PAGE = `<!doctype html><script type="module">
-  import { typed } from "/program.mjs";
-  window.page = await typed("page-1");
-  new Worker("/worker.mjs", { type: "module" }).onmessage = ({ data }) => (window.worker = data);
-</script>`;
-
-/** Serves the clients' modules, and what is above. */
-async function files() {
-  const texts = { "/": ["text/html", PAGE], "/program.mjs": ["text/javascript", PROGRAM], "/worker.mjs": ["text/javascript", WORKER] };
-  const server = http.createServer(({ url }, response) => {
-    const [type, text] = texts[url] ?? [url === "/jcrdt.wasm" ? "application/wasm" : "text/javascript"];
-    response.writeHead(200, { "Content-Type": type });
-    if (text) return response.end(text);
-    const place = url === "/jcrdt.wasm" ? MODULE : new URL(`../..${url}`, import.meta.url);
-    createReadStream(place).on("error", () => response.end()).pipe(response);
-  });
-  await new Promise((listens) => server.listen(0, "127.0.0.1", listens));
-  return server;
-}
-
-test("the module in a page and in a worker does what rules.mjs does", async () => {
-  const server = await files();
-  const browser = await Browser.open();
-  try {
-    const tab = await browser.tab(`http://127.0.0.1:${server.address().port}/`);
-    await tab.until("window.worker !== undefined");
-    for (const [place, name] of [["page", "page-1"], ["worker", "worker-1"]]) {
-      const { why, lines } = await tab.evaluate(`window.${place}`);
-      equal(why, "");
-      const due = new Replica(name, "notes");
-      due.put([0], { title: "Plan", steps: ["ask", "build", { at: "Oslo" }], sum: 2n ** 62n });
-      due.splice([0, "steps"], 1, 1, "né😀");
-      due.undo();
-      due.add([0, "votes"], 3);
-      deepEqual(lines, due.lines());
-    }
-    deepEqual(tab.faults, []);
-  } finally {
-    await browser.close();
-    server.close();
   }
 });

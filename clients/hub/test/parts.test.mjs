@@ -47,25 +47,45 @@ class File {
 test("what the server has is stored only once it is in the file", LIMIT, async () => {
   const file = new File();
   const storage = new Storage(false, new TestClock(), file);
-  const asked = storage.isStored("d", [5, "a"], async () => [["a", 9]]);
+  const asked = storage.isStored("d", [5, "a"], async () => '["front",[["a",9]]]');
   file.set("d", [["a", 4], ["b", 9]]);
   equal(await isSettled(asked), false);
   file.set("e", [["a", 5]]);
   equal(await isSettled(asked), false);
   file.set("d", [["a", 5]]);
   equal(await asked, true);
-  equal(await storage.isStored("d", [10, "a"], async () => [["a", 9]]), false); // nobody has it
+  equal(await storage.isStored("d", [10, "a"], async () => '["front",[["a",9]]]'), false); // nobody has it
 });
 
 test("what isn't in the file after half a minute isn't stored", LIMIT, async () => {
   const [clock, file] = [new TestClock(), new File()];
   file.next = (ms) => new Promise((resume) => void clock.after(ms, resume));
-  const asked = new Storage(false, clock, file).isStored("d", [5, "a"], async () => [["a", 9]]);
+  const asked = new Storage(false, clock, file).isStored("d", [5, "a"], async () => '["front",[["a",9]]]');
   await clock.until((waiting) => waiting.length > 0);
   clock.pass(29_999);
   equal(await isSettled(asked), false);
   clock.pass(1);
   equal(await asked, false);
+});
+
+test("the server is asked until its file has the operation, or for half a minute", LIMIT, async () => {
+  const clock = new TestClock();
+  let isCopied = false;
+  const ask = async (line) => (line.startsWith('["copied"') ? `["copied",${isCopied}]` : '["front",[["a",9]]]');
+  const storage = new Storage(false, clock);
+  equal(await storage.isStored("d", [10, "a"], ask), false); // nobody has it
+  const [first, second] = [0, 0].map(() => storage.isStored("d", [5, "a"], ask));
+  await clock.until((waiting) => waiting.length > 1);
+  equal(await isSettled(first), false);
+  isCopied = true;
+  clock.pass(5);
+  deepEqual(await Promise.all([first, second]), [true, true]);
+});
+
+test("a server that doesn't know of copied ones isn't believed without --durable", LIMIT, async () => {
+  const ask = async (line) => (line.startsWith('["copied"') ? '["no",2,"bad-request"]' : '["front",[["a",9]]]');
+  equal(await new Storage(false, new TestClock()).isStored("d", [5, "a"], ask), false);
+  equal(await new Storage(true, new TestClock()).isStored("d", [5, "a"], ask), true);
 });
 
 test("where the reader of the file ends, what it said counts no more", LIMIT, async () => {
@@ -91,7 +111,7 @@ test("where the reader of the file ends, what it said counts no more", LIMIT, as
 test("what changes while the hub asks is asked for once more", LIMIT, async () => {
   const asked = [];
   const link = { open() {}, ask: () => new Promise((answer) => asked.push(answer)) };
-  const watches = new Watches({ watching: link }, 200, new TestClock());
+  const watches = new Watches({ watching: () => link }, 200, new TestClock());
   const pushed = [];
   watches.add("d", { push: (_, line) => pushed.push(line) }, false);
   equal(asked.length, 1);
@@ -164,8 +184,9 @@ function guestAt(link) {
   const session = { clients: new Set(), link };
   const left = [];
   const part = (name) => ({ leave: (guest) => left.push([name, guest]), look() {}, has: () => false });
+  const pool = { leastLoaded: session, sessions: [session], linkOf: async () => session.link };
   const hub = {
-    pool: { leastLoaded: session, sessions: [session], version: '["version",2]', linkOf: async () => session.link },
+    places: { version: '["version",2]', use: (_, work) => work(pool) },
     watches: part("watches"), presence: part("presence"), unread: { add() {}, delete() {} },
     figures: { answered() {} }, documents: new Set(), guestCount: 0, patience: 30_000, clock: new TestClock(),
   };

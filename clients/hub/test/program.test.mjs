@@ -177,10 +177,10 @@ suite("the program and the package", {}, () => {
     equal(ran.exitCode, 0, ran.notes); // nothing keeps it alive
   });
 
-  test("the unit", { skip: lacks("systemd-analyze") }, async () => {
-    const text = readFileSync(join(PACKAGE, "jcrdt-hub.service"), "utf8");
-    const unit = join(ROOM, "jcrdt-hub.service");
-    const here = text.replaceAll("/usr/bin/node", process.execPath)
+  for (const name of ["jcrdt-hub", "jcrdt-hub-data"]) test(`the unit ${name}`, { skip: lacks("systemd-analyze") }, async () => {
+    const text = readFileSync(join(PACKAGE, `${name}.service`), "utf8");
+    const unit = join(ROOM, `${name}.service`);
+    const here = text.replaceAll("/usr/bin/node", process.execPath).replace("/var/lib/jcrdt-hub", join(ROOM, "of-unit"))
       .replaceAll("/usr/local/lib/jcrdt-hub/node_modules/jcrdt-hub/hub.mjs", HUB);
     writeFileSync(unit, here);
     const verified = spawnSync("systemd-analyze", ["verify", unit], { encoding: "utf8" });
@@ -203,7 +203,10 @@ suite("the program and the package", {}, () => {
     const server = await startServer(["d"]);
     const hub = await startHub(server.address, "--origin", origin);
     await startNginx(port, hub.page);
-    const agent = new https.Agent({ rejectUnauthorized: false });
+    // The name is looked up nowhere: a bare machine has no /etc/hosts.
+    const lookup = (_, options, found) => (options.all ? found(null, [{ address: "127.0.0.1", family: 4 }])
+      : found(null, "127.0.0.1", 4));
+    const agent = new https.Agent({ rejectUnauthorized: false, lookup });
     const get = (path) => new Promise((resolve, failed) => {
       https.get(`${origin}${path}`, { agent }, async (response) => {
         let text = "";
@@ -218,7 +221,7 @@ suite("the program and the package", {}, () => {
     for (const path of ["/metrics", "/notes/metrics"]) equal((await get(path))[0], 403, path);
     for (const path of ["lines", "notes/lines"]) {
       const page = `${origin.replace("https", "wss")}/`;
-      const client = await joinWeb(page, { origin, rejectUnauthorized: false }, path);
+      const client = await joinWeb(page, { origin, rejectUnauthorized: false, lookup }, path);
       await client.open("d");
       let fronts = 0;
       await client.watch("d", () => fronts++);
@@ -227,7 +230,7 @@ suite("the program and the package", {}, () => {
       client.end();
     }
     const { WebSocket } = webSockets();
-    const evil = new WebSocket(`wss://localhost:${port}/lines`, { origin: "https://evil.example", rejectUnauthorized: false });
+    const evil = new WebSocket(`wss://localhost:${port}/lines`, { origin: "https://evil.example", rejectUnauthorized: false, lookup });
     match(await new Promise((resolve) => evil.on("error", (error) => resolve(error.message))), /403/);
   });
 });

@@ -20,14 +20,17 @@ const rows = (file) => {
 };
 
 suite("stored", { concurrency: true }, () => {
-  test("a hub that can't know says so", async () => {
+  test("a hub without the file asks the server: what is answered survives a kill at once", async () => {
     const server = await startServer(["d"]);
     const hub = await startHub(server.address);
     const client = new Raw(hub.lines);
     equal(await client.ask(["stored", "d", [1, "srv-1"]]), '["no",5,"not-open"]');
     await client.ask(["open", "d"]);
-    await client.ask(["assign", "d", [0, "k"], 1]);
-    equal(await client.ask(["stored", "d", [1, "srv-1"]]), NOT_KEPT);
+    for (let at = 0; at < 300; at++) client.send(["assign", "d", [0, "k"], at]);
+    for (let at = 0; at < 300; at++) await client.next();
+    equal(await client.ask(["stored", "d", [300, "srv-1"]]), '["stored","d",[300,"srv-1"]]');
+    await kill(server.child);
+    equal(rows(server.file), 300);
     client.end();
   });
 

@@ -80,9 +80,11 @@ export async function start(command, words, lineCount, options) {
 let files = 0;
 /** Starts a server, and resolves with its process, address and file. */
 export async function startServer(
-  documents = ["d"], { address = "127.0.0.1:0", file = `${++files}.db`, sessions = 200, more = [], env = {} } = {},
+  documents = ["d"], {
+    address = "127.0.0.1:0", file = `${++files}.db`, sessions = 200, admission = ["--sessions", `${sessions}`], more = [], env = {},
+  } = {},
 ) {
-  const words = ["serve", "--addr", address, "--sessions", `${sessions}`, "--file", file, ...more, ...documents];
+  const words = ["serve", "--addr", address, ...admission, "--file", file, ...more, ...documents];
   const { child, lines } = await atPort(() => start(PROGRAM, words, 1, { env: { ...process.env, ...env } }));
   return { child, address: lines[0][1], file: resolve(ROOM, file) };
 }

@@ -5,7 +5,7 @@ import { caretMarks } from "../js/caret_marks.mjs";
 import { looksOf } from "../js/carets.mjs";
 import { Provider } from "../js/provider.mjs";
 import { bindText } from "../js/text_field.mjs";
-import { engine, keepCopies } from "./engine.mjs";
+import { keepCopies } from "./copies.mjs";
 import { element, find, findField, save, wordsOf } from "./parts.mjs";
 
 const documentName = new URLSearchParams(location.search).get("doc") ?? "page";
@@ -15,16 +15,13 @@ const NAME = "jcrdt pad name"; // of this browser, for all pads
 
 /** Opens the pad, and says from then on how it is. */
 async function opened() {
-  const { open, words } = await engine();
   const pad = await Provider.open({
-    engine: open,
     document: documentName,
     at: new URL("../lines", location.href.replace(/^http/, "ws")).href,
     store: browserStore(`${documentName} pad`),
     orMemory: true,
     word: "pad",
   });
-  text.title = words;
   pad.listen(({ what }) => (what === "presence" ? showOthers(pad) : show(pad)));
   sayName(pad);
   addEventListener("beforeunload", (leaving) => {

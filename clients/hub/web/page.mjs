@@ -6,11 +6,10 @@ import { Provider } from "../js/provider.mjs";
 import { parse } from "../js/wire.mjs";
 import { Panel } from "./panel.mjs";
 import { ask, describe, element, find, nameSide, save, showFront } from "./parts.mjs";
-import { engine, keepCopies } from "./engine.mjs";
+import { keepCopies } from "./copies.mjs";
 
 const DOCUMENT = new URLSearchParams(location.search).get("doc") ?? "page";
 const SIDES = ["ada", "bob"];
-const ENGINE = await engine();
 const MOST_SHOWN = 40; // operations that travelled
 
 /** Where the hub takes lines, seen from this page: also behind TLS, and below a path. */
@@ -66,7 +65,6 @@ function providerOf(side) {
     at: LINES,
     word: side,
     isOnline: false,
-    engine: ENGINE.open,
     onReply: (/** @type {string} */ line, /** @type {string} */ reply) =>
       showExchange(side, line, reply),
     store: browserStore(`${DOCUMENT} ${side}`),
@@ -105,7 +103,6 @@ async function begin() {
       + " Change ?doc= in the address of this page.");
     return;
   }
-  find(document, "#engine").textContent = `The rules of both: ${ENGINE.words}`;
   /** @type {Provider[]} */
   const providers = [];
   for (const side of SIDES) {

@@ -44,6 +44,17 @@ export class TestClock {
     });
   }
 
+  /** As where the program was held up for so many milliseconds: what is due is called once, late.
+   *  @param {number} ms */
+  holdUp(ms) {
+    this.#now += ms;
+    for (const timer of this.#inOrder.filter(({ at }) => at <= this.#now)) {
+      if (timer.isRepeated) timer.at = this.#now + timer.ms;
+      else this.#timers.delete(timer);
+      timer.work();
+    }
+  }
+
   /** Lets so many milliseconds pass. What is due then is called, in its order.
    *  @param {number} ms */
   pass(ms) {

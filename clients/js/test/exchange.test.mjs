@@ -2,8 +2,9 @@
 
 import { deepEqual, equal, ok, rejects, throws } from "node:assert/strict";
 import { test } from "node:test";
-import { Replica, connected, freshName, parse, plain, print } from "../index.mjs";
+import { Away, Replica, connected, freshName, parse, plain, print } from "../index.mjs";
 import { engines } from "./engines.mjs";
+import { dice } from "./random.mjs";
 import { startServer } from "./support.mjs";
 
 const LIMIT = { timeout: 900_000 };
@@ -230,6 +231,185 @@ for (const [title, engine] of engines) {
     }
   });
 
+  /** Exchanges as a provider does: where another has the name, it goes on under a new one.
+   *  @param {Replica} replica
+   *  @param {(line: string) => Promise<string>} answer */
+  async function exchanged(replica, answer) {
+    for (let count = 0; count < 20; count++) {
+      const { refused } = await replica.sync(answer);
+      if (refused.length === 0) return;
+      ok(refused.some(({ own, number }) => own && [14, 15, 16].includes(number)), print(refused));
+      await replica.remake(freshName("again"), answer);
+    }
+    throw new Error("exchanged without end");
+  }
+
+  /** @param {Replica} it
+   *  @param {...string} texts */
+  const append = (it, ...texts) => it.splice([0, "list"], it.items([0, "list"]).length, 0, texts);
+  /** @param {Replica} it */
+  const listed = (it) => it.items([0, "list"]).map(([, [text]]) => String(text)).sort();
+  /** @param {Replica} it */
+  const opened = (it) => Replica.restore(it.lines(), { engine });
+
+  test(`${title}: copies of a store that hold the same unsent edits make them again once`, LIMIT, async () => {
+    const ways = ["first", "second", "both"];
+    for (const [way, [more, others]] of ways.flatMap((it) => [[0, 0], [1, 3], [5, 0]].map((n) => /** @type {const} */ ([it, n])))) {
+      const server = fakeServer();
+      const base = replicaOf("me");
+      base.put([0, "list"], ["base"]);
+      await base.sync(server.answer);
+      const third = opened(base);
+      base.add([0, "votes"], 1);
+      append(base, "same 1", "same 2");
+      const [one, two] = [opened(base), opened(base)];
+      const texts = ["base", "same 1", "same 2", "third"];
+      append(third, "third");
+      third.add([0, "votes"], 1);
+      for (const [it, word, count] of /** @type {const} */ ([[one, "one", more], [two, "two", others]])) {
+        for (let at = 0; at < count; at++) {
+          append(it, `${word} ${at}`);
+          texts.push(`${word} ${at}`);
+          it.add([0, "votes"], 1);
+        }
+      }
+      await third.sync(server.answer);
+      // Closed and opened again: so all that they did is what their stores have.
+      const [left, right] = way === "both" ? [opened(one), opened(two)] : [one, two];
+      const turns = way === "second" ? [right, left] : [left, right];
+      if (way === "both") await Promise.all(turns.map((it) => exchanged(it, server.answer)));
+      else for (const it of turns) await exchanged(it, server.answer);
+      for (const it of [left, right, third]) {
+        await exchanged(it, server.answer);
+        deepEqual(listed(it), texts.sort(), `${way} ${more} ${others}`);
+        equal(it.sum([0, "votes"]), 2 + more + others);
+        equal(print(it.show([0])), print(server.replica.show([0])));
+        deepEqual(listed(opened(it)), texts);
+      }
+    }
+  });
+
+  test(`${title}: what two copies put into a new element each stays apart`, LIMIT, async () => {
+    const server = fakeServer();
+    const base = replicaOf("me");
+    base.put([0, "list"], ["base"]);
+    await base.sync(server.answer);
+    const [one, two] = [opened(base), opened(base)];
+    const card = (/** @type {Replica} */ it, /** @type {string} */ title) =>
+      it.splice([0, "list"], it.items([0, "list"]).length, 0, [{ title, done: false }]);
+    card(one, "one");
+    card(two, "two");
+    await one.sync(server.answer);
+    const again = opened(two); // closed before it was online
+    await exchanged(again, server.answer);
+    const titles = plain(again.show([0, "list"])).map((/** @type {any} */ it) => it.title);
+    deepEqual(titles.sort(), ["one", "two", undefined]);
+    await exchanged(one, server.answer);
+    equal(print(one.show([0])), print(again.show([0])));
+  });
+
+  test(`${title}: random copies of a store, opened and exchanged at once: each edit is there once`, LIMIT, async () => {
+    for (let seed = 1; seed <= 40; seed++) {
+      const { next } = dice(seed);
+      const below = (/** @type {number} */ limit) => Math.floor(next() * limit);
+      const server = fakeServer();
+      const first = replicaOf("me");
+      first.put([0, "list"], ["base"]);
+      await first.sync(server.answer);
+      /** A connection that often breaks, before or behind what it was asked for. */
+      const connection = () => {
+        let isBroken = false;
+        return async (/** @type {string} */ line) => {
+          const [before, after] = [next() < 0.03, next() < 0.03];
+          const was = isBroken;
+          isBroken ||= before || after;
+          const reply = was || before ? "" : await server.answer(line);
+          if (isBroken) throw new Away("broken");
+          return reply;
+        };
+      };
+      /** @param {Replica} it */
+      const tried = (it) => exchanged(it, connection()).catch((error) => ok(error instanceof Away, error));
+      const all = [first];
+      const texts = ["base"];
+      for (let step = 0; step < 30; step++) {
+        const at = below(all.length);
+        const edit = () => {
+          texts.push(`${seed} ${step}`);
+          append(all[at], `${seed} ${step}`);
+          all[at].add([0, "votes"], 1);
+        };
+        const turns = [edit, edit, edit, () => (all[at] = opened(all[at])),
+          () => Promise.all(all.filter(() => next() < 0.4).map(tried)),
+          () => {
+            if (all.length > 5) return;
+            all[at] = opened(all[at]); // it was closed while it was copied
+            all.push(opened(all[at]));
+          }];
+        await turns[below(turns.length)]();
+      }
+      await Promise.all(all.map((it) => exchanged(it, server.answer)));
+      for (const it of all) {
+        await exchanged(it, server.answer);
+        deepEqual(listed(it), [...texts].sort(), `seed ${seed}`);
+        equal(it.sum([0, "votes"]), texts.length - 1, `seed ${seed}`);
+        equal(print(it.show([0])), print(server.replica.show([0])));
+      }
+    }
+  });
+
+  test(`${title}: what copies make again is made under a name of one's own where the server takes no more`, LIMIT, async () => {
+    let isFull = false;
+    const server = fakeServer(([word, , op]) =>
+      (word === "deliver" && isFull && op[4][1] === "same 2" ? ["no", 18, "log-full"] : undefined));
+    const base = replicaOf("me");
+    base.put([0, "list"], ["base"]);
+    await base.sync(server.answer);
+    const other = opened(base);
+    append(base, "same 1", "same 2");
+    const me = opened(base);
+    append(other, "other");
+    await other.sync(server.answer);
+    isFull = true;
+    ok((await me.sync(server.answer)).refused.some(({ own }) => own));
+    const { remade, lost } = await me.remake("me-2", server.answer);
+    deepEqual([remade, lost, listed(me)], [2, [], ["base", "other", "same 1", "same 2"]]);
+    deepEqual((await me.sync(server.answer)).refused.map(({ number, own }) => [number, own]), [[18, true]]);
+    isFull = false;
+    await exchanged(me, server.answer);
+    deepEqual(listed(me), ["base", "other", "same 1", "same 2"]);
+    equal(print(me.show([0])), print(server.replica.show([0])));
+  });
+
+  test(`${title}: what is edited while own operations are made again isn't lost`, LIMIT, async () => {
+    const server = fakeServer();
+    const base = replicaOf("me");
+    base.put([0, "list"], ["base"]);
+    await base.sync(server.answer);
+    const [me, other] = [opened(base), opened(base)];
+    append(other, "other");
+    append(me, "mine");
+    await other.sync(server.answer);
+    let count = 0;
+    const answer = (/** @type {string} */ line) => {
+      append(me, `while ${count++}`);
+      const reply = server.answer(line);
+      // In each turn until the reply is used, and behind it.
+      let turn = Promise.resolve();
+      for (let at = 0; at < 20; at++) turn = turn.then(() => void append(me, `while ${count++}`));
+      return reply;
+    };
+    await me.sync(server.answer);
+    const /** @type {string[]} */ gone = [];
+    me.listen((event) => gone.push(...event.gone ?? []));
+    await me.remake("me-2", answer);
+    equal(gone.filter((line) => line.includes('"me"]')).length > 0, true);
+    for (let turn = 0; turn < 30; turn++) await null;
+    await exchanged(me, server.answer);
+    deepEqual(listed(me), ["base", "mine", "other", ...Array.from({ length: count }, (_, at) => `while ${at}`)].sort());
+    equal(print(me.show([0])), print(server.replica.show([0])));
+  });
+
   test(`${title}: a reply that was lost isn't taken for a name used twice`, LIMIT, async () => {
     let isBroken = false;
     const server = fakeServer(([word, , op], replica) => {
@@ -359,8 +539,53 @@ for (const [title, engine] of engines) {
     equal(me.sum([0, "n"]), 5);
     deepEqual(events, [7]);
   });
+
+  // The same is done by `renew again`, in test_late_changes_are_made_again of the Python package.
+  test(`${title}: what was done meanwhile is made again, but for what another has deleted by then`, LIMIT, () => {
+    const old = replicaOf("alice");
+    old.put([0], { list: ["zero", "a", { text: "b" }, "c"], title: "x" });
+    old.delete([0, "list", 1]);
+    const before = old.front();
+    const renewed = new Replica("renewer", "kept", { engine });
+    renewed.put([0], { list: ["a", { text: "b" }, "c"], title: "x" });
+    const now = renewed.items([0, "list"]).map(([id]) => id);
+    const map = old.items([0, "list"]).map(([id], at) => print([id, now[at]]));
+    renewed.delete([0, "list", 3]);
+    old.assign([0, "list", 2, "text"], "b2");
+    const [d] = old.splice([0, "list"], 3, 0, [{ text: "d" }]);
+    old.assign([0, "list", d, "text"], "d2");
+    const a = old.place([0, "list", 1]);
+    old.delete(a);
+    old.insert(a, "behind a");
+    old.add([0, "n"], 5);
+    old.assign([0, "list", 3], "c2");
+    old.delete([0, "title"]);
+    const lines = [...old.operations(before)].map(print);
+    const me = new Replica("ada", "kept", { engine });
+    me.deliverAll(renewed.lines().slice(1));
+    const { remade, lost } = old.remakeIn(me, map, lines);
+    deepEqual([remade, lost.map((line) => parse(line)[4])], [lines.length - 1, [["assign", "c2"]]]);
+    deepEqual(me.plain([0, "list"]), ["behind a", { text: "b2" }, { text: "d2" }]);
+    deepEqual([me.sum([0, "n"]), me.keys([0])], [5, ["list", "n"]]);
+  });
 }
 
+
+test("lines of operations that are taken at once are their own, also where a value looks like one", LIMIT, async () => {
+  const server = fakeServer();
+  const value = '["ops",[["op",[1,"a"],[],[[["m",0]],"k"],["assign",1]],["op",[';
+  for (let at = 0; at < 300; at++) server.replica.assign([0, `k${at % 7}`], at % 3 === 0 ? `${value}${at}` : 2n ** 62n);
+  for (const change of [(/** @type {string} */ it) => it, (/** @type {string} */ it) => it.replaceAll(',["op",[', ', ["op",[')]) {
+    const me = new Replica("me", "d");
+    /** @type {string[]} */
+    const heard = [];
+    me.listen(({ lines }) => heard.push(...lines));
+    await me.sync(async (line) => change(await server.answer(line)));
+    deepEqual(heard.map((it) => print(parse(it))), server.replica.lines().slice(1));
+    deepEqual(me.lines().slice(1), server.replica.lines().slice(1));
+    equal(Replica.restore(me.lines()).count, 300);
+  }
+});
 
 test("of many operations that an empty replica takes, those that don't fit are refused one by one", () => {
   const ada = new Replica("ada", "d");

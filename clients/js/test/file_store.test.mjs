@@ -2,7 +2,10 @@
 
 import { deepEqual, equal, match, ok, rejects, throws } from "node:assert/strict";
 import { spawn, spawnSync } from "node:child_process";
-import { appendFileSync, copyFileSync, existsSync, readFileSync, readdirSync, writeFileSync } from "node:fs";
+import {
+  appendFileSync, copyFileSync, existsSync, lstatSync, readFileSync, readdirSync, renameSync, statSync, symlinkSync,
+  utimesSync, writeFileSync,
+} from "node:fs";
 import { once } from "node:events";
 import node from "node:test";
 import { fileURLToPath } from "node:url";
@@ -15,7 +18,8 @@ const test = (name, work) => node(name, { timeout: 900_000 }, work);
 const part = (name) => fileURLToPath(new URL(`parts/${name}`, import.meta.url));
 const opened = (file, document = "notes") =>
   Provider.open({ document, word: "ada", store: fileStore(file) });
-const linesOf = (file) => readFileSync(file, "utf8").split("\n").slice(0, -1);
+const isOfSession = (line) => line.startsWith('["session",');
+const linesOf = (file) => readFileSync(file, "utf8").split("\n").slice(0, -1).filter((it) => !isOfSession(it));
 
 test("what is edited is in the file at once, and there at the next start", async () => {
   const file = `${room()}/notes`;
@@ -46,7 +50,7 @@ test("a disk that is full for a moment", (t) => {
   match(seen.problems[0], /^1 change isn't stored: ENOSPC/);
   equal(seen.done.length + seen.refused.length, 64);
   ok(seen.isSolved);
-  deepEqual(seen.lines, ["replica", ...seen.done.map(() => "op")]);
+  deepEqual(seen.lines, ["replica", "session", ...seen.done.map(() => "op")]);
   deepEqual([...seen.keys].sort(), [...seen.done].sort());
   equal(seen.unread, 0);
 });
@@ -68,6 +72,61 @@ test("a second program on one file", async () => {
   const again = await opened(file);
   deepEqual(again.replica.values([0, "title"]), ["Plan"]);
   await again.close();
+});
+
+test("a link to a file is that file: one program has it, and the link stays", async () => {
+  const folder = room();
+  const [file, link] = [`${folder}/notes`, `${folder}/link`];
+  symlinkSync("notes", link); // it leads nowhere yet
+  const first = await opened(link);
+  for (const path of [file, link]) await rejects(opened(path), Busy);
+  first.replica.assign([0, "title"], "Plan");
+  await first.close();
+  deepEqual(readdirSync(folder).sort(), ["link", "notes"]);
+  const lines = linesOf(file);
+  writeFileSync(file, `${lines.join("\n")}\n["op",]\n`); // so it is opened under a new name
+  const second = await opened(link);
+  await rejects(opened(file), Busy);
+  second.replica.assign([0, "other"], 1);
+  await second.close();
+  ok(lstatSync(link).isSymbolicLink());
+  deepEqual(linesOf(file).length, 3);
+});
+
+/** Writes the lock of a program that can't be seen from here, last renewed so many seconds ago. */
+function leave(file, seconds, more) {
+  writeFileSync(`${file}.lock`, JSON.stringify({ process: 1, since: "1", number: 0, ...more }));
+  const then = Date.now() / 1000 - seconds;
+  utimesSync(`${file}.lock`, then, then);
+}
+
+test("a lock of a container that was killed is taken over after a minute", async () => {
+  const { hostname } = await import("node:os");
+  for (const holder of [{ host: "c0ffee012345" }, { host: hostname(), space: "pid:[1]" }]) {
+    const file = `${room()}/notes`;
+    leave(file, 50, holder);
+    await rejects(opened(file), Busy);
+    leave(file, 61, holder);
+    await (await opened(file)).close();
+  }
+});
+
+test("the time of a lock is renewed, and who lost it stores nothing more", async () => {
+  const file = `${room()}/notes`;
+  const first = await opened(file);
+  const before = Date.now() - 40_000;
+  utimesSync(`${file}.lock`, before / 1000, before / 1000);
+  await until("it is renewed", () => statSync(`${file}.lock`).mtimeMs > before + 30_000);
+  leave(`${file}.of-another`, 0, { host: "c0ffee012345" });
+  renameSync(`${file}.of-another.lock`, `${file}.lock`); // as behind a minute in which this one stood still
+  await until("it sees that", () => {
+    first.replica.assign([0, "title"], "Plan");
+    return first.problems.has("store");
+  });
+  match(first.problems.get("store").words, /another program has taken this over/);
+  throws(() => first.replica.assign([0, "title"], "Plan B"), Unstored);
+  await rejects(first.close(), Unstored);
+  ok(existsSync(`${file}.lock`)); // it is the other one's
 });
 
 test("a lock whose process was killed is taken over, by one program alone", async () => {
@@ -167,7 +226,7 @@ test("a damaged line: the others are taken, and it is said and kept", async () =
   ok(second.replica.name !== old); // since the old name made operations that aren't here
   second.replica.assign([0, "d"], "d");
   await second.close();
-  deepEqual(readFileSync(`${file}.old`, "utf8"), `${lines.join("\n")}\n`);
+  deepEqual(readFileSync(`${file}.old`, "utf8").replace("\t\n", " \n"), `${lines.join("\n")}\n`);
   const third = await opened(file);
   deepEqual(third.replica.keys([0]), ["a", "d"]);
   equal(third.problems.size, 0);
@@ -210,12 +269,11 @@ test("a program that is killed at any moment loses nothing that it had said", as
       await new Promise((resume) => setTimeout(resume, 1));
     }`;
   let said = -1;
-  for (const ms of [150, 220, 310]) {
+  for (const count of [1, 40, 150]) {
     const child = spawn(process.execPath, ["--input-type=module", "-e", program]);
     let text = "";
     child.stdout.on("data", (piece) => (text += piece));
-    await once(child.stdout, "data");
-    await new Promise((resume) => setTimeout(resume, ms));
+    await until("it has said so much", () => text.split("\n").length > count);
     child.kill("SIGKILL");
     await once(child, "close");
     said = Number(text.trimEnd().split("\n").at(-1));

@@ -22,7 +22,7 @@ async function next(following, count) {
 }
 
 test("each operation comes once, also over a restart and from a front on", async () => {
-  const server = await startServer(["d"]);
+  const server = await startServer(["d"], { more: ["--durable"] }); // what was told survives its kill
   const ada = await writer(server.address);
   for (let at = 0; at < 100; at++) await ada.assign("d", [0, "k"], at);
   const following = followed(server.address, "d", { every: 10 });

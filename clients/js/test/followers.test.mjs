@@ -41,8 +41,8 @@ class Alike {
   do(what, act) {
     const given = this.replicas.map((replica) => refusalOr(() => act(replica)));
     for (const [at, [title]] of engines.entries()) {
-      deepEqual(given[at], given[0], `${what}: ${title} gives what rules.mjs gives`);
-      deepEqual(this.told[at], this.told[0], `${what}: ${title} tells what rules.mjs tells`);
+      deepEqual(given[at], given[0], `${what}: ${title} gives what the first one gives`);
+      deepEqual(this.told[at], this.told[0], `${what}: ${title} tells what the first one tells`);
     }
     for (const it of this.told) it.splice(0);
     return given[0];

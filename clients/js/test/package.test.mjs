@@ -3,7 +3,7 @@
 
 import { deepEqual, equal, match } from "node:assert/strict";
 import { spawnSync } from "node:child_process";
-import { existsSync, mkdirSync, readFileSync, readdirSync, writeFileSync } from "node:fs";
+import { mkdirSync, readFileSync, readdirSync, writeFileSync } from "node:fs";
 import { join } from "node:path";
 import { test } from "node:test";
 import { fileURLToPath } from "node:url";
@@ -62,24 +62,19 @@ test("packed and installed in an empty folder", { skip: lacks("npm"), timeout: 2
     "{ steps: [ 'ask', 'think', 'build' ], title: 'Plan' }",
   ]);
   match(read("README.md"), /It ends with `\{ steps: \[ 'ask', 'think', 'build' \], title: 'Plan' \}`/);
+  const installed = join(room, "node_modules", "jcrdt");
+  deepEqual(readFileSync(join(installed, "jcrdt.wasm")), readFileSync(MODULE), "the engine is the released module");
+  equal(readdirSync(installed).filter((it) => /wasm$|rules/.test(it)).join(), "jcrdt.wasm", "and there is no other");
   const { exports } = JSON.parse(read("package.json"));
   for (const part of Object.keys(exports).filter((it) => it !== "./package.json")) {
     const name = `jcrdt${part.slice(1)}`;
     run("node", ["-e", `import("${name}").then((it) => Object.keys(it).length || process.exit(1))`], room);
   }
-  if (existsSync(MODULE)) {
-    const page = readFileSync(EMBEDDED, "utf8");
-    writeFileSync(join(room, "offline.mjs"), /```js\n([^]*?)```/.exec(page)?.[1] ?? "");
-    const due = /It prints `([^`]*)`/.exec(page)?.[1];
-    const inRoom = /** @type {const} */ ({ cwd: room, encoding: "utf8" });
-    const has = 'import("jcrdt/jcrdt").then((it) => process.exit(it.hasMemory64() ? 0 : 1))';
-    for (const words of [[], process.execArgv.filter((it) => it.includes("memory64"))]) {
-      // Without memories of 64 bits one line says so. The second time it has what the first one stored.
-      const isProved = spawnSync("node", [...words, "-e", has], inRoom).status === 0;
-      const { status, stdout, stderr } = spawnSync("node", [...words, "offline.mjs"], inRoom);
-      const said = stderr.split("\n").filter((it) => it.includes("rules.mjs serves in place of jcrdt.wasm"));
-      deepEqual([status, stdout.trimEnd(), said.length], [0, due, isProved ? 0 : 1], stderr);
-    }
+  const page = readFileSync(EMBEDDED, "utf8");
+  writeFileSync(join(room, "offline.mjs"), /```js\n([^]*?)```/.exec(page)?.[1] ?? "");
+  const due = /It prints `([^`]*)`/.exec(page)?.[1];
+  for (let time = 0; time < 2; time++) { // the second time it has what the first one stored
+    equal(run("node", ["offline.mjs"], room).trimEnd(), due);
   }
   if (lacks("tsc")) return context.diagnostic("tsc isn't installed: the types weren't used");
   writeFileSync(join(room, "use.ts"), USE);
@@ -92,7 +87,7 @@ test("packed and installed in an empty folder", { skip: lacks("npm"), timeout: 2
 
 /** A program that uses each export, and what is an error. */
 const USE = `
-  import { Client, Counter, Refused, Replica, connected, plain, type Id } from "jcrdt";
+  import { Broken, Client, Counter, Refused, Replica, connected, openReplica, plain, type Id } from "jcrdt";
   import { browserStore } from "jcrdt/browser_store";
   import { fileStore } from "jcrdt/file_store";
   import { caretMarks } from "jcrdt/caret_marks";
@@ -100,12 +95,13 @@ const USE = `
   import { load } from "jcrdt/jcrdt";
   import { Provider, type State } from "jcrdt/provider";
   import { Replica as Same } from "jcrdt/replica";
-  import { open } from "jcrdt/rules";
   import { connectedToHub } from "jcrdt/session";
   import { memoryStore, type Store } from "jcrdt/stores";
   import { bindText } from "jcrdt/text_field";
   import { Away, parse } from "jcrdt/wire";
-  const me: Replica = new Same("ada", "d", { engine: open });
+  await load({ module: new Uint8Array() });
+  const me: Replica = new Same("ada", "d");
+  const other: Replica = await openReplica("bob", "d", me.lines().slice(1));
   const id: Id = me.assign([0, "k"], 1);
   const stop: () => void = me.listen(({ lines }) => lines.map((line: string) => line.length));
   const client: Client = await connected("127.0.0.1:1", { seconds: 5 });
@@ -133,6 +129,6 @@ const USE = `
   await Provider.open({ at: "127.0.0.1:1" });
   // @ts-expect-error: there is no such state
   const wrong: "lost" = notes.state.word;
-  console.log(taken, may, state.refused?.count, id, stop, sum, new Counter(1), Refused, Away, plain([]), parse("[]"), load, word, end, front, wrong, others);
+  console.log(taken, may, state.refused?.count, id, stop, sum, new Counter(1), Refused, Broken, Away, other, plain([]), parse("[]"), load, word, end, front, wrong, others);
   export {};
 `;

@@ -1,10 +1,10 @@
 /* A provider before real servers and hubs: kills, freezes, restarts, names used twice. */
 
 import { deepEqual, equal, match, ok, rejects, throws } from "node:assert/strict";
-import { copyFileSync } from "node:fs";
+import { copyFileSync, readFileSync, readdirSync } from "node:fs";
 import { createServer } from "node:net";
 import node from "node:test";
-import { pause, until, webSockets } from "./chromium.mjs";
+import { until, webSockets } from "./chromium.mjs";
 import { TestClock } from "./clock.mjs";
 import { end, room, start, startHub, startServer } from "./serving.mjs";
 import { Provider } from "../provider.mjs";
@@ -28,6 +28,13 @@ async function opened(at, options = {}) {
   const provider = await Provider.open({ document: "d", at, WebSocket, ...options });
   providers.add(provider);
   return provider;
+}
+
+/** Lets a process stand still, and resolves once each of its threads does. */
+async function stop({ pid }) {
+  process.kill(pid, "SIGSTOP");
+  const stands = (thread) => / T /.test(readFileSync(`/proc/${pid}/task/${thread}/stat`, "utf8"));
+  await until("it stands still", () => readdirSync(`/proc/${pid}/task`).every(stands));
 }
 
 const valueOf = ({ replica }, key) => replica.values([0, key])[0];
@@ -94,15 +101,21 @@ test("what is sent was flushed before, once for all that was written", async () 
 
 test("a program that is held up doesn't take that for silence of the server", async () => {
   const server = await startServer(["d"]);
-  const ada = await opened(server.address);
+  const clock = new TestClock();
+  const ada = await opened(server.address, { clock });
   await ada.synced(300);
   const words = [];
   ada.listen(({ what }) => what === "state" && words.push(ada.state.word));
+  await stop(server.child); // so the reply waits, as while a page is laid out
   ada.replica.assign([0, "title"], "Plan");
-  await pause(1); // it was asked for, and the reply waits
-  for (const end = Date.now() + 6000; Date.now() < end; ); // as while a page is laid out
-  await pause(1500);
+  await new Promise(setImmediate); // it was asked for
+  clock.holdUp(6000);
+  await new Promise(setImmediate);
   deepEqual(words, []);
+  clock.pass(3000); // now it is the server's silence
+  deepEqual(words, ["offline"]);
+  process.kill(server.child.pid, "SIGCONT");
+  await ada.synced(300);
   equal(ada.state.word, "online");
 });
 
@@ -110,18 +123,21 @@ test("a server that isn't there yet, and one that is started again", async () =>
   const first = await startServer(["d"]);
   const { address, folder } = first;
   await end(first);
-  const ada = await opened(address);
+  const clock = new TestClock();
+  const ada = await opened(address, { clock });
   await until("offline", () => ada.state.word === "offline");
   match(ada.state.why, /ECONNREFUSED/);
   const { since } = ada.state;
   ok(since <= Date.now());
   ada.replica.assign([0, "title"], "Plan");
-  await rejects(ada.synced(0.5), (error) => error instanceof Away && /ECONNREFUSED/.test(error.message));
-  await pause(1500);
+  for (let count = 0; count < 4; count++) clock.pass(await clock.until(pauseOf)); // further tries
+  const late = rejects(ada.synced(0.5), (error) => error instanceof Away && /ECONNREFUSED/.test(error.message));
+  clock.pass(500);
+  await late;
+  await clock.until(pauseOf);
   equal(ada.state.since, since);
   const second = await startServer(["d"], { address, folder });
-  await online(ada);
-  await ada.synced();
+  await ada.synced(300);
   const bob = await opened(address);
   await bob.synced();
   equal(valueOf(bob, "title"), "Plan");
@@ -129,6 +145,7 @@ test("a server that isn't there yet, and one that is started again", async () =>
   await until("both are offline", () => [ada, bob].every(({ state }) => state.word === "offline"));
   ada.replica.assign([0, "title"], "Plan B");
   await startServer(["d"], { address, folder });
+  await ada.synced(300);
   await until("bob has it", () => valueOf(bob, "title") === "Plan B");
 });
 
@@ -236,17 +253,19 @@ test("a hub that is killed and started again", async () => {
 test("a hub that is frozen", async () => {
   const server = await startServer(["d"]);
   const hub = await startHub(server.address);
-  const [ada, bob] = [await opened(hub.lines), await opened(server.address)];
+  const clock = new TestClock();
+  const [ada, bob] = [await opened(hub.lines, { clock }), await opened(server.address)];
   await Promise.all([online(ada), online(bob)]);
+  const becomes = (word) => until(word, () => (clock.pass(250), ada.state.word === word));
   process.kill(hub.child.pid, "SIGSTOP");
-  await until("it says so", () => ada.state.word === "offline");
+  await becomes("offline");
   equal(ada.state.why, "the server doesn't reply");
   ada.replica.assign([0, "title"], "while it was frozen");
-  await pause(1000);
+  clock.pass(5000);
   equal(ada.state.word, "offline");
   equal(bob.state.word, "online");
   process.kill(hub.child.pid, "SIGCONT");
-  await online(ada);
+  await becomes("online");
   await until("bob has it", () => valueOf(bob, "title") === "while it was frozen");
 });
 
@@ -320,7 +339,7 @@ test("switched off and on, and closed", async () => {
   equal(ada.state.word, "offline");
   equal(ada.state.why, "it is switched off");
   ada.replica.assign([0, "title"], "offline");
-  await pause(700);
+  await bob.synced(300);
   equal(valueOf(bob, "title"), undefined);
   ada.goOnline();
   await until("bob has it", () => valueOf(bob, "title") === "offline");
@@ -328,7 +347,7 @@ test("switched off and on, and closed", async () => {
   ada.listen(({ what }) => told.push(what));
   await ada.close();
   bob.replica.assign([0, "title"], "later");
-  await pause(700);
+  await bob.synced(300);
   equal(valueOf(ada, "title"), "offline");
   equal(ada.state.word, "offline");
 });

@@ -5,6 +5,7 @@ import { getEventListeners } from "node:events";
 import { createServer } from "node:net";
 import node from "node:test";
 import { until, webSockets } from "./chromium.mjs";
+import { TestClock } from "./clock.mjs";
 import { startHub, startServer } from "./serving.mjs";
 import { Provider, Unstored } from "../provider.mjs";
 import { connected } from "../session.mjs";
@@ -131,6 +132,23 @@ test("closed: it refuses edits, can't be switched on, and can be closed again", 
   ]) throws(() => edit(ada.replica), Unstored);
   deepEqual(ada.replica.plain([0]), { title: "Plan" });
   equal(ada.state.word, "offline");
+});
+
+test("a wait for the exchange ends at once where the provider is closed", async () => {
+  const silent = createServer(() => {}).listen(0, "127.0.0.1");
+  await new Promise((resume) => silent.on("listening", resume));
+  for (const end of ["close", "deleteStored"]) {
+    // No time passes by this clock: a wait for time has no end.
+    const ada = await opened(`127.0.0.1:${silent.address().port}`, { clock: new TestClock() });
+    const waits = [ada.synced(300), ada.synced({ seconds: 300, signal: new AbortController().signal })];
+    const ended = Promise.all(waits.map((it) => rejects(it, { name: "Away", message: /is closed/ })));
+    await Promise.all([ada[end](), ended]);
+    await rejects(ada.synced(300), Away);
+  }
+  const off = await opened(undefined, { clock: new TestClock() });
+  const wait = off.synced(300);
+  await Promise.all([off.close(), rejects(wait, Away)]);
+  silent.close();
 });
 
 test("a wait for the exchange ends with its signal", async () => {

@@ -327,7 +327,7 @@ test("the server's disk took changes back: they are given again through the hub"
   deepEqual([texts(eve), eve.replica.count], [["one"], 3]);
 });
 
-test("20 providers type for 10 seconds: each has every key", async () => {
+test("20 providers type 40 keys each, at once: each has every key", async () => {
   const { proxy } = await all();
   const providers = await Promise.all(Array.from({ length: 20 }, () => opened(proxy)));
   providers[0].replica.assign([0, "t"], []);
@@ -335,10 +335,10 @@ test("20 providers type for 10 seconds: each has every key", async () => {
   proxy.clear();
   const typed = [];
   const typing = async (provider, at) => {
-    for (const last = Date.now() + 10_000; Date.now() < last; ) {
+    for (let key = 0; key < 40; key++) {
       typed.push(`${at}-${typed.length}`);
       type(provider, typed.at(-1));
-      await new Promise((resume) => setTimeout(resume, 200 + 100 * Math.random()));
+      await new Promise((resume) => setTimeout(resume, 20 * Math.random()));
     }
   };
   await Promise.all(providers.map(typing));

@@ -2,6 +2,7 @@
    by itself. */
 
 import { Refused, Replica, checkedInteger, checkedScalar, parse, print } from "../index.mjs";
+import { isId } from "../operations.mjs";
 import { dice } from "./random.mjs";
 
 const CHANGES = ["assign", "insert", "add", "delete"];
@@ -51,6 +52,9 @@ export class Session {
     if (word === "front") return print(["front", this.replica.front()]);
     if (word === "held") return print(["waiting", this.replica.held()]);
     if (word === "account") return print(["account", this.account]);
+    // As in `run`, which has no file.
+    if (word === "size") return print([word, this.replica.count, 0, this.replica.front().length]);
+    if (word === "copied") return print([word, false]);
     if (word === "forget") return this.replica.forget(rest[0]) ?? '["forgotten"]';
     if (word === "deliver") return print(this.replica.deliver(rest[0]));
     if (word === "ops") return print(["ops", page(this.replica, ...rest).map(parse)]);
@@ -94,10 +98,11 @@ const isAscending = (front) => front.every(([name], at) => at === 0 || front[at 
 
 /** Whether the items behind a word and a document's name are those of a request. */
 function isRequest(word, items) {
-  const none = ["open", "front", "held", "account"];
-  const one = ["deliver", "forget", "delete", ...READINGS];
+  const none = ["open", "front", "held", "account", "size"];
+  const one = ["deliver", "forget", "copied", "delete", ...READINGS];
   const count = none.includes(word) ? 0 : one.includes(word) ? 1 : 2;
   if (items.length !== count) return false;
+  if (word === "copied") return isId(items[0]);
   if (word === "ops") return items[1] >= 1 && items[1] <= 64;
   if (![...CHANGES, ...READINGS, "let"].includes(word)) return true;
   const cursor = items[word === "let" ? 1 : 0];

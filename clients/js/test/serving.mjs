@@ -67,10 +67,10 @@ export async function end({ child }) {
   await child.ended;
 }
 
-/** Starts a server of these documents at a port of its own, or at an address. */
-export async function startServer(documents, { folder = room(), address = "127.0.0.1:0" } = {}) {
+/** Starts a server of these documents at a port of its own, or at an address, with more options. */
+export async function startServer(documents, { folder = room(), address = "127.0.0.1:0", more = [] } = {}) {
   const file = join(folder, "test.db");
-  const words = ["serve", "--addr", address, "--sessions", "256", "--file", file, ...documents];
+  const words = ["serve", "--addr", address, "--sessions", "256", "--file", file, ...more, ...documents];
   const { child, lines } = await atPort(() => start(PROGRAM, words, 1));
   return { child, address: lines[0][1], folder };
 }

@@ -6,7 +6,7 @@ import { after, test } from "node:test";
 import {
   Away, Client, Conflict, Counter, Lost, Refused, connected, connectedToHub, parse, print, settled,
 } from "../index.mjs";
-import { pause, startServer, until, webSockets } from "./support.mjs";
+import { startServer, until, webSockets } from "./support.mjs";
 
 const LIMIT = { timeout: 900_000 };
 const server = await startServer(["d"]);
@@ -200,9 +200,24 @@ test("watch, unwatch, and callbacks that throw", LIMIT, async () => {
   end();
   await other.assign("d", [0, "k"], 2);
   await until("the others are", () => failed.length >= 6);
-  await pause(100);
+  await other.assign("d", [0, "k"], 3);
+  await until("and again", () => failed.length >= 8);
   equal(heard.length, 2);
   [client, other, stranger].forEach((it) => it.end());
+});
+
+test("who watches keeps its session at a server where others wait, and who is silent gives it back", LIMIT, async () => {
+  const { address } = await startServer(["d"], { more: ["--clients", "2", "--patience", "1"] });
+  const heard = [];
+  const watcher = await connected(address, { ping: 0.2 });
+  joined.add(watcher);
+  await watcher.open("d");
+  await watcher.watch("d", (front) => heard.push(front.size), { every: 3_600_000 });
+  const silent = await join(address);
+  await Promise.all([join(address), join(address)]); // one after the other, in the place of a silent one
+  await silent.closed;
+  equal(await watcher.version(), 2);
+  equal(heard.length, 1);
 });
 
 test("watch tells a front once, also where it is read and pushed, and none after a newer one", LIMIT, async () => {
@@ -218,11 +233,11 @@ test("watch tells a front once, also where it is read and pushed, and none after
   const [first, second] = [[], []];
   await client.watch("d", (front) => first.push([...front]));
   await until("the first is called", () => first.length > 0);
-  await pause(50);
+  await client.version(); // what was pushed came before this reply
   deepEqual(first, [[]]);
   await client.watch("d", (front) => second.push([...front]));
   await until("the second is called", () => second.length > 0);
-  await pause(50);
+  await client.version();
   deepEqual(second, [[["a", 2]]]); // the push was just behind the reply
   deepEqual(first, [[], [["a", 2]]]);
   client.end();

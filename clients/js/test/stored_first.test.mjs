@@ -1,7 +1,7 @@
 /* What is on disk, and when: writes, syncs and sends in their order, and what is left of a write that
    failed. Each test is that of a planted bug in tests/mutations/js. */
 
-import { deepEqual, equal, throws } from "node:assert/strict";
+import { deepEqual, equal, rejects, throws } from "node:assert/strict";
 import fs from "node:fs";
 import { syncBuiltinESMExports } from "node:module";
 import { tmpdir } from "node:os";
@@ -12,6 +12,8 @@ import { fileStore } from "../file_store.mjs";
 import { Notices } from "../notices.mjs";
 import { Provider } from "../provider.mjs";
 import { StoreWriter } from "../store_writer.mjs";
+import { Unstored } from "../stores.mjs";
+import { TestClock } from "./clock.mjs";
 
 const room = fs.mkdtempSync(join(tmpdir(), "jcrdt-stored-"));
 after(() => fs.rmSync(room, { recursive: true }));
@@ -131,6 +133,62 @@ test("a provider that is closed has flushed, before the store is closed", async 
   store.endFlush();
   await closing;
   deepEqual(store.calls, ["append 1", "flush begins", "flush ends", "close"]);
+});
+
+test("a new name that can't be stored goes before what comes behind it, and nothing is edited until then", async () => {
+  const calls = [];
+  let isFull = true;
+  const store = {
+    append: (lines) => void calls.push(["append", ...lines]),
+    flush() {},
+    rename(...named) {
+      if (isFull) throw new Error("no space left");
+      calls.push(["rename", ...named]);
+    },
+  };
+  const clock = new TestClock();
+  const notices = new Notices();
+  const writer = new StoreWriter(store, notices, new Span(clock, new AbortController().signal));
+  writer.add(["one"]);
+  writer.rename("bob", ["two"], ["one"]);
+  writer.add(["three"]); // what a server had logged
+  writer.rename("cy", ["two", "three", "four"], ["two"]);
+  deepEqual(calls, [["append", "one"]]);
+  equal(writer.isDone, false);
+  throws(() => writer.check(), Unstored);
+  await rejects(writer.flushed(), Unstored);
+  equal(notices.problems.get("store").words, "a new name and the log under it aren't stored: "
+    + "no space left. Nothing more can be edited until they are");
+  isFull = false;
+  clock.pass(1000);
+  writer.add(["five"]);
+  deepEqual(calls.slice(1), [["rename", "cy", ["two", "three", "four"], ["one", "two"]], ["append", "five"]]);
+  equal(writer.isDone, true);
+  deepEqual([...notices.problems], []);
+  await writer.flushed();
+});
+
+test("a new name that comes while lines are written goes behind them", async () => {
+  const calls = [];
+  const ends = [];
+  const call = (...words) => {
+    calls.push(words);
+    return new Promise((end) => ends.push(end));
+  };
+  const store = { append: (lines) => call("append", ...lines), flush() {}, rename: (name, lines) => call(name, ...lines) };
+  const writer = new StoreWriter(store, new Notices(), new Span(CLOCK, new AbortController().signal));
+  writer.add(["one"]);
+  writer.add(["two"]);
+  writer.rename("bob", ["one", "two"], []);
+  writer.add(["three"]);
+  const flushed = writer.flushed();
+  for (let turn = 0; turn < 3; turn++) {
+    await settle();
+    ends.shift()();
+  }
+  await flushed;
+  deepEqual(calls, [["append", "one"], ["bob", "one", "two"], ["append", "three"]]);
+  equal(writer.isDone, true);
 });
 
 test("a problem is told once, also where each try fails for the same cause", () => {

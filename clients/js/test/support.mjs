@@ -27,10 +27,12 @@ let files = 0;
 
 /** Starts a server of these documents, and resolves with its process and address.
  *  @param {string[]} documents
- *  @param {{address?: string, file?: string, sessions?: number, name?: string}} [options] */
+ *  @param {{address?: string, file?: string, sessions?: number, name?: string, more?: string[]}} [options]
+ *    `more` stands in place of the number of sessions. */
 export async function startServer(documents, options = {}) {
   const { address = "127.0.0.1:0", file = join(folder, `${files++}.db`), sessions = 200, name = "srv" } = options;
-  const words = ["serve", "--addr", address, "--sessions", String(sessions), "--file", file, "--name", name];
+  const { more = ["--sessions", String(sessions)] } = options;
+  const words = ["serve", "--addr", address, ...more, "--file", file, "--name", name];
   const child = spawn(program, [...words, ...documents], { stdio: ["ignore", "pipe", "pipe"] });
   started.add(child);
   const ended = new Promise((end) => child.on("exit", end));

@@ -54,7 +54,7 @@ for (const [title, engine] of engines) {
 
   test(`${title}: a key in a field of ${MANY} characters`, { timeout: 900_000 }, async (context) => {
     const { pad, field, end } = await bound("x".repeat(MANY));
-    await pause(2000); // until nothing is shown any more
+    await until("all is shown", () => field.value.length === MANY);
     const took = await cpuOf(async () => {
       for (let at = 0; at < KEYS; at++) {
         field.type(at * 1000, "k");

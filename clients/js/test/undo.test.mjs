@@ -70,7 +70,7 @@ function editsOf(replica, { below, pick }) {
 }
 
 /** Makes a history, takes all of it back and makes it again. Each state must come again.
- *  @param {import("../rules.mjs").Open} engine
+ *  @param {import("../jcrdt.mjs").Open} engine
  *  @param {number} seed */
 function history(engine, seed) {
   const random = dice(seed);
@@ -211,7 +211,7 @@ for (const [name, engine] of engines) {
 }
 
 /** Two replicas that meet.
- *  @param {import("../rules.mjs").Open} engine */
+ *  @param {import("../jcrdt.mjs").Open} engine */
 function pair(engine) {
   const [ada, bob] = ["ada", "bob"].map((it) => new Replica(it, "d", { engine }));
   const meet = () => {

@@ -30,3 +30,9 @@ export class Lost extends Error {
 /** The request wasn't carried out: there is no connection, or the hub has no server. */
 export class Away extends Error {
 }
+/** A replica's engine stopped within the call, as by an exhausted stack: `cause` says why. Nothing was
+ *  changed. The next call finds it opened again, from the log. */
+export class Broken extends Error {
+    /** @param {unknown} cause */
+    constructor(cause: unknown);
+}

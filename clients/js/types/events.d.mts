@@ -1,7 +1,8 @@
 /** @typedef {import("./operations.mjs").Cursor} Cursor */
 /** @typedef {import("./operations.mjs").Id} Id */
 /** @typedef {import("./operations.mjs").Operation} Operation */
-/** @typedef {import("./rules.mjs").Splice} Splice */
+/** @typedef {{index: number, remove: number, insert: any[]}} Splice As of Array.splice: to be
+ *    made one after another. */
 /** @typedef {"own" | "undo" | "taken" | "remade"} Why */
 /** @typedef {object} Change Where an operation ended, by ids, and what it was.
  *  @property {Id} id
@@ -11,6 +12,7 @@
 /** @typedef {object} Event
  *  @property {Why} why
  *  @property {string[]} lines The operations, as they are stored. None with "remade".
+ *  @property {string[]} [gone] With "remade": what was in the log, and isn't any more.
  *  @property {Id[]} ids
  *  @property {Change[]} changes */
 /** @typedef {(event: Event) => any} Heard */
@@ -19,7 +21,8 @@
  *  @property {() => Splice[]} take What has changed since it was last called.
  *  @property {(op: Operation) => void} [note] Is called with each operation at, under or above the
  *    watch's place, once the engine has it, before `take`.
- *  @property {() => void} [renew] Anything may have changed before `take`.
+ *  @property {(all: Operation[]) => void} [renew] Anything may have changed before `take`: these are
+ *    all operations.
  *  @property {() => void} end
  *  @property {number} [length] Of the list, if the source knows it. */
 /** @typedef {object} Watch
@@ -40,7 +43,8 @@ export class Events {
      *  @param {number} length
      *  @param {Changed} changed */
     watch(place: import("./operations.mjs").Cursor, source: Source, length: number, changed: Changed): () => void;
-    /** All that is logged within `work` is one event, at its end.
+    /** All that is logged within `work` is one event, at its end. Where the stack is nearly exhausted
+     *  it throws instead: what was begun there could be logged, and not heard.
      *  @template T
      *  @param {() => T} work
      *  @returns {T} */
@@ -48,15 +52,17 @@ export class Events {
     /** Is called with what the engine has logged at once, before `log`.
      *  @param {Operation[]} ops */
     note(ops: import("./operations.mjs").Operation[]): void;
-    /** Is called in place of `note` where all that the engine has is new. */
-    renew(): void;
+    /** Is called in place of `note` where all that the engine has is new.
+     *  @param {Operation[]} all */
+    renew(all: import("./operations.mjs").Operation[]): void;
     /** @param {string} line
      *  @param {Operation} op
      *  @param {Why} why */
     log(line: string, op: import("./operations.mjs").Operation, why: Why): void;
     /** Everything is another: watches go on at the places of now.
+     *  @param {string[]} gone
      *  @param {(place: Cursor) => {place: Cursor, source: Source, values: any[]} | undefined} again */
-    remade(again: (place: import("./operations.mjs").Cursor) => {
+    remade(gone: string[], again: (place: import("./operations.mjs").Cursor) => {
         place: import("./operations.mjs").Cursor;
         source: Source;
         values: any[];
@@ -66,7 +72,15 @@ export class Events {
 export type Cursor = import("./operations.mjs").Cursor;
 export type Id = import("./operations.mjs").Id;
 export type Operation = import("./operations.mjs").Operation;
-export type Splice = import("./rules.mjs").Splice;
+/**
+ * As of Array.splice: to be
+ *   made one after another.
+ */
+export type Splice = {
+    index: number;
+    remove: number;
+    insert: any[];
+};
 export type Why = "own" | "undo" | "taken" | "remade";
 /**
  * Where an operation ended, by ids, and what it was.
@@ -83,6 +97,10 @@ export type Event = {
      * The operations, as they are stored. None with "remade".
      */
     lines: string[];
+    /**
+     * With "remade": what was in the log, and isn't any more.
+     */
+    gone?: string[] | undefined;
     ids: import("./operations.mjs").Id[];
     changes: Change[];
 };
@@ -102,9 +120,10 @@ export type Source = {
      */
     note?: ((op: import("./operations.mjs").Operation) => void) | undefined;
     /**
-     * Anything may have changed before `take`.
+     * Anything may have changed before `take`: these are
+     * all operations.
      */
-    renew?: (() => void) | undefined;
+    renew?: ((all: import("./operations.mjs").Operation[]) => void) | undefined;
     end: () => void;
     /**
      * Of the list, if the source knows it.

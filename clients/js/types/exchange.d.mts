@@ -18,28 +18,30 @@ export class Exchange {
      *  @param {Answer} answer
      *  @param {Operation[]} operations Each has an id, at least. */
     logged(answer: Answer, operations: import("./operations.mjs").Operation[]): boolean;
-    /** The lines to go on with under a new name: the server's, those of others that it lacks, and own
-     *  ones that it lacks, made again, or lost.
+    /** Whether what was restored may be that of a program that goes on, and nobody was told. */
+    get isDoubtful(): boolean;
+    /** Says, where the store wasn't closed, which operations the program that had it may have, too. It
+     *  is to come right behind them, and before any of them is sent. */
+    say(): void;
+    /** What to go on with under a new name: `run` of it gives that at once, and `free` ends it. What
+     *  was restored from a store is made again the same by each copy of the store, and is at the
+     *  server by then.
      *  @param {string} name
      *  @param {Answer} answer
      *  @param {Open} open
-     *  @param {boolean} isRemade Whether own ones that it lacks are made again.
-     *  @returns {Promise<Remade & {lines: string[], ids: Map<string, Id>}>} */
-    remade(name: string, answer: Answer, open: Open, isRemade: boolean): Promise<Remade & {
-        lines: string[];
-        ids: Map<string, import("./operations.mjs").Id>;
-    }>;
+     *  @param {boolean} isRemade Whether own operations that the server lacks are made again.
+     *  @returns {Promise<Remaking>} */
+    remade(name: string, answer: Answer, open: Open, isRemade: boolean): Promise<Remaking>;
     #private;
 }
-export function reading(engine: Engine): Read;
 export type Ask = (word: string, ...items: any[]) => Promise<any>;
 export type Front = import("./operations.mjs").Front;
 export type Id = import("./operations.mjs").Id;
 export type Operation = import("./operations.mjs").Operation;
 export type Path = import("./operations.mjs").Path;
 export type Key = import("./operations.mjs").Key;
-export type Engine = import("./rules.mjs").Engine;
-export type Open = import("./rules.mjs").Open;
+export type Engine = import("./jcrdt.mjs").Engine;
+export type Open = import("./jcrdt.mjs").Open;
 export type Read = import("./followers.mjs").Read;
 /**
  * Sends a request's line; resolves its reply.
@@ -71,21 +73,7 @@ export type Report = {
      */
     refused: Refusal[];
 };
-export type Remade = {
-    /**
-     * How many own operations were made again.
-     */
-    remade: number;
-    /**
-     * The operations that couldn't be.
-     */
-    lost: string[];
-    /**
-     * Own insertions that the server already has, and that another of this
-     * name may have made there: their elements are one.
-     */
-    melted: string[];
-};
+export type Remade = import("./remaking.mjs").Remade;
 /**
  * A server that says what it logs.
  */
@@ -114,6 +102,27 @@ export type Core = {
     take: (operations: any[]) => Taken;
     isShared: () => boolean;
     /**
+     * In milliseconds since some moment.
+     */
+    now: () => number;
+    /**
+     * Whether copies may be made of what is edited: a file has it.
+     */
+    isFiled: () => boolean;
+    /**
+     * Whether what was restored may be that of a program that goes on.
+     */
+    wasOpen: () => boolean;
+    /**
+     * Deletes what isn't there.
+     */
+    say: (place: import("./operations.mjs").Cursor) => void;
+    /**
+     * A word of the time in which an own operation was
+     * made, from the opening of its store to its end.
+     */
+    sessionOf: (counter: number) => string;
+    /**
      * Is called with the operations that came, once more
      * have come, and are to be taken.
      */
@@ -126,4 +135,5 @@ export type Taken = {
         refusal: Refused;
     }[];
 };
+import { Remaking } from "./remaking.mjs";
 import { Refused } from "./errors.mjs";

@@ -3,18 +3,12 @@
  *  @param {Iterable<[string, number]>} front
  *  @returns {Generator<Operation>} */
 export function operationsOf(read: Read, front: Iterable<[string, number]>): Generator<import("./operations.mjs").Operation>;
-/** Follows a list.
- *  @param {Engine} engine
- *  @param {Read} read
- *  @param {Cursor} place
- *  @returns {import("./events.mjs").Source} */
-export function sourceOf(engine: Engine, read: Read, place: import("./operations.mjs").Cursor): import("./events.mjs").Source;
-export function placeAt(engine: Engine, read: Read, cursor: any[]): import("./operations.mjs").Cursor;
+export function reading(engine: Engine): Read;
+export function placeAt(read: Read, cursor: any[]): import("./operations.mjs").Cursor;
 /** Where elements are in lists. Of the list that was last asked for it has a mirror. */
 export class Indices {
-    /** @param {Engine} engine
-     *  @param {Read} read */
-    constructor(engine: Engine, read: Read);
+    /** @param {Read} read */
+    constructor(read: Read);
     /** Is to be called with each logged operation.
      *  @param {Operation} op */
     note(op: import("./operations.mjs").Operation): void;
@@ -27,7 +21,7 @@ export class Indices {
 export type Cursor = import("./operations.mjs").Cursor;
 export type Id = import("./operations.mjs").Id;
 export type Operation = import("./operations.mjs").Operation;
-export type Engine = import("./rules.mjs").Engine;
+export type Engine = import("./jcrdt.mjs").Engine;
 /**
  * Asks; returns what is behind the word.
  */

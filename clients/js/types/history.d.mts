@@ -26,6 +26,19 @@ export class History {
         reply: any[];
     }, read: Read, edit: (word: Edit["word"], place: import("./operations.mjs").Cursor, ...value: any[]) => import("./operations.mjs").Id);
     get isTurning(): boolean;
+    /** What it can take back, and make again. */
+    get steps(): {
+        undo: Edit[][];
+        redo: Edit[][];
+    };
+    /** Takes over the steps of a generation before: those up to which all can be taken back here.
+     *  @param {{undo: Edit[][], redo: Edit[][]}} steps
+     *  @param {Map<string, Id>} ids of elements: as they were, and as they are now
+     *  @param {Front} start what this generation began with */
+    adopt({ undo, redo }: {
+        undo: Edit[][];
+        redo: Edit[][];
+    }, ids: Map<string, import("./operations.mjs").Id>, start: import("./operations.mjs").Front): void;
     clear(): void;
     /** Reads what an edit is about to change.
      *  @param {Edit["word"]} word

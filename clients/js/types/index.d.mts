@@ -1,3 +1,4 @@
 export * from "./wire.mjs";
-export { Replica } from "./replica.mjs";
+export { load } from "./jcrdt.mjs";
 export { Client, connected, connectedToHub } from "./session.mjs";
+export { Replica, openReplica } from "./replica.mjs";

@@ -14,4 +14,6 @@ export const MOST: Readonly<{
     lines: 1000000;
     sessions: 256;
     said: 4096;
+    listed: 1000;
+    mapped: 1000;
 }>;

@@ -14,8 +14,9 @@ export class Mirror implements Source {
     /** Notes an operation that was logged: one at, under or above the place.
      *  @param {Operation} op */
     note(op: import("./operations.mjs").Operation): void;
-    /** Notes that anything may have changed. */
-    renew(): void;
+    /** Notes that anything may have changed.
+     *  @param {Operation[]} [all] All that the engine has, where that is known. */
+    renew(all?: import("./operations.mjs").Operation[] | undefined): void;
     /** What has changed since it was last called.
      *  @returns {Splice[]} */
     take(): Splice[];
@@ -25,7 +26,7 @@ export type Cursor = import("./operations.mjs").Cursor;
 export type Id = import("./operations.mjs").Id;
 export type Operation = import("./operations.mjs").Operation;
 export type Source = import("./events.mjs").Source;
-export type Splice = import("./rules.mjs").Splice;
+export type Splice = import("./events.mjs").Splice;
 export type Read = import("./followers.mjs").Read;
 /**
  * A changed element, and how many are before

@@ -40,6 +40,8 @@ export const REFUSALS: Readonly<{
     "reply-too-long": 102;
     "not-allowed": 103;
     "not-kept": 104;
+    "there-already": 105;
+    renewed: 106;
 }>;
 /** Two starts, or two replicas, had one name: one side is to be kept.
  *  @type {ReadonlySet<number>} */
@@ -62,6 +64,8 @@ export const LIMITS: Readonly<{
     lines: 1000000;
     sessions: 256;
     said: 4096;
+    listed: 1000;
+    mapped: 1000;
 }>;
 export function isChange(word: string): boolean;
 /** @type {ReadonlyMap<number, string>} The names of refusals. */

@@ -26,11 +26,13 @@
 /**
  * Something that a person should know, until it is over.
  * @typedef {object} Problem
- * @property {"store" | "memory" | "unread" | "server" | "refused" | "remade" | "listener"} kind
+ * @property {"store" | "memory" | "unread" | "server" | "refused" | "remade" | "renewed"
+ *    | "listener"} kind
  *   "store": what was edited last isn't stored, and edits are refused. "memory": the store can't be
  *   opened, so nothing is stored. "unread": a part of the store couldn't be read. "server": it
  *   refuses to exchange. "refused": it refused some of one's own operations, which stay here.
- *   "remade": another had this replica's name, so that changes were made again. "listener": a
+ *   "remade": another had this replica's name, so that changes were made again. "renewed": the
+ *   document goes on in another generation, where some changes couldn't be made again. "listener": a
  *   function that `listen` was given threw.
  * @property {string} words
  * @property {unknown} [cause] the error, if there is one
@@ -54,8 +56,8 @@
  *   in a browser without IndexedDB. `problems` says so then. Without it the store's error is thrown
  * @property {string} [word] what a new name of the replica begins with: up to 21 of a-z, 0-9, -
  * @property {boolean} [isOnline] whether it connects at once: true, unless it is said
- * @property {import("./rules.mjs").Open} [engine] what keeps the document: rules.mjs, unless another
- *   is given
+ * @property {import("./jcrdt.mjs").Open} [engine] what keeps the document: what `load` gives, unless
+ *   it is said
  * @property {any} [WebSocket] for ws:// in Node: the class of the package ws
  * @property {(line: string, reply: string) => void} [onReply] is called with each request of the
  *   exchange and its reply, as for a protocol
@@ -64,8 +66,9 @@
  */
 /** A replica with a store, and an exchange that goes on by itself. */
 export class Provider {
-    /** Reads the store, and connects. Throws Busy where another program has the store open, TypeError
-     *  where it has something else, and Unstored where it can't store.
+    /** Loads the engine where it isn't loaded, reads the store, and connects. Throws Busy where another
+     *  program has the store open, TypeError where it has something else, Unstored where it can't store,
+     *  and what `load` throws.
      *  @param {Options} options
      *  @returns {Promise<Provider>} */
     static open(options: Options): Promise<Provider>;
@@ -111,7 +114,7 @@ export class Provider {
         fetched: number;
     } | undefined;
     /** What a person should know, by kind, until it is over. */
-    get problems(): Map<"unread" | "remade" | "refused" | "store" | "memory" | "server" | "listener", Problem>;
+    get problems(): Map<"unread" | "renewed" | "remade" | "refused" | "store" | "memory" | "server" | "listener", Problem>;
     /** Calls a function with each event, one at a time, until what this returns is called.
      *  @param {(event: Event) => void} heard
      *  @returns {() => void} */
@@ -130,7 +133,7 @@ export class Provider {
     deleteStored(): Promise<void>;
     /** Resolves once it is online and everything is exchanged that was logged here before. Where it
      *  is offline for now, it connects at once. Throws Refused where the server refuses changes of
-     *  this replica, with how many and why: these stay here.
+     *  this replica, with how many and why: these stay here. Throws Away at once where it is closed.
      *  @param {number | Wait} [wait] how long: a number is its seconds. Then Away is thrown, with
      *    what is known
      *  @returns {Promise<void>} */
@@ -195,10 +198,11 @@ export type Problem = {
      *   "store": what was edited last isn't stored, and edits are refused. "memory": the store can't be
      *   opened, so nothing is stored. "unread": a part of the store couldn't be read. "server": it
      *   refuses to exchange. "refused": it refused some of one's own operations, which stay here.
-     *   "remade": another had this replica's name, so that changes were made again. "listener": a
+     *   "remade": another had this replica's name, so that changes were made again. "renewed": the
+     *   document goes on in another generation, where some changes couldn't be made again. "listener": a
      *   function that `listen` was given threw.
      */
-    kind: "store" | "memory" | "unread" | "server" | "refused" | "remade" | "listener";
+    kind: "store" | "memory" | "unread" | "server" | "refused" | "remade" | "renewed" | "listener";
     words: string;
     /**
      * the error, if there is one
@@ -255,10 +259,10 @@ export type Options = {
      */
     isOnline?: boolean | undefined;
     /**
-     * what keeps the document: rules.mjs, unless another
-     * is given
+     * what keeps the document: what `load` gives, unless
+     * it is said
      */
-    engine?: import("./rules.mjs").Open | undefined;
+    engine?: import("./jcrdt.mjs").Open | undefined;
     /**
      * for ws:// in Node: the class of the package ws
      */

@@ -1,6 +1,6 @@
 /** Makes the operations of these lines again in `other`. An element that the new document doesn't
- *  have can't be edited there: such a line is lost. What is behind a deleted element goes behind
- *  the one before it.
+ *  have, or that was deleted there, can't be edited there: such a line is lost, and the element stays
+ *  away. What is behind a deleted element goes behind the one before it.
  *  @param {Replica} old
  *  @param {Replica} other
  *  @param {Iterable<string | [Id, Id]>} map

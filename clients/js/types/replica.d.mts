@@ -5,15 +5,21 @@
 /** @typedef {import("./exchange.mjs").Remade} Remade */
 /** @typedef {import("./exchange.mjs").Report} Report */
 /** @typedef {import("./exchange.mjs").Taken} Taken */
-/** @typedef {import("./rules.mjs").Engine} Engine */
-/** @typedef {import("./rules.mjs").Open} Open */
+/** @typedef {import("./jcrdt.mjs").Open} Open */
 /** @typedef {import("./operations.mjs").Cursor} Cursor */
 /** @typedef {import("./operations.mjs").Id} Id */
 /** @typedef {import("./operations.mjs").Operation} Operation */
 /** @typedef {import("./operations.mjs").Scalar} Scalar */
 /** @typedef {object} Options
- *  @property {Open} [engine] What makes the engine: `open` of rules.mjs if it isn't given. */
+ *  @property {Open} [engine] What makes the engine: what `load` has given, unless it is said. */
 /** @typedef {{line: string, number: number, name: string}} Unread A line that couldn't be taken. */
+/** A new replica, or the one of stored operations: see `Replica` and `restore`. It loads the engine
+ *  first, where that isn't loaded yet.
+ *  @param {string} name
+ *  @param {string} doc
+ *  @param {string[]} [lines] The operations' lines.
+ *  @returns {Promise<Replica>} */
+export function openReplica(name: string, doc: string, lines?: string[] | undefined): Promise<Replica>;
 export class Replica {
     /** A replica from its lines. It takes what it can: `unread` has the others, as a line that is
      *  there twice, isn't an operation, or depends on one that is missing. Throws TypeError if the
@@ -23,7 +29,7 @@ export class Replica {
      *  @returns {Replica} */
     static restore([first, ...lines]: string[], options?: Options | undefined): Replica;
     /** A new replica, without operations. Throws TypeError for a name or document that can't be one:
-     *  both have 1 to 32 of a-z, 0-9, -.
+     *  both have 1 to 32 of a-z, 0-9, -. Throws an Error before `await load()`: openReplica does that.
      *  @param {string} name That no other replica of the document ever has.
      *  @param {string} doc
      *  @param {Options} [options] */
@@ -33,6 +39,19 @@ export class Replica {
     /** Whether others may send own operations for this replica, as tabs that share a store. If not,
      *  an own operation at a server that wasn't sent from here shows that another has the name. */
     isShared: boolean;
+    /** Whether a file has what is edited here, so that copies may be made of it meanwhile. */
+    isFiled: boolean;
+    /** Whether what was restored may be that of a program that goes on: its store wasn't closed. */
+    wasOpen: boolean;
+    /** For tests: what waiting goes by.
+     *  @type {import("./clock.mjs").Clock} */
+    clock: import("./clock.mjs").Clock;
+    /** Words of the times in which own operations were made, each from behind a counter on.
+     *  @type {{ after: number, word: string }[]} */
+    sessions: {
+        after: number;
+        word: string;
+    }[];
     /** Called with what a listener has thrown. The others go on.
      *  @type {(error: any) => any} */
     failed: (error: any) => any;
@@ -40,6 +59,8 @@ export class Replica {
      *  @type {(count: number) => any} */
     fetched: (count: number) => any;
     get name(): string;
+    /** Whether what was restored may be that of a program that goes on, and nobody was told. */
+    get isDoubtful(): boolean;
     get doc(): string;
     /** How many operations are logged: at most 100,000. */
     get count(): number;
@@ -208,6 +229,17 @@ export class Replica {
     discard(name: string, answer: Answer): Promise<{
         lost: string[];
     }>;
+    /** Goes on in another generation of the document: with its log, and with one's own operations that
+     *  the hub lacks made again there. Places by ids of before go on to mean the same elements, watches
+     *  go on, and so does `undo` as far as what it takes back is there. Then store all lines, and sync.
+     *  @param {string} name That no other replica of the document ever has.
+     *  @param {import("./generations.mjs").Step[]} steps from the generation of this replica on
+     *  @param {Operation[]} log of the last generation
+     *  @returns {{remade: number, lost: string[]}} */
+    renew(name: string, steps: import("./generations.mjs").Step[], log: import("./operations.mjs").Operation[]): {
+        remade: number;
+        lost: string[];
+    };
     /** Makes own edits that the old document's server refused again in a new one, whose content
      *  `python -m jcrdt renew` made of the old one's. `map` has the lines that it writes, or pairs of
      *  ids: see renewal.mjs. All are one event and one step of undo of `other`.
@@ -228,17 +260,16 @@ export type Answer = import("./exchange.mjs").Answer;
 export type Remade = import("./exchange.mjs").Remade;
 export type Report = import("./exchange.mjs").Report;
 export type Taken = import("./exchange.mjs").Taken;
-export type Engine = import("./rules.mjs").Engine;
-export type Open = import("./rules.mjs").Open;
+export type Open = import("./jcrdt.mjs").Open;
 export type Cursor = import("./operations.mjs").Cursor;
 export type Id = import("./operations.mjs").Id;
 export type Operation = import("./operations.mjs").Operation;
 export type Scalar = import("./operations.mjs").Scalar;
 export type Options = {
     /**
-     * What makes the engine: `open` of rules.mjs if it isn't given.
+     * What makes the engine: what `load` has given, unless it is said.
      */
-    engine?: import("./rules.mjs").Open | undefined;
+    engine?: import("./jcrdt.mjs").Open | undefined;
 };
 /**
  * A line that couldn't be taken.

@@ -8,8 +8,8 @@
  *  @returns {Promise<Client>} */
 export function connected(address: string, options?: number | Options | undefined): Promise<Client>;
 /** Connects to the hub over WebSocket, and resolves once the session has begun: see `connected`. In
- *  Node the second argument is the class of `ws`. Every 15 seconds without a request it asks for
- *  the version, so that a hub that is frozen is noticed.
+ *  Node the second argument is the class of `ws`. Behind 10 seconds without a request it asks
+ *  for the version, so that a hub that is frozen is noticed.
  *  @param {string | URL} url
  *  @param {any} [WebSocket]
  *  @param {Options} [options]
@@ -31,15 +31,16 @@ export function connectedToHub(url: string | URL, WebSocket?: any, options?: Opt
 export class Client {
     /** @param {(line: string) => void} sent Sends a line.
      *  @param {() => void} ended Ends the connection.
-     *  @param {{seconds?: number}} [options] */
-    constructor(sent: (line: string) => void, ended: () => void, options?: {
-        seconds?: number | undefined;
-    } | undefined);
+     *  @param {Options} [options] */
+    constructor(sent: (line: string) => void, ended: () => void, options?: Options | undefined);
     /** @type {Promise<Lost>} Resolves with the cause when the connection has ended. */
     closed: Promise<Lost>;
     /** Called when the hub has a new session, with the variables that are gone.
      *  @type {(gone: [document: string, name: string][]) => any} */
     reopened: (gone: [document: string, name: string][]) => any;
+    /** Called when a document that is watched goes on in another generation.
+     *  @type {(document: string, generation: string) => any} */
+    renewed: (document: string, generation: string) => any;
     /** Called with what a callback of the caller has thrown. The session goes on.
      *  @type {(error: any) => any} */
     failed: (error: any) => any;
@@ -60,6 +61,8 @@ export class Client {
      *  @param {string} line
      *  @returns {Promise<string>} */
     answer(line: string): Promise<string>;
+    /** From now on asks for the version where nothing else is asked for so long. */
+    ping(): void;
     /** Sends one request, and returns the items of its reply behind the word. Throws RangeError, and
      *  sends nothing, if the request has more than 65,536 bytes.
      *  @param {string} word
@@ -160,6 +163,19 @@ export class Client {
     held: (document: string) => Promise<[import("./operations.mjs").Id, import("./operations.mjs").Id[]][]>;
     /** @param {string} document @param {Id} id */
     forget: (document: string, id: import("./operations.mjs").Id) => Promise<any[]>;
+    /** How many operations are logged, how many of them the server's file has (0 in `run`), and of how
+     *  many replicas they are. Servers before 1.2.0 refuse it with 2.
+     *  @param {string} document
+     *  @returns {Promise<{ logged: number, copied: number, replicas: number }>} */
+    size(document: string): Promise<{
+        logged: number;
+        copied: number;
+        replicas: number;
+    }>;
+    /** Whether the server's file has the operation of this id now. Servers before 1.2.0 refuse it
+     *  with 2. See `stored`, which waits.
+     *  @param {string} document @param {Id} id @returns {Promise<boolean>} */
+    copied: (document: string, id: import("./operations.mjs").Id) => Promise<boolean>;
     /** @param {string} document @returns {Promise<number>} */
     account: (document: string) => Promise<number>;
     /** @returns {Promise<number>} */
@@ -202,6 +218,19 @@ export class Client {
      *  @param {string} document
      *  @param {any} value */
     say: (document: string, value: any) => Promise<undefined>;
+    /** At a hub that renews documents: the generations of one, the last of which takes changes. One of
+     *  before is read as the document NAME/GENERATION, if the hub has kept it.
+     *  @param {string} document
+     *  @returns {Promise<[generation: string, operations: number, replicas: number][]>} */
+    history: (document: string) => Promise<[generation: string, operations: number, replicas: number][]>;
+    /** Makes a document. Refused with 105, `there-already`, where there is one of this name, with 103
+     *  where this client may not, and with 2 by a server and by a hub that has one.
+     *  @param {string} document */
+    create: (document: string) => Promise<undefined>;
+    /** The names of all documents that this client may read, in byte order. Refused with 103 where it
+     *  may not ask that, and with 2 by a server and by a hub that has one.
+     *  @returns {Promise<string[]>} */
+    list(): Promise<string[]>;
     #private;
 }
 export type Cursor = import("./operations.mjs").Cursor;
@@ -241,8 +270,9 @@ export type Options = {
      */
     connectSeconds?: number | undefined;
     /**
-     * Over WebSocket: after so many seconds without a request, `version` is
-     * asked (15).
+     * After so many seconds without a request `version` is asked (10), while
+     * something is watched, and over WebSocket always: a server gives a session that is silent for 30
+     * seconds to another that waits.
      */
     ping?: number | undefined;
     /**
@@ -253,6 +283,10 @@ export type Options = {
      * Ends the session when it is aborted, also before it begins.
      */
     signal?: AbortSignal | undefined;
+    /**
+     * For tests: what pings and `watch` go by.
+     */
+    clock?: import("./clock.mjs").Clock | undefined;
 };
 export type Waiting = {
     word: string;

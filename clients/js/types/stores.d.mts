@@ -7,6 +7,10 @@ export function memoryStore(): Store;
  * @property {string} name the replica's name, which this program alone uses while it is open
  * @property {string[]} lines the operations as lines, each behind those it depends on
  * @property {string[]} unread what is there and is no line of an operation, as text
+ * @property {boolean} [wasOpen] whether it wasn't closed: its program was killed, or goes on with what
+ *   this is a copy of. Only of a store of which copies can be made
+ * @property {{ before: number, word: string }[]} [sessions] how often it was opened and edited: how many
+ *   lines were there before, and a random word. The last one is of this opening
  */
 /**
  * Where a provider keeps the operations of a replica. A method may return a promise or not.
@@ -23,8 +27,8 @@ export function memoryStore(): Store;
  *   Goes on under another name, with these lines in place of `gone` and of its own: all or nothing.
  * @property {() => void | Promise<void>} clear
  *   Deletes everything. It is open no more.
- * @property {() => void | Promise<void>} close
- *   Lets others open it.
+ * @property {(staysOpen?: boolean) => void | Promise<void>} close
+ *   Lets others open it, who find that it `wasOpen` if it is to stay so.
  * @property {(heard: Heard) => void} [follow]
  *   Calls `heard` when another tab stored or cleared something. Only of a store that is shared.
  */
@@ -56,6 +60,19 @@ export type Stored = {
      * what is there and is no line of an operation, as text
      */
     unread: string[];
+    /**
+     * whether it wasn't closed: its program was killed, or goes on with what
+     * this is a copy of. Only of a store of which copies can be made
+     */
+    wasOpen?: boolean | undefined;
+    /**
+     * how often it was opened and edited: how many
+     * lines were there before, and a random word. The last one is of this opening
+     */
+    sessions?: {
+        before: number;
+        word: string;
+    }[] | undefined;
 };
 /**
  * Where a provider keeps the operations of a replica. A method may return a promise or not.
@@ -84,9 +101,9 @@ export type Store = {
      */
     clear: () => void | Promise<void>;
     /**
-     *   Lets others open it.
+     *   Lets others open it, who find that it `wasOpen` if it is to stay so.
      */
-    close: () => void | Promise<void>;
+    close: (staysOpen?: boolean) => void | Promise<void>;
     /**
      * Calls `heard` when another tab stored or cleared something. Only of a store that is shared.
      */

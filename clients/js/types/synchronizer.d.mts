@@ -1,6 +1,5 @@
 /** @typedef {object} Parts What it works with.
  *  @property {Replica} replica
- *  @property {Store} store
  *  @property {StoreWriter} writer
  *  @property {Notices} notices
  *  @property {Connection} connection
@@ -59,14 +58,12 @@ export type Link = import("./link.mjs").Link;
 export type Notices = import("./notices.mjs").Notices;
 export type Replica = import("./replica.mjs").Replica;
 export type StoreWriter = import("./store_writer.mjs").StoreWriter;
-export type Store = import("./stores.mjs").Store;
 export type Answer = (line: string) => Promise<string>;
 /**
  * What it works with.
  */
 export type Parts = {
     replica: Replica;
-    store: Store;
     writer: StoreWriter;
     notices: Notices;
     connection: Connection;

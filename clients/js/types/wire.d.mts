@@ -9,7 +9,7 @@ export type Path = import("./operations.mjs").Path;
 export type Mutation = import("./operations.mjs").Mutation;
 export type Operation = import("./operations.mjs").Operation;
 export type Branches = import("./operations.mjs").Branches;
-export { Away, Lost, Refused, errorOf, refusalOf } from "./errors.mjs";
+export { Away, Broken, Lost, Refused, errorOf, refusalOf } from "./errors.mjs";
 export { isArray, isMap, parse, print } from "./json.mjs";
 export { LineCutter, addressParts } from "./lines.mjs";
 export { freshName, isName } from "./names.mjs";

@@ -8,9 +8,9 @@ from .follow import followed, followed_file, front_after
 from .stored_log import StoredLog, front_on_disk
 from .programs import program, serving, started
 from .session import Session, connected
-from .wire import Away, Conflict, Counter, Lost, Refused, covers, plain, settled
+from .wire import Away, Conflict, Counter, Lost, Refused, Size, covers, plain, settled
 from .writes import Writes
 
-__all__ = ["Away", "Conflict", "Counter", "Lost", "Refused", "Session", "StoredLog", "Writes", "connected", "covers", "followed",
+__all__ = ["Away", "Conflict", "Counter", "Lost", "Refused", "Session", "Size", "StoredLog", "Writes", "connected", "covers", "followed",
            "followed_file", "front_after", "front_on_disk", "plain", "program", "serving", "settled", "started"]
-__version__ = "1.1.0"
+__version__ = "1.2.0"

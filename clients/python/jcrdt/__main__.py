@@ -11,6 +11,7 @@ export ADDRESS DOC FILE             what a document shows, as JSON with its coun
 load-json ADDRESS DOC FILE          such JSON into a document, by what differs
 log FILE                            what a stored log has; how full it is; what is on disk
 renew count|put|since ..            a document that fills up into a new one
+mend FILE --name NEW --to ADDRESS   two servers had one name: what a file has, made again at the other server
 stop --file F                       stops the server of a file so that the file has everything
 
 ADDRESS is HOST:PORT of a running server or a hub. The status is 0 if all went well, 1 if not, 2 for a wrong
@@ -26,7 +27,7 @@ from typing import List
 from .terminal import say_error
 from .wire import Refused
 
-TOOLS = ("talk", "exchange", "relay", "save", "load", "export", "load-json", "log", "renew", "stop")
+TOOLS = ("talk", "exchange", "relay", "save", "load", "export", "load-json", "log", "renew", "mend", "stop")
 # Where two tools are one module.
 MODULES = {"save": "save_load", "load": "save_load", "export": "json_file", "load-json": "json_file"}
 

@@ -18,13 +18,13 @@ from types import TracebackType
 from typing import Any, AsyncIterator, Callable, Deque, Generator, Iterable, List, Literal, Optional, Sequence, Tuple, Type, TypeVar
 
 from . import loading, mending, nested, wire
-from .limits import USUAL, Limits
+from .limits import SIGN_SECONDS, USUAL, Limits
 from .line_reader import CHUNK, LineReader, lines_of
 from .replies import Reply, checked_beginning, front_in, id_in, logged_in, page_in, reply_of
-from .session import FORKED, WATCH_SECONDS
+from .session import FORKED
 from .steps import Steps
 from .tagged import tagged
-from .wire import Away, Cursor, Front, Id, Lost, Misbehaved, Operation, Refused, encoded
+from .wire import Away, Cursor, Front, Id, Lost, Misbehaved, Operation, Refused, Size, encoded
 
 T = TypeVar("T")
 # After so many replies that are there already other tasks get their turn.
@@ -357,9 +357,17 @@ class Session:
             elif left <= 0:
                 return
             elif pushed:
-                await self._has_news(news, min(WATCH_SECONDS, left))
+                await self._has_news(news, min(SIGN_SECONDS, left))
             else:
-                await asyncio.sleep(min(seconds, left))
+                await self._rest(min(seconds, left))
+
+    async def _rest(self, seconds: float) -> None:
+        """Waits, and asks for a sign of life now and then: see jcrdt.Session."""
+        until = self._loop.time() + seconds
+        while (left := until - self._loop.time()) > SIGN_SECONDS:
+            await asyncio.sleep(SIGN_SECONDS)
+            await self.version()
+        await asyncio.sleep(max(0.0, left))
 
     async def _is_pushed(self, document: str) -> bool:
         """Whether a hub says when the document changes."""
@@ -379,6 +387,14 @@ class Session:
     async def stored(self, document: str, operation_id: Id) -> None:
         """Waits until the operation is in the server's file: see jcrdt.Session.stored."""
         await self.ask("stored", document, operation_id)
+
+    async def size(self, document: str) -> Size:
+        """How much the document has: see jcrdt.Session.size."""
+        return Size(*await self.ask("size", document))
+
+    async def copied(self, document: str, operation_id: Id) -> bool:
+        """Whether the server's file has the operation: see jcrdt.Session.copied."""
+        return bool((await self.ask("copied", document, operation_id))[0])
 
     async def account(self, document: str) -> int:
         return int((await self.ask("account", document))[0])

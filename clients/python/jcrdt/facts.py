@@ -4,7 +4,7 @@ The order-free form: an id is at a place if its operation put it there, passed o
 or delete that ends at the place or above it depends on it. The order of a list is the walk of its insertions.
 """
 
-from typing import Any, Dict, Iterable, Iterator, List, Optional, Tuple
+from typing import Any, Dict, Iterable, Iterator, List, Optional, Set, Tuple
 
 from .wire import Front, Id, Operation
 
@@ -129,6 +129,18 @@ def document_of(operations: List[Operation]) -> Place:
         else:
             way[-1].put((counter, replica), word, value[0])
     return root
+
+
+def elements_of(root: Place) -> Set[Key]:
+    """All elements of lists that a document shows."""
+    found: Set[Key] = set()
+    waiting = [root]
+    while waiting:
+        place = waiting.pop()
+        present = [(key, it) for key, it in place.list.items() if it.is_present]
+        found.update(key for key, _ in present)
+        waiting += [it for it in place.map.values() if it.is_present] + [it for _, it in present]
+    return found
 
 
 def shown(operations: List[Operation]) -> Branches:

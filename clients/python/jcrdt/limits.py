@@ -16,3 +16,6 @@ class Limits(NamedTuple):
 
 
 USUAL = Limits()
+# After so many seconds without a request a session that stays asks for a sign of life: a server gives one that is silent for
+# longer (30, unless its `--patience` is another) to another client that waits.
+SIGN_SECONDS = 10.0

@@ -34,6 +34,8 @@ REQUESTS: Dict[str, Form] = {
     "held": Form("state", ("doc",), ("waiting",)),
     "forget": Form("change", ("doc", "ID"), ("forgotten",)),
     "account": Form("state", ("doc",), ("account",)),
+    "size": Form("state", ("doc",), ("size",)),
+    "copied": Form("state", ("doc", "ID"), ("copied",)),
     "version": Form("bare", (), ("version",)),
     "quit": Form("bare", (), ("bye",)),
     "watch": Form("hub", ("doc",), ("watching",)),
@@ -43,9 +45,13 @@ REQUESTS: Dict[str, Form] = {
     "unhear": Form("hub", ("doc",), ("unheard",)),
     "say": Form("hub", ("doc", "VALUE"), ("said",)),
     "stored": Form("hub", ("doc", "ID"), ("stored",)),
+    "create": Form("hub", ("doc",), ("created",)),
+    "history": Form("hub", ("doc",), ("generations",)),
+    "map": Form("hub", ("doc", "GENERATION", "from"), ("map",)),
+    "list": Form("bare", ("AFTER",), ("documents",)),
 }
 # The first words of the hub's lines that answer no request.
-PUSHES: FrozenSet[str] = frozenset(("changed", "logged", "heard", "reopened"))
+PUSHES: FrozenSet[str] = frozenset(("changed", "logged", "heard", "renewed", "reopened"))
 # The names of refusals: from 100 on the hub's.
 REFUSALS: Dict[int, str] = {
     1: "not-json",
@@ -79,6 +85,8 @@ REFUSALS: Dict[int, str] = {
     102: "reply-too-long",
     103: "not-allowed",
     104: "not-kept",
+    105: "there-already",
+    106: "renewed",
 }
 # Two starts, or two replicas, had one name: one side is to be kept.
 NAME_USED_TWICE: FrozenSet[int] = frozenset((14, 15, 16))
@@ -99,6 +107,8 @@ LIMITS: Dict[str, int] = {
     "lines": 1_000_000,  # lines of a session
     "sessions": 256,  # sessions of a server
     "said": 4_096,  # bytes of a value that a client of the hub says
+    "listed": 1_000,  # documents of a reply to `list`
+    "mapped": 1_000,  # elements of a reply to `map`
 }
 # What may change a document, or what it holds.
 CHANGES: FrozenSet[str] = frozenset(word for word, form in REQUESTS.items() if form.kind == "change")

@@ -16,6 +16,7 @@ import signal
 import time
 from typing import Any, Awaitable, Callable, Dict, List, Optional, Sequence, Set, Tuple
 
+from .limits import SIGN_SECONDS
 from .link import Link, link_to
 from .notes import Notes
 from .operation_log import Known, Listener, Log, Source
@@ -373,11 +374,8 @@ class Server(Member):
         try:
             await self._open(link)
             self.is_connected()
-            await all_of(*(self._keep(place) for place in self.places))
-            # It has none of the documents: it is looked at again when it starts again.
-            while True:
-                await link.ask("version")
-                await asyncio.sleep(LONGEST)
+            # Also where it has none of the documents: it is looked at again when it starts again.
+            await all_of(_stays(link), *(self._keep(place) for place in self.places))
         finally:
             await link.close()
 
@@ -543,6 +541,14 @@ class Relay:
             rounds = [place.round() for place in self.places(log)]
             found = await asyncio.gather(*rounds, return_exceptions=True)
             logged = sum(it for it in found if isinstance(it, int))
+
+
+async def _stays(link: Link) -> None:
+    """Asks for a sign of life now and then, so that the server doesn't take this session for one that is left, however seldom it is
+    asked for news."""
+    while True:
+        await link.ask("version")
+        await asyncio.sleep(min(LONGEST, SIGN_SECONDS))
 
 
 async def _within(seconds: float, coroutine: Awaitable[Any]) -> Any:

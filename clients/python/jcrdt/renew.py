@@ -232,13 +232,14 @@ def again(asked: argparse.Namespace) -> int:
     if missing:
         raise ValueError(f"these servers lack {id_text(missing[0][1])} of {asked.lines}")
     with opened(asked.into, asked.new_doc) as target:
-        work = Again(name, known_by(target, asked.new_doc, name), ids_of(asked.map), union.operations)
+        known, there = known_by(target, asked.new_doc, name), list(target.operations(asked.new_doc))
+        work = Again(name, known, ids_of(asked.map), union.operations, there)
         for operation in lines:
             work.take(operation)
         deliver(target, asked.new_doc, work.operations, report)
     add_to_map(asked.map, work.elements)
     for operation in work.lost:
-        say(f"{id_text(operation[1]):<16} {readable(operation)}: its element isn't in {asked.new_doc}")
+        say(f"{id_text(operation[1]):<16} {readable(operation)}: its element isn't in {asked.new_doc}, or was deleted there")
     say(f"{asked.new_doc}: {len(work.operations)} of {len(lines)} operations were made again, {len(work.lost)} can't be")
     return 0
 

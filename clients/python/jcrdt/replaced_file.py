@@ -30,14 +30,14 @@ def replaced(path: str) -> Iterator[BinaryIO]:
         os.umask(mask)
         os.chmod(new, 0o666 & ~mask)
         os.replace(new, path)
-        _sync_folder(os.path.dirname(path))
+        sync_folder(os.path.dirname(path))
     except BaseException:
         with contextlib.suppress(FileNotFoundError):
             os.remove(new)
         raise
 
 
-def _sync_folder(path: str) -> None:
+def sync_folder(path: str) -> None:
     """Puts the names of a folder's files on disk."""
     folder = os.open(path, os.O_RDONLY | os.O_DIRECTORY)
     try:

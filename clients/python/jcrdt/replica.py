@@ -1,26 +1,32 @@
 """A replica in this process: the proved one, in libjcrdt.so, by ctypes alone.
 
-    me = Replica("ada-1", stored_lines)          # no server is needed
-    me.put([0, "title"], "Plan")
-    store(me.logged())                           # append the lines, and flush: before they are sent
-    me.sync(connected("127.0.0.1:7000"), "notes")
-    store(me.logged())                           # those that came
+    with Store("my.notes", "notes") as store, Replica.stored(store) as me:
+        me.put([0, "title"], "Plan")             # no server is needed
+        me.save()                                # returns once it is on disk; so do `sync`, and the end of `with`
+        me.sync(connected("127.0.0.1:7000"), "notes")
 
 The library is found by the environment's JCRDT_LIBRARY, beside this file, in a checkout's release/, or by the system's loader.
 """
 
 import ctypes
 import os
+import platform
 import threading
 from ctypes import POINTER, Structure, byref, c_bool, c_char_p, c_size_t, c_uint64, c_void_p
-from typing import Any, Iterable, List, Optional, Sequence, Tuple
+from typing import Any, Dict, Iterable, List, Optional, Sequence, Tuple
 
 from . import wire
+from .again import Places
+from .protocol import NUMBERS
+from .remaking import ROUNDS, How, Remade, Remaking
 from .session import Session
+from .store import Store, fresh_name
+from .syncing import Exchange
 from .wire import Cursor, Front, Id, Lost, Operation, Refused
 
 # The first room for the text of an answer, in bytes.
 ROOM = 65_536
+HELD_FULL = NUMBERS["held-full"]
 
 
 class _Handle(Structure):
@@ -45,7 +51,8 @@ class RefusedLine(Refused):
 def library_paths() -> List[str]:
     """Where libjcrdt.so is looked for, in this order."""
     here = os.path.dirname(os.path.abspath(__file__))
-    release = os.path.join(here, "..", "..", "..", "release", "libjcrdt.so")
+    of_machine = ["aarch64"] if platform.machine() == "aarch64" else []
+    release = os.path.join(here, "..", "..", "..", "release", *of_machine, "libjcrdt.so")
     given = os.environ.get("JCRDT_LIBRARY")
     return ([given] if given else []) + [os.path.join(here, "libjcrdt.so"), os.path.normpath(release), "libjcrdt.so"]
 
@@ -83,10 +90,38 @@ class Replica:
         self._library = library or load()
         self._handle = _Handle()
         self._room = ctypes.create_string_buffer(ROOM)
-        self._lock = threading.Lock()
+        self._lock = threading.RLock()
         self._made: List[str] = []
+        self._store: Optional[Store] = None
+        # Of `stored`: the lines of the store that can't be used.
+        self.unread: List[str] = []
+        # At a server's document the server's own operations up to this counter were the same.
+        self._same: Dict[Tuple[Optional[str], str], int] = {}
+        self._syncing = threading.Lock()
         self._open(name.encode(), "".join(f"{line}\n" for line in operations).encode())
         self._listing, self._listed = threading.Lock(), self.front()
+        # Own operations up to these counters were sent, or may have been; and are in copies of a store, too, if there are any.
+        self._sent = self._restored = self._listed.get(name, 0)
+
+    @classmethod
+    def stored(cls, store: Store, library: Optional[ctypes.CDLL] = None) -> "Replica":
+        """The replica of a store, which takes what can be read: a line that is there twice once, and lines in another order than
+        that of a log. `unread` has the others. If there are any, it goes on under a new name, since its own may be among them, and
+        PATH.old keeps the file as it was. Raises MemoryError, and OSError where the store or the library fails."""
+        lines, unread = store.lines, store.unread
+        try:
+            replica = cls(store.name, lines, library)
+        except RefusedLine:
+            lines, more = fitting(lines, library)
+            unread = unread + more
+            replica = cls(store.name, lines, library)
+        if unread:
+            replica.close()
+            replica = cls(fresh_name(store.name.rpartition("-")[0] or store.name), lines, library)
+        if unread or lines != store.lines:
+            store.replace(replica.name, lines)
+        replica._store, replica.unread = store, unread
+        return replica
 
     def _open(self, name: bytes, lines: bytes) -> None:
         fault = _Fault()
@@ -101,7 +136,12 @@ class Replica:
         return self
 
     def __exit__(self, *_error: object) -> None:
-        self.close()
+        """Saves what isn't saved yet into the replica's store, if it has one, and closes it."""
+        try:
+            if self._handle.is_open and self._process == os.getpid():
+                self.save_if_stored()
+        finally:
+            self.close()
 
     def __del__(self) -> None:
         if hasattr(self, "_handle") and self._handle.is_open:
@@ -150,14 +190,37 @@ class Replica:
 
     def logged(self) -> List[str]:
         """The lines of all operations that were logged since it was last called, or since the replica was opened: its own and
-        those of others, in log order. Append them to the stored lines before `sync`, and after it. Where that fails, `lines`
-        has all."""
+        those of others, in log order. Append them to the stored lines before `sync`, and after it, one thread at a time. Where that
+        fails, `lines` has all. For a replica of a store `save` does it."""
         self._check_process()
         with self._listing:
-            found = self.operations(self._listed)
-            for operation in found:
-                self._listed[operation[1][1]] = operation[1][0]
+            return self._list()
+
+    def _list(self) -> List[str]:
+        found = self.operations(self._listed)
+        self._listed.update(wire.front_of(found))
         return [wire.encoded(operation).decode() for operation in found]
+
+    def save(self) -> None:
+        """Appends all operations that were logged since to the replica's store, in log order, and returns once they survive a
+        power cut. Threads may call it at once. Where it raises, none is stored, and the next call stores them. Raises OSError,
+        and ValueError without a store."""
+        self._check_process()
+        if self._store is None:
+            raise ValueError("this replica has no store: Replica.stored opens one that has")
+        with self._listing:
+            before = dict(self._listed)
+            try:
+                lines = self._list()
+                if lines:
+                    self._store.append(lines)
+            except BaseException:
+                self._listed = before
+                raise
+
+    def save_if_stored(self) -> None:
+        if self._store is not None:
+            self.save()
 
     def made(self) -> List[str]:
         """The lines of the operations that were made here since it was last called. To be opened again, a replica needs those of
@@ -258,11 +321,101 @@ class Replica:
         return int(reply[1]) if reply[0] == "applied" else 0
 
     def sync(self, client: Session, document: str) -> Tuple[int, int]:
-        """Exchanges operations with a server's document, both ways. Returns how many came and how many went. Store what `logged`
-        gives before: a replica that sent operations and lost them can't use its name again. Raises what `Session` raises; what was
-        exchanged by then stays, and a later call goes on."""
-        client.open(document)
-        front = client.front(document)
-        came = sum(self.deliver(operation) for operation in client.operations(document, self.front()))
-        went = sum(client.deliver(document, operation) for operation in self.operations(front))
-        return came, went
+        """Exchanges operations with a server's document, both ways. Returns how many came and how many went. A replica of a store
+        saves before anything is sent. Without one store what `logged` gives before: a replica that sent operations and lost them
+        can't use its name again. One thread does it at a time.
+
+        Raises Differs where another store has used its name, as a copy of this one or an older one: nothing was exchanged then.
+        Otherwise it goes on past what is refused, here or there, and raises that at last: Differs where two have one name, else
+        Refused. Raises what `Session` raises, too; what was exchanged by then stays, and a later call goes on."""
+        self.save_if_stored()
+        with self._syncing:
+            place = (client.address, document)
+            work = Exchange(self, client, document, self._same.get(place, 0), self._sent)
+            try:
+                work.run()
+            finally:
+                self._same[place], self._sent = work.same, work.sent
+                self.save_if_stored()
+        return work.came, work.went
+
+    def remake(self, name: str, client: Session, document: str) -> Remade:
+        """Goes on under a new name, after `sync` has said that the server's own operations differ. Takes the server's log, the
+        operations of others that it lacks, and those of one's own that it lacks or has differently: under a new name, with what they
+        knew. What was restored from a store is made again just once for all copies of it, and is at the server by then. A replica of a
+        store writes the file anew: PATH.old keeps it as it was. Then `sync`. Raises what `sync` raises, and ValueError for a name that
+        is none; nothing was changed here then."""
+        if not wire.NAME.match(name):
+            raise ValueError(f"{name!r} is no name of a replica: 1 to 32 of a-z, 0-9, -")
+        self.save_if_stored()
+        with self._syncing:
+            may_send, turn = True, 1
+            while True:
+                how = How(name, Exchange(self, client, document, 0, self._sent).forked_at(), self._restored, may_send)
+                log = (wire.encoded(it).decode() for it in client.operations(document))
+                with Replica(fresh_name("scratch"), log, self._library) as scratch:
+                    remaking = Remaking(self, scratch, how)
+                    if remaking.send(client, document):
+                        return self._go_on(name, remaking, scratch)
+                may_send, turn = remaking.may_send and turn < ROUNDS, turn + 1
+
+    def _go_on(self, name: str, remaking: Remaking, scratch: "Replica") -> Remade:
+        """Uses what was made again. Nothing is edited meanwhile."""
+        with self._listing, self._lock:
+            report, lines = remaking.run(), scratch.lines()
+            new = Replica(name, lines, self._library)
+            if self._store is not None:
+                self._store.replace(name, lines)
+            self._library.jcrdt_close(byref(self._handle))
+            self._handle, new._handle = new._handle, _Handle()
+            self.name, self._made, self._listed = name, [], self.front()
+            self._same, self._sent, self._restored = {}, 0, 0
+        return report
+
+    def remake_in(self, other: "Replica", elements: Iterable[Any], lines: Optional[Iterable[str]] = None) -> Remade:
+        """Makes own edits again in the replica of a new document, whose content `python -m jcrdt renew put` made of this one's.
+        `elements` has the lines that its --map writes, or pairs of ids. `lines` are operations of this document; where none are given,
+        the own ones that no server has. An element that the new document lacks, or that was deleted there, can't be edited there: that
+        operation is lost. What is behind a deleted element goes behind the one before it. Raises ValueError without lines before a `sync` with a server."""
+        old, lost, count = self.operations(), [], 0
+        pairs = [wire.decoded(it.encode()) if isinstance(it, str) else it for it in elements if it != ""]
+        places = Places({(one[0], one[1]): two for one, two in pairs}, old, other.operations())
+        wanted = self._unsent(old) if lines is None else [wire.decoded(line.encode()) for line in lines if line.strip()]
+        for operation in wanted:
+            place, (word, *value) = places.of(operation), operation[4]
+            if place is None and word != "delete":
+                lost.append(operation)
+                continue
+            # What isn't there needn't be deleted.
+            made = [] if place is None else other._changed(word, [place], *value)
+            if word == "insert":
+                places.ids[operation[1][0], operation[1][1]] = made
+            count += 1
+        return Remade(count, lost)
+
+    def _unsent(self, operations: Sequence[Operation]) -> List[Operation]:
+        if not self._same:
+            raise ValueError("sync with the old document's server first")
+        same = max(self._same.values())
+        return [it for it in operations if it[1][1] == self.name and it[1][0] > same]
+
+
+def fitting(lines: Sequence[str], library: Optional[ctypes.CDLL] = None) -> Tuple[List[str], List[str]]:
+    """Of stored lines those that make a log together, in its order, and the others. A line that is there twice is taken once."""
+    with Replica(fresh_name("scratch"), (), library) as scratch:
+        held: Dict[str, str] = {}
+        lost: List[str] = []
+        left, count = list(lines), 0
+        while left and len(left) != count:
+            count, later = len(left), []
+            for line in left:
+                reply = wire.decoded_reply(scratch.answer(b'["deliver",' + line.encode() + b"]")[0])
+                if reply[:2] == ["no", HELD_FULL]:
+                    later.append(line)
+                elif reply[0] == "held":
+                    held[str(wire.decoded(line.encode())[1])] = line
+                elif reply[0] == "no":
+                    lost.append(line)
+            left = later
+        waiting = [held.get(str(it), "") for it, _ in scratch.ask("held")[0]]
+        return scratch.lines(), lost + left + waiting

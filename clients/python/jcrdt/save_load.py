@@ -91,7 +91,8 @@ def report(result: Loaded) -> int:
     for number, cause in result.refused[:1]:
         say(f"line {number}: {cause}")
     if any(isinstance(cause, Refused) and cause.number in NAME_USED_TWICE for _, cause in result.refused):
-        say("these were made under the name of this server: start it again, under a new name, and load them then")
+        say("the server has this name, or other operations of these ids: load them into a new, empty file under a new name, or mend (GUIDE, "
+            '"When two starts had one name")')
     for (counter, replica), missing in result.waiting[:1]:
         lacking = ", ".join(f"{number} of {name}" for number, name in missing)
         say(f"{counter} of {replica} waits for {lacking}: load a file that has it, or have the server `forget` "

@@ -23,17 +23,15 @@ from types import TracebackType
 from typing import Any, Deque, Iterable, Iterator, List, Literal, Optional, Sequence, Type, TypeVar
 
 from . import loading, mending, nested, wire
-from .limits import USUAL, Limits
+from .limits import SIGN_SECONDS, USUAL, Limits
 from .replies import Reply, checked_beginning, front_in, id_in, logged_in, page_in, reply_of
 from .steps import Steps
 from .stream import Stream
 from .tagged import tagged
-from .wire import Away, Cursor, Front, Id, Lost, Misbehaved, Operation, Refused, encoded
+from .wire import Away, Cursor, Front, Id, Lost, Misbehaved, Operation, Refused, Size, encoded
 
 T = TypeVar("T")
 FORKED = "it was opened in another process: connect in this one"
-# How long `watch` waits for a hub's push before it asks for a sign of life, in seconds.
-WATCH_SECONDS = 15.0
 
 
 class Session:
@@ -322,10 +320,18 @@ class Session:
             elif left <= 0:
                 return
             elif not pushed:
-                time.sleep(min(seconds, left))
+                self._rest(min(seconds, left))
             else:
                 # Pushes of other documents end the wait, too. Without any the hub is asked for a sign of life.
-                self.next_push(min(WATCH_SECONDS, left))
+                self.next_push(min(SIGN_SECONDS, left))
+
+    def _rest(self, seconds: float) -> None:
+        """Waits, and asks for a sign of life now and then, so that the server doesn't take this session for one that is left."""
+        until = time.monotonic() + seconds
+        while (left := until - time.monotonic()) > SIGN_SECONDS:
+            time.sleep(SIGN_SECONDS)
+            self.version()
+        time.sleep(max(0.0, left))
 
     def _is_pushed(self, document: str) -> bool:
         """Whether a hub says when the document changes."""
@@ -347,6 +353,14 @@ class Session:
         """Waits until the operation is in the server's file. Only a hub answers that, and refuses with 104 if it
         can't know. A server refuses with 2."""
         self.ask("stored", document, operation_id)
+
+    def size(self, document: str) -> Size:
+        """How much the document has. Servers before 1.2.0 refuse it with 2."""
+        return Size(*self.ask("size", document))
+
+    def copied(self, document: str, operation_id: Id) -> bool:
+        """Whether the server's file has the operation of this id now. Servers before 1.2.0 refuse it with 2."""
+        return bool(self.ask("copied", document, operation_id)[0])
 
     def account(self, document: str) -> int:
         return int(self.ask("account", document)[0])

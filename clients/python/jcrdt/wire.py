@@ -6,7 +6,7 @@ is docs/FORMATS.md.
 
 import json
 import re
-from typing import Any, Callable, Dict, Iterable, Iterator, List, Mapping, Optional, Sequence, Tuple
+from typing import Any, Callable, Dict, Iterable, Iterator, List, Mapping, NamedTuple, Optional, Sequence, Tuple
 
 from .protocol import CHANGES, LIMITS, NUMBERS, PUSHES, REFUSALS
 
@@ -16,6 +16,16 @@ Cursor = Sequence[Any]
 Operation = List[Any]
 # A version vector: the last counter of each replica.
 Front = Dict[str, int]
+
+
+class Size(NamedTuple):
+    """How many operations of a document are logged, how many of them the server's file has (0 in `run`), and of how many
+    replicas they are."""
+
+    logged: int
+    copied: int
+    replicas: int
+
 
 # The longest line that a server takes, in bytes without its newline. A longer one ends the session.
 LINE_LIMIT = LIMITS["line"]

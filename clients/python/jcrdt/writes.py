@@ -7,7 +7,7 @@ from typing import Any, Deque, Dict, Iterable, List, Optional, Tuple
 from . import wire
 from .stored_log import StoredLog
 from .session import Session
-from .wire import Away, Cursor, Front, Id, Lost, Refused
+from .wire import Away, Cursor, Front, Id, Lost, Operation, Refused
 
 # How often `flush` looks into the file, and how often it asks the server for a sign of life, in seconds.
 LOOK_SECONDS, SIGN_SECONDS = 0.02, 1.0
@@ -23,6 +23,15 @@ class Write:
         self.id: Optional[Id] = None
         self.refused: Optional[Refused] = None
 
+    def is_in(self, operation: Operation) -> bool:
+        """Whether it may have made this operation: what it does, and the keys of maps to its place, from a variable on if it has one."""
+        word, _, cursor, *value = self.request
+        texts = [it for it in cursor[1:] if isinstance(it, str)]
+        path, last = operation[3]
+        found = [key for key in [*(it for _, it in path), last] if isinstance(key, str)]
+        found = found if cursor[0] == 0 else found[max(0, len(found) - len(texts)):]
+        return wire.encoded(operation[4]) == wire.encoded([word, *value]) and found == texts
+
 
 class Writes:
     """The writes of one document by this client, kept so that none is lost when the server is killed.
@@ -37,7 +46,8 @@ class Writes:
     operation. A write without a reply is sent again: an `insert` or `add` may then be there twice, an `assign` or
     `delete` does the same once more. `unknown` is that write; `drop_unknown` takes it for done. `add` of this class counts
     once in any case, by a key of the writer's own. An index in a cursor means what is there at that time. If servers exchange, a peer may deliver what was lost: let it do so
-    before `send_again`. Writes with replies are kept until `flush`, or until another start of the server has them.
+    before `send_again`. Writes with replies are kept until `flush`, or until another start of the server has them. A server that was
+    started over an older file under its old NAME gives ids out again: `send_again` and `flush` compare what these mean now.
     """
 
     def __init__(self, document: str) -> None:
@@ -139,8 +149,15 @@ class Writes:
         return last
 
     def _check_all_there(self, server: Session, last: Front) -> None:
-        if not wire.covers_all(server.front(self.document), last):
+        front = server.front(self.document)
+        if not wire.covers_all(front, last) or any(self._are_others(server, front, it) for it in last.items()):
             raise Lost(f"{self.document}: the server was started again and lacks writes: send them again")
+
+    def _are_others(self, server: Session, front: Front, last: Tuple[str, int]) -> bool:
+        """Whether the last write that a replica answered is another operation by now."""
+        replica, counter = last
+        [operations] = server.ask("ops", self.document, wire.pairs_of({**front, replica: counter - 1}), 1)
+        return not any(it.id == [counter, replica] and operations and it.is_in(operations[0]) for it in self.answered)
 
     def _await_hub(self, server: Session, last: Front) -> None:
         try:
@@ -165,10 +182,19 @@ class Writes:
                 log.refresh()
 
     def _take_lost(self, server: Session) -> List[Write]:
-        """Those of the answered writes that the server lacks. The others stay."""
+        """Those of the answered writes that the server lacks, or has something else by their ids. The others stay."""
         front = server.front(self.document)
-        lost = [write for write in self.answered if write.id and not wire.covers(front, write.id)]
-        self.answered = deque(write for write in self.answered if write.id and wire.covers(front, write.id))
+        before = dict(front)
+        for write in self.answered:
+            assert write.id is not None
+            counter, replica = write.id
+            before[replica] = min(counter - 1, before.get(replica, 0))
+        there = {(it[1][0], it[1][1]): it for it in server.operations(self.document, before)} if self.answered else {}
+        writes, self.answered = self.answered, deque()
+        lost: List[Write] = []
+        for write in writes:
+            found = there.get((write.id[0], write.id[1])) if write.id else None
+            (self.answered if found is not None and write.is_in(found) else lost).append(write)
         return lost
 
     def _send_waiting(self, server: Session) -> List[Refused]:

@@ -6,7 +6,7 @@ import subprocess
 import sys
 import time
 from pathlib import Path
-from typing import IO, Any, Callable, Iterator, List, Optional
+from typing import IO, Any, Callable, Iterator, List, Optional, Sequence
 
 import pytest
 
@@ -17,22 +17,28 @@ os.environ["JCRDT"] = PROGRAM
 os.environ["PYTHONDONTWRITEBYTECODE"] = "1"
 sys.dont_write_bytecode = True
 sys.path.insert(0, str(PACKAGE))
+import jcrdt  # noqa: E402
 # The longest that a test waits for a process or a fact. It is far more than a slow machine takes.
 SECONDS = 300
+# How a server takes back sessions from who is silent for a second while others wait.
+IMPATIENT = ("--clients", "2", "--patience", "1")
 
 
 class Server:
     """`jcrdt serve` over a file, which may be killed and started again at the same port."""
 
-    def __init__(self, folder: Path, documents: List[str], name: str = "srv", sessions: int = 64) -> None:
-        self.file, self.documents, self.name, self.sessions = str(folder / f"{name}.db"), documents, name, sessions
+    def __init__(self, folder: Path, documents: List[str], name: str = "srv", sessions: int = 64,
+                 admission: Sequence[str] = ()) -> None:
+        """`admission` stands in place of the number of sessions."""
+        self.file, self.documents, self.name = str(folder / f"{name}.db"), documents, name
+        self.admission = admission or ("--sessions", str(sessions))
         self.address = "127.0.0.1:0"
         self.program: "Optional[subprocess.Popen[bytes]]" = None
         self.start()
 
     def start(self) -> None:
-        words = [PROGRAM, "serve", "--addr", self.address, "--sessions", str(self.sessions), "--file", self.file,
-                 "--name", self.name, *self.documents]
+        words = [PROGRAM, "serve", "--addr", self.address, *self.admission, "--file", self.file, "--name", self.name,
+                 *self.documents]
         for _ in range(20):
             self.program = subprocess.Popen(words, bufsize=0, stdout=subprocess.PIPE, stderr=subprocess.DEVNULL)
             line = self.out.readline()
@@ -79,6 +85,14 @@ def serve(tmp_path: Path) -> Iterator[Callable[..., Server]]:
     yield start
     for server in servers:
         server.kill()
+
+
+def takes_silent_ones(address: str) -> None:
+    """Two clients come one after the other to a server with `--clients`, all of whose sessions are taken: each gets that of one that
+    is silent, the second that of the first."""
+    came = [jcrdt.connected(address, begin=SECONDS) for _ in range(2)]
+    for session in came:
+        session.close()
 
 
 def tool(*words: str, text: str = "", status: int = 0) -> str:

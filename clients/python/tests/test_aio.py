@@ -6,7 +6,7 @@ import signal
 from typing import Any, Awaitable, Callable, List, TypeVar
 
 import pytest
-from conftest import SECONDS, Server
+from conftest import IMPATIENT, SECONDS, Server, takes_silent_ones
 from test_session import BOB, VALUE, answering, forked, freeze, kinds
 from test_writes import hub
 
@@ -197,6 +197,28 @@ def test_who_watches_is_told(serve: Serve) -> None:
     run(lambda: test(server.address))
     with hub(server) as address:
         run(lambda: test(address))
+
+
+def test_who_watches_keeps_its_session(serve: Serve, monkeypatch: pytest.MonkeyPatch) -> None:
+    """However seldom it looks, where others wait at the server."""
+    monkeypatch.setattr(aio, "SIGN_SECONDS", 0.2)
+    server = serve("d", admission=IMPATIENT)
+
+    async def test() -> None:
+        async with aio.connected(server.address) as session:
+            await session.open("d")
+            watched = session.watch("d", 3600)
+            await watched.__anext__()
+            next_one = asyncio.ensure_future(watched.__anext__())
+            silent = await aio.connected(server.address)
+            await asyncio.get_running_loop().run_in_executor(None, takes_silent_ones, server.address)
+            with pytest.raises(Lost):
+                await silent.version()
+            assert await session.front("d") == {} and not next_one.done()
+            next_one.cancel()
+            await silent.close()
+
+    run(test)
 
 
 def test_pushes(serve: Serve) -> None:

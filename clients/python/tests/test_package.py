@@ -157,6 +157,35 @@ def test_the_wheel_has_the_library(tmp_path: Path) -> None:
     assert run.stdout.decode().strip() == str(tmp_path / "site" / "jcrdt" / "libjcrdt.so")
 
 
+@pytest.mark.parametrize("platform, path, machine", [("linux-x86_64", "libjcrdt.so", 62), ("linux-aarch64", "aarch64/libjcrdt.so", 183)])
+def test_a_wheel_for_each_platform(tmp_path: Path, platform: str, path: str, machine: int) -> None:
+    """Built anywhere, it has the library of that platform, by ELF's number of its machine, and says so by its tag. So has one of a source
+    distribution. For any other platform it has none."""
+    if not (TOP / "release" / path).is_file():
+        pytest.skip("libjcrdt.so isn't here")
+    shutil.copytree(TOP / "release" / os.path.dirname(path), tmp_path / "release" / os.path.dirname(path))
+    source = tmp_path / "clients" / "python"
+    shutil.copytree(copied(tmp_path), source)
+    program = ("import build_backend as it, sys; at, platform = sys.argv[1:]\n"
+               "print(it.build_sdist(at), it.build_wheel(at, {'platform': platform}), it.build_wheel(at, {'platform': 'linux-riscv64'}))")
+
+    def built(folder: Path) -> List[str]:
+        run = subprocess.run([sys.executable, "-B", "-c", program, str(tmp_path), platform], cwd=folder, stdout=subprocess.PIPE, check=True,
+                             timeout=SECONDS)
+        return run.stdout.decode().split()
+
+    archive, wheel, other = built(source)
+    assert wheel.endswith(f"-py3-none-{platform.replace('-', '_')}.whl") and other.endswith("-py3-none-any.whl")
+    content = (tmp_path / wheel).read_bytes()
+    with zipfile.ZipFile(tmp_path / wheel) as opened:
+        assert int.from_bytes(opened.read("jcrdt/libjcrdt.so")[18:20], "little") == machine
+    with zipfile.ZipFile(tmp_path / other) as opened:
+        assert not any(it.endswith(".so") for it in opened.namelist())
+    shutil.unpack_archive(str(tmp_path / archive), str(tmp_path / "unpacked"))
+    assert built(tmp_path / "unpacked" / archive[:-len(".tar.gz")])[1] == wheel
+    assert (tmp_path / wheel).read_bytes() == content
+
+
 def other_pythons() -> List[str]:
     """Other Pythons from 3.8 on, the oldest first."""
     found = []

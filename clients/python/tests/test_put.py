@@ -65,7 +65,8 @@ def test_a_put_without_room_changes_nothing(session: Session) -> None:
 
 
 def test_each_part_is_counted(session: Session) -> None:
-    for value in (VALUE, {}, [], 1, Counter(2**70), [Counter(1), {"a": [[]]}], {"a": {"b": {}}}):
+    values: List[Any] = [VALUE, {}, [], 1, Counter(2**70), [Counter(1), {"a": [[]]}], {"a": {"b": {}}}]
+    for value in values:
         front = session.front("d")
         session.put("d", [0], value)
         assert len(list(session.operations("d", front))) == room.count_of(value), value

@@ -16,7 +16,7 @@ from typing import Any, Callable, Dict, Iterator, List, Union
 
 import pytest
 
-from conftest import PACKAGE, SECONDS, TOP, Server, wait_until as wait_for
+from conftest import IMPATIENT, PACKAGE, SECONDS, TOP, Server, takes_silent_ones, wait_until as wait_for
 
 from jcrdt import operation_log, pull, wire
 
@@ -81,9 +81,9 @@ class Peer:
 class Relay:
     """`python -m jcrdt relay`, by the module alone. It is PATIENT, also at its end unless it is said to end soon."""
 
-    def __init__(self, folder: Path, *words: str, ends_soon: bool = False) -> None:
+    def __init__(self, folder: Path, *words: str, ends_soon: bool = False, with_more: str = "pass") -> None:
         self.told, self.said = folder / "relay.err", folder / "relay.out"
-        script = "; ".join([PATIENT, *([] if ends_soon else [PATIENT_END]), "relay.main()"])
+        script = "; ".join([PATIENT, *([] if ends_soon else [PATIENT_END]), with_more, "relay.main()"])
         command = [sys.executable, "-B", "-c", script, *words, "--doc", "d"]
         with open(self.told, "ab") as errors, open(self.said, "ab") as output:
             self.process = subprocess.Popen(command, stdout=output, stderr=errors,
@@ -105,6 +105,14 @@ class Relay:
         with open(f"/proc/{self.process.pid}/status", encoding="utf-8") as status:
             caught = next(line for line in status if line.startswith("SigCgt")).split()[1]
         return bool(int(caught, 16) >> (number - 1) & 1)
+
+    def is_connected_to(self, address: str) -> bool:
+        """Whether it has a connection there, which neither side has closed."""
+        place = f"0100007F:{int(address.rsplit(':')[1]):04X}"
+        with open("/proc/net/tcp", encoding="ascii") as table:
+            rows = [it.split() for it in table][1:]
+        sockets = {f"socket:[{it[9]}]" for it in rows if it[2] == place and it[3] == "01"}
+        return any(os.readlink(it) in sockets for it in Path(f"/proc/{self.process.pid}/fd").iterdir())
 
     def memory(self) -> int:
         """The memory that it has, in MB."""
@@ -210,6 +218,20 @@ def test_servers_agree(serve: Serve, relay: Callable[..., Relay]) -> None:
     assert asked(alice.address, ["show", "d", [0]]) == asked(bob.address, ["show", "d", [0]])
 
 
+def test_it_keeps_its_session_where_others_wait(serve: Serve, relay: Callable[..., Relay]) -> None:
+    """A server takes sessions back from who is silent. The relay isn't, however seldom it asks for news."""
+    alice, bob = serve("d", name="alice", admission=IMPATIENT), serve("d", name="bob")
+    kept = relay(alice.address, bob.address, "--every", "3600", ends_soon=True, with_more="relay.SIGN_SECONDS = 0.2")
+    wait_for(lambda: kept.output() == "d: all 2 agree\n")
+    with contextlib.closing(socket.create_connection(("127.0.0.1", int(alice.address.rsplit(":")[1])))) as silent:
+        silent.sendall(b'["version"]\n')
+        assert silent.recv(100)
+        takes_silent_ones(alice.address)
+        assert not silent.recv(100)
+    assert kept.is_connected_to(alice.address) and kept.end() == 0
+    assert sorted(kept.errors().splitlines()) == sorted(f"{it.address}: connected" for it in (alice, bob))
+
+
 def test_bad_replies_harm_nobody_else(serve: Serve, relay: Callable[..., Relay]) -> None:
     """Each kind of bad reply by a peer of its own, all in one relay: each is named once, and left out."""
     alice, bob = serve("d", name="alice"), serve("d", name="bob")
@@ -218,7 +240,6 @@ def test_bad_replies_harm_nobody_else(serve: Serve, relay: Callable[..., Relay])
     for number in range(4):
         write(alice, f"k{number}", 100)
         comes(bob, f"k{number}")
-        time.sleep(0.5)
 
     def named(peer: Peer) -> List[str]:
         return [it for it in kept.errors().split("\n") if peer.address in it and "connected" not in it]
@@ -419,11 +440,10 @@ def test_equal_fronts_and_other_documents(serve: Serve, relay: Callable[..., Rel
     peer = Peer({"front": b'["front",[["alice-1",3]]]', "show": b'["show",[["map",[]]]]'})
     kept = relay(alice.address, peer.address)
     wait_for(lambda: "the documents differ" in kept.errors())
-    time.sleep(1)
-    assert kept.errors().count("the documents differ") == 1
-    assert "agree" not in kept.output()
     # Asked for all it has, it shows that it has nothing.
     wait_for(lambda: f"{peer.address}: left out: it sends a front of operations" in kept.errors())
+    assert kept.errors().count("the documents differ") == 1
+    assert "agree" not in kept.output()
     assert kept.end() == 1
 
 

@@ -5,7 +5,6 @@ import re
 import shutil
 import socket
 import subprocess
-import time
 from pathlib import Path
 from typing import Any, Callable, Iterator, List
 
@@ -221,11 +220,17 @@ def test_tls(serve: Serve, relay: Callable[..., Relay], tmp_path: Path) -> None:
     try:
         alice, bob = serve("d", name="alice"), serve("d", name="bob")
         for site in (alice, bob):
-            relay(site.address, "--redis", f"rediss://localhost:{port}?ssl_ca_certs={tmp_path}/cert")
+            relay(site.address, "--redis", f"rediss://127.0.0.1:{port}?ssl_ca_certs={tmp_path}/cert")
         write(alice, "a")
         comes(bob, "a")
     finally:
         store.kill()
+
+
+def ooms(store: Redis) -> int:
+    """How often a Redis has refused something since it is out of memory."""
+    found = re.search(r"errorstat_OOM:count=(\d+)", store.raw("INFO", "errorstats").decode())
+    return int(found[1]) if found else 0
 
 
 def test_a_full_redis(serve: Serve, relay: Callable[..., Relay], redis: Callable[..., Redis]) -> None:  # noqa: F811
@@ -237,7 +242,8 @@ def test_a_full_redis(serve: Serve, relay: Callable[..., Relay], redis: Callable
     for number in range(4):
         write(alice, f"k{number}", 1500)
     wait_for(lambda: "left out: " in relays[0].errors())
-    time.sleep(2)
+    refused = ooms(store)
+    wait_for(lambda: ooms(store) >= refused + 2)
     assert len(re.findall("OOM|OutOfMemoryError", relays[0].errors())) == 1 and "assign" not in relays[0].errors(), relays[0].errors()
     store.raw("CONFIG", "SET", "maxmemory", "0")
     comes(bob, "k3", last=1499)

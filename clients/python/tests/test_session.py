@@ -10,9 +10,10 @@ import time
 from typing import Any, Callable, Dict, Iterator, List
 
 import pytest
-from conftest import Server
+from conftest import IMPATIENT, SECONDS, Server, takes_silent_ones
 
 import jcrdt
+from jcrdt import session as sessions
 from jcrdt import Away, Conflict, Counter, Lost, Refused, Session, settled
 
 BOB = ["op", [1, "bob-1"], [], [[["m", 0]], "title"], ["assign", "Journey"]]
@@ -100,6 +101,24 @@ def test_who_watches_is_told(alice: Session) -> None:
     assert next(watched) == {**before, "bob-1": 1}
     assert list(alice.watch("d", 0.01, timeout=0.05)) == [{**before, "bob-1": 1}]
     assert repr(alice) == "<Session of a program>"
+
+
+def test_who_watches_keeps_its_session(serve: Serve, monkeypatch: pytest.MonkeyPatch) -> None:
+    """However seldom it looks, where others wait at the server: one that is silent goes in its place."""
+    monkeypatch.setattr(sessions, "SIGN_SECONDS", 0.2)
+    server = serve("d", admission=IMPATIENT)
+    with jcrdt.connected(server.address) as watcher:
+        watcher.open("d")
+        watched = watcher.watch("d", 3600)
+        next(watched)
+        thread = threading.Thread(target=lambda: pytest.raises(Lost, next, watched), daemon=True)
+        thread.start()
+        silent = jcrdt.connected(server.address)
+        takes_silent_ones(server.address)
+        with pytest.raises(Lost):
+            silent.version()
+        assert thread.is_alive() and watcher.front("d") == {}
+    thread.join(SECONDS)
 
 
 @contextlib.contextmanager

@@ -38,7 +38,7 @@ ENVIRONMENT = {**os.environ, "PYTHONPATH": str(PACKAGE)}
 def test_help_and_wrong_words() -> None:
     assert "python3 -m jcrdt TOOL" in tool("--help")
     assert "python3 -m jcrdt TOOL" in tool("nonsense", status=2)
-    for name in ("talk", "exchange", "save", "load", "log", "renew", "stop"):
+    for name in ("talk", "exchange", "save", "load", "log", "renew", "mend", "stop"):
         module = importlib.import_module(f"jcrdt.{MODULES.get(name, name)}")
         for status, words in enumerate((["--help"], ["--nonsense"])):
             with pytest.raises(SystemExit) as ended:

@@ -44,6 +44,44 @@ def test_no_write_is_lost(serve: Serve, seed: int) -> None:
         assert set(session.keys("d", [0])) == {f"k{it}" for it in range(1, number + 1)}
 
 
+def restored(server: Server, backup: Path) -> None:
+    """Starts the server over an older file, under its old name."""
+    server.kill()
+    for end in ("", "-wal", "-shm"):
+        Path(server.file + end).unlink(missing_ok=True)
+        if Path(f"{backup}{end}").exists():
+            shutil.copy(f"{backup}{end}", server.file + end)
+    server.start()
+
+
+def test_ids_that_were_given_out_again_are_no_writes_of_before(serve: Serve, tmp_path: Path) -> None:
+    """The file of before a restart is put back: so the next start has the name of the one that answered."""
+    server, writes = serve("d"), Writes("d")
+    server.kill()
+    for end in ("", "-wal"):
+        if Path(server.file + end).exists():
+            shutil.copy(server.file + end, f"{tmp_path / 'backup'}{end}")
+    server.start()
+    session = jcrdt.connected(server.address)
+    session.open("d")
+    ids = [writes.send(session, "assign", [0, f"k{number}"], number) for number in range(8)]
+    wait_until(lambda: len(front_on_disk(server.file, "d")) == 1)
+    restored(server, tmp_path / "backup")
+    with jcrdt.connected(server.address) as other:
+        other.open("d")
+        assert [other.assign("d", [0, "other", f"k{number}"], number) for number in range(3)] == ids[:3]
+        other.assign("d", [0, "k3"], 3)
+        assert [other.assign("d", [0, f"new{number}"], True) for number in range(5)][:4] == ids[4:]
+        with pytest.raises(Lost, match="the server was started again and lacks writes"):
+            writes.flush(other, file=server.file)
+        # The one of the same id that does the same is there.
+        assert writes.send_again(other) == (7, [])
+        assert writes.flush(other, file=server.file) == 8
+        shown = other.plain("d", [0])
+        assert all(shown[f"k{number}"] == number for number in range(8)) and len(shown) == 14
+    session.close()
+
+
 def test_flush_means_on_disk(serve: Serve) -> None:
     """What was flushed is there after a kill, from the file alone."""
     server = serve("d")

@@ -1,10 +1,11 @@
 """Writes without a server: the order of one key's writes over a kill, what a flush counts, and additions that count once."""
 
-from typing import Any, Dict, List, Optional, Tuple, cast
+from typing import Any, Dict, Iterator, List, Optional, Tuple, cast
 
 import pytest
 
-from jcrdt import Away, Lost, Refused, Session, Writes
+from jcrdt import Away, Lost, Refused, Session, Writes, covers
+from jcrdt.wire import Front, Operation
 
 
 class Start:
@@ -17,6 +18,7 @@ class Start:
         self.made: List[List[Any]] = []
         self.values_there = dict(kept.values_there) if kept else {}
         self.fronts = kept.front("d") if kept else {}
+        self.log: List[Operation] = list(kept.log) if kept else []
         # What is raised by the next requests, in their order, and whether the change was made all the same.
         self.faults: List[Tuple[Exception, bool]] = []
 
@@ -24,10 +26,14 @@ class Start:
         return self.faults.pop(0) if self.faults else (None, True)
 
     def ask(self, *request: Any) -> List[Any]:
+        if request[0] == "ops":
+            return [list(self.operations("d", dict(request[2])))[:1]]
         error, is_made = self._fault()
         if is_made:
             self.count += 1
             self.made.append(list(request))
+            word, _, (_, *keys), *value = request
+            self.log.append(["op", [self.count, self.name], [], [[["m", 0], *(["m", it] for it in keys[:-1])], keys[-1]], [word, *value]])
             if request[0] == "assign":
                 _, _, cursor, value = request
                 self.values_there[tuple(cursor)] = value
@@ -43,6 +49,9 @@ class Start:
 
     def front(self, _: str) -> Dict[str, int]:
         return {**self.fronts, **({self.name: self.count} if self.count else {})}
+
+    def operations(self, _: str, front: Front) -> Iterator[Operation]:
+        return (it for it in self.log if not covers(front, it[1]))
 
     @property
     def session(self) -> Session:

@@ -1,5 +1,5 @@
 -- What the arguments of a command line ask for.
-use Rattle.std.specs.Prelude.{◌≡◌, ◌≤◌, ℕ, Bool, true, false, List, [], ◌∷◌, codes, map, Some}
+use Rattle.std.specs.Prelude.{◌≡◌, ◌≤◌, ℕ, Bool, true, false, List, [], ◌∷◌, codes, map, Option, Some, None}
 use Rattle.std.specs.Prelude.{◌||◌, unwrap_or}
 use Rattle.std.specs.Str.{bytes_eq}
 use Rattle.std.specs.Str.Parse.{IsNumeral, digits_value, without_leading_plus}
@@ -10,18 +10,18 @@ use Rattle.clap.specs.declared.builder.ArgAction.TheVariants.{Append, SetTrue}
 use Rattle.run_core.specs.Names.{Wanted, is_good, wanted_by}
 use Rattle.server_core.specs.declared.progress.Pace.{Pace}
 use Rattle.server_core.specs.declared.progress.Pace.TheVariants.{Behind, Durable}
-use Rattle.command_line.specs.Limits.{most_backlog, most_sessions}
+use Rattle.command_line.specs.Limits.{most_backlog, most_seconds, most_sessions}
 use Rattle.command_line.specs.declared.args.RunArgs.{RunArgs}
 use Rattle.command_line.specs.declared.args.ServeArgs.{ServeArgs}
+use Rattle.command_line.specs.declared.args.Terms.{Terms}
 
-abbrev pub name_rule : Rule
-name_rule = record (new_rule (codes "name")) { long = Some (codes "name") }
+-- an option that may be left out
+abbrev pub option_rule : Text → Rule
+option_rule name = record (new_rule name) { long = Some name }
 
-abbrev pub backlog_rule : Rule
-backlog_rule = record (new_rule (codes "backlog")) { long = Some (codes "backlog") }
-
-abbrev pub durable_rule : Rule
-durable_rule = record (new_rule (codes "durable")) { long = Some (codes "durable"); action = Some SetTrue }
+-- an option without a value
+abbrev pub flag_rule : Text → Rule
+flag_rule name = record (new_rule name) { long = Some name; action = Some SetTrue }
 
 abbrev pub document_rule : Rule
 document_rule = record (new_rule (codes "doc")) { required = true; action = Some Append }
@@ -32,7 +32,7 @@ required_rule name = record (new_rule name) { long = Some name; required = true 
 
 -- run [--name NAME] DOC..
 abbrev pub run_command : App
-run_command = with_rule (with_rule (new_app (codes "run")) name_rule) document_rule
+run_command = with_rule (with_rule (new_app (codes "run")) (option_rule (codes "name"))) document_rule
 
 abbrev pub is_run : List Text → Bool
 is_run [] = false
@@ -53,9 +53,16 @@ pub record IsBacklog (text : Text) (backlog : ℕ) : Type 0 where
   pub some : 1 ≤ backlog
   pub few : backlog ≤ most_backlog
 
+-- the text is a number of seconds: decimal digits, before which a plus may stand, for 1 to 3,600
+pub record IsSeconds (text : Text) (seconds : ℕ) : Type 0 where
+  pub digits : IsNumeral 10 (without_leading_plus text)
+  pub value : seconds ≡ digits_value 10 (without_leading_plus text)
+  pub some : 1 ≤ seconds
+  pub few : seconds ≤ most_seconds
+
 -- the text that stands for a flag that was given
-abbrev pub is_durable : Text → Bool
-is_durable text = bytes_eq text (codes "true")
+abbrev pub is_given : Text → Bool
+is_given text = bytes_eq text (codes "true")
 
 -- a reply to a change goes out once the file has it, or once the file is behind by so many
 abbrev pub pace_of : Bool → ℕ → Pace
@@ -89,21 +96,23 @@ pub record AsksToRun (args : List Text) (wanted : Wanted) : Type 0 where
 abbrev pub run_of : RunArgs → Wanted
 run_of args = record { name = args.name.now; documents = map (λ s. s.now) args.documents.items }
 
--- what a server is to be: its name, those of its documents, the address to listen at, how many
--- sessions, and when replies to changes go out
+-- what a server is to be: its name, those of its documents, the address to listen at, on which
+-- terms it has sessions, and when replies to changes go out
 pub record WantedServer : Type 0 where
   pub name : Text
   pub documents : List Text
   pub address : Text
-  pub sessions : ℕ
+  pub terms : Terms
   pub pace : Pace
 
--- serve --addr A --sessions N --file F [--name NAME] [--backlog N] [--durable] DOC..
+-- serve --addr A (--sessions N | --clients N) --file F [--name NAME] [--backlog M] [--durable]
+-- [--patience S] [--until-input-ends] [--drain S] DOC..
 abbrev pub serve_command : App
 serve_command =
-    with_rule (with_rule (with_rule (with_rule (with_rule (with_rule (with_rule (new_app (codes "serve"))
-    (required_rule (codes "addr"))) (required_rule (codes "sessions"))) (required_rule (codes "file"))) name_rule)
-    backlog_rule) durable_rule) document_rule
+    with_rule (with_rule (with_rule (with_rule (with_rule (with_rule (with_rule (with_rule (with_rule (with_rule (with_rule (new_app (codes "serve"))
+    (required_rule (codes "addr"))) (required_rule (codes "file"))) (option_rule (codes "sessions"))) (option_rule (codes "clients")))
+    (option_rule (codes "name"))) (option_rule (codes "backlog"))) (flag_rule (codes "durable"))) (option_rule (codes "patience")))
+    (flag_rule (codes "until-input-ends"))) (option_rule (codes "drain"))) document_rule
 
 abbrev pub is_serve : List Text → Bool
 is_serve [] = false
@@ -113,13 +122,28 @@ is_serve (arg ∷ args) = bytes_eq arg (codes "serve")
 pub record SaysPace (rows : List Row) (pace : Pace) : Type 0 where
   pub most : ℕ
   pub behind : IsBacklog (unwrap_or (first_of (codes "backlog") rows) (codes "4096")) most
-  pub paced : pace ≡ pace_of (is_durable (argument_of (codes "durable") rows)) most
+  pub paced : pace ≡ pace_of (is_given (argument_of (codes "durable") rows)) most
 
--- clap's matches name this server, with good names, a number of sessions and one of operations
+-- Of the texts of --sessions and --clients one is given: it says how many sessions there are at
+-- once, and the second that others follow them.
+abbrev pub SaysCount : Option Text → Option Text → ℕ → Bool → Type 0
+SaysCount (Some text) None sessions stays = IsCount text sessions × (stays ≡ false)
+SaysCount None (Some text) sessions stays = IsCount text sessions × (stays ≡ true)
+SaysCount None None sessions stays = ⊥
+SaysCount (Some text) (Some other) sessions stays = ⊥
+
+-- clap's matches say that a server has sessions on these terms
+pub record SaysTerms (rows : List Row) (terms : Terms) : Type 0 where
+  pub counted : SaysCount (first_of (codes "sessions") rows) (first_of (codes "clients") rows) terms.sessions terms.stays
+  pub patient : IsSeconds (unwrap_or (first_of (codes "patience") rows) (codes "30")) terms.patience
+  pub drained : IsSeconds (unwrap_or (first_of (codes "drain") rows) (codes "10")) terms.drain
+  pub until : terms.until_input_ends ≡ is_given (argument_of (codes "until-input-ends") rows)
+
+-- clap's matches name this server, with good names, good terms and a number of operations
 pub record NamesServer (rows : List Row) (wanted : WantedServer) : Type 0 where
   pub named : wanted_by wanted.name wanted.documents ≡ wanted_of rows
   pub at : wanted.address ≡ argument_of (codes "addr") rows
-  pub sessions : IsCount (argument_of (codes "sessions") rows) wanted.sessions
+  pub terms : SaysTerms rows wanted.terms
   pub paced : SaysPace rows wanted.pace
   pub good : is_good wanted.name wanted.documents ≡ true
 
@@ -136,7 +160,7 @@ server_of args =
       name = args.name.now;
       documents = map (λ s. s.now) args.documents.items;
       address = args.address.now;
-      sessions = args.sessions;
+      terms = args.terms;
       pace = args.pace;
     }
 

@@ -10,6 +10,22 @@ pub struct RunArgs<'a> {
     pub documents: Vec<&'a str>,
 }
 
+/// On which terms a server has sessions.
+#[derive(Clone, Copy, Debug, PartialEq, Eq)]
+pub struct Terms {
+    /// The number of sessions, or of those at once: 1 to 256.
+    pub sessions: u16,
+    /// Whether others follow a session that has ended.
+    pub stays: bool,
+    /// For how many seconds a client may be silent before it has sent its first whole line, within
+    /// a line, and between lines while others wait: 1 to 3,600.
+    pub patience: u16,
+    /// Whether the server drains when its standard input ends.
+    pub until_input_ends: bool,
+    /// How many seconds sessions have to end while it drains: 1 to 3,600.
+    pub drain: u16,
+}
+
 /// What `serve` is asked for.
 #[derive(Drop)]
 pub struct ServeArgs<'a> {
@@ -19,8 +35,8 @@ pub struct ServeArgs<'a> {
     pub documents: Vec<&'a str>,
     /// The address to listen at.
     pub address: &'a str,
-    /// The number of sessions: 1 to 256.
-    pub sessions: u16,
+    /// On which terms it has sessions.
+    pub terms: Terms,
     /// When replies to changes go out.
     pub pace: Pace,
     /// The file of the stored log.

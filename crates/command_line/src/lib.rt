@@ -9,7 +9,7 @@ mod numbers;
 mod parse;
 mod usage;
 
-pub use args::{ArgsFault, CheckArgs, RunArgs, ServeArgs};
+pub use args::{ArgsFault, CheckArgs, RunArgs, ServeArgs, Terms};
 pub use first_word::{is_check, is_run, is_serve, is_version};
 pub use numbers::limits_as_defined;
 pub use parse::{parse_check, parse_run, parse_serve};

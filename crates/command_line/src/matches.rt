@@ -1,10 +1,9 @@
 //! The commands, and what clap finds in the arguments of each.
-ghost use Rattle.std.specs.Prelude.{◌≡◌, ◌≢◌, [], false, map, IfOk, IfErr};
-ghost use Rattle.clap.specs.Words.{app_of, fault_of, found_of, kind_of, matches_of, rows_of};
-ghost use Rattle.clap.specs.Words.{rule_of};
-ghost use Rattle.command_line.specs.CommandLine.{backlog_rule, check_command, document_rule};
-ghost use Rattle.command_line.specs.CommandLine.{durable_rule};
-ghost use Rattle.command_line.specs.CommandLine.{name_rule, required_rule, run_command};
+ghost use Rattle.std.specs.Prelude.{◌≡◌, ◌≢◌, [], false, codes, map, IfOk, IfErr};
+ghost use Rattle.clap.specs.Words.{app_of, fault_of, found_of, kind_of, matches_of, new_app, rows_of};
+ghost use Rattle.clap.specs.Words.{rule_of, with_rule};
+ghost use Rattle.command_line.specs.CommandLine.{check_command, document_rule, flag_rule};
+ghost use Rattle.command_line.specs.CommandLine.{option_rule, required_rule, run_command};
 ghost use Rattle.command_line.specs.CommandLine.{serve_command, argument_of};
 
 use clap::error::ErrorKind;
@@ -13,6 +12,12 @@ use std::alloc::{AllocError, Global};
 
 /// By how many operations of a document the file may be behind if nothing is said.
 pub(crate) const DEFAULT_BACKLOG: &str = "4096";
+
+/// For how many seconds a client may be silent if nothing is said.
+pub(crate) const DEFAULT_PATIENCE: &str = "30";
+
+/// How many seconds sessions have to end if nothing is said.
+pub(crate) const DEFAULT_DRAIN: &str = "10";
 
 /// The name of a server that is given none.
 pub(crate) const DEFAULT_NAME: &str = "srv";
@@ -25,30 +30,20 @@ fn required_option<'a>(alloc: Global, name: &'a str) -> Arg<'a>
     Arg::new(alloc, name).long(name).required(true)
 }
 
-// `[--name NAME]`.
-fn name_option<'a>(alloc: Global) -> Arg<'a>
-    ensures rule { rule_of result ≡ name_rule }
+// An option that may be left out.
+fn optional<'a>(alloc: Global, name: &'a str) -> Arg<'a>
+    ensures rule { rule_of result ≡ option_rule name.entry.now }
     ensures local { result.global ≡ false }
 {
-    Arg::new(alloc, "name").long("name")
+    Arg::new(alloc, name).long(name)
 }
 
-// `[--backlog N]`.
-fn backlog_option<'a>(alloc: Global) -> Arg<'a>
-    ensures rule { rule_of result ≡ backlog_rule }
+// An option without a value.
+fn flag<'a>(alloc: Global, name: &'a str) -> Arg<'a>
+    ensures rule { rule_of result ≡ flag_rule name.entry.now }
     ensures local { result.global ≡ false }
 {
-    Arg::new(alloc, "backlog").long("backlog")
-}
-
-// `[--durable]`.
-fn durable_option<'a>(alloc: Global) -> Arg<'a>
-    ensures rule { rule_of result ≡ durable_rule }
-    ensures local { result.global ≡ false }
-{
-    Arg::new(alloc, "durable")
-        .long("durable")
-        .action(ArgAction::SetTrue)
+    Arg::new(alloc, name).long(name).action(ArgAction::SetTrue)
 }
 
 // `DOC..`.
@@ -70,27 +65,41 @@ pub(crate) fn run_matches<'a>(alloc: Global, args: &'a [&'a str]) -> Result<ArgM
         → fault_of run_command (map (λ s. s.now) args.entry.now) ≢ []) }
 {
     let command = Command::new(alloc, "run")
-        .arg(name_option(alloc))?
+        .arg(optional(alloc, "name"))?
         .arg(documents_argument(alloc))?;
     command.try_get_matches_from(args)
 }
 
-// `serve --addr A --sessions N --file F [--name NAME] [--backlog N] [--durable] DOC..`.
-fn server_command<'a>(alloc: Global) -> Result<Command<'a>, AllocError>
-    ensures { IfOk result (λ command. app_of command ≡ serve_command) }
+// `serve`, with what it must be told and how it has sessions.
+fn begun_command<'a>(alloc: Global) -> Result<Command<'a>, AllocError>
+    ensures { IfOk result (λ command. app_of command ≡ with_rule (with_rule (with_rule (with_rule (new_app (codes "serve"))
+        (required_rule (codes "addr"))) (required_rule (codes "file"))) (option_rule (codes "sessions")))
+        (option_rule (codes "clients"))) }
 {
     Command::new(alloc, "serve")
         .arg(required_option(alloc, "addr"))?
-        .arg(required_option(alloc, "sessions"))?
         .arg(required_option(alloc, "file"))?
-        .arg(name_option(alloc))?
-        .arg(backlog_option(alloc))?
-        .arg(durable_option(alloc))?
+        .arg(optional(alloc, "sessions"))?
+        .arg(optional(alloc, "clients"))
+}
+
+// `serve --addr A (--sessions N | --clients N) --file F [--name NAME] [--backlog M] [--durable]
+// [--patience S] [--until-input-ends] [--drain S] DOC..`.
+fn server_command<'a>(alloc: Global) -> Result<Command<'a>, AllocError>
+    ensures { IfOk result (λ command. app_of command ≡ serve_command) }
+{
+    begun_command(alloc)?
+        .arg(optional(alloc, "name"))?
+        .arg(optional(alloc, "backlog"))?
+        .arg(flag(alloc, "durable"))?
+        .arg(optional(alloc, "patience"))?
+        .arg(flag(alloc, "until-input-ends"))?
+        .arg(optional(alloc, "drain"))?
         .arg(documents_argument(alloc))
 }
 
-/// What clap finds in the arguments of `serve --addr A --sessions N --file F [--name NAME]
-/// [--backlog N] [--durable] DOC..`.
+/// What clap finds in the arguments of `serve --addr A (--sessions N | --clients N) --file F
+/// [--name NAME] [--backlog M] [--durable] [--patience S] [--until-input-ends] [--drain S] DOC..`.
 pub(crate) fn serve_matches<'a>(alloc: Global, args: &'a [&'a str]) -> Result<ArgMatches<'a>, Error>
     ensures taken { IfOk result
         (λ m. fault_of serve_command (map (λ s. s.now) args.entry.now) ≡ []) }

@@ -1,20 +1,21 @@
 //! Arguments as plain records.
-ghost use Rattle.std.specs.Prelude.{◌≡◌, ◌≢◌, false, true, codes, map, IfOk, IfErr, MatchOption};
-ghost use Rattle.std.specs.Prelude.{OnOk};
-ghost use Rattle.clap.specs.Words.{found_of, kind_of, matches_of, rows_of};
+ghost use Rattle.std.specs.Prelude.{◌≡◌, ◌≢◌, ℕ, Bool, false, true, codes, map, IfOk, IfErr};
+ghost use Rattle.std.specs.Prelude.{MatchOption, OnOk, unwrap_or};
+ghost use Rattle.clap.specs.Words.{first_of, found_of, kind_of, matches_of, rows_of};
 ghost use Rattle.run_core.specs.Names.{Wanted, is_good};
 ghost use Rattle.command_line.specs.CommandLine.{AsksToCheck, AsksToRun, AsksToServe, NamesServer};
-ghost use Rattle.command_line.specs.CommandLine.{SaysPace};
+ghost use Rattle.command_line.specs.CommandLine.{IsSeconds, SaysCount, SaysPace, SaysTerms};
 ghost use Rattle.command_line.specs.CommandLine.{WantedServer, asked_of, check_command, is_check};
 ghost use Rattle.command_line.specs.CommandLine.{is_run, is_serve};
 ghost use Rattle.command_line.specs.CommandLine.{run_of, serve_command, server_of, argument_of};
 
-use crate::args::{ArgsFault, CheckArgs, RunArgs, ServeArgs};
+use crate::args::{ArgsFault, CheckArgs, RunArgs, ServeArgs, Terms};
 use crate::first_word::{is_check, is_run, is_serve};
 use crate::matches::{
-    DEFAULT_BACKLOG, DEFAULT_NAME, argument_of, check_matches, run_matches, serve_matches,
+    DEFAULT_BACKLOG, DEFAULT_DRAIN, DEFAULT_NAME, DEFAULT_PATIENCE, argument_of, check_matches,
+    run_matches, serve_matches,
 };
-use crate::numbers::{backlog_of, pace_of, sessions_of};
+use crate::numbers::{Count, backlog_of, counted_of, is_given, pace_of, seconds_of};
 use clap::error::ErrorKind;
 use clap::{ArgMatches, Error};
 use run_core::is_good;
@@ -89,8 +90,51 @@ fn pace_in(matches: &ArgMatches<'_>) -> Option<Pace>
     }
 }
 
+// How many sessions there are, where one of the two options says it.
+fn count_in(matches: &ArgMatches<'_>) -> Option<Count>
+    ensures { MatchOption result
+        ((n : ℕ) → (b : Bool) → SaysCount (first_of (codes "sessions") (rows_of (found_of matches.now)))
+        (first_of (codes "clients") (rows_of (found_of matches.now))) n b → ⊥)
+        (λ count. SaysCount (first_of (codes "sessions") (rows_of (found_of matches.now)))
+        (first_of (codes "clients") (rows_of (found_of matches.now))) count.sessions count.stays) }
+{
+    counted_of(matches.get_str("sessions"), matches.get_str("clients"))
+}
+
+// The seconds of an option, where they are 1 to 3,600.
+fn seconds_in(matches: &ArgMatches<'_>, id: &str, default: &str) -> Option<u16>
+    ensures { MatchOption result
+        ((n : ℕ) → IsSeconds (unwrap_or (first_of id.now (rows_of (found_of matches.now))) default.now) n → ⊥)
+        (IsSeconds (unwrap_or (first_of id.now (rows_of (found_of matches.now))) default.now)) }
+{
+    seconds_of(matches.get_str(id).unwrap_or(default))
+}
+
+// On which terms there are sessions, where their numbers are good.
+fn terms_in(matches: &ArgMatches<'_>) -> Option<Terms>
+    ensures { MatchOption result ((terms : Terms) → SaysTerms (rows_of (found_of matches.now)) terms → ⊥)
+        (SaysTerms (rows_of (found_of matches.now))) }
+{
+    let Some(Count { sessions, stays }) = count_in(matches) else {
+        return None;
+    };
+    let Some(patience) = seconds_in(matches, "patience", DEFAULT_PATIENCE) else {
+        return None;
+    };
+    let Some(drain) = seconds_in(matches, "drain", DEFAULT_DRAIN) else {
+        return None;
+    };
+    Some(Terms {
+        sessions,
+        stays,
+        patience,
+        until_input_ends: is_given(argument_of(matches, "until-input-ends")),
+        drain,
+    })
+}
+
 // What clap's matches of a `serve` ask for. It is refused where a name is bad, there are too many
-// documents, the number of sessions isn't 1 to 256, or that of operations 1 to 100,000.
+// documents, or a number isn't one that it may be.
 fn serve_args<'a>(alloc: Global, matches: &ArgMatches<'a>) -> Result<ServeArgs<'a>, ArgsFault>
     ensures asked { IfOk result
         (λ it. NamesServer (rows_of (found_of matches.now)) (server_of it)) }
@@ -99,8 +143,8 @@ fn serve_args<'a>(alloc: Global, matches: &ArgMatches<'a>) -> Result<ServeArgs<'
     ensures file { IfOk result
         (λ it. it.file.now ≡ argument_of (codes "file") (rows_of (found_of matches.now))) }
 {
-    let sessions = match sessions_of(argument_of(matches, "sessions")) {
-        Some(sessions) => sessions,
+    let terms = match terms_in(matches) {
+        Some(terms) => terms,
         None => return Err(ArgsFault::Refused),
     };
     let pace = match pace_in(matches) {
@@ -112,14 +156,15 @@ fn serve_args<'a>(alloc: Global, matches: &ArgMatches<'a>) -> Result<ServeArgs<'
         name,
         documents,
         address: argument_of(matches, "addr"),
-        sessions,
+        terms,
         pace,
         file: argument_of(matches, "file"),
     })
 }
 
 /// What the arguments ask `serve` for:
-/// `serve --addr A --sessions N --file F [--name NAME] [--backlog N] [--durable] DOC..`.
+/// `serve --addr A (--sessions N | --clients N) --file F [--name NAME] [--backlog M] [--durable]
+/// [--patience S] [--until-input-ends] [--drain S] DOC..`.
 pub fn parse_serve<'a>(alloc: Global, args: &'a [&'a str]) -> Result<ServeArgs<'a>, ArgsFault>
     ensures asked { IfOk result
         (λ it. AsksToServe (map (λ s. s.now) args.entry.now) (server_of it)) }

@@ -5,13 +5,13 @@ ghost use Rattle.command_line.specs.CommandLine.{AsksToServe, WantedServer, is_s
 ghost use Rattle.commands.specs.Server.{ServesAt};
 
 use crate::host::ServerHost;
-use command_line::{ArgsFault, NO_MEMORY, ServeArgs, parse_serve};
-use served_log::{Failure, Step, report_fault, serve_over};
+use command_line::{ArgsFault, NO_MEMORY, ServeArgs, Terms, parse_serve};
+use served_log::{Failure, Serving, Step, report_fault, serve_over};
 use std::alloc::Global;
 use std::io;
 use std::rt::HostRuntime;
 use stored_log::{Fault, OpenLog, StoredFault, StoredLog};
-use tcp_server::{Entrance, connections, listen};
+use tcp_server::{Admission, Entrance, MOST_SESSIONS, connections, drain_when_input_ends, listen};
 
 // Reports on standard error why the stored log was not closed, if it was not. An error there
 // changes nothing.
@@ -52,6 +52,29 @@ fn report_causes<R: Eprint>(
     }
 }
 
+// How the sessions of a server are let in.
+fn admission_of(terms: &Terms) -> Admission
+    ensures stays { result.stays ≡ terms.now.stays }
+    ensures sessions { result.sessions ≡ terms.now.sessions }
+    ensures seconds { (result.patience ≡ terms.now.patience) × (result.drain ≡ terms.now.drain) }
+{
+    Admission {
+        sessions: terms.sessions,
+        stays: terms.stays,
+        patience: terms.patience,
+        drain: terms.drain,
+    }
+}
+
+// How many seats a document has: one for each session.
+fn seats_for(terms: &Terms) -> u16 {
+    if terms.stays {
+        MOST_SESSIONS
+    } else {
+        terms.sessions
+    }
+}
+
 // Listens at the address that is asked for, writes where, and serves so many sessions from the
 // stored log, if it could be opened. It reports on standard error why it ended with status 1.
 fn listen_and_serve<R: ServerHost, L: StoredLog, W: io::Write>(
@@ -65,7 +88,7 @@ fn listen_and_serve<R: ServerHost, L: StoredLog, W: io::Write>(
     ensures status { result ≤ 1 }
     ensures served { result ≡ 0
         → ServesAt asked.now.name.now (map (λ s. s.now) asked.now.documents.items)
-        asked.now.sessions (W.contents out.old) (W.contents out.new) }
+        asked.now.terms.sessions asked.now.terms.stays (W.contents out.old) (W.contents out.new) }
     ensures unwritten { IfErr opened (λ fault. (fault ≡ Fault.Refused) ⊎ (out.new ≡ out.old)) }
 {
     let alloc = *asked.documents.allocator();
@@ -81,22 +104,23 @@ fn listen_and_serve<R: ServerHost, L: StoredLog, W: io::Write>(
         close(rt, stored);
         return 1;
     };
-    let entrance = Entrance::new(rt, &listener, asked.sessions);
-    let Ok(all) = connections(alloc, &entrance, asked.sessions) else {
+    let entrance = Entrance::new(rt, &listener, admission_of(&asked.terms));
+    let Ok(all) = connections(alloc, &entrance, asked.terms.sessions) else {
         let _ = rt.eprintln("jcrdt: out of memory while the sessions were prepared");
         close(rt, stored);
         return 1;
     };
-    let (status, ended) = serve_over(
-        rt,
-        alloc,
-        asked.name,
-        &asked.documents,
-        asked.pace,
-        all,
-        stored,
-        out,
-    );
+    if asked.terms.until_input_ends {
+        drain_when_input_ends(rt, &listener);
+    }
+    let serving = Serving {
+        name: asked.name,
+        documents: &asked.documents,
+        pace: asked.pace,
+        seats: seats_for(&asked.terms),
+        connections: all,
+    };
+    let (status, ended) = serve_over(rt, alloc, serving, stored, out);
     report_causes(rt, &ended.served, &ended.closed);
     status
 }
@@ -118,11 +142,11 @@ pub fn parse_and_serve<R: ServerHost, O: OpenLog, W: io::Write>(
     ensures status { result ≤ 2 }
     ensures first_word { is_serve (map (λ s. s.now) args.now) ≡ false → result ≡ 2 }
 
-    // As many sessions as the arguments say, over their documents. What was written is where the
-    // server listens, and then the totals of what these sessions did.
+    // As many threads with sessions as the arguments say, over their documents: with `--sessions`
+    // each has one session at most. What was written is where the server listens, and then the totals of what these sessions did.
     ensures served { result ≡ 0 → (wanted : WantedServer)
         × AsksToServe (map (λ s. s.now) args.now) wanted
-        × ServesAt wanted.name wanted.documents wanted.sessions (W.contents out.old) (W.contents out.new) }
+        × ServesAt wanted.name wanted.documents wanted.terms.sessions wanted.terms.stays (W.contents out.old) (W.contents out.new) }
 
     // The arguments asked for a server, or nothing was written.
     ensures failed { result ≡ 1

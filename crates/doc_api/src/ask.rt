@@ -40,6 +40,18 @@ pub enum State {
     Held,
     /// How many of the logged operations are the asking seat's.
     Account,
+    /// How many operations are logged, how many of them the stored log has, and of how many
+    /// replicas they are.
+    Size,
+}
+
+/// What a document knows of its log, and its replica doesn't.
+#[derive(Clone, Copy, Debug, PartialEq, Eq)]
+pub struct Counts {
+    /// How many of the logged operations are the asking seat's.
+    pub mine: u64,
+    /// How many of the logged operations, the first ones, the stored log has.
+    pub copied: u64,
 }
 
 /// What a document is asked, with nothing changed.
@@ -51,6 +63,8 @@ pub enum Query {
     Look(Look, Place),
     /// The first so many of the logged operations that the front does not cover.
     Operations(Front, u64),
+    /// Whether the stored log has the operation of this id.
+    IsCopied(Id),
     /// The document as a whole.
     State(State),
 }

@@ -7,7 +7,7 @@ mod place;
 mod reply;
 mod role;
 
-pub use ask::{Command, Look, Query, State};
+pub use ask::{Command, Counts, Look, Query, State};
 pub use lists::{Conflicts, Ids, Items, Listed, Operations, Scalars, Texts, Waiting};
 pub use place::{Place, Step, Steps};
 pub use reply::{CompactText, Reply};

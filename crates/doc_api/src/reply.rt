@@ -81,6 +81,17 @@ pub enum Reply {
     Waiting(Waiting),
     /// How many of the logged operations are the asking seat's.
     Account(u64),
+    /// How much the document has.
+    Size {
+        /// How many operations are logged.
+        logged: u64,
+        /// How many of them the stored log has.
+        copied: u64,
+        /// Of how many replicas the logged ones are.
+        replicas: u64,
+    },
+    /// Whether the stored log has the operation.
+    Copied(bool),
     /// It is refused for this cause, with nothing changed.
     Refused(Refusal),
 }
@@ -109,6 +120,12 @@ impl Drop for Reply {
             Reply::Front(_) => {}
             Reply::Waiting(_) => {}
             Reply::Account(_) => {}
+            Reply::Size {
+                logged: _,
+                copied: _,
+                replicas: _,
+            } => {}
+            Reply::Copied(_) => {}
             Reply::Refused(_) => {}
         }
     }

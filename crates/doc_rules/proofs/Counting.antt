@@ -101,7 +101,7 @@ are_terms = record {
   all = among;
 }
 
-both_count : Reads (at_server both) 0 (Look Sum (record { start = record { path = []; key = Doc }; steps = Get (codes "n") ∷ [] })) (reply.Sum (negsuc 1))
+both_count : Reads (at_server both) (record { mine = 0; copied = 0 }) (Look Sum (record { start = record { path = []; key = Doc }; steps = Get (codes "n") ∷ [] })) (reply.Sum (negsuc 1))
 both_count = (Ok (record { path = root; key = k }), (Ok (record { path = root; key = k }), refl, refl), (Ok (negsuc 1), (refl, (terms, are_terms, refl)), refl))
 
 -- ---- the assignment takes the 5 out
@@ -135,5 +135,5 @@ are_left = record {
   all = among_left;
 }
 
-one_counts : Reads (at_server log) 0 (Look Sum (record { start = record { path = []; key = Doc }; steps = Get (codes "n") ∷ [] })) (reply.Sum (negsuc 6))
+one_counts : Reads (at_server log) (record { mine = 0; copied = 0 }) (Look Sum (record { start = record { path = []; key = Doc }; steps = Get (codes "n") ∷ [] })) (reply.Sum (negsuc 6))
 one_counts = (Ok (record { path = root; key = k }), (Ok (record { path = root; key = k }), refl, refl), (Ok (negsuc 6), (refl, (left, are_left, refl)), refl))

@@ -2,6 +2,7 @@
 use Rattle.std.proofs.Common.{◌≡◌, ℕ, List, Option, Result, Ok, Err, sym, ap, subst, ◌∙◌}
 use Rattle.std.specs.Prelude.{MatchResult, option_and_then}
 use Rattle.doc_api.specs.Words.{Id, Refusal, Op, Cursor, Key, Tagged}
+use Rattle.doc_api.specs.declared.ask.Counts.{Counts}
 use Rattle.doc_api.specs.declared.ask.Look.{Look}
 use Rattle.doc_api.specs.declared.ask.Query.TheVariants as query
 use Rattle.doc_api.specs.declared.place.Place.{Place}
@@ -32,7 +33,7 @@ looks_agree log f roles good are l c answer = subst IsGiven (sym are.facts_are) 
         (λ p k i here. ap (option_and_then (λ r. value_in r ((facts (replay log)).register p k i))) (same p k i) ∙ roles_give_values log good p k i here) l c answer
 
 -- so a look where the steps lead is the replica's answer
-pub look_answers : (r : Replica) (mine : ℕ) (f : Facts) (roles : List Tagged → Key → Id → Option Role) → IsGood r.log → AreOf r.log f roles → (l : Look) (place : Place)
+pub look_answers : (r : Replica) (mine : Counts) (f : Facts) (roles : List Tagged → Key → Id → Option Role) → IsGood r.log → AreOf r.log f roles → (l : Look) (place : Place)
     (c : Result Cursor Refusal) (answer : Reply) → Resolves f place.start place.steps c
     → MatchResult c (λ c. LooksHere f (values_in f roles) l c answer) (λ e. answer ≡ Refused e) → Reads r mine (query.Look l place) answer
 look_answers r mine f roles good are l place c answer leads h =

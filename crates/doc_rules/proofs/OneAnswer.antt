@@ -17,6 +17,7 @@ use Rattle.doc_rules.specs.Sorted.AreThose.{none, keep, skip}
 use Rattle.op_core.specs.Shape.{is_head}
 use Rattle.op_core.specs.Wire.{list_data}
 use Rattle.json_scalar.specs.Refusal.{and_then}
+use Rattle.doc_api.specs.declared.ask.Counts.{Counts}
 use Rattle.doc_api.specs.declared.ask.Look.{Look}
 use Rattle.doc_api.specs.declared.ask.Look.TheVariants as look
 use Rattle.doc_api.specs.declared.ask.Query.{Query}
@@ -208,9 +209,10 @@ one_at r place reads one x y a b =
     by (Ok c) a b = one c x y a b
     by (Err e) a b = a ∙ sym b
 
-pub one_answer : (r : Replica) (mine : ℕ) (q : Query) (x y : Reply) → Reads r mine q x → Reads r mine q y → x ≡ y
-one_answer r mine (query.Resolve place) x y = one_at r place (λ c a. a ≡ reply.Resolved c) (λ c x y a b. a ∙ sym b) x y
-one_answer r mine (query.Look l place) x y =
+pub one_answer : (r : Replica) (counts : Counts) (q : Query) (x y : Reply) → Reads r counts q x → Reads r counts q y → x ≡ y
+one_answer r counts (query.Resolve place) x y = one_at r place (λ c a. a ≡ reply.Resolved c) (λ c x y a b. a ∙ sym b) x y
+one_answer r counts (query.Look l place) x y =
     one_at r place (LooksHere (replica_facts r) (value_put_at r.log) l) (one_look (replica_facts r) (value_put_at r.log) l) x y
-one_answer r mine (query.Operations front limit) x y = λ a b. a ∙ sym b
-one_answer r mine (query.State s) x y = λ a b. a ∙ sym b
+one_answer r counts (query.Operations front limit) x y = λ a b. a ∙ sym b
+one_answer r counts (query.IsCopied i) x y = λ a b. a ∙ sym b
+one_answer r counts (query.State s) x y = λ a b. a ∙ sym b

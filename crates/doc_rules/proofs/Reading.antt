@@ -100,5 +100,5 @@ are_entries = record {
 abbrev three : Replica
 three = record { name = codes "srv-1"; log = log; held = [] }
 
-both_stay : Reads three 0 (Look Values (record { start = record { path = []; key = Doc }; steps = Get (codes "k") ∷ [] })) (reply.Values (text 66 ∷ text 67 ∷ []))
+both_stay : Reads three (record { mine = 0; copied = 0 }) (Look Values (record { start = record { path = []; key = Doc }; steps = Get (codes "k") ∷ [] })) (reply.Values (text 66 ∷ text 67 ∷ []))
 both_stay = (Ok (record { path = root; key = k }), (Ok (record { path = root; key = k }), refl, refl), (Ok (text 66 ∷ text 67 ∷ []), (refl, (entries, are_entries, refl)), refl))

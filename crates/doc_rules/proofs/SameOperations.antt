@@ -4,6 +4,7 @@ use Rattle.std.specs.List.{list_any}
 use Rattle.std.specs.Prelude.{MatchResult}
 use Rattle.std.proofs.lemmas.Bool.{false_from_ne_true, both_ways}
 use Rattle.doc_api.specs.Words.{Id, Refusal, Cursor, Key, Tagged, Op}
+use Rattle.doc_api.specs.declared.ask.Counts.{Counts}
 use Rattle.doc_api.specs.declared.ask.Query.{Query}
 use Rattle.doc_api.specs.declared.ask.Query.TheVariants as query
 use Rattle.doc_api.specs.declared.ask.State.TheVariants as state
@@ -96,7 +97,7 @@ module _ (r s : Replica) (good : IsGood r.log) (other_good : IsGood s.log) (same
   same_facts : replica_facts r ≡ replica_facts s
   same_facts = facts_same r.log s.log good other_good same
 
-  pub answers_same : (mine theirs : ℕ) (q : Query) (answer : Reply) → IsOfOperations q → Reads r mine q answer → Reads s theirs q answer
+  pub answers_same : (mine theirs : Counts) (q : Query) (answer : Reply) → IsOfOperations q → Reads r mine q answer → Reads s theirs q answer
   answers_same mine theirs (query.Resolve place) answer of h = (h.0, subst (λ f. Resolves f place.start place.steps h.0) same_facts h.1, h.2)
   answers_same mine theirs (query.Look l place) answer of h =
       (h.0, subst (λ f. Resolves f place.start place.steps h.0) same_facts h.1, by h.0 h.2)

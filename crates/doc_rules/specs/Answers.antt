@@ -1,8 +1,9 @@
 -- What a replica answers where it is only read.
-use Rattle.std.specs.Prelude.{◌≡◌, ◌⊎◌, ℕ, List, map, filter, take, not, Result, Ok, Err}
+use Rattle.std.specs.Prelude.{◌≡◌, ◌⊎◌, ℕ, List, length, map, filter, take, not, Result, Ok, Err}
 use Rattle.std.specs.Prelude.{MatchResult}
 use Rattle.doc_api.specs.Words.{Refusal, NoMemory, Cursor, Key, Tagged, Op}
 use Rattle.version_vector.specs.Front.{covers}
+use Rattle.doc_api.specs.declared.ask.Counts.{Counts}
 use Rattle.doc_api.specs.declared.ask.Look.{Look}
 use Rattle.doc_api.specs.declared.ask.Look.TheVariants as look
 use Rattle.doc_api.specs.declared.ask.Query.{Query}
@@ -12,8 +13,9 @@ use Rattle.doc_api.specs.declared.ask.State.TheVariants as state
 use Rattle.doc_api.specs.declared.place.Place.{Place}
 use Rattle.doc_api.specs.declared.reply.Reply.{Reply}
 use Rattle.doc_api.specs.declared.reply.Reply.TheVariants as reply
-use Rattle.crdt_rules.specs.Dependencies.{missing}
+use Rattle.crdt_rules.specs.Dependencies.{is_logged, missing}
 use Rattle.crdt_rules.specs.Facts.{Facts}
+use Rattle.crdt_rules.specs.Fits.{replicas}
 use Rattle.crdt_rules.specs.Pull.{front_of}
 use Rattle.doc_rules.specs.Views.{Values, AreValues, IsSum, ReadsPlace}
 use Rattle.doc_rules.specs.Replica.{Replica, replica_facts}
@@ -52,24 +54,35 @@ ReadsAt r place reads answer =
 abbrev pub since : List (List ℕ × ℕ) → List Op → List Op
 since front log = filter (λ o. not (covers front o.id)) log
 
--- The reply to a reading of the whole. mine is how many of the logged operations are the asking
--- seat's, which the replica doesn't know.
-abbrev pub state_reply : Replica → ℕ → State → Reply
-state_reply r mine state.Front = reply.Front (front_of r.log)
-state_reply r mine state.Held = reply.Waiting (map (λ o. (o.id, missing o r.log)) r.held)
-state_reply r mine state.Account = reply.Account mine
+-- The reply to a reading of the whole, by counts that the replica doesn't know: how many of the
+-- logged operations are the asking seat's, and how many the stored log has.
+abbrev pub state_reply : Replica → Counts → State → Reply
+state_reply r counts state.Front = reply.Front (front_of r.log)
+state_reply r counts state.Held = reply.Waiting (map (λ o. (o.id, missing o r.log)) r.held)
+state_reply r counts state.Account = reply.Account counts.mine
+state_reply r counts state.Size =
+    reply.Size (length r.log) counts.copied (length (replicas r.log))
 
-abbrev pub Reads : Replica → ℕ → Query → Reply → Type 0
-Reads r mine (query.Resolve place) answer = ReadsAt r place (λ c a. a ≡ reply.Resolved c) answer
-Reads r mine (query.Look look place) answer =
+abbrev pub Reads : Replica → Counts → Query → Reply → Type 0
+Reads r counts (query.Resolve place) answer = ReadsAt r place (λ c a. a ≡ reply.Resolved c) answer
+Reads r counts (query.Look look place) answer =
     ReadsAt r place (LooksHere (replica_facts r) (value_put_at r.log) look) answer
-Reads r mine (query.Operations front limit) answer =
+Reads r counts (query.Operations front limit) answer =
     answer ≡ reply.Operations (operations_text (take limit (since front r.log)))
-Reads r mine (query.State s) answer = answer ≡ state_reply r mine s
+Reads r counts (query.IsCopied i) answer =
+    answer ≡ reply.Copied (is_logged (take counts.copied r.log) i)
+Reads r counts (query.State s) answer = answer ≡ state_reply r counts s
+
+-- answered by counts, without memory
+abbrev pub GoesByCounts : Query → Type 0
+GoesByCounts (query.IsCopied i) = Unit {0}
+GoesByCounts (query.State state.Account) = Unit {0}
+GoesByCounts (query.State state.Size) = Unit {0}
+GoesByCounts _ = ⊥
 
 -- what may be answered
-abbrev pub MayAnswer : Replica → ℕ → Query → Reply → Type 0
-MayAnswer r mine q answer = Reads r mine q answer ⊎ (answer ≡ reply.Refused NoMemory)
+abbrev pub MayAnswer : Replica → Counts → Query → Reply → Type 0
+MayAnswer r counts q answer = Reads r counts q answer ⊎ (answer ≡ reply.Refused NoMemory)
 
 -- the operations alone answer it, whatever their order: where steps lead, a
 -- look at a place, and the front

@@ -6,6 +6,7 @@ use Rattle.std.specs.List.{All}
 use Rattle.doc_api.specs.Words.{Refusal, Op}
 use Rattle.json_scalar.specs.declared.refusal.Refusal.TheVariants.{SeatsFull}
 use Rattle.doc_api.specs.declared.ask.Command.{Command}
+use Rattle.doc_api.specs.declared.ask.Counts.{Counts}
 use Rattle.doc_api.specs.declared.ask.Query.{Query}
 use Rattle.doc_api.specs.declared.reply.Reply.{Reply}
 use Rattle.doc_api.specs.declared.reply.Reply.TheVariants.{Applied}
@@ -68,9 +69,14 @@ pub record GivesTo (d : Document) (seat : ℕ) (reply : Reply) (e : Document) : 
   pub mine : logged_by seat e ≡ logged_by seat d ++ new
   pub others : (t : ℕ) → seat ≢ t → logged_by t e ≡ logged_by t d
 
+-- what the document counts for a seat
+abbrev pub counts_for : ℕ → Document → Counts
+counts_for seat d = record { mine = count_of seat d.seats_of; copied = d.copied }
+
 -- a reading for a seat
 abbrev pub Answers : Document → ℕ → Query → Reply → Type 0
-Answers d seat query reply = replica_answers.MayAnswer d.replica (count_of seat d.seats_of) query reply
+Answers d seat query reply =
+    replica_answers.MayAnswer d.replica (counts_for seat d) query reply
 
 -- the next seat, or that there is none
 abbrev pub opens : Document → Result ℕ Refusal × Document

@@ -10,6 +10,7 @@ ghost use Rattle.doc_api.specs.Words.{Id, Refusal, Val, Cursor, Key, Tagged, Mut
 ghost use Rattle.version_vector.specs.Front.{covers};
 ghost use Rattle.op_core.specs.Shape.{is_mutation, is_shaped};
 ghost use Rattle.doc_api.specs.declared.ask.Command.{Command};
+ghost use Rattle.doc_api.specs.declared.ask.Counts.{Counts};
 ghost use Rattle.doc_api.specs.declared.ask.Look.{Look};
 ghost use Rattle.doc_api.specs.declared.ask.Query.{Query};
 ghost use Rattle.doc_api.specs.declared.place.Step.{Step};
@@ -41,8 +42,8 @@ ghost use Rattle.doc_rules.specs.Unchanged.{RefusalsKeep, called};
 pub fn one_answer()
     ensures steps { (f : Facts) (start : Cursor) (steps : List Step) (x y : Result Cursor Refusal)
         → Resolves f start steps x → Resolves f start steps y → x ≡ y }
-    ensures queries { (r : Replica) (mine : ℕ) (q : Query) (x y : Reply) → Reads r mine q x
-        → Reads r mine q y → x ≡ y }
+    ensures queries { (r : Replica) (counts : Counts) (q : Query) (x y : Reply)
+        → Reads r counts q x → Reads r counts q y → x ≡ y }
 {}
 
 /// Where memory is at hand throughout, a command has one answer, and one replica then.
@@ -138,9 +139,9 @@ pub fn refusals_change_nothing()
 /// operations answer: where steps lead, each look at a place, and the front. The ids that make a
 /// place present have the same roles there, and the fronts are one.
 pub fn same_operations_same_answers()
-    ensures answers { (r s : Replica) (mine theirs : ℕ) (q : Query) (answer : Reply) → IsGood r.log
+    ensures answers { (r s : Replica) (ours theirs : Counts) (q : Query) (answer : Reply) → IsGood r.log
         → IsGood s.log
-        → SameMembers r.log s.log → IsOfOperations q → Reads r mine q answer
+        → SameMembers r.log s.log → IsOfOperations q → Reads r ours q answer
         → Reads s theirs q answer }
     ensures roles { (log other : List Op) (p : List Tagged) (k : Key) (i : Id) → IsGood log
         → IsGood other

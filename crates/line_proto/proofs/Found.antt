@@ -21,7 +21,7 @@ use Rattle.op_core.proofs.Operations.{ReadsOp-from_answer}
 use Rattle.doc_api.specs.declared.place.Step.{Step}
 use Rattle.doc_api.specs.declared.place.Step.TheVariants.{Get, Index}
 use Rattle.doc_api.specs.declared.ask.Look.{Look}
-use Rattle.line_proto.specs.Reading.{step_from, steps_from, variable_of, variable_from, start_of_number, start_from, expr_items, expr_from, named, bare_requests, bare_request, states, state_of_word, plain_request, looks, look_of, look_from, deletion_request, delivery_from, forgetting_from, short_request, naming_from, limit_of, limit_from, in_order, ops_from, amount_of, addition_of, mutation_of_verb, change_request, long_request, doc_request_items, bare_from, named_from, request_items, request_from, line_data, request_of}
+use Rattle.line_proto.specs.Reading.{step_from, steps_from, variable_of, variable_from, start_of_number, start_from, expr_items, expr_from, named, bare_requests, bare_request, states, state_of_word, plain_request, looks, look_of, look_from, deletion_request, delivery_from, forgetting_from, copied_from, short_request, naming_from, limit_of, limit_from, in_order, ops_from, amount_of, addition_of, mutation_of_verb, change_request, long_request, doc_request_items, bare_from, named_from, request_items, request_from, line_data, request_of}
 use Rattle.line_proto.specs.Written.{start_data, step_data, expr_data, asks, state_word, look_word, change_data, doc_request_data, request_data, is_variable, is_start, is_amount, is_put, is_change, is_doc_request, is_request}
 use Rattle.line_proto.specs.declared.request.Start.{Start}
 use Rattle.line_proto.specs.declared.request.Start.TheVariants.{Document, Variable}
@@ -209,6 +209,12 @@ forgetting-Ok verb document a is asked h =
     let made = ReadsId-from_answer a (Some id.0) id.1 in
     writes_one verb _ document a _ asked _ is made.0 (sym id.2) refl made.1
 
+copied-Ok : (verb document : List ℕ) (a : Data) → verb ≡ codes "copied" → OkWrites verb document (a ∷ []) (copied_from a)
+copied-Ok verb document a is asked h =
+    let id = option_map-Some ask.IsCopied (id_from a) asked (ok_or-Ok _ BadRequest asked h) in
+    let made = ReadsId-from_answer a (Some id.0) id.1 in
+    writes_one verb _ document a _ asked _ is made.0 (sym id.2) refl made.1
+
 abbrev IsLookOf : List ℕ → Option Look → Type 0
 IsLookOf verb o = (look : Look) → o ≡ Some look → verb ≡ look_word look
 
@@ -227,7 +233,8 @@ short_request-Ok : (verb document : List ℕ) (a : Data) → OkWrites verb docum
 short_request-Ok verb document a =
     by_word (OkWrites verb document (a ∷ [])) verb (codes "delete") _ _ (deletion-Ok verb document a)
     (by_word (OkWrites verb document (a ∷ [])) verb (codes "deliver") _ _ (delivery-Ok verb document a)
-    (by_word (OkWrites verb document (a ∷ [])) verb (codes "forget") _ _ (forgetting-Ok verb document a) (look-Ok verb document a)))
+    (by_word (OkWrites verb document (a ∷ [])) verb (codes "forget") _ _ (forgetting-Ok verb document a)
+    (by_word (OkWrites verb document (a ∷ [])) verb (codes "copied") _ _ (copied-Ok verb document a) (look-Ok verb document a))))
 
 naming-Ok : (verb document : List ℕ) (a b : Data) → verb ≡ codes "let" → OkWrites verb document (a ∷ b ∷ []) (naming_from a b)
 naming-Ok verb document a b is asked h =

@@ -176,7 +176,8 @@ short_request-caused verb document a =
     let d = asks verb document (a ∷ []) in
     by_word (IsCaused d) verb (codes "delete") _ _ (λ is. deletion-caused d a)
     (by_word (IsCaused d) verb (codes "deliver") _ _ (delivery-caused verb document a)
-    (by_word (IsCaused d) verb (codes "forget") _ _ (λ is. ok_or-caused d _) (look-caused d verb a)))
+    (by_word (IsCaused d) verb (codes "forget") _ _ (λ is. ok_or-caused d _)
+    (by_word (IsCaused d) verb (codes "copied") _ _ (λ is. ok_or-caused d _) (look-caused d verb a))))
 
 long_request-caused : (verb document : List ℕ) (a b : Data) → IsCaused (asks verb document (a ∷ b ∷ [])) (long_request verb a b)
 long_request-caused verb document a b =

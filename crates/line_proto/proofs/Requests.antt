@@ -83,6 +83,7 @@ reads_doc_request document (ask.Operations front limit) h =
     let parts = and_parts (list_all is_entry front && is_ascending front) (nat_le 1 limit && nat_le limit 64) h in
     let order = and_parts (list_all is_entry front) (is_ascending front) parts.0 in
     rw (parts.1, front_of_json-front_data front order.0, order.1) refl
+reads_doc_request document (ask.IsCopied id) h = rw (id_from-id_data id h) refl
 reads_doc_request document (ask.Forget id) h = rw (id_from-id_data id h) refl
 
 pub request_from-request_data : (r : Request) → is_request r ≡ true → request_from (request_data r) ≡ Ok r

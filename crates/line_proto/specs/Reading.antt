@@ -92,7 +92,7 @@ bare_request verb = named verb bare_requests
 
 abbrev pub states : List (List ℕ × State)
 states = (codes "front", state.Front) ∷ (codes "held", state.Held)
-    ∷ (codes "account", state.Account) ∷ []
+    ∷ (codes "account", state.Account) ∷ (codes "size", state.Size) ∷ []
 
 abbrev pub state_of_word : List ℕ → Option State
 state_of_word verb = named verb states
@@ -122,12 +122,16 @@ delivery_from d = and_then (op_from d) (λ op. Ok (ask.Deliver op))
 abbrev pub forgetting_from : Data → Result DocRequest Refusal
 forgetting_from d = ok_or (option_map ask.Forget (id_from d)) BadRequest
 
+abbrev pub copied_from : Data → Result DocRequest Refusal
+copied_from d = ok_or (option_map ask.IsCopied (id_from d)) BadRequest
+
 abbrev pub short_request : List ℕ → Data → Result DocRequest Refusal
 short_request verb d =
     if bytes_eq verb (codes "delete") then deletion_request d
     else (if bytes_eq verb (codes "deliver") then delivery_from d
     else (if bytes_eq verb (codes "forget") then forgetting_from d
-    else look_from verb d))
+    else (if bytes_eq verb (codes "copied") then copied_from d
+    else look_from verb d)))
 
 abbrev pub naming_from : Data → Data → Result DocRequest Refusal
 naming_from n d =

@@ -1,7 +1,7 @@
 -- Replies as JSON, as text and as lines.
 use Rattle.std.specs.Prelude.{ℕ, List, [], ◌∷◌, ◌++◌, map, codes}
 use Rattle.std.specs.Fmt.{signed_decimal}
-use Rattle.serde_json.specs.Data.{Data, null, number, unsigned, string}
+use Rattle.serde_json.specs.Data.{Data, null, boolean, number, unsigned, string}
 use Rattle.serde_json.specs.Written.{compact_text}
 use Rattle.doc_api.specs.Words.{Id, Scalar, Refusal}
 use Rattle.json_scalar.specs.Refusal.{number_of, name_of}
@@ -13,7 +13,7 @@ use Rattle.doc_api.specs.declared.reply.Reply.TheVariants.{Applied, Known, Held,
 use Rattle.doc_api.specs.declared.reply.Reply.TheVariants.{Resolved, Keys, Values}
 use Rattle.doc_api.specs.declared.reply.Reply.TheVariants.{Items, Conflicts, Show, Sum, Operations}
 use Rattle.doc_api.specs.declared.reply.Reply.TheVariants.{Front, Waiting}
-use Rattle.doc_api.specs.declared.reply.Reply.TheVariants.{Account, Refused}
+use Rattle.doc_api.specs.declared.reply.Reply.TheVariants.{Account, Size, Copied, Refused}
 use Rattle.line_feed.specs.Cut.{line_of}
 use Rattle.line_proto.specs.declared.line_reply.LineReply.{LineReply}
 use Rattle.line_proto.specs.declared.line_reply.LineReply.TheVariants.{Opened, Bound, Version, Bye}
@@ -58,6 +58,9 @@ reply_data (Operations text) = null
 reply_data (Front front) = worded (codes "front") (front_data front ∷ [])
 reply_data (Waiting held) = worded (codes "waiting") (list_data (map waiting_data held) ∷ [])
 reply_data (Account n) = worded (codes "account") (count_data n ∷ [])
+reply_data (Size logged copied replicas) =
+    worded (codes "size") (count_data logged ∷ count_data copied ∷ count_data replicas ∷ [])
+reply_data (Copied is) = worded (codes "copied") (boolean is ∷ [])
 reply_data (Refused r) = worded (codes "no") (refusal_items r)
 
 abbrev pub line_reply_data : LineReply → Data

@@ -3,8 +3,8 @@ use Rattle.std.specs.Prelude.{◌≡◌, ℕ, List, ◌++◌, Option, Bool, true
 use Rattle.std.specs.Io.KnownBytes.{Appends}
 use Rattle.doc_api.specs.declared.reply.Reply.{Reply}
 use Rattle.doc_api.specs.declared.reply.Reply.TheVariants.{Applied, Known, Held, Waiting, Forgotten}
-use Rattle.doc_api.specs.declared.reply.Reply.TheVariants.{Account, Refused, Keys, Items, Conflicts}
-use Rattle.doc_api.specs.declared.reply.Reply.TheVariants.{Show, Operations}
+use Rattle.doc_api.specs.declared.reply.Reply.TheVariants.{Account, Size, Copied, Refused, Keys, Items}
+use Rattle.doc_api.specs.declared.reply.Reply.TheVariants.{Conflicts, Show, Operations}
 use Rattle.line_proto.specs.declared.line_reply.LineReply.{LineReply}
 use Rattle.line_proto.specs.declared.line_reply.LineReply.TheVariants.{Answered}
 use Rattle.line_proto.specs.declared.write.WriteFault.{WriteFault}
@@ -19,6 +19,8 @@ needs_heap (Held missing) = false
 needs_heap (Waiting held) = false
 needs_heap Forgotten = false
 needs_heap (Account n) = false
+needs_heap (Size logged copied replicas) = false
+needs_heap (Copied is) = false
 needs_heap (Refused r) = false
 needs_heap (Keys text) = false
 needs_heap (Items text) = false

@@ -47,6 +47,7 @@ abbrev pub state_word : State → List ℕ
 state_word state.Front = codes "front"
 state_word state.Held = codes "held"
 state_word state.Account = codes "account"
+state_word state.Size = codes "size"
 
 abbrev pub look_word : Look → List ℕ
 look_word look.Keys = codes "keys"
@@ -71,6 +72,7 @@ doc_request_data document (ask.Let name expr) = asks (codes "let") document (str
 doc_request_data document (ask.Deliver op) = asks (codes "deliver") document (wire op ∷ [])
 doc_request_data document (ask.Operations front limit) =
     asks (codes "ops") document (front_data front ∷ number (unsigned limit) ∷ [])
+doc_request_data document (ask.IsCopied id) = asks (codes "copied") document (id_data id ∷ [])
 doc_request_data document (ask.Forget id) = asks (codes "forget") document (id_data id ∷ [])
 
 -- a request's JSON
@@ -117,6 +119,7 @@ is_doc_request (ask.Let name expr) = is_variable name && is_start expr.start
 is_doc_request (ask.Deliver op) = is_shaped op
 is_doc_request (ask.Operations front limit) = (list_all is_entry front && is_ascending front)
     && is_limit limit
+is_doc_request (ask.IsCopied id) = is_id id
 is_doc_request (ask.Forget id) = is_id id
 
 abbrev pub is_request : Request → Bool

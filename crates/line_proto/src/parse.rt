@@ -9,7 +9,7 @@ ghost use Rattle.op_core.specs.Reading.{front_of_json};
 ghost use Rattle.line_proto.specs.Reading.{bare_request, state_of_word, plain_request, look_of};
 ghost use Rattle.line_proto.specs.Reading.{look_from};
 ghost use Rattle.line_proto.specs.Reading.{deletion_request};
-ghost use Rattle.line_proto.specs.Reading.{delivery_from, forgetting_from, short_request};
+ghost use Rattle.line_proto.specs.Reading.{copied_from, delivery_from, forgetting_from, short_request};
 ghost use Rattle.line_proto.specs.Reading.{naming_from, limit_of};
 ghost use Rattle.line_proto.specs.Reading.{limit_from, in_order, ascending_from, ops_from};
 ghost use Rattle.line_proto.specs.Reading.{addition_of};
@@ -203,6 +203,7 @@ fn state_of_word(verb: &str) -> Option<State>
         "front" => Some(State::Front),
         "held" => Some(State::Held),
         "account" => Some(State::Account),
+        "size" => Some(State::Size),
         _ => None,
     }
 }
@@ -214,6 +215,7 @@ fn short_request(alloc: Global, verb: &str, third: &Value) -> Result<DocRequest,
         "delete" => read_deletion(alloc, third),
         "deliver" => read_delivery(alloc, third),
         "forget" => read_forgetting(third),
+        "copied" => read_copied(third),
         _ => read_look(alloc, verb, third),
     }
 }
@@ -235,6 +237,15 @@ fn read_forgetting(id: &Value) -> Result<DocRequest, Refusal>
 {
     match read_id(id) {
         Some(id) => Ok(DocRequest::Forget(id)),
+        None => Err(Refusal::BadRequest),
+    }
+}
+
+fn read_copied(id: &Value) -> Result<DocRequest, Refusal>
+    ensures { result ≡ copied_from (view id.now) }
+{
+    match read_id(id) {
+        Some(id) => Ok(DocRequest::IsCopied(id)),
         None => Err(Refusal::BadRequest),
     }
 }

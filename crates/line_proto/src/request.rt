@@ -40,6 +40,8 @@ pub enum DocRequest {
     /// The first so many of the logged operations that the front doesn't cover: 1 to
     /// 64 in a request that was read.
     Operations(Front, u64),
+    /// Whether the stored log has an operation.
+    IsCopied(Id),
     /// Drop a held operation.
     Forget(Id),
 }

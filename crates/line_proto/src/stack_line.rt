@@ -5,7 +5,7 @@ ghost use Rattle.lamport_id.specs.Name.{is_name};
 ghost use Rattle.serde_json.specs.Written.{compact_text};
 ghost use Rattle.serde_json.specs.Data.{string};
 ghost use Rattle.op_core.specs.Wire.{id_data};
-ghost use Rattle.doc_api.specs.declared.reply.Reply.TheVariants.{Applied, Refused};
+ghost use Rattle.doc_api.specs.declared.reply.Reply.TheVariants.{Applied, Refused, Size};
 ghost use Rattle.line_proto.specs.Replies.{line_text, around, reply_data, worded, count_data};
 ghost use Rattle.line_feed.specs.Cut.{line_of};
 ghost use Rattle.line_proto.specs.declared.stack_line.TheConstants.{SHORT_LINE};
@@ -83,6 +83,21 @@ pub(crate) fn applied(count: u64, dropped: u64, id: &Id) -> Line
     put_number(&mut line, dropped);
     line.push_str(",");
     put_id(&mut line, id);
+    line.push_str("]\n");
+    line
+}
+
+#[tactic(auto, unfolding(json::specs::Print::escape_byte))]
+pub(crate) fn size(logged: u64, copied: u64, replicas: u64) -> Line
+    ensures { result.bytes ≡ line_text (reply_data (Size logged copied replicas)) }
+{
+    let mut line = Line::new();
+    line.push_str("[\"size\",");
+    put_number(&mut line, logged);
+    line.push_str(",");
+    put_number(&mut line, copied);
+    line.push_str(",");
+    put_number(&mut line, replicas);
     line.push_str("]\n");
     line
 }

@@ -13,7 +13,7 @@ ghost use Rattle.line_proto.specs.declared.line_reply.LineReply.TheVariants.{Ans
 use crate::heap_line::heap_line;
 use crate::line_reply::{LineReply, VERSION};
 use crate::pending::{write_held, write_waiting};
-use crate::stack_line::{Line, applied, fixed, no, numbered};
+use crate::stack_line::{Line, applied, fixed, no, numbered, size};
 use crate::text_line::write_text_line;
 use doc_api::Reply;
 use line_feed::{DeviceFault, Sink, write_all};
@@ -150,6 +150,13 @@ fn stack_line(reply: &Reply) -> Option<Line>
         Reply::Known => Some(fixed("[\"known\"]\n")),
         Reply::Forgotten => Some(fixed("[\"forgotten\"]\n")),
         Reply::Account(n) => Some(numbered("[\"account\",", *n)),
+        Reply::Size {
+            logged,
+            copied,
+            replicas,
+        } => Some(size(*logged, *copied, *replicas)),
+        Reply::Copied(true) => Some(fixed("[\"copied\",true]\n")),
+        Reply::Copied(false) => Some(fixed("[\"copied\",false]\n")),
         Reply::Refused(refusal) => Some(no(*refusal)),
         _ => None,
     }

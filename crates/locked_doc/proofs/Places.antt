@@ -2,6 +2,7 @@
 use Rattle.std.proofs.Common.{◌≡◌, ◌⊎◌, inl, inr, ℕ, List, [], ◌∷◌, Bool, true, false, Option, Some, None, if◌then◌else◌, Contains, refl, sym, ap, subst, ◌∙◌, true≢false}
 use mathlib.Core.Path.{fun_ext}
 use Rattle.doc_api.specs.Words.{Id, Key, Tagged, Op}
+use Rattle.doc_api.specs.declared.ask.Counts.{Counts}
 use Rattle.doc_api.specs.declared.ask.Query.{Query}
 use Rattle.doc_api.specs.declared.ask.Query.TheVariants as query
 use Rattle.doc_api.specs.declared.reply.Reply.{Reply}
@@ -71,18 +72,18 @@ value_at-same set set' one one' same = fun_ext (λ p. fun_ext (λ k. fun_ext (λ
 
 -- ---- what is read
 
-read_of : (r : Replica) (mine : ℕ) (q : Query) (answer : Reply) → MayAnswer r mine q answer → IsReadOf (replica_facts r) (value_put_at r.log) q answer
+read_of : (r : Replica) (mine : Counts) (q : Query) (answer : Reply) → MayAnswer r mine q answer → IsReadOf (replica_facts r) (value_put_at r.log) q answer
 read_of r mine (query.Resolve place) answer h = h
 read_of r mine (query.Look look place) answer h = h
 read_of r mine asked answer h = tt
 
-pub in_each_order : (r : Replica) (mine : ℕ) (q : Query) (answer : Reply) → IsGood r.log → MayAnswer r mine q answer → IsReadInEachOrder r.log q answer
+pub in_each_order : (r : Replica) (mine : Counts) (q : Query) (answer : Reply) → IsGood r.log → MayAnswer r mine q answer → IsReadInEachOrder r.log q answer
 in_each_order r mine q answer good h = λ order causal.
     let other = Laws.all_orders r.log good order causal in
     let values : value_put_at r.log ≡ value_put_at order = value_at-same r.log order (good_one_each r.log good) (good_one_each order other.0) causal.same in
     subst (λ f. IsReadOf f (value_put_at order) q answer) (sym other.1) (subst (λ v. IsReadOf (replica_facts r) v q answer) values (read_of r mine q answer h))
 
-pub of_the_set : (r : Replica) (mine : ℕ) (q : Query) (answer : Reply) → IsGood r.log → MayAnswer r mine q answer → IsReadOfSet r.log q answer
+pub of_the_set : (r : Replica) (mine : Counts) (q : Query) (answer : Reply) → IsGood r.log → MayAnswer r mine q answer → IsReadOfSet r.log q answer
 of_the_set r mine q answer good h = λ f free.
     let one : replica_facts r ≡ f = facts_of_one_set r.log r.log (replica_facts r) f (λ o. ((λ c. c), (λ c. c))) (good_one_each r.log good) (replay_free r.log good) free in
     subst (λ f. IsReadOf f (value_put_at r.log) q answer) one (read_of r mine q answer h)

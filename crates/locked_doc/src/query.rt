@@ -2,19 +2,21 @@
 use crate::answer::Answer;
 use crate::doc::{LockedDoc, turned_away};
 use crate::seat::Seat;
-use doc_api::{Query, Reply, State};
+use doc_api::{Counts, Query, Reply, State};
 use share_ledger::Marker;
 use std::marker::PhantomData;
 
 impl<M: Marker> LockedDoc<M> {
     ghost use Rattle.std.specs.Prelude.{◌≡◌, length};
-    ghost use Rattle.doc_rules.specs.Document.{logged_by};
+    ghost use Rattle.doc_rules.specs.Answers.{GoesByCounts, Reads};
+    ghost use Rattle.doc_rules.specs.Document.{counts_for, logged_by};
     ghost use Rattle.doc_rules.specs.Seats.{IsSeatOf, AnswersFor, TurnsAway, operation_ids};
     ghost use Rattle.locked_doc.specs.Places.{IsReadInEachOrder, IsReadOfSet};
 
     /// Answers a seat's query, with the document unchanged. It adds one to the seat's calls. Its
     /// answer about a place follows from the facts that the logged operations make, in every causal
-    /// order of them, and from those of their set alone. An account takes no memory. A seat of
+    /// order of them, and from those of their set alone. An account, a size and whether an
+    /// operation is copied take no memory. A seat of
     /// another document is turned away by `NotOpen`, its calls as they were, and the answer is of
     /// call 0. The ids acknowledged to a seat are just those of its operations in the document.
     pub fn read(&self, seat: &mut Seat<M>, query: Query) -> Answer<M>
@@ -24,6 +26,8 @@ impl<M: Marker> LockedDoc<M> {
             → TurnsAway self.now.document seat.old result self.now.document seat.new }
         ensures account { IsSeatOf self.now.number self.now.document seat.old
             → query ≡ Query.State State.Account → result.reply ≡ Reply.Account (length seat.old.told) }
+        ensures counted { IsSeatOf self.now.number self.now.document seat.old → GoesByCounts query
+            → Reads self.now.document.replica (counts_for seat.old.seat self.now.document) query result.reply }
         ensures orders { IsSeatOf self.now.number self.now.document seat.old
             → IsReadInEachOrder self.now.document.replica.log query result.reply }
         ensures free { IsSeatOf self.now.number self.now.document seat.old
@@ -44,12 +48,18 @@ impl<M: Marker> LockedDoc<M> {
         ensures answers { AnswersFor self.now.document seat.old query result seat.new }
         ensures account { query ≡ Query.State State.Account
             → result.reply ≡ Reply.Account (length seat.old.told) }
+        ensures counted { GoesByCounts query
+            → Reads self.now.document.replica (counts_for seat.old.seat self.now.document) query result.reply }
         ensures told { operation_ids (logged_by seat.old.seat self.now.document) ≡ seat.old.told }
     {
         let number = seat.share.number();
         let seat_number = seat.share.seat();
         self.books[seat_number as usize - 1].agree(&seat.share);
-        let reply = self.replica.read(seat.share.count(), query);
+        let counts = Counts {
+            mine: seat.share.count(),
+            copied: self.copied as u64,
+        };
+        let reply = self.replica.read(counts, query);
         Answer {
             reply,
             number,

@@ -1,5 +1,5 @@
 -- What `LogCopy` is to the port of the stored log.
-use Rattle.std.proofs.Common.{◌≡◌, ◌⊎◌, inl, inr, ◌↔◌, ◌+◌, ℕ, List, Bool, true, false, Result, Ok, Err, OnOk, refl, sym, ◌∙◌}
+use Rattle.std.proofs.Common.{◌≡◌, ◌⊎◌, inl, inr, ◌↔◌, ◌+◌, ℕ, List, Bool, true, false, Option, Some, None, IfSome, option_map, unwrap_or, Result, Ok, Err, OnOk, refl, sym, ◌∙◌}
 use Rattle.sqlite.specs.Tree.{Trees}
 use Rattle.sqlite.specs.Store.{Ghosts}
 use Rattle.sqlite.specs.Held.{state}
@@ -33,15 +33,23 @@ module _ {S : Type 0} (g : Ghosts S) where
   works_if_ok false x failed = refl
   works_if_ok true x failed = absurd (let e = failed.1 refl in cc)
 
-  pub still_there : {T : Type 0} (new : Kept S) → IsSoundCopy g new → (r : Result T Fault) → ((r ≡ Err Store) ↔ (new.has_failed ≡ true))
-      → OnOk r (CrashLeaves g new (HasSame (copied_log new)))
-  still_there new sound (Ok x) failed = λ alone clean db may. record {
+  pub still_works : (new : Kept S) → IsSoundCopy g new → new.has_failed ≡ false → CrashLeaves g new (HasSame (copied_log new))
+  still_works new sound works alone clean db may = record {
     epoch = new.epoch;
     docs = new.docs;
     is_such = record { same_epoch = refl; same_docs = refl };
-    holds = sound.left (works_if_ok new.has_failed x failed) alone clean db may;
+    holds = sound.left works alone clean db may;
   }
+
+  pub still_there : {T : Type 0} (new : Kept S) → IsSoundCopy g new → (r : Result T Fault) → ((r ≡ Err Store) ↔ (new.has_failed ≡ true))
+      → OnOk r (CrashLeaves g new (HasSame (copied_log new)))
+  still_there new sound (Ok x) failed = still_works new sound (works_if_ok new.has_failed x failed)
   still_there new sound (Err e) failed = tt
 
 pub same_log : {S : Type 0} (a b : Kept S) → (a.epoch ≡ b.epoch) × (a.docs ≡ b.docs) × (a.is_alone ≡ b.is_alone) × (a.has_failed ≡ b.has_failed) → copied_log a ≡ copied_log b
 same_log a b same = rw (same.0, same.1, same.2, same.3) refl
+
+-- what is there is what it is taken for
+pub if_some_is : {X Y : Type 0} (f : X → Y) (none : Y) (o : Option X) → IfSome o (λ x. f x ≡ unwrap_or (option_map f o) none)
+if_some_is f none (Some x) = refl
+if_some_is f none None = tt

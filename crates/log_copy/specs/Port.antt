@@ -1,5 +1,5 @@
 -- What `LogCopy` is to the port of the stored log.
-use Rattle.std.specs.Prelude.{◌≡◌, ℕ, true, List}
+use Rattle.std.specs.Prelude.{◌≡◌, ℕ, true, List, Option, Some, None, MatchOption}
 use Rattle.sqlite.specs.Tree.{Trees}
 use Rattle.sqlite.specs.Store.{Ghosts}
 use Rattle.sqlite.specs.Held.{state}
@@ -29,6 +29,12 @@ keeps_such first last kept db h = record {
   is_such = raised_keeps first last kept h.epoch h.docs h.is_such;
   holds = h.holds;
 }
+
+-- what holds of a log that may be there goes on to hold
+pub if_there : {X : Type 0} {P Q : X → Type 0} (it : Option X) → ((x : X) → P x → Q x)
+    → MatchOption it ⊥ P → MatchOption it ⊥ Q
+if_there (Some x) goes_on holds = goes_on x holds
+if_there None goes_on holds = holds
 
 module _ {S : Type 0} (g : Ghosts S) where
   -- In a database with only our tables, whatever a crash leaves holds such an epoch and documents.

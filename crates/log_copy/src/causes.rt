@@ -44,6 +44,8 @@ pub enum Cause {
     Damaged,
     /// It is one, and holds no stored log.
     NoLog(Wrong),
+    /// The system opens no more files for this process, or for any.
+    Descriptors,
     /// The database failed.
     Database(StoredFault),
 }
@@ -82,6 +84,7 @@ impl Cause {
                 "it is missing, and a -journal of it is there: put the file back, or move the -journal away",
             Cause::Missing => "it is not there",
             Cause::NoLog(_) => "it is no stored log",
+            Cause::Descriptors => "too many files are open: see ulimit -n",
             Cause::Database(_) => "an error of the database",
         }
     }

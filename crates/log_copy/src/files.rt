@@ -3,14 +3,20 @@
 //! No clause can say what a real file holds. So all that clauses say of a stored log is said of
 //! `LogCopy`, over any store.
 
-ghost use Rattle.std.specs.Prelude.{◌≡◌, ◌⊎◌, ◌↔◌, false, IfOk};
+ghost use Rattle.std.specs.Prelude.{◌≡◌, ◌⊎◌, ◌↔◌, true, false, IfOk};
+ghost use Rattle.sqlite.specs.Held.{state};
+ghost use Rattle.sqlite.specs.State.{HasCleanDisk};
+ghost use Rattle.stored_rows.specs.Content.{Content, with_format};
+ghost use Rattle.stored_rows.specs.Steps.{IsOpenWith, IsOurs};
+ghost use Rattle.log_copy.specs.Opened.{IsTakenOver};
 ghost use Rattle.log_copy.specs.Refusal.{IsRefusal};
 
 use crate::causes::Cause;
 use crate::paths::{
-    Before, Leftover, look_at, make, real_path, why_absent, why_alone, why_no_database,
+    Before, Leftover, look_at, make, real_path, why, why_absent, why_alone, why_no_database,
     why_not_opened,
 };
+use crate::place::Place;
 use crate::sqlite_log::SqliteLog;
 use crate::wrong::wrong_of;
 use crate::{Fault, LogCopy, stored_fault_of};
@@ -24,7 +30,14 @@ use stored_log::{OpenLog, StoredFault};
 
 /// The stored log over a connection, or why there is none.
 pub fn adopted<S: Alter + Drop>(alloc: Global, conn: Connection<S>) -> Result<LogCopy<S>, Cause>
-    ensures { IfOk result (λ c. c.has_failed ≡ false) }
+    ensures works { IfOk result (λ c. c.has_failed ≡ false) }
+    ensures alone { IfOk result (λ c. IsOurs (state S.Store conn) → c.is_alone ≡ true) }
+    // It holds what the tables had, or has made them.
+    ensures kept { IfOk result (λ c. HasCleanDisk (state S.Store c.conn) → (was : Content)
+        → IsOpenWith was (state S.Store conn)
+        → IsOpenWith (with_format 2 was) (state S.Store c.conn)) }
+    ensures taken { IfOk result (λ c. HasCleanDisk (state S.Store c.conn)
+        → IsTakenOver S.Store conn c.conn c.epoch c.docs) }
 {
     match LogCopy::adopt(alloc, conn) {
         Ok(copy) => Ok(copy),
@@ -191,6 +204,12 @@ impl<R: Log + Clock> OpenLog for SqliteFiles<'_, R> {
             return Err(Fault::Store);
         }
         let log = open_noted(self.rt, self.notes, path)?;
-        Ok(SqliteLog { log })
+        match Place::of(self.rt, path) {
+            Ok(place) => Ok(SqliteLog::new(place, log)),
+            Err(error) => {
+                report_open_failure(self.rt, path, &why(&error));
+                Err(Fault::Store)
+            }
+        }
     }
 }

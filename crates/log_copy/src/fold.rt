@@ -6,11 +6,13 @@ ghost use Rattle.sqlite.specs.Held.{AreDatabases, state};
 ghost use Rattle.stored_rows.specs.Tables.{copy_schema};
 ghost use Rattle.log_copy.specs.Folded.{HasFolded, Reopens, KeepsCommit};
 
+use crate::port::stored_fault_of;
 use sqlite::{Alter, Connection, Error, ErrorCode, FileStore};
 use sqlite_disk::Disk;
 use sqlite_trees::error::StoreError;
 use sqlite_trees::store::Store;
 use std::alloc::Global;
+use stored_log::StoredFault;
 use stored_rows::is_copy;
 
 /// A store of two files, a database and the log of its commits, that can copy the log into the
@@ -51,6 +53,14 @@ pub(crate) fn code_of(error: &Error) -> ErrorCode {
     match error {
         Error::SqliteFailure(code) => *code,
         _ => ErrorCode::SystemIoFailure,
+    }
+}
+
+/// Why the database didn't do it, as a fault of a stored log.
+pub(crate) fn fault_of<T>(answer: &Result<T, Error>) -> Option<StoredFault> {
+    match answer {
+        Ok(_) => None,
+        Err(error) => Some(stored_fault_of(code_of(error))),
     }
 }
 

@@ -174,12 +174,36 @@ fn is_no_path(path: &str) -> bool {
     path.is_empty() || path == ":memory:" || path.starts_with("file:")
 }
 
+// The system's numbers of two errors: it opens no more files, for any process or for this one.
+const ENFILE: i32 = 23;
+
+const EMFILE: i32 = 24;
+
+// Whether a file can't be opened since too many are open.
+fn is_of_descriptors<T>(opened: &io::Result<T>) -> bool {
+    match opened {
+        Ok(_) => false,
+        Err(error) => matches!(error.raw_os_error(), Some(ENFILE | EMFILE)),
+    }
+}
+
+// Whether a file, its log and its folder can't be opened since too many files are open.
+fn lacks_descriptors(rt: &HostRuntime) -> bool {
+    let file = fs::File::open(rt, "/");
+    let log = fs::File::open(rt, "/");
+    let folder = fs::File::open(rt, "/");
+    is_of_descriptors(&file) || is_of_descriptors(&log) || is_of_descriptors(&folder)
+}
+
 /// Why a file that the system refused to open can't be opened.
 pub(crate) fn why_not_opened(rt: &HostRuntime, path: &str) -> Cause
     ensures { ¬ IsRefusal result }
 {
     if is_no_path(path) {
         return Cause::NoPath;
+    }
+    if lacks_descriptors(rt) {
+        return Cause::Descriptors;
     }
     match fs::metadata(rt, path) {
         Ok(found) => why_not_used(rt, path, &found),
@@ -223,8 +247,8 @@ fn why_not_beside(rt: &HostRuntime, path: &str) -> Cause
     }
 }
 
-// The cause of a system's error.
-fn why(error: &io::Error) -> Cause
+/// The cause of a system's error.
+pub(crate) fn why(error: &io::Error) -> Cause
     ensures { ¬ IsRefusal result }
 {
     match error.kind() {

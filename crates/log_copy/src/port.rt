@@ -1,4 +1,9 @@
 //! `LogCopy` as a `StoredLog`.
+ghost use Rattle.std.specs.Prelude.{◌≡◌, ◌⊎◌, ◌↔◌, [], true, false, Err, OnOk};
+ghost use Rattle.stored_log.specs.Docs.{IsBatch, add_batch};
+ghost use Rattle.stored_log.specs.Log.{HasSame, IsAddedOrNot, ShowsBatchOrNot};
+ghost use Rattle.log_copy.specs.Port.{CrashLeaves, copied_log};
+
 use crate::copy::LogCopy;
 use crate::fold::Foldable;
 use op_core::Operation;
@@ -18,6 +23,35 @@ pub fn stored_fault_of(code: ErrorCode) -> StoredFault {
         ErrorCode::Closed => StoredFault::Closed,
         _ => StoredFault::Other,
     }
+}
+
+/// As `append`, where the file that the database is in is still at its path. Otherwise the log
+/// fails, and is as it was.
+pub(crate) fn append_there<S: Foldable + Drop>(
+    copy: &mut LogCopy<S>,
+    is_there: bool,
+    doc: &str,
+    from: usize,
+    entries: &[Operation],
+) -> Result<(), Fault>
+    ensures ok { OnOk result ((copy.new.docs ≡ add_batch doc.now entries.now copy.old.docs)
+        × (copy.new.epoch ≡ copy.old.epoch) × (copy.new.has_failed ≡ false)) }
+    ensures batch { OnOk result (IsBatch doc.now from entries.now copy.old.docs) }
+    ensures empty { entries.now ≡ [] → copy.new ≡ copy.old }
+    ensures alone { copy.new.is_alone ≡ copy.old.is_alone }
+    ensures refused { result ≡ Err Fault.Refused
+        → ¬ IsBatch doc.now from entries.now copy.old.docs }
+    ensures unchanged { (result ≡ Err Fault.Refused) ⊎ (result ≡ Err Fault.Memory)
+        → copy.new ≡ copy.old }
+    ensures failed { (result ≡ Err Fault.Store) ↔ (copy.new.has_failed ≡ true) }
+    ensures shut { copy.old.has_failed ≡ true → (result ≡ Err Fault.Store) × (copy.new ≡ copy.old) }
+    ensures crash { copy.old.has_failed ≡ false
+        → CrashLeaves S.Store copy.new (IsAddedOrNot doc.now entries.now (copied_log copy.old)) }
+    ensures stays { OnOk result (CrashLeaves S.Store copy.new (HasSame (copied_log copy.new))) }
+    ensures shows { result ≡ Err Fault.Store → copy.old.has_failed ≡ false
+        → ShowsBatchOrNot doc.now from entries.now (copied_log copy.old) (copied_log copy.new) }
+{
+    copy.add_batch_there(is_there, doc, from, entries)
 }
 
 impl<S: Foldable + Drop> StoredLog for LogCopy<S> {
@@ -42,10 +76,7 @@ impl<S: Foldable + Drop> StoredLog for LogCopy<S> {
     ghost still_keeps = { λ it first last kept left alone clean db may. keeps_such first last kept db (left alone clean db may) };
 
     fn cause(&self) -> Option<StoredFault> {
-        match LogCopy::cause(self) {
-            Some(code) => Some(stored_fault_of(code)),
-            None => None,
-        }
+        LogCopy::cause(self)
     }
 
     fn epoch(&self) -> Result<u64, Fault> {
@@ -72,6 +103,11 @@ impl<S: Foldable + Drop> StoredLog for LogCopy<S> {
 
     fn append(&mut self, doc: &str, from: usize, entries: &[Operation]) -> Result<(), Fault> {
         self.add_batch(doc, from, entries)
+    }
+
+    /// Its store can't be opened again: only `SqliteLog` knows its files.
+    fn resume(&mut self, _doc: &str, _from: usize, _entries: &[Operation]) -> Result<(), Fault> {
+        Err(Fault::Refused)
     }
 
     fn fold(self) -> Result<LogCopy<S>, (StoredFault, S)> {

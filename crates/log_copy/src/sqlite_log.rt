@@ -1,83 +1,365 @@
 //! The stored log of a SQLite file, as a type without parameters:
 //! `main` picks it in a few steps then.
+ghost use Rattle.std.specs.Prelude.{◌≡◌, IfOk, IfErr, IfSome, MatchOption, Some, None, true, false};
+ghost use Rattle.std.specs.Prelude.{option_map, unwrap_or};
+ghost use Rattle.stored_log.specs.Log.{HasBatchAgain, HasSame};
+ghost use Rattle.log_copy.specs.Again.{no_log, parts_log};
+ghost use Rattle.log_copy.specs.Kept.{IsStorable};
+ghost use Rattle.log_copy.specs.Port.{copied_log};
+
+use crate::again::{Failed, resumed};
+use crate::copy::Parts;
+use crate::place::Place;
+use crate::port::{append_there, stored_fault_of};
 use crate::{LogCopy, SqliteFile};
 use op_core::Operation;
 use op_log::OpLog;
+use sqlite::{Connection, Error, ErrorCode, File, Files, Options};
 use std::alloc::Global;
+use std::hash::{BuildHasher, RandomState};
+use std::mem;
 use stored_log::{Fault, StoredDoc, StoredFault, StoredLog};
 
-/// The stored log of a SQLite file.
+/// What a stored log had whose files can't be used now, and the files, which stay locked. They are
+/// missing where a sync failed: then they are opened anew by their path.
+#[derive(Drop)]
+pub(crate) struct ShutLog {
+    parts: Parts,
+    files: Option<Files<File>>,
+    cause: StoredFault,
+}
+
+/// The stored log of a SQLite file. After a fault it may be shut, until it is opened again.
 #[derive(Drop)]
 pub struct SqliteLog {
-    pub(crate) log: LogCopy<SqliteFile>,
+    place: Place,
+    // The log, unless it is shut.
+    log: Option<LogCopy<SqliteFile>>,
+    shut: Option<ShutLog>,
+}
+
+impl SqliteLog {
+    // The log of the file at this place.
+    pub(crate) fn new(place: Place, log: LogCopy<SqliteFile>) -> SqliteLog
+        ensures { result.log ≡ Some log }
+    {
+        SqliteLog {
+            place,
+            log: Some(log),
+            shut: None,
+        }
+    }
 }
 
 /// The SQLite file of a stored log that was closed. Its drop closes the file.
 #[derive(Drop)]
 pub struct ClosedFile {
-    pub(crate) file: SqliteFile,
+    // None where it wasn't open.
+    pub(crate) file: Option<SqliteFile>,
+}
+
+// The error of the database as one of a stored log.
+fn fault_of(error: &Error) -> StoredFault {
+    match error {
+        Error::SqliteFailure(ErrorCode::CannotOpen) => StoredFault::Io,
+        Error::SqliteFailure(code) => stored_fault_of(*code),
+        _ => StoredFault::Io,
+    }
+}
+
+// What a log had, with its files.
+fn shut_down(log: LogCopy<SqliteFile>) -> ShutLog
+    ensures { parts_log result.parts ≡ record (copied_log log) { has_failed = true } }
+{
+    let cause = StoredLog::cause(&log).unwrap_or(StoredFault::Other);
+    let (conn, parts) = log.into_parts();
+    ShutLog {
+        parts,
+        files: Some(conn.into_store().close()),
+        cause,
+    }
+}
+
+// What a log that has failed had, with its files.
+fn shut_of(log: Option<LogCopy<SqliteFile>>, shut: Option<ShutLog>) -> Option<ShutLog>
+    requires failed { (unwrap_or (option_map copied_log log)
+        (unwrap_or (option_map (λ s. parts_log s.parts) shut) no_log)).has_failed ≡ true }
+    ensures some { IfSome result (λ it. parts_log it.parts ≡ unwrap_or (option_map copied_log log)
+        (unwrap_or (option_map (λ s. parts_log s.parts) shut) no_log)) }
+    ensures none { result ≡ None → (log ≡ None) × (shut ≡ None) }
+{
+    match log {
+        Some(log) => Some(shut_down(log)),
+        None => shut,
+    }
+}
+
+// Opens the file at the path, which is there.
+fn open_path(place: &Place) -> Result<Connection<SqliteFile>, (StoredFault, Option<Files<File>>)> {
+    match Connection::open(place.rt(), place.path()) {
+        Ok(conn) => Ok(conn),
+        Err(error) => Err((fault_of(&error), None)),
+    }
+}
+
+// Opens the files, which stay locked; by their path where a sync of them failed, since what the
+// system shows of them may not be what the disk has.
+fn open_files(
+    place: &Place,
+    files: Option<Files<File>>,
+) -> Result<Connection<SqliteFile>, (StoredFault, Option<Files<File>>)> {
+    let Some(files) = files else {
+        return open_path(place);
+    };
+    if !files.may_be_used() {
+        drop(files);
+        return open_path(place);
+    }
+    let Ok(random) = RandomState::new(place.rt()) else {
+        return Err((StoredFault::Io, Some(files)));
+    };
+    let options = Options::new(random.hash_one(&0u8));
+    match Connection::open_files(place.rt().alloc(), files, options) {
+        Ok(conn) => Ok(conn),
+        Err((error, left)) => Err((fault_of(&error), Some(left.into_files()))),
+    }
+}
+
+// Why a log is shut.
+fn cause_of_shut(shut: &Option<ShutLog>) -> StoredFault {
+    match shut {
+        Some(shut) => shut.cause,
+        None => StoredFault::Other,
+    }
+}
+
+// Why a log can't be opened again that met this fault.
+fn cause_again(fault: Fault, cause: Option<StoredFault>) -> StoredFault {
+    match fault {
+        Fault::Refused => StoredFault::Changed,
+        Fault::Memory => StoredFault::NoMemory,
+        Fault::Store => cause.unwrap_or(StoredFault::Other),
+    }
+}
+
+// Opens the files again.
+fn opened_again(
+    place: &Place,
+    shut: ShutLog,
+    failed: &Failed<'_>,
+) -> Result<LogCopy<SqliteFile>, (Fault, ShutLog)>
+    ensures again { IfOk result (λ c. HasBatchAgain failed.now.doc.now failed.now.from failed.now.entries.now
+        (parts_log shut.parts) (copied_log c)) }
+    ensures alone { IfOk result (λ c. c.is_alone ≡ shut.parts.is_alone) }
+    ensures stays { IfOk result (λ c. ⟦<LogCopy<SqliteFile> as StoredLog>⟧.survives c (HasSame (copied_log c))) }
+    ensures err { IfErr result (λ e. parts_log e.1.parts ≡ parts_log shut.parts) }
+{
+    let ShutLog {
+        parts,
+        files,
+        cause,
+    } = shut;
+    if !place.has_file() {
+        let cause = StoredFault::Moved;
+        return Err((
+            Fault::Store,
+            ShutLog {
+                parts,
+                files,
+                cause,
+            },
+        ));
+    }
+    let conn = match open_files(place, files) {
+        Ok(conn) => conn,
+        Err((cause, files)) => return Err((
+            Fault::Store,
+            ShutLog {
+                parts,
+                files,
+                cause,
+            },
+        )),
+    };
+    match resumed(place.rt().alloc(), conn, &parts, failed) {
+        Ok(log) => Ok(log),
+        Err((fault, why, conn)) => {
+            let files = Some(conn.into_store().close());
+            let cause = cause_again(fault, why);
+            Err((
+                fault,
+                ShutLog {
+                    parts,
+                    files,
+                    cause,
+                },
+            ))
+        }
+    }
+}
+
+// Folds the log.
+fn fold_log(place: Place, log: LogCopy<SqliteFile>) -> Result<SqliteLog, (StoredFault, ClosedFile)>
+    ensures same { IfOk result (λ it. unwrap_or (option_map copied_log it.log)
+        (unwrap_or (option_map (λ s. parts_log s.parts) it.shut) no_log) ≡ copied_log log) }
+    ensures folded { IfOk result (λ it. log.has_failed ≡ false → MatchOption it.log ⊥
+        (λ d. ⟦<LogCopy<SqliteFile> as StoredLog>⟧.was_alone log d)) }
+    ensures left { IfErr result (λ e. log.has_failed ≡ false → MatchOption e.1.file ⊥
+        (λ f. ⟦<LogCopy<SqliteFile> as StoredLog>⟧.is_in_store log f)) }
+{
+    match StoredLog::fold(log) {
+        Ok(log) => Ok(SqliteLog::new(place, log)),
+        Err((fault, file)) => Err((fault, ClosedFile { file: Some(file) })),
+    }
+}
+
+// Closes the log.
+fn close_log(log: LogCopy<SqliteFile>) -> Result<ClosedFile, (StoredFault, ClosedFile)>
+    ensures folded { IfOk result (λ last. log.has_failed ≡ false → MatchOption last.file ⊥
+        (λ f. ⟦<LogCopy<SqliteFile> as StoredLog>⟧.is_in_file log f)) }
+    ensures copied { IfOk result (λ last. MatchOption last.file ⊥
+        (λ f. ⟦<LogCopy<SqliteFile> as StoredLog>⟧.has_moved log f)) }
+    ensures left { IfErr result (λ e. log.has_failed ≡ false → MatchOption e.1.file ⊥
+        (λ f. ⟦<LogCopy<SqliteFile> as StoredLog>⟧.is_in_store log f)) }
+{
+    match StoredLog::close(log) {
+        Ok(file) => Ok(ClosedFile { file: Some(file) }),
+        Err((fault, file)) => Err((fault, ClosedFile { file: Some(file) })),
+    }
+}
+
+// A law: what it had in memory is storable. It does nothing.
+fn keeps_storable(shut: &Option<ShutLog>)
+    ensures { IfSome shut.now (λ s. IsStorable s.parts.epoch s.parts.docs) }
+{
+    if let Some(shut) = shut {
+        let _docs = shut.parts.docs();
+    }
 }
 
 impl StoredLog for SqliteLog {
     type Left = ClosedFile;
 
-    ghost use Rattle.log_copy.specs.Port.{keeps_such};
+    ghost use Rattle.log_copy.specs.Again.{parts_log, no_log};
+    ghost use Rattle.log_copy.specs.Port.{copied_log, if_there, keeps_such};
+    ghost use Rattle.stored_log.specs.Log.{IsRaisedOrNot, KeepsAll};
 
-    ghost log = { λ it. ⟦<LogCopy<SqliteFile> as StoredLog>⟧.log it.log };
+    ghost log = { λ it. unwrap_or (option_map copied_log it.log)
+        (unwrap_or (option_map (λ s. parts_log s.parts) it.shut) no_log) };
 
-    ghost survives = { λ it. ⟦<LogCopy<SqliteFile> as StoredLog>⟧.survives it.log };
+    ghost survives = { λ it such. MatchOption it.log ⊥ (λ c. ⟦<LogCopy<SqliteFile> as StoredLog>⟧.survives c such) };
 
-    ghost was_alone = { λ old new. ⟦<LogCopy<SqliteFile> as StoredLog>⟧.was_alone old.log new.log };
+    ghost was_alone = { λ old new. MatchOption old.log ⊥ (λ c. MatchOption new.log ⊥
+        (λ d. ⟦<LogCopy<SqliteFile> as StoredLog>⟧.was_alone c d)) };
 
-    ghost is_in_file = { λ it last. ⟦<LogCopy<SqliteFile> as StoredLog>⟧.is_in_file it.log last.file };
+    ghost is_in_file = { λ it last. MatchOption it.log ⊥ (λ c. MatchOption last.file ⊥
+        (λ f. ⟦<LogCopy<SqliteFile> as StoredLog>⟧.is_in_file c f)) };
 
-    ghost is_in_store = { λ it last. ⟦<LogCopy<SqliteFile> as StoredLog>⟧.is_in_store it.log last.file };
+    ghost is_in_store = { λ it last. MatchOption it.log ⊥ (λ c. MatchOption last.file ⊥
+        (λ f. ⟦<LogCopy<SqliteFile> as StoredLog>⟧.is_in_store c f)) };
 
-    ghost has_moved = { λ it last. ⟦<LogCopy<SqliteFile> as StoredLog>⟧.has_moved it.log last.file };
+    ghost has_moved = { λ it last. MatchOption it.log ⊥ (λ c. MatchOption last.file ⊥
+        (λ f. ⟦<LogCopy<SqliteFile> as StoredLog>⟧.has_moved c f)) };
 
-    ghost still_keeps = { λ it first last kept left alone clean db may. keeps_such first last kept db (left alone clean db may) };
+    ghost still_keeps = { λ it first last kept left. if_there
+        {P = λ c. ⟦<LogCopy<SqliteFile> as StoredLog>⟧.survives c (IsRaisedOrNot last)}
+        {Q = λ c. ⟦<LogCopy<SqliteFile> as StoredLog>⟧.survives c (KeepsAll first)} it.log
+        (λ c was alone clean db may. keeps_such first last kept db (was alone clean db may)) left };
 
     fn cause(&self) -> Option<StoredFault> {
-        StoredLog::cause(&self.log)
+        match (&self.log, &self.shut) {
+            (Some(log), _) => StoredLog::cause(log),
+            (None, Some(shut)) => Some(shut.cause),
+            (None, None) => None,
+        }
     }
 
     fn epoch(&self) -> Result<u64, Fault> {
-        StoredLog::epoch(&self.log)
+        match &self.log {
+            Some(log) => StoredLog::epoch(log),
+            None => Err(Fault::Store),
+        }
     }
 
     fn epoch_up(&mut self) -> Result<u64, Fault> {
-        StoredLog::epoch_up(&mut self.log)
+        match &mut self.log {
+            Some(log) => StoredLog::epoch_up(log),
+            None => Err(Fault::Store),
+        }
     }
 
     fn docs(&self) -> Result<&[StoredDoc], Fault> {
-        StoredLog::docs(&self.log)
+        match &self.log {
+            Some(log) => StoredLog::docs(log),
+            None => {
+                keeps_storable(&self.shut);
+                Err(Fault::Store)
+            }
+        }
     }
 
     fn rows(&self, doc: &str) -> Result<usize, Fault> {
-        self.log.rows(doc)
+        match &self.log {
+            Some(log) => StoredLog::rows(log, doc),
+            None => Err(Fault::Store),
+        }
     }
 
     fn load(&self, alloc: Global, doc: &str) -> Result<OpLog, Fault> {
-        StoredLog::load(&self.log, alloc, doc)
+        match &self.log {
+            Some(log) => StoredLog::load(log, alloc, doc),
+            None => Err(Fault::Store),
+        }
     }
 
+    /// Before each batch it looks once whether the file is still at its path, under no other name.
+    /// Otherwise it fails.
     fn append(&mut self, doc: &str, from: usize, entries: &[Operation]) -> Result<(), Fault> {
-        self.log.append(doc, from, entries)
+        match &mut self.log {
+            Some(log) => {
+                let is_there = self.place.has_file();
+                append_there(log, is_there, doc, from, entries)
+            }
+            None => Err(Fault::Store),
+        }
+    }
+
+    fn resume(&mut self, doc: &str, from: usize, entries: &[Operation]) -> Result<(), Fault> {
+        let log = mem::replace(&mut self.log, None);
+        let shut = mem::replace(&mut self.shut, None);
+        let Some(shut) = shut_of(log, shut) else {
+            return Err(Fault::Store);
+        };
+        let failed = Failed { doc, from, entries };
+        match opened_again(&self.place, shut, &failed) {
+            Ok(log) => {
+                self.log = Some(log);
+                Ok(())
+            }
+            Err((fault, shut)) => {
+                self.shut = Some(shut);
+                Err(fault)
+            }
+        }
     }
 
     fn fold(self) -> Result<SqliteLog, (StoredFault, ClosedFile)> {
-        let SqliteLog { log } = self;
-        match StoredLog::fold(log) {
-            Ok(log) => Ok(SqliteLog { log }),
-            Err((fault, file)) => Err((fault, ClosedFile { file })),
+        let SqliteLog { place, log, shut } = self;
+        match log {
+            Some(log) => fold_log(place, log),
+            None => Err((cause_of_shut(&shut), ClosedFile { file: None })),
         }
     }
 
     fn close(self) -> Result<ClosedFile, (StoredFault, ClosedFile)> {
-        let SqliteLog { log } = self;
-        match StoredLog::close(log) {
-            Ok(file) => Ok(ClosedFile { file }),
-            Err((fault, file)) => Err((fault, ClosedFile { file })),
+        let SqliteLog {
+            place: _,
+            log,
+            shut,
+        } = self;
+        match log {
+            Some(log) => close_log(log),
+            None => Err((cause_of_shut(&shut), ClosedFile { file: None })),
         }
     }
 }

@@ -1,4 +1,5 @@
 pub mod Ids
+pub mod Among
 pub mod Fronts
 pub mod LastCounters
 pub mod Indexes

@@ -270,6 +270,16 @@ impl OpLog {
         self.contains(id_at(front, at))
     }
 
+    /// Whether the operation of an id is one of the first `n`.
+    pub fn is_among_first(&self, n: usize, id: Id) -> bool
+        ensures { result ≡ is_logged (take n self.now.operations) id }
+    {
+        match self.position_of(id) {
+            Some(at) => at < n,
+            None => false,
+        }
+    }
+
     // The last operation of a replica, if it has one.
     pub(crate) fn last_by(&self, name: ReplicaName) -> Option<&Operation>
         ensures { IfSome (option_copied result) (λ op. Contains self.now.operations op) }

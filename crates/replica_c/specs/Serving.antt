@@ -8,6 +8,7 @@ use Rattle.doc_api.specs.Words.{Id, Refusal}
 use Rattle.doc_api.specs.declared.ask.Command.TheVariants.{Change, Deliver, Forget}
 use Rattle.doc_api.specs.declared.reply.Reply.{Reply}
 use Rattle.doc_api.specs.declared.reply.Reply.TheVariants.{Applied, Refused}
+use Rattle.doc_api.specs.declared.ask.Counts.{Counts}
 use Rattle.doc_rules.specs.Answers.{MayAnswer}
 use Rattle.doc_rules.specs.Events.{Event, IsOutOfMemory}
 use Rattle.doc_rules.specs.Replica.{Replica, find_id}
@@ -20,10 +21,14 @@ use Rattle.replica_c.specs.declared.ask.Ask.TheVariants.{Act, Read}
 
 -- ---- one event
 
+-- no seat asks, and there is no stored log
+abbrev pub no_counts : Counts
+no_counts = record { mine = 0; copied = 0 }
+
 -- a command is one event of the rules; a query changes nothing; what can't be read is refused
 abbrev pub DoesAsk : Replica → Result Ask Refusal → Reply → Replica → Type 0
 DoesAsk r (Ok (Act command)) reply s = Event r command reply s
-DoesAsk r (Ok (Read query)) reply s = MayAnswer r 0 query reply × (s ≡ r)
+DoesAsk r (Ok (Read query)) reply s = MayAnswer r no_counts query reply × (s ≡ r)
 DoesAsk r (Err cause) reply s = (reply ≡ Refused cause) × (s ≡ r)
 
 -- what a line does, and the answer; or out of memory, with nothing changed

@@ -15,13 +15,13 @@ ghost use Rattle.doc_rules.specs.Answers.{MayAnswer};
 ghost use Rattle.doc_rules.specs.Events.{Event};
 ghost use Rattle.doc_rules.specs.Replica.{find_id};
 ghost use Rattle.replica_core.specs.Misfits.{IsMisfitOf};
-ghost use Rattle.replica_c.specs.Serving.{TellsLine, IsTold, op_line, own_after, own_by, own_of};
+ghost use Rattle.replica_c.specs.Serving.{TellsLine, IsTold, no_counts, op_line, own_after, own_by, own_of};
 ghost use Rattle.replica_c.specs.Stored.{AreWritten, IsUnfit, IsUnopened, IsUnread, OpensAs};
 ghost use Rattle.replica_c.specs.declared.ask.Ask.TheVariants.{Act};
 
 use crate::ask::Ask;
 use crate::read::{read_ask, read_operation};
-use doc_api::{Command, Place, Query, Reply};
+use doc_api::{Command, Counts, Place, Query, Reply};
 use json_scalar::Refusal;
 use json_text::{AsJson, JsonText};
 use lamport_id::{Id, ReplicaName};
@@ -36,6 +36,9 @@ use std::mem;
 
 // Room for the answer to any command and for the line of any operation, in bytes.
 const ROOM: usize = 65_536;
+
+// No seat asks, and there is no stored log.
+const NO_COUNTS: Counts = Counts { mine: 0, copied: 0 };
 
 /// A replica, and its last reply.
 #[derive(Drop)]
@@ -206,10 +209,10 @@ impl OpenReplica {
     // Tells the answer to a query, or out of memory in its place.
     fn look(&mut self, query: Query) -> bool
         ensures replica { self.new.replica ≡ self.old.replica }
-        ensures told { (reply : Reply) × MayAnswer self.old.replica 0 query reply
+        ensures told { (reply : Reply) × MayAnswer self.old.replica no_counts query reply
             × IsTold result (reply_line (Answered reply)) self.new.text.items }
     {
-        let reply = self.replica.read(0, query);
+        let reply = self.replica.read(NO_COUNTS, query);
         self.tell(reply) || self.tell(Reply::Refused(Refusal::NoMemory))
     }
 }

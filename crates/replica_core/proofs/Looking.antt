@@ -4,6 +4,7 @@ use Rattle.std.specs.Prelude.{MatchBool}
 use Rattle.doc_api.specs.Words.{Refusal, NoMemory, Cursor, Key, Tagged, Op}
 use Rattle.json_scalar.specs.declared.refusal.Refusal.TheVariants.{AtHead}
 use Rattle.op_core.specs.Shape.{is_head}
+use Rattle.doc_api.specs.declared.ask.Counts.{Counts}
 use Rattle.doc_api.specs.declared.ask.Look.{Look}
 use Rattle.doc_api.specs.declared.ask.Query.TheVariants as query
 use Rattle.doc_api.specs.declared.place.Place.{Place}
@@ -32,7 +33,7 @@ reading_answered {X} reads tell c r h = by (is_head c.key) refl r h
     by false e (Err cause) h = inl (ap reply.Refused h)
 
 -- a look where the steps lead
-pub look_answered : (name : List ℕ) (log held : List Op) (mine : ℕ) (tree : TreeValue) → AgreesWith tree log → IsGood log → (look : Look) (place : Place) (c : Cursor)
+pub look_answered : (name : List ℕ) (log held : List Op) (mine : Counts) (tree : TreeValue) → AgreesWith tree log → IsGood log → (look : Look) (place : Place) (c : Cursor)
     (answer : Reply) → Resolves (tree_facts tree) place.start place.steps (Ok c)
     → (answer ≡ reply.Refused NoMemory) ⊎ LooksHere (tree_facts tree) (tree_values tree) look c answer
     → MayAnswer (replica_of name log held) mine (query.Look look place) answer
@@ -41,7 +42,7 @@ look_answered name log held mine tree agrees good look place c answer leads (inr
     inl (look_answers (replica_of name log held) mine (tree_facts tree) (tree_role tree) good agrees look place (Ok c) answer leads here)
 
 -- where the steps lead
-pub resolve_answered : (name : List ℕ) (log held : List Op) (mine : ℕ) (tree : TreeValue) → AgreesWith tree log → (place : Place) (c : Cursor)
+pub resolve_answered : (name : List ℕ) (log held : List Op) (mine : Counts) (tree : TreeValue) → AgreesWith tree log → (place : Place) (c : Cursor)
     → Resolves (tree_facts tree) place.start place.steps (Ok c) → MayAnswer (replica_of name log held) mine (query.Resolve place) (reply.Resolved c)
 resolve_answered name log held mine tree agrees place c leads =
     inl (Ok c, subst (λ f. Resolves f place.start place.steps (Ok c)) agrees.facts_are leads, refl)

@@ -1,53 +1,61 @@
 //! A replica's answers to queries.
 ghost use Rattle.std.specs.Prelude.{◌≡◌, ◌⊎◌, ℕ, List};
 ghost use Rattle.doc_tree.specs.Nodes.{tree_facts};
-ghost use Rattle.doc_rules.specs.Answers.{MayAnswer, LooksHere, reply_with};
+ghost use Rattle.doc_rules.specs.Answers.{MayAnswer, Reads, LooksHere, reply_with};
+ghost use Rattle.doc_rules.specs.Answers.{GoesByCounts};
 ghost use Rattle.doc_view.specs.TreeValues.{tree_values};
 ghost use Rattle.doc_api.specs.declared.ask.Query.TheVariants as query;
 ghost use Rattle.replica_core.specs.Whole.{replica_with};
 
 use crate::body::Body;
-use doc_api::{CompactText, Look, Place, Query, Reply, Scalars, State};
+use doc_api::{CompactText, Counts, Look, Place, Query, Reply, Scalars, State};
 use doc_tree::Tree;
 use doc_view::{conflicts_text, items_text, keys_text, resolve, show, sum, values};
 use json_scalar::Refusal;
+use lamport_id::Id;
 use op_core::{Cursor, Front};
 use std::alloc::Global;
 
 impl Body {
-    /// A replica's answer to a query. `mine` is the answer to a query of the account.
-    /// Any other query may be refused with out of memory, and a reading of a place
-    /// with the cause against the place.
-    pub fn read(&self, alloc: Global, mine: u64, query: Query) -> Reply
+    /// A replica's answer to a query. `counts` is what a query of the account, of the size or of
+    /// what is copied is answered by, without memory. Any other query may be refused with out of
+    /// memory, and a reading of a place with the cause against the place.
+    pub fn read(&self, alloc: Global, counts: Counts, query: Query) -> Reply
         ensures answer { (name : List ℕ)
-            → MayAnswer (replica_with name self.now) mine query result }
-        ensures account { query ≡ Query.State State.Account → result ≡ Reply.Account mine }
+            → MayAnswer (replica_with name self.now) counts query result }
+        ensures account { query ≡ Query.State State.Account → result ≡ Reply.Account counts.mine }
+        ensures counted { (name : List ℕ) → GoesByCounts query
+            → Reads (replica_with name self.now) counts query result }
     {
         match query {
             Query::Resolve(place) => self.resolve_place(place),
             Query::Look(look, place) => self.look_at_place(alloc, look, place),
             Query::Operations(front, limit) => self.operations(&front, limit),
-            Query::State(state) => self.read_state(mine, state),
+            Query::IsCopied(id) => self.is_copied(counts, id),
+            Query::State(state) => self.read_state(counts, state),
         }
     }
 
     // The answer to a reading of the whole.
-    fn read_state(&self, mine: u64, state: State) -> Reply
+    fn read_state(&self, counts: Counts, state: State) -> Reply
         ensures answer { (name : List ℕ)
-            → MayAnswer (replica_with name self.now) mine (query.State state) result }
-        ensures account { state ≡ State.Account → result ≡ Reply.Account mine }
+            → MayAnswer (replica_with name self.now) counts (query.State state) result }
+        ensures account { state ≡ State.Account → result ≡ Reply.Account counts.mine }
+        ensures counted { (name : List ℕ) → GoesByCounts (query.State state)
+            → Reads (replica_with name self.now) counts (query.State state) result }
     {
         match state {
             State::Front => self.whole_front(),
             State::Held => self.waiting(),
-            State::Account => Reply::Account(mine),
+            State::Account => Reply::Account(counts.mine),
+            State::Size => self.size(counts),
         }
     }
 
     // The answer of a look at a place, or the cause against its steps.
     fn look_at_place(&self, alloc: Global, look: Look, place: Place) -> Reply
-        ensures { (name : List ℕ) (mine : ℕ)
-            → MayAnswer (replica_with name self.now) mine (query.Look look place) result }
+        ensures { (name : List ℕ) (counts : Counts)
+            → MayAnswer (replica_with name self.now) counts (query.Look look place) result }
     {
         let Place { start, steps } = place;
         let tree = self.tree();
@@ -59,8 +67,8 @@ impl Body {
 
     // Where the steps of a place lead.
     fn resolve_place(&self, place: Place) -> Reply
-        ensures { (name : List ℕ) (mine : ℕ)
-            → MayAnswer (replica_with name self.now) mine (query.Resolve place) result }
+        ensures { (name : List ℕ) (counts : Counts)
+            → MayAnswer (replica_with name self.now) counts (query.Resolve place) result }
     {
         let Place { start, steps } = place;
         match resolve(self.tree(), start, steps.as_slice()) {
@@ -71,8 +79,8 @@ impl Body {
 
     // The logged operations that a front does not cover, at most so many.
     fn operations(&self, front: &Front, limit: u64) -> Reply
-        ensures { (name : List ℕ) (mine : ℕ)
-            → MayAnswer (replica_with name self.now) mine (query.Operations front.now limit) result }
+        ensures { (name : List ℕ) (counts : Counts)
+            → MayAnswer (replica_with name self.now) counts (query.Operations front.now limit) result }
     {
         match self.log().since_text(front, limit as usize) {
             Ok(text) => Reply::Operations(text),
@@ -80,10 +88,31 @@ impl Body {
         }
     }
 
+    // Whether the operation of an id is among those that the stored log has.
+    fn is_copied(&self, counts: Counts, id: Id) -> Reply
+        ensures { (name : List ℕ)
+            → Reads (replica_with name self.now) counts (query.IsCopied id) result }
+    {
+        Reply::Copied(self.log().is_among_first(counts.copied as usize, id))
+    }
+
+    // How much the log has.
+    fn size(&self, counts: Counts) -> Reply
+        ensures { (name : List ℕ)
+            → Reads (replica_with name self.now) counts (query.State State.Size) result }
+    {
+        let log = self.log();
+        Reply::Size {
+            logged: log.len() as u64,
+            copied: counts.copied,
+            replicas: log.replica_count() as u64,
+        }
+    }
+
     // The front of the log.
     fn whole_front(&self) -> Reply
-        ensures { (name : List ℕ) (mine : ℕ)
-            → MayAnswer (replica_with name self.now) mine (query.State State.Front) result }
+        ensures { (name : List ℕ) (counts : Counts)
+            → MayAnswer (replica_with name self.now) counts (query.State State.Front) result }
     {
         match self.log().front() {
             Ok(front) => Reply::Front(front),
@@ -93,8 +122,8 @@ impl Body {
 
     // The held operations, and what each waits for.
     fn waiting(&self) -> Reply
-        ensures { (name : List ℕ) (mine : ℕ)
-            → MayAnswer (replica_with name self.now) mine (query.State State.Held) result }
+        ensures { (name : List ℕ) (counts : Counts)
+            → MayAnswer (replica_with name self.now) counts (query.State State.Held) result }
     {
         match self.held().waiting(self.log()) {
             Ok(waiting) => Reply::Waiting(waiting),

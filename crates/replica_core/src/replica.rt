@@ -2,7 +2,7 @@
 ghost use Rattle.std.specs.Prelude.{◌≡◌, [], Err, OnOk, IfOk, IfErr};
 ghost use Rattle.json_scalar.specs.declared.refusal.Refusal.TheVariants.{NoMemory};
 ghost use Rattle.crdt_rules.specs.Log.{IsGood};
-ghost use Rattle.doc_rules.specs.Answers.{MayAnswer};
+ghost use Rattle.doc_rules.specs.Answers.{GoesByCounts, MayAnswer, Reads};
 ghost use Rattle.doc_rules.specs.Events.{Does, Event};
 ghost use Rattle.doc_rules.specs.Replica.{IsValidReplica};
 ghost use Rattle.doc_api.specs.declared.ask.Command.TheVariants as command;
@@ -18,7 +18,7 @@ use crate::limits::keeps_limits;
 use crate::outcome::{Applied, Delivered};
 use crate::outcome_reply::{applied_reply, delivered_reply, forgotten_reply};
 use crate::restore::{Misfit, logged, tree_of};
-use doc_api::{Command, Place, Query, Reply, State};
+use doc_api::{Command, Counts, Place, Query, Reply, State};
 use doc_tree::Tree;
 use doc_view::resolve;
 use json_scalar::Refusal;
@@ -168,14 +168,16 @@ impl Replica {
         }
     }
 
-    /// Answers a query, and changes nothing. `mine` is the answer to a query of the account. A
-    /// reading of a place is refused with the first cause against its steps, or as at-head; and any
-    /// query but that of the account may be refused with out of memory.
-    pub fn read(&self, mine: u64, query: Query) -> Reply
-        ensures answer { MayAnswer self.now mine query result }
-        ensures account { query ≡ Query.State State.Account → result ≡ Reply.Account mine }
+    /// Answers a query, and changes nothing. `counts` is what the replica doesn't know: queries of
+    /// the account, of the size and of what is copied are answered by it, without memory. A reading
+    /// of a place is refused with the first cause against its steps, or as at-head; and any other
+    /// query may be refused with out of memory.
+    pub fn read(&self, counts: Counts, query: Query) -> Reply
+        ensures answer { MayAnswer self.now counts query result }
+        ensures account { query ≡ Query.State State.Account → result ≡ Reply.Account counts.mine }
+        ensures counted { GoesByCounts query → Reads self.now counts query result }
     {
-        self.body.read(self.alloc, mine, query)
+        self.body.read(self.alloc, counts, query)
     }
 
     /// Runs a command, and returns the answer of `local`, `deliver` or `forget` as a reply. A

@@ -26,6 +26,7 @@ fn kind_on_document(ask: &DocRequest) -> &'static str {
         DocRequest::Let(_, _) => "let",
         DocRequest::Deliver(_) => "deliver",
         DocRequest::Operations(_, _) => "operations",
+        DocRequest::IsCopied(_) => "copied",
         DocRequest::Forget(_) => "forget",
     }
 }
@@ -35,6 +36,7 @@ fn kind_of_state(state: State) -> &'static str {
         State::Front => "front",
         State::Held => "held",
         State::Account => "account",
+        State::Size => "size",
     }
 }
 
@@ -75,13 +77,14 @@ fn is_of_kind(alloc: Global, line: &str, expected: &str) -> bool {
 }
 
 // A line of each kind, and its kind.
-static REQUESTS: [(&str, &str); 20] = [
+static REQUESTS: [(&str, &str); 22] = [
     ("[\"quit\"]", "quit"),
     ("[\"version\"]", "version"),
     (" [\"open\" , \"d\"]\r", "open"),
     ("[\"front\",\"d\"]", "front"),
     ("[\"held\",\"d\"]", "held"),
     ("[\"account\",\"d\"]", "account"),
+    ("[\"size\",\"d\"]", "size"),
     ("[\"assign\",\"d\",[0,\"k\"],{}]", "assign"),
     (
         "[\"insert\",\"d\",[\"x\",0],-9223372036854775808]",
@@ -102,6 +105,7 @@ static REQUESTS: [(&str, &str); 20] = [
     ),
     ("[\"ops\",\"d\",[[\"o\",1],[\"q\",2]],64]", "operations"),
     ("[\"forget\",\"d\",[1,\"p\"]]", "forget"),
+    ("[\"copied\",\"d\",[1,\"p\"]]", "copied"),
 ];
 
 #[test]
@@ -113,7 +117,7 @@ fn reads_each_request(rt: HostRuntime) -> Result<(), Fail> {
 }
 
 // Lines that are no request, and the number of the first cause against each.
-static CAUSES: [(&str, u64); 28] = [
+static CAUSES: [(&str, u64); 30] = [
     // no JSON, before all else
     ("", 1u64),
     ("[\"quit\"", 1),
@@ -135,6 +139,8 @@ static CAUSES: [(&str, u64); 28] = [
     ("[\"assign\",\"d\",[0],1.5,0]", 2),
     ("[\"let\",\"d\",0,[0]]", 2),
     ("[\"forget\",\"d\",[0,\"p\"]]", 2),
+    ("[\"copied\",\"d\",[0,\"p\"]]", 2),
+    ("[\"size\",\"d\",1]", 2),
     ("[\"ops\",\"d\",[[\"q\",1],[\"o\",2]],65]", 2),
     ("[\"ops\",\"d\",[[\"q\",1],[\"o\",2]],0]", 2),
     ("[\"ops\",\"d\",[[\"q\",1],[\"o\",0]],1]", 2),
@@ -309,6 +315,14 @@ fn writes_replies_of_one_part(rt: HostRuntime) {
             "[\"account\",18446744073709551615]\n"
         )
     );
+    let size = Reply::Size {
+        logged: 18_446_744_073_709_551_615,
+        copied: 0,
+        replicas: 256,
+    };
+    assert!(rt; is_answered_as(rt.alloc(), size, "[\"size\",18446744073709551615,0,256]\n"));
+    assert!(rt; is_answered_as(rt.alloc(), Reply::Copied(true), "[\"copied\",true]\n"));
+    assert!(rt; is_answered_as(rt.alloc(), Reply::Copied(false), "[\"copied\",false]\n"));
 }
 
 #[test]

@@ -1,8 +1,8 @@
 -- Batches that were added one after another.
-use Rattle.std.proofs.Common.{◌≡◌, ◌≢◌, ◌⊎◌, inl, inr, Result, Ok, Err, IfOk, OnOk, length, List, [], ℕ, zero, suc, Bool, true, get_or, max, ltb, ◌<◌, ◌≤◌, ◌∙◌, subst, sym, refl}
+use Rattle.std.proofs.Common.{arith, ap, ◌+◌, ◌≡◌, ◌≢◌, ◌⊎◌, inl, inr, Result, Ok, Err, IfOk, OnOk, length, List, [], ℕ, zero, suc, Bool, true, get_or, max, ltb, ◌<◌, ◌≤◌, ◌∙◌, subst, sym, refl}
 use Rattle.std.proofs.Math.Nat.{max-zero, zero-lt-suc, le-max_right, lt_of_lt_of_le, lt_irrefl}
 use Rattle.std.proofs.lemmas.Bool.{lt-ltb}
-use Rattle.std.proofs.lemmas.List.{nil_from_length}
+use Rattle.std.proofs.lemmas.List.{length-append, nil_from_length}
 use Rattle.share_ledger.specs.Begun.{Origin}
 use Rattle.doc_api.specs.Words.{Op}
 use Rattle.json_scalar.specs.Refusal.{UnlessMemory}
@@ -13,7 +13,8 @@ use Rattle.stored_log.specs.Limits.{most_rows}
 use Rattle.stored_log.specs.Docs.{Doc, IsBatch, add_batch, log_of}
 use Rattle.stored_log.specs.declared.fault.Fault.{Fault}
 use Rattle.stored_log.specs.declared.fault.Fault.TheVariants.{Store}
-use Rattle.stored_log.specs.Log.{LogState}
+use Rattle.stored_log.specs.Log.{HasBatchAgain, LogState, ShowsBatchOrNot}
+use Rattle.stored_log.proofs.DocLemmas.{batch_added}
 use Rattle.served_log.specs.Batches.{AddsMany, AddsOf, AreAdded, AreAddedUpTo, AddsBatches, IsNextOf}
 use Rattle.served_log.specs.Batches.AreAdded.{none, more}
 use Rattle.served_log.specs.Batches.AreAddedUpTo.{none_yet, one_more}
@@ -98,3 +99,32 @@ adds_of {number = number} origin behind read of (adds, these) so_many =
       adds = record { next = adds.next; many = adds.many ∙ sym so_many };
       of = subst (λ n. IsNextOf origin number n adds.next.ops) behind (subst (IsNextOf origin number _) (sym (these ∙ read)) of);
     }
+
+-- a document with a batch more is longer
+longer : (ops : List Op) (from n : ℕ) → ops ≢ [] → n ≡ from + length ops → from ≡ n → ⊥
+longer ops from n some long same = some (nil_from_length ops (let none : length ops ≡ 0 = omega (arith, long, same) in none))
+
+-- a batch that fits behind so many entries was added
+then_added : {name : List ℕ} {from : ℕ} {ops : List Op} {old new : List Doc} → ops ≢ [] → from ≡ length (log_of name old) → IsBatch name from ops old → new ≡ add_batch name ops old
+    → (adds : AddsMany name (length ops) old new) × (adds.next.ops ≡ ops)
+then_added {name = n} {ops = o} {old = d} some rows batch added =
+    (record { next = record { ops = o; some = some; batch = subst (λ k. IsBatch n k o d) rows batch; added = added }; many = refl }, refl)
+
+-- a batch that was tried, and then found or added when the store was opened again
+added_at_last : (name : List ℕ) (from : ℕ) (ops : List Op) (old mid new : List Doc) → ops ≢ [] → from ≡ length (log_of name old)
+    → (mid ≡ old) ⊎ (IsBatch name from ops old × (mid ≡ add_batch name ops old))
+    → ((new ≡ mid) × (length (log_of name mid) ≡ from + length ops)) ⊎ (IsBatch name from ops mid × (new ≡ add_batch name ops mid))
+    → (adds : AddsMany name (length ops) old new) × (adds.next.ops ≡ ops)
+added_at_last n k o old mid new some rows (inl same) (inl kept) =
+    absurd (longer o k (length (log_of n mid)) some kept.1 (rows ∙ ap (λ d. length (log_of n d)) (sym same)))
+added_at_last n k o old mid new some rows (inl same) (inr adds) =
+    then_added some rows (subst (λ d. IsBatch n k o d) same adds.0) (adds.1 ∙ ap (λ d. add_batch n o d) same)
+added_at_last n k o old mid new some rows (inr was) (inl kept) = then_added some rows was.0 (kept.0 ∙ was.1)
+added_at_last n k o old mid new some rows (inr was) (inr adds) =
+    let grown = ap (λ d. length (log_of n d)) was.1 ∙ (ap length (batch_added n o old) ∙ (length-append (log_of n old) o ∙ ap (λ m. m + length o) (sym rows))) in
+    absurd (longer o k (length (log_of n mid)) some grown adds.0.next)
+
+pub had_again : {name : List ℕ} {from : ℕ} {ops : List Op} {old mid new : LogState} → ops ≢ [] → from ≡ length (log_of name old.docs) → ShowsBatchOrNot name from ops old mid
+    → HasBatchAgain name from ops mid new → (adds : AddsMany name (length ops) old.docs new.docs) × (adds.next.ops ≡ ops)
+had_again {name = n} {from = k} {ops = o} {old = a} {mid = b} {new = c} some rows shown again =
+    added_at_last n k o a.docs b.docs c.docs some rows shown.added_or_not again.whole

@@ -11,6 +11,7 @@ use Rattle.served_log.specs.Batches.AreAdded.{none}
 use Rattle.served_log.specs.Named.{IsRaised}
 use Rattle.served_log.specs.Restored.{origin_at}
 use Rattle.served_log.specs.Served.{KeepsRows}
+use Rattle.server_core.specs.Attended.{Bytes}
 use Rattle.served_log.specs.Stored.{LeavesStored, ServesFolded, ServesStored}
 use Rattle.served_log.specs.Totals.{ServesSessions}
 use Rattle.served_log.proofs.Keeping.{kept_by_start, then_ok}
@@ -48,22 +49,22 @@ module _ {L Left : Type 0} (g : Ghosts L Left) where
   Kept closed new last = OnErr closed ((g.log new).has_failed ≡ false → g.is_in_store new last)
 
   -- sessions over a log that was folded, and was closed behind them
-  pub serves_folded : {X F E : Type 0} (replica : List ℕ) (names : List (List ℕ)) (count : ℕ) (begun folded new : L) (served ended : Result X F) (closed : Result ⊤ E) (last : Left) (out_before out_after : Option (List ℕ))
+  pub serves_folded : {X F E C : Type 0} (bytes : C → Bytes) (follows : C → C → Type 0) (replica : List ℕ) (names : List (List ℕ)) (connections : List C) (begun folded new : L) (served ended : Result X F) (closed : Result ⊤ E) (last : Left) (out_before out_after : Option (List ℕ))
       → ended ≡ served → g.log folded ≡ g.log begun → (g.log begun).has_failed ≡ false → (g.log new).is_alone ≡ (g.log folded).is_alone → g.was_alone begun folded
-      → OnOk served (ServesSessions (origin_at replica (g.log folded).docs names) (g.log new).docs names count out_before out_after) → OnOk served (AddsBatches (origin_at replica (g.log folded).docs names) names (g.log folded) (g.log new)) → OnOk served ((g.log folded).has_failed ≡ false → (g.log new).has_failed ≡ false)
-      → Held closed new last → OnOk ended (ServesFolded g replica names count begun closed last out_before out_after)
-  serves_folded {X} {F} replica names count begun folded new served ended closed last out_before out_after is same fine same_tables alone sessions copied works held_then =
-      subst (λ (r : Result X F). OnOk r (ServesFolded g replica names count begun closed last out_before out_after)) (sym is) (go served sessions copied works)
+      → OnOk served (ServesSessions bytes follows (origin_at replica (g.log folded).docs names) (g.log new).docs names connections out_before out_after) → OnOk served (AddsBatches (origin_at replica (g.log folded).docs names) names (g.log folded) (g.log new)) → OnOk served ((g.log folded).has_failed ≡ false → (g.log new).has_failed ≡ false)
+      → Held closed new last → OnOk ended (ServesFolded g bytes follows replica names connections begun closed last out_before out_after)
+  serves_folded {X} {F} bytes follows replica names connections begun folded new served ended closed last out_before out_after is same fine same_tables alone sessions copied works held_then =
+      subst (λ (r : Result X F). OnOk r (ServesFolded g bytes follows replica names connections begun closed last out_before out_after)) (sym is) (go served sessions copied works)
     where
-      go : (r : Result X F) → OnOk r (ServesSessions (origin_at replica (g.log folded).docs names) (g.log new).docs names count out_before out_after) → OnOk r (AddsBatches (origin_at replica (g.log folded).docs names) names (g.log folded) (g.log new)) → OnOk r ((g.log folded).has_failed ≡ false → (g.log new).has_failed ≡ false)
-          → OnOk r (ServesFolded g replica names count begun closed last out_before out_after)
+      go : (r : Result X F) → OnOk r (ServesSessions bytes follows (origin_at replica (g.log folded).docs names) (g.log new).docs names connections out_before out_after) → OnOk r (AddsBatches (origin_at replica (g.log folded).docs names) names (g.log folded) (g.log new)) → OnOk r ((g.log folded).has_failed ≡ false → (g.log new).has_failed ≡ false)
+          → OnOk r (ServesFolded g bytes follows replica names connections begun closed last out_before out_after)
       go (Ok x) told added well =
           let still_works = well (ap (λ (k : LogState). k.has_failed) same ∙ fine) in record {
             folded = folded;
             new = new;
             same = same;
             was_alone = alone;
-            sessions = subst (λ (k : LogState). ServesSessions (origin_at replica k.docs names) (g.log new).docs names count out_before out_after) same told;
+            sessions = subst (λ (k : LogState). ServesSessions bytes follows (origin_at replica k.docs names) (g.log new).docs names connections out_before out_after) same told;
             copied = subst (λ (k : LogState). AddsBatches (origin_at replica k.docs names) names (g.log folded) (g.log new)) same added;
             alone = same_tables ∙ ap (λ (k : LogState). k.is_alone) same;
             works = still_works;
@@ -94,10 +95,10 @@ module _ {L Left : Type 0} (g : Ghosts L Left) where
     left = leaves.left;
   }
 
-  pub serves_stored : {X F E : Type 0} {name replica : List ℕ} (names : List (List ℕ)) (count : ℕ) (old begun : L) (ended : Result X F) (closed : Result ⊤ E) (last : Left) (out_before out_after : Option (List ℕ))
-      → IsRaised name names replica (g.log old) (g.log begun) → (g.log begun).is_alone ≡ (g.log old).is_alone → OnOk ended (ServesFolded g replica names count begun closed last out_before out_after)
-      → OnOk ended (ServesStored g name names count old closed last out_before out_after)
-  serves_stored {replica = replica} names count old begun ended closed last out_before out_after raised same_tables served =
+  pub serves_stored : {X F E C : Type 0} {name replica : List ℕ} (bytes : C → Bytes) (follows : C → C → Type 0) (names : List (List ℕ)) (connections : List C) (old begun : L) (ended : Result X F) (closed : Result ⊤ E) (last : Left) (out_before out_after : Option (List ℕ))
+      → IsRaised name names replica (g.log old) (g.log begun) → (g.log begun).is_alone ≡ (g.log old).is_alone → OnOk ended (ServesFolded g bytes follows replica names connections begun closed last out_before out_after)
+      → OnOk ended (ServesStored g bytes follows name names connections old closed last out_before out_after)
+  serves_stored {replica = replica} bytes follows names connections old begun ended closed last out_before out_after raised same_tables served =
       then_ok ended served (λ s. record { begun = begun; replica = replica; raised = raised; same_tables = same_tables; served = s })
 
   -- a start that came to nothing

@@ -6,7 +6,7 @@ use Rattle.std.specs.Io.KnownBytes.{Appends}
 use Rattle.doc_rules.specs.Seats.{Seat}
 use Rattle.locked_doc.specs.declared.gather.Totals.{Totals}
 use Rattle.server_core.specs.declared.gathering.Gathered.{Gathered}
-use Rattle.server_core.specs.Attended.{AreAttended, Bytes}
+use Rattle.server_core.specs.Attended.{AreServed, Bytes}
 use Rattle.server_core.specs.Sums.{AreTotalsFrom}
 use Rattle.share_ledger.specs.Begun.{Origin}
 use Rattle.stored_log.specs.Docs.{Doc}
@@ -24,23 +24,23 @@ pub lines_end : (names : List (Bor (List ℕ))) (totals : List Totals) (i : ℕ)
 lines_end names totals i past = rw (drop_all i names past) refl
 
 -- what sessions did over documents of these names, and what was written of it
-pub serves : (origin : ℕ → Origin) (last : List Doc) (shelved names : List (List ℕ)) (connections : List Bytes) (count : ℕ) {F : Type 0} {ran : Result Gathered F} (gathered : Gathered)
-    (out_before out_after : Option (List ℕ)) → ran ≡ Ok gathered
-    → IfOk ran (λ g. (given : List (List (Option Seat))) × AreAttended origin shelved connections g.endings.items given × AreTotalsFrom origin 0 given g.totals.items)
+pub serves : {C : Type 0} (bytes : C → Bytes) (follows : C → C → Type 0) (origin : ℕ → Origin) (last : List Doc) (shelved names : List (List ℕ)) (connections : List C)
+    {F : Type 0} {ran : Result Gathered F} (gathered : Gathered) (out_before out_after : Option (List ℕ)) → ran ≡ Ok gathered
+    → IfOk ran (λ g. (given : List (List (Option Seat))) × AreServed origin shelved bytes follows connections (map (λ t. t.items) g.endings.items) given
+    × AreTotalsFrom origin 0 given g.totals.items)
     → IfOk ran (λ g. vec_len g.totals ≡ length shelved)
-    → shelved ≡ names → length connections ≡ count → AreStored last names gathered.totals.items
-    → Appends out_before out_after (total_lines names gathered.totals.items) → ServesSessions origin last names count out_before out_after
-serves origin last shelved names connections count gathered out_before out_after is sessions each same so_many stored written =
-    let (given, attended, added) = subst
-    (λ ran. IfOk ran (λ g. (given : List (List (Option Seat))) × AreAttended origin shelved connections g.endings.items given × AreTotalsFrom origin 0 given g.totals.items)) is sessions in
+    → shelved ≡ names → AreStored last names gathered.totals.items
+    → Appends out_before out_after (total_lines names gathered.totals.items) → ServesSessions bytes follows origin last names connections out_before out_after
+serves bytes follows origin last shelved names connections gathered out_before out_after is sessions each same stored written =
+    let (given, served, added) = subst
+    (λ ran. IfOk ran (λ g. (given : List (List (Option Seat))) × AreServed origin shelved bytes follows connections (map (λ t. t.items) g.endings.items) given
+    × AreTotalsFrom origin 0 given g.totals.items)) is sessions in
     let many : vec_len gathered.totals ≡ length shelved = subst (λ ran. IfOk ran (λ g. vec_len g.totals ≡ length shelved)) is each in
     record {
-      connections = connections;
-      endings = gathered.endings.items;
+      endings = map (λ t. t.items) gathered.endings.items;
       given = given;
       totals = gathered.totals.items;
-      so_many = so_many;
-      attended = subst (λ ns. AreAttended origin ns connections gathered.endings.items given) same attended;
+      served = subst (λ ns. AreServed origin ns bytes follows connections (map (λ t. t.items) gathered.endings.items) given) same served;
       each = sym gathered.totals.ok.0 ∙ many ∙ ap length same;
       added = added;
       stored = stored;

@@ -7,7 +7,7 @@ use Rattle.share_ledger.specs.Begun.{Origin}
 use Rattle.doc_rules.specs.Seats.{Seat}
 use Rattle.locked_doc.specs.declared.gather.Totals.{Totals}
 use Rattle.session_rules.specs.declared.Ending.{Ending}
-use Rattle.server_core.specs.Attended.{AreAttended, Bytes}
+use Rattle.server_core.specs.Attended.{AreServed, Bytes}
 use Rattle.server_core.specs.Sums.{AreTotalsFrom}
 use Rattle.stored_log.specs.Docs.{Doc, log_of}
 
@@ -32,20 +32,18 @@ IsStored docs name t = (t.logged ≡ length (log_of name docs))
 abbrev pub AreStored : List Doc → List (List ℕ) → List Totals → Type 0
 AreStored docs names totals = AllZip (IsStored docs) names totals
 
--- So many connections, each with a session over documents of these names, or with none; and then a
--- line of totals for each document, which are those of the seats that these sessions had. Each
--- document began with just the entries of its origin, as the replica of that name, and whatever a
--- session was answered of a name is of a document that began so. At the end the log
+-- Threads of these connections, each with the sessions that it served over documents of these names;
+-- and then a line of totals for each document, which are those of the seats that these sessions
+-- had. Each document began with just the entries of its origin, as the replica of that name, and
+-- whatever a session was answered of a name is of a document that began so. At the end the log
 -- has these last documents: of each it has as many operations as the totals say. Where they are
 -- known, the bytes are what a connection's source has and what its sink has taken.
-pub record ServesSessions (origin : ℕ → Origin) (last : List Doc) (names : List (List ℕ)) (count : ℕ)
-    (out_before out_after : Option (List ℕ)) : Type 0 where
-  pub connections : List Bytes
-  pub endings : List (Option Ending)
+pub record ServesSessions {C : Type 0} (bytes : C → Bytes) (follows : C → C → Type 0) (origin : ℕ → Origin) (last : List Doc)
+    (names : List (List ℕ)) (connections : List C) (out_before out_after : Option (List ℕ)) : Type 0 where
+  pub endings : List (List (Option Ending))
   pub given : List (List (Option Seat))
   pub totals : List Totals
-  pub so_many : length connections ≡ count
-  pub attended : AreAttended origin names connections endings given
+  pub served : AreServed origin names bytes follows connections endings given
   pub each : length totals ≡ length names
   pub added : AreTotalsFrom origin 0 given totals
   pub stored : AreStored last names totals

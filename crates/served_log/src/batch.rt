@@ -5,12 +5,13 @@ ghost use Rattle.json_scalar.specs.Refusal.{UnlessMemory};
 ghost use Rattle.doc_api.specs.Words.{Op};
 ghost use Rattle.doc_rules.specs.Document.{copied_to, tail};
 ghost use Rattle.stored_log.specs.Docs.{IsBatch, add_batch, log_of};
-ghost use Rattle.stored_log.specs.Log.{IsAddedOrNot};
+ghost use Rattle.stored_log.specs.Log.{IsAddedOrNot, ShowsBatchOrNot};
 ghost use Rattle.served_log.specs.Batches.{AddsMany, AddsOf, AreAdded, AreAddedUpTo, AddsBatches};
 ghost use Rattle.served_log.specs.Batches.{IsNextOf};
 
 use crate::document_to_copy::DocumentToCopy;
 use crate::observer::CopyObserver;
+use crate::recovery::{Recovery, recover};
 use doc_api::Operations;
 use json_scalar::Refusal;
 use locked_doc::LockedDoc;
@@ -103,15 +104,45 @@ fn add_next<L: StoredLog>(
     // A crash leaves what was there, or all of them besides.
     ensures crash { (L.log stored.old).has_failed ≡ false
         → L.survives stored.new (IsAddedOrNot name.now entries.now (L.log stored.old)) }
+    ensures shows { result ≡ Err Fault.Store → (L.log stored.old).has_failed ≡ false
+        → ShowsBatchOrNot name.now from entries.now (L.log stored.old) (L.log stored.new) }
 {
     stored.append(name, from, entries)
+}
+
+// Adds these entries to the stored log, as `add_next`. Where that fails, the store is opened again
+// until they are in it.
+fn add_through<M: Marker, R: Wait, L: StoredLog, T: CopyObserver>(
+    rt: &R,
+    document: &DocumentToCopy<'_, M>,
+    stored: &mut L,
+    observer: &T,
+    recovery: &mut Recovery,
+    from: usize,
+    entries: &[op_core::Operation],
+) -> Result<(), Fault>
+    requires some { entries.now ≢ [] }
+    requires behind { from ≡ length (log_of document.now.name.now (L.log stored.old).docs) }
+    requires works { (L.log stored.old).has_failed ≡ false }
+    ensures some { OnOk result ((adds : AddsMany document.now.name.now (length entries.now)
+        (L.log stored.old).docs (L.log stored.new).docs) × (adds.next.ops ≡ entries.now)) }
+    ensures works { OnOk result (((L.log stored.new).epoch ≡ (L.log stored.old).epoch)
+        × ((L.log stored.new).has_failed ≡ false)) }
+    ensures err { IfErr result (λ e. (e ≡ Fault.Store) ⊎ (stored.new ≡ stored.old)) }
+    ensures failed { (result ≡ Err Fault.Store) ↔ ((L.log stored.new).has_failed ≡ true) }
+    ensures alone { (L.log stored.new).is_alone ≡ (L.log stored.old).is_alone }
+{
+    match add_next(stored, document.name, from, entries) {
+        Err(Fault::Store) => recover(rt, document, stored, observer, recovery, from, entries),
+        answer => answer,
+    }
 }
 
 // Tells waiting sessions that the stored log has so many entries of the document.
 fn publish<M: Marker, L: StoredLog>(document: &DocumentToCopy<'_, M>, _stored: &L, rows: usize)
     requires stored { rows ≤ length (log_of document.now.name.now (L.log _stored.now).docs) }
 {
-    document
+    let _ = document
         .shared
         .progress
         .publish(document.doc_index, rows as u64);
@@ -134,14 +165,16 @@ fn note_written<M: Marker, R: Wait, L: StoredLog>(
 
 /// Copies the next entries of the document, at most 256. Then it notes in the document how many of
 /// its entries the stored log has, and notifies the sessions that wait for them and the observer.
-/// It returns how many it copied. The document's lock isn't held while they are written. The error
+/// It returns how many it copied. The document's lock isn't held while they are written. If the
+/// store fails it is opened again until they are in it; `recovery` has the fault then. The error
 /// is `Memory`, or `Refused` for a batch that doesn't follow, with the stored log unchanged; or
-/// `Store` once that has failed. Then nothing is noted.
+/// `Store` once that has failed and can't be opened again. Then nothing is noted.
 pub fn copy_some<M: Marker, R: Wait, L: StoredLog, T: CopyObserver>(
     rt: &R,
     document: &DocumentToCopy<'_, M>,
     stored: &mut L,
     observer: &T,
+    recovery: &mut Recovery,
 ) -> Result<usize, Fault>
     ensures some { IfOk result (λ count. 0 < count
         → AddsOf M.origin document.now.doc_index document.now.name.now count (L.log stored.old).docs (L.log stored.new).docs) }
@@ -160,7 +193,15 @@ pub fn copy_some<M: Marker, R: Wait, L: StoredLog, T: CopyObserver>(
     if next.as_slice().is_empty() {
         return Ok(0);
     }
-    add_next(stored, document.name, from, next.as_slice())?;
+    add_through(
+        rt,
+        document,
+        stored,
+        observer,
+        recovery,
+        from,
+        next.as_slice(),
+    )?;
     note_written(rt, document, stored)?;
     notify_added(observer, stored, document.name, next.as_slice());
     Ok(next.as_slice().len())
@@ -185,6 +226,7 @@ pub fn copy_each<M: Marker, R: Wait, L: StoredLog, T: CopyObserver>(
     shared: &SharedDocuments<M>,
     stored: &mut L,
     observer: &T,
+    recovery: &mut Recovery,
 ) -> Result<usize, Fault>
     ensures ok { IfOk result (λ most. AreAdded M.origin shared.now.names.items
         (L.log stored.old).docs (ltb 0 most) (L.log stored.new).docs) }
@@ -203,7 +245,7 @@ pub fn copy_each<M: Marker, R: Wait, L: StoredLog, T: CopyObserver>(
     let mut most: usize = 0;
     for doc_index in 0..shared.names.len() {
         let document = DocumentToCopy::at(shared, doc_index);
-        let count = copy_some(rt, &document, stored, observer)?;
+        let count = copy_some(rt, &document, stored, observer, recovery)?;
         most = most.max(count);
     }
     Ok(most)

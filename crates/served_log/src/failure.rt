@@ -57,6 +57,8 @@ pub enum Failure {
     Unstored,
     /// Copying stopped while sessions ran.
     Stopped(StoredFault),
+    /// The stored log failed while sessions ran, and was opened again. It has all that they logged.
+    Recovered(StoredFault),
 }
 
 impl Failure {
@@ -118,6 +120,10 @@ impl Display for Failure {
             Failure::Output(error) => fmt_output(error, f),
             Failure::Unstored => f.write_str("not all operations were stored"),
             Failure::Stopped(why) => write!(f, "copying stopped while sessions ran: {why}"),
+            Failure::Recovered(why) => write!(
+                f,
+                "the file failed while sessions ran: {why}; all is in it now"
+            ),
         }
     }
 }

@@ -2,7 +2,8 @@
 //! stores what its sessions log while it serves them.
 //!
 //! Its background task, the `Copier`, writes what sessions log to the stored log in batches, and
-//! then notes in each document how many of its entries are written.
+//! then notes in each document how many of its entries are written. After a fault of the store it
+//! opens that again, and goes on.
 #![tactic(auto)]
 
 mod batch;
@@ -12,6 +13,7 @@ mod host;
 mod notes;
 mod observer;
 mod output;
+mod recovery;
 mod replica_name;
 mod restore;
 mod rows;
@@ -26,6 +28,7 @@ pub use failure::{Failure, Step};
 pub use host::Host;
 pub use observer::CopyObserver;
 pub use output::{report_fault, write_totals};
+pub use recovery::Recovery;
 pub use replica_name::next_replica_name;
 pub use restore::{RestoredDocuments, Restoring, restore_documents, share_documents};
 pub use serving::Serving;

@@ -4,9 +4,10 @@ use lamport_id::Id;
 use log::Log;
 use op_core::Operation;
 use op_log::{MAX_OPERATIONS, MAX_REPLICAS};
-use server_core::Pace;
+use server_core::{Deadline, Pace};
 use server_notes::{
-    Fill, note_ending, note_going_on, note_lacking, note_nearly_full, note_restored, note_stopped,
+    Fill, note_ending, note_failed, note_failed_durably, note_going_on, note_lacking,
+    note_nearly_full, note_recovered, note_restored, note_still_failing, note_stopped,
 };
 use std::time::Clock;
 use stored_log::{StoredDoc, StoredFault, StoredLog, find};
@@ -81,12 +82,14 @@ fn is_first(operation: &Operation) -> bool {
 // Writes notes about the copying: documents that become nearly full, pauses for lack of memory, and
 // why it stopped.
 #[derive(Drop)]
-pub(crate) struct CopyLogger<'a, R> {
+pub(crate) struct CopyLogger<'a, R, D: Drop> {
     pub(crate) rt: &'a R,
     pub(crate) pace: Pace,
+    // When sessions wait no longer for a store that fails, if they ever do.
+    pub(crate) deadline: Option<D>,
 }
 
-impl<R: Log + Clock> CopyObserver for CopyLogger<'_, R> {
+impl<R: Log + Clock, D: Deadline> CopyObserver for CopyLogger<'_, R, D> {
     fn added(&self, document: &StoredDoc, entries: &[Operation]) {
         let logged = operations(document.len());
         warn_if_crossed(
@@ -112,6 +115,28 @@ impl<R: Log + Clock> CopyObserver for CopyLogger<'_, R> {
 
     fn goes_on(&self) {
         note_going_on(self.rt);
+    }
+
+    fn failed(&self, why: StoredFault) {
+        match self.pace {
+            Pace::Behind(most) => note_failed(self.rt, &why, most),
+            Pace::Durable => note_failed_durably(self.rt, &why),
+        }
+    }
+
+    fn is_awaited_no_more(&self) -> bool {
+        match &self.deadline {
+            Some(deadline) => deadline.has_passed(),
+            None => false,
+        }
+    }
+
+    fn still_fails(&self, unstored: u64) {
+        note_still_failing(self.rt, unstored);
+    }
+
+    fn recovered(&self) {
+        note_recovered(self.rt);
     }
 
     fn stopped(&self, why: StoredFault) {

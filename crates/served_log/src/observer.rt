@@ -16,6 +16,19 @@ pub trait CopyObserver {
     /// Called once the copier goes on after that.
     fn goes_on(&self);
 
+    /// Called at once where the store failed. It is opened again then.
+    fn failed(&self, why: StoredFault);
+
+    /// Asked while the store can't be opened again: whether sessions wait for it no longer.
+    fn is_awaited_no_more(&self) -> bool;
+
+    /// Called each minute while the store can't be opened again, with how many operations of the
+    /// documents aren't stored.
+    fn still_fails(&self, unstored: u64);
+
+    /// Called once the store was opened again, and has the batch that failed.
+    fn recovered(&self);
+
     /// Called once by a copier that an error ends, at once: sessions may still run.
     fn stopped(&self, why: StoredFault);
 }

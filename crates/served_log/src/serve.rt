@@ -1,10 +1,9 @@
 //! The stages of a server over a stored log, from its replica name to the totals.
 ghost use Rattle.std.specs.Prelude.{◌≡◌, ◌⊎◌, ◌≤◌, List, Option, None, false, length, map};
-ghost use Rattle.std.specs.Prelude.{IfOk, IfErr, OnOk, min, vec_len};
+ghost use Rattle.std.specs.Prelude.{IfOk, IfErr, OnOk, vec_len};
 ghost use Rattle.doc_rules.specs.Seats as seats;
-ghost use Rattle.locked_doc.specs.Books.{most_seats};
 ghost use Rattle.locked_doc.specs.Numbers.{greatest_number};
-ghost use Rattle.server_core.specs.Attended.{AreAttended};
+ghost use Rattle.server_core.specs.Attended.{AreServed};
 ghost use Rattle.server_core.specs.Sums.{AreTotalsFrom};
 ghost use Rattle.served_log.specs.Batches.{AddsBatches, HasCopied};
 ghost use Rattle.served_log.specs.Named.{replica_name};
@@ -20,14 +19,16 @@ use crate::rows::has_all;
 use crate::serving::{Begun, Serving};
 use crate::{Copier, CopyObserver, Host};
 use locked_doc::{Ledger, Totals};
+use log::Log;
 use server_core::{Connect, Gathered, OpenGate, SharedDocuments, run_sessions};
-use server_notes::{note_ended, note_serving};
+use server_notes::{note_all_stored, note_ended, note_serving};
 use share_ledger::{Blank, Marker};
 use std::alloc::Global;
 use std::io;
 use std::sync::Wait;
 use std::thread::Threads;
-use stored_log::{Fault, StoredLog};
+use std::time::Clock;
+use stored_log::{Fault, StoredFault, StoredLog};
 
 // What a server serves.
 #[derive(Drop)]
@@ -35,15 +36,8 @@ struct Sessions<'a, M: Marker, C> {
     // The names of the documents, in their order.
     names: &'a [&'a str],
     shared: SharedDocuments<M>,
-    // The connections, one session each.
+    // The connections, one for each thread.
     connections: Vec<C>,
-}
-
-// How many seats a document has for so many sessions: one for each, up to the greatest seat number.
-fn seats_for(sessions: usize) -> u16
-    ensures { result ≡ min sessions most_seats }
-{
-    sessions.min(usize::from(u16::MAX)) as u16
 }
 
 // Serves the connections while the copier runs, and returns the copier. `ran` gets what the
@@ -64,7 +58,8 @@ fn run_beside_copier<
     ran: &mut Result<Gathered, Failure>,
 ) -> Copier<'a, L, T>
     ensures sessions { IfOk ran.new (λ g. (given : List (List (Option seats.Seat)))
-        × AreAttended M.origin sessions.entry.shared.names.items (map C.bytes sessions.entry.connections.items) g.endings.items given
+        × AreServed M.origin sessions.entry.shared.names.items C.bytes C.follows sessions.entry.connections.items
+        (map (λ t. t.items) g.endings.items) given
         × AreTotalsFrom M.origin 0 given g.totals.items) }
     ensures each { IfOk ran.new (λ g. vec_len g.totals ≡ length sessions.entry.shared.names.items) }
     ensures same_reference { result.stored.ghost_name ≡ copier.entry.stored.ghost_name }
@@ -90,52 +85,75 @@ fn run_beside_copier<
     }
 }
 
+// How the copying ended.
+#[derive(Clone, Copy)]
+struct CopyEnd {
+    // The fault that ended it before all was copied, if one did.
+    fault: Option<Fault>,
+    // The last fault of the store, if there was one. The copying may have gone on after it.
+    met: Option<StoredFault>,
+}
+
 // Serves the connections while a copier runs. It returns what the sessions did, or why that could
-// not be gathered, and why the copying ended before all was copied, if it did.
+// not be gathered, and how the copying ended.
 fn serve_with_copier<M: Marker + Send + Sync, R: Host, C: Connect, L: StoredLog>(
     rt: &R,
     alloc: Global,
     sessions: Sessions<'_, M, C>,
     stored: &mut L,
-) -> (Result<Gathered, Failure>, Option<Fault>)
+) -> (Result<Gathered, Failure>, CopyEnd)
     ensures sessions { IfOk result.0 (λ g. (given : List (List (Option seats.Seat)))
-        × AreAttended M.origin sessions.entry.shared.names.items (map C.bytes sessions.entry.connections.items) g.endings.items given
+        × AreServed M.origin sessions.entry.shared.names.items C.bytes C.follows sessions.entry.connections.items
+        (map (λ t. t.items) g.endings.items) given
         × AreTotalsFrom M.origin 0 given g.totals.items) }
     ensures each { IfOk result.0
         (λ g. vec_len g.totals ≡ length sessions.entry.shared.names.items) }
     ensures left { (OnOk result.0 ⊥ × (stored.new ≡ stored.old))
-        ⊎ HasCopied M.origin sessions.entry.shared.names.items (L.log stored.old) (L.log stored.new) result.1 }
+        ⊎ HasCopied M.origin sessions.entry.shared.names.items (L.log stored.old) (L.log stored.new) result.1.fault }
 {
     let pace = sessions.shared.progress.pace();
-    let logger = CopyLogger { rt, pace };
+    let deadline = match sessions.connections.first() {
+        Some(connection) => Some(connection.deadline()),
+        None => None,
+    };
+    let logger = CopyLogger { rt, pace, deadline };
     let copier = Copier::new(stored, &logger);
     let mut ran = Err(Failure::Memory(Step::Begin));
     let copier = run_beside_copier(rt, alloc, sessions, copier, &mut ran);
+    let met = copier.met();
     let why = copier.end();
     note_ended(rt);
-    (ran, why)
+    (ran, CopyEnd { fault: why, met })
 }
 
 // The outcome once the totals are written: a failure where the copying ended before all was copied,
-// or where the stored log lacks operations that the totals count.
-fn outcome_of<L: StoredLog>(
-    fault: Option<Fault>,
+// where the stored log lacks operations that the totals count, or where its store failed meanwhile.
+fn outcome_of<R: Log + Clock, L: StoredLog>(
+    rt: &R,
+    copied: CopyEnd,
     stored: &L,
     names: &[&str],
     totals: &[Totals],
 ) -> Result<(), Failure>
     requires { length totals.now ≡ length names.now }
-    ensures copied { OnOk result (fault ≡ None) }
+    ensures copied { OnOk result (copied.fault ≡ None) }
+    // After a fault the status stays 1.
+    ensures met { OnOk result (copied.met ≡ None) }
     ensures stored { OnOk result (AreStored (L.log stored.now).docs (map (λ s. s.now) names.now) totals.now) }
     ensures written { IfErr result (λ why. ¬ IsUnwritten why) }
 {
-    match fault {
-        Some(why) => Err(Failure::of_copying(why, stored)),
-        None => if has_all(stored, names, totals) {
-            Ok(())
-        } else {
-            Err(Failure::Unstored)
-        },
+    if let Some(why) = copied.fault {
+        return Err(Failure::of_copying(why, stored));
+    }
+    if !has_all(stored, names, totals) {
+        return Err(Failure::Unstored);
+    }
+    match copied.met {
+        Some(why) => {
+            note_all_stored(rt);
+            Err(Failure::Recovered(why))
+        }
+        None => Ok(()),
     }
 }
 
@@ -149,8 +167,8 @@ fn serve_sessions<M: Marker + Send + Sync, R: Host, C: Connect, L: StoredLog, W:
     out: &mut W,
 ) -> Result<(), Failure>
     requires { sessions.shared.names.items ≡ map (λ s. s.now) sessions.names.now }
-    ensures served { OnOk result (ServesSessions M.origin (L.log stored.new).docs (map (λ s. s.now) sessions.entry.names.now)
-        (length sessions.entry.connections.items) (W.contents out.old) (W.contents out.new)) }
+    ensures served { OnOk result (ServesSessions C.bytes C.follows M.origin (L.log stored.new).docs (map (λ s. s.now) sessions.entry.names.now)
+        sessions.entry.connections.items (W.contents out.old) (W.contents out.new)) }
     ensures unwritten { IfErr result (λ why. IsUnwritten why → out.new ≡ out.old) }
     ensures copied { OnOk result (AddsBatches M.origin (map (λ s. s.now) sessions.entry.names.now) (L.log stored.old) (L.log stored.new)) }
     ensures works { OnOk result ((L.log stored.old).has_failed ≡ false
@@ -161,11 +179,11 @@ fn serve_sessions<M: Marker + Send + Sync, R: Host, C: Connect, L: StoredLog, W:
     ensures alone { (L.log stored.new).is_alone ≡ (L.log stored.old).is_alone }
 {
     let names = sessions.names;
-    let (ran, fault) = serve_with_copier(rt, alloc, sessions, stored);
+    let (ran, copied) = serve_with_copier(rt, alloc, sessions, stored);
     let gathered = ran?;
     let totals = gathered.totals.as_slice();
     match write_totals(alloc, names, totals, out) {
-        Ok(()) => outcome_of(fault, stored, names, totals),
+        Ok(()) => outcome_of(rt, copied, stored, names, totals),
         Err(error) => Err(Failure::Output(error)),
     }
 }
@@ -189,13 +207,13 @@ fn restore<M: Marker, C, L: StoredLog>(
     let from = Restoring {
         stored,
         replica: &begun.replica,
-        seats: seats_for(begun.serving.connections.len()),
+        seats: begun.serving.seats,
     };
     restore_documents(alloc, &mut ledger, &from, begun.serving.documents)
 }
 
-// Restores the documents of a start from the stored log, and serves its connections over them, one
-// session each. The counters are of a new table, `blank`.
+// Restores the documents of a start from the stored log, and serves its connections over
+// them, and those that follow. The counters are of a new table, `blank`.
 pub(crate) fn restore_and_serve<
     M: Marker + Send + Sync,
     R: Host,
@@ -216,8 +234,8 @@ pub(crate) fn restore_and_serve<
         ≡ origin_at begun.replica (L.log stored.old).docs (map
         (λ s. s.now) begun.serving.documents.now) }
     requires few { length begun.serving.documents.now ≤ greatest_number }
-    ensures served { OnOk result (ServesSessions M.origin (L.log stored.new).docs (map (λ s. s.now) begun.entry.serving.documents.now)
-        (length begun.entry.serving.connections.items) (W.contents out.old) (W.contents out.new)) }
+    ensures served { OnOk result (ServesSessions C.bytes C.follows M.origin (L.log stored.new).docs (map (λ s. s.now) begun.entry.serving.documents.now)
+        begun.entry.serving.connections.items (W.contents out.old) (W.contents out.new)) }
     ensures unwritten { IfErr result (λ why. IsUnwritten why → out.new ≡ out.old) }
     ensures copied { OnOk result
         (AddsBatches M.origin (map
@@ -238,6 +256,7 @@ pub(crate) fn restore_and_serve<
         name: _,
         documents,
         pace,
+        seats: _,
         connections,
     } = begun.serving;
     note_documents(rt, stored, documents);

@@ -11,7 +11,9 @@ pub struct Serving<'a, C> {
     pub documents: &'a [&'a str],
     /// When replies to changes go out.
     pub pace: Pace,
-    /// The connections, one session each.
+    /// How many seats each document has: a session takes one of each that it opens.
+    pub seats: u16,
+    /// The connections, one for each thread.
     pub connections: Vec<C>,
 }
 

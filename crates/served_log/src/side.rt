@@ -4,10 +4,11 @@ ghost use Rattle.served_log.specs.Batches.{AddsBatches, HasCopied};
 
 use crate::batch::{copy_each, publish_all};
 use crate::observer::CopyObserver;
+use crate::recovery::Recovery;
 use server_core::{Pace, SharedDocuments, Side, Signalled};
 use share_ledger::Marker;
 use std::sync::Wait;
-use stored_log::{Fault, MAX_BATCH, StoredLog, reason_of};
+use stored_log::{Fault, MAX_BATCH, StoredFault, StoredLog, reason_of};
 
 // How far a copier is.
 #[derive(Clone, Copy)]
@@ -135,6 +136,7 @@ fn look<M: Marker, R: Wait, L: StoredLog, T: CopyObserver>(
     lacked: bool,
     stored: &mut L,
     observer: &T,
+    recovery: &mut Recovery,
 ) -> Result<Found, Fault>
     ensures ok { OnOk result (AddsBatches M.origin shared.now.names.items (L.log stored.old) (L.log stored.new)) }
     ensures err { IfErr result (λ e. (e ≡ Fault.Store)
@@ -146,7 +148,7 @@ fn look<M: Marker, R: Wait, L: StoredLog, T: CopyObserver>(
     ensures alone { (L.log stored.new).is_alone ≡ (L.log stored.old).is_alone }
 {
     wait_again(shared, stored, lacked);
-    match copy_each(rt, shared, stored, observer) {
+    match copy_each(rt, shared, stored, observer, recovery) {
         Ok(most) => {
             notify_going_on(observer, lacked);
             Ok(Found::Some(most))
@@ -160,19 +162,20 @@ fn look<M: Marker, R: Wait, L: StoredLog, T: CopyObserver>(
     }
 }
 
-/// Copies what so many sessions log while they run, and what is left once they have ended. It
+/// Copies what sessions log while they run, and what is left once they have ended. It
 /// sleeps while there is nothing to copy, and holds no lock while it writes. It pauses for some
 /// milliseconds unless a batch was full, so that batches grow: each costs an fsync. Where replies
 /// wait for the file it doesn't pause. It notifies the observer of each batch. Where memory runs
 /// out nobody waits for the file, and it pauses longer and tries again. Once all sessions have
-/// ended it does so 50 times in a row, and then ends with some operations that aren't copied. It
-/// ends at the first other fault, which is the stored log's.
+/// ended it does so 50 times in a row, and then ends with some operations that aren't copied. If
+/// the store fails it is opened again, and `recovery` has the fault. It ends where that can't be,
+/// or at another fault of the stored log.
 pub fn keep_up<M: Marker, R: Wait, L: StoredLog, T: CopyObserver>(
     rt: &R,
     shared: &SharedDocuments<M>,
-    sessions: u64,
     stored: &mut L,
     observer: &T,
+    recovery: &mut Recovery,
 ) -> Result<(), Fault>
     ensures ok { OnOk result (AddsBatches M.origin shared.now.names.items (L.log stored.old) (L.log stored.new)) }
     ensures err { IfErr result (λ e. (e ≡ Fault.Store)
@@ -184,7 +187,7 @@ pub fn keep_up<M: Marker, R: Wait, L: StoredLog, T: CopyObserver>(
     ensures alone { (L.log stored.new).is_alone ≡ (L.log stored.old).is_alone }
 {
     let mut watch = Watch {
-        sessions,
+        sessions: recovery.sessions,
         seen: Signalled {
             notified: 0,
             ended: 0,
@@ -193,7 +196,7 @@ pub fn keep_up<M: Marker, R: Wait, L: StoredLog, T: CopyObserver>(
     };
     let mut lacked = false;
     for _ in rt.forever() {
-        match look(rt, shared, lacked, stored, observer) {
+        match look(rt, shared, lacked, stored, observer, recovery) {
             Ok(found) => {
                 lacked = lacks(found);
                 watch.tries = tries_after(&watch, found);
@@ -215,8 +218,8 @@ fn notify_stopped<T: CopyObserver, L: StoredLog>(observer: &T, fault: &Option<Fa
     }
 }
 
-/// Stores what sessions log, as `keep_up`. A fault ends only the copying. The observer is notified
-/// at once, and the fault is kept.
+/// Stores what sessions log, as `keep_up`. A fault ends at most the copying. The observer is
+/// notified at once, and the fault is kept.
 #[derive(Drop)]
 pub struct Copier<'a, L: StoredLog, T: CopyObserver> {
     /// The stored log.
@@ -226,6 +229,8 @@ pub struct Copier<'a, L: StoredLog, T: CopyObserver> {
     /// The fault that ended the copying, if one did. Without one all is copied, or memory lacked to
     /// the end.
     pub fault: Option<Fault>,
+    /// The last fault of the store, if there was one. The copying may have gone on after it.
+    pub met: Option<StoredFault>,
 }
 
 impl<'a, L: StoredLog, T: CopyObserver> Copier<'a, L, T> {
@@ -239,7 +244,15 @@ impl<'a, L: StoredLog, T: CopyObserver> Copier<'a, L, T> {
             stored,
             observer,
             fault: None,
+            met: None,
         }
+    }
+
+    /// The last fault of the store, if there was one.
+    pub fn met(&self) -> Option<StoredFault>
+        ensures { result ≡ self.now.met }
+    {
+        self.met
     }
 
     /// Returns the fault that ended the copying, if one did.
@@ -251,6 +264,7 @@ impl<'a, L: StoredLog, T: CopyObserver> Copier<'a, L, T> {
             stored: _,
             observer: _,
             fault,
+            met: _,
         } = self;
         fault
     }
@@ -261,7 +275,9 @@ impl<M: Marker, L: StoredLog, T: CopyObserver> Side<M> for Copier<'_, L, T> {
         × HasCopied M.origin names (L.log old.stored.now) (L.log new.stored.now) new.fault };
 
     fn run<R: Wait>(&mut self, rt: &R, shared: &SharedDocuments<M>, sessions: u64) {
-        self.fault = keep_up(rt, shared, sessions, self.stored, self.observer).err();
+        let mut recovery = Recovery::new(sessions);
+        self.fault = keep_up(rt, shared, self.stored, self.observer, &mut recovery).err();
+        self.met = recovery.met;
         // Nothing is copied from now on, so nobody waits for it.
         shared.progress.stop();
         notify_stopped(self.observer, &self.fault, self.stored);

@@ -11,7 +11,8 @@ use crate::output::report_fault;
 use crate::replica_name::next_replica_name;
 use crate::serve::restore_and_serve;
 use crate::serving::{Begun, Serving};
-use server_core::{Connect, Pace};
+use server_core::Connect;
+use server_notes::note_unstarted;
 use share_ledger::Blank;
 use std::alloc::Global;
 use std::io;
@@ -90,8 +91,8 @@ fn fold_and_serve<R: Host, C: Connect, L: StoredLog, W: io::Write>(
     requires few { length begun.serving.documents.now ≤ greatest_number }
     requires named { begun.replica ≡ replica_name begun.serving.name.now (L.log stored).epoch }
     requires works { (L.log stored).has_failed ≡ false }
-    ensures served { OnOk result.served (ServesFolded L.StoredLog begun.entry.replica
-        (map (λ s. s.now) begun.entry.serving.documents.now) (length begun.entry.serving.connections.items)
+    ensures served { OnOk result.served (ServesFolded L.StoredLog C.bytes C.follows begun.entry.replica
+        (map (λ s. s.now) begun.entry.serving.documents.now) begun.entry.serving.connections.items
         stored result.closed result.store (W.contents out.old) (W.contents out.new)) }
     ensures unwritten { IfErr result.served (λ why. IsUnwritten why → out.new ≡ out.old) }
     ensures left { LeavesStored L.StoredLog (map (λ s. s.now) begun.entry.serving.documents.now)
@@ -110,12 +111,17 @@ fn fold_and_serve<R: Host, C: Connect, L: StoredLog, W: io::Write>(
             );
             end(served, stored)
         }
-        Err((why, store)) => Ended {
-            served: Err(Failure::Store(Step::Fold, why)),
-            closed: Err(why),
-            has_failed: false,
-            store,
-        },
+        Err((why, store)) => {
+            let failure = Failure::Store(Step::Fold, why);
+            // The connections are dropped behind it.
+            note_unstarted(rt, &failure);
+            Ended {
+                served: Err(failure),
+                closed: Err(why),
+                has_failed: false,
+                store,
+            }
+        }
     }
 }
 
@@ -135,8 +141,8 @@ pub fn serve_stored<R: Host, C: Connect, L: StoredLog, W: io::Write>(
     out: &mut W,
 ) -> Ended<L::Left>
     requires few { length serving.documents.now ≤ greatest_number }
-    ensures served { OnOk result.served (ServesStored L.StoredLog serving.entry.name.now
-        (map (λ s. s.now) serving.entry.documents.now) (length serving.entry.connections.items)
+    ensures served { OnOk result.served (ServesStored L.StoredLog C.bytes C.follows serving.entry.name.now
+        (map (λ s. s.now) serving.entry.documents.now) serving.entry.connections.items
         stored result.closed result.store (W.contents out.old) (W.contents out.new)) }
     ensures unwritten { IfErr result.served (λ why. IsUnwritten why → out.new ≡ out.old) }
     ensures left { LeavesStored L.StoredLog (map (λ s. s.now) serving.entry.documents.now)
@@ -149,6 +155,8 @@ pub fn serve_stored<R: Host, C: Connect, L: StoredLog, W: io::Write>(
             // Where the writer fails nothing more can be written.
             let _ = report_fault(fault, out);
             let failure = Failure::of_epoch(fault, &stored);
+            // The connections are dropped behind it.
+            note_unstarted(rt, &failure);
             end(Err(failure), stored)
         }
     }
@@ -159,29 +167,20 @@ pub fn serve_stored<R: Host, C: Connect, L: StoredLog, W: io::Write>(
 pub fn serve_over<R: Host, C: Connect, L: StoredLog, W: io::Write>(
     rt: &R,
     alloc: Global,
-    name: &str,
-    documents: &[&str],
-    pace: Pace,
-    connections: Vec<C>,
+    serving: Serving<'_, C>,
     stored: L,
     out: &mut W,
 ) -> (u8, Ended<L::Left>)
-    requires few { length documents.now ≤ greatest_number }
+    requires few { length serving.documents.now ≤ greatest_number }
     ensures status { result.0 ≤ 1 }
-    ensures served { result.0 ≡ 0 → ServesStored L.StoredLog
-        name.now (map (λ s. s.now) documents.now) (length connections.items)
+    ensures served { result.0 ≡ 0 → ServesStored L.StoredLog C.bytes C.follows
+        serving.entry.name.now (map (λ s. s.now) serving.entry.documents.now) serving.entry.connections.items
         stored result.1.closed result.1.store (W.contents out.old) (W.contents out.new) }
     ensures closed { result.0 ≡ 0 → OnErr result.1.closed ⊥ }
     // However it ends, no row is lost.
-    ensures left { LeavesStored L.StoredLog (map (λ s. s.now) documents.now)
+    ensures left { LeavesStored L.StoredLog (map (λ s. s.now) serving.entry.documents.now)
         stored result.1.has_failed result.1.closed result.1.store }
 {
-    let serving = Serving {
-        name,
-        documents,
-        pace,
-        connections,
-    };
     let ended = serve_stored(rt, alloc, serving, stored, out);
     (ended.status(), ended)
 }

@@ -1,6 +1,7 @@
 -- What became of connections, one after another.
 use Rattle.std.proofs.Common.{◌≡◌, ℕ, List, [], ◌∷◌, ◌++◌, map, Option, Some, None, Result, IfOk, IfSome, MatchOption, refl, sym, ap, ◌∙◌, subst, append_assoc, append-nil}
 use Rattle.std.proofs.lemmas.List.{map-append}
+use Rattle.std.proofs.lemmas.Grind.{flat_map-append}
 use Rattle.std.specs.List.{AllZip}
 use Rattle.share_ledger.specs.Begun.{Origin}
 use Rattle.doc_rules.specs.Seats as seats
@@ -11,7 +12,7 @@ use Rattle.session_rules.specs.Session.{OpenDocument}
 use Rattle.session_rules.specs.Shelf.{begins_at_shelf, shared}
 use Rattle.session_core.specs.Ended.{Ends}
 use Rattle.server_core.specs.Ends.{AreSeatEnds}
-use Rattle.server_core.specs.Attended.{AreAttended, Bytes, IsAttended, IsEndedSession}
+use Rattle.server_core.specs.Attended.{AreAttended, AreServed, Attends, Bytes, Follow, IsAttended, IsEndedSession, IsLine, all_of}
 
 -- one more behind them
 pub one_attended : (origin : ℕ → Origin) (names : List (List ℕ)) (all : List (Bytes)) (endings : List (Option Ending)) (sessions : List (List (Option seats.Seat)))
@@ -23,6 +24,91 @@ one_attended origin names [] (w ∷ endings) sessions connection why ends are is
 one_attended origin names (h ∷ all) [] sessions connection why ends are is = absurd are
 one_attended origin names (h ∷ all) (w ∷ endings) [] connection why ends are is = absurd are
 one_attended origin names (h ∷ all) (w ∷ endings) (x ∷ sessions) connection why ends are is = (are.0, one_attended origin names all endings sessions connection why ends are.1 is)
+
+-- and more behind them
+pub attended_append : (origin : ℕ → Origin) (names : List (List ℕ)) (all : List Bytes) (endings : List (Option Ending)) (sessions : List (List (Option seats.Seat)))
+    (later : List Bytes) (whys : List (Option Ending)) (given : List (List (Option seats.Seat))) → AreAttended origin names all endings sessions
+    → AreAttended origin names later whys given → AreAttended origin names (all ++ later) (endings ++ whys) (sessions ++ given)
+attended_append origin names [] [] [] later whys given are then = then
+attended_append origin names [] [] (x ∷ sessions) later whys given are then = absurd are
+attended_append origin names [] (w ∷ endings) sessions later whys given are then = absurd are
+attended_append origin names (h ∷ all) [] sessions later whys given are then = absurd are
+attended_append origin names (h ∷ all) (w ∷ endings) [] later whys given are then = absurd are
+attended_append origin names (h ∷ all) (w ∷ endings) (x ∷ sessions) later whys given are then =
+    (are.0, attended_append origin names all endings sessions later whys given are.1 then)
+
+-- ---- one thread, one connection after another
+
+follow_more : {C : Type 0} (follows : C → C → Type 0) (c : C) (later : List C) (last next : C) → Follow follows c (later ++ last ∷ []) → follows last next
+    → Follow follows c ((later ++ last ∷ []) ++ next ∷ [])
+follow_more follows c [] last next line after = (line.0, (after, tt))
+follow_more follows c (d ∷ later) last next line after = (line.0, follow_more follows d later last next line.1 after)
+
+line_more : {C : Type 0} (follows : C → C → Type 0) (own : C) (done : List C) (last next : C) → IsLine follows own (done ++ last ∷ []) → follows last next
+    → IsLine follows own ((done ++ last ∷ []) ++ next ∷ [])
+line_more follows own [] last next line after = (line.0, (after, tt))
+line_more follows own (d ∷ done) last next line after = (line.0, follow_more follows d done last next line.1 after)
+
+-- A thread is at a connection, behind those that it has served.
+pub record IsAt {C : Type 0} (origin : ℕ → Origin) (names : List (List ℕ)) (bytes : C → Bytes) (follows : C → C → Type 0) (first current : C)
+    (endings : List (Option Ending)) (given : List (List (Option seats.Seat))) : Type 0 where
+  pub done : List C
+  pub line : IsLine follows first done
+  pub next : IsLine follows first (done ++ current ∷ [])
+  pub attended : AreAttended origin names (map bytes done) endings given
+
+pub at_first : {C : Type 0} (origin : ℕ → Origin) (names : List (List ℕ)) (bytes : C → Bytes) (follows : C → C → Type 0) (first : C)
+    (endings : List (Option Ending)) (given : List (List (Option seats.Seat))) → endings ≡ [] → given ≡ [] → IsAt origin names bytes follows first first endings given
+at_first origin names bytes follows first endings given no_endings no_ends =
+    record {
+      done = [];
+      line = tt;
+      next = (refl, tt);
+      attended = subst (λ xs. AreAttended origin names [] xs given) (sym no_endings) (subst (AreAttended origin names [] []) (sym no_ends) tt);
+    }
+
+-- where it stops, it has served those before
+pub stops : {C : Type 0} {origin : ℕ → Origin} {names : List (List ℕ)} {bytes : C → Bytes} {follows : C → C → Type 0} {first current : C}
+    {endings : List (Option Ending)} {given : List (List (Option seats.Seat))} → IsAt origin names bytes follows first current endings given
+    → (ended : List (Option Ending)) (left : List (List (Option seats.Seat))) → ended ≡ endings → left ≡ given → Attends origin names bytes follows first ended left
+stops {C} {origin} {names} {bytes} {follows} {first} {current} {endings} {given} at ended left same_endings same_ends =
+    record {
+      served = at.done;
+      line = at.line;
+      attended =
+          subst (λ xs. AreAttended origin names (map bytes at.done) xs left) (sym same_endings)
+          (subst (AreAttended origin names (map bytes at.done) endings) (sym same_ends) at.attended);
+    }
+
+-- and behind this one, this one too
+pub ends_there : {C : Type 0} {origin : ℕ → Origin} {names : List (List ℕ)} {bytes : C → Bytes} {follows : C → C → Type 0} {first current : C}
+    {endings : List (Option Ending)} {given : List (List (Option seats.Seat))} → IsAt origin names bytes follows first current endings given
+    → (why : Option Ending) (ends : List (Option seats.Seat)) → IsAttended origin names (bytes current) why ends
+    → (ended : List (Option Ending)) (left : List (List (Option seats.Seat))) → ended ≡ endings ++ why ∷ [] → left ≡ given ++ ends ∷ []
+    → Attends origin names bytes follows first ended left
+ends_there {C} {origin} {names} {bytes} {follows} {first} {current} {endings} {given} at why ends is ended left more_endings more_ends =
+    let one_more = one_attended origin names (map bytes at.done) endings given (bytes current) why ends at.attended is in
+    let over = subst (λ xs. AreAttended origin names xs (endings ++ why ∷ []) (given ++ ends ∷ [])) (sym (map-append bytes at.done (current ∷ []))) one_more in
+    record {
+      served = at.done ++ current ∷ [];
+      line = at.next;
+      attended =
+          subst (λ xs. AreAttended origin names (map bytes (at.done ++ current ∷ [])) xs left) (sym more_endings)
+          (subst (AreAttended origin names (map bytes (at.done ++ current ∷ [])) (endings ++ why ∷ [])) (sym more_ends) over);
+    }
+
+-- the next one follows
+pub goes_on : {C : Type 0} {origin : ℕ → Origin} {names : List (List ℕ)} {bytes : C → Bytes} {follows : C → C → Type 0} {first current : C}
+    {endings : List (Option Ending)} {given : List (List (Option seats.Seat))} → IsAt origin names bytes follows first current endings given
+    → (why : Option Ending) (ends : List (Option seats.Seat)) → IsAttended origin names (bytes current) why ends
+    → (ended : List (Option Ending)) (left : List (List (Option seats.Seat))) → ended ≡ endings ++ why ∷ [] → left ≡ given ++ ends ∷ []
+    → (after : C) → follows current after → IsAt origin names bytes follows first after ended left
+unfolding ends_there
+goes_on {C} {origin} {names} {bytes} {follows} {first} {current} at why ends is ended left more_endings more_ends after after_it =
+    let attends = ends_there at why ends is ended left more_endings more_ends in
+    record { done = at.done ++ current ∷ []; line = at.next; next = line_more follows first at.done current after at.next after_it; attended = attends.attended }
+
+-- ---- all threads
 
 -- what holds of the items of two lists, index by index, and of one more
 pub zip_more : {A B : Type 0} (R : A → B → Type 0) (xs : List A) (ys : List B) (x : A) (y : B) → AllZip R xs ys → R x y → AllZip R (xs ++ x ∷ []) (ys ++ y ∷ [])
@@ -54,68 +140,94 @@ all_begun R all rest given ys so_far none same =
     subst (λ xs. AllZip R xs ys) (sym (so_far.parts ∙ ap (λ xs. so_far.done ++ xs) none ∙ append-nil so_far.done) ∙ same) so_far.each
 
 -- So many were joined, and the others are still promised.
-pub record IsJoined {C B : Type 0} (bytes_of : C → Bytes) (R : C → B → Type 0) (origin : ℕ → Origin) (names : List (List ℕ)) (all : List C) (rest : List B)
-    (endings : List (Option Ending)) (sessions : List (List (Option seats.Seat))) : Type 0 where
+pub record IsJoined {C B : Type 0} (bytes_of : C → Bytes) (follows : C → C → Type 0) (R : C → B → Type 0) (origin : ℕ → Origin) (names : List (List ℕ)) (all : List C)
+    (rest : List B) (endings : List (List (Option Ending))) (given : List (List (Option seats.Seat))) : Type 0 where
   pub done : List C
   pub left : List C
   pub parts : all ≡ done ++ left
   pub promised : AllZip R left rest
-  pub attended : AreAttended origin names (map bytes_of done) endings sessions
+  pub served : AreServed origin names bytes_of follows done endings given
 
-pub none_joined : {C B : Type 0} (bytes_of : C → Bytes) (R : C → B → Type 0) (origin : ℕ → Origin) (names : List (List ℕ)) (all : List C) (rest given : List B)
-    (endings : List (Option Ending)) (sessions : List (List (Option seats.Seat))) → AllZip R all given → rest ≡ given → endings ≡ [] → sessions ≡ []
-    → IsJoined bytes_of R origin names all rest endings sessions
-none_joined bytes_of R origin names all rest given endings sessions promised same no_endings no_sessions =
+pub none_joined : {C B : Type 0} (bytes_of : C → Bytes) (follows : C → C → Type 0) (R : C → B → Type 0) (origin : ℕ → Origin) (names : List (List ℕ)) (all : List C)
+    (rest first : List B) (endings : List (List (Option Ending))) (given : List (List (Option seats.Seat))) → AllZip R all first → rest ≡ first → endings ≡ [] → given ≡ []
+    → IsJoined bytes_of follows R origin names all rest endings given
+none_joined bytes_of follows R origin names all rest first endings given promised same no_endings no_ends =
     record {
       done = [];
       left = all;
       parts = refl;
       promised = subst (AllZip R all) (sym same) promised;
-      attended = subst (λ xs. AreAttended origin names [] xs sessions) (sym no_endings) (subst (AreAttended origin names [] []) (sym no_sessions) tt);
+      served =
+          subst (λ xs. AreServed origin names bytes_of follows [] xs given) (sym no_endings)
+          (subst (AreServed origin names bytes_of follows [] []) (sym no_ends) (record { served = []; lines = tt; attended = tt }));
     }
 
--- a thread of this connection keeps its promise, and without a thread there is no session
-pub is_kept : {T V C : Type 0} (running : Option T) (names_of : T → V) (connection_of : T → C) (items : V → List (List ℕ)) (bytes_of : C → Bytes) (origin : ℕ → Origin) (names : V)
-    (why : Option Ending) (ends : List (Option seats.Seat))
-    → MatchOption running ((why ≡ None) × (ends ≡ [])) (λ t. IsAttended origin (items (names_of t)) (bytes_of (connection_of t)) why ends)
-    → (c : C) → IfSome running (λ t. (names_of t ≡ names) × (connection_of t ≡ c)) → IsAttended origin (items names) (bytes_of c) why ends
-is_kept None names_of connection_of items bytes_of origin names why ends kept c promised =
-    subst (λ w. IsAttended origin (items names) (bytes_of c) w ends) (sym kept.0) kept.1
-is_kept (Some t) names_of connection_of items bytes_of origin names why ends kept c promised =
-    subst (λ v. IsAttended origin (items v) (bytes_of c) why ends) promised.0 (subst (λ x. IsAttended origin (items (names_of t)) (bytes_of x) why ends) promised.1 kept)
+-- a thread of this connection keeps its promise, and without a thread nothing is served
+pub is_kept : {T V C : Type 0} (running : Option T) (names_of : T → V) (connection_of : T → C) (items : V → List (List ℕ)) (bytes_of : C → Bytes) (follows : C → C → Type 0)
+    (origin : ℕ → Origin) (names : V) (endings : List (Option Ending)) (given : List (List (Option seats.Seat)))
+    → MatchOption running ((endings ≡ []) × (given ≡ [])) (λ t. Attends origin (items (names_of t)) bytes_of follows (connection_of t) endings given)
+    → (c : C) → IfSome running (λ t. (names_of t ≡ names) × (connection_of t ≡ c)) → Attends origin (items names) bytes_of follows c endings given
+is_kept None names_of connection_of items bytes_of follows origin names endings given kept c promised =
+    record {
+      served = [];
+      line = tt;
+      attended = subst (λ xs. AreAttended origin (items names) [] xs given) (sym kept.0) (subst (AreAttended origin (items names) [] []) (sym kept.1) tt);
+    }
+is_kept (Some t) names_of connection_of items bytes_of follows origin names endings given kept c promised =
+    subst (λ v. Attends origin (items v) bytes_of follows c endings given) promised.0
+    (subst (λ x. Attends origin (items (names_of t)) bytes_of follows x endings given) promised.1 kept)
 
 pub mapped_push : {X Y : Type 0} (f : X → Y) (xs new : List X) (x : X) → new ≡ xs ++ x ∷ [] → map f new ≡ map f xs ++ f x ∷ []
 mapped_push f xs new x more = ap (map f) more ∙ map-append f xs (x ∷ [])
 
-pub more_joined : {C B : Type 0} (bytes_of : C → Bytes) (R : C → B → Type 0) (origin : ℕ → Origin) (names : List (List ℕ)) (all : List C) (rest later : List B)
-    (endings ended : List (Option Ending)) (sessions given : List (List (Option seats.Seat))) (y : B) (why : Option Ending) (ends : List (Option seats.Seat))
-    → IsJoined bytes_of R origin names all rest endings sessions → rest ≡ y ∷ later → ended ≡ endings ++ why ∷ [] → given ≡ sessions ++ ends ∷ []
-    → ((c : C) → R c y → IsAttended origin names (bytes_of c) why ends) → IsJoined bytes_of R origin names all later ended given
-more_joined {C} {B} bytes_of R origin names all rest later endings ended sessions given y why ends so_far is one_ended one_given kept =
+-- one more behind these lists
+pub all_of_push : {X : Type 0} (lists : List (List X)) (list : List X) → all_of (lists ++ list ∷ []) ≡ all_of lists ++ list
+all_of_push lists list = flat_map-append (λ l. l) lists (list ∷ []) ∙ ap (λ xs. all_of lists ++ xs) (append-nil list)
+
+-- one more thread
+pub more_served : {C : Type 0} {origin : ℕ → Origin} {names : List (List ℕ)} {bytes : C → Bytes} {follows : C → C → Type 0} {done : List C}
+    {endings : List (List (Option Ending))} {given : List (List (Option seats.Seat))} {c : C} {whys : List (Option Ending)} {ends : List (List (Option seats.Seat))}
+    → AreServed origin names bytes follows done endings given → Attends origin names bytes follows c whys ends
+    → AreServed origin names bytes follows (done ++ c ∷ []) (endings ++ whys ∷ []) (given ++ ends)
+more_served {C} {origin} {names} {bytes} {follows} {done} {endings} {given} {c} {whys} {ends} so_far one_more =
+    let connections : map bytes (all_of (so_far.served ++ one_more.served ∷ [])) ≡ map bytes (all_of so_far.served) ++ map bytes one_more.served =
+    ap (map bytes) (all_of_push so_far.served one_more.served) ∙ map-append bytes (all_of so_far.served) one_more.served in
+    let both = attended_append origin names (map bytes (all_of so_far.served)) (all_of endings) given (map bytes one_more.served) whys ends so_far.attended one_more.attended in
+    record {
+      served = so_far.served ++ one_more.served ∷ [];
+      lines = zip_more (IsLine follows) done so_far.served c one_more.served so_far.lines one_more.line;
+      attended =
+          subst (λ xs. AreAttended origin names xs (all_of (endings ++ whys ∷ [])) (given ++ ends)) (sym connections)
+          (subst (λ xs. AreAttended origin names (map bytes (all_of so_far.served) ++ map bytes one_more.served) xs (given ++ ends)) (sym (all_of_push endings whys)) both);
+    }
+
+pub more_joined : {C B : Type 0} (bytes_of : C → Bytes) (follows : C → C → Type 0) (R : C → B → Type 0) (origin : ℕ → Origin) (names : List (List ℕ)) (all : List C)
+    (rest later : List B) (endings ended : List (List (Option Ending))) (given left : List (List (Option seats.Seat))) (y : B) (whys : List (Option Ending))
+    (ends : List (List (Option seats.Seat))) → IsJoined bytes_of follows R origin names all rest endings given → rest ≡ y ∷ later → ended ≡ endings ++ whys ∷ []
+    → left ≡ given ++ ends → ((c : C) → R c y → Attends origin names bytes_of follows c whys ends) → IsJoined bytes_of follows R origin names all later ended left
+more_joined {C} {B} bytes_of follows R origin names all rest later endings ended given left y whys ends so_far is one_ended one_given kept =
     by so_far.left so_far.parts (subst (AllZip R so_far.left) is so_far.promised)
   where
-    by : (left : List C) → all ≡ so_far.done ++ left → AllZip R left (y ∷ later) → IsJoined bytes_of R origin names all later ended given
+    by : (others : List C) → all ≡ so_far.done ++ others → AllZip R others (y ∷ later) → IsJoined bytes_of follows R origin names all later ended left
     by [] parts promised = absurd promised
-    by (c ∷ left) parts promised =
-        let one = one_attended origin names (map bytes_of so_far.done) endings sessions (bytes_of c) why ends so_far.attended (kept c promised.0) in
-        let over = subst (λ xs. AreAttended origin names xs (endings ++ why ∷ []) (sessions ++ ends ∷ [])) (sym (map-append bytes_of so_far.done (c ∷ []))) one in
+    by (c ∷ others) parts promised =
         record {
           done = so_far.done ++ c ∷ [];
-          left = left;
-          parts = parts ∙ sym (append_assoc so_far.done (c ∷ []) left);
+          left = others;
+          parts = parts ∙ sym (append_assoc so_far.done (c ∷ []) others);
           promised = promised.1;
-          attended =
-              subst (λ xs. AreAttended origin names (map bytes_of (so_far.done ++ c ∷ [])) xs given) (sym one_ended)
-              (subst (AreAttended origin names (map bytes_of (so_far.done ++ c ∷ [])) (endings ++ why ∷ [])) (sym one_given) over);
+          served =
+              subst (λ xs. AreServed origin names bytes_of follows (so_far.done ++ c ∷ []) xs left) (sym one_ended)
+              (subst (AreServed origin names bytes_of follows (so_far.done ++ c ∷ []) (endings ++ whys ∷ [])) (sym one_given) (more_served so_far.served (kept c promised.0)));
         }
 
-pub all_joined : {C B : Type 0} (bytes_of : C → Bytes) (R : C → B → Type 0) (origin : ℕ → Origin) (names : List (List ℕ)) (all : List C) (rest : List B)
-    (endings : List (Option Ending)) (sessions : List (List (Option seats.Seat))) → IsJoined bytes_of R origin names all rest endings sessions → rest ≡ []
-    → AreAttended origin names (map bytes_of all) endings sessions
-all_joined {C} {B} bytes_of R origin names all rest endings sessions so_far none = by so_far.left so_far.parts (subst (AllZip R so_far.left) none so_far.promised)
+pub all_joined : {C B : Type 0} (bytes_of : C → Bytes) (follows : C → C → Type 0) (R : C → B → Type 0) (origin : ℕ → Origin) (names : List (List ℕ)) (all : List C)
+    (rest : List B) (endings : List (List (Option Ending))) (given : List (List (Option seats.Seat))) → IsJoined bytes_of follows R origin names all rest endings given → rest ≡ []
+    → AreServed origin names bytes_of follows all endings given
+all_joined {C} {B} bytes_of follows R origin names all rest endings given so_far none = by so_far.left so_far.parts (subst (AllZip R so_far.left) none so_far.promised)
   where
-    by : (left : List C) → all ≡ so_far.done ++ left → AllZip R left [] → AreAttended origin names (map bytes_of all) endings sessions
-    by [] parts promised = subst (λ xs. AreAttended origin names (map bytes_of xs) endings sessions) (sym (parts ∙ append-nil so_far.done)) so_far.attended
+    by : (left : List C) → all ≡ so_far.done ++ left → AllZip R left [] → AreServed origin names bytes_of follows all endings given
+    by [] parts promised = subst (λ xs. AreServed origin names bytes_of follows xs endings given) (sym (parts ∙ append-nil so_far.done)) so_far.served
     by (c ∷ left) parts promised = absurd promised
 
 -- what an outbox has taken at first: what its device has

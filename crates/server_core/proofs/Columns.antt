@@ -6,6 +6,7 @@ use Rattle.std.specs.List.{flat_map}
 use Rattle.std.proofs.lemmas.Grind.{flat_map-append}
 use Rattle.std.proofs.lemmas.List.Concat.{flat_map-cons}
 use Rattle.doc_rules.specs.Seats.{Seat}
+use Rattle.server_core.specs.Attended.{all_of}
 use Rattle.server_core.specs.Sums.{first_end, later_ends}
 
 -- what is taken out of the front of a list, and what is left
@@ -64,3 +65,44 @@ all_through {sessions} {now} {i} {before} {column} so_far past =
       so_far.rotated ∙ ap (λ xs. xs ++ map later_ends so_far.done) none ∙ ap (map later_ends) (sym same),
       so_far.taken ∙ ap (λ xs. before ++ flat_map first_end xs) (sym same),
     )
+
+-- ---- the sessions of each thread, one thread after another
+
+-- So many threads were gone through: what is left of them, and what was taken.
+pub record IsTaken (all rest kept : List (List (List (Option Seat)))) (column : List Seat) : Type 0 where
+  pub done : List (List (List (Option Seat)))
+  pub parts : all ≡ done ++ rest
+  pub left : kept ≡ map (map later_ends) done
+  pub taken : column ≡ flat_map (flat_map first_end) done
+
+pub none_taken : (all kept : List (List (List (Option Seat)))) (column : List Seat) → kept ≡ [] → column ≡ [] → IsTaken all all kept column
+none_taken all kept column no_rest nothing = record { done = []; parts = refl; left = no_rest; taken = nothing }
+
+pub more_taken : {all rest kept : List (List (List (Option Seat)))} {column : List Seat} → IsTaken all rest kept column
+    → (thread : List (List (Option Seat))) (later new : List (List (List (Option Seat)))) (grown : List Seat) → rest ≡ thread ∷ later
+    → new ≡ kept ++ map later_ends thread ∷ [] → grown ≡ column ++ flat_map first_end thread → IsTaken all later new grown
+more_taken {all} {rest} {kept} {column} so_far thread later new grown is moved more =
+    record {
+      done = so_far.done ++ thread ∷ [];
+      parts = so_far.parts ∙ ap (λ xs. so_far.done ++ xs) is ∙ sym (append_assoc so_far.done (thread ∷ []) later);
+      left = moved ∙ ap (λ xs. xs ++ map later_ends thread ∷ []) so_far.left ∙ sym (map-append (map later_ends) so_far.done (thread ∷ []));
+      taken =
+          more ∙ ap (λ xs. xs ++ flat_map first_end thread) so_far.taken
+          ∙ sym (flat_map-append (flat_map first_end) so_far.done (thread ∷ [])
+          ∙ ap (λ ys. flat_map (flat_map first_end) so_far.done ++ ys) (append-nil (flat_map first_end thread)));
+    }
+
+pub all_taken : {all rest kept : List (List (List (Option Seat)))} {column : List Seat} → IsTaken all rest kept column → rest ≡ []
+    → (kept ≡ map (map later_ends) all) × (column ≡ flat_map (flat_map first_end) all)
+all_taken {all} {rest} {kept} {column} so_far none =
+    let same : all ≡ so_far.done = so_far.parts ∙ ap (λ xs. so_far.done ++ xs) none ∙ append-nil so_far.done in
+    (so_far.left ∙ ap (map (map later_ends)) (sym same), so_far.taken ∙ ap (flat_map (flat_map first_end)) (sym same))
+
+-- one behind the other, all sessions
+pub left_of_all : (threads : List (List (List (Option Seat)))) → all_of (map (map later_ends) threads) ≡ map later_ends (all_of threads)
+left_of_all [] = refl
+left_of_all (thread ∷ threads) = ap (λ xs. map later_ends thread ++ xs) (left_of_all threads) ∙ sym (map-append later_ends thread (all_of threads))
+
+pub firsts_of_all : (threads : List (List (List (Option Seat)))) → flat_map (flat_map first_end) threads ≡ flat_map first_end (all_of threads)
+firsts_of_all [] = refl
+firsts_of_all (thread ∷ threads) = ap (λ xs. flat_map first_end thread ++ xs) (firsts_of_all threads) ∙ sym (flat_map-append first_end thread (all_of threads))

@@ -1,8 +1,10 @@
 -- When the reply to a change may go out.
-use Rattle.std.specs.Prelude.{ℕ, ◌+◌, ◌≤◌, Option, Some, None, length, if◌then◌else◌}
+use Rattle.std.specs.Prelude.{◌≡◌, ℕ, ◌+◌, ◌≤◌, Option, Some, None, length, if◌then◌else◌}
 use Rattle.doc_rules.specs.Document.{Document}
 use Rattle.doc_api.specs.declared.reply.Reply.{Reply}
 use Rattle.locked_doc.specs.Locked.{says_logged}
+use Rattle.server_core.specs.declared.counters.Reading.{Reading}
+use Rattle.server_core.specs.declared.debt.Owed.{Owed}
 use Rattle.server_core.specs.declared.progress.Pace.{Pace}
 use Rattle.server_core.specs.declared.progress.Pace.TheVariants.{Behind, Durable}
 
@@ -22,3 +24,9 @@ MayGo Durable None count = ⊥
 -- are logged, where it says of an operation that it is logged; else none.
 abbrev pub owed_count : Reply → Document → ℕ
 owed_count reply d = if says_logged reply then length d.replica.log else 0
+
+-- The reply to a change may go out for which this was owed: by what was then read of the same
+-- document, or since nothing was owed.
+abbrev pub IsPaid : Pace → Owed → Option Reading → Type 0
+IsPaid pace owed (Some read) = (read.document ≡ owed.document) × MayGo pace read.stored owed.count
+IsPaid pace owed None = owed.count ≡ 0

@@ -1,8 +1,8 @@
 //! Connections for tests.
-ghost use Rattle.std.specs.Prelude.{◌≡◌, None, Some};
+ghost use Rattle.std.specs.Prelude.{◌≡◌, ◌<◌, None, Some};
 ghost use Rattle.server_core.specs.Attended.{Bytes};
 
-use crate::sessions::Connect;
+use crate::sessions::{Connect, Deadline};
 use line_feed::doubles::FailAfter;
 use line_feed::{DeviceFault, Reader, Sink};
 use std::sync::{Mutex, Wait};
@@ -56,6 +56,8 @@ pub struct Script<'a, R: Wait> {
     pub write_after: usize,
     /// Whether it can be opened.
     pub opens: bool,
+    /// How many more sessions of the same lines follow on its thread.
+    pub again: u32,
 }
 
 impl<'a, R: Wait> Script<'a, R> {
@@ -68,11 +70,24 @@ impl<'a, R: Wait> Script<'a, R> {
             read_after: usize::MAX,
             write_after: usize::MAX,
             opens: true,
+            again: 0,
         }
     }
 }
 
+/// A deadline that never passes.
+#[derive(Drop)]
+pub struct Never;
+
+impl Deadline for Never {
+    fn has_passed(&self) -> bool {
+        false
+    }
+}
+
 impl<'a, R: Wait + Sync> Connect for Script<'a, R> {
+    type Deadline = Never;
+
     type Source = FailAfter<Reader<&'a [u8]>>;
 
     type Sink = FailAfter<Kept<'a, R>>;
@@ -80,7 +95,9 @@ impl<'a, R: Wait + Sync> Connect for Script<'a, R> {
     ghost bytes = { λ s. let known : Bytes = record { source = Some s.input.now; sink = None } in
         known };
 
-    fn open(self) -> Result<(FailAfter<Reader<&'a [u8]>>, FailAfter<Kept<'a, R>>), DeviceFault> {
+    ghost follows = { λ a b. (0 < a.again) × (b.input.now ≡ a.input.now) };
+
+    fn open(&self) -> Result<(FailAfter<Reader<&'a [u8]>>, FailAfter<Kept<'a, R>>), DeviceFault> {
         if !self.opens {
             return Err(DeviceFault);
         }
@@ -91,5 +108,33 @@ impl<'a, R: Wait + Sync> Connect for Script<'a, R> {
             failed: false,
         };
         Ok((source, FailAfter::new(kept, self.write_after)))
+    }
+
+    fn deadline(&self) -> Never {
+        Never
+    }
+
+    fn next(self) -> Option<Self> {
+        if self.again == 0 {
+            return None;
+        }
+        let Script {
+            rt,
+            input,
+            replies,
+            read_after,
+            write_after,
+            opens,
+            again,
+        } = self;
+        Some(Script {
+            rt,
+            input,
+            replies,
+            read_after,
+            write_after,
+            opens,
+            again: again - 1,
+        })
     }
 }

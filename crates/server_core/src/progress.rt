@@ -1,8 +1,9 @@
 //! How far the file is, for sessions that wait for it before they reply.
-ghost use Rattle.std.specs.Prelude.{◌≡◌, ◌≤◌, ◌<◌, ◌+◌, ℕ, Option, Some, None, MatchOption, IfOk};
+ghost use Rattle.std.specs.Prelude.{◌≡◌, ◌≤◌, ◌<◌, ◌+◌, None, MatchOption, IfOk, IfSome};
 ghost use Rattle.std.specs.Prelude.{IsTrue, false};
 ghost use Rattle.server_core.specs.Pacing.{MayGo, allowed};
 
+use crate::counters::{Counters, Published, Reading};
 use crate::signal::Signal;
 use std::alloc::{AllocError, Global};
 use std::sync::Wait;
@@ -61,17 +62,6 @@ fn next_step(pace: Pace, stored: Option<u64>, count: u64) -> Turn
     }
 }
 
-// What a count is where nothing copies.
-const NOBODY: u64 = u64::MAX;
-
-// A count as it was read: how many operations the file has, or none where nothing copies.
-fn known(count: u64) -> Option<u64> {
-    if count == NOBODY { None } else { Some(count) }
-}
-
-// After how many seconds of sleep a count is read again, if nothing wakes the session.
-const LONGEST_SLEEP: u64 = 1;
-
 // For how many sessions at most `Progress::gather` waits. More take longer to come back than most
 // disks take to sync.
 const MOST_GATHERED: u64 = 32;
@@ -87,8 +77,7 @@ const SHORT_SLEEP: u64 = 100;
 #[derive(Drop)]
 pub struct Progress {
     pace: Pace,
-    // One for each document.
-    stored: Vec<AtomicU64>,
+    counters: Counters,
     // How many sessions wait.
     waiting: AtomicU64,
     // How often a session began to wait, modulo 2^64.
@@ -104,20 +93,17 @@ impl Progress {
     pub fn new(alloc: Global, documents: usize, pace: Pace) -> Result<Progress, AllocError>
         ensures pace { IfOk result (λ p. p.pace ≡ pace) }
     {
-        let mut stored = Vec::new(alloc);
-        for _ in 0..documents {
-            stored.push(AtomicU64::new(0))?;
-        }
-        Ok(Progress::over(pace, stored))
+        let counters = Counters::new(alloc, documents)?;
+        Ok(Progress::over(pace, counters))
     }
 
     // Over these counts, with nobody who waits.
-    fn over(pace: Pace, stored: Vec<AtomicU64>) -> Progress
+    fn over(pace: Pace, counters: Counters) -> Progress
         ensures pace { result.pace ≡ pace }
     {
         Progress {
             pace,
-            stored,
+            counters,
             waiting: AtomicU64::new(0),
             waits: AtomicU64::new(0),
             gathered: AtomicU64::new(0),
@@ -127,7 +113,7 @@ impl Progress {
 
     /// Where nothing copies, and nobody waits. It takes no memory.
     pub fn none(alloc: Global) -> Progress {
-        Progress::over(Pace::Behind(0), Vec::new(alloc))
+        Progress::over(Pace::Behind(0), Counters::none(alloc))
     }
 
     /// When the reply to a change may go out.
@@ -138,16 +124,23 @@ impl Progress {
     }
 
     /// Says that the file has so many operations of the document of this number.
-    pub fn publish(&self, document: usize, rows: u64) {
-        let Some(stored) = self.stored.get(document) else {
-            return;
-        };
+    pub fn publish(&self, document: usize, rows: u64) -> Published
+        ensures document { result.document ≡ document }
+        ensures rows { result.rows ≡ rows }
+    {
         // First: a session that goes on may soon wait again.
         let waits = self.waits.load(Ordering::SeqCst);
-        if stored.swap(rows, Ordering::SeqCst) != rows && self.waiting.load(Ordering::SeqCst) > 0 {
+        let published = self.counters.publish(document, rows);
+        if published.changed() && self.waiting.load(Ordering::SeqCst) > 0 {
             self.want(waits);
-            stored.wake_all();
+            self.counters.wake(document);
         }
+        published
+    }
+
+    /// How many operations of the document of this number the file had when that was last published.
+    pub fn noted(&self, document: usize) -> u64 {
+        self.counters.noted(document)
     }
 
     // Where some sessions were gathered before the last batch, the copier is woken once so many
@@ -205,51 +198,41 @@ impl Progress {
 
     /// Says that nothing copies from now on. Who waits is woken.
     pub fn stop(&self) {
-        for stored in &self.stored {
-            stored.store(NOBODY, Ordering::SeqCst);
-            stored.wake_all();
-        }
-    }
-
-    // How many operations of the document the file has, or none where nothing copies.
-    fn stored(&self, document: usize) -> Option<u64> {
-        match self.stored.get(document) {
-            Some(stored) => known(stored.load(Ordering::SeqCst)),
-            None => None,
-        }
-    }
-
-    // Sleeps until the count of the document is another than this one, or for a second.
-    fn sleep<R: Wait>(&self, rt: &R, document: usize, seen: u64) {
-        if let Some(stored) = self.stored.get(document) {
-            let low = (seen & 0xffff_ffff) as u32;
-            stored.park_timeout(rt, low, Duration::from_secs(LONGEST_SLEEP));
-        }
+        self.counters.stop();
     }
 
     // `wait_for`, once the session counts as one that waits.
-    fn wait_counted<R: Wait>(&self, rt: &R, document: usize, count: u64) -> bool
-        ensures { IsTrue result → (stored : Option ℕ) × MayGo self.now.pace stored count }
+    fn wait_counted<R: Wait>(&self, rt: &R, document: usize, count: u64) -> Option<Reading>
+        ensures { IfSome result (λ read. (read.document ≡ document) × MayGo self.now.pace read.stored count) }
     {
         for _ in rt.forever() {
-            let stored = self.stored(document);
-            match next_step(self.pace, stored, count) {
-                Turn::Goes => return true,
-                Turn::Waits => self.sleep(rt, document, stored.unwrap_or(0)),
-                Turn::Ends => return false,
+            let read = self.counters.read(document);
+            match next_step(self.pace, read.stored(), count) {
+                Turn::Goes => return Some(read),
+                Turn::Waits => self.counters.sleep(rt, &read),
+                Turn::Ends => return None,
             }
         }
-        false
+        None
     }
 
     /// Waits until the reply to a change may go out after which the document's log has so many
-    /// operations. False where it never may: the file has the operation not, and nothing copies.
-    pub fn wait_for<R: Wait>(&self, rt: &R, signal: &Signal, document: usize, count: u64) -> bool
-        ensures goes { IsTrue result → (stored : Option ℕ) × MayGo self.now.pace stored count }
+    /// operations. It returns what it last read of the document, by which the reply may go out. None
+    /// where it never may: the file has the operation not, and nothing copies.
+    pub fn wait_for<R: Wait>(
+        &self,
+        rt: &R,
+        signal: &Signal,
+        document: usize,
+        count: u64,
+    ) -> Option<Reading>
+        ensures document { IfSome result (λ read. read.document ≡ document) }
+        ensures goes { IfSome result (λ read. MayGo self.now.pace read.stored count) }
     {
-        match next_step(self.pace, self.stored(document), count) {
-            Turn::Goes => true,
-            Turn::Ends => false,
+        let read = self.counters.read(document);
+        match next_step(self.pace, read.stored(), count) {
+            Turn::Goes => Some(read),
+            Turn::Ends => None,
             Turn::Waits => {
                 self.begin(signal);
                 let goes = self.wait_counted(rt, document, count);

@@ -123,12 +123,94 @@ pub fn note_unconnected<R: Log + Clock, E: Display>(rt: &R, begun: u64, sessions
     note(rt, Level::Warn, &what);
 }
 
+/// Notes the first session of a server that stays, and from where its client connects.
+pub fn note_first<R: Log + Clock, A: Display>(rt: &R, from: &A) {
+    note(
+        rt,
+        Level::Info,
+        &format_args!("the first session begins, from {from}"),
+    );
+}
+
+/// Warns that a start has nearly as many sessions as it serves: then it drains, and the next start
+/// goes on.
+pub fn note_nearly_used<R: Log + Clock>(rt: &R, begun: u64, most: u64) {
+    let what = format_args!(
+        "{begun} of {most} sessions of this start have begun: then it drains and ends"
+    );
+    note(rt, Level::Warn, &what);
+}
+
+/// Notes that the server lets no more connections in, and how many sessions have begun.
+pub fn note_draining<R: Log + Clock>(rt: &R, begun: u64) {
+    let what = format_args!(
+        "draining: sessions end behind their last whole line; {begun} have begun"
+    );
+    note(rt, Level::Info, &what);
+}
+
+/// Warns that a connection spoke HTTP. No line of it was carried out.
+pub fn note_http<R: Log + Clock>(rt: &R) {
+    note(
+        rt,
+        Level::Warn,
+        &"a connection spoke HTTP, and was closed: no line of it was carried out",
+    );
+}
+
+/// Warns that a connection could not be accepted, and why. It is tried again.
+pub fn note_unaccepted<R: Log + Clock, E: Display>(rt: &R, why: &E) {
+    note(
+        rt,
+        Level::Warn,
+        &format_args!("a connection could not be accepted: {why}"),
+    );
+}
+
 /// Warns that so many sessions have no thread, of how many. They count as ones that have ended.
 pub fn note_no_thread<R: Log + Clock>(rt: &R, without: u64, sessions: u16) {
     let what = format_args!(
         "{without} of {sessions} sessions have no thread: memory or the limit of threads is used up"
     );
     note(rt, Level::Warn, &what);
+}
+
+/// Warns that a server has not started, and why.
+pub fn note_unstarted<R: Log + Clock, F: Display>(rt: &R, why: &F) {
+    note(rt, Level::Warn, &format_args!("the start fails: {why}"));
+}
+
+/// Warns that the file failed, and why. Sessions go on, and changes wait once this many operations of
+/// their document aren't in it.
+pub fn note_failed<R: Log + Clock, F: Display>(rt: &R, why: &F, most: u64) {
+    let what = format_args!(
+        "the file failed: {why}; it is tried again. Until then changes are in memory only, and behind {most} of a document they wait"
+    );
+    note(rt, Level::Warn, &what);
+}
+
+/// Warns that the file failed, and why, where no change is answered that isn't in the file.
+pub fn note_failed_durably<R: Log + Clock, F: Display>(rt: &R, why: &F) {
+    let what = format_args!(
+        "the file failed: {why}; it is tried again. Until then a session with --durable ends at its next change, which is not answered"
+    );
+    note(rt, Level::Warn, &what);
+}
+
+/// Warns that the file still can't be used, and how many operations aren't in it.
+pub fn note_still_failing<R: Log + Clock>(rt: &R, unstored: u64) {
+    let what = format_args!("the file still fails: {unstored} operations are in memory only");
+    note(rt, Level::Warn, &what);
+}
+
+/// Notes that the file was opened again after a fault.
+pub fn note_recovered<R: Log + Clock>(rt: &R) {
+    note(rt, Level::Info, &"the file works again: copying goes on");
+}
+
+/// Notes that all operations are in the file, after a fault that it got over.
+pub fn note_all_stored<R: Log + Clock>(rt: &R) {
+    note(rt, Level::Info, &"all is in the file");
 }
 
 /// Warns that copying has stopped, and why. Sessions go on.

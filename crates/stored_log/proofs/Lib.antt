@@ -6,3 +6,4 @@ pub mod InOrder
 mod Makers
 mod Lines
 pub mod Reporting
+mod Fronts

@@ -1,8 +1,8 @@
 -- What a stored log has.
-use Rattle.std.specs.Prelude.{◌≡◌, ◌⊎◌, ◌+◌, ◌≤◌, ℕ, Bool, List}
+use Rattle.std.specs.Prelude.{◌≡◌, ◌⊎◌, ◌+◌, ◌≤◌, ℕ, Bool, false, List, length}
 use Rattle.std.proofs.Common.{inl, inr, le_trans, le-add_right, subst, sym, ◌∙◌}
 use Rattle.op_core.specs.Op.{Op}
-use Rattle.stored_log.specs.Docs.{Doc, add_batch}
+use Rattle.stored_log.specs.Docs.{Doc, IsBatch, add_batch, log_of}
 
 pub record LogState : Type 0 where
   -- the last epoch that was given out, 0 if none was
@@ -28,6 +28,20 @@ pub record IsRaisedOrNot (it : LogState) (epoch : ℕ) (docs : List Doc) : Type 
 pub record IsAddedOrNot (name : List ℕ) (ops : List Op) (it : LogState) (epoch : ℕ) (docs : List Doc) : Type 0 where
   pub same_epoch : epoch ≡ it.epoch
   pub added_or_not : (docs ≡ it.docs) ⊎ (docs ≡ add_batch name ops it.docs)
+
+-- What a log shows after a batch that failed: it has what it had, or the whole batch besides, which
+-- fits.
+pub record ShowsBatchOrNot (name : List ℕ) (from : ℕ) (ops : List Op) (old new : LogState) : Type 0 where
+  pub same_epoch : new.epoch ≡ old.epoch
+  pub added_or_not : (new.docs ≡ old.docs) ⊎ (IsBatch name from ops old.docs × (new.docs ≡ add_batch name ops old.docs))
+
+-- The log works again, and has the whole batch that failed behind so many entries: it showed the
+-- batch before, or it was added.
+pub record HasBatchAgain (name : List ℕ) (from : ℕ) (ops : List Op) (old new : LogState) : Type 0 where
+  pub same_epoch : new.epoch ≡ old.epoch
+  pub works : new.has_failed ≡ false
+  pub whole : ((new.docs ≡ old.docs) × (length (log_of name old.docs) ≡ from + length ops))
+      ⊎ (IsBatch name from ops old.docs × (new.docs ≡ add_batch name ops old.docs))
 
 -- it has the other's documents, under an epoch that is not smaller
 pub record KeepsAll (it : LogState) (epoch : ℕ) (docs : List Doc) : Type 0 where

@@ -14,6 +14,7 @@ mod open;
 mod port;
 mod reason;
 mod report;
+mod same;
 mod stored_fault;
 mod text;
 
@@ -28,6 +29,7 @@ pub use open::OpenLog;
 pub use port::StoredLog;
 pub use reason::reason_of;
 pub use report::{CheckFailure, REFUSED_LINE, check_opened, check_over};
+pub use same::{are_fronts, are_same};
 pub use stored_fault::StoredFault;
 pub use text::{operation_of, text_of, texts_of};
 

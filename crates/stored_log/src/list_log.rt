@@ -1,6 +1,7 @@
 //! A stored log in memory, of which a use can be made to fail.
-ghost use Rattle.std.specs.Prelude.{◌≡◌, false, IfOk, IfErr};
+ghost use Rattle.std.specs.Prelude.{◌≡◌, false, IfOk, IfErr, OnOk, OnErr};
 ghost use Rattle.std.specs.Option.{is_some};
+ghost use Rattle.stored_log.specs.Docs.{IsBatch, add_batch};
 ghost use Rattle.stored_log.specs.Image.{IsEmpty};
 ghost use Rattle.stored_log.specs.Listed.{AreBoth};
 
@@ -102,6 +103,25 @@ fn folded(
             Err((failing.fault, ListStore { kept, alone }))
         }
     }
+}
+
+// Adds a batch that is missing, if it may be added.
+fn add_missing(
+    kept: &mut ListImage,
+    alloc: Global,
+    doc: &str,
+    from: usize,
+    entries: &[Operation],
+) -> Result<(), Fault>
+    ensures ok { OnOk result (IsBatch doc.now from entries.now kept.old.docs
+        × (kept.new.docs ≡ add_batch doc.now entries.now kept.old.docs)) }
+    ensures epoch { kept.new.epoch ≡ kept.old.epoch }
+    ensures err { OnErr result (kept.new.docs ≡ kept.old.docs) }
+{
+    if entries.is_empty() || !may_add(kept.docs(), doc, from, entries) {
+        return Err(Fault::Refused);
+    }
+    kept.add(alloc, doc, entries)
 }
 
 /// A stored log in memory. What is stored is in a store, which is opened
@@ -258,6 +278,18 @@ impl StoredLog for ListLog {
                 Err(Fault::Store)
             }
         }
+    }
+
+    fn resume(&mut self, doc: &str, from: usize, entries: &[Operation]) -> Result<(), Fault> {
+        if matches!(self.fails, Some(failing) if failing.lasts) {
+            return Err(Fault::Refused);
+        }
+        let rows = crate::count(self.store.kept.docs(), doc);
+        if rows.checked_sub(from) != Some(entries.len()) {
+            add_missing(&mut self.store.kept, self.alloc, doc, from, entries)?;
+        }
+        self.failure = None;
+        Ok(())
     }
 
     fn fold(self) -> Result<ListLog, (StoredFault, ListStore)> {

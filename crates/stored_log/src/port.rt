@@ -1,9 +1,10 @@
 //! The port: what a server needs of the store of its operations.
 ghost use Rattle.std.specs.Prelude.{◌≡◌, ◌≢◌, ◌⊎◌, ◌+◌, ◌≤◌, ◌↔◌, ℕ, List, [], length, true, false};
-ghost use Rattle.std.specs.Prelude.{IfOk, IfErr, OnOk, Err, Ok};
+ghost use Rattle.std.specs.Prelude.{IfOk, IfErr, OnOk, OnErr, Err, Ok};
 ghost use Rattle.stored_log.specs.Docs.{AreGood, AreInOrder, Doc, IsBatch, add_batch, log_of};
 ghost use Rattle.stored_log.specs.Limits.{last_epoch};
-ghost use Rattle.stored_log.specs.Log.{HasSame, IsAddedOrNot, IsRaisedOrNot, KeepsAll, LogState};
+ghost use Rattle.stored_log.specs.Log.{HasBatchAgain, HasSame, IsAddedOrNot, IsRaisedOrNot, KeepsAll};
+ghost use Rattle.stored_log.specs.Log.{LogState, ShowsBatchOrNot};
 
 use crate::stored_fault::StoredFault;
 use crate::{Fault, StoredDoc};
@@ -103,7 +104,23 @@ pub trait StoredLog: Drop {
         // A crash leaves all as it was, or the whole batch; and the batch once it was answered.
         ensures crash { (log self.old).has_failed ≡ false
             → survives self.new (IsAddedOrNot doc.now entries.now (log self.old)) }
-        ensures stays { OnOk result (survives self.new (HasSame (log self.new))) };
+        ensures stays { OnOk result (survives self.new (HasSame (log self.new))) }
+        // It keeps its epoch and its documents when it fails, perhaps with the batch.
+        ensures shows { result ≡ Err Fault.Store → (log self.old).has_failed ≡ false
+            → ShowsBatchOrNot doc.now from entries.now (log self.old) (log self.new) };
+
+    /// After a batch that failed, which was of these entries behind the `from` entries of the
+    /// document: opens the store again, under the lock that is held all along, and adds the batch
+    /// if it isn't there. `Refused` where the store has something else than the epoch and the
+    /// entries that were stored before: it is never to be used again. Any other error: it may be
+    /// opened later.
+    fn resume(&mut self, doc: &str, from: usize, entries: &[Operation]) -> Result<(), Fault>
+        requires failed { (log self.old).has_failed ≡ true }
+        ensures ok { OnOk result
+            (HasBatchAgain doc.now from entries.now (log self.old) (log self.new)) }
+        ensures alone { (log self.new).is_alone ≡ (log self.old).is_alone }
+        ensures stays { OnOk result (survives self.new (HasSame (log self.new))) }
+        ensures unchanged { OnErr result (log self.new ≡ log self.old) };
 
     /// Moves all that is stored to the file alone, and goes on from there. A fault
     /// leaves the store.

@@ -19,6 +19,12 @@ pub enum StoredFault {
     /// What is stored can't be read.
     #[error("what is stored is damaged")]
     Damaged,
+    /// Its file was removed or replaced, or got a second name.
+    #[error("the file was removed or replaced, or has a second name")]
+    Moved,
+    /// It has something else than what was stored before.
+    #[error("the file has something else than what was stored before")]
+    Changed,
     /// It refuses an operation.
     #[error("the file refuses an operation")]
     Refused,

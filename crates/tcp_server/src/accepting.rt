@@ -1,165 +1,173 @@
 //! Accepting connections.
-ghost use Rattle.std.specs.Prelude.{◌≡◌, length, IfOk};
+ghost use Rattle.std.specs.Prelude.{◌≡◌, true, length, IfOk, IsTrue};
+ghost use Rattle.std.specs.List.{All};
 
+use crate::entrance::Entrance;
 use crate::keep_alive::keep_alive;
+use crate::talking::{Received, Sent, speaks_http, waits_for_first};
 use line_feed::{DeviceFault, Reader, Writer};
 use log::Log;
-use server_core::Connect;
-use server_notes::{note_begun, note_no_thread, note_unconnected};
+use server_core::{Connect, Deadline};
 use std::alloc::{AllocError, Global};
-use std::io;
-use std::io::Read;
-use std::net::{Shutdown, TcpListener, TcpStream};
-use std::sync::atomic::{AtomicU64, Ordering};
-use std::time::Clock;
+use std::net::TcpStream;
+use std::sync::Wait;
+use std::sync::atomic::{AtomicBool, Ordering};
+use std::time::{Clock, Duration};
 
-// How often at most a connection is read when it is dropped.
-const LAST_READS: u16 = 256;
+// After how many seconds of a write that gets nowhere it is looked whether the session goes on.
+const WRITE_SECONDS: u64 = 1;
 
-// Discards what has arrived, without waiting: at most 1 MiB.
-fn read_away(mut stream: &TcpStream) {
-    let mut unread = [0; 4096];
-    for _ in 0..LAST_READS {
-        match stream.read(&mut unread) {
-            Ok(n) if n > 0 => {}
-            _ => return,
-        }
-    }
+/// The next connection of a listener that sessions share. One that is dropped before it is opened
+/// counts as a thread that could not be started.
+pub struct Accepting<'a, R: Log + Clock + Wait> {
+    entrance: &'a Entrance<'a, R>,
+    opened: AtomicBool,
 }
 
-/// What a client sends. Its drop ends what the client reads, and then discards what it has sent: a
-/// system that closes a connection with unread bytes resets it, and the client may lose the last
-/// replies by that.
-pub struct Sent {
-    stream: TcpStream,
-}
-
-impl Drop for Sent {
+impl<R: Log + Clock + Wait> Drop for Accepting<'_, R> {
     fn drop(self) {
-        // The connection is closed even if these fail.
-        let _ = self.stream.shutdown(Shutdown::Write);
-        if self.stream.set_nonblocking(true).is_ok() {
-            read_away(&self.stream);
+        if !self.opened.load(Ordering::SeqCst) {
+            self.entrance.count_without_thread();
         }
-        let Sent { stream: _ } = self;
+        let Accepting {
+            entrance: _,
+            opened: _,
+        } = self;
     }
 }
 
-impl Read for Sent {
-    fn read(&mut self, buf: &mut [u8]) -> io::Result<usize> {
-        self.stream.read(buf)
-    }
-}
-
-/// A listener that sessions share, and how many of them have begun.
-#[derive(Drop)]
-pub struct Entrance<'a, R> {
-    rt: &'a R,
-    listener: &'a TcpListener,
-    sessions: u16,
-    begun: AtomicU64,
-    // How many were dropped before they began, and how many of these a note has reported.
-    without_thread: AtomicU64,
-    told: AtomicU64,
-}
-
-impl<'a, R: Log + Clock> Entrance<'a, R> {
-    /// One for so many sessions, none of which has begun.
-    pub fn new(rt: &'a R, listener: &'a TcpListener, sessions: u16) -> Entrance<'a, R> {
-        Entrance {
-            rt,
-            listener,
-            sessions,
-            begun: AtomicU64::new(0),
-            without_thread: AtomicU64::new(0),
-            told: AtomicU64::new(0),
+impl<'a, R: Log + Clock + Wait> Accepting<'a, R> {
+    // The next connection on which a client speaks first, and no HTTP, at a server that stays.
+    // Others use up no session. None once the server drains.
+    fn next_client(&self) -> Option<TcpStream> {
+        for _ in self.entrance.rt.forever() {
+            if self.entrance.is_draining() {
+                return None;
+            }
+            match self.entrance.accept() {
+                Ok((stream, from)) => if self.is_client(&stream) {
+                    self.entrance.begin_staying(&from);
+                    return Some(stream);
+                },
+                Err(error) => self.entrance.fail_staying(&error),
+            }
         }
+        None
     }
 
-    // Counts a session that was dropped before it began. A note reports the first at once: threads
-    // are started one after the other, so most that follow have none either.
-    fn count_without_thread(&self) {
-        if self.without_thread.fetch_add(1, Ordering::SeqCst) == 0 {
-            self.tell_without_thread();
+    // Whether bytes come in time, which aren't HTTP.
+    fn is_client(&self, stream: &TcpStream) -> bool {
+        waits_for_first(self.entrance, stream) && !self.is_http(stream)
+    }
+
+    // Whether the first bytes are HTTP's. A note says so.
+    fn is_http(&self, stream: &TcpStream) -> bool {
+        let is_http = speaks_http(stream);
+        if is_http {
+            self.entrance.tell_http();
         }
+        is_http
     }
 
-    // Notes how many sessions have no thread, if they are more than a note has reported.
-    fn tell_without_thread(&self) {
-        let without = self.without_thread.load(Ordering::SeqCst);
-        if self.told.swap(without, Ordering::SeqCst) != without {
-            note_no_thread(self.rt, without, self.sessions);
-        }
-    }
-
-    // How many sessions have begun with this one.
-    fn begin(&self) -> u64 {
-        self.begun.fetch_add(1, Ordering::SeqCst).saturating_add(1)
-    }
-
-    // Waits for the next connection, which begins a session. A note says so, or why there is none.
-    fn accept(&self) -> Option<TcpStream> {
-        let accepted = self.listener.accept();
-        self.tell_without_thread();
-        match accepted {
+    // The next connection, at a server that doesn't stay. It uses up a session, whatever comes.
+    fn next_counted(&self) -> Option<TcpStream> {
+        match self.entrance.accept() {
             Ok((stream, from)) => {
-                note_begun(self.rt, self.begin(), self.sessions, &from);
+                self.entrance.begin_counted(&from);
+                if waits_for_first(self.entrance, &stream) && self.is_http(&stream) {
+                    return None;
+                }
                 Some(stream)
             }
             Err(error) => {
-                note_unconnected(self.rt, self.begin(), self.sessions, &error);
+                self.entrance.fail_counted(&error);
                 None
             }
         }
     }
 }
 
-/// The next connection of a listener that sessions share. One that is dropped before it is opened
-/// counts as a session without a thread.
-pub struct Accepting<'a, R: Log + Clock> {
+/// The end of the time that sessions have while the server drains.
+#[derive(Drop)]
+pub struct DrainEnd<'a, R> {
     entrance: &'a Entrance<'a, R>,
 }
 
-impl<R: Log + Clock> Drop for Accepting<'_, R> {
-    fn drop(self) {
-        self.entrance.count_without_thread();
-        let Accepting { entrance: _ } = self;
+impl<R: Log + Clock + Wait> Deadline for DrainEnd<'_, R> {
+    fn has_passed(&self) -> bool {
+        self.entrance.is_drain_over()
     }
 }
 
-impl<R: Log + Clock + Sync> Connect for Accepting<'_, R> {
-    type Source = Reader<Sent>;
+impl<'a, R: Log + Clock + Wait + Sync> Connect for Accepting<'a, R> {
+    type Deadline = DrainEnd<'a, R>;
 
-    type Sink = Writer<TcpStream>;
+    type Source = Reader<Received<'a, R>>;
 
-    fn open(self) -> Result<(Reader<Sent>, Writer<TcpStream>), DeviceFault> {
-        let Accepting { entrance } = self;
-        let Some(stream) = entrance.accept() else {
+    type Sink = Writer<Sent<'a, R>>;
+
+    ghost follows = { λ a b. IsTrue a.entrance.now.admission.stays
+        × (b.entrance.now.admission ≡ a.entrance.now.admission) };
+
+    fn open(&self) -> Result<(Reader<Received<'a, R>>, Writer<Sent<'a, R>>), DeviceFault> {
+        self.opened.store(true, Ordering::SeqCst);
+        let next = if self.entrance.admission.stays {
+            self.next_client()
+        } else {
+            self.next_counted()
+        };
+        let Some(stream) = next else {
             return Err(DeviceFault);
         };
         keep_alive(&stream);
         // Flushed replies go out at once. If this fails the system may delay them, and nothing is
         // lost.
         let _ = stream.set_nodelay(true);
+        let _ = stream.set_write_timeout(Some(Duration::from_secs(WRITE_SECONDS)));
         let Ok(other) = stream.try_clone() else {
             return Err(DeviceFault);
         };
-        Ok((Reader::new(Sent { stream }), Writer::new(other)))
+        Ok((
+            Reader::new(Received::new(self.entrance, stream)),
+            Writer::new(Sent::new(self.entrance, other)),
+        ))
+    }
+
+    fn deadline(&self) -> DrainEnd<'a, R> {
+        DrainEnd {
+            entrance: self.entrance,
+        }
+    }
+
+    fn next(self) -> Option<Self> {
+        let entrance = self.entrance;
+        if entrance.takes_more() {
+            Some(Accepting {
+                entrance,
+                opened: AtomicBool::new(true),
+            })
+        } else {
+            None
+        }
     }
 }
 
-/// One connection for each session.
-pub fn connections<'a, R: Log + Clock>(
+/// One connection for each thread.
+pub fn connections<'a, R: Log + Clock + Wait>(
     alloc: Global,
     entrance: &'a Entrance<'a, R>,
     sessions: u16,
 ) -> Result<Vec<Accepting<'a, R>>, AllocError>
-    ensures { IfOk result (λ all. length all.items ≡ sessions) }
+    ensures count { IfOk result (λ all. length all.items ≡ sessions) }
+    ensures same { IfOk result (λ all. All (λ a. a.entrance.now.admission ≡ entrance.now.admission) all.items) }
 {
     // All room at once: none is dropped for want of memory when others are made already.
     let mut all = Vec::with_capacity(alloc, usize::from(sessions))?;
     for _ in 0..sessions {
-        all.push(Accepting { entrance })?;
+        all.push(Accepting {
+            entrance,
+            opened: AtomicBool::new(false),
+        })?;
     }
     Ok(all)
 }

@@ -2,8 +2,13 @@
 #![tactic(auto)]
 
 mod accepting;
+mod entrance;
 mod keep_alive;
 mod listening;
+mod talking;
+mod waiting;
 
-pub use accepting::{Accepting, Entrance, Sent, connections};
-pub use listening::{hint_of, listen};
+pub use accepting::{Accepting, connections};
+pub use entrance::{Admission, Entrance, MOST_SESSIONS};
+pub use listening::{drain_when_input_ends, hint_of, listen};
+pub use talking::{Received, Sent};

@@ -3,13 +3,16 @@ ghost use Rattle.std.specs.Prelude.{◌≡◌, ◌≢◌, [], IfSome, OnOk};
 ghost use Rattle.std.specs.IoError.{error_kind};
 ghost use Rattle.tcp_server.specs.Listening.{WritesAddress, hint};
 
+use crate::waiting::drain_at_end_of_input;
 use log::Log;
 use server_notes::{Plain, note_listening};
 use std::alloc::Global;
-use std::io;
 use std::io::ErrorKind;
 use std::net::{Net, SocketAddr, TcpListener, TcpStream};
+use std::os::fd::AsRawFd;
+use std::thread::Threads;
 use std::time::Clock;
+use std::{io, thread};
 
 // Writes where the server listens.
 fn write_address<W: io::Write>(alloc: Global, address: SocketAddr, out: &mut W) -> io::Result<()>
@@ -87,5 +90,14 @@ pub fn listen<
             report_write_error(rt, &error);
             None
         }
+    }
+}
+
+/// From now on the server drains once its standard input ends: the listener is shut down. A thread
+/// of its own waits for that; where it can't be started standard error says so.
+pub fn drain_when_input_ends<R: Threads + Eprint>(rt: &R, listener: &TcpListener) {
+    let descriptor = listener.as_raw_fd();
+    if thread::spawn(rt, move || drain_at_end_of_input(descriptor)).is_err() {
+        let _ = rt.eprintln("jcrdt: no thread waits for the end of standard input");
     }
 }

@@ -1,7 +1,7 @@
 //! The worked row on refused deliveries.
 use super::cases::{Before, Case, after};
 use super::samples::{Deed, Digest, holds, operation};
-use doc_api::{Query, Reply, State};
+use doc_api::{Counts, Query, Reply, State};
 use json_scalar::Refusal;
 use lamport_id::ReplicaName;
 use op_core::Operation;
@@ -84,7 +84,7 @@ fn is_bad_front(op: Result<Operation, Refusal>) -> bool {
 fn foreign_refusals(rt: HostRuntime) -> Result<(), Fail> {
     let replica = after(&rt, rt.alloc(), &FOREIGN)?;
     let is_front = is_front(
-        replica.read(0, Query::State(State::Front)),
+        replica.read(Counts { mine: 0, copied: 0 }, Query::State(State::Front)),
         ("o", 2),
         ("q", 3),
     );

@@ -244,7 +244,7 @@ fn is_served<
 }
 
 // Lines that ask for no server: what is wrong with each, and the line.
-static NO_SERVERS: [(&str, &str); 9] = [
+static NO_SERVERS: [(&str, &str); 11] = [
     (
         "no session",
         "serve --addr 127.0.0.1:0 --sessions 0 --file f d",
@@ -252,6 +252,14 @@ static NO_SERVERS: [(&str, &str); 9] = [
     (
         "257 sessions",
         "serve --addr 127.0.0.1:0 --sessions 257 --file f d",
+    ),
+    (
+        "no number of sessions",
+        "serve --addr 127.0.0.1:0 --file f d",
+    ),
+    (
+        "both numbers of sessions",
+        "serve --addr 127.0.0.1:0 --sessions 1 --clients 1 --file f d",
     ),
     ("no address", "serve --sessions 1 --file f d"),
     (

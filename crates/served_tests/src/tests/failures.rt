@@ -55,6 +55,18 @@ fn failures_of_the_file(rt: HostRuntime) {
             "copying stopped while sessions ran: out of memory",
         ),
         (
+            Failure::Recovered(full),
+            "the file failed while sessions ran: the disk is full; all is in it now",
+        ),
+        (
+            Failure::Stopped(StoredFault::Moved),
+            "copying stopped while sessions ran: the file was removed or replaced, or has a second name",
+        ),
+        (
+            Failure::Stopped(StoredFault::Changed),
+            "copying stopped while sessions ran: the file has something else than what was stored before",
+        ),
+        (
             Failure::Epochs,
             "all 9999999 epochs of the file are given out",
         ),

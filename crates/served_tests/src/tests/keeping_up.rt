@@ -37,6 +37,16 @@ impl CopyObserver for CountsRows<'_> {
 
     fn goes_on(&self) {}
 
+    fn failed(&self, _why: StoredFault) {}
+
+    fn is_awaited_no_more(&self) -> bool {
+        false
+    }
+
+    fn still_fails(&self, _unstored: u64) {}
+
+    fn recovered(&self) {}
+
     fn stopped(&self, _why: StoredFault) {}
 }
 

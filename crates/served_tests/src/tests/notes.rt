@@ -2,9 +2,11 @@
 use log::sink::Memory;
 use log::{Level, Log, Logged};
 use server_notes::{
-    Fill, Plain, PlainLines, note_begun, note_ended, note_ending, note_file_limit, note_going_on,
-    note_lacking, note_listening, note_log_unread, note_made, note_nearly_full, note_no_thread,
-    note_restored, note_serving, note_stopped, note_took_over, note_unconnected,
+    Fill, Plain, PlainLines, note_all_stored, note_begun, note_ended, note_ending, note_failed,
+    note_failed_durably, note_file_limit, note_going_on, note_lacking, note_listening,
+    note_log_unread, note_made, note_nearly_full, note_no_thread, note_recovered, note_restored,
+    note_serving, note_still_failing, note_stopped, note_took_over, note_unconnected,
+    note_unstarted,
 };
 use std::alloc::{Alloc, AllocError};
 use std::io;
@@ -31,7 +33,7 @@ impl Clock for Stopped {
 }
 
 // What each note says, in the order in which they are written below.
-const NOTES: [&str; 17] = [
+const NOTES: [&str; 23] = [
     "[INFO  jcrdt] 2025-11-24T16:00:00Z made a new file a.db",
     "[INFO  jcrdt] 2025-11-24T16:00:00Z took over a\\u{1b}.db-wal",
     "[WARN  jcrdt] 2025-11-24T16:00:00Z a.db-wal held no changes of the file: it was not read",
@@ -44,6 +46,12 @@ const NOTES: [&str; 17] = [
     "[INFO  jcrdt] 2025-11-24T16:00:00Z session 3 of 16 begins, from 127.0.0.1:50123",
     "[WARN  jcrdt] 2025-11-24T16:00:00Z session 4 of 16 has no connection: too many open files",
     "[WARN  jcrdt] 2025-11-24T16:00:00Z 5 of 16 sessions have no thread: memory or the limit of threads is used up",
+    "[WARN  jcrdt] 2025-11-24T16:00:00Z the start fails: the disk is full",
+    "[WARN  jcrdt] 2025-11-24T16:00:00Z the file failed: the disk is full; it is tried again. Until then changes are in memory only, and behind 4096 of a document they wait",
+    "[WARN  jcrdt] 2025-11-24T16:00:00Z the file failed: the disk is full; it is tried again. Until then a session with --durable ends at its next change, which is not answered",
+    "[WARN  jcrdt] 2025-11-24T16:00:00Z the file still fails: 17 operations are in memory only",
+    "[INFO  jcrdt] 2025-11-24T16:00:00Z the file works again: copying goes on",
+    "[INFO  jcrdt] 2025-11-24T16:00:00Z all is in the file",
     "[WARN  jcrdt] 2025-11-24T16:00:00Z copying stopped: the disk is full; what is accepted from now on is in memory only: exchange with a peer before you stop",
     "[WARN  jcrdt] 2025-11-24T16:00:00Z copying stopped: the disk is full; a session with --durable ends at its next change, which is not answered",
     "[WARN  jcrdt] 2025-11-24T16:00:00Z copying pauses: out of memory; it is tried again",
@@ -69,6 +77,12 @@ fn note_sessions<R: Log + Clock>(rt: &R) {
     note_begun(rt, 3, 16, &"127.0.0.1:50123");
     note_unconnected(rt, 4, 16, &"too many open files");
     note_no_thread(rt, 5, 16);
+    note_unstarted(rt, &"the disk is full");
+    note_failed(rt, &"the disk is full", 4096);
+    note_failed_durably(rt, &"the disk is full");
+    note_still_failing(rt, 17);
+    note_recovered(rt);
+    note_all_stored(rt);
     note_stopped(rt, &"the disk is full");
     note_ending(rt, &"the disk is full");
     note_lacking(rt);

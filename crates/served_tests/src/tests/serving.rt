@@ -3,7 +3,7 @@
 use super::checks::{bytes_are, counts};
 use super::places::left_of;
 use log::Log;
-use served_log::{Ended, serve_over};
+use served_log::{Ended, Serving, serve_over};
 use server_core::doubles::Script;
 use server_core::{Connect, Pace};
 use std::alloc::{AllocError, Global};
@@ -90,6 +90,7 @@ fn scripts_of<'a, R: Wait>(
             read_after: session.read_after,
             write_after: usize::MAX,
             opens: true,
+            again: 0,
         })?;
     }
     Ok(scripts)
@@ -114,16 +115,14 @@ pub fn serve_all<R: Threads + Wait + Sync + Log + Clock, C: Connect, L: StoredLo
             left: left_of(log.close()),
         };
     }
-    let (status, ended) = serve_over(
-        rt,
-        alloc,
+    let serving = Serving {
         name,
         documents,
         pace,
+        seats: connections.len().min(usize::from(u16::MAX)) as u16,
         connections,
-        log,
-        &mut totals,
-    );
+    };
+    let (status, ended) = serve_over(rt, alloc, serving, log, &mut totals);
     let Ended {
         served: _,
         closed: _,

@@ -36,6 +36,16 @@ impl<R: Wait> CopyObserver for Counting<'_, R> {
 
     fn goes_on(&self) {}
 
+    fn failed(&self, _why: StoredFault) {}
+
+    fn is_awaited_no_more(&self) -> bool {
+        false
+    }
+
+    fn still_fails(&self, _unstored: u64) {}
+
+    fn recovered(&self) {}
+
     fn stopped(&self, _why: StoredFault) {
         let mut times = self.times.lock(self.rt);
         *times = times.saturating_add(1);

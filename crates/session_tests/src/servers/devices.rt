@@ -1,5 +1,5 @@
 //! Sessions whose connection fails: they end alone, and what they did is in the totals.
-use super::samples::{Fault, NO_FAULT, Ran, first_did, run_two};
+use super::samples::{Fault, NO_FAULT, Ran, ended_so, first_did, run_two};
 use crate::checks::holds;
 use json_scalar::Refusal;
 use server_core::OpenGate;
@@ -67,8 +67,7 @@ static ROWS: [Row; 3] = [
 // end. A connection that can't be opened has no reply, and then there is one seat.
 fn fails_alone<R: Abort>(rt: &R, row: &Row, ran: &Ran) {
     let endings = [row.why, Some(Ending::End)];
-    let is = ran.gathered.endings.as_slice() == endings.as_slice()
-        && ran.first.is_empty() != row.fault.opens;
+    let is = ended_so(&ran.gathered, &endings) && ran.first.is_empty() != row.fault.opens;
     holds(rt, is, row.name);
     let shares = if ran.first.as_slice().starts_with(b"[\"opened\",1]\n") {
         row.seated_first

@@ -2,7 +2,7 @@
 ghost use Rattle.std.specs.Prelude.{◌≡◌};
 ghost use Rattle.share_ledger.specs.Begun.{BeginEmpty};
 
-use super::samples::{THREE, shared_documents};
+use super::samples::{THREE, ended_so, shared_documents};
 use super::sessions::logged_first;
 use crate::checks::{holds, replies_are};
 use json_scalar::Refusal;
@@ -150,7 +150,7 @@ fn is_paced<R: Threads + Wait + Abort + Sync>(
     } else {
         (Ending::WriteFault, "")
     };
-    let is = !early && gathered.endings.as_slice() == [Some(why)].as_slice();
+    let is = !early && ended_so(&gathered, &[Some(why)]);
     holds(rt, is, row.name);
     replies_are(
         rt,

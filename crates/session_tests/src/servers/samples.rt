@@ -12,6 +12,7 @@ use server_core::doubles::Script;
 use server_core::{
     Gate, Gathered, Idle, OpenGate, Progress, SharedDocuments, Side, Signal, run_sessions,
 };
+use session_rules::Ending;
 use share_ledger::{Blank, Marker};
 use std::alloc::Global;
 use std::marker::Brand;
@@ -172,6 +173,16 @@ pub fn replies_alone<R: Threads + Wait + Sync>(
     requires { length documents.now ≤ greatest_number }
 {
     Ok(run_alone(rt, alloc, documents, input)?.1)
+}
+
+/// Whether each thread served one session, and these are the endings.
+pub fn ended_so(gathered: &Gathered, endings: &[Option<Ending>]) -> bool {
+    gathered.endings.len() == endings.len()
+        && gathered
+            .endings
+            .iter()
+            .zip(endings.iter())
+            .all(|(line, ending)| line.as_slice() == [*ending].as_slice())
 }
 
 /// What two sessions at new documents `a` and `b` did, and the replies to each.

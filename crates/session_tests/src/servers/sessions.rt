@@ -7,6 +7,7 @@ use crate::checks::holds;
 use json_scalar::Refusal;
 use server_core::doubles::Script;
 use server_core::{Gathered, OpenGate, SharedDocuments, Side, Signalled};
+use session_rules::Ending;
 use share_ledger::{Blank, Marker};
 use std::alloc::{AllocError, Global};
 use std::marker::Brand;
@@ -98,7 +99,23 @@ fn many<'a, R: Wait>(
     Ok(scripts)
 }
 
-/// They add up at one document.
+// 66 sessions of the same lines, one after another on three threads.
+fn lines<'a, R: Wait>(
+    rt: &'a R,
+    alloc: Global,
+    replies: &'a Mutex<Vec<u8>>,
+) -> Result<Vec<Script<'a, R>>, AllocError> {
+    let mut scripts = Vec::new(alloc);
+    for _ in 0..3u8 {
+        let mut script = Script::new(rt, THREE, replies);
+        script.again = 21;
+        scripts.push(script)?;
+    }
+    Ok(scripts)
+}
+
+/// They add up at one document: on threads of their own, and one after another on three threads,
+/// where each has a seat of its own.
 pub fn many_sessions<R: Threads + Wait + Abort + Sync>(
     rt: &R,
     alloc: Global,
@@ -107,6 +124,18 @@ pub fn many_sessions<R: Threads + Wait + Abort + Sync>(
     let scripts = many(rt, alloc, &replies)?;
     let gathered = serve_all(rt, alloc, &["a", "b"], 66, scripts, &OpenGate)?;
     first_did(rt, "many_sessions", &gathered, 198, &[3; 66]);
+    let scripts = lines(rt, alloc, &replies)?;
+    let gathered = serve_all(rt, alloc, &["a", "b"], 66, scripts, &OpenGate)?;
+    first_did(rt, "many_sessions, in lines", &gathered, 198, &[3; 66]);
+    let are = gathered
+        .endings
+        .iter()
+        .all(|line: &Vec<Option<Ending>>| line.len() == 22);
+    holds(
+        rt,
+        are && gathered.endings.len() == 3,
+        "22 sessions on each thread",
+    );
     Ok(())
 }
 

@@ -12,7 +12,7 @@ is_simple_run = refl
 
 command_is : (c : goal.After-try_get_matches_from) → app_of c.in_ok-command.command ≡ run_command
 command_is c =
-    let named = c.in_ok-arg.ensures.shape c.name_option.ensures.local ∙ ap₂ with_rule c.new.ensures.app c.name_option.ensures.rule in
+    let named = c.in_ok-arg.ensures.shape c.optional.ensures.local ∙ ap₂ with_rule c.new.ensures.app c.optional.ensures.rule in
     c.in_ok-command.ensures.shape c.documents_argument.ensures.local ∙ ap₂ with_rule named c.documents_argument.ensures.rule
 
 pub returns-clause-taken : goal.returns-clause-taken

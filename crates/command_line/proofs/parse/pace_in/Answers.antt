@@ -1,5 +1,5 @@
 use Rattle.std.proofs.Common.{codes, refl, sym, ap, subst, ◌∙◌}
-use Rattle.command_line.specs.CommandLine.{IsBacklog, is_durable, pace_of}
+use Rattle.command_line.specs.CommandLine.{IsBacklog, is_given, pace_of}
 use Rattle.command_line.proofs.Asked.{text_is}
 use Rattle.command_line.proofs.parse.pace_in.Goals as goal
 
@@ -9,7 +9,7 @@ returns-in-Some c =
     record {
       most = c.in-Some.backlog;
       behind = subst (λ t. IsBacklog t c.in-Some.backlog) backlog_is c.in-Some.ensures;
-      paced = c.pace_of.ensures ∙ ap (λ t. pace_of (is_durable t) c.in-Some.backlog) c.argument_of.ensures;
+      paced = c.pace_of.ensures ∙ ap (λ t. pace_of (is_given t) c.in-Some.backlog) c.argument_of.ensures;
     }
 
 pub returns-in-None : goal.returns-in-None

@@ -1,5 +1,4 @@
 use Rattle.std.proofs.Common.{◌≡◌, map, rules, subst}
-use Rattle.std.proofs.lemmas.List.{length-map}
 use Rattle.std.specs.Io.KnownBytes.{Appends}
 use Rattle.served_log.specs.Totals.{AreStored, total_lines}
 use Rattle.served_log.proofs.Lines.{serves}
@@ -19,8 +18,8 @@ returns-in-Ok-clause-served g c =
     let names = map (λ s. s.now) c.args.sessions.names.now in
     let written : Appends (g.W.Write.contents c.args.out.now) (g.W.Write.contents c.write_totals.new.out) (total_lines names c.in_ok-gathered.gathered.totals.items) = search rules in
     then_ok c.outcome_of.result c.outcome_of.ensures.stored
-    (λ stored. serves g.M.Marker.origin _ _ _ _ _ c.in_ok-gathered.gathered _ _ c.in_ok-gathered.was sessions.sessions sessions.each
-    c.requires (length-map _ _) (subst (AreStored _ names) same stored) written)
+    (λ stored. serves g.C.Connect.bytes g.C.Connect.follows g.M.Marker.origin _ _ _ _ c.in_ok-gathered.gathered _ _ c.in_ok-gathered.was sessions.sessions sessions.each
+    c.requires (subst (AreStored _ names) same stored) written)
 
 pub returns-in-Ok-clause-copied : goal.returns-in-Ok-clause-copied
 returns-in-Ok-clause-copied g c =

@@ -12,7 +12,7 @@ pub returns-in-Ok-clause-served : goal.returns-in-Ok-clause-served
 returns-in-Ok-clause-served g c =
     let folded = c.in-Ok.ensures in
     let served = c.restore_and_serve-served.ensures in
-    serves_folded g.L.StoredLog c.args.begun.replica _ _ c.args.stored c.in-Ok.folded c.restore_and_serve-served.new.stored c.restore_and_serve-served.result c.end.result.served c.end.result.closed c.end.result.store _ _
+    serves_folded g.L.StoredLog g.C.Connect.bytes g.C.Connect.follows c.args.begun.replica _ _ c.args.stored c.in-Ok.folded c.restore_and_serve-served.new.stored c.restore_and_serve-served.result c.end.result.served c.end.result.closed c.end.result.store _ _
     c.end.ensures.served folded.same c.requires.works served.alone (folded.folded c.requires.works) served.served served.copied served.works c.end.ensures.held
 
 pub returns-in-Ok-clause-left : goal.returns-in-Ok-clause-left

@@ -4,7 +4,7 @@ use Rattle.served_log.proofs.stored.serve_stored.Goals as goal
 pub returns-in-Ok-clause-served : goal.returns-in-Ok-clause-served
 returns-in-Ok-clause-served g c =
     let ended = c.fold_and_serve.result in
-    serves_stored g.L.StoredLog _ _ c.args.stored c.next_replica_name.new.stored ended.served ended.closed ended.store _ _ c.in-Ok.ensures.raised c.next_replica_name.ensures.alone c.fold_and_serve.ensures.served
+    serves_stored g.L.StoredLog g.C.Connect.bytes g.C.Connect.follows _ _ c.args.stored c.next_replica_name.new.stored ended.served ended.closed ended.store _ _ c.in-Ok.ensures.raised c.next_replica_name.ensures.alone c.fold_and_serve.ensures.served
 
 pub returns-in-Ok-clause-left : goal.returns-in-Ok-clause-left
 returns-in-Ok-clause-left g c =

@@ -14,7 +14,7 @@ use std::sync::Wait;
 use std::test::Fail;
 use std::thread::Threads;
 use std::time::Clock;
-use tcp_server::{Entrance, connections};
+use tcp_server::{Admission, Entrance, connections};
 
 // What a server did: its status, what it wrote, and the replies to each client.
 #[derive(Drop)]
@@ -85,7 +85,13 @@ fn serve<R: Threads + Wait + Sync + Log + Clock>(
     let Ok(sessions) = u16::try_from(sessions) else {
         return Ok((2, Vec::new(alloc)));
     };
-    let entrance = Entrance::new(rt, listener, sessions);
+    let admission = Admission {
+        sessions,
+        stays: false,
+        patience: 30,
+        drain: 10,
+    };
+    let entrance = Entrance::new(rt, listener, admission);
     let all = connections(alloc, &entrance, sessions)?;
     let pace = Pace::Behind(4096);
     let served = serve_all(rt, alloc, "srv", documents, pace, all, new_list(alloc));

@@ -1,0 +1,290 @@
+/* Going on under a new name, where another has the old one: own operations that the server lacks are
+   made again.
+
+   Copies of one store have the same operations. So what was restored from a store is made again
+   under a name that is made of what it says: copies make the same of it, and the server has it once.
+   It is sent while it is made, one by one, since copies may go on in different ways: where one is
+   refused, another copy was first, and what follows gets a further name. What was edited since the
+   store was opened is nobody else's, unless it is a file, which may be copied meanwhile: it goes under
+   the new name of this replica. */
+
+import { Refused, refusalOf } from "./errors.mjs";
+import { operationsOf, reading } from "./followers.mjs";
+import { isArray, print } from "./json.mjs";
+import { nameOf } from "./names.mjs";
+import { covers, frontPairs, isId, keysOf, nextCounter } from "./operations.mjs";
+import { NAME_USED_TWICE } from "./protocol.mjs";
+
+/** @typedef {import("./exchange.mjs").Ask} Ask */
+/** @typedef {import("./exchange.mjs").Core} Core */
+/** @typedef {import("./operations.mjs").Id} Id */
+/** @typedef {import("./operations.mjs").Key} Key */
+/** @typedef {import("./operations.mjs").Operation} Operation */
+/** @typedef {import("./operations.mjs").Path} Path */
+/** @typedef {import("./jcrdt.mjs").Engine} Engine */
+
+/** @typedef {object} Remade
+ *  @property {number} remade How many own operations were made again.
+ *  @property {string[]} lost The operations that couldn't be.
+ *  @property {string[]} melted Own insertions that the server already has, and that another of this
+ *    name may have made there: their elements are one. */
+
+/** @typedef {object} How
+ *  @property {string} name The new one.
+ *  @property {number} forked From this counter on others have the ids of own operations.
+ *  @property {number} sure Own insertions up to this counter are this replica's own.
+ *  @property {number} stored Copies of the store may have own operations up to this counter.
+ *  @property {Set<number>} strays Own operations that the server has logged behind another's.
+ *  @property {boolean} isRemade Whether own operations that the server lacks are made again.
+ *  @property {boolean} maySend Whether the server may take what is made again. */
+
+/** A log under way from one name to another. */
+export class Remaking {
+  /** Whether the server takes what is made again, as far as is known. */
+  maySend;
+  /** @type {Map<string, Id>} Of own operations: as they were, and as they are now. */
+  #ids = new Map();
+  /** @type {string[]} */
+  #lost = [];
+  /** @type {string[]} */
+  #melted = [];
+  /** @type {Map<string, number>} Of a replica: the last of its operations that are the same here
+   *  and there. */
+  #good = new Map();
+  /** @type {Map<string, number>} Of the names under which something was made again: the last one. */
+  #made = new Map();
+  /** @type {Map<string, {counter: number, need: number}[]>} Of a replica: from which of its
+   *  operations on they depend on more of the old name than is the same here and there. */
+  #needs = new Map();
+  /** @type {Map<string, number>} What was seen of the old log. */
+  #seen = new Map();
+  /** @type {Operation[]} What the server is to log next. */
+  #due = [];
+  #shared = ""; // the name under which copies make the same
+  #isForked = false;
+  #core;
+  #scratch;
+  #how;
+
+  /** @param {Core} core
+   *  @param {Engine} scratch It has what the server has.
+   *  @param {How} how */
+  constructor(core, scratch, how) {
+    this.#core = core;
+    this.#scratch = scratch;
+    this.#how = how;
+    this.maySend = how.maySend;
+  }
+
+  free() { this.#scratch.free(); }
+
+  /** Takes what the server has, in log order.
+   *  @param {any} op */
+  begin(op) {
+    refusalOf(() => this.#scratch.ask(["deliver", op]).reply);
+  }
+
+  /** Makes again what copies of the store may have, too, and has the server log it. Returns whether
+   *  it has; else the server has something that isn't known here.
+   *  @param {Ask} ask
+   *  @returns {Promise<boolean>} */
+  async send(ask) {
+    if (this.#how.stored === 0) return true;
+    for (const op of this.#rest()) {
+      this.#take(op);
+      const last = this.#due[this.#due.length - 1];
+      if (last?.[1][1] === this.#shared && !(await this.#isLogged(ask))) return false;
+    }
+    return true;
+  }
+
+  /** Takes the rest of the old log, and returns the lines to go on with: the server's, those of
+   *  others that it lacks, and own ones, made again.
+   *  @returns {Remade & {lines: string[], ids: Map<string, Id>}} */
+  run() {
+    for (const op of this.#rest()) this.#take(op);
+    const lines = [...operationsOf(reading(this.#scratch), [])].map(print);
+    const [ids, lost, melted] = [this.#ids, this.#lost, this.#melted];
+    return { remade: ids.size, lost, melted, lines, ids };
+  }
+
+  /** What wasn't seen of the old log. */
+  *#rest() {
+    for (const op of operationsOf(this.#core.read, this.#seen)) {
+      this.#seen.set(op[1][1], op[1][0]);
+      yield op;
+    }
+  }
+
+  /** @param {Operation} op */
+  #take(op) {
+    if (op[1][1] === this.#core.name()) this.#takeOwn(op);
+    else this.#takeOther(op);
+  }
+
+  /** Whether the server has logged what is due. One at a time: where another copy has gone on in
+   *  another way, nothing may go behind its operations.
+   *  @param {Ask} ask */
+  async #isLogged(ask) {
+    for (const op of this.#due.splice(0)) {
+      /** @type {unknown} */
+      const reply = await ask("deliver", op).catch((error) => error);
+      if (reply instanceof Refused) {
+        this.maySend &&= NAME_USED_TWICE.has(reply.number);
+        return false;
+      }
+      if (reply instanceof Error) throw reply;
+      if (!isArray(reply)) continue;
+      await ask("forget", op[1]); // it is held: the server lacks what it had before
+      return false;
+    }
+    return true;
+  }
+
+  /** @param {Operation} op */
+  #deliver(op) {
+    const reply = refusalOf(() => this.#scratch.ask(["deliver", op]).reply);
+    const [word] = reply instanceof Refused ? reply.reply : reply;
+    if (word === "held") this.#scratch.ask(["forget", op[1]]);
+    return word;
+  }
+
+  /** @param {Operation} op */
+  #takeOther(op) {
+    const [counter, replica] = op[1];
+    const word = this.#deliver(op);
+    if (word === "applied") this.#due.push(op);
+    if (word !== "applied" && word !== "known") return void this.#lost.push(print(op));
+    this.#good.set(replica, counter);
+    this.#noteNeed(op);
+  }
+
+  /** @param {Operation} op */
+  #takeOwn(op) {
+    const [, [counter, replica], , , [word]] = op;
+    const { forked, sure, isRemade } = this.#how;
+    if (!this.#isForked && counter < forked && this.#isThere(op) && !this.#isOfAnother(op)) {
+      this.#good.set(replica, counter);
+      if (word === "insert" && counter > sure) this.#melted.push(print(op));
+      return;
+    }
+    this.#isForked = true;
+    if (this.#how.strays.has(counter) && this.#isThere(op)) {
+      this.#ids.set(String(op[1]), op[1]);
+      return void this.#made.set(replica, counter);
+    }
+    const id = isRemade && (this.#madeShared(op) ?? this.#madeOwn(op));
+    if (id) this.#ids.set(String(op[1]), id);
+    else this.#lost.push(print(op));
+  }
+
+  /** Whether the server has the very same operation.
+   *  @param {Operation} op */
+  #isThere(op) {
+    const front = new Map(this.#scratch.ask(["front"]).reply[1]);
+    return covers(front, op[1]) && this.#deliver(op) === "known";
+  }
+
+  /** Whether it inserts an element that another of this name inserted alike: at the server something
+   *  else is put into it at once, as another title into a new card.
+   *  @param {Operation} op */
+  #isOfAnother([, id, , , [word]]) {
+    if (word !== "insert") return false;
+    const [counter, own] = id;
+    const front = new Map(this.#core.front()).set(own, counter);
+    const [next] = operationsOf(this.#core.read, front);
+    if (!next || !next[3][0].some(([, key]) => String(key) === String(id))) return false;
+    const theirs = new Map(this.#scratch.ask(["front"]).reply[1]);
+    return covers(theirs, next[1]) && !this.#isThere(next);
+  }
+
+  /** Makes it again as each copy of the store does, where copies may have it.
+   *  @param {Operation} op
+   *  @returns {Id | undefined} */
+  #madeShared(op) {
+    if (op[1][0] > this.#how.stored || this.#made.has(this.#how.name)) return undefined;
+    if (!this.#isMakeable(op)) return undefined;
+    const session = this.#core.sessionOf(op[1][0]);
+    const what = [op[1], this.#renamed(op, "")];
+    const fresh = nameOf("again", print(session === "" ? what : [...what, session]));
+    for (const name of [this.#shared, fresh]) {
+      if (name === "") continue;
+      const again = this.#renamed(op, name);
+      const isThere = this.#isThere(again);
+      if (!isThere && !(this.maySend && this.#deliver(again) === "applied")) continue;
+      if (!isThere) this.#due.push(again);
+      this.#shared = name;
+      return this.#noted(again);
+    }
+    return undefined;
+  }
+
+  /** Makes it again under the new name.
+   *  @param {Operation} op
+   *  @returns {Id | undefined} */
+  #madeOwn(op) {
+    if (!this.#isMakeable(op)) return undefined;
+    const again = this.#renamed(op, this.#how.name);
+    return this.#deliver(again) === "applied" ? this.#noted(again) : undefined;
+  }
+
+  /** @param {Operation} op */
+  #noted(op) {
+    const [, id] = op;
+    this.#made.set(id[1], id[0]);
+    this.#noteNeed(op);
+    return id;
+  }
+
+  /** Notes what is needed of the old name by who depends on an operation.
+   *  @param {Operation} op */
+  #noteNeed([, [counter, replica], front]) {
+    const own = this.#core.name();
+    const need = front.find(([name]) => name === own)?.[1] ?? 0;
+    if (need <= (this.#good.get(own) ?? 0)) return;
+    const needs = this.#needs.get(replica) ?? [];
+    this.#needs.set(replica, needs);
+    if (needs[needs.length - 1]?.need !== need) needs.push({ counter, need });
+  }
+
+  /** What is needed of the old name by who depends on all of these.
+   *  @param {Map<string, number>} front */
+  #needOf(front) {
+    let most = 0;
+    for (const [replica, last] of front) {
+      for (const { counter, need } of this.#needs.get(replica) ?? []) {
+        if (counter <= last) most = Math.max(most, need);
+      }
+    }
+    return most;
+  }
+
+  /** Whether each element that an operation is about is there.
+   *  @param {Operation} op */
+  #isMakeable([, , , cursor]) {
+    const ids = keysOf(cursor).filter(isId);
+    return ids.every((id) => this.#ids.has(String(id)) || covers(this.#good, id));
+  }
+
+  /** The operation under another name, with what it knew.
+   *  @param {Operation} op
+   *  @param {string} name
+   *  @returns {Operation} */
+  #renamed([, , front, [path, key], mutation], name) {
+    const known = new Map(front);
+    /** @type {Map<string, number>} */
+    const last = new Map(this.#made);
+    for (const [replica, good] of this.#good) {
+      const counter = Math.min(good, known.get(replica) ?? 0);
+      if (counter > (last.get(replica) ?? 0)) last.set(replica, counter);
+    }
+    const [own, need] = [this.#core.name(), this.#needOf(last)];
+    if (need > (last.get(own) ?? 0)) last.set(own, need); // that of another who has the name
+    const all = frontPairs(last);
+    /** @param {Key} it @returns {Key} */
+    const now = (it) => (isId(it) ? this.#ids.get(String(it)) ?? it : it);
+    /** @type {Path} */
+    const where = path.map(([tag, it]) => [tag, now(it)]);
+    return ["op", [nextCounter(all), name], all, [where, now(key)], mutation];
+  }
+}

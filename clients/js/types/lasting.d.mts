@@ -1,0 +1,22 @@
+export function reserve(): void;
+/** @implements {Engine} */
+export class LastingEngine implements Engine {
+    /** Throws Refused for a line that doesn't fit.
+     *  @param {Open} open
+     *  @param {string} name
+     *  @param {string[]} [lines] */
+    constructor(open: Open, name: string, lines?: string[] | undefined);
+    /** Answers a request. Throws Broken where the engine stops within: then nothing was changed, and
+     *  the next call finds one that was opened again. What was held is gone then.
+     *  @param {any[]} request
+     *  @returns {Answer} */
+    ask(request: any[]): Answer;
+    /** Is to be called with each operation that was logged.
+     *  @param {string} line */
+    logged(line: string): void;
+    free(): void;
+    #private;
+}
+export type Answer = import("./jcrdt.mjs").Answer;
+export type Engine = import("./jcrdt.mjs").Engine;
+export type Open = import("./jcrdt.mjs").Open;

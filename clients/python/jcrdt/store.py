@@ -1,0 +1,254 @@
+"""A replica's operations in a file: a line for the names, then one for each operation, as those of JavaScript's `fileStore`.
+
+    with Store("my.notes", "notes") as store, Replica.stored(store) as me:
+        me.put([0, "title"], "Plan")
+        me.save()               # returns once it is on disk
+
+One store at a time has a file, whatever name or link leads there: a second one raises Busy, in this process or in another. The
+system gives the lock back when the process ends, also by a kill. A program in JavaScript doesn't see this lock, nor this one that.
+"""
+
+import contextlib
+import fcntl
+import json
+import os
+import secrets
+import stat
+import threading
+import weakref
+from typing import List, NamedTuple, Optional, Sequence, Tuple
+
+from .replaced_file import sync_folder
+from .wire import NAME, encoded
+
+HEAD = b'["replica","'
+# How a line begins by which a program in JavaScript says that it opened the file, and edited.
+SESSION = '["session",'
+
+
+class Busy(OSError):
+    """Another program, or another part of this one, has the store open. Nothing was changed."""
+
+
+class Parts(NamedTuple):
+    """What a file has: the names of replica and document, the lines of operations, others, and the size of all in bytes. A last
+    line without an end was cut off in writing: it was never sent, and is in none."""
+
+    name: Optional[str]
+    document: Optional[str]
+    lines: List[str]
+    unread: List[str]
+    size: int
+
+
+class Store:
+    """The file of a replica, locked. `name` is the replica's, which this store alone has while it is open. `lines` are the
+    operations that it had when it was opened, and `unread` other lines. Threads may share it. After a fork it is the parent's."""
+
+    def __init__(self, path: str, document: str, word: str = "replica") -> None:
+        """Opens the store at a path, and makes it where there is none: then `word` and a random part are the replica's name. A last
+        line that was cut off in writing is cut. Raises Busy; OSError; and ValueError for what is no such file, or of another
+        document, which stays as it is."""
+        self.path, self.document = os.path.realpath(path), document
+        self._lock, self._process = threading.RLock(), os.getpid()
+        self._file = _locked(self.path)
+        self._size, self._has_more = 0, False
+        _STORES.add(self)
+        try:
+            self._read(word)
+        except BaseException:
+            self.close()
+            raise
+
+    def __enter__(self) -> "Store":
+        return self
+
+    def __exit__(self, *_error: object) -> None:
+        self.close()
+
+    def _read(self, word: str) -> None:
+        found = parts_of(_all_of(self._file))
+        if found is None:
+            raise ValueError(f"{self.path} is no file of a replica")
+        if found.name is not None and found.document != self.document:
+            raise ValueError(f"{self.path} has the document {found.document}, not {self.document}")
+        self.name = found.name or fresh_name(word)
+        self.lines, self.unread = found.lines, found.unread
+        if found.name is None:
+            self.replace(self.name, self.lines)
+        else:
+            self._size, self._has_more = found.size, True
+            self._cut()
+
+    def __del__(self) -> None:
+        if hasattr(self, "_file"):
+            self.close()
+
+    def close(self) -> None:
+        """Lets others open it. A second call does nothing, and so does one in another process."""
+        if self._process != os.getpid():
+            return
+        with self._lock:
+            if self._file >= 0:
+                _give_back(self._file)
+                self._file = -1
+
+    def _check(self) -> None:
+        if self._process != os.getpid():
+            raise Busy(f"{self.path}: another process opened this store, and has it")
+        if self._file < 0:
+            raise ValueError(f"{self.path}: this store is closed")
+
+    def append(self, lines: Sequence[str]) -> None:
+        """Stores operations behind the others, and returns once they survive a power cut. Where it raises, none is stored."""
+        self._check()
+        with self._lock:
+            self._check()
+            self._cut()
+            data = "".join(f"{line}\n" for line in lines).encode()
+            self._has_more = True
+            try:
+                _write_all(self._file, data, self._size)
+                os.fdatasync(self._file)
+            except BaseException:
+                self._cut()
+                raise
+            self._size, self._has_more = self._size + len(data), False
+
+    def _cut(self) -> None:
+        """Removes what is behind the whole lines."""
+        if self._has_more:
+            os.ftruncate(self._file, self._size)
+        self._has_more = False
+
+    def replace(self, name: str, lines: Sequence[str]) -> None:
+        """Goes on under another name, with these lines in place of all: whole or not at all. What was there stays as PATH.old, or
+        PATH.old-2 and so on."""
+        self._check()
+        data = b"".join([encoded(["replica", name, self.document]), b"\n", *(f"{line}\n".encode() for line in lines)])
+        with self._lock:
+            new = os.open(f"{self.path}.new", os.O_RDWR | os.O_CREAT | os.O_TRUNC | os.O_CLOEXEC, 0o666)
+            try:
+                fcntl.flock(new, fcntl.LOCK_EX | fcntl.LOCK_NB)
+                os.fchmod(new, stat.S_IMODE(os.fstat(self._file).st_mode))
+                _write_all(new, data, 0)
+                os.fsync(new)
+                if os.fstat(self._file).st_size:
+                    _keep_old(self.path)
+                os.rename(f"{self.path}.new", self.path)
+            except BaseException:
+                os.close(new)
+                with contextlib.suppress(FileNotFoundError):
+                    os.remove(f"{self.path}.new")
+                raise
+            _give_back(self._file)
+            self._file, self._size, self._has_more = new, len(data), False
+            self.name = name
+            sync_folder(os.path.dirname(self.path))
+
+
+# The stores of this process.
+_STORES: "weakref.WeakSet[Store]" = weakref.WeakSet()
+
+
+def _leave_to_parent() -> None:
+    """Closes the files of stores in a child that has forked: so the lock ends with the parent."""
+    for store in list(_STORES):
+        with contextlib.suppress(OSError):
+            os.close(store._file)
+        store._file = -1
+
+
+os.register_at_fork(after_in_child=_leave_to_parent)
+
+
+def fresh_name(word: str) -> str:
+    """A name that no replica had: the word, as far as there is room for it, and a random part."""
+    name = f"{word[:15]}-{secrets.token_hex(8)}"
+    if not NAME.match(name):
+        raise ValueError(f"{word!r} can't begin the name of a replica: a-z, 0-9, -")
+    return name
+
+
+def parts_of(data: bytes) -> Optional[Parts]:
+    """The parts of a file, None for what is no file of a replica."""
+    size = data.rfind(b"\n") + 1
+    first, *rest = data[:size].decode(errors="replace").split("\n")
+    name, document = _head_of(first)
+    found = [line for line in (rest if name else [first, *rest]) if line and not line.startswith(SESSION)]
+    lines = [line for line in found if _is_operation(line)]
+    # The first line may have been cut off, too.
+    if not name and not lines and (size or not HEAD.startswith(data[:len(HEAD)])):
+        return None
+    return Parts(name, document, lines, [line for line in found if not _is_operation(line)], size)
+
+
+def _head_of(line: str) -> Tuple[Optional[str], Optional[str]]:
+    """The names of replica and document in a first line."""
+    value = _value_of(line)
+    if isinstance(value, list) and len(value) == 3 and value[0] == "replica" and all(isinstance(it, str) for it in value):
+        return value[1], value[2]
+    return None, None
+
+
+def _is_operation(line: str) -> bool:
+    return line.startswith('["op",') and _value_of(line) is not None
+
+
+def _value_of(line: str) -> object:
+    try:
+        value: object = json.loads(line)
+        return value
+    except (ValueError, RecursionError):
+        return None
+
+
+def _locked(path: str) -> int:
+    """Opens a file, which is made where there is none, and locks it. Raises Busy."""
+    while True:
+        file = os.open(path, os.O_RDWR | os.O_CREAT | os.O_CLOEXEC, 0o666)
+        try:
+            fcntl.flock(file, fcntl.LOCK_EX | fcntl.LOCK_NB)
+            if os.path.samestat(os.fstat(file), os.stat(path)):
+                return file
+        except BlockingIOError:
+            os.close(file)
+            raise Busy(f"{path}: another program has this store open") from None
+        except FileNotFoundError:
+            pass
+        # Another one is in its place by now.
+        os.close(file)
+
+
+def _give_back(file: int) -> None:
+    """Unlocks and closes a file. A process that was forked without Python may have it open still, so closing isn't enough."""
+    fcntl.flock(file, fcntl.LOCK_UN)
+    os.close(file)
+
+
+def _all_of(file: int) -> bytes:
+    pieces = []
+    at = 0
+    while piece := os.pread(file, 1 << 20, at):
+        pieces.append(piece)
+        at += len(piece)
+    return b"".join(pieces)
+
+
+def _write_all(file: int, data: bytes, at: int) -> None:
+    """A disk that is nearly full takes a part at first."""
+    view = memoryview(data)
+    while view:
+        count = os.pwrite(file, view, at)
+        view, at = view[count:], at + count
+
+
+def _keep_old(path: str) -> None:
+    """Gives a file a further name."""
+    number = 1
+    while True:
+        try:
+            os.link(path, f"{path}.old" if number == 1 else f"{path}.old-{number}")
+            return
+        except FileExistsError:
+            number += 1

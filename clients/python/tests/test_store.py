@@ -1,0 +1,270 @@
+"""A replica's store in a file: opened twice, by threads, through a link, behind a fork; full, torn, damaged and replaced."""
+
+import os
+import resource
+import subprocess
+import sys
+import threading
+from pathlib import Path
+from typing import Any, List
+
+import pytest
+
+from conftest import PACKAGE, SECONDS
+from test_session import forked
+
+from jcrdt import replica as replica_module
+from jcrdt.replica import Replica
+from jcrdt.store import Busy, Store
+
+FIRST = '["op",[1,"ada-1"],[],[[["m",0]],"t"],["assign","Plan"]]'
+SECOND = '["op",[2,"ada-1"],[["ada-1",1]],[[["m",0]],"t"],["assign","Plan B"]]'
+THIRD = '["op",[3,"ada-1"],[["ada-1",2]],[[["m",0]],"u"],["assign",1]]'
+HEAD = '["replica","ada-1","notes"]'
+NOTES = PACKAGE.parent.parent / "examples/notes.py"
+
+needs_library = pytest.mark.skipif(not any(map(os.path.isfile, replica_module.library_paths())), reason="libjcrdt.so isn't here")
+
+
+def file_of(folder: Path, *lines: str, end: str = "\n") -> Path:
+    path = folder / "notes"
+    path.write_text("\n".join(lines) + end, encoding="utf-8")
+    return path
+
+
+def opened(path: Any, document: str = "notes") -> Store:
+    return Store(str(path), document, "ada")
+
+
+def test_what_is_appended_is_there_at_the_next_start(tmp_path: Path) -> None:
+    with opened(tmp_path / "notes") as store:
+        name = store.name
+        assert name.startswith("ada-") and store.lines == []
+        store.append([FIRST])
+        store.append([SECOND, THIRD])
+    with opened(tmp_path / "notes") as store:
+        assert (store.name, store.lines, store.unread) == (name, [FIRST, SECOND, THIRD], [])
+    assert os.listdir(tmp_path) == ["notes"]
+
+
+def test_a_second_store_of_one_file_is_busy_and_named(tmp_path: Path) -> None:
+    path = tmp_path / "notes"
+    link = tmp_path / "link"
+    os.symlink("notes", link)
+    words = [sys.executable, "-c", "import sys; from jcrdt.store import Store, Busy\n"
+             "try: Store(sys.argv[1], 'notes')\nexcept Busy as error: print(error)", str(link)]
+    with opened(path):
+        for other in (path, link):
+            with pytest.raises(Busy, match=f"^{path}: another program has this store open"):
+                opened(other)
+        told = subprocess.run(words, stdout=subprocess.PIPE, text=True, check=True, timeout=SECONDS, env={**os.environ, "PYTHONPATH": str(PACKAGE)})
+        assert told.stdout == f"{path}: another program has this store open\n"
+        found: List[str] = []
+
+        def in_thread() -> None:
+            with pytest.raises(Busy) as busy:
+                opened(link)
+            found.append(str(busy.value))
+
+        thread = threading.Thread(target=in_thread)
+        thread.start()
+        thread.join()
+        assert found == [f"{path}: another program has this store open"]
+    with opened(link):
+        pass
+
+
+def test_a_replaced_file_stays_locked_and_a_link_stays_a_link(tmp_path: Path) -> None:
+    path, link = file_of(tmp_path, HEAD, FIRST), tmp_path / "link"
+    os.symlink("notes", link)
+    os.chmod(path, 0o640)
+    with opened(link) as store:
+        store.replace("ada-2", [FIRST])
+        with pytest.raises(Busy):
+            opened(path)
+        store.append([SECOND])
+        store.replace("ada-3", [])
+    assert link.is_symlink() and path.stat().st_mode & 0o777 == 0o640
+    assert path.read_text() == '["replica","ada-3","notes"]\n'
+    assert (tmp_path / "notes.old").read_text() == f"{HEAD}\n{FIRST}\n"
+    assert (tmp_path / "notes.old-2").read_text() == f'["replica","ada-2","notes"]\n{FIRST}\n{SECOND}\n'
+
+
+def test_a_fork_leaves_the_store_to_the_parent(tmp_path: Path) -> None:
+    path = tmp_path / "notes"
+    store = opened(path)
+    assert forked(lambda: store.append([FIRST])).startswith("Busy(")
+    assert forked(lambda: opened(path)).startswith("Busy(")
+    assert forked(store.close) == "None"
+    store.append([FIRST])
+    reader, writer = os.pipe()
+    child = os.fork()
+    if child == 0:
+        os.close(writer)
+        os.read(reader, 1)
+        os._exit(0)
+    # A child that goes on doesn't keep the parent's lock.
+    store.close()
+    with opened(path) as again:
+        assert again.lines == [FIRST]
+    os.close(writer)
+    os.waitpid(child, 0)
+    os.close(reader)
+
+
+def test_a_killed_program_leaves_no_lock(tmp_path: Path) -> None:
+    words = [sys.executable, "-c", "import sys, time; from jcrdt.store import Store\nstore = Store(sys.argv[1], 'notes')\n"
+             "print('open', flush=True)\ntime.sleep(600)", str(tmp_path / "notes")]
+    with subprocess.Popen(words, stdout=subprocess.PIPE, env={**os.environ, "PYTHONPATH": str(PACKAGE)}) as child:
+        assert child.stdout is not None and child.stdout.readline() == b"open\n"
+        with pytest.raises(Busy):
+            opened(tmp_path / "notes")
+        child.kill()
+        child.wait()
+        opened(tmp_path / "notes").close()
+
+
+@pytest.mark.parametrize("torn", ['["op",[2,"ada', SECOND, "\xe4"])
+def test_a_last_line_that_was_cut_off_is_cut(tmp_path: Path, torn: str) -> None:
+    path = file_of(tmp_path, HEAD, FIRST, torn, end="")
+    with opened(path) as store:
+        assert (store.lines, store.unread) == ([FIRST], [])
+        store.append([SECOND])
+    assert path.read_text() == f"{HEAD}\n{FIRST}\n{SECOND}\n"
+
+
+def test_a_first_line_that_was_cut_off(tmp_path: Path) -> None:
+    for torn in ("", "[", '["replica","ada'):
+        path = file_of(tmp_path, torn, end="")
+        opened(path).close()
+        assert path.read_text().startswith('["replica","ada-')
+
+
+def test_a_file_of_something_else_stays_as_it_is(tmp_path: Path) -> None:
+    for text in ("Dear Grace,\nhow are you?\n", "Dear Grace", "[1]\n"):
+        path = file_of(tmp_path, text, end="")
+        with pytest.raises(ValueError, match="is no file of a replica"):
+            opened(path)
+        assert path.read_text() == text
+    path = file_of(tmp_path, HEAD, FIRST)
+    with pytest.raises(ValueError, match="has the document notes, not other"):
+        opened(path, "other")
+    opened(path).close()
+
+
+def test_a_disk_that_is_full_for_a_moment(tmp_path: Path) -> None:
+    """A limit of the file's size stands for the disk: a part is written, and then none."""
+    path = file_of(tmp_path, HEAD, FIRST)
+    with opened(path) as store:
+        before, limits = path.read_text(), resource.getrlimit(resource.RLIMIT_FSIZE)
+        resource.setrlimit(resource.RLIMIT_FSIZE, (len(before) + 10, limits[1]))
+        try:
+            with pytest.raises(OSError):
+                store.append([SECOND])
+        finally:
+            resource.setrlimit(resource.RLIMIT_FSIZE, limits)
+        assert path.read_text() == before
+        store.append([SECOND])
+    assert path.read_text() == f"{before}{SECOND}\n"
+
+
+@needs_library
+def test_two_threads_save_and_the_store_opens_again(tmp_path: Path) -> None:
+    for turn in range(3):
+        with opened(tmp_path / f"notes-{turn}") as store, Replica.stored(store) as me:
+            me.put([0, "list"], [])
+
+            def work(name: str, me: Replica = me) -> None:
+                for number in range(100):
+                    me.insert([0, "list", 0], f"{name}-{number}")
+                    me.save()
+
+            threads = [threading.Thread(target=work, args=(name,)) for name in ("a", "b")]
+            for thread in threads:
+                thread.start()
+            for thread in threads:
+                thread.join()
+            lines, name = me.lines(), me.name
+        with opened(tmp_path / f"notes-{turn}") as store, Replica.stored(store) as me:
+            assert (store.lines, me.unread, me.name) == (lines, [], name)
+            assert len(me.plain([0, "list"])) == 200
+
+
+@needs_library
+def test_lines_in_another_order_or_twice_are_taken(tmp_path: Path) -> None:
+    """As by two threads that each stored what `logged` gave."""
+    path = file_of(tmp_path, HEAD, THIRD, SECOND, SECOND, FIRST)
+    with opened(path) as store, Replica.stored(store) as me:
+        assert (me.name, me.unread, me.plain()) == ("ada-1", [], {"t": "Plan B", "u": 1})
+        me.assign([0, "v"], 2)
+        me.save()
+    with opened(path) as store:
+        assert store.lines[:3] == [FIRST, SECOND, THIRD] and len(store.lines) == 4
+
+
+@needs_library
+def test_many_lines_in_reverse_order_are_taken(tmp_path: Path) -> None:
+    with Replica("ada-1") as made:
+        made.put([0, "list"], list(range(700)))
+        lines = made.lines()
+    path = file_of(tmp_path, HEAD, *reversed(lines))
+    with opened(path) as store, Replica.stored(store) as me:
+        assert (me.unread, me.plain([0, "list"])) == ([], list(range(700)))
+
+
+@needs_library
+@pytest.mark.parametrize("damaged", [SECOND.replace('"Plan B"', '"Plan B'), SECOND.replace("assign", "assume"), FIRST.replace("Plan", "Other")])
+def test_a_damaged_line_is_kept_and_said(tmp_path: Path, damaged: str) -> None:
+    path = file_of(tmp_path, HEAD, FIRST, damaged, THIRD)
+    text = path.read_text()
+    with opened(path) as store, Replica.stored(store) as me:
+        assert sorted(me.unread) == sorted([damaged, THIRD])
+        assert me.plain() == {"t": "Plan"}
+        assert me.name != "ada-1"
+        me.assign([0, "v"], 2)
+        me.save()
+    assert (tmp_path / "notes.old").read_text() == text
+    with opened(path) as store, Replica.stored(store) as me:
+        assert (me.unread, me.plain()) == ([], {"t": "Plan", "v": 2})
+
+
+@needs_library
+def test_what_can_not_be_stored_is_stored_later(tmp_path: Path) -> None:
+    with opened(tmp_path / "notes") as store, Replica.stored(store) as me:
+        me.assign([0, "a"], 1)
+        limits = resource.getrlimit(resource.RLIMIT_FSIZE)
+        resource.setrlimit(resource.RLIMIT_FSIZE, ((tmp_path / "notes").stat().st_size, limits[1]))
+        try:
+            with pytest.raises(OSError):
+                me.save()
+        finally:
+            resource.setrlimit(resource.RLIMIT_FSIZE, limits)
+        me.assign([0, "b"], 2)
+        me.save()
+        me.save()
+        lines = me.lines()
+    with opened(tmp_path / "notes") as store:
+        assert store.lines == lines
+    with Replica("ada-1") as bare, pytest.raises(ValueError, match="has no store"):
+        bare.save()
+
+
+@needs_library
+def test_the_end_of_with_saves(tmp_path: Path) -> None:
+    with pytest.raises(KeyError), opened(tmp_path / "notes") as store, Replica.stored(store) as me:
+        me.assign([0, "a"], 1)
+        raise KeyError
+    with opened(tmp_path / "notes") as store, Replica.stored(store) as me:
+        assert me.plain() == {"a": 1}
+
+
+@needs_library
+def test_three_programs_at_once_lose_no_note(tmp_path: Path) -> None:
+    def notes(*words: str) -> "subprocess.Popen[str]":
+        return subprocess.Popen([sys.executable, NOTES, str(tmp_path / "notes"), *words], stdout=subprocess.PIPE, text=True)
+
+    for turn in range(4):
+        programs = [notes("add", f"{turn}-{number}") for number in range(3)]
+        assert [it.communicate(timeout=SECONDS) and it.returncode for it in programs] == [0, 0, 0]
+    shown = notes().communicate(timeout=SECONDS)[0]
+    assert len(shown.splitlines()) == 12
