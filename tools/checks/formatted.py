@@ -1,4 +1,4 @@
-"""Each crate's sources are as `rt fmt` writes them: the gate refuses a crate whose text isn't.
+"""Each crate's sources are as `rt fmt` writes them, and nothing is a link: the gate refuses both before it proves anything.
 
 `rt fmt` runs over a copy, several crates at a time, so nothing in the tree changes. It needs the kit. Where there is none it is skipped,
 and a line says so; by itself, this check then has the status 77."""
@@ -46,16 +46,28 @@ def faults_of(top: str, room: str, name: str) -> List[str]:
             if not filecmp.cmp(f"{tree}/{it}", f"{copy}/{it}", shallow=False)]
 
 
+def links_of(top: str) -> List[str]:
+    """The links in a repository, but for what git keeps and what builds left."""
+    found = []
+    for at, folders, files in os.walk(top):
+        found += [os.path.relpath(f"{at}/{it}", top) for it in [*folders, *files] if os.path.islink(f"{at}/{it}")]
+        folders[:] = sorted(it for it in folders if it not in {".git", "out"})
+    return sorted(found)
+
+
 def check(words: argparse.Namespace) -> int:
+    links = [f"{it} is a link, and the gate takes none: put the file or folder itself there" for it in links_of(words.top)]
+    for fault in links:
+        print(fault)
     if missing("rt"):
         print(line_of("the layout of the crates", reason_of(["rt"])))
         if words.names == ["formatted"]:
-            raise SystemExit(SKIPPED)
-        return 0
+            raise SystemExit(1 if links else SKIPPED)
+        return len(links)
     with tempfile.TemporaryDirectory(prefix="jcrdt-formatted-") as room, concurrent.futures.ThreadPoolExecutor(len(os.sched_getaffinity(0))) as pool:
         names = copied(words.top, room)
         faults = [it for found in pool.map(lambda name: faults_of(words.top, room, name), names) for it in found]
     for fault in faults:
         print(fault)
-    print(f"{len(names)} crates, {len(faults)} faults")
-    return len(faults) if names else 1
+    print(f"{len(names)} crates, {len(links) + len(faults)} faults")
+    return len(links) + len(faults) if names else 1
