@@ -6,15 +6,18 @@ import os
 import random
 import socket
 import subprocess
+import tempfile
 import threading
 import time
 from types import TracebackType
-from typing import Callable, Counter, Dict, List, Optional, Sequence, Set, Type
+from typing import Callable, Counter, Dict, Iterator, List, Optional, Sequence, Set, Type
 
-from support import Differs, wait_until
+from support import Differs, Lacks, wait_until
 
 # For what a busy machine takes its time for.
 PATIENCE = 240.0
+# A small disk of so many bytes, of which a start takes some 200,000.
+SMALL_DISK = 1_500_000
 # Before a program that has ended is started again.
 PAUSE = 0.2
 
@@ -88,6 +91,18 @@ class SmallDisk:
     def free(self) -> None:
         with contextlib.suppress(FileNotFoundError):
             os.remove(f"{self.folder}/ballast")
+
+
+@contextlib.contextmanager
+def small_disk() -> Iterator[SmallDisk]:
+    """A small disk, mounted for this test."""
+    with tempfile.TemporaryDirectory(prefix="small-disk-") as folder:
+        if subprocess.run(["mount", "-t", "tmpfs", "-o", f"size={SMALL_DISK}", "tmpfs", folder], stderr=subprocess.DEVNULL, check=False).returncode:
+            raise Lacks("no mount here")
+        try:
+            yield SmallDisk(folder)
+        finally:
+            subprocess.run(["umount", "-l", folder], check=True)
 
 
 class Count:

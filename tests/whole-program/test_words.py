@@ -53,6 +53,7 @@ BAD_WORDS: List[Tuple[List[str], Optional[str]]] = [
     ([*SERVE, "--sessions", "1", "--backlog", "100001", "d"], '"100001" isn\'t a number of operations from 1 to 100000'),
     ([*SERVE, "--sessions", "1", "--durable", "--backlog", "x", "d"], '"x" isn\'t a number of operations from 1 to 100000'),
     ([*SERVE, "--sessions", "1", "--durable", "--durable", "d"], "the argument '--durable' cannot be used multiple times"),
+    ([*SERVE, "--sessions", "1", "--health"], "a value is required for '--health <health>' but none was supplied"),
     ([*SERVE, "--sessions", "1"], f"{LACKING}\n  <doc>..."),
     ([*SERVE, "--sessions", "1", "D"], f'the document\'s name "D" {DOCUMENT}'),
     (["check"], f"{LACKING}\n  --file <file>"),
@@ -65,6 +66,7 @@ NO_ROOM = "No space left on device (os error 28)"
 FAULTS = [
     (["serve", "--addr", "7001", "--sessions", "1", "--file", "a.db", "d"], f"cannot listen at 7001: invalid socket address; {ADDRESS}", os.devnull, os.devnull),
     (["serve", "--addr", "[::1]", "--sessions", "1", "--file", "b.db", "d"], f"cannot listen at [::1]: invalid port value; {ADDRESS}", os.devnull, os.devnull),
+    ([*SERVE, "--sessions", "1", "--health", "7002", "d"], f"cannot listen at 7002: invalid socket address; {ADDRESS}", os.devnull, os.devnull),
     ([*SERVE, "--sessions", "1", "d"], f"standard output failed: {NO_ROOM}", os.devnull, "/dev/full"),
     (["serve", "--addr", "127.0.0.1:0", "--sessions", "1", "--file", "no-such-folder/copy.db", "d"],
      f"cannot open no-such-folder/copy.db: {NO_FOLDER}", os.devnull, os.devnull),

@@ -3,7 +3,7 @@ the rows that are on disk, also while a server writes.
 
 usage: log FILE [--doc DOC] [--at N | --at FRONT]
        log FILE --front [--follow]
-       log --status FILE [--max-age SECONDS]
+       log --status FILE [--max-age SECONDS] [--health HOST:PORT]
 
 FILE is that of `serve --file`, or a link to it. It is read as a copy, with FILE-wal, and not changed: the
 folder for temporary files needs as much room as both. Without another word each line is an operation: its
@@ -15,7 +15,9 @@ place in the log, its id, what it does, and how many operations of others its ma
 --front        a line ["front",DOC,FRONT] for each document: these rows are on disk. With --follow, which a hub
                uses, the same again for each change, until nobody reads it; FILE may come later
 --status       how full each document is, for a monitor. Status 0: well. 1: nine tenths of a limit are reached,
-               or the last row is older than --max-age. 2: a document is full, or FILE can't be read
+               or the last row is older than --max-age. 2: a document is full, or FILE can't be read. With
+               --health, the address of `serve --health`, it says what the server has that isn't in FILE yet,
+               and the status is 2 where the server isn't well, or doesn't answer
 """
 
 import argparse
@@ -104,13 +106,14 @@ def parser() -> argparse.ArgumentParser:
     words.add_argument("--follow", action="store_true")
     words.add_argument("--status", action="store_true")
     words.add_argument("--max-age", type=float, metavar="SECONDS")
+    words.add_argument("--health", metavar="HOST:PORT")
     return words
 
 
 def main(arguments: Sequence[str]) -> int:
     asked = parser().parse_args(arguments)
     if asked.status:
-        code, lines = status(asked.file, asked.max_age)
+        code, lines = status(asked.file, asked.max_age, asked.health)
         print("\n".join(lines))
         return code
     if asked.front and asked.follow:

@@ -19,9 +19,11 @@ from typing import Any, Awaitable, Callable, Dict, List, Optional, Sequence, Set
 from .limits import SIGN_SECONDS
 from .link import Link, link_to
 from .notes import Notes
+from .pages import serve_pages
 from .operation_log import Known, Listener, Log, Source
 from .protocol import NAME_USED_TWICE
 from .pull import pull
+from .relay_health import pages
 from .troubles import Troubles
 from .wire import (Away, Front, Lost, Misbehaved, Refused, covers, decoded, decoded_reply, encoded, host_and_port,
                    is_integer, pairs_of, refusal)
@@ -309,13 +311,16 @@ class Member:
         self.relay, self.address = relay, address
         self.places: List[Place] = []
         self.sources = {log.name: Source() for log in relay.logs}
-        self.troubles = Troubles(relay.tell, relay.clock)
+        self.troubles: Troubles = Troubles(relay.tell, relay.clock)
+        # Whether there is a connection that works.
+        self.is_on: bool = False
         self._strikes, self._since = 0, 0.0
         self._is_new = True
 
     def is_connected(self) -> None:
         """To be called at a connection that works, and after each round. One that misbehaved is to do well
         for a while before that is said."""
+        self.is_on = True
         if self._strikes and self.relay.clock() - self._since < LEFT_OUT:
             return
         self._strikes = 0
@@ -349,7 +354,7 @@ class Member:
                 for place in self.places:
                     place.close()
                     self.relay.count_refused(place)
-                self.places = []
+                self.places, self.is_on = [], False
             await self.relay.sleep(pause)
 
     def _is_away(self, why: str) -> None:
@@ -416,7 +421,7 @@ class Relay:
         members are tried again, in seconds."""
         self.logs = [Log(name) for name in documents]
         self.every, self.tell, self.say, self.clock, self.sleep = every, tell, say, clock, sleep
-        self.troubles = Troubles(tell, clock)
+        self.troubles: Troubles = Troubles(tell, clock)
         self.members: List[Member] = [Server(self, address) for address in addresses]
         # For each server, document and number: how often it refused, and why.
         self._refused: Dict[Tuple[str, str, int], Tuple[int, Refused]] = {}
@@ -582,12 +587,16 @@ status: 0 all agreed at the end, 1 they didn't, 2 the command line is wrong""")
     parser.add_argument("--redis", metavar="URL", default=os.environ.get("JCRDT_REDIS"),
                         help="redis://[[USER]:PASSWORD@]HOST:PORT[/N], rediss://.. (TLS), unix://PATH, or HOST:PORT. Others "
                         "of this machine see it, but not the variable JCRDT_REDIS in its place")
+    parser.add_argument("--health", metavar="HOST:PORT", help="where monitors may ask for /health (200, or 503 with the cause) and "
+                        "/metrics; off if not given")
     parser.add_argument("--every", type=float, default=0.2, metavar="SECONDS",
                         help="how often each server is asked for news (0.2)")
     asked = parser.parse_args(words)
     try:
         for address in asked.servers:
             host_and_port(address)
+        if asked.health is not None:
+            host_and_port(asked.health)
         if not 0 < asked.every <= 3600:
             raise ValueError("--every takes seconds above 0, up to 3600")
         if len(set(asked.servers)) < len(asked.servers) or len(set(asked.documents)) < len(asked.documents):
@@ -610,12 +619,17 @@ def run(words: Optional[Sequence[str]] = None) -> int:
         if asked.redis:
             from . import redis_link
             relay.members.append(redis_link.Streams(relay, asked.redis))
+        if asked.health is not None:
+            await serve_pages(*host_and_port(asked.health), pages(relay))
         return await relay.run()
 
     loop = asyncio.new_event_loop()
     try:
         asyncio.set_event_loop(loop)
         good = loop.run_until_complete(keep())
+    except OSError as error:
+        errors.tell(f"relay: {asked.health}: {error.strerror or error}")
+        good = False
     finally:
         output.end(LAST_LINES)
         errors.end(LAST_LINES)

@@ -1,7 +1,7 @@
 """What is wrong with a member of a relay, by few lines: when it begins, each hour while it lasts, and when it has ended."""
 
 import time
-from typing import Callable, Dict, Optional
+from typing import Callable, Dict, List, Optional
 
 # How often what lasts is told again, and for how long lines of one cause are counted, in seconds.
 HOUR = 3600.0
@@ -20,6 +20,8 @@ class _Trouble:
         self.counted_since, self.count, self.left_out = now, 0, 0
         # Its end, if that wasn't told.
         self.unsaid: Optional[str] = None
+        # How it was told last, or would have been.
+        self.line = ""
 
 
 class Troubles:
@@ -37,11 +39,16 @@ class Troubles:
         if not trouble.is_there:
             trouble.is_there, trouble.since, trouble.unsaid = True, now, None
             trouble.told.clear()
+        trouble.line = line
         last = trouble.told.get(reason)
         if last is not None and now - last < HOUR:
             return
         if self._say(trouble, line if last is None else f"{line} (for {(now - trouble.since) / HOUR:.0f} h)"):
             trouble.told[reason] = now
+
+    def lasting(self) -> List[str]:
+        """The lines of what is wrong now."""
+        return [it.line for it in self._known.values() if it.is_there]
 
     def end(self, cause: str, line: Optional[str] = None) -> None:
         """To be called whenever all is well. Tells the line, if there is one, once for each trouble."""

@@ -1,6 +1,6 @@
 -- What the arguments of a command line ask for.
 use Rattle.std.specs.Prelude.{◌≡◌, ◌≤◌, ℕ, Bool, true, false, List, [], ◌∷◌, codes, map, Option, Some, None}
-use Rattle.std.specs.Prelude.{◌||◌, unwrap_or}
+use Rattle.std.specs.Prelude.{◌||◌, option_map, unwrap_or}
 use Rattle.std.specs.Str.{bytes_eq}
 use Rattle.std.specs.Str.Parse.{IsNumeral, digits_value, without_leading_plus}
 use Rattle.clap.specs.Words.{App, Row, Rule, Text, all_of, fault_of, first_of, found_of, matches_of}
@@ -97,22 +97,23 @@ abbrev pub run_of : RunArgs → Wanted
 run_of args = record { name = args.name.now; documents = map (λ s. s.now) args.documents.items }
 
 -- what a server is to be: its name, those of its documents, the address to listen at, on which
--- terms it has sessions, and when replies to changes go out
+-- terms it has sessions, when replies to changes go out, and where monitors may ask, if anywhere
 pub record WantedServer : Type 0 where
   pub name : Text
   pub documents : List Text
   pub address : Text
   pub terms : Terms
   pub pace : Pace
+  pub health : Option Text
 
 -- serve --addr A (--sessions N | --clients N) --file F [--name NAME] [--backlog M] [--durable]
--- [--patience S] [--until-input-ends] [--drain S] DOC..
+-- [--patience S] [--until-input-ends] [--drain S] [--health A] DOC..
 abbrev pub serve_command : App
 serve_command =
-    with_rule (with_rule (with_rule (with_rule (with_rule (with_rule (with_rule (with_rule (with_rule (with_rule (with_rule (new_app (codes "serve"))
+    with_rule (with_rule (with_rule (with_rule (with_rule (with_rule (with_rule (with_rule (with_rule (with_rule (with_rule (with_rule (new_app (codes "serve"))
     (required_rule (codes "addr"))) (required_rule (codes "file"))) (option_rule (codes "sessions"))) (option_rule (codes "clients")))
     (option_rule (codes "name"))) (option_rule (codes "backlog"))) (flag_rule (codes "durable"))) (option_rule (codes "patience")))
-    (flag_rule (codes "until-input-ends"))) (option_rule (codes "drain"))) document_rule
+    (flag_rule (codes "until-input-ends"))) (option_rule (codes "drain"))) (option_rule (codes "health"))) document_rule
 
 abbrev pub is_serve : List Text → Bool
 is_serve [] = false
@@ -145,6 +146,7 @@ pub record NamesServer (rows : List Row) (wanted : WantedServer) : Type 0 where
   pub at : wanted.address ≡ argument_of (codes "addr") rows
   pub terms : SaysTerms rows wanted.terms
   pub paced : SaysPace rows wanted.pace
+  pub watched : wanted.health ≡ first_of (codes "health") rows
   pub good : is_good wanted.name wanted.documents ≡ true
 
 -- the arguments are a `serve` that clap takes, and name this server
@@ -162,6 +164,7 @@ server_of args =
       address = args.address.now;
       terms = args.terms;
       pace = args.pace;
+      health = option_map (λ s. s.now) args.health;
     }
 
 -- check --file F

@@ -41,6 +41,8 @@ pub struct ServeArgs<'a> {
     pub pace: Pace,
     /// The file of the stored log.
     pub file: &'a str,
+    /// The address at which monitors may ask, if there is one.
+    pub health: Option<&'a str>,
 }
 
 /// What `check` is asked for.

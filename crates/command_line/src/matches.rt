@@ -84,7 +84,7 @@ fn begun_command<'a>(alloc: Global) -> Result<Command<'a>, AllocError>
 }
 
 // `serve --addr A (--sessions N | --clients N) --file F [--name NAME] [--backlog M] [--durable]
-// [--patience S] [--until-input-ends] [--drain S] DOC..`.
+// [--patience S] [--until-input-ends] [--drain S] [--health A] DOC..`.
 fn server_command<'a>(alloc: Global) -> Result<Command<'a>, AllocError>
     ensures { IfOk result (λ command. app_of command ≡ serve_command) }
 {
@@ -95,11 +95,13 @@ fn server_command<'a>(alloc: Global) -> Result<Command<'a>, AllocError>
         .arg(optional(alloc, "patience"))?
         .arg(flag(alloc, "until-input-ends"))?
         .arg(optional(alloc, "drain"))?
+        .arg(optional(alloc, "health"))?
         .arg(documents_argument(alloc))
 }
 
 /// What clap finds in the arguments of `serve --addr A (--sessions N | --clients N) --file F
-/// [--name NAME] [--backlog M] [--durable] [--patience S] [--until-input-ends] [--drain S] DOC..`.
+/// [--name NAME] [--backlog M] [--durable] [--patience S] [--until-input-ends] [--drain S]
+/// [--health A] DOC..`.
 pub(crate) fn serve_matches<'a>(alloc: Global, args: &'a [&'a str]) -> Result<ArgMatches<'a>, Error>
     ensures taken { IfOk result
         (λ m. fault_of serve_command (map (λ s. s.now) args.entry.now) ≡ []) }

@@ -159,12 +159,13 @@ fn serve_args<'a>(alloc: Global, matches: &ArgMatches<'a>) -> Result<ServeArgs<'
         terms,
         pace,
         file: argument_of(matches, "file"),
+        health: matches.get_str("health"),
     })
 }
 
 /// What the arguments ask `serve` for:
 /// `serve --addr A (--sessions N | --clients N) --file F [--name NAME] [--backlog M] [--durable]
-/// [--patience S] [--until-input-ends] [--drain S] DOC..`.
+/// [--patience S] [--until-input-ends] [--drain S] [--health A] DOC..`.
 pub fn parse_serve<'a>(alloc: Global, args: &'a [&'a str]) -> Result<ServeArgs<'a>, ArgsFault>
     ensures asked { IfOk result
         (λ it. AsksToServe (map (λ s. s.now) args.entry.now) (server_of it)) }

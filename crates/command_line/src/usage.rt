@@ -13,7 +13,7 @@ use std::alloc::{AllocError, Global};
 /// How the program is called.
 pub const USAGE: &str = "usage: jcrdt run [--name NAME] DOC..\n\
     \x20      jcrdt serve --addr A --clients N --file F [--name NAME] [--backlog M] [--durable]\n\
-    \x20            [--patience S] [--until-input-ends] [--drain S] DOC..\n\
+    \x20            [--patience S] [--until-input-ends] [--drain S] [--health A] DOC..\n\
     \x20      jcrdt serve --addr A --sessions N --file F ... DOC..\n\
     \x20      jcrdt check --file F\n\
     \x20 NAME: 1 to 24, DOC: 1 to 32 of a-z, 0-9 and -; 1 to 16 documents of different names\n\
@@ -25,6 +25,7 @@ pub const USAGE: &str = "usage: jcrdt run [--name NAME] DOC..\n\
     \x20 --until-input-ends: when standard input ends, sessions end and what they logged is stored\n\
     \x20 --patience S: 1 to 3600 seconds of silence before the first line and within one, and between\n\
     \x20   lines while others wait; 30 if not given. --drain S: seconds that sessions have to end; 10\n\
+    \x20 --health A: where monitors may ask for /health and /metrics by HTTP, beside all sessions\n\
     \x20 Lines of JSON in, lines of JSON out: see docs/FORMATS.md.";
 
 /// The program, its version as in the file VERSION, and the commit of the sources that it was

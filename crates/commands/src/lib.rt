@@ -3,6 +3,7 @@
 #![tactic(auto)]
 
 mod check;
+mod health;
 mod host;
 mod run;
 mod serve;

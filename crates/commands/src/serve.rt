@@ -4,14 +4,22 @@ ghost use Rattle.locked_doc.specs.Numbers.{greatest_number};
 ghost use Rattle.command_line.specs.CommandLine.{AsksToServe, WantedServer, is_serve};
 ghost use Rattle.commands.specs.Server.{ServesAt};
 
+use crate::health::Inspection;
 use crate::host::ServerHost;
 use command_line::{ArgsFault, NO_MEMORY, ServeArgs, Terms, parse_serve};
-use served_log::{Failure, Serving, Step, report_fault, serve_over};
+use served_log::{Failure, FileState, Serving, Step, report_fault, serve_over};
 use std::alloc::Global;
 use std::io;
 use std::rt::HostRuntime;
 use stored_log::{Fault, OpenLog, StoredFault, StoredLog};
-use tcp_server::{Admission, Entrance, MOST_SESSIONS, connections, drain_when_input_ends, listen};
+use tcp_server::{
+    Admission, Entrance, HttpListener, MOST_SESSIONS, connections, drain_when_input_ends, listen,
+    listen_for_monitors,
+};
+
+// An address can't be listened at.
+#[derive(Clone, Copy)]
+struct NotListening;
 
 // Reports on standard error why the stored log was not closed, if it was not. An error there
 // changes nothing.
@@ -75,6 +83,22 @@ fn seats_for(terms: &Terms) -> u16 {
     }
 }
 
+// Listens for monitors, if an address for them is asked for. It fails where that can't be listened
+// at; standard error says why.
+fn monitors_of<R: ServerHost>(
+    host: &HostRuntime,
+    rt: &R,
+    address: Option<&str>,
+) -> Result<Option<HttpListener>, NotListening> {
+    match address {
+        None => Ok(None),
+        Some(address) => match listen_for_monitors(host, rt, address) {
+            Some(listener) => Ok(Some(listener)),
+            None => Err(NotListening),
+        },
+    }
+}
+
 // Listens at the address that is asked for, writes where, and serves so many sessions from the
 // stored log, if it could be opened. It reports on standard error why it ended with status 1.
 fn listen_and_serve<R: ServerHost, L: StoredLog, W: io::Write>(
@@ -100,6 +124,10 @@ fn listen_and_serve<R: ServerHost, L: StoredLog, W: io::Write>(
             return 1;
         }
     };
+    let Ok(monitors) = monitors_of(host, rt, asked.health) else {
+        close(rt, stored);
+        return 1;
+    };
     let Some(listener) = listen(host, rt, alloc, asked.address, out) else {
         close(rt, stored);
         return 1;
@@ -110,6 +138,18 @@ fn listen_and_serve<R: ServerHost, L: StoredLog, W: io::Write>(
         close(rt, stored);
         return 1;
     };
+    let Ok(file) = FileState::new(alloc, asked.documents.len()) else {
+        let _ = rt.eprintln("jcrdt: out of memory while the sessions were prepared");
+        close(rt, stored);
+        return 1;
+    };
+    let gate = Inspection {
+        rt,
+        alloc,
+        listener: monitors,
+        entrance: &entrance,
+        file: &file,
+    };
     if asked.terms.until_input_ends {
         drain_when_input_ends(rt, &listener);
     }
@@ -119,6 +159,8 @@ fn listen_and_serve<R: ServerHost, L: StoredLog, W: io::Write>(
         pace: asked.pace,
         seats: seats_for(&asked.terms),
         connections: all,
+        gate: &gate,
+        file: &file,
     };
     let (status, ended) = serve_over(rt, alloc, serving, stored, out);
     report_causes(rt, &ended.served, &ended.closed);

@@ -132,6 +132,7 @@ fn add_through<M: Marker, R: Wait, L: StoredLog, T: CopyObserver>(
     ensures failed { (result ≡ Err Fault.Store) ↔ ((L.log stored.new).has_failed ≡ true) }
     ensures alone { (L.log stored.new).is_alone ≡ (L.log stored.old).is_alone }
 {
+    observer.adds();
     match add_next(stored, document.name, from, entries) {
         Err(Fault::Store) => recover(rt, document, stored, observer, recovery, from, entries),
         answer => answer,

@@ -9,6 +9,7 @@
 mod batch;
 mod document_to_copy;
 mod failure;
+mod file_state;
 mod host;
 mod notes;
 mod observer;
@@ -25,6 +26,7 @@ mod stored;
 pub use batch::{copy_each, copy_some};
 pub use document_to_copy::DocumentToCopy;
 pub use failure::{Failure, Step};
+pub use file_state::{FileReport, FileState};
 pub use host::Host;
 pub use observer::CopyObserver;
 pub use output::{report_fault, write_totals};

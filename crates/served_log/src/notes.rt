@@ -1,5 +1,5 @@
 //! Notes on standard error about the stored log.
-use crate::CopyObserver;
+use crate::{CopyObserver, FileState};
 use lamport_id::Id;
 use log::Log;
 use op_core::Operation;
@@ -46,11 +46,12 @@ fn warn_if_crossed<R: Log + Clock>(rt: &R, name: &str, fill: Fill, more: usize, 
     }
 }
 
-// Notes a document that is stored. Without memory for its front the note is lost.
-fn note_document<R: Log + Clock>(rt: &R, document: &StoredDoc) {
+// Notes the document at this place as it is stored. Without memory for its front the note is lost.
+fn note_document<R: Log + Clock>(rt: &R, file: &FileState, place: usize, document: &StoredDoc) {
     let Ok(front) = document.front() else {
         return;
     };
+    file.note_replicas(place, front.len());
     let (logged, makers) = (operations(document.len()), replicas(front.len()));
     note_restored(rt, document.name(), logged, makers);
     warn_if_full(rt, document.name(), logged, "operations");
@@ -58,14 +59,19 @@ fn note_document<R: Log + Clock>(rt: &R, document: &StoredDoc) {
 }
 
 // Notes each of these documents as it is stored, in this order.
-pub(crate) fn note_documents<R: Log + Clock, L: StoredLog>(rt: &R, stored: &L, names: &[&str]) {
+pub(crate) fn note_documents<R: Log + Clock, L: StoredLog>(
+    rt: &R,
+    file: &FileState,
+    stored: &L,
+    names: &[&str],
+) {
     let Ok(docs) = stored.docs() else {
         return;
     };
-    for name in names {
-        match find(docs, name) {
-            Some(document) => note_document(rt, document),
-            None => note_restored(rt, name, operations(0), replicas(0)),
+    for place in 0..names.len() {
+        match find(docs, names[place]) {
+            Some(document) => note_document(rt, file, place, document),
+            None => note_restored(rt, names[place], operations(0), replicas(0)),
         }
     }
 }
@@ -80,17 +86,36 @@ fn is_first(operation: &Operation) -> bool {
 }
 
 // Writes notes about the copying: documents that become nearly full, pauses for lack of memory, and
-// why it stopped.
+// why it stopped. It keeps the file's state.
 #[derive(Drop)]
 pub(crate) struct CopyLogger<'a, R, D: Drop> {
     pub(crate) rt: &'a R,
+    pub(crate) file: &'a FileState,
+    // The names of the documents, in their order.
+    pub(crate) names: &'a [&'a str],
     pub(crate) pace: Pace,
     // When sessions wait no longer for a store that fails, if they ever do.
     pub(crate) deadline: Option<D>,
 }
 
+impl<R: Log + Clock, D: Drop> CopyLogger<'_, R, D> {
+    // Notes that so many replicas made the stored operations of the document of this name.
+    fn note_replicas(&self, name: &str, count: usize) {
+        for place in 0..self.names.len() {
+            if self.names[place] == name {
+                self.file.note_replicas(place, count);
+            }
+        }
+    }
+}
+
 impl<R: Log + Clock, D: Deadline> CopyObserver for CopyLogger<'_, R, D> {
+    fn adds(&self) {
+        self.file.begin(self.rt);
+    }
+
     fn added(&self, document: &StoredDoc, entries: &[Operation]) {
+        self.file.end(self.rt);
         let logged = operations(document.len());
         warn_if_crossed(
             self.rt,
@@ -104,20 +129,24 @@ impl<R: Log + Clock, D: Deadline> CopyObserver for CopyLogger<'_, R, D> {
             return;
         }
         if let Ok(front) = document.front() {
+            self.note_replicas(document.name(), front.len());
             let all = replicas(front.len());
             warn_if_crossed(self.rt, document.name(), all, makers, "replicas");
         }
     }
 
     fn lacks_memory(&self) {
+        self.file.note_lack(true);
         note_lacking(self.rt);
     }
 
     fn goes_on(&self) {
+        self.file.note_lack(false);
         note_going_on(self.rt);
     }
 
     fn failed(&self, why: StoredFault) {
+        self.file.fail(why);
         match self.pace {
             Pace::Behind(most) => note_failed(self.rt, &why, most),
             Pace::Durable => note_failed_durably(self.rt, &why),
@@ -136,10 +165,12 @@ impl<R: Log + Clock, D: Deadline> CopyObserver for CopyLogger<'_, R, D> {
     }
 
     fn recovered(&self) {
+        self.file.recover();
         note_recovered(self.rt);
     }
 
     fn stopped(&self, why: StoredFault) {
+        self.file.stop(why);
         match self.pace {
             Pace::Behind(_) => note_stopped(self.rt, &why),
             Pace::Durable => note_ending(self.rt, &why),

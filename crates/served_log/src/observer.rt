@@ -5,6 +5,9 @@ use stored_log::{StoredDoc, StoredFault};
 /// Is notified of what a copier does. The copier waits for each call, and holds no lock meanwhile.
 /// No clause says anything of it.
 pub trait CopyObserver {
+    /// Called before each batch is written.
+    fn adds(&self) {}
+
     /// Called after each batch, with the document as it is stored and the entries that were just
     /// written.
     fn added(&self, document: &StoredDoc, entries: &[Operation]);

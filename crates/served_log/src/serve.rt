@@ -17,10 +17,10 @@ use crate::output::write_totals;
 use crate::restore::{RestoredDocuments, Restoring, restore_documents, share_documents};
 use crate::rows::has_all;
 use crate::serving::{Begun, Serving};
-use crate::{Copier, CopyObserver, Host};
+use crate::{Copier, CopyObserver, FileState, Host};
 use locked_doc::{Ledger, Totals};
 use log::Log;
-use server_core::{Connect, Gathered, OpenGate, SharedDocuments, run_sessions};
+use server_core::{Connect, Gate, Gathered, SharedDocuments, run_sessions};
 use server_notes::{note_all_stored, note_ended, note_serving};
 use share_ledger::{Blank, Marker};
 use std::alloc::Global;
@@ -32,12 +32,15 @@ use stored_log::{Fault, StoredFault, StoredLog};
 
 // What a server serves.
 #[derive(Drop)]
-struct Sessions<'a, M: Marker, C> {
+struct Sessions<'a, M: Marker, C, G> {
     // The names of the documents, in their order.
     names: &'a [&'a str],
     shared: SharedDocuments<M>,
     // The connections, one for each thread.
     connections: Vec<C>,
+    // Who looks on.
+    gate: &'a G,
+    file: &'a FileState,
 }
 
 // Serves the connections while the copier runs, and returns the copier. `ran` gets what the
@@ -48,12 +51,13 @@ fn run_beside_copier<
     M: Marker + Send + Sync,
     R: Threads + Wait + Sync,
     C: Connect,
+    G: Gate + Sync,
     L: StoredLog,
     T: CopyObserver,
 >(
     rt: &R,
     alloc: Global,
-    sessions: Sessions<'_, M, C>,
+    sessions: Sessions<'_, M, C, G>,
     copier: Copier<'a, L, T>,
     ran: &mut Result<Gathered, Failure>,
 ) -> Copier<'a, L, T>
@@ -71,8 +75,10 @@ fn run_beside_copier<
         names: _,
         shared,
         connections,
+        gate,
+        file: _,
     } = sessions;
-    let (gathered, copier) = run_sessions(rt, alloc, shared, connections, &OpenGate, copier);
+    let (gathered, copier) = run_sessions(rt, alloc, shared, connections, gate, copier);
     match gathered {
         Ok(gathered) => {
             *ran = Ok(gathered);
@@ -96,10 +102,10 @@ struct CopyEnd {
 
 // Serves the connections while a copier runs. It returns what the sessions did, or why that could
 // not be gathered, and how the copying ended.
-fn serve_with_copier<M: Marker + Send + Sync, R: Host, C: Connect, L: StoredLog>(
+fn serve_with_copier<M: Marker + Send + Sync, R: Host, C: Connect, G: Gate + Sync, L: StoredLog>(
     rt: &R,
     alloc: Global,
-    sessions: Sessions<'_, M, C>,
+    sessions: Sessions<'_, M, C, G>,
     stored: &mut L,
 ) -> (Result<Gathered, Failure>, CopyEnd)
     ensures sessions { IfOk result.0 (λ g. (given : List (List (Option seats.Seat)))
@@ -116,7 +122,13 @@ fn serve_with_copier<M: Marker + Send + Sync, R: Host, C: Connect, L: StoredLog>
         Some(connection) => Some(connection.deadline()),
         None => None,
     };
-    let logger = CopyLogger { rt, pace, deadline };
+    let logger = CopyLogger {
+        rt,
+        file: sessions.file,
+        names: sessions.names,
+        pace,
+        deadline,
+    };
     let copier = Copier::new(stored, &logger);
     let mut ran = Err(Failure::Memory(Step::Begin));
     let copier = run_beside_copier(rt, alloc, sessions, copier, &mut ran);
@@ -159,10 +171,17 @@ fn outcome_of<R: Log + Clock, L: StoredLog>(
 
 // Serves these sessions while a copier runs, and writes the totals at the end. It fails where
 // memory runs out, where the writer fails, or where not all that the sessions logged is stored.
-fn serve_sessions<M: Marker + Send + Sync, R: Host, C: Connect, L: StoredLog, W: io::Write>(
+fn serve_sessions<
+    M: Marker + Send + Sync,
+    R: Host,
+    C: Connect,
+    G: Gate + Sync,
+    L: StoredLog,
+    W: io::Write,
+>(
     rt: &R,
     alloc: Global,
-    sessions: Sessions<'_, M, C>,
+    sessions: Sessions<'_, M, C, G>,
     stored: &mut L,
     out: &mut W,
 ) -> Result<(), Failure>
@@ -189,10 +208,10 @@ fn serve_sessions<M: Marker + Send + Sync, R: Host, C: Connect, L: StoredLog, W:
 }
 
 // Restores the documents of a start from the stored log. The counters are of a new table, `blank`.
-fn restore<M: Marker, C, L: StoredLog>(
+fn restore<M: Marker, C, G, L: StoredLog>(
     alloc: Global,
     blank: Blank,
-    begun: &Begun<'_, C>,
+    begun: &Begun<'_, C, G>,
     stored: &L,
 ) -> Result<RestoredDocuments<M>, Fault>
     requires blank { blank ≡ M.name }
@@ -218,13 +237,14 @@ pub(crate) fn restore_and_serve<
     M: Marker + Send + Sync,
     R: Host,
     C: Connect,
+    G: Gate + Sync,
     L: StoredLog,
     W: io::Write,
 >(
     rt: &R,
     alloc: Global,
     blank: Blank,
-    begun: Begun<'_, C>,
+    begun: Begun<'_, C, G>,
     stored: &mut L,
     out: &mut W,
 ) -> Result<(), Failure>
@@ -248,7 +268,7 @@ pub(crate) fn restore_and_serve<
     ensures alone { (L.log stored.new).is_alone ≡ (L.log stored.old).is_alone }
 {
     note_serving(rt, begun.replica.as_str());
-    let restored = match restore::<M, C, L>(alloc, blank, &begun, stored) {
+    let restored = match restore::<M, C, G, L>(alloc, blank, &begun, stored) {
         Ok(restored) => restored,
         Err(fault) => return Err(Failure::of_restoring(fault, stored)),
     };
@@ -258,8 +278,10 @@ pub(crate) fn restore_and_serve<
         pace,
         seats: _,
         connections,
+        gate,
+        file,
     } = begun.serving;
-    note_documents(rt, stored, documents);
+    note_documents(rt, file, stored, documents);
     let Ok(shared) = share_documents(alloc, restored, pace) else {
         return Err(Failure::Memory(Step::Restore));
     };
@@ -267,6 +289,8 @@ pub(crate) fn restore_and_serve<
         names: documents,
         shared,
         connections,
+        gate,
+        file,
     };
     serve_sessions(rt, alloc, sessions, stored, out)
 }

@@ -1,10 +1,11 @@
 //! What a server is started with.
+use crate::FileState;
 use lamport_id::ReplicaName;
 use server_core::Pace;
 
-/// What a server is started with: its name, its documents, and its sessions.
+/// What a server is started with: its name, its documents, its sessions, and who looks on.
 #[derive(Drop)]
-pub struct Serving<'a, C> {
+pub struct Serving<'a, C, G> {
     /// The name of the server.
     pub name: &'a str,
     /// The names of its documents.
@@ -15,12 +16,16 @@ pub struct Serving<'a, C> {
     pub seats: u16,
     /// The connections, one for each thread.
     pub connections: Vec<C>,
+    /// The hooks of who looks on.
+    pub gate: &'a G,
+    /// How the stored log is, for as many documents.
+    pub file: &'a FileState,
 }
 
 // A start that has its epoch.
 #[derive(Drop)]
-pub(crate) struct Begun<'a, C> {
+pub(crate) struct Begun<'a, C, G> {
     // The replica that the server is in this epoch.
     pub(crate) replica: ReplicaName,
-    pub(crate) serving: Serving<'a, C>,
+    pub(crate) serving: Serving<'a, C, G>,
 }

@@ -11,7 +11,7 @@ use crate::output::report_fault;
 use crate::replica_name::next_replica_name;
 use crate::serve::restore_and_serve;
 use crate::serving::{Begun, Serving};
-use server_core::Connect;
+use server_core::{Connect, Gate};
 use server_notes::note_unstarted;
 use share_ledger::Blank;
 use std::alloc::Global;
@@ -81,10 +81,10 @@ fn end<L: StoredLog>(served: Result<(), Failure>, stored: L) -> Ended<L::Left>
 
 // Folds the stored log, whose epoch is the start's. Then it serves, as `restore_and_serve`, with a
 // new table of counters, and closes the log.
-fn fold_and_serve<R: Host, C: Connect, L: StoredLog, W: io::Write>(
+fn fold_and_serve<R: Host, C: Connect, G: Gate + Sync, L: StoredLog, W: io::Write>(
     rt: &R,
     alloc: Global,
-    begun: Begun<'_, C>,
+    begun: Begun<'_, C, G>,
     stored: L,
     out: &mut W,
 ) -> Ended<L::Left>
@@ -101,7 +101,7 @@ fn fold_and_serve<R: Host, C: Connect, L: StoredLog, W: io::Write>(
     match stored.fold() {
         Ok(folded) => {
             let mut stored = folded;
-            let served = restore_and_serve::<Brand, R, C, L, W>(
+            let served = restore_and_serve::<Brand, R, C, G, L, W>(
                 rt,
                 alloc,
                 Blank::new(),
@@ -133,10 +133,10 @@ fn fold_and_serve<R: Host, C: Connect, L: StoredLog, W: io::Write>(
 /// The failure says why it did not serve to its end. If the log was refused (no epoch is left, or
 /// the name is too long), it also writes the refusal. If the log fails while sessions run, they go
 /// on, and the failure is `Stopped` at the end.
-pub fn serve_stored<R: Host, C: Connect, L: StoredLog, W: io::Write>(
+pub fn serve_stored<R: Host, C: Connect, G: Gate + Sync, L: StoredLog, W: io::Write>(
     rt: &R,
     alloc: Global,
-    serving: Serving<'_, C>,
+    serving: Serving<'_, C, G>,
     stored: L,
     out: &mut W,
 ) -> Ended<L::Left>
@@ -164,10 +164,10 @@ pub fn serve_stored<R: Host, C: Connect, L: StoredLog, W: io::Write>(
 
 /// `serve_stored`, with the status of a program that ends so: 0, or 1 where it failed. What is left
 /// of the log can be opened again, as a restart does.
-pub fn serve_over<R: Host, C: Connect, L: StoredLog, W: io::Write>(
+pub fn serve_over<R: Host, C: Connect, G: Gate + Sync, L: StoredLog, W: io::Write>(
     rt: &R,
     alloc: Global,
-    serving: Serving<'_, C>,
+    serving: Serving<'_, C, G>,
     stored: L,
     out: &mut W,
 ) -> (u8, Ended<L::Left>)

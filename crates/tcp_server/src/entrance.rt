@@ -46,6 +46,21 @@ pub struct Admission {
     pub drain: u16,
 }
 
+/// How many sessions a start has had so far.
+#[derive(Clone, Copy)]
+pub struct SessionCount {
+    /// How many there are now.
+    pub open: u64,
+    /// How many there may be at once.
+    pub most_at_once: u64,
+    /// How many have begun.
+    pub begun: u64,
+    /// At how many the start ends, or begins to drain.
+    pub most: u64,
+    /// Whether the server drains.
+    pub drains: bool,
+}
+
 /// A listener that sessions share, and what they share of each other: how many have begun, how many
 /// threads wait for a connection, and whether the server drains.
 #[derive(Drop)]
@@ -54,6 +69,8 @@ pub struct Entrance<'a, R> {
     listener: &'a TcpListener,
     pub(crate) admission: Admission,
     begun: AtomicU64,
+    // How many have not ended.
+    open: AtomicU64,
     // How many threads wait for a connection.
     free: AtomicU64,
     drains: AtomicBool,
@@ -65,6 +82,18 @@ pub struct Entrance<'a, R> {
     // When a note last told of HTTP, and of a failure; 0 for never.
     http_told: AtomicU64,
     failure_told: AtomicU64,
+}
+
+impl<R> Entrance<'_, R> {
+    // A connection is read from now on.
+    pub(crate) fn begin_reading(&self) {
+        self.open.fetch_add(1, Ordering::SeqCst);
+    }
+
+    // It is read no more.
+    pub(crate) fn end_reading(&self) {
+        self.open.fetch_sub(1, Ordering::SeqCst);
+    }
 }
 
 impl<'a, R: Log + Clock + Wait> Entrance<'a, R> {
@@ -79,6 +108,7 @@ impl<'a, R: Log + Clock + Wait> Entrance<'a, R> {
             listener,
             admission,
             begun: AtomicU64::new(0),
+            open: AtomicU64::new(0),
             free: AtomicU64::new(0),
             drains: AtomicBool::new(false),
             drains_since: AtomicU64::new(0),
@@ -187,6 +217,22 @@ impl<'a, R: Log + Clock + Wait> Entrance<'a, R> {
         let without = self.without_thread.load(Ordering::SeqCst);
         if self.told.swap(without, Ordering::SeqCst) != without {
             note_no_thread(self.rt, without, self.admission.sessions);
+        }
+    }
+
+    /// How many sessions there were so far.
+    pub fn count(&self) -> SessionCount {
+        let most_at_once = u64::from(self.admission.sessions);
+        SessionCount {
+            open: self.open.load(Ordering::SeqCst),
+            most_at_once,
+            begun: self.begun.load(Ordering::SeqCst),
+            most: if self.admission.stays {
+                LAST_SESSIONS
+            } else {
+                most_at_once
+            },
+            drains: self.is_draining(),
         }
     }
 

@@ -3,9 +3,10 @@ ghost use Rattle.std.specs.Prelude.{◌≡◌, ◌≢◌, [], IfSome, OnOk};
 ghost use Rattle.std.specs.IoError.{error_kind};
 ghost use Rattle.tcp_server.specs.Listening.{WritesAddress, hint};
 
+use crate::http::HttpListener;
 use crate::waiting::drain_at_end_of_input;
 use log::Log;
-use server_notes::{Plain, note_listening};
+use server_notes::{Plain, note_listening, note_monitored};
 use std::alloc::Global;
 use std::io::ErrorKind;
 use std::net::{Net, SocketAddr, TcpListener, TcpStream};
@@ -91,6 +92,16 @@ pub fn listen<
             None
         }
     }
+}
+
+/// Listens for monitors at the address. None where it can't be listened at; standard error says why.
+pub fn listen_for_monitors<
+    N: Net<Listener = TcpListener, Stream = TcpStream>,
+    R: Eprint + Log + Clock,
+>(net: &N, rt: &R, address: &str) -> Option<HttpListener> {
+    let (listener, at) = bind(net, rt, address)?;
+    note_monitored(rt, &at);
+    Some(HttpListener::new(listener))
 }
 
 /// From now on the server drains once its standard input ends: the listener is shut down. A thread

@@ -99,6 +99,7 @@ impl<R> Drop for Received<'_, R> {
         if self.stream.set_nonblocking(true).is_ok() {
             read_away(&self.stream);
         }
+        self.entrance.end_reading();
         let Received {
             entrance: _,
             stream: _,
@@ -111,6 +112,7 @@ impl<'a, R: Log + Clock + Wait> Received<'a, R> {
     /// What the client of a new connection sends.
     pub(crate) fn new(entrance: &'a Entrance<'a, R>, stream: TcpStream) -> Received<'a, R> {
         let began = Some(entrance.now());
+        entrance.begin_reading();
         Received {
             entrance,
             stream,

@@ -3,9 +3,9 @@
 use super::checks::{bytes_are, counts};
 use super::places::left_of;
 use log::Log;
-use served_log::{Ended, Serving, serve_over};
+use served_log::{Ended, FileState, Serving, serve_over};
 use server_core::doubles::Script;
-use server_core::{Connect, Pace};
+use server_core::{Connect, OpenGate, Pace};
 use std::alloc::{AllocError, Global};
 use std::process::Abort;
 use std::sync::{Mutex, Wait};
@@ -115,12 +115,21 @@ pub fn serve_all<R: Threads + Wait + Sync + Log + Clock, C: Connect, L: StoredLo
             left: left_of(log.close()),
         };
     }
+    let Ok(file) = FileState::new(alloc, documents.len()) else {
+        return Served {
+            status: 1,
+            totals,
+            left: left_of(log.close()),
+        };
+    };
     let serving = Serving {
         name,
         documents,
         pace,
         seats: connections.len().min(usize::from(u16::MAX)) as u16,
         connections,
+        gate: &OpenGate,
+        file: &file,
     };
     let (status, ended) = serve_over(rt, alloc, serving, log, &mut totals);
     let Ended {

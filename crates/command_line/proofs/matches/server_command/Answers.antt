@@ -11,4 +11,5 @@ returns c =
     let patient = c.in_ok-arg-4.ensures.shape c.optional-3.ensures.local ∙ ap₂ with_rule durable c.optional-3.ensures.rule in
     let until = c.in_ok-arg-5.ensures.shape c.flag-2.ensures.local ∙ ap₂ with_rule patient c.flag-2.ensures.rule in
     let drained = c.in_ok-arg-6.ensures.shape c.optional-4.ensures.local ∙ ap₂ with_rule until c.optional-4.ensures.rule in
-    IfOk-weaker c.arg-7.result _ _ (λ command adds. adds.shape c.documents_argument.ensures.local ∙ ap₂ with_rule drained c.documents_argument.ensures.rule) c.arg-7.ensures
+    let watched = c.in_ok-arg-7.ensures.shape c.optional-5.ensures.local ∙ ap₂ with_rule drained c.optional-5.ensures.rule in
+    IfOk-weaker c.arg-8.result _ _ (λ command adds. adds.shape c.documents_argument.ensures.local ∙ ap₂ with_rule watched c.documents_argument.ensures.rule) c.arg-8.ensures
