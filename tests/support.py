@@ -66,12 +66,12 @@ def shortened(value: object) -> str:
     return text if len(text) < 200 else f"{text[:200]}.. ({len(text)} characters)"
 
 
-def wait_until(what: str, test: Callable[[], object]) -> float:
-    """Waits until the test holds, and returns how many seconds that took."""
+def wait_until(what: str, test: Callable[[], object], most: float = SECONDS) -> float:
+    """Waits until the test holds, for so many seconds at most, and returns how many that took."""
     began = time.monotonic()
     while not test():
-        if time.monotonic() - began > SECONDS:
-            raise Differs(f"{what}: not within {SECONDS} s")
+        if time.monotonic() - began > most:
+            raise Differs(f"{what}: not within {most:g} s")
         time.sleep(0.005)
     return time.monotonic() - began
 
