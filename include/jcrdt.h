@@ -101,8 +101,8 @@ typedef struct jcrdt_fault {
 
    Otherwise it returns the number of the refusal, and the handle still owns none. It is that of the
    first line that doesn't fit those before it; 2, bad-request, for what is no name; 22, no-memory.
-   A handle that owns a replica keeps it, and the answer is 2. Then `fault` is as it was. The name
-   and the lines are copied. */
+   A handle that owns a replica keeps it, and the answer is 2. Then, and where it opens one, `fault`
+   is as it was. The name and the lines are copied. */
 uint64_t jcrdt_open(jcrdt *replica, const char *name, size_t name_length, const char *operations,
                     size_t operations_length, jcrdt_fault *fault);
 

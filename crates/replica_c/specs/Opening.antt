@@ -24,14 +24,14 @@ fault_of Name = fault_at 0 BadRequest
 fault_of (Unfit (misfit.At place cause)) = fault_at place cause
 fault_of (Unfit misfit.NoMemory) = fault_at 0 NoMemory
 
--- it is opened, with 0; or it isn't, and the fault says why
-abbrev pub OpensNone : List ℕ → List ℕ → ℕ → Fault → Option OpenReplica → Type 0
-OpensNone name text n fault after =
-    ((o : OpenReplica) × OpensAs name text o.replica × (after ≡ Some o) × (n ≡ 0))
+-- it is opened, with 0 and the fault as it was before; or it isn't, and the fault says why
+abbrev pub OpensNone : List ℕ → List ℕ → ℕ → Fault → Fault → Option OpenReplica → Type 0
+OpensNone name text n before fault after =
+    ((o : OpenReplica) × OpensAs name text o.replica × (after ≡ Some o) × (n ≡ 0) × (fault ≡ before))
     ⊎ ((why : Unopened) × IsUnopened name text why × (after ≡ None) × (fault ≡ fault_of why) × (n ≡ fault.number))
 
--- a handle that owns a replica keeps it
-abbrev pub CallsOpen : Option OpenReplica → List ℕ → List ℕ → ℕ → Fault → Option OpenReplica
+-- a handle that owns a replica keeps it, and the fault is as it was before
+abbrev pub CallsOpen : Option OpenReplica → List ℕ → List ℕ → ℕ → Fault → Fault → Option OpenReplica
     → Type 0
-CallsOpen None name text n fault after = OpensNone name text n fault after
-CallsOpen (Some o) name text n fault after = (n ≡ number_of BadRequest) × (after ≡ Some o)
+CallsOpen None name text n before fault after = OpensNone name text n before fault after
+CallsOpen (Some o) name text n before fault after = (n ≡ number_of BadRequest) × (after ≡ Some o) × (fault ≡ before)

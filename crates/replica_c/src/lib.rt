@@ -28,8 +28,8 @@ use std::alloc::Global;
 use std::mem;
 
 /// Opens a replica of this name in a handle that owns none. Its log is what the lines of
-/// `operations` write, one operation each; no byte for a new replica. 0, or the number of the
-/// refusal, with the handle as it was: the first line that doesn't fit those before it (`fault`
+/// `operations` write, one operation each; no byte for a new replica. 0, with `fault` as it was; or
+/// the number of the refusal, with the handle as it was: the first line that doesn't fit those before it (`fault`
 /// says which); 2, `bad-request`, for what is no name, or where the handle owns a replica already,
 /// and then `fault` is as it was; 22, `no-memory`.
 #[unsafe(no_mangle)]
@@ -40,7 +40,7 @@ pub extern "C" fn jcrdt_open(
     operations: &[u8],
     fault: &mut Fault,
 ) -> u64
-    ensures { CallsOpen replica.old.value name.now operations.now result fault.new replica.new.value }
+    ensures { CallsOpen replica.old.value name.now operations.now result fault.old fault.new replica.new.value }
 {
     match mem::replace(replica, Handle::closed()).into_parts(alloc) {
         Some(parts) => {
@@ -113,7 +113,7 @@ fn open_closed(
     fault: &mut Fault,
 ) -> u64
     requires { replica.old.value ≡ None }
-    ensures { OpensNone name.now operations.now result fault.new replica.new.value }
+    ensures { OpensNone name.now operations.now result fault.old fault.new replica.new.value }
 {
     match opened(alloc, name, operations) {
         Ok(kept) => {
