@@ -72,15 +72,6 @@ pub fn note_listening<R: Log + Clock, A: Display>(rt: &R, address: &A) {
     note(rt, Level::Info, &format_args!("listening at {address}"));
 }
 
-/// Notes where monitors may ask.
-pub fn note_monitored<R: Log + Clock, A: Display>(rt: &R, address: &A) {
-    note(
-        rt,
-        Level::Info,
-        &format_args!("answers monitors at http://{address}/health"),
-    );
-}
-
 /// Notes the name of the replica that the server is.
 pub fn note_serving<R: Log + Clock>(rt: &R, replica: &str) {
     note(rt, Level::Info, &format_args!("serving as {replica}"));

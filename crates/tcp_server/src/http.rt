@@ -1,4 +1,6 @@
 //! Pages for monitors, over HTTP. They take no session.
+ghost use Rattle.std.specs.Prelude.{◌≤◌, IfSome, length};
+
 use crate::waiting::shut_down;
 use std::alloc::{AllocError, Global};
 use std::fmt::Write as _;
@@ -96,11 +98,9 @@ fn millis<R: Clock>(rt: &R) -> u64 {
 
 // Reads the head of a request into these bytes, and returns how many they are. None where it isn't
 // whole in time, or is too long.
-fn read_request<R: Clock + Wait>(
-    rt: &R,
-    mut stream: &TcpStream,
-    bytes: &mut [u8],
-) -> Option<usize> {
+fn read_request<R: Clock + Wait>(rt: &R, mut stream: &TcpStream, bytes: &mut [u8]) -> Option<usize>
+    ensures { IfSome result (λ count. count ≤ length bytes.new) }
+{
     let until = millis(rt).saturating_add(MOST_MILLIS);
     let mut count: usize = 0;
     for _ in rt.forever() {

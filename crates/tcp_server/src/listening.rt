@@ -6,7 +6,7 @@ ghost use Rattle.tcp_server.specs.Listening.{WritesAddress, hint};
 use crate::http::HttpListener;
 use crate::waiting::drain_at_end_of_input;
 use log::Log;
-use server_notes::{Plain, note_listening, note_monitored};
+use server_notes::{Plain, note_listening};
 use std::alloc::Global;
 use std::io::ErrorKind;
 use std::net::{Net, SocketAddr, TcpListener, TcpStream};
@@ -100,7 +100,7 @@ pub fn listen_for_monitors<
     R: Eprint + Log + Clock,
 >(net: &N, rt: &R, address: &str) -> Option<HttpListener> {
     let (listener, at) = bind(net, rt, address)?;
-    note_monitored(rt, &at);
+    note_listening(rt, &format_args!("http://{at}/health for monitors"));
     Some(HttpListener::new(listener))
 }
 
