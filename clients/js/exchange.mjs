@@ -7,7 +7,7 @@ import { generationOf } from "./generations.mjs";
 import { isArray, parse, print } from "./json.mjs";
 import { MOST } from "./limits.mjs";
 import { freshName } from "./names.mjs";
-import { covers, frontPairs, isAscending, isFront, isId, keepTexts } from "./operations.mjs";
+import { covers, frontPairs, isAscending, isFront, isId, Page } from "./operations.mjs";
 import { NAME_USED_TWICE, REFUSALS } from "./protocol.mjs";
 import { Remaking } from "./remaking.mjs";
 
@@ -45,6 +45,8 @@ import { Remaking } from "./remaking.mjs";
  *  @property {Read} read
  *  @property {() => Map<string, number>} front
  *  @property {(operations: any[]) => Taken} take Delivers operations as one batch.
+ *  @property {(lines: string[]) => boolean} begin Begins with operations, of which a server wrote
+ *    these texts. Returns whether it has: else nothing is changed, and they are to be delivered.
  *  @property {() => boolean} isShared
  *  @property {() => number} now In milliseconds since some moment.
  *  @property {() => boolean} isFiled Whether copies may be made of what is edited: a file has it.
@@ -273,8 +275,8 @@ export class Exchange {
     const behind = new Map(theirs);
     if (this.#sent > 0) behind.set(name, this.#sent);
     else behind.delete(name);
-    for await (const page of pagesOf(ask, behind, false)) {
-      for (const op of page.filter((it) => isId(it?.[1]) && it[1][1] === name)) {
+    for await (const { operations } of pagesOf(ask, behind, false)) {
+      for (const op of operations.filter((it) => isId(it?.[1]) && it[1][1] === name)) {
         copied = Math.max(copied, copiedBy(op, name));
         isSame &&= print(op) === own[at++];
         if (isSame) same = op[1][0];
@@ -323,12 +325,23 @@ export class Exchange {
     const front = this.#core.front();
     const pages = pagesOf(ask, front, isFollowed);
     const came = counted(pages, this.#core.fetched);
-    for await (const page of joined(came, front.size > 0 ? AT_ONCE : Infinity)) {
-      for (const op of page) if (isId(op?.[1])) this.#noteTheirs(answer, theirs, op[1]);
-      const { taken, refused } = this.#core.take(page);
+    for await (const some of joined(came, front.size > 0 ? AT_ONCE : Infinity)) {
+      for (const { last } of some) {
+        for (const [name, counter] of last) this.#noteTheirs(answer, theirs, [counter, name]);
+      }
+      const { taken, refused } = this.#takePages(some);
       report.taken += taken;
       for (const { line, refusal } of refused) this.#refuse(report, line, refusal);
     }
+  }
+
+  /** @param {Page[]} pages
+   *  @returns {Taken} */
+  #takePages(pages) {
+    const count = pages.reduce((sum, { length }) => sum + length, 0);
+    const texts = pages.flatMap((page) => page.texts ?? []);
+    if (texts.length === count && this.#core.begin(texts)) return { taken: count, refused: [] };
+    return this.#core.take(pages.flatMap(({ operations }) => operations));
   }
 
   /** @param {Ask} ask
@@ -432,7 +445,9 @@ export class Exchange {
       /** @type {Remaking} */
       const remaking = new Remaking(this.#core, scratch, how);
       try {
-        for await (const page of pagesOf(ask, new Map(), false)) for (const op of page) remaking.begin(op);
+        for await (const { operations } of pagesOf(ask, new Map(), false)) {
+          for (const op of operations) remaking.begin(op);
+        }
         this.#checkGeneration(scratch);
         if (await remaking.send(ask)) return remaking;
         maySend = remaking.maySend && round < MOST_ROUNDS;
@@ -475,17 +490,18 @@ function raise(front, [counter, name]) {
 
 /** @typedef {(word: string, ...items: any[]) => Promise<any>} Ask */
 
-/** What sends requests: resolves what is behind the word of the reply, or throws Refused.
+/** What sends requests: resolves what is behind the word of the reply, a `Page` where that is
+ *  operations, or throws Refused.
  *  @param {Answer} answer
  *  @param {string} doc
  *  @returns {Ask} */
 function asking(answer, doc) {
   return async (word, ...items) => {
     const line = await answer(print([word, doc, ...items]));
+    if (/^\["(?:page|ops)",\[/.test(line)) return new Page(line);
     const reply = parse(line);
     if (!isArray(reply) || reply.length === 0) throw malformed(word);
     const [kind, first, second, third] = reply;
-    if ((kind === "page" || kind === "ops") && isArray(first)) keepTexts(first, line);
     if (kind === "no") throw new Refused(first, second, third);
     return first;
   };
@@ -532,7 +548,8 @@ function* pagesToGive(operations, name, isLogged) {
  *  is used. Ends if the server repeats itself, and throws if it has more than a document can have.
  *  @param {Ask} ask
  *  @param {Map<string, number>} front
- *  @param {boolean} isHub Whether it is a hub that has pages of its own. */
+ *  @param {boolean} isHub Whether it is a hub that has pages of its own.
+ *  @returns {AsyncGenerator<Page>} */
 async function* pagesOf(ask, front, isHub) {
   const seen = new Map(front);
   const next = () => {
@@ -545,7 +562,7 @@ async function* pagesOf(ask, front, isHub) {
   for (let count = 0, isMore = true; isMore; ) {
     const page = await asked;
     const most = MOST.page * (isHub ? MOST_PAGES : 1);
-    if (!isArray(page) || page.length > most) throw malformed("ops");
+    if (!(page instanceof Page) || page.length > most) throw malformed("ops");
     const isFull = page.length > 0 && page.length % MOST.page === 0;
     isMore = isFull && isNews(seen, page);
     count += page.length;
@@ -556,7 +573,7 @@ async function* pagesOf(ask, front, isHub) {
 }
 
 /** Pages as they come, of which `fetched` is called with how many operations they have together.
- *  @param {AsyncIterable<any[]>} pages
+ *  @param {AsyncIterable<Page>} pages
  *  @param {(count: number) => void} fetched */
 async function* counted(pages, fetched) {
   let count = 0;
@@ -569,36 +586,37 @@ async function* counted(pages, fetched) {
 
 /** Pages together, of so many operations at least. Where a page can't be had, those before come
  *  first, and then it is thrown.
- *  @param {AsyncIterable<any[]>} pages
+ *  @param {AsyncIterable<Page>} pages
  *  @param {number} least */
 async function* joined(pages, least) {
-  /** @type {any[]} */
+  /** @type {Page[]} */
   let found = [];
+  let count = 0;
   /** @type {unknown[]} */
   const errors = [];
   try {
     for await (const page of pages) {
-      for (const op of page) found.push(op);
-      if (found.length < least) continue;
+      found.push(page);
+      count += page.length;
+      if (count < least) continue;
       yield found;
-      found = [];
+      [found, count] = [[], 0];
     }
   } catch (error) {
     errors.push(error);
   }
-  if (found.length > 0) yield found;
+  if (count > 0) yield found;
   for (const error of errors) throw error;
 }
 
 /** Adds the ids of a page to what was seen. Returns whether one of them is new.
  *  @param {Map<string, number>} seen
- *  @param {any[]} page */
-function isNews(seen, page) {
+ *  @param {Page} page */
+function isNews(seen, { last }) {
   let isNew = false;
-  for (const op of page) {
-    const id = isArray(op) ? op[1] : undefined;
-    if (!isId(id) || covers(seen, id)) continue;
-    seen.set(id[1], id[0]);
+  for (const [name, counter] of last) {
+    if (covers(seen, [counter, name])) continue;
+    seen.set(name, counter);
     isNew = true;
   }
   return isNew;

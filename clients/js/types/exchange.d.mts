@@ -100,6 +100,11 @@ export type Core = {
      * Delivers operations as one batch.
      */
     take: (operations: any[]) => Taken;
+    /**
+     * Begins with operations, of which a server wrote
+     * these texts. Returns whether it has: else nothing is changed, and they are to be delivered.
+     */
+    begin: (lines: string[]) => boolean;
     isShared: () => boolean;
     /**
      * In milliseconds since some moment.
